@@ -1,0 +1,4 @@
+pub mod Precedence
+pub mod Operator
+pub mod Name
+pub mod Buffer

@@ -1,0 +1,16 @@
+//! Spans, operators and their levels, names and reserved words, and the text that a printer writes.
+#![tactic(auto)]
+
+mod buffer;
+mod memory;
+mod name;
+mod operator;
+mod precedence;
+mod span;
+
+pub use buffer::{CodeBuffer, IndentChar};
+pub use memory::Memory;
+pub use name::{is_name, is_reserved, is_strict_reserved};
+pub use operator::BinaryOperator;
+pub use precedence::{GetPrecedence, Precedence, levels_are_ordered};
+pub use span::{SourceKind, Span};
