@@ -1,0 +1,96 @@
+-- The plain data of each struct and set, from that of what nests.
+use Rattle.std.specs.Prelude.{ℕ, List, [], ◌∷◌, map, option_map, String, string_bytes}
+use Rattle.std.specs.Str.{chars}
+use Rattle.std.specs.declared.alloc.Global.{Global}
+use Rattle.jsgen_tree.specs.Tree.{Tree, Atom, text, digits, source_kind, declaration_kind, numeric_kind, Whole, binary_operator, optional, trees, program, expression_statement, variable_declaration, variable_declarator, binding_identifier, identifier_reference, numeric_literal, parenthesized, binary}
+use Rattle.jsgen_tree.specs.declared.nodes.ExpressionNode.{ExpressionNode}
+use Rattle.jsgen_tree.specs.declared.nodes.StatementNode.{StatementNode}
+use Rattle.jsgen_tree.specs.declared.nodes.DeclarationNode.{DeclarationNode}
+use Rattle.jsgen_tree.specs.declared.nodes.BindingPatternNode.{BindingPatternNode}
+use Rattle.jsgen_tree.specs.declared.statements.Program.{Program}
+use Rattle.jsgen_tree.specs.declared.statements.ExpressionStatement.{ExpressionStatement}
+use Rattle.jsgen_tree.specs.declared.statements.VariableDeclaration.{VariableDeclaration}
+use Rattle.jsgen_tree.specs.declared.statements.VariableDeclarator.{VariableDeclarator}
+use Rattle.jsgen_tree.specs.declared.statements.BindingIdentifier.{BindingIdentifier}
+use Rattle.jsgen_tree.specs.declared.expressions.IdentifierReference.{IdentifierReference}
+use Rattle.jsgen_tree.specs.declared.expressions.NumericLiteral.{NumericLiteral}
+use Rattle.jsgen_tree.specs.declared.expressions.NumericValue.{NumericValue}
+use Rattle.jsgen_tree.specs.declared.expressions.NumericValue.TheVariants as numeric
+use Rattle.jsgen_tree.specs.declared.expressions.ParenthesizedExpression.{ParenthesizedExpression}
+use Rattle.jsgen_tree.specs.declared.expressions.BinaryExpression.{BinaryExpression}
+use Rattle.jsgen_tree.specs.declared.sets.Expression.{Expression}
+use Rattle.jsgen_tree.specs.declared.sets.Expression.TheVariants as expression
+use Rattle.jsgen_tree.specs.declared.sets.Statement.{Statement}
+use Rattle.jsgen_tree.specs.declared.sets.Statement.TheVariants as statement
+use Rattle.jsgen_tree.specs.declared.sets.Declaration.{Declaration}
+use Rattle.jsgen_tree.specs.declared.sets.Declaration.TheVariants as declaration
+use Rattle.jsgen_tree.specs.declared.sets.BindingPattern.{BindingPattern}
+use Rattle.jsgen_tree.specs.declared.sets.BindingPattern.TheVariants as binding_pattern
+
+-- the characters of a text
+abbrev pub characters : String Global → List ℕ
+characters s = chars (string_bytes s)
+
+-- ---- children that nest
+
+abbrev pub in_expression : {N : Type 0} → (N → Tree) → ExpressionNode N → Tree
+in_expression plain n = plain n.node
+
+abbrev pub in_statement : {N : Type 0} → (N → Tree) → StatementNode N → Tree
+in_statement plain n = plain n.node
+
+abbrev pub in_declaration : {N : Type 0} → (N → Tree) → DeclarationNode N → Tree
+in_declaration plain n = plain n.node
+
+abbrev pub in_binding_pattern : {N : Type 0} → (N → Tree) → BindingPatternNode N → Tree
+in_binding_pattern plain n = plain n.node
+
+-- ---- structs
+
+abbrev pub identifier_reference_row : IdentifierReference → Tree
+identifier_reference_row n = identifier_reference (record { span = n.span; values = text (characters n.name) ∷ [] })
+
+abbrev pub numeric_values : NumericValue → List Atom
+numeric_values (numeric.Whole n) = numeric_kind Whole ∷ digits n ∷ []
+
+abbrev pub numeric_literal_row : NumericLiteral → Tree
+numeric_literal_row n = numeric_literal (record { span = n.span; values = numeric_values n.value })
+
+abbrev pub parenthesized_expression_row : {N : Type 0} → (N → Tree) → ParenthesizedExpression N → Tree
+parenthesized_expression_row plain n = parenthesized (record { span = n.span; values = [] }) (in_expression plain n.expression)
+
+abbrev pub binary_expression_row : {N : Type 0} → (N → Tree) → BinaryExpression N → Tree
+binary_expression_row plain n = binary (record { span = n.span; values = binary_operator n.operator ∷ [] }) (in_expression plain n.left) (in_expression plain n.right)
+
+abbrev pub binding_identifier_row : BindingIdentifier → Tree
+binding_identifier_row n = binding_identifier (record { span = n.span; values = text (characters n.name) ∷ [] })
+
+abbrev pub variable_declarator_row : {N : Type 0} → (N → Tree) → VariableDeclarator N → Tree
+variable_declarator_row plain n = variable_declarator (record { span = n.span; values = [] }) (in_binding_pattern plain n.id) (optional (option_map (in_expression plain) n.init))
+
+abbrev pub variable_declaration_row : {N : Type 0} → (N → Tree) → VariableDeclaration N → Tree
+variable_declaration_row plain n = variable_declaration (record { span = n.span; values = declaration_kind n.kind ∷ [] }) (trees (map (variable_declarator_row plain) n.declarations.items))
+
+abbrev pub expression_statement_row : {N : Type 0} → (N → Tree) → ExpressionStatement N → Tree
+expression_statement_row plain n = expression_statement (record { span = n.span; values = [] }) (in_expression plain n.expression)
+
+abbrev pub program_row : {N : Type 0} → (N → Tree) → Program N → Tree
+program_row plain n = program (record { span = n.span; values = text (characters n.source) ∷ source_kind n.kind ∷ [] }) (trees (map (in_statement plain) n.body.items))
+
+-- ---- sets
+
+abbrev pub expression_plain : {N : Type 0} → (N → Tree) → Expression N → Tree
+expression_plain plain (expression.IdentifierReference b) = identifier_reference_row b.value
+expression_plain plain (expression.NumericLiteral b) = numeric_literal_row b.value
+expression_plain plain (expression.BinaryExpression b) = binary_expression_row plain b.value
+expression_plain plain (expression.ParenthesizedExpression b) = parenthesized_expression_row plain b.value
+
+abbrev pub declaration_plain : {N : Type 0} → (N → Tree) → Declaration N → Tree
+declaration_plain plain (declaration.VariableDeclaration b) = variable_declaration_row plain b.value
+
+abbrev pub statement_plain : {N : Type 0} → (N → Tree) → Statement N → Tree
+statement_plain plain (statement.Declaration b) = in_declaration plain b.value
+statement_plain plain (statement.ExpressionStatement b) = expression_statement_row plain b.value
+
+abbrev pub binding_pattern_plain : BindingPattern → Tree
+binding_pattern_plain (binding_pattern.BindingIdentifier b) = binding_identifier_row b.value

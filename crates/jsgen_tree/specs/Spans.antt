@@ -1,0 +1,27 @@
+-- The span of a member of a set is the member's own.
+use Rattle.jsgen_syntax.specs.declared.span.Span.{Span}
+use Rattle.jsgen_tree.specs.Tree.{Tree}
+use Rattle.jsgen_tree.specs.declared.sets.Expression.{Expression}
+use Rattle.jsgen_tree.specs.declared.sets.Expression.TheVariants as expression
+use Rattle.jsgen_tree.specs.declared.sets.Statement.{Statement}
+use Rattle.jsgen_tree.specs.declared.sets.Statement.TheVariants as statement
+use Rattle.jsgen_tree.specs.declared.sets.Declaration.{Declaration}
+use Rattle.jsgen_tree.specs.declared.sets.Declaration.TheVariants as declaration
+use Rattle.jsgen_tree.specs.declared.sets.BindingPattern.{BindingPattern}
+use Rattle.jsgen_tree.specs.declared.sets.BindingPattern.TheVariants as binding_pattern
+
+abbrev pub expression_span : {N : Type 0} → Expression N → Span
+expression_span (expression.IdentifierReference b) = b.value.span
+expression_span (expression.NumericLiteral b) = b.value.span
+expression_span (expression.BinaryExpression b) = b.value.span
+expression_span (expression.ParenthesizedExpression b) = b.value.span
+
+abbrev pub declaration_span : {N : Type 0} → Declaration N → Span
+declaration_span (declaration.VariableDeclaration b) = b.value.span
+
+abbrev pub statement_span : {N : Type 0} → (N → Span) → Statement N → Span
+statement_span own (statement.Declaration b) = own b.value.node
+statement_span own (statement.ExpressionStatement b) = b.value.span
+
+abbrev pub binding_pattern_span : BindingPattern → Span
+binding_pattern_span (binding_pattern.BindingIdentifier b) = b.value.span

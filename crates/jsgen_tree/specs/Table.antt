@@ -1,0 +1,139 @@
+-- The table of fields: for each type of node its fields in their order, and the sets that children are of.
+use Rattle.std.specs.Prelude.{ℕ, List, [], ◌∷◌, Bool, true, false, codes, if◌then◌else◌}
+use Rattle.jsgen_syntax.specs.declared.span.SourceKind.TheVariants as source_kinds
+use Rattle.jsgen_syntax.specs.declared.operator.BinaryOperator.TheVariants as binary_operators
+use Rattle.jsgen_tree.specs.declared.types.NodeType.{NodeType}
+use Rattle.jsgen_tree.specs.declared.types.NodeType.TheVariants as types
+use Rattle.jsgen_tree.specs.declared.types.NodeSet.{NodeSet}
+use Rattle.jsgen_tree.specs.declared.types.NodeSet.TheVariants as sets
+use Rattle.jsgen_tree.specs.declared.statements.VariableDeclarationKind.TheVariants as declaration_kinds
+use Rattle.jsgen_tree.specs.Tree.{Atom, Tree, type_of, parenthesized, source_kind, declaration_kind, numeric_kind, Whole, binary_operator}
+
+-- a word, and what it stands for
+pub record Word : Type 0 where
+  pub spelling : List ℕ
+  pub meaning : Atom
+
+abbrev pub means : List ℕ → Atom → Word
+means s a = record { spelling = s; meaning = a }
+
+-- what the value of a field is
+pub data Sort : Type 0 where
+  text : Sort
+  digits : Sort
+  word : List Word → Sort
+  child : NodeSet → Sort
+  children : NodeSet → Sort
+  -- a field of the format that isn't read yet, and may not be given
+  unread : Sort
+
+pub record Field : Type 0 where
+  pub name : List ℕ
+  pub required : Bool
+  pub sort : Sort
+
+abbrev pub needs : List ℕ → Sort → Field
+needs n s = record { name = n; required = true; sort = s }
+
+abbrev pub may_have : List ℕ → Sort → Field
+may_have n s = record { name = n; required = false; sort = s }
+
+abbrev pub not_yet : List ℕ → Field
+not_yet n = record { name = n; required = false; sort = unread }
+
+-- ---- words
+
+abbrev pub source_kind_words : List Word
+source_kind_words = means (codes "module") (source_kind source_kinds.Module) ∷ []
+
+abbrev pub declaration_kind_words : List Word
+declaration_kind_words = means (codes "const") (declaration_kind declaration_kinds.Const) ∷ []
+
+abbrev pub numeric_kind_words : List Word
+numeric_kind_words = means (codes "whole") (numeric_kind Whole) ∷ []
+
+abbrev pub binary_operator_words : List Word
+binary_operator_words = means (codes "+") (binary_operator binary_operators.Addition) ∷ means (codes "-") (binary_operator binary_operators.Subtraction) ∷ []
+
+-- ---- fields: one list for each type, in the order of their numbers, from 2 on
+
+abbrev pub program_fields : List Field
+program_fields = may_have (codes "source") text ∷ needs (codes "kind") (word source_kind_words) ∷ not_yet (codes "jsx") ∷ not_yet (codes "typescript") ∷ not_yet (codes "comments") ∷ not_yet (codes "hashbang") ∷ not_yet (codes "directives") ∷ may_have (codes "body") (children sets.Statement) ∷ []
+
+abbrev pub expression_statement_fields : List Field
+expression_statement_fields = needs (codes "expression") (child sets.Expression) ∷ []
+
+abbrev pub variable_declaration_fields : List Field
+variable_declaration_fields = needs (codes "kind") (word declaration_kind_words) ∷ not_yet (codes "declare") ∷ may_have (codes "declarations") (children sets.VariableDeclarator) ∷ []
+
+abbrev pub variable_declarator_fields : List Field
+variable_declarator_fields = needs (codes "id") (child sets.BindingPattern) ∷ not_yet (codes "definite") ∷ not_yet (codes "type_annotation") ∷ may_have (codes "init") (child sets.Expression) ∷ []
+
+abbrev pub binding_identifier_fields : List Field
+binding_identifier_fields = needs (codes "name") text ∷ not_yet (codes "symbol") ∷ []
+
+abbrev pub identifier_reference_fields : List Field
+identifier_reference_fields = needs (codes "name") text ∷ not_yet (codes "reference") ∷ []
+
+abbrev pub numeric_literal_fields : List Field
+numeric_literal_fields = needs (codes "kind") (word numeric_kind_words) ∷ not_yet (codes "negative") ∷ needs (codes "digits") digits ∷ not_yet (codes "text") ∷ []
+
+abbrev pub parenthesized_expression_fields : List Field
+parenthesized_expression_fields = needs (codes "expression") (child sets.Expression) ∷ []
+
+abbrev pub binary_expression_fields : List Field
+binary_expression_fields = needs (codes "operator") (word binary_operator_words) ∷ needs (codes "left") (child sets.Expression) ∷ needs (codes "right") (child sets.Expression) ∷ []
+
+abbrev pub fields : NodeType → List Field
+fields types.Program = program_fields
+fields types.ExpressionStatement = expression_statement_fields
+fields types.VariableDeclaration = variable_declaration_fields
+fields types.VariableDeclarator = variable_declarator_fields
+fields types.BindingIdentifier = binding_identifier_fields
+fields types.IdentifierReference = identifier_reference_fields
+fields types.NumericLiteral = numeric_literal_fields
+fields types.ParenthesizedExpression = parenthesized_expression_fields
+fields types.BinaryExpression = binary_expression_fields
+
+-- ---- sets
+
+abbrev pub is_expression : NodeType → Bool
+is_expression types.IdentifierReference = true
+is_expression types.NumericLiteral = true
+is_expression types.ParenthesizedExpression = true
+is_expression types.BinaryExpression = true
+is_expression other = false
+
+abbrev pub is_statement : NodeType → Bool
+is_statement types.ExpressionStatement = true
+is_statement types.VariableDeclaration = true
+is_statement other = false
+
+abbrev pub is_binding_pattern : NodeType → Bool
+is_binding_pattern types.BindingIdentifier = true
+is_binding_pattern other = false
+
+abbrev pub is_variable_declarator : NodeType → Bool
+is_variable_declarator types.VariableDeclarator = true
+is_variable_declarator other = false
+
+abbrev pub in_set : NodeSet → NodeType → Bool
+in_set sets.Expression t = is_expression t
+in_set sets.Statement t = is_statement t
+in_set sets.BindingPattern t = is_binding_pattern t
+in_set sets.VariableDeclarator t = is_variable_declarator t
+
+-- the sets of the fields that hold children, in their order
+abbrev pub child_sets : List Field → List NodeSet
+child_sets [] = []
+child_sets (f ∷ fs) = with_set f.sort (child_sets fs)
+  where
+    with_set : Sort → List NodeSet → List NodeSet
+    with_set (child s) ss = s ∷ ss
+    with_set (children s) ss = s ∷ ss
+    with_set other ss = ss
+
+-- what stands within the parentheses that an expression may have round it
+abbrev pub without_parentheses : Tree → Tree
+without_parentheses (parenthesized a expression) = if is_expression (type_of expression) then without_parentheses expression else parenthesized a expression
+without_parentheses t = t

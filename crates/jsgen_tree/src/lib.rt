@@ -1,0 +1,24 @@
+//! The tree of a program, owned by boxes and lists. A field bears the name that a job gives it.
+//!
+//! `Node` is the one type that leads back to itself. A child that nests stands in a wrapper that says its
+//! set, as `ExpressionNode`, and is made by `into()` from a member of that set.
+#![tactic(auto)]
+
+mod expressions;
+mod nodes;
+mod sets;
+mod span;
+mod statements;
+mod types;
+
+pub use expressions::{
+    BinaryExpression, IdentifierReference, NumericLiteral, NumericValue, ParenthesizedExpression,
+};
+pub use nodes::{BindingPatternNode, DeclarationNode, ExpressionNode, Node, StatementNode};
+pub use sets::{BindingPattern, Declaration, Expression, Statement};
+pub use span::GetSpan;
+pub use statements::{
+    BindingIdentifier, ExpressionStatement, Program, VariableDeclaration, VariableDeclarationKind,
+    VariableDeclarator,
+};
+pub use types::{NodeSet, NodeType};

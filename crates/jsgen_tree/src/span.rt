@@ -1,0 +1,155 @@
+// The span of each node.
+ghost use Rattle.std.specs.Prelude.{◌≡◌};
+ghost use Rattle.jsgen_tree.specs.Tree.{span_of};
+ghost use Rattle.jsgen_tree.specs.Plain.{node_plain};
+ghost use Rattle.jsgen_tree.specs.Spans.{expression_span, statement_span, declaration_span, binding_pattern_span};
+
+use crate::expressions::{
+    BinaryExpression, IdentifierReference, NumericLiteral, ParenthesizedExpression,
+};
+use crate::nodes::Node;
+use crate::sets::{BindingPattern, Declaration, Expression, Statement};
+use crate::statements::{
+    BindingIdentifier, ExpressionStatement, Program, VariableDeclaration, VariableDeclarator,
+};
+use jsgen_syntax::Span;
+
+/// Where a node stands in its source; a set's is its member's.
+pub trait GetSpan {
+    ghost use Rattle.jsgen_syntax.specs.declared.span.Span.{Span};
+
+    ghost own_span: { Self → Span };
+
+    fn span(&self) -> Span
+        ensures { result ≡ own_span self.now };
+}
+
+impl<N> GetSpan for Program<N> {
+    ghost own_span = { λ n. n.span };
+
+    fn span(&self) -> Span {
+        self.span
+    }
+}
+
+impl<N> GetSpan for ExpressionStatement<N> {
+    ghost own_span = { λ n. n.span };
+
+    fn span(&self) -> Span {
+        self.span
+    }
+}
+
+impl<N> GetSpan for VariableDeclaration<N> {
+    ghost own_span = { λ n. n.span };
+
+    fn span(&self) -> Span {
+        self.span
+    }
+}
+
+impl<N> GetSpan for VariableDeclarator<N> {
+    ghost own_span = { λ n. n.span };
+
+    fn span(&self) -> Span {
+        self.span
+    }
+}
+
+impl GetSpan for BindingIdentifier {
+    ghost own_span = { λ n. n.span };
+
+    fn span(&self) -> Span {
+        self.span
+    }
+}
+
+impl GetSpan for IdentifierReference {
+    ghost own_span = { λ n. n.span };
+
+    fn span(&self) -> Span {
+        self.span
+    }
+}
+
+impl GetSpan for NumericLiteral {
+    ghost own_span = { λ n. n.span };
+
+    fn span(&self) -> Span {
+        self.span
+    }
+}
+
+impl<N> GetSpan for ParenthesizedExpression<N> {
+    ghost own_span = { λ n. n.span };
+
+    fn span(&self) -> Span {
+        self.span
+    }
+}
+
+impl<N> GetSpan for BinaryExpression<N> {
+    ghost own_span = { λ n. n.span };
+
+    fn span(&self) -> Span {
+        self.span
+    }
+}
+
+impl<N> GetSpan for Expression<N> {
+    ghost own_span = { λ e. expression_span e };
+
+    fn span(&self) -> Span {
+        match self {
+            Expression::IdentifierReference(node) => node.span,
+            Expression::NumericLiteral(node) => node.span,
+            Expression::BinaryExpression(node) => node.span,
+            Expression::ParenthesizedExpression(node) => node.span,
+        }
+    }
+}
+
+impl<N> GetSpan for Declaration<N> {
+    ghost own_span = { λ d. declaration_span d };
+
+    fn span(&self) -> Span {
+        match self {
+            Declaration::VariableDeclaration(node) => node.span,
+        }
+    }
+}
+
+impl GetSpan for BindingPattern {
+    ghost own_span = { λ b. binding_pattern_span b };
+
+    fn span(&self) -> Span {
+        match self {
+            BindingPattern::BindingIdentifier(node) => node.span,
+        }
+    }
+}
+
+impl<N: GetSpan> GetSpan for Statement<N> {
+    ghost own_span = { λ s. statement_span N.own_span s };
+
+    fn span(&self) -> Span {
+        match self {
+            Statement::Declaration(declaration) => declaration.get().span(),
+            Statement::ExpressionStatement(node) => node.span,
+        }
+    }
+}
+
+impl GetSpan for Node {
+    ghost own_span = { λ n. span_of (node_plain n) };
+
+    #[cycle(node_span)]
+    fn span(&self) -> Span {
+        match self {
+            Node::Expression(expression) => expression.span(),
+            Node::Statement(statement) => statement.span(),
+            Node::Declaration(declaration) => declaration.span(),
+            Node::BindingPattern(pattern) => pattern.span(),
+        }
+    }
+}
