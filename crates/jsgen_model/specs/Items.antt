@@ -1,0 +1,41 @@
+-- What a row of the printer prints: items, joined as a tree. Texts are lists of characters.
+use Rattle.std.specs.Prelude.{ℕ, List, Bool}
+use Rattle.jsgen_model.specs.Punctuator.{Punctuator, Bracket}
+
+infixr 60 ◌⊕◌
+pub data Items : Type 0 where
+  nothing : Items
+  ◌⊕◌ : Items → Items → Items
+  -- a keyword, apart from a word before it
+  word : List ℕ → Items
+  -- a name, apart from a word before it
+  name : List ℕ → Items
+  -- a number, apart from a word before it; the test holds where a dot behind it would be its own
+  number : Bool → List ℕ → Items
+  -- a literal that begins and ends with a mark of its own, as a string
+  literal : List ℕ → Items
+  punctuator : Punctuator → Items
+  -- an operator's sign, apart from a sign before it that it would join
+  operator : Punctuator → Items
+  -- the dot of a member, apart from a number before it that it would join
+  member_dot : Items
+  -- a space and a line end that minified text leaves out, and a space that it keeps
+  soft_space : Items
+  soft_line : Items
+  hard_space : Items
+  -- the indentation of the level, or the one space that stands in its place
+  indentation : Items
+  -- one space is to stand in place of the next indentation
+  body_space : Items
+  deeper : Items → Items
+  brackets : Bracket → Items → Items
+  -- in parentheses where the test holds
+  wrapped : Bool → Items → Items
+  -- the end of a statement; the semicolon that it may leave to what follows, printed or dropped
+  statement_end : Items
+  due_semicolon : Items
+  drop_semicolon : Items
+  -- the expression of an expression statement, an arrow function's body or a default export begins here
+  statement_begins : Items
+  arrow_body_begins : Items
+  default_export_begins : Items

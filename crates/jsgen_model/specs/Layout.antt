@@ -1,0 +1,169 @@
+-- The text that items give, from a pen.
+use Rattle.std.specs.Prelude.{ℕ, zero, suc, ◌*◌, List, [], ◌∷◌, ◌++◌, Bool, true, false, Option, Some, None, ◌==◌, codes, replicate, if◌then◌else◌}
+use Rattle.std.specs.List.{last_or}
+use Rattle.std.specs.Option.{option_map_or}
+use Rattle.jsgen_syntax.specs.Name.{goes_in_word}
+use Rattle.jsgen_model.specs.Punctuator.{Punctuator, plus, plus_plus, minus, minus_minus, bang, equal_equal, equal_equal_equal, punctuator_text, Bracket, Round, opening, closing}
+use Rattle.jsgen_model.specs.Items.{Items, nothing, ◌⊕◌, word, name, number, literal, punctuator, operator, member_dot, soft_space, soft_line, hard_space, indentation, body_space, deeper, brackets, wrapped, statement_end, due_semicolon, drop_semicolon, statement_begins, arrow_body_begins, default_export_begins}
+
+-- what never changes: whether the text is minified, and what a level of indentation is made of
+pub record Style : Type 0 where
+  pub minified : Bool
+  pub indent : ℕ
+  pub width : ℕ
+
+-- what the code so far ends in, as far as it matters to what follows
+pub data Ending : Type 0 where
+  other_end : Ending
+  operator_end : Punctuator → Ending
+  number_end : Ending
+
+-- what begins at the end of the code so far
+pub data Start : Type 0 where
+  nowhere : Start
+  statement : Start
+  arrow_body : Start
+  default_export : Start
+
+pub record Pen : Type 0 where
+  pub style : Style
+  -- the characters so far
+  pub code : List ℕ
+  -- the level of indentation
+  pub depth : ℕ
+  -- one space stands in place of the next indentation
+  pub pending_space : Bool
+  -- a semicolon is still to be printed, or to be dropped
+  pub pending_semicolon : Bool
+  pub ending : Ending
+  pub start : Start
+
+-- the code goes on with this text, which ends so
+abbrev pub written : List ℕ → Ending → Pen → Pen
+written text ending pen = record pen { code = pen.code ++ text; ending = ending; start = nowhere }
+
+-- ---- what stands before a word, a sign or a dot
+
+abbrev pub space_if : Bool → List ℕ
+space_if true = codes " "
+space_if false = []
+
+-- the last character goes in a word
+abbrev pub ends_in_word : List ℕ → Bool
+ends_in_word code = option_map_or goes_in_word (last_or None code) false
+
+-- the last character but one is `<`
+abbrev pub ends_in_less_and_one : List ℕ → Bool
+ends_in_less_and_one [] = false
+ends_in_less_and_one (c ∷ []) = false
+ends_in_less_and_one (c ∷ d ∷ []) = c == 60
+ends_in_less_and_one (c ∷ d ∷ cs) = ends_in_less_and_one (d ∷ cs)
+
+-- the sign would join the one that the code ends in: `+ +`, `+ ++`, `- -`, `- --`, `<! --`, `! ==` or `! ===`
+abbrev pub joins : Ending → List ℕ → Punctuator → Bool
+joins (operator_end plus) code plus = true
+joins (operator_end plus) code plus_plus = true
+joins (operator_end minus) code minus = true
+joins (operator_end minus) code minus_minus = true
+joins (operator_end bang) code minus_minus = ends_in_less_and_one code
+joins (operator_end bang) code equal_equal = true
+joins (operator_end bang) code equal_equal_equal = true
+joins ending code sign = false
+
+abbrev pub dot_joins : Ending → Bool
+dot_joins number_end = true
+dot_joins ending = false
+
+abbrev pub number_ending : Bool → Ending
+number_ending true = number_end
+number_ending false = other_end
+
+-- ---- steps that depend on a flag
+
+-- a text that may be left out leaves what begins here as it is
+abbrev pub unless_printed : Bool → Start → Start
+unless_printed printed nowhere = nowhere
+unless_printed true start = nowhere
+unless_printed false start = start
+
+abbrev pub ending_unless : Bool → Ending → Ending
+ending_unless true ending = other_end
+ending_unless false ending = ending
+
+abbrev pub text_if : Bool → List ℕ → List ℕ
+text_if true text = text
+text_if false text = []
+
+-- the code goes on with this text where the test holds
+abbrev pub written_if : Bool → List ℕ → Pen → Pen
+written_if test text pen = record pen { code = pen.code ++ text_if test text; ending = ending_unless test pen.ending; start = unless_printed test pen.start }
+
+abbrev pub not : Bool → Bool
+not true = false
+not false = true
+
+-- the levels' own indentation; an empty one leaves the pen as it is
+abbrev pub indented : List ℕ → Pen → Pen
+indented [] pen = pen
+indented (c ∷ cs) pen = written (c ∷ cs) other_end pen
+
+abbrev pub indent_or_space : Bool → Pen → Pen
+indent_or_space true pen = record (written (codes " ") other_end pen) { pending_space = false }
+indent_or_space false pen = indented (replicate (pen.depth * pen.style.width) pen.style.indent) pen
+
+-- minified text has no indentation
+abbrev pub at_indentation : Bool → Pen → Pen
+at_indentation true pen = pen
+at_indentation false pen = indent_or_space pen.pending_space pen
+
+abbrev pub with_semicolon : Bool → Pen → Pen
+with_semicolon pending pen = record pen { pending_semicolon = pending }
+
+-- minified, the semicolon is left to what follows
+abbrev pub end_statement : Bool → Pen → Pen
+end_statement true pen = with_semicolon true pen
+end_statement false pen = written (codes ";\n") other_end pen
+
+-- what follows is no expression that begins here
+abbrev pub print_due : Pen → Pen
+print_due pen = record (written_if pen.pending_semicolon (codes ";") pen) { pending_semicolon = false; start = nowhere }
+
+abbrev pub deeper_level : Bool → ℕ → ℕ
+deeper_level true depth = depth
+deeper_level false depth = suc depth
+
+-- ---- the whole
+
+-- the pen after the items: of two, after the second from where the first ends
+abbrev pub layout : Items → Pen → Pen
+layout nothing pen = pen
+layout (a ⊕ b) pen = layout b (layout a pen)
+layout (word w) pen = written (space_if (ends_in_word pen.code) ++ w) other_end pen
+layout (name w) pen = written (space_if (ends_in_word pen.code) ++ w) other_end pen
+layout (number dot_is_its_own w) pen = written (space_if (ends_in_word pen.code) ++ w) (number_ending dot_is_its_own) pen
+layout (literal w) pen = written w other_end pen
+layout (punctuator p) pen = written (punctuator_text p) other_end pen
+layout (operator p) pen = written (space_if (joins pen.ending pen.code p) ++ punctuator_text p) (operator_end p) pen
+layout member_dot pen = written (space_if (dot_joins pen.ending) ++ codes ".") other_end pen
+layout soft_space pen = written_if (not pen.style.minified) (codes " ") pen
+layout soft_line pen = written_if (not pen.style.minified) (codes "\n") pen
+layout hard_space pen = written (codes " ") other_end pen
+layout indentation pen = at_indentation pen.style.minified pen
+layout body_space pen = record pen { pending_space = true }
+layout (deeper items) pen = record (layout items (record pen { depth = deeper_level pen.style.minified pen.depth })) { depth = pen.depth }
+layout (brackets b items) pen = written (closing b) other_end (layout items (written (opening b) other_end pen))
+layout (wrapped test items) pen = written_if test (closing Round) (layout items (written_if test (opening Round) pen))
+layout statement_end pen = end_statement pen.style.minified pen
+layout due_semicolon pen = print_due pen
+layout drop_semicolon pen = with_semicolon false pen
+layout statement_begins pen = record pen { start = statement }
+layout arrow_body_begins pen = record pen { start = arrow_body }
+layout default_export_begins pen = record pen { start = default_export }
+
+-- before anything is printed
+abbrev pub empty_pen : Style → ℕ → Pen
+empty_pen style depth = record { style = style; code = []; depth = depth; pending_space = false; pending_semicolon = false; ending = other_end; start = statement }
+
+-- pretty text, indented by tabs
+abbrev pub pretty : Style
+pretty = record { minified = false; indent = 9; width = 1 }

@@ -1,0 +1,92 @@
+-- Validity: the rules that a tree breaks, each with the start of the node at which it is broken.
+use Rattle.std.specs.Prelude.{◌≡◌, ℕ, List, [], ◌∷◌, ◌++◌, length, Bool, true, false, nat_lt, Contains, Result, Ok, Err, if◌then◌else◌}
+use Rattle.std.specs.Str.{encode_utf8_all}
+use Rattle.jsgen_syntax.specs.Name.{spells_name, is_reserved, is_strict_reserved}
+use Rattle.jsgen_syntax.specs.declared.span.Span.{Span}
+use Rattle.jsgen_tree.specs.declared.types.NodeSet.{NodeSet}
+use Rattle.jsgen_tree.specs.Table.{fields, child_sets, in_set}
+use Rattle.jsgen_tree.specs.Tree.{Tree, node, Slots, no_slots, one, maybe, many, Maybe, absent, given, Trees, no_trees, more, hole, Atoms, type_of, span_of, text_in}
+use Rattle.jsgen_tree.specs.Tree as tree
+use Rattle.jsgen_model.specs.declared.fault.TreeFault.{TreeFault}
+use Rattle.jsgen_model.specs.declared.fault.TreeFault.TheVariants as faults
+
+abbrev pub not : Bool → Bool
+not true = false
+not false = true
+
+abbrev pub fault_if : Bool → TreeFault → List TreeFault
+fault_if true f = f ∷ []
+fault_if false f = []
+
+-- ---- what each rule asks
+
+-- a start isn't after its end
+abbrev pub span_faults : Span → List TreeFault
+span_faults s = fault_if (nat_lt s.end s.start) (faults.Span s.start)
+
+-- a name that a module may use (ECMA-262, 13.1): strict code, so both lists are reserved
+abbrev pub is_free_name : List ℕ → Bool
+is_free_name w = if spells_name w then (if is_reserved (encode_utf8_all w) then false else not (is_strict_reserved (encode_utf8_all w))) else false
+
+abbrev pub name_faults : Atoms → List TreeFault
+name_faults a = fault_if (not (is_free_name (text_in a.values))) (faults.Name a.span.start)
+
+-- a declaration has a declarator
+abbrev pub declaration_faults : Atoms → Trees → List TreeFault
+declaration_faults a no_trees = faults.Place a.span.start ∷ []
+declaration_faults a ts = []
+
+-- offsets of the source fit 32 bits
+abbrev pub source_faults : Atoms → List TreeFault
+source_faults a = fault_if (nat_lt 4294967295 (length (encode_utf8_all (text_in a.values)))) (faults.Span a.span.start)
+
+-- a row's rules of its own
+abbrev pub own_faults : Tree → List TreeFault
+own_faults (tree.program a body) = source_faults a
+own_faults (tree.variable_declaration a declarations) = declaration_faults a declarations
+own_faults (tree.binding_identifier a) = name_faults a
+own_faults (tree.identifier_reference a) = name_faults a
+own_faults t = []
+
+-- a child stands where its field asks for it
+abbrev pub place_faults : NodeSet → Tree → List TreeFault
+place_faults s t = fault_if (not (in_set s (type_of t))) (faults.Place (span_of t).start)
+
+abbrev pub head_set_faults : List NodeSet → Tree → List TreeFault
+head_set_faults [] t = faults.Place (span_of t).start ∷ []
+head_set_faults (s ∷ ss) t = place_faults s t
+
+abbrev pub other_sets : List NodeSet → List NodeSet
+other_sets [] = []
+other_sets (s ∷ ss) = ss
+
+-- ---- the whole
+
+abbrev mutual
+  -- its span, its own rules, and its children, each of the set of its field
+  pub breaches : Tree → List TreeFault
+  breaches (node type a slots) = span_faults a.span ++ own_faults (node type a slots) ++ in_slots (child_sets (fields type)) slots
+
+  pub in_slots : List NodeSet → Slots → List TreeFault
+  in_slots sets no_slots = []
+  in_slots sets (one t slots) = head_set_faults sets t ++ breaches t ++ in_slots (other_sets sets) slots
+  in_slots sets (maybe m slots) = in_maybe sets m ++ in_slots (other_sets sets) slots
+  in_slots sets (many ts slots) = in_trees sets ts ++ in_slots (other_sets sets) slots
+
+  pub in_maybe : List NodeSet → Maybe → List TreeFault
+  in_maybe sets absent = []
+  in_maybe sets (given t) = head_set_faults sets t ++ breaches t
+
+  pub in_trees : List NodeSet → Trees → List TreeFault
+  in_trees sets no_trees = []
+  in_trees sets (more t ts) = head_set_faults sets t ++ breaches t ++ in_trees sets ts
+  in_trees sets (hole ts) = in_trees sets ts
+
+-- no rule is broken
+abbrev pub IsValid : Tree → Type 0
+IsValid t = breaches t ≡ []
+
+-- Ok where no rule is broken, else one that is
+abbrev pub Judges : List TreeFault → Result (Unit {0}) TreeFault → Type 0
+Judges found (Ok done) = found ≡ []
+Judges found (Err fault) = Contains found fault
