@@ -1,5 +1,5 @@
 ghost use Rattle.std.specs.Prelude.{◌≡◌};
-ghost use Rattle.jsgen_syntax.specs.Name.{is_name, is_reserved, is_strict_reserved};
+ghost use Rattle.jsgen_syntax.specs.Name.{starts_name, continues_name, is_name, is_reserved, is_strict_reserved};
 
 /// Whether the text is a name: a character of XID_Start, `$` or `_`, then characters of XID_Continue, `$`,
 /// U+200C or U+200D (ECMA-262, 12.7, without the few characters of ID_Start and ID_Continue that aren't XID).
@@ -13,11 +13,15 @@ pub fn is_name(s: &str) -> bool
     }
 }
 
-fn starts_name(c: char) -> bool {
+fn starts_name(c: char) -> bool
+    ensures { result ≡ starts_name c }
+{
     unicode_ident::is_xid_start(c) || c == '$' || c == '_'
 }
 
-fn continues_name(c: char) -> bool {
+fn continues_name(c: char) -> bool
+    ensures { result ≡ continues_name c }
+{
     unicode_ident::is_xid_continue(c) || c == '$' || c == '\u{200C}' || c == '\u{200D}'
 }
 
