@@ -25,46 +25,26 @@ fn continues_name(c: char) -> bool
     unicode_ident::is_xid_continue(c) || c == '$' || c == '\u{200C}' || c == '\u{200D}'
 }
 
-const RESERVED: [&str; 38] = [
-    "await",
-    "break",
-    "case",
-    "catch",
-    "class",
-    "const",
-    "continue",
-    "debugger",
-    "default",
-    "delete",
-    "do",
-    "else",
-    "enum",
-    "export",
-    "extends",
-    "false",
-    "finally",
-    "for",
-    "function",
-    "if",
-    "import",
-    "in",
-    "instanceof",
-    "new",
-    "null",
-    "return",
-    "super",
-    "switch",
-    "this",
-    "throw",
-    "true",
-    "try",
-    "typeof",
-    "var",
-    "void",
-    "while",
-    "with",
-    "yield",
+// The words that are always reserved, by their length.
+const RESERVED_OF_2: [&str; 3] = ["do", "if", "in"];
+
+const RESERVED_OF_3: [&str; 4] = ["for", "new", "try", "var"];
+
+const RESERVED_OF_4: [&str; 8] = [
+    "case", "else", "enum", "null", "this", "true", "void", "with",
 ];
+
+const RESERVED_OF_5: [&str; 10] = [
+    "await", "break", "catch", "class", "const", "false", "super", "throw", "while", "yield",
+];
+
+const RESERVED_OF_6: [&str; 6] = ["delete", "export", "import", "return", "switch", "typeof"];
+
+const RESERVED_OF_7: [&str; 3] = ["default", "extends", "finally"];
+
+const RESERVED_OF_8: [&str; 3] = ["continue", "debugger", "function"];
+
+const RESERVED_OF_10: [&str; 1] = ["instanceof"];
 
 const STRICT: [&str; 8] = [
     "let",
@@ -81,7 +61,17 @@ const STRICT: [&str; 8] = [
 pub fn is_reserved(s: &str) -> bool
     ensures { result ≡ is_reserved s.now }
 {
-    RESERVED.contains(&s)
+    match s.len() {
+        2 => RESERVED_OF_2.contains(&s),
+        3 => RESERVED_OF_3.contains(&s),
+        4 => RESERVED_OF_4.contains(&s),
+        5 => RESERVED_OF_5.contains(&s),
+        6 => RESERVED_OF_6.contains(&s),
+        7 => RESERVED_OF_7.contains(&s),
+        8 => RESERVED_OF_8.contains(&s),
+        10 => RESERVED_OF_10.contains(&s),
+        _ => false,
+    }
 }
 
 /// Whether strict code reserves the word, though it isn't always reserved.
