@@ -1,11 +1,9 @@
-use Rattle.std.proofs.Common.{rules, tests, ◌≡◌, ◌∷◌, ◌++◌, ◌&&◌, refl}
+use Rattle.std.proofs.Common.{rules, tests, ◌≡◌, ◌++◌, refl}
 use Rattle.std.specs.Char.{encode_utf8}
-use Rattle.std.specs.List.{list_all}
-use Rattle.std.specs.Str.{chars}
 use Rattle.std.proofs.lemmas.Str.{chars_past_char, IsUtf8-past_char}
 use Rattle.std.proofs.lemmas.Iterator.{YieldsList-from_chars}
 use Rattle.std.proofs.lemmas.Iterator.Search.{all_from_yields_List}
-use Rattle.jsgen_syntax.specs.Name.{starts_name, continues_name}
+use Rattle.jsgen_syntax.specs.Name.{continues_name}
 use Rattle.jsgen_syntax.proofs.name.is_name.Goals as goal
 
 pub returns-then-starts_name : goal.returns-then-starts_name
