@@ -1,5 +1,6 @@
 -- Names and reserved words (ECMA-262, 12.7). A text is given by its bytes in UTF-8, or by its characters.
-use Rattle.std.specs.Prelude.{ℕ, List, [], ◌∷◌, Bool, false, ◌&&◌, ◌||◌, ◌==◌, codes}
+use Rattle.std.specs.Prelude.{ℕ, List, [], ◌∷◌, Bool, false, ◌&&◌, ◌||◌, ◌==◌, nat_le, codes}
+use Rattle.std.specs.Char.{is_ascii_alphanumeric}
 use Rattle.std.specs.List.{list_all, list_any}
 use Rattle.std.specs.Str.{chars, bytes_eq}
 use Rattle.unicode_ident.specs.Ident.{is_xid_start, is_xid_continue}
@@ -11,6 +12,10 @@ starts_name c = is_xid_start c || (c == 36) || (c == 95)
 -- XID_Continue, `$`, U+200C or U+200D
 abbrev pub continues_name : ℕ → Bool
 continues_name c = is_xid_continue c || (c == 36) || (c == 8204) || (c == 8205)
+
+-- what can stand in a word, seen from its last byte or its last character
+abbrev pub goes_in_word : ℕ → Bool
+goes_in_word c = is_ascii_alphanumeric c || (c == 95) || (c == 36) || nat_le 128 c
 
 -- of characters
 abbrev pub spells_name : List ℕ → Bool

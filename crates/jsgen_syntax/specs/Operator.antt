@@ -1,6 +1,5 @@
 -- The table of operators: spelling and level (ECMA-262, 13.6 to 13.12).
-use Rattle.std.specs.Prelude.{◌≡◌, ℕ, ◌+◌, List, codes}
-use Rattle.jsgen_syntax.specs.Precedence.{rank}
+use Rattle.std.specs.Prelude.{ℕ, List, codes}
 use Rattle.jsgen_syntax.specs.declared.precedence.Precedence.{Precedence}
 use Rattle.jsgen_syntax.specs.declared.precedence.Precedence.TheVariants as levels
 use Rattle.jsgen_syntax.specs.declared.operator.BinaryOperator.{BinaryOperator}

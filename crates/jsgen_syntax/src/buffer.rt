@@ -11,6 +11,19 @@ pub enum IndentChar {
     Space,
 }
 
+impl IndentChar {
+    ghost use Rattle.jsgen_syntax.specs.Buffer.{indent_code};
+
+    fn character(self) -> char
+        ensures { result ≡ indent_code self }
+    {
+        match self {
+            IndentChar::Tab => '\t',
+            IndentChar::Space => ' ',
+        }
+    }
+}
+
 /// Text that only grows.
 #[derive(Drop)]
 pub struct CodeBuffer {
@@ -68,10 +81,7 @@ impl CodeBuffer {
         ensures byte { indent_byte self.new ≡ indent_byte self.old }
         ensures width { indent_width self.new ≡ indent_width self.old }
     {
-        let c = match self.indent {
-            IndentChar::Tab => '\t',
-            IndentChar::Space => ' ',
-        };
+        let c = self.indent.character();
         for _ in 0..depth * self.width {
             self.text.push(c)?;
         }

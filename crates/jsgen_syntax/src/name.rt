@@ -1,5 +1,5 @@
 ghost use Rattle.std.specs.Prelude.{◌≡◌};
-ghost use Rattle.jsgen_syntax.specs.Name.{is_name, is_reserved, is_strict_reserved};
+ghost use Rattle.jsgen_syntax.specs.Name.{starts_name, continues_name, is_name, is_reserved, is_strict_reserved};
 
 /// Whether the text is a name: a character of XID_Start, `$` or `_`, then characters of XID_Continue, `$`,
 /// U+200C or U+200D (ECMA-262, 12.7, without the few characters of ID_Start and ID_Continue that aren't XID).
@@ -13,54 +13,38 @@ pub fn is_name(s: &str) -> bool
     }
 }
 
-fn starts_name(c: char) -> bool {
+fn starts_name(c: char) -> bool
+    ensures { result ≡ starts_name c }
+{
     unicode_ident::is_xid_start(c) || c == '$' || c == '_'
 }
 
-fn continues_name(c: char) -> bool {
+fn continues_name(c: char) -> bool
+    ensures { result ≡ continues_name c }
+{
     unicode_ident::is_xid_continue(c) || c == '$' || c == '\u{200C}' || c == '\u{200D}'
 }
 
-const RESERVED: [&str; 38] = [
-    "await",
-    "break",
-    "case",
-    "catch",
-    "class",
-    "const",
-    "continue",
-    "debugger",
-    "default",
-    "delete",
-    "do",
-    "else",
-    "enum",
-    "export",
-    "extends",
-    "false",
-    "finally",
-    "for",
-    "function",
-    "if",
-    "import",
-    "in",
-    "instanceof",
-    "new",
-    "null",
-    "return",
-    "super",
-    "switch",
-    "this",
-    "throw",
-    "true",
-    "try",
-    "typeof",
-    "var",
-    "void",
-    "while",
-    "with",
-    "yield",
+// The words that are always reserved, by their length.
+const RESERVED_OF_2: [&str; 3] = ["do", "if", "in"];
+
+const RESERVED_OF_3: [&str; 4] = ["for", "new", "try", "var"];
+
+const RESERVED_OF_4: [&str; 8] = [
+    "case", "else", "enum", "null", "this", "true", "void", "with",
 ];
+
+const RESERVED_OF_5: [&str; 10] = [
+    "await", "break", "catch", "class", "const", "false", "super", "throw", "while", "yield",
+];
+
+const RESERVED_OF_6: [&str; 6] = ["delete", "export", "import", "return", "switch", "typeof"];
+
+const RESERVED_OF_7: [&str; 3] = ["default", "extends", "finally"];
+
+const RESERVED_OF_8: [&str; 3] = ["continue", "debugger", "function"];
+
+const RESERVED_OF_10: [&str; 1] = ["instanceof"];
 
 const STRICT: [&str; 8] = [
     "let",
@@ -77,7 +61,17 @@ const STRICT: [&str; 8] = [
 pub fn is_reserved(s: &str) -> bool
     ensures { result ≡ is_reserved s.now }
 {
-    RESERVED.contains(&s)
+    match s.len() {
+        2 => RESERVED_OF_2.contains(&s),
+        3 => RESERVED_OF_3.contains(&s),
+        4 => RESERVED_OF_4.contains(&s),
+        5 => RESERVED_OF_5.contains(&s),
+        6 => RESERVED_OF_6.contains(&s),
+        7 => RESERVED_OF_7.contains(&s),
+        8 => RESERVED_OF_8.contains(&s),
+        10 => RESERVED_OF_10.contains(&s),
+        _ => false,
+    }
 }
 
 /// Whether strict code reserves the word, though it isn't always reserved.
