@@ -1,5 +1,6 @@
 -- How each node is spelled: one row, one clause.
 use Rattle.std.specs.Prelude.{ℕ, List, Bool, true, false, nat_le, decimal, codes}
+use Rattle.std.specs.Str.{encode_utf8_all}
 use Rattle.jsgen_syntax.specs.Precedence.{rank}
 use Rattle.jsgen_syntax.specs.Operator.{binary_level, lower_level}
 use Rattle.jsgen_syntax.specs.declared.precedence.Precedence.{Precedence}
@@ -113,3 +114,7 @@ abbrev mutual
 -- the characters of a program's text
 abbrev pub printed : Style → Tree → List ℕ
 printed style program = (layout (spell program among_statements) (empty_pen style 0)).code
+
+-- and its bytes in UTF-8
+abbrev pub text_bytes : Style → Tree → List ℕ
+text_bytes style program = encode_utf8_all (printed style program)

