@@ -1,5 +1,5 @@
 -- A text's bytes and its characters.
-use Rattle.std.proofs.Common.{◌≡◌, ℕ, List, length, Bool, false, nat_lt, if◌then◌else◌, ap}
+use Rattle.std.proofs.Common.{◌≡◌, ℕ, List, length, false, nat_lt, if◌then◌else◌, ap}
 use Rattle.std.specs.Str.{chars, IsUtf8}
 use Rattle.std.proofs.lemmas.Str.{encodes-chars}
 use Rattle.jsgen_syntax.specs.Name.{is_name, is_reserved, is_strict_reserved}
