@@ -2,6 +2,7 @@
 #![tactic(auto)]
 
 mod codegen;
+mod printer;
 mod rows;
 
 pub use codegen::{Codegen, CodegenError, CodegenReturn};
