@@ -2,6 +2,7 @@
 #![tactic(auto)]
 
 mod codegen;
+mod nodes;
 mod printer;
 mod rows;
 

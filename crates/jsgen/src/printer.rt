@@ -38,7 +38,7 @@ pub struct Printer {
 #[tactic(auto, using(crate::proofs::Texts::ascii_chars), unfolding(crate::specs::Printer::pen_of))]
 impl Printer {
     ghost use Rattle.std.specs.Prelude.{OnOk, ◌++◌, decimal, replicate, string_bytes, true, IsTrue};
-    ghost use Rattle.std.specs.Str.{chars};
+    ghost use Rattle.std.specs.Str.{chars, encode_utf8_all};
     ghost use Rattle.jsgen_model.specs.Punctuator.{Round, opening, closing, comma, equal};
     ghost use Rattle.jsgen_model.specs.Items.{word, name, number, punctuator, operator, soft_space, indentation, statement_end, due_semicolon, statement_begins};
     ghost use Rattle.jsgen_model.specs.Layout.{layout, written, written_if, space_if, ends_in_word, joins, indented, pretty, empty_pen};
@@ -233,8 +233,9 @@ impl Printer {
 
     /// The text, and nothing is copied.
     pub fn into_string(self) -> String
-        ensures { chars (string_bytes result) ≡ (pen_of self).code }
+        ensures { string_bytes result ≡ encode_utf8_all (pen_of self).code }
     {
+        let _ = self.code.as_str();
         self.code.into_string()
     }
 }
