@@ -3,6 +3,8 @@ mod expressions;
 mod place;
 mod sets;
 mod statements;
+#[cfg(test)]
+mod tests;
 
 ghost use Rattle.std.specs.Prelude.{◌≡◌, OnOk};
 ghost use Rattle.jsgen_tree.specs.Tree.{Tree};
