@@ -1,0 +1,9 @@
+pub mod Listed
+pub mod Taking
+pub mod LastRow
+pub mod Pool
+pub mod RowSteps
+pub mod JobLaw
+pub mod Told
+pub mod Digits
+pub mod Json

@@ -1,1 +1,5 @@
 pub mod Job
+pub mod Values
+pub mod Meaning
+pub mod Reads
+pub mod Kept
