@@ -1,3 +1,12 @@
 pub mod Declarators
+pub mod Digits
+pub mod JobLaw
+pub mod Json
+pub mod LastRow
+pub mod Listed
+pub mod Pool
+pub mod RowSteps
+pub mod Taking
 pub mod Texts
+pub mod Told
 pub mod Validity

@@ -9,4 +9,4 @@ mod rows;
 
 pub use codegen::{Codegen, CodegenError, CodegenReturn};
 pub use jsgen_model::TreeFault;
-pub use rows::{At, InputFault, Job, read_job};
+pub use rows::{At, InputFault, Job, job_faults_are_told, read_job};

@@ -1,15 +1,53 @@
 // The reader of jobs: from JSON to a tree.
+ghost use Rattle.std.specs.Prelude.{◌≡◌};
+ghost use Rattle.serde_json.specs.View.{view};
 ghost use Rattle.jsgen_tree.specs.Plain.{program_plain};
-ghost use Rattle.jsgen.specs.Job.{Same, job_of};
+ghost use Rattle.jsgen.specs.Job.{Same, FaultsAreTold, json_of, job_of};
+ghost use Rattle.jsgen.specs.Values.{at, head};
+ghost use Rattle.jsgen.specs.Meaning.{value_meaning};
+ghost use Rattle.jsgen.specs.Reads.{read_job};
+ghost use Rattle.jsgen.specs.declared.rows.InputFault.TheVariants as faults;
 
+mod children;
+mod expressions;
+mod fields;
+mod floats;
+mod kept;
+mod names;
+mod statements;
+mod steps;
+mod values;
+mod words;
+
+use crate::rows::steps::{read_rows, root_of, rows_in};
 use jsgen_tree::Program;
-use std::alloc::Global;
+use serde_json::Value;
+use std::alloc::{AllocError, AllocFailed, Global};
 
 /// A field of a job: by its number, in a row or, where there is none, in the job's head.
 #[derive(Clone, Copy, Debug, PartialEq, Eq)]
 pub struct At {
     pub row: Option<usize>,
     pub field: usize,
+}
+
+impl At {
+    /// A field of the head.
+    pub fn of_head(field: usize) -> At
+        ensures { result ≡ head field }
+    {
+        At { row: None, field }
+    }
+
+    /// A field of a row.
+    pub fn of_row(row: usize, field: usize) -> At
+        ensures { result ≡ at row field }
+    {
+        At {
+            row: Some(row),
+            field,
+        }
+    }
 }
 
 /// Why bytes are no job.
@@ -31,6 +69,22 @@ pub enum InputFault {
     Memory,
 }
 
+impl From<AllocError> for InputFault {
+    ghost from_gives = { λ x y. y ≡ faults.Memory };
+
+    fn from(_error: AllocError) -> InputFault {
+        InputFault::Memory
+    }
+}
+
+impl<T: Drop> From<AllocFailed<T>> for InputFault {
+    ghost from_gives = { λ x y. y ≡ faults.Memory };
+
+    fn from(_error: AllocFailed<T>) -> InputFault {
+        InputFault::Memory
+    }
+}
+
 /// What a job asks for.
 #[derive(Drop)]
 pub struct Job {
@@ -38,10 +92,46 @@ pub struct Job {
 }
 
 /// Reads a job from its bytes (docs/FORMAT.md), or says its first fault.
+#[tactic(auto, unfolding(crate::specs::Job::job_of))]
 pub fn read_job(alloc: Global, bytes: &[u8]) -> Result<Job, InputFault>
     ensures { Same (λ job. program_plain job.program) result (job_of bytes.now) }
 {
-    let _ = alloc;
-    let _ = bytes;
-    Err(InputFault::Memory)
+    let value = read_json(alloc, bytes)?;
+    let program = read_value(alloc, &value)?;
+    Ok(Job { program })
 }
+
+fn read_json(alloc: Global, bytes: &[u8]) -> Result<Value, InputFault>
+    ensures { Same view result (json_of bytes.now) }
+{
+    match Value::from_slice(alloc, bytes) {
+        Ok(value) => Ok(value),
+        Err(error) => {
+            if error.is_memory() {
+                Err(InputFault::Memory)
+            } else {
+                Err(InputFault::Json)
+            }
+        }
+    }
+}
+
+/// The program of a job that was read as JSON.
+fn read_value(alloc: Global, value: &Value) -> Result<Program, InputFault>
+    ensures { Same program_plain result (value_meaning (view value.now)) }
+{
+    read_steps(alloc, value)
+}
+
+fn read_steps(alloc: Global, value: &Value) -> Result<Program, InputFault>
+    ensures { Same program_plain result (read_job (view value.now)) }
+{
+    let rows = rows_in(value)?;
+    let kept = read_rows(alloc, rows)?;
+    root_of(kept)
+}
+
+/// A law: what a job's bytes mean is never that memory ran out.
+pub fn job_faults_are_told()
+    ensures { FaultsAreTold }
+{}
