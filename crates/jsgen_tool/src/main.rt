@@ -2,7 +2,10 @@
 #![tactic(auto)]
 
 mod device;
+mod line;
 mod memory;
 mod standard;
+mod status;
+mod transfer;
 
 fn main(rt: HostRuntime) {}
