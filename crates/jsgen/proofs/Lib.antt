@@ -1,0 +1,2 @@
+pub mod Declarators
+pub mod Texts

@@ -3,8 +3,10 @@ ghost use Rattle.std.specs.Prelude.{◌≡◌, IfOk, string_bytes};
 ghost use Rattle.jsgen_tree.specs.Plain.{program_plain};
 ghost use Rattle.jsgen_model.specs.Layout.{pretty};
 ghost use Rattle.jsgen_model.specs.Spell.{text_bytes};
-ghost use Rattle.jsgen_model.specs.Valid.{IsValid};
+ghost use Rattle.jsgen_model.specs.Valid.{breaches, IsValid, Judges};
 
+use crate::check::check_program;
+use jsgen_model::TreeFault;
 use jsgen_tree::Program;
 use std::alloc::Global;
 use std::marker::PhantomData;
@@ -36,6 +38,14 @@ impl<'a> Codegen<'a> {
             alloc,
             lent: PhantomData,
         }
+    }
+
+    /// Says Ok exactly where the program keeps each rule of a tree (docs/FORMAT.md, "Rules of a tree"), and otherwise
+    /// a rule that it breaks. It takes no memory.
+    pub fn check(&self, program: &Program) -> Result<(), TreeFault>
+        ensures { Judges (breaches (program_plain program.now)) result }
+    {
+        check_program(program)
     }
 
     /// Prints a program, which `check` has to accept.

@@ -1,6 +1,7 @@
 //! The printer, the checker of trees, and the reader of jobs.
 #![tactic(auto)]
 
+mod check;
 mod codegen;
 mod rows;
 

@@ -32,18 +32,21 @@ abbrev pub name_faults : Atoms → List TreeFault
 name_faults a = fault_if (not (is_free_name (text_in a.values))) (faults.Name a.span.start)
 
 -- a declaration has a declarator
-abbrev pub declaration_faults : Atoms → Trees → List TreeFault
-declaration_faults a no_trees = faults.Place a.span.start ∷ []
-declaration_faults a ts = []
+abbrev pub declaration_faults : Span → Trees → List TreeFault
+declaration_faults s no_trees = faults.Place s.start ∷ []
+declaration_faults s ts = []
 
--- offsets of the source fit 32 bits
+-- offsets of the source don't fit 32 bits
+abbrev pub is_too_long : List ℕ → Bool
+is_too_long source = nat_lt 4294967295 (length (encode_utf8_all source))
+
 abbrev pub source_faults : Atoms → List TreeFault
-source_faults a = fault_if (nat_lt 4294967295 (length (encode_utf8_all (text_in a.values)))) (faults.Span a.span.start)
+source_faults a = fault_if (is_too_long (text_in a.values)) (faults.Span a.span.start)
 
 -- a row's rules of its own
 abbrev pub own_faults : Tree → List TreeFault
 own_faults (tree.program a body) = source_faults a
-own_faults (tree.variable_declaration a declarations) = declaration_faults a declarations
+own_faults (tree.variable_declaration a declarations) = declaration_faults a.span declarations
 own_faults (tree.binding_identifier a) = name_faults a
 own_faults (tree.identifier_reference a) = name_faults a
 own_faults t = []

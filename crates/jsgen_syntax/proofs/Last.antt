@@ -14,6 +14,7 @@ slice_get_last : (x : ℕ) (xs : List ℕ) → slice_get (x ∷ xs) (length xs) 
 slice_get_last x [] = refl
 slice_get_last x (y ∷ ys) = slice_get_last y ys
 
+-- the last item of two lists in a row
 last_of_append : (o : Option ℕ) (xs ys : List ℕ) → last_or o (xs ++ ys) ≡ last_or (last_or o xs) ys
 last_of_append o [] ys = refl
 last_of_append o (x ∷ xs) ys = last_of_append (Some x) xs ys
@@ -41,17 +42,20 @@ last_byte_goes o c = ap (option_map goes_in_word) (last_byte o c) ∙ by (cases_
     by (inl h) = rw (lt-ltb c 128 h) refl
     by (inr h) = rw (le-ltb c 128 h, goes_past_ascii c h, goes_past_ascii (128 + c % 64) (omega arith)) refl
 
+-- the same of a whole text, and of what stood before it where the text is empty
 last_goes_from : (o p : Option ℕ) (cs : List ℕ) → option_map goes_in_word o ≡ option_map goes_in_word p → option_map goes_in_word (last_or o (encodes cs)) ≡ option_map goes_in_word (last_or p cs)
 last_goes_from o p [] h = h
 last_goes_from o p (c ∷ cs) h =
     ap (option_map goes_in_word) (last_of_append o (encode c) (encodes cs)) ∙ last_goes_from (last_or o (encode c)) (Some c) cs (last_byte_goes o c)
 
+-- the item at the last place
 slice_get_end : (bs : List ℕ) → slice_get bs (length bs - 1) ≡ last_or None bs
 slice_get_end [] = refl
 slice_get_end (b ∷ bs) =
     let e : length (b ∷ bs) - 1 ≡ length bs = omega arith in
     rw e (slice_get_last b bs)
 
+-- the last byte of a text goes in a word just where its last character does
 pub last_goes_in_word : (bs : List ℕ) → IsUtf8 bs → option_map goes_in_word (slice_get bs (length bs - 1)) ≡ option_map goes_in_word (last_or None (chars bs))
 last_goes_in_word bs u =
     ap (option_map goes_in_word) (slice_get_end bs ∙ ap (last_or None) (sym (encodes-chars bs u))) ∙ last_goes_from None None (chars bs) refl

@@ -7,6 +7,8 @@ mod name;
 mod operator;
 mod precedence;
 mod span;
+#[cfg(test)]
+mod tests;
 
 pub use buffer::{CodeBuffer, IndentChar};
 pub use memory::Memory;

@@ -32,9 +32,11 @@ no_len p text (word ∷ words) h e =
     let other : eqb (length word) (length text) ≡ false = grind (arith, nat_tests) in
     grind (arith, nat_tests, other_len word text)
 
-abbrev in_list : ℕ → Bool
-in_list n = eqb n 2 || eqb n 3 || eqb n 4 || eqb n 5 || eqb n 6 || eqb n 7 || eqb n 8 || eqb n 10
+-- the lengths of the reserved words
+abbrev is_word_length : ℕ → Bool
+is_word_length n = eqb n 2 || eqb n 3 || eqb n 4 || eqb n 5 || eqb n 6 || eqb n 7 || eqb n 8 || eqb n 10
 
+-- of the reserved words only those of the text's length matter
 at_len : (text : List ℕ) (n : ℕ) → length text ≡ n → is_reserved text ≡ is_among text (filter (λ word. eqb (length word) n) reserved_words)
 unfolding is_reserved
 at_len text n h = same_len text reserved_words n h
@@ -66,5 +68,5 @@ returns-in-10 c = c.contains-in-10.ensures.value ∙ sym (at_len c.args.s.now 10
 pub returns-in_default : goal.returns-in_default
 unfolding is_reserved
 returns-in_default c =
-    let other : in_list (length c.args.s.now) ≡ false = grind (arith, nat_tests) in
-    sym (no_len in_list c.args.s.now reserved_words refl other)
+    let other : is_word_length (length c.args.s.now) ≡ false = grind (arith, nat_tests) in
+    sym (no_len is_word_length c.args.s.now reserved_words refl other)
