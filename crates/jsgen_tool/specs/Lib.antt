@@ -1,4 +1,6 @@
+pub mod Answers
 pub mod Device
+pub mod Job
 pub mod Lines
 pub mod Memory
 pub mod Standard

@@ -5,10 +5,10 @@ use Rattle.jsgen_tool.proofs.line.push_line.Goals as goal
 
 pub returns-then-is_err-clause-part : goal.returns-then-is_err-clause-part
 returns-then-is_err-clause-part g c =
-    first_part (g.K.Sink.got c.args.sink.now) (g.K.Sink.got c.push.new.self) (c.args.text.now) (spot_text c.args.spot ++ codes "\n")
-    (on_err c.push.result (sym c.is_err.ensures.value ∙ c.if-is_err.true) c.push.ensures.part)
+    first_part (g.K.Sink.got c.args.sink.now) (g.K.Sink.got c.push_said.new.sink) (c.args.text.now ++ spot_text c.args.spot) (codes "\n")
+    (on_err c.push_said.result (sym c.is_err.ensures.value ∙ c.if-is_err.true) c.push_said.ensures.part)
 
 pub returns-clause-part : goal.returns-clause-part
 returns-clause-part g c =
-    then_part (g.K.Sink.got c.args.sink.now) (g.K.Sink.got c.push.new.self) (g.K.Sink.got c.push_end.new.sink) (c.args.text.now) (spot_text c.args.spot ++ codes "\n") c.push_end.result
-    (on_ok c.push.result (sym c.is_err.ensures.value ∙ c.if-is_err.false) c.push.ensures.all) c.push_end.ensures.part
+    then_part (g.K.Sink.got c.args.sink.now) (g.K.Sink.got c.push_said.new.sink) (g.K.Sink.got c.push.new.self) (c.args.text.now ++ spot_text c.args.spot) (codes "\n") c.push.result
+    (on_ok c.push_said.result (sym c.is_err.ensures.value ∙ c.if-is_err.false) c.push_said.ensures.all) c.push.ensures.part
