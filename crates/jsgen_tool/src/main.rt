@@ -7,6 +7,8 @@ mod line;
 mod memory;
 mod standard;
 mod status;
+#[cfg(test)]
+mod tests;
 mod top;
 mod transfer;
 
