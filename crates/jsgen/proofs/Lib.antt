@@ -1,2 +1,3 @@
 pub mod Declarators
 pub mod Texts
+pub mod Validity

@@ -1,16 +1,67 @@
--- A text's bytes and its characters.
-use Rattle.std.proofs.Common.{◌≡◌, ℕ, List, length, Bool, false, nat_lt, if◌then◌else◌, ap}
-use Rattle.std.specs.Str.{chars, IsUtf8}
-use Rattle.std.proofs.lemmas.Str.{encodes-chars}
-use Rattle.jsgen_syntax.specs.Name.{is_name, is_reserved, is_strict_reserved}
-use Rattle.jsgen_model.specs.Valid.{is_free_name, is_too_long, not}
+-- Texts in bytes and in characters.
+use Rattle.std.proofs.Common.{◌≡◌, ℕ, zero, suc, codes, Result, Ok, Err, OnOk, ◌<◌, ◌+◌, ◌-◌, ◌*◌, Bool, true, false, nat_lt, Option, Some, None, List, [], ◌∷◌, ◌++◌, length, replicate, refl, sym, ap, ◌∙◌, append_assoc, append-nil, arith}
+use Rattle.std.specs.List.{list_all, last_or, slice_get}
+use Rattle.std.specs.Option.{option_map, option_map_or}
+use Rattle.std.specs.Str.{chars, IsAscii, IsUtf8}
+use Rattle.std.proofs.lemmas.Bool.{and_parts}
+use Rattle.std.proofs.lemmas.Bool.Decides.{nat_tests}
+use Rattle.std.proofs.lemmas.Str.{chars-IsAscii, chars-append}
+use Rattle.std.proofs.lemmas.Str.Ascii.{IsAscii-nil, IsAscii-cons}
+use Rattle.jsgen_syntax.proofs.Last.{last_goes_in_word}
+use Rattle.jsgen_syntax.specs.Buffer.{indent_byte, indent_code}
+use Rattle.jsgen_syntax.specs.declared.buffer.CodeBuffer.{CodeBuffer}
+use Rattle.jsgen_syntax.specs.declared.buffer.IndentChar.{IndentChar}
+use Rattle.jsgen_syntax.specs.declared.buffer.IndentChar.TheVariants as indents
+use Rattle.jsgen_syntax.specs.Name.{goes_in_word}
+use Rattle.jsgen_model.specs.Layout.{Pen, Ending, other_end, nowhere, written, written_if, indented, space_if, ends_in_word}
+use Rattle.jsgen.specs.Printer.{is_ascii}
 
-pub free_name : (bytes : List ℕ) → IsUtf8 bytes → is_free_name (chars bytes) ≡ (if is_name bytes then (if is_reserved bytes then false else not (is_strict_reserved bytes)) else false)
-free_name bytes utf8 = ap (λ b. if is_name bytes then (if is_reserved b then false else not (is_strict_reserved b)) else false) (encodes-chars bytes utf8)
+below : (b : ℕ) → nat_lt b 128 ≡ true → b < 128
+below b h = grind (arith, nat_tests)
 
-pub too_long : (bytes : List ℕ) → IsUtf8 bytes → is_too_long (chars bytes) ≡ nat_lt 4294967295 (length bytes)
-too_long bytes utf8 = ap (λ b. nat_lt 4294967295 (length b)) (encodes-chars bytes utf8)
+passes : (bs : List ℕ) → is_ascii bs ≡ true → IsAscii bs
+passes [] h = IsAscii-nil
+passes (b ∷ bs) h =
+    let parts = and_parts (nat_lt b 128) (is_ascii bs) h in
+    IsAscii-cons b bs (below b parts.0) (passes bs parts.1)
 
-pub ruleset free_names = (free_name)
+-- the characters of a text of ASCII are its bytes
+pub ascii_chars : (bs : List ℕ) → is_ascii bs ≡ true → chars bs ≡ bs
+ascii_chars bs h = chars-IsAscii bs (passes bs h)
 
-pub ruleset lengths = (too_long)
+map_or : (o : Option ℕ) (p : Option ℕ) → option_map goes_in_word o ≡ option_map goes_in_word p → option_map_or goes_in_word o false ≡ option_map_or goes_in_word p false
+map_or None None h = refl
+map_or (Some x) (Some y) h = cc
+map_or None (Some y) h = cc
+map_or (Some x) None h = cc
+
+-- the last byte tells whether the characters end in a word
+pub ends_by_byte : (bs : List ℕ) → IsUtf8 bs → option_map_or goes_in_word (slice_get bs (length bs - 1)) false ≡ ends_in_word (chars bs)
+ends_by_byte bs u = map_or _ _ (last_goes_in_word bs u)
+
+-- a space where the test holds, and the text
+pub written_apart : (test : Bool) (t : List ℕ) (e : Ending) (pen : Pen) → written t e (written_if test (chars (codes " ")) pen) ≡ written (space_if test ++ t) e pen
+written_apart true t e pen = rw (ascii_chars (codes " ") refl) (ap (λ code. record pen { code = code; ending = e; start = nowhere }) (append_assoc pen.code (codes " ") t))
+written_apart false t e pen = ap (λ code. record pen { code = code ++ t; ending = e; start = nowhere }) (append-nil pen.code)
+
+all_ascii : (n b : ℕ) → nat_lt b 128 ≡ true → is_ascii (replicate n b) ≡ true
+all_ascii zero b h = refl
+all_ascii (suc n) b h = rw h (all_ascii n b h)
+
+-- indentation is ASCII
+pub indent_chars : (n : ℕ) (b : CodeBuffer) → chars (replicate n (indent_byte b)) ≡ replicate n (indent_byte b)
+indent_chars n b = ascii_chars _ (all_ascii n (indent_byte b) (by b.indent))
+  where
+    by : (c : IndentChar) → nat_lt (indent_code c) 128 ≡ true
+    by indents.Tab = refl
+    by indents.Space = refl
+
+-- indentation that isn't empty
+pub indented_by : (xs : List ℕ) (pen : Pen) → (length xs ≡ 0 → ⊥) → indented xs pen ≡ written xs other_end pen
+indented_by [] pen some = absurd (some refl)
+indented_by (x ∷ xs) pen some = refl
+
+-- what holds of a step's pen holds of an equal one
+pub same_pen : {T E : Type 0} (r : Result T E) (x y z : Pen) → OnOk r (x ≡ y) → y ≡ z → OnOk r (x ≡ z)
+same_pen (Ok a) x y z h e = h ∙ e
+same_pen (Err a) x y z h e = h

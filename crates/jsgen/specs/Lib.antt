@@ -1,1 +1,3 @@
 pub mod Job
+pub mod Place
+pub mod Printer

@@ -52,7 +52,7 @@ fn check_child<N: CheckNode>(child: &N, set: NodeSet) -> Result<(), TreeFault>
     child.check()
 }
 
-#[tactic(auto, using(crate::proofs::Texts::free_names))]
+#[tactic(auto, using(crate::proofs::Validity::free_names))]
 fn is_free_name(name: &str) -> bool
     ensures { result ≡ is_free_name (chars name.now) }
 {
@@ -153,7 +153,7 @@ fn check_variable_declaration<N: CheckNode>(node: &VariableDeclaration<N>) -> Re
     check_declarators(&node.declarations)
 }
 
-#[tactic(auto, using(crate::proofs::Texts::lengths))]
+#[tactic(auto, using(crate::proofs::Validity::lengths))]
 fn check_source(source: &str, start: u32) -> Result<(), TreeFault>
     ensures { Judges (fault_if (is_too_long (chars source.now)) (faults.Span start)) result }
 {

@@ -6,7 +6,10 @@ ghost use Rattle.jsgen_model.specs.Spell.{text_bytes};
 ghost use Rattle.jsgen_model.specs.Valid.{breaches, IsValid, Judges};
 
 use crate::check::check_program;
+use crate::nodes::print_program;
+use crate::printer::Printer;
 use jsgen_model::TreeFault;
+use jsgen_syntax::Memory;
 use jsgen_tree::Program;
 use std::alloc::Global;
 use std::marker::PhantomData;
@@ -16,6 +19,12 @@ use std::marker::PhantomData;
 pub enum CodegenError {
     /// Memory ran out.
     Memory,
+}
+
+impl From<Memory> for CodegenError {
+    fn from(_error: Memory) -> CodegenError {
+        CodegenError::Memory
+    }
 }
 
 /// What a program was printed as.
@@ -54,7 +63,10 @@ impl<'a> Codegen<'a> {
         ensures { IfOk result (λ printed. string_bytes printed.code
             ≡ text_bytes pretty (program_plain program.now)) }
     {
-        let _ = program;
-        Err(CodegenError::Memory)
+        let mut p = Printer::new(self.alloc);
+        print_program(program, &mut p)?;
+        Ok(CodegenReturn {
+            code: p.into_string(),
+        })
     }
 }

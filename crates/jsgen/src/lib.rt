@@ -3,6 +3,8 @@
 
 mod check;
 mod codegen;
+mod nodes;
+mod printer;
 mod rows;
 
 pub use codegen::{Codegen, CodegenError, CodegenReturn};

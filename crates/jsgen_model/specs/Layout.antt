@@ -1,9 +1,9 @@
 -- The text that items give, from a pen.
-use Rattle.std.specs.Prelude.{ℕ, zero, suc, ◌*◌, List, [], ◌∷◌, ◌++◌, Bool, true, false, Option, Some, None, ◌==◌, codes, replicate, if◌then◌else◌}
+use Rattle.std.specs.Prelude.{ℕ, suc, ◌*◌, List, [], ◌∷◌, ◌++◌, Bool, true, false, None, ◌==◌, codes, replicate}
 use Rattle.std.specs.List.{last_or}
 use Rattle.std.specs.Option.{option_map_or}
 use Rattle.jsgen_syntax.specs.Name.{goes_in_word}
-use Rattle.jsgen_model.specs.Punctuator.{Punctuator, plus, plus_plus, minus, minus_minus, bang, equal_equal, equal_equal_equal, punctuator_text, Bracket, Round, opening, closing}
+use Rattle.jsgen_model.specs.Punctuator.{Punctuator, plus, plus_plus, minus, minus_minus, bang, equal_equal, equal_equal_equal, punctuator_text, Round, opening, closing}
 use Rattle.jsgen_model.specs.Items.{Items, nothing, ◌⊕◌, word, name, number, literal, punctuator, operator, member_dot, soft_space, soft_line, hard_space, indentation, body_space, deeper, brackets, wrapped, statement_end, due_semicolon, drop_semicolon, statement_begins, arrow_body_begins, default_export_begins}
 
 -- what never changes: whether the text is minified, and what a level of indentation is made of

@@ -1,5 +1,5 @@
 -- How each node is spelled: one row, one clause.
-use Rattle.std.specs.Prelude.{ℕ, List, Bool, true, false, nat_le, decimal, codes}
+use Rattle.std.specs.Prelude.{ℕ, List, Bool, true, false, nat_le, decimal}
 use Rattle.std.specs.Str.{encode_utf8_all}
 use Rattle.jsgen_syntax.specs.Precedence.{rank}
 use Rattle.jsgen_syntax.specs.Operator.{binary_level, lower_level}
@@ -12,7 +12,7 @@ use Rattle.jsgen_tree.specs.Tree.{Tree, Maybe, absent, given, Trees, no_trees, m
 use Rattle.jsgen_tree.specs.Tree as tree
 use Rattle.jsgen_model.specs.Punctuator.{Punctuator, plus, minus, comma, equal}
 use Rattle.jsgen_model.specs.Items.{Items, nothing, ◌⊕◌, word, name, number, punctuator, operator, soft_space, indentation, wrapped, statement_end, due_semicolon, statement_begins}
-use Rattle.jsgen_model.specs.Layout.{Start, nowhere, statement, unless_printed, Pen, Style, layout, empty_pen}
+use Rattle.jsgen_model.specs.Layout.{Start, nowhere, statement, unless_printed, Style, layout, empty_pen}
 
 -- what an expression's surroundings forbid
 pub record Context : Type 0 where

@@ -1,5 +1,5 @@
 -- The table of fields: for each type of node its fields in their order, and the sets that children are of.
-use Rattle.std.specs.Prelude.{ℕ, List, [], ◌∷◌, Bool, true, false, codes, if◌then◌else◌}
+use Rattle.std.specs.Prelude.{◌≡◌, ℕ, List, [], ◌∷◌, Bool, true, false, codes, if◌then◌else◌}
 use Rattle.jsgen_syntax.specs.declared.span.SourceKind.TheVariants as source_kinds
 use Rattle.jsgen_syntax.specs.declared.operator.BinaryOperator.TheVariants as binary_operators
 use Rattle.jsgen_tree.specs.declared.types.NodeType.{NodeType}
@@ -137,3 +137,7 @@ child_sets (f ∷ fs) = with_set f.sort (child_sets fs)
 abbrev pub without_parentheses : Tree → Tree
 without_parentheses (parenthesized a expression) = if is_expression (type_of expression) then without_parentheses expression else parenthesized a expression
 without_parentheses t = t
+
+-- an expression, and what stands within its parentheses
+abbrev pub IsInside : Tree → Tree → Type 0
+IsInside outer inner = (is_expression (type_of outer) ≡ true) × (inner ≡ without_parentheses outer)

@@ -22,3 +22,6 @@ pub use statements::{
     VariableDeclarator,
 };
 pub use types::{NodeSet, NodeType};
+
+#[cfg(test)]
+mod tests;

@@ -1,5 +1,9 @@
 // Where trees nest: the one recursive type, and the wrappers that say a child's set.
-ghost use Rattle.std.specs.Prelude.{◌≡◌};
+ghost use Rattle.std.specs.Prelude.{◌≡◌, false, MatchOption};
+ghost use Rattle.jsgen_tree.specs.Tree.{type_of};
+ghost use Rattle.jsgen_tree.specs.Table.{is_expression, IsInside};
+ghost use Rattle.jsgen_tree.specs.Rows.{expression_plain};
+ghost use Rattle.jsgen_tree.specs.Plain.{node_plain};
 ghost use Rattle.jsgen_tree.specs.declared.nodes.Node.TheVariants as nodes;
 
 use crate::sets::{BindingPattern, Declaration, Expression, Statement};
@@ -35,6 +39,22 @@ pub struct DeclarationNode<N = Node> {
 #[derive(Drop)]
 pub struct BindingPatternNode<N = Node> {
     node: N,
+}
+
+impl Node {
+    /// The expression that stands there, without the parentheses that it may have round it, if it is one.
+    #[cycle(inner)]
+    pub fn inner_expression(&self) -> Option<&Expression>
+        ensures { MatchOption result (is_expression (type_of (node_plain self.now)) ≡ false)
+            (λ e. IsInside (node_plain self.now) (expression_plain node_plain e.now)) }
+    {
+        match self {
+            Node::Expression(expression) => Some(expression.without_parentheses()),
+            Node::Statement(statement) => statement.inner_expression(),
+            Node::Declaration(_) => None,
+            Node::BindingPattern(_) => None,
+        }
+    }
 }
 
 impl From<Expression> for ExpressionNode {

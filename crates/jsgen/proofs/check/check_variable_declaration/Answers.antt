@@ -3,7 +3,6 @@ use Rattle.jsgen_tree.specs.Tree.{trees}
 use Rattle.jsgen_tree.specs.Rows.{variable_declarator_row}
 use Rattle.jsgen_tree.specs.declared.types.NodeSet.TheVariants as sets
 use Rattle.jsgen_model.specs.Valid.{span_faults, declaration_faults, in_trees}
-use Rattle.jsgen_model.specs.declared.fault.TreeFault.{TreeFault}
 use Rattle.jsgen.proofs.Declarators.{judges_last}
 use Rattle.jsgen.proofs.check.check_variable_declaration.Goals as goal
 

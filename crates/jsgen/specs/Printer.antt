@@ -1,0 +1,38 @@
+-- What a printer stands for: a pen of the layout.
+use Rattle.std.specs.Prelude.{ℕ, List, Bool, nat_lt}
+use Rattle.std.specs.List.{list_all}
+use Rattle.std.specs.Str.{chars}
+use Rattle.jsgen_syntax.specs.Buffer.{buffer_bytes, indent_byte, indent_width}
+use Rattle.jsgen_model.specs.Layout as layouts
+use Rattle.jsgen_model.specs.Layout.{Pen}
+use Rattle.jsgen_model.specs.Spell.{binary_sign}
+use Rattle.jsgen.specs.declared.printer.Printer.{Printer}
+use Rattle.jsgen.specs.declared.printer.Ending.{Ending}
+use Rattle.jsgen.specs.declared.printer.Ending.TheVariants as endings
+use Rattle.jsgen.specs.declared.printer.Start.{Start}
+use Rattle.jsgen.specs.declared.printer.Start.TheVariants as starts
+
+abbrev pub ending_of : Ending → layouts.Ending
+ending_of endings.Other = layouts.other_end
+ending_of (endings.Operator o) = layouts.operator_end (binary_sign o)
+ending_of endings.Number = layouts.number_end
+
+abbrev pub start_of : Start → layouts.Start
+start_of starts.Nowhere = layouts.nowhere
+start_of starts.Statement = layouts.statement
+
+-- the pen, whose code is the characters of the buffer's bytes
+unfoldable pub pen_of : Printer → Pen
+pen_of p = record {
+  style = record { minified = p.minify; indent = indent_byte p.code; width = indent_width p.code };
+  code = chars (buffer_bytes p.code);
+  depth = p.depth;
+  pending_space = p.pending_space;
+  pending_semicolon = p.pending_semicolon;
+  ending = ending_of p.ending;
+  start = start_of p.start;
+}
+
+-- each byte of the text is ASCII
+abbrev pub is_ascii : List ℕ → Bool
+is_ascii bytes = list_all (λ b. nat_lt b 128) bytes

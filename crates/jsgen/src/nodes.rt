@@ -1,0 +1,43 @@
+// Print functions: one for each row, generic in the tree's recursive type, and one impl that ties the knot.
+mod expressions;
+mod place;
+mod sets;
+mod statements;
+#[cfg(test)]
+mod tests;
+
+ghost use Rattle.std.specs.Prelude.{◌≡◌, OnOk};
+ghost use Rattle.jsgen_tree.specs.Tree.{Tree};
+ghost use Rattle.jsgen_tree.specs.Plain.{node_plain};
+ghost use Rattle.jsgen.specs.Printer.{pen_of};
+ghost use Rattle.jsgen.specs.Place.{pen_after};
+
+use crate::printer::Printer;
+use jsgen_syntax::Memory;
+use jsgen_tree::Node;
+pub use place::{Context, Place};
+use sets::{print_binding_pattern, print_declaration, print_expression, print_statement};
+pub use statements::print_program;
+
+/// Where trees nest: what the print functions ask of a child. Only `Node` implements it.
+pub trait PrintNode {
+    ghost plain: { Self → Tree };
+
+    fn print(&self, p: &mut Printer, place: Place) -> Result<(), Memory>
+        ensures { OnOk result (pen_of p.new ≡ pen_after (plain self.now) place p.old) };
+}
+
+/// The knot: the one recursion.
+impl PrintNode for Node {
+    ghost plain = { λ n. node_plain n };
+
+    #[cycle(node)]
+    fn print(&self, p: &mut Printer, place: Place) -> Result<(), Memory> {
+        match self {
+            Node::Expression(node) => print_expression(node, p, place),
+            Node::Statement(node) => print_statement(node, p, place),
+            Node::Declaration(node) => print_declaration(node, p, place),
+            Node::BindingPattern(node) => print_binding_pattern(node, p, place),
+        }
+    }
+}

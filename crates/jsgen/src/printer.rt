@@ -1,0 +1,248 @@
+// What has been printed so far, and the steps by which it goes on. Each step is an item of the layout.
+ghost use Rattle.std.specs.Prelude.{◌≡◌, ◌^◌, ◌<◌, ◌*◌};
+ghost use Rattle.jsgen_syntax.specs.Buffer.{indent_width};
+ghost use Rattle.jsgen_syntax.specs.Name.{goes_in_word};
+
+use jsgen_syntax::{BinaryOperator, CodeBuffer, IndentChar, Memory};
+use std::alloc::Global;
+
+/// What the code so far ends in, as far as it matters to what follows.
+#[derive(Clone, Copy)]
+pub enum Ending {
+    Other,
+    Operator(BinaryOperator),
+    /// A number, behind which a dot would be its own.
+    Number,
+}
+
+/// What begins at the end of the code so far.
+#[derive(Clone, Copy)]
+pub enum Start {
+    Nowhere,
+    Statement,
+}
+
+/// A text that is being printed.
+#[derive(Drop)]
+pub struct Printer {
+    code: CodeBuffer,
+    minify: bool,
+    depth: u32,
+    pending_space: bool,
+    pending_semicolon: bool,
+    ending: Ending,
+    start: Start,
+    ghost indents: { depth * indent_width code < 2 ^ 64 },
+}
+
+#[tactic(auto, using(crate::proofs::Texts::ascii_chars), unfolding(crate::specs::Printer::pen_of))]
+impl Printer {
+    ghost use Rattle.std.specs.Prelude.{OnOk, ◌++◌, decimal, replicate, string_bytes, true, IsTrue};
+    ghost use Rattle.std.specs.Str.{chars, encode_utf8_all};
+    ghost use Rattle.jsgen_model.specs.Punctuator.{Round, opening, closing, comma, equal};
+    ghost use Rattle.jsgen_model.specs.Items.{word, name, number, punctuator, operator, soft_space, indentation, statement_end, due_semicolon, statement_begins};
+    ghost use Rattle.jsgen_model.specs.Layout.{layout, written, written_if, space_if, ends_in_word, joins, indented, pretty, empty_pen};
+    ghost use Rattle.jsgen_syntax.specs.Buffer.{indent_byte};
+    ghost use Rattle.jsgen_model.specs.Spell.{binary_sign};
+    ghost use Rattle.jsgen.specs.Printer.{pen_of, ending_of, is_ascii};
+
+    /// A printer of pretty text that has printed nothing.
+    pub fn new(alloc: Global) -> Printer
+        ensures { pen_of result ≡ empty_pen pretty 0 }
+    {
+        Printer {
+            code: CodeBuffer::with_indent(alloc, IndentChar::Tab, 1),
+            minify: false,
+            depth: 0,
+            pending_space: false,
+            pending_semicolon: false,
+            ending: Ending::Other,
+            start: Start::Statement,
+        }
+    }
+
+    // The code goes on with a text, which ends so.
+    fn print_str(&mut self, text: &str, ending: Ending) -> Result<(), Memory>
+        ensures { OnOk result (pen_of self.new ≡ written (chars text.now) (ending_of ending) (pen_of self.old)) }
+    {
+        let _ = self.code.as_str();
+        self.code.print_str(text)?;
+        self.ending = ending;
+        self.start = Start::Nowhere;
+        Ok(())
+    }
+
+    // A text stands apart from what is before it, by a space where the test holds.
+    fn print_apart(&mut self, test: bool, text: &str, ending: Ending) -> Result<(), Memory>
+        ensures { OnOk result (pen_of self.new
+            ≡ written (space_if test ++ chars text.now) (ending_of ending) (pen_of self.old)) }
+    {
+        self.print_if(test, " ")?;
+        self.print_str(text, ending)
+    }
+
+    // The code goes on with a text where the test holds.
+    fn print_if(&mut self, test: bool, text: &str) -> Result<(), Memory>
+        ensures { OnOk result (pen_of self.new ≡ written_if test (chars text.now) (pen_of self.old)) }
+    {
+        if test {
+            self.print_str(text, Ending::Other)
+        } else {
+            Ok(())
+        }
+    }
+
+    fn ends_in_word(&self) -> bool
+        ensures { result ≡ ends_in_word (pen_of self.now).code }
+    {
+        let _ = self.code.as_str();
+        match self.code.last_byte() {
+            Some(byte) => goes_in_word(byte),
+            None => false,
+        }
+    }
+
+    // Whether the sign would join the one that the code ends in.
+    fn joins(&self, sign: BinaryOperator) -> bool
+        ensures { result ≡ joins (pen_of self.now).ending (pen_of self.now).code (binary_sign sign) }
+    {
+        match (self.ending, sign) {
+            (Ending::Operator(BinaryOperator::Addition), BinaryOperator::Addition) => true,
+            (Ending::Operator(BinaryOperator::Subtraction), BinaryOperator::Subtraction) => true,
+            _ => false,
+        }
+    }
+
+    pub fn print_word(&mut self, text: &str) -> Result<(), Memory>
+        requires { IsTrue (is_ascii text.now) }
+        ensures { OnOk result (pen_of self.new ≡ layout (word text.now) (pen_of self.old)) }
+    {
+        let apart = self.ends_in_word();
+        self.print_apart(apart, text, Ending::Other)
+    }
+
+    pub fn print_name(&mut self, text: &str) -> Result<(), Memory>
+        ensures { OnOk result (pen_of self.new ≡ layout (name (chars text.now)) (pen_of self.old)) }
+    {
+        let apart = self.ends_in_word();
+        self.print_apart(apart, text, Ending::Other)
+    }
+
+    pub fn print_whole_number(&mut self, digits: u128) -> Result<(), Memory>
+        ensures { OnOk result (pen_of self.new ≡ layout (number true (decimal digits)) (pen_of self.old)) }
+    {
+        let apart = self.ends_in_word();
+        let mut buffer = itoa::Buffer::new();
+        let text = buffer.format(digits);
+        self.print_apart(apart, text, Ending::Number)
+    }
+
+    pub fn print_comma(&mut self) -> Result<(), Memory>
+        ensures { OnOk result (pen_of self.new ≡ layout (punctuator comma) (pen_of self.old)) }
+    {
+        self.print_str(",", Ending::Other)
+    }
+
+    pub fn print_equal(&mut self) -> Result<(), Memory>
+        ensures { OnOk result (pen_of self.new ≡ layout (punctuator equal) (pen_of self.old)) }
+    {
+        self.print_str("=", Ending::Other)
+    }
+
+    pub fn print_operator(&mut self, sign: BinaryOperator) -> Result<(), Memory>
+        ensures { OnOk result (pen_of self.new ≡ layout (operator (binary_sign sign)) (pen_of self.old)) }
+    {
+        let apart = self.joins(sign);
+        self.print_apart(apart, sign.as_str(), Ending::Operator(sign))
+    }
+
+    pub fn print_soft_space(&mut self) -> Result<(), Memory>
+        ensures { OnOk result (pen_of self.new ≡ layout soft_space (pen_of self.old)) }
+    {
+        self.print_if(!self.minify, " ")
+    }
+
+    pub fn print_indentation(&mut self) -> Result<(), Memory>
+        ensures { OnOk result (pen_of self.new ≡ layout indentation (pen_of self.old)) }
+    {
+        if self.minify {
+            Ok(())
+        } else if self.pending_space {
+            self.print_str(" ", Ending::Other)?;
+            self.pending_space = false;
+            Ok(())
+        } else {
+            self.print_levels()
+        }
+    }
+
+    // The levels' own indentation.
+    fn print_levels(&mut self) -> Result<(), Memory>
+        ensures { OnOk result (pen_of self.new
+            ≡ indented (replicate (self.old.depth * indent_width self.old.code) (indent_byte self.old.code))
+            (pen_of self.old)) }
+    {
+        let _ = self.code.as_str();
+        let before = self.code.len();
+        self.code.print_indent(self.depth as usize)?;
+        if self.code.len() == before {
+            return Ok(());
+        }
+        self.ending = Ending::Other;
+        self.start = Start::Nowhere;
+        Ok(())
+    }
+
+    pub fn print_statement_end(&mut self) -> Result<(), Memory>
+        ensures { OnOk result (pen_of self.new ≡ layout statement_end (pen_of self.old)) }
+    {
+        if self.minify {
+            self.pending_semicolon = true;
+            Ok(())
+        } else {
+            self.print_str(";\n", Ending::Other)
+        }
+    }
+
+    pub fn print_due_semicolon(&mut self) -> Result<(), Memory>
+        ensures { OnOk result (pen_of self.new ≡ layout due_semicolon (pen_of self.old)) }
+    {
+        self.print_if(self.pending_semicolon, ";")?;
+        self.pending_semicolon = false;
+        self.start = Start::Nowhere;
+        Ok(())
+    }
+
+    pub fn begin_statement(&mut self)
+        ensures { pen_of self.new ≡ layout statement_begins (pen_of self.old) }
+    {
+        self.start = Start::Statement;
+    }
+
+    pub fn print_opening_if(&mut self, test: bool) -> Result<(), Memory>
+        ensures { OnOk result (pen_of self.new ≡ written_if test (opening Round) (pen_of self.old)) }
+    {
+        self.print_if(test, "(")
+    }
+
+    pub fn print_closing_if(&mut self, test: bool) -> Result<(), Memory>
+        ensures { OnOk result (pen_of self.new ≡ written_if test (closing Round) (pen_of self.old)) }
+    {
+        self.print_if(test, ")")
+    }
+
+    /// The text, and nothing is copied.
+    pub fn into_string(self) -> String
+        ensures { string_bytes result ≡ encode_utf8_all (pen_of self).code }
+    {
+        let _ = self.code.as_str();
+        self.code.into_string()
+    }
+}
+
+// What can stand in a word, seen from its last byte.
+fn goes_in_word(byte: u8) -> bool
+    ensures { result ≡ goes_in_word byte }
+{
+    byte.is_ascii_alphanumeric() || byte == b'_' || byte == b'$' || byte >= 128
+}
