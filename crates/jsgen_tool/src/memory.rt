@@ -1,6 +1,9 @@
 // Devices in memory: they tell their bytes, and fail at the calls that they are told, counted from 1.
-ghost use Rattle.std.specs.Prelude.{◌≡◌, ◌+◌, ◌≤◌, ◌++◌, [], length, take, drop, min, IfOk};
+ghost use Rattle.std.specs.Prelude.{◌≡◌, ◌+◌, ◌≤◌, ◌++◌, [], length, take, drop, min, IfOk, OnOk, OnErr};
 ghost use Rattle.std.specs.Prelude.{Some};
+ghost use Rattle.std.specs.Io.{ReadsAtMost};
+ghost use Rattle.std.specs.Io.KnownBytes.{ReadConsumes, Appends};
+ghost use Rattle.jsgen_tool.specs.Device.{HasCause, AppendsPart};
 
 use crate::device::{Failed, Sink, Source};
 use jsgen_syntax::Memory;
@@ -31,12 +34,14 @@ fn take_into(bytes: &[u8], at: usize, into: &mut [u8]) -> usize
 }
 
 impl MemSource {
-    ghost use Rattle.jsgen_tool.specs.Memory.{source_left, source_faults};
+    ghost use Rattle.jsgen_tool.specs.Memory.{source_left, source_faults, source_calls, source_list};
 
     /// The list holds the numbers of the calls that fail.
     pub fn new(bytes: Vec<u8>, fail: Vec<u64>) -> MemSource
         ensures left { source_left result ≡ bytes.items }
         ensures count { source_faults result ≡ 0 }
+        ensures calls { source_calls result ≡ 0 }
+        ensures list { source_list result ≡ fail.items }
     {
         MemSource {
             bytes,
@@ -49,13 +54,18 @@ impl MemSource {
 }
 
 impl Source for MemSource {
-    ghost use Rattle.jsgen_tool.specs.Memory.{source_left, source_faults};
+    ghost use Rattle.jsgen_tool.specs.Memory.{source_left, source_faults, Pulls};
 
     ghost left = { λ s. Some (source_left s) };
 
     ghost faults = { source_faults };
 
-    fn pull(&mut self, into: &mut [u8]) -> Result<usize, Failed> {
+    fn pull(&mut self, into: &mut [u8]) -> Result<usize, Failed>
+        ensures bound { ReadsAtMost result into.new }
+        ensures bytes { ReadConsumes (Some (source_left self.old)) (Some (source_left self.new)) result into.new }
+        ensures cause { HasCause (source_faults self.old) (source_faults self.new) result }
+        ensures exact { Pulls self.old self.new (length into.old) result }
+    {
         self.calls = self.calls.saturating_add(1);
         if self.fail.contains(&self.calls) {
             self.faults = self.faults.saturating_add(1);
@@ -119,7 +129,7 @@ pub struct MemSink {
 }
 
 impl MemSink {
-    ghost use Rattle.jsgen_tool.specs.Memory.{sink_got, sink_faults, sink_room};
+    ghost use Rattle.jsgen_tool.specs.Memory.{sink_got, sink_faults, sink_room, sink_calls, sink_list, listed};
 
     /// Takes its room at once, so that no push takes memory. The list holds the numbers of the calls that
     /// fail, each with how many bytes the call takes before. Another call fails where its bytes are more
@@ -128,6 +138,8 @@ impl MemSink {
         ensures got { IfOk result (λ sink. sink_got sink ≡ []) }
         ensures count { IfOk result (λ sink. sink_faults sink ≡ 0) }
         ensures room { IfOk result (λ sink. sink_room sink ≡ room) }
+        ensures calls { IfOk result (λ sink. sink_calls sink ≡ 0) }
+        ensures list { IfOk result (λ sink. sink_list sink ≡ fail.items) }
     {
         let store = vec![in alloc; 0u8; room]?;
         Ok(MemSink {
@@ -146,24 +158,33 @@ impl MemSink {
     }
 
     // How much this call takes before it fails, where it is one that fails.
-    fn failing(&self) -> Option<usize> {
-        for (call, takes) in &self.fail {
+    fn failing(&self) -> Option<usize>
+        ensures { result ≡ listed (sink_list self.now) (sink_calls self.now) }
+    {
+        let mut rest = self.fail.as_slice();
+        while let [(call, takes), after @ ..] = rest {
             if *call == self.calls {
                 return Some(*takes);
             }
+            rest = after;
         }
         None
     }
 }
 
 impl Sink for MemSink {
-    ghost use Rattle.jsgen_tool.specs.Memory.{sink_got, sink_faults};
+    ghost use Rattle.jsgen_tool.specs.Memory.{sink_got, sink_faults, Pushes};
 
     ghost got = { λ s. Some (sink_got s) };
 
     ghost faults = { sink_faults };
 
-    fn push(&mut self, bytes: &[u8]) -> Result<(), Failed> {
+    fn push(&mut self, bytes: &[u8]) -> Result<(), Failed>
+        ensures all { OnOk result (Appends (Some (sink_got self.old)) (Some (sink_got self.new)) bytes.now) }
+        ensures part { OnErr result (AppendsPart (Some (sink_got self.old)) (Some (sink_got self.new)) bytes.now) }
+        ensures cause { HasCause (sink_faults self.old) (sink_faults self.new) result }
+        ensures exact { Pushes self.old self.new bytes.now result }
+    {
         self.calls = self.calls.saturating_add(1);
         let room = self.store.len() - self.at;
         let (count, failed) = match self.failing() {
@@ -216,13 +237,18 @@ impl SureSink {
 }
 
 impl Sink for SureSink {
-    ghost use Rattle.jsgen_tool.specs.Memory.{sure_got, sure_faults};
+    ghost use Rattle.jsgen_tool.specs.Memory.{sure_got, sure_faults, SurelyPushes};
 
     ghost got = { λ s. Some (sure_got s) };
 
     ghost faults = { sure_faults };
 
-    fn push(&mut self, bytes: &[u8]) -> Result<(), Failed> {
+    fn push(&mut self, bytes: &[u8]) -> Result<(), Failed>
+        ensures all { OnOk result (Appends (Some (sure_got self.old)) (Some (sure_got self.new)) bytes.now) }
+        ensures part { OnErr result (AppendsPart (Some (sure_got self.old)) (Some (sure_got self.new)) bytes.now) }
+        ensures cause { HasCause (sure_faults self.old) (sure_faults self.new) result }
+        ensures exact { SurelyPushes self.old self.new bytes.now result }
+    {
         if bytes.len() > self.store.len() - self.at {
             self.faults = self.faults.saturating_add(1);
             return Err(Failed);
