@@ -1,0 +1,14 @@
+use Rattle.std.proofs.Common.{◌∙◌, sym}
+use Rattle.jsgen_tool.specs.Lines.{spot_text}
+use Rattle.jsgen_tool.proofs.Steps.{then_part, first_part, on_ok, on_err}
+use Rattle.jsgen_tool.proofs.line.push_said.Goals as goal
+
+pub returns-then-is_err-clause-part : goal.returns-then-is_err-clause-part
+returns-then-is_err-clause-part g c =
+    first_part (g.K.Sink.got c.args.sink.now) (g.K.Sink.got c.push.new.self) (c.args.text.now) (spot_text c.args.spot)
+    (on_err c.push.result (sym c.is_err.ensures.value ∙ c.if-is_err.true) c.push.ensures.part)
+
+pub returns-clause-part : goal.returns-clause-part
+returns-clause-part g c =
+    then_part (g.K.Sink.got c.args.sink.now) (g.K.Sink.got c.push.new.self) (g.K.Sink.got c.push_spot.new.sink) (c.args.text.now) (spot_text c.args.spot) c.push_spot.result
+    (on_ok c.push.result (sym c.is_err.ensures.value ∙ c.if-is_err.false) c.push.ensures.all) c.push_spot.ensures.part

@@ -1,0 +1,61 @@
+-- The table of answers of `run`.
+use Rattle.std.specs.Prelude.{◌≡◌, ◌⊎◌, ⊤, ℕ, ◌<◌, ◌≤◌, List, [], ◌∷◌, map, length, codes, String, string_bytes, IfSome, Option}
+use Rattle.std.specs.declared.alloc.Global.{Global}
+use Rattle.std.specs.Io.KnownBytes.{Keeps, Appends}
+use Rattle.jsgen_tree.specs.Tree.{Tree}
+use Rattle.jsgen_model.specs.declared.fault.TreeFault.{TreeFault}
+use Rattle.jsgen.specs.declared.rows.InputFault.{InputFault}
+use Rattle.jsgen_tool.specs.Device.{Rose, AppendsPart}
+use Rattle.jsgen_tool.specs.Transfer.{IsWithin, limit}
+use Rattle.jsgen_tool.specs.Job.{IsJobOf, Breaks, IsNoJob, text_of}
+use Rattle.jsgen_tool.specs.declared.status.Status.{Status}
+use Rattle.jsgen_tool.specs.declared.status.Status.TheVariants.{Done, Refused, Usage, NotJob, ReadFault, WriteFault, Memory, TooLong}
+
+-- the words are the one command
+abbrev pub IsPrint : List (String Global) → Type 0
+IsPrint words = map string_bytes words ≡ codes "print" ∷ []
+
+-- the bytes are a job that keeps the rules
+abbrev pub HoldsJob : List ℕ → Type 0
+HoldsJob bytes = (tree : Tree) × IsJobOf tree bytes
+
+-- what each answer says of the bytes that the source held
+abbrev pub InputRow : Status → List ℕ → Type 0
+InputRow TooLong bytes = limit < length bytes
+InputRow (NotJob fault) bytes = IsWithin bytes × IsNoJob fault bytes
+InputRow (Refused fault) bytes = IsWithin bytes × Breaks fault bytes
+InputRow WriteFault bytes = IsWithin bytes × HoldsJob bytes
+InputRow Done bytes = IsWithin bytes × HoldsJob bytes
+InputRow other bytes = ⊤
+
+-- what a source that tells its bytes held is a job within the limit, whose tree keeps the rules
+abbrev pub HeldJob : Option (List ℕ) → Tree → Type 0
+HeldJob held tree = (bytes : List ℕ) × IfSome held (λ told. told ≡ bytes) × IsWithin bytes × IsJobOf tree bytes
+
+-- What each answer says of the bytes that the sink took. They are the text of the job that was read, also
+-- where the source doesn't tell its bytes; every answer but Done and WriteFault leaves the sink as it was.
+abbrev pub OutputRow : Status → Option (List ℕ) → Option (List ℕ) → Option (List ℕ) → Type 0
+OutputRow Done held old new = (tree : Tree) × HeldJob held tree × Appends old new (text_of tree)
+OutputRow WriteFault held old new = (tree : Tree) × HeldJob held tree × AppendsPart old new (text_of tree)
+OutputRow other held old new = Keeps old new
+
+-- ReadFault comes only where the source's count rose, and under every other answer it is as it was
+abbrev pub SourceCount : Status → ℕ → ℕ → Type 0
+SourceCount ReadFault before now = (before ≤ now) × Rose before now
+SourceCount other before now = now ≡ before
+
+-- WriteFault comes only where the sink's count rose, and under every other answer it is as it was
+abbrev pub OutCount : Status → ℕ → ℕ → Type 0
+OutCount WriteFault before now = (before ≤ now) × Rose before now
+OutCount other before now = now ≡ before
+
+abbrev pub IsRefused : Status → Type 0
+IsRefused (Refused fault) = ⊤
+IsRefused other = ⊥
+
+-- What comes for these bytes where no read failed: the table's answer, or Memory.
+pub record Due (write_failed : Type 0) (bytes : List ℕ) (status : Status) : Type 0 where
+  pub too_long : limit < length bytes → (status ≡ TooLong) ⊎ (status ≡ Memory)
+  pub not_job : IsWithin bytes → (fault : InputFault) → IsNoJob fault bytes → (status ≡ NotJob fault) ⊎ (status ≡ Memory)
+  pub refused : IsWithin bytes → (fault : TreeFault) → Breaks fault bytes → IsRefused status ⊎ (status ≡ Memory)
+  pub done : (write_failed → ⊥) → IsWithin bytes → HoldsJob bytes → (status ≡ Done) ⊎ (status ≡ Memory)

@@ -1,0 +1,7 @@
+pub mod Answers
+pub mod Device
+pub mod Job
+pub mod Lines
+pub mod Memory
+pub mod Standard
+pub mod Transfer

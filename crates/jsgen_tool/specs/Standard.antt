@@ -1,0 +1,12 @@
+-- What the devices over readers and writers of std show of themselves.
+use Rattle.std.specs.Prelude.{ℕ}
+use Rattle.jsgen_tool.specs.declared.standard.StdSource.{StdSource}
+use Rattle.jsgen_tool.specs.declared.standard.StdSink.{StdSink}
+
+-- how often it has failed
+abbrev pub source_faults : {R : Type 0} → StdSource R → ℕ
+source_faults s = s.faults
+
+-- how often it has failed
+abbrev pub sink_faults : {W : Type 0} → StdSink W → ℕ
+sink_faults s = s.faults

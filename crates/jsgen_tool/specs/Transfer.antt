@@ -1,0 +1,35 @@
+-- What reading an input whole, and saying a line, do to the devices.
+use Rattle.std.specs.Prelude.{◌≡◌, ⊤, ℕ, ◌<◌, ◌≤◌, List, length, IfSome, Option, Result, Ok, Err, Vec}
+use Rattle.std.specs.declared.alloc.Global.{Global}
+use Rattle.std.specs.Io.KnownBytes.{Appends, Consumes}
+use Rattle.jsgen_tool.specs.Device.{Rose, AppendsPart}
+use Rattle.jsgen_tool.specs.declared.transfer.Unread.{Unread}
+use Rattle.jsgen_tool.specs.declared.transfer.Unread.TheVariants.{Failed, TooLong}
+
+-- the most bytes of an input: 32 MiB
+abbrev pub limit : ℕ
+limit = 33554432
+
+abbrev pub IsWithin : List ℕ → Type 0
+IsWithin bytes = length bytes ≤ limit
+
+-- known bytes lose at most n first ones
+abbrev pub TakesAtMost : ℕ → Option (List ℕ) → Option (List ℕ) → Type 0
+TakesAtMost n old new = (taken : List ℕ) × Consumes old new taken × (length taken ≤ n)
+
+-- what a read to the end says of the bytes held
+abbrev pub HeldBy : Result (Vec ℕ Global) Unread → Option (List ℕ) → Type 0
+HeldBy (Ok bytes) held = IfSome held (λ told. told ≡ bytes.items) × IsWithin bytes.items
+HeldBy (Err TooLong) held = IfSome held (λ told. limit < length told)
+HeldBy (Err other) held = ⊤
+
+-- a read to the end fails only where the count rose, and otherwise it is as it was
+abbrev pub UnreadCount : Result (Vec ℕ Global) Unread → ℕ → ℕ → Type 0
+UnreadCount (Err Failed) before now = (before ≤ now) × Rose before now
+UnreadCount other before now = now ≡ before
+
+-- a line is told whole where the count did not rise, and otherwise some first part of it
+pub record Says (old new : Option (List ℕ)) (before now : ℕ) (line : List ℕ) : Type 0 where
+  pub later : before ≤ now
+  pub part : AppendsPart old new line
+  pub whole : (Rose before now → ⊥) → Appends old new line
