@@ -64,7 +64,7 @@ abbrev pub stands : Punctuator → List ℕ → Bool
 stands p text = option_map_or (may_precede p) (text_behind (punctuator_text p) text) false
 
 -- a longer one stands there
-abbrev pub longer_stands : Punctuator → List ℕ → Bool
+unfoldable pub longer_stands : Punctuator → List ℕ → Bool
 longer_stands p text = list_any (λ q. nat_lt (length (punctuator_text p)) (length (punctuator_text q)) && stands q text) punctuators
 
 -- ---- tokens that are no brackets
@@ -72,11 +72,8 @@ longer_stands p text = list_any (λ q. nat_lt (length (punctuator_text p)) (leng
 -- `0`, or decimal digits without a leading zero (12.9.3): so far the only form of a number
 abbrev pub spells_whole : List ℕ → Bool
 spells_whole [] = false
-spells_whole (c ∷ cs) = if c == 48 then is_empty cs else is_ascii_digit c && list_all is_ascii_digit cs
-  where
-    is_empty : List ℕ → Bool
-    is_empty [] = true
-    is_empty (d ∷ ds) = false
+spells_whole (c ∷ []) = is_ascii_digit c
+spells_whole (c ∷ d ∷ ds) = not (c == 48) && list_all is_ascii_digit (c ∷ d ∷ ds)
 
 abbrev pub piece_text : Piece → List ℕ
 piece_text (Word w) = w

@@ -1,0 +1,4 @@
+pub mod Characters
+pub mod Last
+pub mod Writes
+pub mod Steps

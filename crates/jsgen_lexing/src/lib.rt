@@ -1,0 +1,2 @@
+//! Laws on tokens: what each step of the layout adds to a text's tokens.
+#![tactic(auto)]
