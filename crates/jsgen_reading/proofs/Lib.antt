@@ -1,0 +1,4 @@
+pub mod Levels
+pub mod Families
+pub mod Numbers
+pub mod Names

@@ -1,0 +1,2 @@
+//! Laws on readings: what is printed reads back.
+#![tactic(auto)]
