@@ -1,7 +1,7 @@
 -- The trees of which a reading is promised.
 use Rattle.std.specs.Prelude.{◌≡◌, ◌^◌, List, [], ◌∷◌, Bool, true, false, nat_lt, ⊤}
 use Rattle.jsgen_syntax.specs.declared.span.SourceKind.TheVariants as source_kinds
-use Rattle.jsgen_tree.specs.Tree.{Tree, Maybe, absent, given, Trees, no_trees, more, hole, Atom, source_kind, digits}
+use Rattle.jsgen_tree.specs.Tree.{Tree, Maybe, absent, given, Trees, no_trees, more, hole, Atom, source_kind, numeric_kind, Whole, digits}
 use Rattle.jsgen_tree.specs.Tree as tree
 
 -- the values name the kind module
@@ -12,9 +12,8 @@ is_module (a ∷ values) = is_module values
 
 -- the values are a whole number of 128 bits
 abbrev pub is_whole : List Atom → Bool
-is_whole [] = false
-is_whole (digits n ∷ values) = nat_lt n (2 ^ 128)
-is_whole (a ∷ values) = is_whole values
+is_whole (numeric_kind Whole ∷ digits n ∷ []) = nat_lt n (2 ^ 128)
+is_whole values = false
 
 -- Every node is of one of these types, with the children that its type has, and a program is a module.
 abbrev mutual

@@ -1,7 +1,7 @@
 -- The trees over which the induction goes. They follow from the rules, one lemma a row.
 use Rattle.std.proofs.Common.{◌≡◌, ℕ, Bool, true, false, ◌++◌, List, [], ◌∷◌, decimal, refl, sym, ap, ◌∙◌, subst, nat_lt}
 use Rattle.std.proofs.lemmas.Bool.{both_ways, ltb-true}
-use Rattle.jsgen_tree.specs.Tree.{Tree, Maybe, absent, given, Trees, no_trees, more, hole, Atom, Atoms, type_of, span_of, text_in, digits_in, digits}
+use Rattle.jsgen_tree.specs.Tree.{Tree, Maybe, absent, given, Trees, no_trees, more, hole, Atom, Atoms, type_of, span_of, text_in, digits_in, digits, numeric_kind, Whole}
 use Rattle.jsgen_tree.specs.Tree as tree
 use Rattle.jsgen_tree.specs.Table.{in_set, is_expression, is_statement, is_binding_pattern, is_variable_declarator}
 use Rattle.jsgen_tree.specs.declared.types.NodeType.{NodeType}
@@ -13,6 +13,7 @@ use Rattle.jsgen_model.specs.declared.fault.TreeFault.TheVariants as faults
 use Rattle.jsgen_model.specs.Tokens.{spells_whole}
 use Rattle.jsgen_model.specs.Grammar.{Allowed, in_module}
 use Rattle.jsgen_model.specs.Plain.{IsPlain, IsPlainIfGiven, ArePlain, is_whole}
+use Rattle.jsgen_model.specs.Normal.{number_text}
 use Rattle.jsgen_model.specs.Valid as valid
 use Rattle.jsgen_model.specs.Valid.{breaches, in_slots, in_maybe, in_trees, fault_if, is_free_name, place_faults, head_set_faults, span_faults, own_faults, name_faults, declaration_faults, source_faults}
 use Rattle.jsgen_reading.proofs.Numbers.{decimal_whole}
@@ -20,7 +21,7 @@ use Rattle.jsgen_reading.proofs.Numbers.{decimal_whole}
 mutual
   pub data IsExpression : Allowed → Tree → Type 0 where
     a_reference : {c : Allowed} {a : Atoms} → is_free_name (text_in a.values) ≡ true → IsExpression c (tree.identifier_reference a)
-    a_number : {c : Allowed} {a : Atoms} → spells_whole (decimal (digits_in a.values)) ≡ true → IsExpression c (tree.numeric_literal a)
+    a_number : {c : Allowed} {a : Atoms} → spells_whole (decimal (digits_in a.values)) ≡ true → decimal (digits_in a.values) ≡ number_text a.values → IsExpression c (tree.numeric_literal a)
     in_parentheses : {c : Allowed} {a : Atoms} {t : Tree} → IsExpression c t → IsExpression c (tree.parenthesized a t)
     an_operation : {c : Allowed} {a : Atoms} {l r : Tree} → IsExpression c l → IsExpression c r → IsExpression c (tree.binary a l r)
 
@@ -76,11 +77,10 @@ in_its_set_alone s t e = let h = none_both (place_faults s t) (breaches t) e in 
 no_truth : false ≡ true → ⊥
 no_truth e = both_ways false refl e
 
--- a plain number
-plain_digits : (values : List Atom) → is_whole values ≡ true → spells_whole (decimal (digits_in values)) ≡ true
-plain_digits [] h = absurd (both_ways false refl h)
-plain_digits (digits n ∷ values) h = decimal_whole n (ltb-true n _ h)
-plain_digits (a ∷ values) h = plain_digits values h
+-- a plain number is printed and read by its digits
+plain_digits : (values : List Atom) → is_whole values ≡ true → (spells_whole (decimal (digits_in values)) ≡ true) × (decimal (digits_in values) ≡ number_text values)
+plain_digits (numeric_kind Whole ∷ digits n ∷ []) h = (decimal_whole n (ltb-true n _ h), refl)
+plain_digits values h = absurd (no_truth h)
 
 -- ---- the rows
 
@@ -90,7 +90,7 @@ is_program other = false
 
 pub expression_valid : (c : Allowed) (t : Tree) → IsPlain t → is_expression (type_of t) ≡ true → breaches t ≡ [] → IsExpression c t
 expression_valid c (tree.identifier_reference a) p s e = a_reference (none_if (is_free_name (text_in a.values)) (faults.Name a.span.start) (parts (span_faults a.span) (name_faults a) [] e).0)
-expression_valid c (tree.numeric_literal a) p s e = a_number (plain_digits a.values p)
+expression_valid c (tree.numeric_literal a) p s e = let k = plain_digits a.values p in a_number k.0 k.1
 expression_valid c (tree.parenthesized a t) p s e =
     let h = parts (span_faults a.span) [] _ e in
     let k = in_its_set sets.Expression t [] h.1 in
