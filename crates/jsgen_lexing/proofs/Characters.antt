@@ -205,3 +205,18 @@ none_longer p c r h = among punctuators
 
 pub not_that : (c d : ℕ) → goes_on_in_sign c ≡ false → goes_on_in_sign d ≡ true → (c == d) ≡ false
 not_that c d g h = false_from_ne_true (c == d) (λ e. both_ways (goes_on_in_sign d) (subst (λ x. goes_on_in_sign x ≡ false) (eqb-true c d e) g) h)
+
+-- ---- words of letters
+
+below_128 : (c : ℕ) → is_ascii_alphabetic c ≡ true → c < 128
+below_128 c h = go (or_cases (is_in_range 65 90 c) (is_in_range 97 122 c) h)
+  where
+    go : (is_in_range 65 90 c ≡ true) ⊎ (is_in_range 97 122 c ≡ true) → c < 128
+    go (inl e) = let b = ranged 65 90 c e in omega arith
+    go (inr e) = let b = ranged 97 122 c e in omega arith
+
+letter_starts : (c : ℕ) → is_ascii_alphabetic c ≡ true → starts_name c ≡ true
+letter_starts c h = or_left _ (c == 95) (or_left (is_xid_start c) (c == 36) (is_xid_start-ascii c (below_128 c h) ∙ h))
+
+pub letters_spelled : (c : ℕ) (w : List ℕ) → list_all is_ascii_alphabetic (c ∷ w) ≡ true → spells_name (c ∷ w) ≡ true
+letters_spelled c w h = let k = and_parts (is_ascii_alphabetic c) (list_all is_ascii_alphabetic w) h in and_from (starts_name c) _ (letter_starts c k.0) (all_follow is_ascii_alphabetic continues_name (λ d l. starts_continues d (letter_starts d l)) w k.1)

@@ -21,9 +21,9 @@ pub record Allowed : Type 0 where
 abbrev pub in_module : Allowed
 in_module = record { in_operator = true; yield_operand = false; await_operand = true; return_statement = false }
 
--- within every group `in` may stand
-abbrev pub grouped : Allowed → Allowed
-grouped allowed = record allowed { in_operator = true }
+-- within a group, and in a statement that is no loop's head, `in` may stand
+abbrev pub with_in : Allowed → Allowed
+with_in allowed = record allowed { in_operator = true }
 
 -- the levels of expressions, from the loosest to the tightest
 pub data Level : Type 0 where
@@ -90,7 +90,7 @@ mutual
     a_difference : {c : Allowed} {ts a b : Tokens} {l r : Tree} (mark : Bool) → ts ≡ a ⧺ piece mark (Sign minus) b → ReadsExpression c Additive a l → ReadsExpression c Multiplicative b r → ReadsExpression c Additive ts (tree.binary (bare (binary_operator Subtraction ∷ [])) l r)
     a_reference : {c : Allowed} {mark : Bool} {w : List ℕ} → is_free_name w ≡ true → ReadsExpression c Primary (piece mark (Word w) done) (tree.identifier_reference (named w))
     a_number : {c : Allowed} {mark : Bool} {w : List ℕ} → ReadsExpression c Primary (piece mark (Number w) done) (tree.numeric_literal (bare (text w ∷ [])))
-    in_parentheses : {c : Allowed} {mark : Bool} {ts : Tokens} {t : Tree} → ReadsExpression (grouped c) Expression ts t → ReadsExpression c Primary (group mark Round ts done) (tree.parenthesized (bare []) t)
+    in_parentheses : {c : Allowed} {mark : Bool} {ts : Tokens} {t : Tree} → ReadsExpression (with_in c) Expression ts t → ReadsExpression c Primary (group mark Round ts done) (tree.parenthesized (bare []) t)
 
   -- ---- bindings and declarations (14.3)
 
@@ -112,8 +112,8 @@ mutual
 
   -- what is a statement once a semicolon ends it
   pub data ReadsUnended : Allowed → Tokens → Tree → Type 0 where
-    a_declaration : {c : Allowed} {ts : Tokens} {d : Tree} → ReadsDeclaration c ts d → ReadsUnended c ts d
-    an_expression : {c : Allowed} {ts : Tokens} {e : Tree} → starts_statement ts ≡ true → ReadsExpression c Expression ts e → ReadsUnended c ts (tree.expression_statement (bare []) e)
+    a_declaration : {c : Allowed} {ts : Tokens} {d : Tree} → ReadsDeclaration (with_in c) ts d → ReadsUnended c ts d
+    an_expression : {c : Allowed} {ts : Tokens} {e : Tree} → starts_statement ts ≡ true → ReadsExpression (with_in c) Expression ts e → ReadsUnended c ts (tree.expression_statement (bare []) e)
 
   -- The flag tells that the tokens are the last of a brace group: there alone may the semicolon lack (12.10).
   pub data ReadsStatement : Allowed → Bool → Tokens → Tree → Type 0 where

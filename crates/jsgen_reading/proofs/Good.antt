@@ -8,7 +8,7 @@ use Rattle.jsgen_model.specs.Punctuator.{Punctuator, Round, Brace, opening, clos
 use Rattle.jsgen_model.specs.Tokens.{Tokens, done, piece, group, ◌⧺◌, Word, Number, Sign}
 use Rattle.jsgen_model.specs.Items.{Items, ◌⊕◌, soft_space, operator, wrapped}
 use Rattle.jsgen_model.specs.Layout.{Pen, Start, nowhere, statement, arrow_body, default_export, layout, written_if, unless_printed}
-use Rattle.jsgen_model.specs.Grammar.{Allowed, Level, ReadsExpression, grouped, is_word, on_same_line, starts_statement, starts_declaration}
+use Rattle.jsgen_model.specs.Grammar.{Allowed, Level, ReadsExpression, with_in, is_word, on_same_line, starts_statement, starts_declaration}
 use Rattle.jsgen_model.specs.Grammar as grammar
 use Rattle.jsgen_model.specs.Normal.{normal, bare}
 use Rattle.jsgen_model.specs.Spell.{Place, Context, spell, within, wraps}
@@ -94,7 +94,7 @@ parentheses_begin arrow_body line ts b = refl
 parentheses_begin default_export line ts b = refl
 
 -- in parentheses an expression is read at every level
-pub good_parentheses : {start : Start} {t : Tree} (c : Allowed) (place : Place) (p q : Pen) (l : Last) → Good (written_if true (opening Round) p) (Open false) q (grouped (under place c)) grammar.Expression start t → Good p l (written_if true (closing Round) q) (under place c) (level_of place) place.start t
+pub good_parentheses : {start : Start} {t : Tree} (c : Allowed) (place : Place) (p q : Pen) (l : Last) → Good (written_if true (opening Round) p) (Open false) q (with_in (under place c)) grammar.Expression start t → Good p l (written_if true (closing Round) q) (under place c) (level_of place) place.start t
 good_parentheses c place p q l g = record {
   last = Open false;
   tokens = group (line_of l) Round g.tokens done;
@@ -120,7 +120,7 @@ pub good_wrapped : (c : Allowed) (place : Place) (own : Level) (w : Bool) (items
 good_wrapped c place own w items t top lift inner p l z y k = go w refl
   where
     go : (v : Bool) → w ≡ v → Good p l (layout (wrapped v (items v)) p) (under place c) (level_of place) place.start t
-    go true e = good_parentheses c place p (layout (items true) (written_if true (opening Round) p)) l (good_at (top (grouped (under place c))) (inner true (written_if true (opening Round) p) (Open false) z tt (opened p l k)))
+    go true e = good_parentheses c place p (layout (items true) (written_if true (opening Round) p)) l (good_at (top (with_in (under place c))) (inner true (written_if true (opening Round) p) (Open false) z tt (opened p l k)))
     go false e =
         let a = unopened p l (opening Round) k in
         let p1 : Pen = written_if false (opening Round) p in
