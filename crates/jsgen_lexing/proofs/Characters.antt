@@ -4,11 +4,11 @@ use Rattle.std.specs.Char.{is_ascii_alphabetic, is_ascii_alphanumeric, is_ascii_
 use Rattle.std.specs.Int.{is_in_range}
 use Rattle.std.specs.List.{list_all, list_any, last_or}
 use Rattle.std.specs.Option.{option_map_or}
-use Rattle.std.proofs.lemmas.Bool.{ltb-true, cases_lt, cases_Bool, and_parts, and_from, or_cases, or_parts, or_from, or_left, or_right, eqb-true, eq-eqb, leb-true, le-leb, false_from_ne_true, both_ways, not-true, not_from_false}
+use Rattle.std.proofs.lemmas.Bool.{ltb-true, cases_lt, and_parts, and_from, or_cases, or_from, or_left, or_right, eqb-true, eq-eqb, leb-true, le-leb, false_from_ne_true, both_ways, not-true}
 use Rattle.unicode_ident.specs.Ident.{is_xid_start, is_xid_continue}
 use Rattle.unicode_ident.proofs.IdentLemmas.{is_xid_start-ascii, is_xid_continue-ascii, is_xid_start-is_xid_continue}
 use Rattle.jsgen_syntax.specs.Name.{starts_name, continues_name, goes_in_word, spells_name}
-use Rattle.jsgen_model.specs.Punctuator.{Punctuator, punctuator_text, dot, question_dot, slash}
+use Rattle.jsgen_model.specs.Punctuator.{Punctuator, punctuator_text, dot}
 use Rattle.jsgen_model.specs.Layout.{ends_in_word}
 use Rattle.jsgen_model.specs.Tokens.{text_behind, may_precede, stands, longer_stands, punctuators, spells_whole}
 

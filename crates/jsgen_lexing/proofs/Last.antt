@@ -1,12 +1,12 @@
 -- What the code so far ends in, and what may stand behind it.
-use Rattle.std.proofs.Common.{◌≡◌, ℕ, Bool, true, false, not, ◌&&◌, ◌||◌, ◌==◌, List, [], ◌∷◌, ◌++◌, codes, refl, sym, ap, ◌∙◌, subst, append-nil, cond}
+use Rattle.std.proofs.Common.{◌≡◌, ℕ, Bool, true, false, not, ◌||◌, ◌==◌, List, [], ◌∷◌, ◌++◌, refl, ap, ◌∙◌}
 use Rattle.std.specs.Char.{is_ascii_digit}
 use Rattle.std.specs.Option.{option_map_or}
-use Rattle.std.proofs.lemmas.Bool.{both_ways, and_from, or_from, or_parts, not_from_false}
-use Rattle.jsgen_syntax.specs.Name.{starts_name, continues_name, goes_in_word}
+use Rattle.std.proofs.lemmas.Bool.{both_ways, and_from, or_from}
+use Rattle.jsgen_syntax.specs.Name.{starts_name, goes_in_word}
 use Rattle.jsgen_model.specs.Punctuator.{Punctuator, punctuator_text, dot, ellipsis, question_dot, slash, plus, minus, Bracket, Round, Square, Brace, opening, closing}
-use Rattle.jsgen_model.specs.Tokens.{Piece, Word, Number, Sign, ends_before, goes_on_with, may_precede, stands, longer_stands}
-use Rattle.jsgen_model.specs.Layout.{Pen, Ending, other_end, operator_end, number_end, ends_in_word, space_if}
+use Rattle.jsgen_model.specs.Tokens.{Piece, Word, Number, Sign, ends_before, may_precede, stands, longer_stands}
+use Rattle.jsgen_model.specs.Layout.{Pen, Ending, operator_end, number_end, ends_in_word, space_if}
 use Rattle.jsgen_lexing.proofs.Characters.{goes_on_in_sign, none_longer, behind_itself, no_word_no_name, no_word_no_start, no_word_no_digit, word_no_sign, not_that, continues_goes, starts_continues, starts_no_digit, digit_goes}
 
 -- blanks or a bracket, behind a line end or not; or a token

@@ -2,3 +2,4 @@ pub mod Characters
 pub mod Last
 pub mod Writes
 pub mod Steps
+pub mod Scalars

@@ -2,15 +2,15 @@
 use Rattle.std.proofs.Common.{◌≡◌, ℕ, zero, suc, ◌*◌, Bool, true, false, not, ◌||◌, ◌==◌, ◌⊎◌, inl, inr, List, [], ◌∷◌, ◌++◌, codes, replicate, refl, sym, ap, ◌∙◌, subst, subst₂, append_assoc, append-nil}
 use Rattle.std.specs.Char.{is_ascii_digit}
 use Rattle.std.specs.List.{list_all}
-use Rattle.std.proofs.lemmas.Bool.{both_ways, and_parts, and_from, or_from, or_cases, or_left, or_right, eqb-true}
+use Rattle.std.proofs.lemmas.Bool.{both_ways, and_parts, and_from, or_from, or_cases, or_left, eqb-true}
 use Rattle.jsgen_syntax.specs.Name.{starts_name, continues_name, spells_name, goes_in_word}
-use Rattle.jsgen_model.specs.Punctuator.{Punctuator, punctuator_text, plus, minus, semicolon, Bracket, Round, opening, closing}
+use Rattle.jsgen_model.specs.Punctuator.{Punctuator, punctuator_text, plus, minus, semicolon, Round, opening, closing}
 use Rattle.jsgen_model.specs.Tokens.{Tokens, done, piece, group, Word, Number, Sign, is_blank, is_line_terminator, has_line_end, spells_whole}
-use Rattle.jsgen_model.specs.Items.{Items, word, name, number, punctuator, operator, soft_space, indentation, wrapped, statement_end, due_semicolon, statement_begins}
-use Rattle.jsgen_model.specs.Layout.{Pen, Ending, other_end, operator_end, number_end, layout, written, written_if, text_if, ending_unless, ends_in_word, space_if, joins, indented, indent_or_space, at_indentation, end_statement, print_due, with_semicolon}
-use Rattle.jsgen_lexing.proofs.Characters.{ends_in_word_behind, all_goes, whole_digits, digit_goes, all_follow, starts_continues}
+use Rattle.jsgen_model.specs.Items.{word, number, punctuator, operator, soft_space, indentation, due_semicolon, statement_begins}
+use Rattle.jsgen_model.specs.Layout.{Pen, other_end, operator_end, layout, written, written_if, text_if, ending_unless, ends_in_word, space_if, joins, indented, indent_or_space, at_indentation, end_statement}
+use Rattle.jsgen_lexing.proofs.Characters.{ends_in_word_behind, all_goes, whole_digits, digit_goes, all_follow}
 use Rattle.jsgen_lexing.proofs.Last.{Last, Open, After, line_of, Clear, Operand, Ready, Remembers, Ended, is_indent, Knows, NoDot, clear_apart, clear_space, clear_operator, clear_word, clear_digit}
-use Rattle.jsgen_lexing.proofs.Writes.{Writes, wrote_none, wrote_and_none, wrote_blank, wrote_piece, wrote_brackets, same_writes}
+use Rattle.jsgen_lexing.proofs.Writes.{Writes, wrote_none, wrote_and_none, wrote_blank, wrote_piece, wrote_brackets}
 
 -- ---- gaps
 

@@ -1,5 +1,5 @@
 -- What a step between two pens adds to the tokens of the code.
-use Rattle.std.proofs.Common.{◌≡◌, ℕ, Bool, true, false, ◌||◌, List, [], ◌∷◌, ◌++◌, refl, sym, ap, ◌∙◌, subst, append_assoc, append-nil}
+use Rattle.std.proofs.Common.{◌≡◌, ℕ, Bool, true, false, ◌||◌, List, [], ◌++◌, refl, sym, ap, ◌∙◌, subst, append_assoc, append-nil}
 use Rattle.std.specs.List.{list_all}
 use Rattle.jsgen_model.specs.Punctuator.{Bracket, opening, closing}
 use Rattle.jsgen_model.specs.Tokens.{Tokens, done, piece, group, ◌⧺◌, Piece, piece_text, is_spelled, is_blank, has_line_end, is_line_terminator, AreTokensAfter, AreTokensOf}
@@ -93,7 +93,6 @@ wrote_brackets b p p1 q q1 l m gs e f k w = record {
 
     flat : (r : List ℕ) → (opening b ++ (w.text ++ closing b)) ++ r ≡ opening b ++ (w.text ++ (closing b ++ r))
     flat r = append_assoc (opening b) (w.text ++ closing b) r ∙ ap (λ x. opening b ++ x) (append_assoc w.text (closing b) r)
-
 
 -- the whole text of a pen that began with nothing
 pub all_tokens : (p q : Pen) (m : Last) (ts : Tokens) → p.code ≡ [] → Writes p (Open false) q m ts → AreTokensOf q.code ts

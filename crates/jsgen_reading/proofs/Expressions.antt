@@ -8,7 +8,7 @@ use Rattle.jsgen_syntax.specs.declared.precedence.Precedence.TheVariants as leve
 use Rattle.jsgen_tree.specs.Tree.{Tree, Atoms, text, text_in, digits_in, operator_in, binary_operator}
 use Rattle.jsgen_tree.specs.Tree as tree
 use Rattle.jsgen_model.specs.Punctuator.{Punctuator, plus, minus}
-use Rattle.jsgen_model.specs.Tokens.{Tokens, done, piece, ◌⧺◌, Word, Number, Sign, spells_whole}
+use Rattle.jsgen_model.specs.Tokens.{Tokens, done, piece, Word, Number, Sign, spells_whole}
 use Rattle.jsgen_model.specs.Items.{◌⊕◌, soft_space, operator}
 use Rattle.jsgen_model.specs.Layout.{Pen, Start, nowhere, statement, arrow_body, default_export, layout, unless_printed}
 use Rattle.jsgen_model.specs.Grammar.{Allowed, Level, ReadsExpression, is_word, named}
@@ -16,9 +16,9 @@ use Rattle.jsgen_model.specs.Grammar as grammar
 use Rattle.jsgen_model.specs.Normal.{normal, bare, number_text}
 use Rattle.jsgen_model.specs.Valid.{is_free_name}
 use Rattle.jsgen_model.specs.Spell.{Place, spell, within, wraps, in_front, behind, operation, binary_sign}
-use Rattle.jsgen_lexing.proofs.Last.{Last, After, line_of, Operand, Ready, Knows, NoDot}
+use Rattle.jsgen_lexing.proofs.Last.{Last, After, line_of, Ready, Knows, NoDot}
 use Rattle.jsgen_lexing.proofs.Steps.{wrote_word, wrote_number}
-use Rattle.jsgen_reading.proofs.Levels.{level_of, under, read_at, looser, lifted, unwrapped, from_primary}
+use Rattle.jsgen_reading.proofs.Levels.{level_of, under, lifted, unwrapped, from_primary}
 use Rattle.jsgen_reading.proofs.Families.{IsExpression}
 use Rattle.jsgen_reading.proofs.Families as family
 use Rattle.jsgen_reading.proofs.Names.{free_spelled, free_starts_none}

@@ -1,5 +1,5 @@
 -- The trees over which the induction goes. They follow from the rules, one lemma a row.
-use Rattle.std.proofs.Common.{◌≡◌, ℕ, Bool, true, false, ◌++◌, List, [], ◌∷◌, decimal, refl, sym, ap, ◌∙◌, subst, nat_lt}
+use Rattle.std.proofs.Common.{◌≡◌, Bool, true, false, ◌++◌, List, [], ◌∷◌, decimal, refl}
 use Rattle.std.proofs.lemmas.Bool.{both_ways, ltb-true}
 use Rattle.jsgen_tree.specs.Tree.{Tree, Maybe, absent, given, Trees, no_trees, more, hole, Atom, Atoms, type_of, span_of, text_in, digits_in, digits, numeric_kind, Whole}
 use Rattle.jsgen_tree.specs.Tree as tree

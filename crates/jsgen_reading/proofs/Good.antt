@@ -1,7 +1,6 @@
 -- What is carried through the induction for expressions.
-use Rattle.std.proofs.Common.{◌≡◌, ℕ, Bool, true, false, not, codes, List, [], ◌∷◌, refl, sym, ap, ◌∙◌, subst}
+use Rattle.std.proofs.Common.{◌≡◌, Bool, true, false, not, codes, [], refl, sym, ap, ◌∙◌, subst}
 use Rattle.std.proofs.lemmas.Bool.{both_ways}
-use Rattle.jsgen_syntax.specs.declared.precedence.Precedence.{Precedence}
 use Rattle.jsgen_tree.specs.Tree.{Tree}
 use Rattle.jsgen_tree.specs.Tree as tree
 use Rattle.jsgen_model.specs.Punctuator.{Punctuator, Round, Brace, opening, closing}
@@ -11,11 +10,11 @@ use Rattle.jsgen_model.specs.Layout.{Pen, Start, nowhere, statement, arrow_body,
 use Rattle.jsgen_model.specs.Grammar.{Allowed, Level, ReadsExpression, with_in, is_word, on_same_line, starts_statement, starts_declaration}
 use Rattle.jsgen_model.specs.Grammar as grammar
 use Rattle.jsgen_model.specs.Normal.{normal, bare}
-use Rattle.jsgen_model.specs.Spell.{Place, Context, spell, within, wraps}
+use Rattle.jsgen_model.specs.Spell.{Place, spell, within}
 use Rattle.jsgen_lexing.proofs.Last.{Last, Open, After, line_of, Operand, Ready, Knows, NoDot}
-use Rattle.jsgen_lexing.proofs.Writes.{Writes, wrote_both, wrote_and_none, then_assoc, then_done}
+use Rattle.jsgen_lexing.proofs.Writes.{Writes, wrote_both, wrote_and_none, then_assoc}
 use Rattle.jsgen_lexing.proofs.Steps.{Soft, soft_space_written, wrote_operator, opened, unopened, parentheses_written}
-use Rattle.jsgen_reading.proofs.Levels.{level_of, under, looser, read_at, unwrapped, from_primary}
+use Rattle.jsgen_reading.proofs.Levels.{level_of, under, from_primary}
 
 abbrev pub no_brace : Tokens → Bool
 no_brace (group mark Brace inside ts) = false

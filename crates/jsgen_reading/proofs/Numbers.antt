@@ -1,8 +1,8 @@
 -- The decimal digits of a number have no leading zero.
-use Rattle.std.proofs.Common.{◌≡◌, ℕ, ◌+◌, ◌/◌, ◌%◌, ◌^◌, ◌<◌, ◌≤◌, Bool, true, false, not, ◌&&◌, ◌==◌, decimal, List, [], ◌∷◌, ◌++◌, refl, sym, ap, ◌∙◌, arith}
+use Rattle.std.proofs.Common.{◌≡◌, ℕ, ◌+◌, ◌%◌, ◌^◌, ◌<◌, Bool, true, false, not, ◌==◌, decimal, List, [], ◌∷◌, ◌++◌, refl, ap, arith}
 use Rattle.std.specs.Char.{is_ascii_digit}
 use Rattle.std.specs.List.{list_all}
-use Rattle.std.proofs.lemmas.Bool.{both_ways, and_parts, and_from, le-leb, ne_eqb}
+use Rattle.std.proofs.lemmas.Bool.{both_ways, and_from, le-leb, ne_eqb}
 use Rattle.std.proofs.lemmas.Fmt.{decimal_by_steps_wide}
 use Rattle.jsgen_model.specs.Tokens.{spells_whole}
 use Rattle.jsgen_lexing.proofs.Characters.{all_append}

@@ -1,6 +1,8 @@
 -- The whole path: from a valid tree to its text, the text's tokens and their reading.
-use Rattle.std.proofs.Common.{◌≡◌, ℕ, Bool, true, false, List, [], refl, ap}
-use Rattle.jsgen_tree.specs.Tree.{Tree, Trees, Atoms}
+use Rattle.std.proofs.Common.{◌≡◌, ℕ, true, false, List, [], inl, inr, chars, encode_utf8_all, refl, sym, ap, subst}
+use Rattle.std.proofs.lemmas.Str.{chars-encodes}
+use Rattle.jsgen_tree.specs.declared.types.NodeType.TheVariants as types
+use Rattle.jsgen_tree.specs.Tree.{Tree, Trees, Atoms, type_of}
 use Rattle.jsgen_tree.specs.Tree as tree
 use Rattle.jsgen_model.specs.Tokens.{◌⧺◌}
 use Rattle.jsgen_model.specs.Items.{due_semicolon}
@@ -8,11 +10,15 @@ use Rattle.jsgen_model.specs.Layout.{Pen, Style, layout, empty_pen}
 use Rattle.jsgen_model.specs.Grammar.{in_module}
 use Rattle.jsgen_model.specs.Grammar as grammar
 use Rattle.jsgen_model.specs.Normal.{bare}
-use Rattle.jsgen_model.specs.Spell.{spell_statements, printed}
+use Rattle.jsgen_model.specs.Spell.{spell_statements, printed, text_bytes}
+use Rattle.jsgen_model.specs.Valid.{IsValid}
+use Rattle.jsgen_model.specs.Plain.{IsPlain, IsQuiet}
 use Rattle.jsgen_model.specs.Reading.{IsReadAs}
 use Rattle.jsgen_lexing.proofs.Last.{Open, Knows, is_indent}
 use Rattle.jsgen_lexing.proofs.Writes.{wrote_both, all_tokens}
-use Rattle.jsgen_reading.proofs.Families.{IsProgram, AreStatements}
+use Rattle.jsgen_lexing.proofs.Scalars.{tokens_scalars}
+use Rattle.jsgen_reading.specs.Law.{IsIndented}
+use Rattle.jsgen_reading.proofs.Families.{IsProgram, AreStatements, is_program, program_valid}
 use Rattle.jsgen_reading.proofs.Families as family
 use Rattle.jsgen_reading.proofs.Statements.{rows, all_due}
 
@@ -33,3 +39,17 @@ whole style a body i v =
 
 pub read_as : (style : Style) (t : Tree) → is_indent style.indent ≡ true → IsProgram t → IsReadAs (printed style t) t
 read_as style t i (family.a_program {a} {body} v) = whole style a body i v
+
+indents : (style : Style) → IsIndented style → is_indent style.indent ≡ true
+indents style (inl e) = ap is_indent e
+indents style (inr e) = ap is_indent e
+
+pub printed_is_read : (style : Style) (t : Tree) → IsIndented style → type_of t ≡ types.Program → IsValid t → IsPlain t → IsQuiet t → IsReadAs (printed style t) t
+printed_is_read style t i s v p q = read_as style t (indents style i) (program_valid t p (ap is_program s) v)
+
+-- the bytes spell the characters that they were made of
+on_bytes : (text : List ℕ) (t : Tree) → IsReadAs text t → IsReadAs (chars (encode_utf8_all text)) t
+on_bytes text t r = subst (λ x. IsReadAs x t) (sym (chars-encodes text (tokens_scalars text r.tokens r.are_tokens))) r
+
+pub bytes_are_read : (style : Style) (t : Tree) → IsIndented style → type_of t ≡ types.Program → IsValid t → IsPlain t → IsQuiet t → IsReadAs (chars (text_bytes style t)) t
+bytes_are_read style t i s v p q = on_bytes (printed style t) t (printed_is_read style t i s v p q)

@@ -9,13 +9,13 @@ use Rattle.jsgen_tree.specs.Tree.{Tree, Maybe, absent, given, Trees, no_trees, m
 use Rattle.jsgen_tree.specs.Tree as tree
 use Rattle.jsgen_model.specs.Punctuator.{comma, equal, semicolon}
 use Rattle.jsgen_model.specs.Tokens.{Tokens, done, piece, ◌⧺◌, Word, Sign}
-use Rattle.jsgen_model.specs.Items.{Items, ◌⊕◌, word, punctuator, soft_space, indentation, statement_begins, statement_end, due_semicolon}
+use Rattle.jsgen_model.specs.Items.{word, punctuator, soft_space, indentation, statement_begins, statement_end, due_semicolon}
 use Rattle.jsgen_model.specs.Layout.{Pen, layout, end_statement}
 use Rattle.jsgen_model.specs.Grammar.{Allowed, ReadsExpression, ReadsBinding, ReadsDeclarator, ReadsDeclarators, ReadsDeclaration, ReadsUnended, ReadsStatement, ReadsStatements, named, with_in}
 use Rattle.jsgen_model.specs.Grammar as grammar
 use Rattle.jsgen_model.specs.Normal.{normal, normal_maybe, normal_trees, bare}
 use Rattle.jsgen_model.specs.Valid.{is_free_name}
-use Rattle.jsgen_model.specs.Spell.{Place, spell, spell_list, spell_more, spell_value, spell_statements, among_statements, whole_statement, in_front, behind}
+use Rattle.jsgen_model.specs.Spell.{Place, spell, spell_list, spell_more, spell_statements, among_statements, whole_statement, in_front, behind}
 use Rattle.jsgen_lexing.proofs.Characters.{letters_spelled}
 use Rattle.jsgen_lexing.proofs.Last.{Last, Open, After, line_of, Operand, Ready, Knows}
 use Rattle.jsgen_lexing.proofs.Writes.{Writes, wrote_none, wrote_both, wrote_and_none, then_assoc, then_done}
