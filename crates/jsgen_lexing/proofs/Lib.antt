@@ -3,3 +3,5 @@ pub mod Last
 pub mod Writes
 pub mod Steps
 pub mod Scalars
+pub mod Signs
+pub mod OneList
