@@ -6,3 +6,4 @@ pub mod Good
 pub mod Expressions
 pub mod Statements
 pub mod Reading
+pub mod Normals

@@ -53,3 +53,7 @@ on_bytes text t r = subst (λ x. IsReadAs x t) (sym (chars-encodes text (tokens_
 
 pub bytes_are_read : (style : Style) (t : Tree) → IsIndented style → type_of t ≡ types.Program → IsValid t → IsPlain t → IsQuiet t → IsReadAs (chars (text_bytes style t)) t
 bytes_are_read style t i s v p q = on_bytes (printed style t) t (printed_is_read style t i s v p q)
+
+-- for bytes that are known to be the text's
+pub read_back : (style : Style) (t : Tree) (bytes : List ℕ) → bytes ≡ text_bytes style t → IsIndented style → type_of t ≡ types.Program → IsValid t → IsPlain t → IsQuiet t → IsReadAs (chars bytes) t
+read_back style t bytes e i s v p q = subst (λ b. IsReadAs (chars b) t) (sym e) (bytes_are_read style t i s v p q)

@@ -5,6 +5,7 @@ use Rattle.jsgen_tree.specs.declared.types.NodeType.TheVariants as types
 use Rattle.jsgen_tree.specs.Tree.{Tree, type_of}
 use Rattle.jsgen_model.specs.Layout.{Style}
 use Rattle.jsgen_model.specs.Spell.{printed, text_bytes}
+use Rattle.jsgen_model.specs.Normal.{normal}
 use Rattle.jsgen_model.specs.Valid.{IsValid}
 use Rattle.jsgen_model.specs.Plain.{IsPlain, IsQuiet}
 use Rattle.jsgen_model.specs.Reading.{IsReadAs}
@@ -20,3 +21,7 @@ PrintedIsRead = (style : Style) (program : Tree) → IsIndented style → type_o
 -- and so are the characters of its bytes
 abbrev pub BytesAreRead : Type 0
 BytesAreRead = (style : Style) (program : Tree) → IsIndented style → type_of program ≡ types.Program → IsValid program → IsPlain program → IsQuiet program → IsReadAs (chars (text_bytes style program)) program
+
+-- a normal form is its own normal form
+abbrev pub NormalIsNormal : Type 0
+NormalIsNormal = (t : Tree) → normal (normal t) ≡ normal t
