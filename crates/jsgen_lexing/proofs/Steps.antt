@@ -4,11 +4,11 @@ use Rattle.std.specs.Char.{is_ascii_digit}
 use Rattle.std.specs.List.{list_all}
 use Rattle.std.proofs.lemmas.Bool.{both_ways, and_parts, and_from, or_from, or_cases, or_left, eqb-true}
 use Rattle.jsgen_syntax.specs.Name.{starts_name, continues_name, spells_name, goes_in_word}
-use Rattle.jsgen_model.specs.Punctuator.{Punctuator, punctuator_text, plus, minus, semicolon, Round, opening, closing}
-use Rattle.jsgen_model.specs.Tokens.{Tokens, done, piece, group, Word, Number, Sign, is_blank, is_line_terminator, has_line_end, spells_whole}
-use Rattle.jsgen_model.specs.Items.{word, number, punctuator, operator, soft_space, indentation, due_semicolon, statement_begins}
-use Rattle.jsgen_model.specs.Layout.{Pen, other_end, operator_end, layout, written, written_if, text_if, ending_unless, ends_in_word, space_if, joins, indented, indent_or_space, at_indentation, end_statement}
-use Rattle.jsgen_lexing.proofs.Characters.{ends_in_word_behind, all_goes, whole_digits, digit_goes, all_follow}
+use Rattle.jsgen_model.specs.Punctuator.{Punctuator, punctuator_text, plus, minus, dot, semicolon, Round, opening, closing}
+use Rattle.jsgen_model.specs.Tokens.{longer_stands, Tokens, done, piece, group, Word, Number, Sign, is_blank, is_line_terminator, has_line_end, spells_whole}
+use Rattle.jsgen_model.specs.Items.{member_dot, word, number, punctuator, operator, soft_space, indentation, due_semicolon, statement_begins}
+use Rattle.jsgen_model.specs.Layout.{Pen, Ending, other_end, operator_end, layout, written, written_if, text_if, ending_unless, ends_in_word, space_if, joins, dot_joins, indented, indent_or_space, at_indentation, end_statement}
+use Rattle.jsgen_lexing.proofs.Characters.{no_word_no_name, ends_in_word_behind, all_goes, whole_digits, digit_goes, all_follow}
 use Rattle.jsgen_lexing.proofs.Last.{Last, Open, After, line_of, Clear, Operand, Ready, Remembers, Ended, is_indent, Knows, NoDot, clear_apart, clear_space, clear_operator, clear_word, clear_digit}
 use Rattle.jsgen_lexing.proofs.Writes.{Writes, wrote_none, wrote_and_none, wrote_blank, wrote_piece, wrote_brackets}
 
@@ -184,3 +184,68 @@ parentheses_written p q l m ts w = wrote_brackets Round p (written_if true (open
 -- where none are printed
 pub unopened : (p : Pen) (l : Last) → (text : List ℕ) → Knows p l → Soft p l (written_if false text p)
 unopened p l text k = no_soft p (written_if false text p) l (append-nil p.code) refl refl refl k
+
+-- ---- a sign before its operand, behind anything
+
+abbrev NoPlus : Punctuator → Type 0
+NoPlus plus = ⊥
+NoPlus s = Unit {0}
+
+abbrev NoMinus : Punctuator → Type 0
+NoMinus minus = ⊥
+NoMinus s = Unit {0}
+
+plus_behind : (s : Punctuator) (r : List ℕ) → NoPlus s → Clear (After (Sign s)) (43 ∷ r)
+unfolding longer_stands
+plus_behind plus r n = absurd n
+plus_behind s r n = refl
+
+minus_behind : (s : Punctuator) (r : List ℕ) → NoMinus s → Clear (After (Sign s)) (45 ∷ r)
+unfolding longer_stands
+minus_behind minus r n = absurd n
+minus_behind s r n = refl
+
+spaced_or : (l : Last) (b : Bool) (r : List ℕ) → Clear l r → Clear l (space_if b ++ r)
+spaced_or l true r h = clear_space l r
+spaced_or l false r h = h
+
+spaced_since : (l : Last) (b : Bool) (r : List ℕ) → b ≡ true → Clear l (space_if b ++ r)
+spaced_since l true r e = clear_space l r
+spaced_since l false r e = absurd (both_ways false refl e)
+
+plus_clear : (code : List ℕ) (e : Ending) (l : Last) (r : List ℕ) → Ended code e l → Clear l (space_if (joins e code plus) ++ (43 ∷ r))
+plus_clear code e (Open line) r k = tt
+plus_clear code e (After (Word w)) r k = spaced_operator plus (After (Word w)) (joins e code plus) r tt tt
+plus_clear code e (After (Number w)) r k = spaced_operator plus (After (Number w)) (joins e code plus) r tt tt
+plus_clear code e (After (Sign plus)) r k = spaced_since (After (Sign plus)) (joins e code plus) (43 ∷ r) (ap (λ x. joins x code plus) k)
+plus_clear code e (After (Sign s)) r k = spaced_or (After (Sign s)) (joins e code plus) (43 ∷ r) (plus_behind s r tt)
+
+minus_clear : (code : List ℕ) (e : Ending) (l : Last) (r : List ℕ) → Ended code e l → Clear l (space_if (joins e code minus) ++ (45 ∷ r))
+minus_clear code e (Open line) r k = tt
+minus_clear code e (After (Word w)) r k = spaced_operator minus (After (Word w)) (joins e code minus) r tt tt
+minus_clear code e (After (Number w)) r k = spaced_operator minus (After (Number w)) (joins e code minus) r tt tt
+minus_clear code e (After (Sign minus)) r k = spaced_since (After (Sign minus)) (joins e code minus) (45 ∷ r) (ap (λ x. joins x code minus) k)
+minus_clear code e (After (Sign s)) r k = spaced_or (After (Sign s)) (joins e code minus) (45 ∷ r) (minus_behind s r tt)
+
+pub wrote_plus : (p : Pen) (l : Last) → Knows p l → Writes p l (layout (operator plus) p) (After (Sign plus)) (piece (line_of l) (Sign plus) done)
+wrote_plus p l k =
+    let b : Bool = joins p.ending p.code plus in
+    wrote_piece p (layout (operator plus) p) l (space_if b) (Sign plus) (line_of l) (space_blank b) (space_mark b (line_of l)) refl (λ r. plus_clear p.code p.ending l r k.ending) refl (record { indent = k.indent; ending = refl })
+
+pub wrote_minus : (p : Pen) (l : Last) → Knows p l → Writes p l (layout (operator minus) p) (After (Sign minus)) (piece (line_of l) (Sign minus) done)
+wrote_minus p l k =
+    let b : Bool = joins p.ending p.code minus in
+    wrote_piece p (layout (operator minus) p) l (space_if b) (Sign minus) (line_of l) (space_blank b) (space_mark b (line_of l)) refl (λ r. minus_clear p.code p.ending l r k.ending) refl (record { indent = k.indent; ending = refl })
+
+-- ---- the dot of a member, behind an operand
+
+dot_apart : (l : Last) (e : Ending) (code : List ℕ) (r : List ℕ) → Operand l → Ended code e l → Clear l (space_if (dot_joins e) ++ (46 ∷ r))
+dot_apart (Open line) e code r o k = tt
+dot_apart (After (Word w)) e code r o k = spaced_or (After (Word w)) (dot_joins e) (46 ∷ r) (ap not (no_word_no_name 46 refl))
+dot_apart (After (Number w)) e code r o k = spaced_since (After (Number w)) (dot_joins e) (46 ∷ r) (ap dot_joins k.1)
+dot_apart (After (Sign s)) e code r o k = absurd o
+
+pub wrote_dot : (p : Pen) (l : Last) → Operand l → Knows p l → Writes p l (layout member_dot p) (After (Sign dot)) (piece (line_of l) (Sign dot) done)
+wrote_dot p l o k =
+    let b : Bool = dot_joins p.ending in
+    wrote_piece p (layout member_dot p) l (space_if b) (Sign dot) (line_of l) (space_blank b) (space_mark b (line_of l)) refl (λ r. dot_apart l p.ending p.code r o k.ending) refl (record { indent = k.indent; ending = tt })

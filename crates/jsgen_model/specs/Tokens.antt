@@ -6,13 +6,13 @@ use Rattle.std.specs.Option.{option_map_or}
 use Rattle.jsgen_syntax.specs.Name.{starts_name, continues_name, spells_name}
 use Rattle.jsgen_model.specs.Punctuator.{Punctuator, punctuator_text, dot, ellipsis, semicolon, comma, colon, question, question_dot, arrow, less, greater, less_equal, greater_equal, equal_equal, not_equal, equal_equal_equal, not_equal_equal, plus, minus, star, slash, percent, star_star, plus_plus, minus_minus, shift_left, shift_right, shift_right_zero, bit_and, bit_or, bit_xor, bang, tilde, and_and, or_or, nullish, equal, plus_equal, minus_equal, star_equal, slash_equal, percent_equal, star_star_equal, shift_left_equal, shift_right_equal, shift_right_zero_equal, bit_and_equal, bit_or_equal, bit_xor_equal, and_and_equal, or_or_equal, nullish_equal, Bracket, opening, closing}
 
--- A token that is no bracket. Private names, strings, templates and regular expressions come with the nodes that print them.
+-- A token that is no bracket. Private names, strings, regular expressions and the parts of templates come with the nodes that print them.
 pub data Piece : Type 0 where
   Word : List ℕ → Piece
   Number : List ℕ → Piece
   Sign : Punctuator → Piece
 
--- A row of tokens. The mark tells that a line end stands before the token. Brackets that match make a group.
+-- A row of tokens. The mark tells that a line end stands before the token. Brackets that match make a group, as `${` and `}` will.
 pub data Tokens : Type 0 where
   done : Tokens
   piece : Bool → Piece → Tokens → Tokens
