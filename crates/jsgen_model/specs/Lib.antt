@@ -3,3 +3,9 @@ pub mod Items
 pub mod Layout
 pub mod Spell
 pub mod Valid
+pub mod Tokens
+pub mod Normal
+pub mod Renamed
+pub mod Plain
+pub mod Grammar
+pub mod Reading

@@ -1,0 +1,7 @@
+pub mod Characters
+pub mod Last
+pub mod Writes
+pub mod Steps
+pub mod Scalars
+pub mod Signs
+pub mod OneList

@@ -1,0 +1,124 @@
+-- The characters of a text that has tokens are Unicode scalar values.
+use Rattle.std.proofs.Common.{◌≡◌, ℕ, ◌<◌, ◌≤◌, Bool, true, false, not, cond, nat_lt, ◌||◌, ◌==◌, ◌⊎◌, inl, inr, List, [], ◌∷◌, ◌++◌, refl, sym, ap, subst, arith}
+use Rattle.std.specs.Char.{is_ascii_digit}
+use Rattle.std.specs.List.{list_all}
+use Rattle.std.specs.Str.{all_scalars}
+use lib.Utf8.{scalar, low_scalar}
+use Rattle.std.proofs.lemmas.Bool.{and_parts, and_from, or_cases, eqb-true, cases_lt, lt-ltb, le-ltb, le-leb, lt-leb}
+use Rattle.ucd_table.specs.Steps.{step_value}
+use Rattle.ucd_table.proofs.Stepped.{Stepped, zip_stepped}
+use Rattle.ucd_table.proofs.Facts.{Stepped-everywhere}
+use Rattle.ucd_derived.proofs.BinaryLemmas.{is_xid_continue_stepped}
+use Rattle.unicode_ident.specs.Ident.{is_xid_continue}
+use Rattle.unicode_ident.proofs.Computing.{unicode_ident}
+use Rattle.jsgen_syntax.specs.Name.{starts_name, continues_name, spells_name}
+use Rattle.jsgen_model.specs.Punctuator.{Punctuator, punctuator_text, dot, Bracket, Round, opening, closing}
+use Rattle.jsgen_model.specs.Tokens.{Tokens, done, piece, group, Piece, Word, Number, Sign, piece_text, is_spelled, is_blank, is_line_terminator, AreTokensAfter, AreTokensOf}
+use Rattle.jsgen_lexing.proofs.Characters.{starts_continues, whole_digits, ranged}
+
+pub scalars_append : (a b : List ℕ) → all_scalars a ≡ true → all_scalars b ≡ true → all_scalars (a ++ b) ≡ true
+scalars_append [] b g h = h
+scalars_append (x ∷ a) b g h = let k = and_parts (scalar x) (all_scalars a) g in and_from (scalar x) (all_scalars (a ++ b)) k.0 (scalars_append a b k.1 h)
+
+scalars_follow : (f : ℕ → Bool) → ((c : ℕ) → f c ≡ true → scalar c ≡ true) → (a : List ℕ) → list_all f a ≡ true → all_scalars a ≡ true
+scalars_follow f h [] e = refl
+scalars_follow f h (x ∷ a) e = let k = and_parts (f x) (list_all f a) e in and_from (scalar x) (all_scalars a) (h x k.0) (scalars_follow f h a k.1)
+
+-- ---- names
+
+itself : (b : Bool) → b ≡ cond b true false
+itself true = refl
+itself false = refl
+
+scalar_stepped : Stepped scalar
+unfolding step_value
+scalar_stepped = record { default = false; steps = (55296, true) ∷ (57344, false) ∷ (1114112, true) ∷ []; gives = λ c. by c (cases_lt c 57344) }
+  where
+    by : (c : ℕ) → (c < 57344) ⊎ (57344 ≤ c) → scalar c ≡ step_value false ((55296, true) ∷ (57344, false) ∷ (1114112, true) ∷ []) c
+    by c (inl l) = rw (lt-ltb c 57344 l, lt-leb 57344 c l) refl
+    by c (inr g) = rw (le-ltb c 57344 g, le-leb 57344 c g) (ap (λ b. cond (nat_lt c 55296) true b) (itself (nat_lt c 1114112)))
+
+xid_scalar : (c : ℕ) → is_xid_continue c ≡ true → scalar c ≡ true
+unfolding unicode_ident scalar_stepped step_value
+xid_scalar c e =
+    let both = zip_stepped (λ a b. not a || b) is_xid_continue scalar is_xid_continue_stepped scalar_stepped in
+    subst (λ a. (not a || scalar c) ≡ true) e (Stepped-everywhere (λ x. not (is_xid_continue x) || scalar x) both refl c)
+
+continues_scalar : (c : ℕ) → continues_name c ≡ true → scalar c ≡ true
+continues_scalar c h = outer (or_cases (is_xid_continue c || (c == 36) || (c == 8204)) (c == 8205) h)
+  where
+    that : (d : ℕ) → d < 55296 → (c == d) ≡ true → scalar c ≡ true
+    that d l e = subst (λ x. scalar x ≡ true) (sym (eqb-true c d e)) (low_scalar d l)
+
+    inner : (is_xid_continue c ≡ true) ⊎ ((c == 36) ≡ true) → scalar c ≡ true
+    inner (inl e) = xid_scalar c e
+    inner (inr e) = that 36 (omega arith) e
+
+    middle : ((is_xid_continue c || (c == 36)) ≡ true) ⊎ ((c == 8204) ≡ true) → scalar c ≡ true
+    middle (inl e) = inner (or_cases (is_xid_continue c) (c == 36) e)
+    middle (inr e) = that 8204 (omega arith) e
+
+    outer : ((is_xid_continue c || (c == 36) || (c == 8204)) ≡ true) ⊎ ((c == 8205) ≡ true) → scalar c ≡ true
+    outer (inl e) = middle (or_cases (is_xid_continue c || (c == 36)) (c == 8204) e)
+    outer (inr e) = that 8205 (omega arith) e
+
+name_scalars : (w : List ℕ) → spells_name w ≡ true → all_scalars w ≡ true
+name_scalars [] h = refl
+name_scalars (c ∷ w) h = let k = and_parts (starts_name c) (list_all continues_name w) h in and_from (scalar c) (all_scalars w) (continues_scalar c (starts_continues c k.0)) (scalars_follow continues_name continues_scalar w k.1)
+
+-- ---- the other tokens and blanks
+
+digit_scalar : (c : ℕ) → is_ascii_digit c ≡ true → scalar c ≡ true
+digit_scalar c h = let b = ranged 48 57 c h in low_scalar c (omega arith)
+
+blank_scalar : (c : ℕ) → is_blank c ≡ true → scalar c ≡ true
+blank_scalar c h = outer (or_cases ((c == 32) || (c == 9)) (is_line_terminator c) h)
+  where
+    that : (d : ℕ) → d < 55296 → (c == d) ≡ true → scalar c ≡ true
+    that d l e = subst (λ x. scalar x ≡ true) (sym (eqb-true c d e)) (low_scalar d l)
+
+    two : (d e : ℕ) → d < 55296 → e < 55296 → ((c == d) ≡ true) ⊎ ((c == e) ≡ true) → scalar c ≡ true
+    two d e l m (inl k) = that d l k
+    two d e l m (inr k) = that e m k
+
+    three : (((c == 10) || (c == 13)) ≡ true) ⊎ ((c == 8232) ≡ true) → scalar c ≡ true
+    three (inl k) = two 10 13 (omega arith) (omega arith) (or_cases (c == 10) (c == 13) k)
+    three (inr k) = that 8232 (omega arith) k
+
+    four : (((c == 10) || (c == 13) || (c == 8232)) ≡ true) ⊎ ((c == 8233) ≡ true) → scalar c ≡ true
+    four (inl k) = three (or_cases ((c == 10) || (c == 13)) (c == 8232) k)
+    four (inr k) = that 8233 (omega arith) k
+
+    outer : (((c == 32) || (c == 9)) ≡ true) ⊎ (is_line_terminator c ≡ true) → scalar c ≡ true
+    outer (inl k) = two 32 9 (omega arith) (omega arith) (or_cases (c == 32) (c == 9) k)
+    outer (inr k) = four (or_cases ((c == 10) || (c == 13) || (c == 8232)) (c == 8233) k)
+
+sign_scalars : (p : Punctuator) → all_scalars (punctuator_text p) ≡ true
+sign_scalars dot = refl
+sign_scalars p = refl
+
+piece_scalars : (p : Piece) → is_spelled p ≡ true → all_scalars (piece_text p) ≡ true
+piece_scalars (Word w) h = name_scalars w h
+piece_scalars (Number w) h = scalars_follow is_ascii_digit digit_scalar w (whole_digits w h)
+piece_scalars (Sign p) h = sign_scalars p
+
+opening_scalars : (b : Bracket) → all_scalars (opening b) ≡ true
+opening_scalars Round = refl
+opening_scalars b = refl
+
+closing_scalars : (b : Bracket) → all_scalars (closing b) ≡ true
+closing_scalars Round = refl
+closing_scalars b = refl
+
+-- ---- the whole
+
+scalars_after : (ts : Tokens) (line : Bool) (text : List ℕ) → AreTokensAfter line text ts → all_scalars text ≡ true
+scalars_after done line text h = scalars_follow is_blank blank_scalar text h
+scalars_after (piece m p ts) line text h =
+    subst (λ x. all_scalars x ≡ true) (sym h.6) (scalars_append h.0 (piece_text p ++ h.1) (scalars_follow is_blank blank_scalar h.0 h.2) (scalars_append (piece_text p) h.1 (piece_scalars p h.4) (scalars_after ts false h.1 h.7)))
+scalars_after (group m b gs ts) line text h =
+    subst (λ x. all_scalars x ≡ true) (sym h.5) (scalars_append h.0 (opening b ++ (h.1 ++ (closing b ++ h.2))) (scalars_follow is_blank blank_scalar h.0 h.3)
+    (scalars_append (opening b) (h.1 ++ (closing b ++ h.2)) (opening_scalars b) (scalars_append h.1 (closing b ++ h.2) (scalars_after gs false h.1 h.6) (scalars_append (closing b) h.2 (closing_scalars b) (scalars_after ts false h.2 h.7)))))
+
+pub tokens_scalars : (text : List ℕ) (ts : Tokens) → AreTokensOf text ts → all_scalars text ≡ true
+tokens_scalars text ts h = scalars_after ts false text h

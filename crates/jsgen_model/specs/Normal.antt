@@ -1,0 +1,44 @@
+-- What two trees of one meaning have in common.
+use Rattle.std.specs.Prelude.{ℕ, List, [], ◌∷◌, decimal}
+use Rattle.jsgen_tree.specs.Tree.{Tree, node, Slots, no_slots, one, maybe, many, Maybe, absent, given, Trees, no_trees, more, hole, Atom, Atoms, text, digits, declaration_kind, binary_operator, text_in, declaration_kind_in, operator_in}
+use Rattle.jsgen_tree.specs.Tree as tree
+
+-- values that stand nowhere in a source
+abbrev pub bare : List Atom → Atoms
+bare values = record { span = record { start = 0; end = 0 }; values = values }
+
+-- a number by its text: a whole one by its digits
+abbrev pub number_text : List Atom → List ℕ
+number_text [] = []
+number_text (text t ∷ values) = t
+number_text (digits n ∷ values) = decimal n
+number_text (a ∷ values) = number_text values
+
+-- Parentheses, spans, the source and the kind of a program are away; a whole number is its digits.
+abbrev mutual
+  pub normal : Tree → Tree
+  normal (tree.program a body) = tree.program (bare []) (normal_trees body)
+  normal (tree.expression_statement a expression) = tree.expression_statement (bare []) (normal expression)
+  normal (tree.variable_declaration a declarations) = tree.variable_declaration (bare (declaration_kind (declaration_kind_in a.values) ∷ [])) (normal_trees declarations)
+  normal (tree.variable_declarator a id init) = tree.variable_declarator (bare []) (normal id) (normal_maybe init)
+  normal (tree.binding_identifier a) = tree.binding_identifier (bare (text (text_in a.values) ∷ []))
+  normal (tree.identifier_reference a) = tree.identifier_reference (bare (text (text_in a.values) ∷ []))
+  normal (tree.numeric_literal a) = tree.numeric_literal (bare (text (number_text a.values) ∷ []))
+  normal (tree.parenthesized a expression) = normal expression
+  normal (tree.binary a left right) = tree.binary (bare (binary_operator (operator_in a.values) ∷ [])) (normal left) (normal right)
+  normal (node type a slots) = node type (bare a.values) (normal_slots slots)
+
+  pub normal_slots : Slots → Slots
+  normal_slots no_slots = no_slots
+  normal_slots (one t slots) = one (normal t) (normal_slots slots)
+  normal_slots (maybe m slots) = maybe (normal_maybe m) (normal_slots slots)
+  normal_slots (many ts slots) = many (normal_trees ts) (normal_slots slots)
+
+  pub normal_maybe : Maybe → Maybe
+  normal_maybe absent = absent
+  normal_maybe (given t) = given (normal t)
+
+  pub normal_trees : Trees → Trees
+  normal_trees no_trees = no_trees
+  normal_trees (more t ts) = more (normal t) (normal_trees ts)
+  normal_trees (hole ts) = hole (normal_trees ts)

@@ -1,0 +1,109 @@
+-- How a text is cut into tokens (ECMA-262, clause 12): always the longest that stands there. Texts are lists of characters.
+use Rattle.std.specs.Prelude.{◌≡◌, ℕ, List, [], ◌∷◌, ◌++◌, length, Bool, true, false, not, ◌&&◌, ◌||◌, ◌==◌, nat_lt, Option, Some, None, if◌then◌else◌}
+use Rattle.std.specs.Char.{is_ascii_digit}
+use Rattle.std.specs.List.{list_all, list_any}
+use Rattle.std.specs.Option.{option_map_or}
+use Rattle.jsgen_syntax.specs.Name.{starts_name, continues_name, spells_name}
+use Rattle.jsgen_model.specs.Punctuator.{Punctuator, punctuator_text, dot, ellipsis, semicolon, comma, colon, question, question_dot, arrow, less, greater, less_equal, greater_equal, equal_equal, not_equal, equal_equal_equal, not_equal_equal, plus, minus, star, slash, percent, star_star, plus_plus, minus_minus, shift_left, shift_right, shift_right_zero, bit_and, bit_or, bit_xor, bang, tilde, and_and, or_or, nullish, equal, plus_equal, minus_equal, star_equal, slash_equal, percent_equal, star_star_equal, shift_left_equal, shift_right_equal, shift_right_zero_equal, bit_and_equal, bit_or_equal, bit_xor_equal, and_and_equal, or_or_equal, nullish_equal, Bracket, opening, closing}
+
+-- A token that is no bracket. Private names, strings, regular expressions and the parts of templates come with the nodes that print them.
+pub data Piece : Type 0 where
+  Word : List ℕ → Piece
+  Number : List ℕ → Piece
+  Sign : Punctuator → Piece
+
+-- A row of tokens. The mark tells that a line end stands before the token. Brackets that match make a group, as `${` and `}` will.
+pub data Tokens : Type 0 where
+  done : Tokens
+  piece : Bool → Piece → Tokens → Tokens
+  group : Bool → Bracket → Tokens → Tokens → Tokens
+
+-- one row after the other
+infixr 60 ◌⧺◌
+abbrev pub ◌⧺◌ : Tokens → Tokens → Tokens
+done ⧺ us = us
+(piece mark p ts) ⧺ us = piece mark p (ts ⧺ us)
+(group mark b inside ts) ⧺ us = group mark b inside (ts ⧺ us)
+
+-- ---- between tokens
+
+-- LF, CR, U+2028 or U+2029 (12.3)
+abbrev pub is_line_terminator : ℕ → Bool
+is_line_terminator c = (c == 10) || (c == 13) || (c == 8232) || (c == 8233)
+
+-- what may stand between tokens: a space, a tab or a line terminator. A comment may not
+abbrev pub is_blank : ℕ → Bool
+is_blank c = (c == 32) || (c == 9) || is_line_terminator c
+
+abbrev pub has_line_end : List ℕ → Bool
+has_line_end gap = list_any is_line_terminator gap
+
+-- ---- punctuators (12.8)
+
+abbrev pub punctuators : List Punctuator
+punctuators =
+    dot ∷ ellipsis ∷ semicolon ∷ comma ∷ colon ∷ question ∷ question_dot ∷ arrow ∷ less ∷ greater ∷ less_equal ∷ greater_equal ∷ equal_equal ∷ not_equal ∷ equal_equal_equal ∷ not_equal_equal ∷ plus ∷ minus ∷ star ∷ slash ∷ percent ∷ star_star ∷ plus_plus ∷ minus_minus ∷
+    shift_left ∷ shift_right ∷ shift_right_zero ∷ bit_and ∷ bit_or ∷ bit_xor ∷ bang ∷ tilde ∷ and_and ∷ or_or ∷ nullish ∷ equal ∷ plus_equal ∷ minus_equal ∷ star_equal ∷ slash_equal ∷ percent_equal ∷ star_star_equal ∷ shift_left_equal ∷ shift_right_equal ∷ shift_right_zero_equal ∷ bit_and_equal ∷ bit_or_equal ∷ bit_xor_equal ∷ and_and_equal ∷ or_or_equal ∷ nullish_equal ∷ []
+
+-- what is left of a text behind these characters, where it begins with them
+abbrev pub text_behind : List ℕ → List ℕ → Option (List ℕ)
+text_behind [] text = Some text
+text_behind (c ∷ cs) [] = None
+text_behind (c ∷ cs) (d ∷ ds) = if c == d then text_behind cs ds else None
+
+-- `//` and `/*` begin a comment, and a dot before a decimal digit begins a number
+abbrev pub may_precede : Punctuator → List ℕ → Bool
+may_precede p [] = true
+may_precede slash (c ∷ cs) = not ((c == 47) || (c == 42))
+may_precede dot (c ∷ cs) = not (is_ascii_digit c)
+may_precede question_dot (c ∷ cs) = not (is_ascii_digit c)
+may_precede p (c ∷ cs) = true
+
+-- the punctuator stands at the front of the text
+abbrev pub stands : Punctuator → List ℕ → Bool
+stands p text = option_map_or (may_precede p) (text_behind (punctuator_text p) text) false
+
+-- a longer one stands there
+unfoldable pub longer_stands : Punctuator → List ℕ → Bool
+longer_stands p text = list_any (λ q. nat_lt (length (punctuator_text p)) (length (punctuator_text q)) && stands q text) punctuators
+
+-- ---- tokens that are no brackets
+
+-- `0`, or decimal digits without a leading zero (12.9.3): so far the only form of a number
+abbrev pub spells_whole : List ℕ → Bool
+spells_whole [] = false
+spells_whole (c ∷ []) = is_ascii_digit c
+spells_whole (c ∷ d ∷ ds) = not (c == 48) && list_all is_ascii_digit (c ∷ d ∷ ds)
+
+abbrev pub piece_text : Piece → List ℕ
+piece_text (Word w) = w
+piece_text (Number w) = w
+piece_text (Sign p) = punctuator_text p
+
+abbrev pub is_spelled : Piece → Bool
+is_spelled (Word w) = spells_name w
+is_spelled (Number w) = spells_whole w
+is_spelled (Sign p) = true
+
+-- with this character behind it, a word is longer, and a number another one or none (12.9.3)
+abbrev pub goes_on_with : Piece → ℕ → Bool
+goes_on_with (Word w) c = continues_name c
+goes_on_with (Number w) c = starts_name c || is_ascii_digit c || (c == 46)
+goes_on_with (Sign p) c = false
+
+-- the token ends before this text
+abbrev pub ends_before : Piece → List ℕ → Bool
+ends_before (Sign p) text = stands p (punctuator_text p ++ text) && not (longer_stands p (punctuator_text p ++ text))
+ends_before p [] = true
+ends_before p (c ∷ cs) = not (goes_on_with p c)
+
+-- ---- the whole
+
+-- The text is these tokens, with blanks before, between and after them. The first has its mark also where a line end stands before the text.
+abbrev pub AreTokensAfter : Bool → List ℕ → Tokens → Type 0
+AreTokensAfter line text done = list_all is_blank text ≡ true
+AreTokensAfter line text (piece mark p ts) = (gap rest : List ℕ) × (list_all is_blank gap ≡ true) × (mark ≡ (line || has_line_end gap)) × (is_spelled p ≡ true) × (ends_before p rest ≡ true) × (text ≡ gap ++ (piece_text p ++ rest)) × AreTokensAfter false rest ts
+AreTokensAfter line text (group mark b inside ts) = (gap inner rest : List ℕ) × (list_all is_blank gap ≡ true) × (mark ≡ (line || has_line_end gap)) × (text ≡ gap ++ (opening b ++ (inner ++ (closing b ++ rest)))) × AreTokensAfter false inner inside × AreTokensAfter false rest ts
+
+abbrev pub AreTokensOf : List ℕ → Tokens → Type 0
+AreTokensOf text ts = AreTokensAfter false text ts

@@ -1,0 +1,44 @@
+-- What a name that a module may use isn't.
+use Rattle.std.proofs.Common.{◌≡◌, ℕ, Bool, true, false, codes, List, refl, subst, cond, encode_utf8_all, bytes_eq}
+use Rattle.std.proofs.Math.Utf8.{encode}
+use Rattle.std.proofs.lemmas.Bool.{both_ways, false_from_ne_true, or_from, and_right, and_left}
+use Rattle.std.proofs.lemmas.Slice.Eq.{bytes_eq-Decides}
+use Rattle.jsgen_syntax.specs.Name.{spells_name, is_reserved, is_strict_reserved}
+use Rattle.jsgen_model.specs.Tokens.{Tokens}
+use Rattle.jsgen_model.specs.Grammar.{is_word, on_same_line, starts_in_square, starts_declaration}
+use Rattle.jsgen_model.specs.Valid as valid
+use Rattle.jsgen_model.specs.Valid.{is_free_name}
+
+-- a free name is a name in neither list
+record Free (w : List ℕ) : Type 0 where
+  named : spells_name w ≡ true
+  unreserved : is_reserved (encode_utf8_all w) ≡ false
+  unreserved_in_strict : is_strict_reserved (encode_utf8_all w) ≡ false
+
+free : (w : List ℕ) → is_free_name w ≡ true → Free w
+free w h = by (spells_name w) (is_reserved (encode_utf8_all w)) (is_strict_reserved (encode_utf8_all w)) refl refl refl h
+  where
+    by : (a b c : Bool) → spells_name w ≡ a → is_reserved (encode_utf8_all w) ≡ b → is_strict_reserved (encode_utf8_all w) ≡ c → cond a (cond b false (valid.not c)) false ≡ true → Free w
+    by true true c e f g k = absurd (both_ways false refl k)
+    by true false true e f g k = absurd (both_ways false refl k)
+    by true false false e f g k = record { named = e; unreserved = f; unreserved_in_strict = g }
+    by false b c e f g k = absurd (both_ways false refl k)
+
+pub free_spelled : (w : List ℕ) → is_free_name w ≡ true → spells_name w ≡ true
+free_spelled w h = (free w h).named
+
+-- it is no reserved word
+no_reserved : (w x : List ℕ) → is_reserved (encode_utf8_all w) ≡ false → is_reserved (encode_utf8_all x) ≡ true → bytes_eq w x ≡ false
+no_reserved w x f r = false_from_ne_true (bytes_eq w x) (λ e. both_ways (is_reserved (encode_utf8_all x)) (subst (λ y. is_reserved (encode_utf8_all y) ≡ false) ((bytes_eq-Decides w x).0 e) f) r)
+
+no_strict : (w x : List ℕ) → is_strict_reserved (encode_utf8_all w) ≡ false → is_strict_reserved (encode_utf8_all x) ≡ true → bytes_eq w x ≡ false
+no_strict w x f r = false_from_ne_true (bytes_eq w x) (λ e. both_ways (is_strict_reserved (encode_utf8_all x)) (subst (λ y. is_strict_reserved (encode_utf8_all y) ≡ false) ((bytes_eq-Decides w x).0 e) f) r)
+
+-- and no declaration begins with it, where no `function` follows
+pub free_starts_none : (w : List ℕ) (ts : Tokens) → is_free_name w ≡ true → is_word (codes "function") ts ≡ false → starts_declaration w ts ≡ false
+unfolding is_reserved is_strict_reserved encode
+free_starts_none w ts h n =
+    let k = free w h in
+    or_from _ _ (or_from _ _ (or_from _ _ (no_reserved w (codes "function") k.unreserved refl) (no_reserved w (codes "class") k.unreserved refl))
+    (and_left _ (on_same_line ts) (and_right (bytes_eq w (codes "async")) (is_word (codes "function") ts) n)))
+    (and_left (bytes_eq w (codes "let")) (starts_in_square ts) (no_strict w (codes "let") k.unreserved_in_strict refl))

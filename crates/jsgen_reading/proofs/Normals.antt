@@ -1,0 +1,33 @@
+-- A normal form is its own.
+use Rattle.std.proofs.Common.{◌≡◌, [], ◌∷◌, refl, ap}
+use Rattle.jsgen_tree.specs.Tree.{Tree, node, Slots, no_slots, one, maybe, many, Maybe, absent, given, Trees, no_trees, more, hole, declaration_kind, declaration_kind_in, binary_operator, operator_in}
+use Rattle.jsgen_tree.specs.Tree as tree
+use Rattle.jsgen_model.specs.Normal.{normal, normal_slots, normal_maybe, normal_trees, bare}
+
+mutual
+  pub normal_again : (t : Tree) → normal (normal t) ≡ normal t
+  normal_again (tree.program a body) = ap (λ ts. tree.program (bare []) ts) (normal_trees_again body)
+  normal_again (tree.expression_statement a expression) = ap (λ e. tree.expression_statement (bare []) e) (normal_again expression)
+  normal_again (tree.variable_declaration a declarations) = ap (λ ts. tree.variable_declaration (bare (declaration_kind (declaration_kind_in a.values) ∷ [])) ts) (normal_trees_again declarations)
+  normal_again (tree.variable_declarator a id init) = let e = normal_again id in let f = normal_maybe_again init in λ i. tree.variable_declarator (bare []) (e i) (f i)
+  normal_again (tree.binding_identifier a) = refl
+  normal_again (tree.identifier_reference a) = refl
+  normal_again (tree.numeric_literal a) = refl
+  normal_again (tree.parenthesized a expression) = normal_again expression
+  normal_again (tree.binary a left right) = let e = normal_again left in let f = normal_again right in λ i. tree.binary (bare (binary_operator (operator_in a.values) ∷ [])) (e i) (f i)
+  normal_again (node type a slots) = ap (λ s. node type (bare a.values) s) (normal_slots_again slots)
+
+  normal_slots_again : (s : Slots) → normal_slots (normal_slots s) ≡ normal_slots s
+  normal_slots_again no_slots = refl
+  normal_slots_again (one t s) = let e = normal_again t in let f = normal_slots_again s in λ i. one (e i) (f i)
+  normal_slots_again (maybe m s) = let e = normal_maybe_again m in let f = normal_slots_again s in λ i. maybe (e i) (f i)
+  normal_slots_again (many ts s) = let e = normal_trees_again ts in let f = normal_slots_again s in λ i. many (e i) (f i)
+
+  normal_maybe_again : (m : Maybe) → normal_maybe (normal_maybe m) ≡ normal_maybe m
+  normal_maybe_again absent = refl
+  normal_maybe_again (given t) = ap (λ u. given u) (normal_again t)
+
+  normal_trees_again : (ts : Trees) → normal_trees (normal_trees ts) ≡ normal_trees ts
+  normal_trees_again no_trees = refl
+  normal_trees_again (more t ts) = let e = normal_again t in let f = normal_trees_again ts in λ i. more (e i) (f i)
+  normal_trees_again (hole ts) = ap (λ us. hole us) (normal_trees_again ts)

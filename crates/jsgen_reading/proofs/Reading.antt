@@ -1,0 +1,59 @@
+-- The whole path: from a valid tree to its text, the text's tokens and their reading.
+use Rattle.std.proofs.Common.{◌≡◌, ℕ, true, false, List, [], inl, inr, chars, encode_utf8_all, refl, sym, ap, subst}
+use Rattle.std.proofs.lemmas.Str.{chars-encodes}
+use Rattle.jsgen_tree.specs.declared.types.NodeType.TheVariants as types
+use Rattle.jsgen_tree.specs.Tree.{Tree, Trees, Atoms, type_of}
+use Rattle.jsgen_tree.specs.Tree as tree
+use Rattle.jsgen_model.specs.Tokens.{◌⧺◌}
+use Rattle.jsgen_model.specs.Items.{due_semicolon}
+use Rattle.jsgen_model.specs.Layout.{Pen, Style, layout, empty_pen}
+use Rattle.jsgen_model.specs.Grammar.{in_module}
+use Rattle.jsgen_model.specs.Grammar as grammar
+use Rattle.jsgen_model.specs.Normal.{bare}
+use Rattle.jsgen_model.specs.Spell.{spell_statements, printed, text_bytes}
+use Rattle.jsgen_model.specs.Valid.{IsValid}
+use Rattle.jsgen_model.specs.Plain.{IsPlain, IsQuiet}
+use Rattle.jsgen_model.specs.Reading.{IsReadAs}
+use Rattle.jsgen_lexing.proofs.Last.{Open, Knows, is_indent}
+use Rattle.jsgen_lexing.proofs.Writes.{wrote_both, all_tokens}
+use Rattle.jsgen_lexing.proofs.Scalars.{tokens_scalars}
+use Rattle.jsgen_reading.specs.Law.{IsIndented}
+use Rattle.jsgen_reading.proofs.Families.{IsProgram, AreStatements, is_program, program_valid}
+use Rattle.jsgen_reading.proofs.Families as family
+use Rattle.jsgen_reading.proofs.Statements.{rows, all_due}
+
+whole : (style : Style) (a : Atoms) (body : Trees) → is_indent style.indent ≡ true → AreStatements in_module body → IsReadAs (printed style (tree.program a body)) (tree.program a body)
+whole style a body i v =
+    let p : Pen = empty_pen style 0 in
+    let k : Knows p (Open false) = record { indent = i; ending = tt } in
+    let g = (rows v).0 p (Open false) refl tt k in
+    let q : Pen = layout (spell_statements body) p in
+    let d = all_due q.pending_semicolon q g.last in_module g.tokens g.trees refl g.writes.knows g.reads in
+    record {
+      tokens = g.tokens ⧺ d.semi;
+      are_tokens = all_tokens p (layout due_semicolon q) d.last (g.tokens ⧺ d.semi) refl (wrote_both g.writes d.writes);
+      reading = tree.program (bare []) g.trees;
+      reads = grammar.a_module d.reads;
+      same = ap (λ ts. tree.program (bare []) ts) g.same;
+    }
+
+pub read_as : (style : Style) (t : Tree) → is_indent style.indent ≡ true → IsProgram t → IsReadAs (printed style t) t
+read_as style t i (family.a_program {a} {body} v) = whole style a body i v
+
+indents : (style : Style) → IsIndented style → is_indent style.indent ≡ true
+indents style (inl e) = ap is_indent e
+indents style (inr e) = ap is_indent e
+
+pub printed_is_read : (style : Style) (t : Tree) → IsIndented style → type_of t ≡ types.Program → IsValid t → IsPlain t → IsQuiet t → IsReadAs (printed style t) t
+printed_is_read style t i s v p q = read_as style t (indents style i) (program_valid t p (ap is_program s) v)
+
+-- the bytes spell the characters that they were made of
+on_bytes : (text : List ℕ) (t : Tree) → IsReadAs text t → IsReadAs (chars (encode_utf8_all text)) t
+on_bytes text t r = subst (λ x. IsReadAs x t) (sym (chars-encodes text (tokens_scalars text r.tokens r.are_tokens))) r
+
+pub bytes_are_read : (style : Style) (t : Tree) → IsIndented style → type_of t ≡ types.Program → IsValid t → IsPlain t → IsQuiet t → IsReadAs (chars (text_bytes style t)) t
+bytes_are_read style t i s v p q = on_bytes (printed style t) t (printed_is_read style t i s v p q)
+
+-- for bytes that are known to be the text's
+pub read_back : (style : Style) (t : Tree) (bytes : List ℕ) → bytes ≡ text_bytes style t → IsIndented style → type_of t ≡ types.Program → IsValid t → IsPlain t → IsQuiet t → IsReadAs (chars bytes) t
+read_back style t bytes e i s v p q = subst (λ b. IsReadAs (chars b) t) (sym e) (bytes_are_read style t i s v p q)
