@@ -3,6 +3,9 @@ ghost use Rattle.std.specs.Prelude.{◌≡◌, IfOk, string_bytes};
 ghost use Rattle.jsgen_tree.specs.Plain.{program_plain};
 ghost use Rattle.jsgen_model.specs.Layout.{pretty};
 ghost use Rattle.jsgen_model.specs.Spell.{text_bytes};
+ghost use Rattle.std.specs.Str.{chars};
+ghost use Rattle.jsgen_model.specs.Plain.{IsPlain, IsQuiet};
+ghost use Rattle.jsgen_model.specs.Reading.{IsReadAs};
 ghost use Rattle.jsgen_model.specs.Valid.{breaches, IsValid, Judges};
 
 use crate::check::check_program;
@@ -57,11 +60,18 @@ impl<'a> Codegen<'a> {
         check_program(program)
     }
 
-    /// Prints a program, which `check` has to accept.
+    /// Prints a program, which `check` has to accept. The only error is want of memory.
+    #[tactic(auto, using(jsgen_reading::proofs::Reading::read_back))]
     pub fn build(self, program: &'a Program) -> Result<CodegenReturn, CodegenError>
-        requires { IsValid (program_plain program.now) }
-        ensures { IfOk result (λ printed. string_bytes printed.code
+        requires valid { IsValid (program_plain program.now) }
+
+        // The text, to the byte.
+        ensures text { IfOk result (λ printed. string_bytes printed.code
             ≡ text_bytes pretty (program_plain program.now)) }
+
+        // The grammar reads the text of a plain and quiet program as that program, up to its normal form.
+        ensures reads { IfOk result (λ printed. IsPlain (program_plain program.now) → IsQuiet (program_plain program.now)
+            → IsReadAs (chars (string_bytes printed.code)) (program_plain program.now)) }
     {
         let mut p = Printer::new(self.alloc);
         print_program(program, &mut p)?;

@@ -126,14 +126,14 @@ declarators_valid c d (more x xs) p e =
 declarators_valid c d (hole xs) p e = absurd p.1
 
 -- a declaration has a declarator
-declaration_valid : (c : Allowed) (a : Atoms) (ds : Trees) → ArePlain ds → declaration_faults a ds ≡ [] → in_trees (sets.VariableDeclarator ∷ []) ds ≡ [] → AreDeclarators c ds
+declaration_valid : (c : Allowed) (a : Atoms) (ds : Trees) → ArePlain ds → declaration_faults a.span ds ≡ [] → in_trees (sets.VariableDeclarator ∷ []) ds ≡ [] → AreDeclarators c ds
 declaration_valid c a no_trees p f e = absurd (cc)
 declaration_valid c a (more d ds) p f e = declarators_valid c d ds p e
 declaration_valid c a (hole ds) p f e = absurd p
 
 statement_valid : (c : Allowed) (t : Tree) → IsPlain t → is_statement (type_of t) ≡ true → breaches t ≡ [] → IsStatement c t
 statement_valid c (tree.variable_declaration a ds) p s e =
-    let h = parts (span_faults a.span) (declaration_faults a ds) _ e in
+    let h = parts (span_faults a.span) (declaration_faults a.span ds) _ e in
     let k = none_both (in_trees (sets.VariableDeclarator ∷ []) ds) [] h.1 in
     a_declaration (declaration_valid c a ds p h.0 k.0)
 statement_valid c (tree.expression_statement a t) p s e =
