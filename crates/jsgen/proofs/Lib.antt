@@ -5,6 +5,7 @@ pub mod Json
 pub mod LastRow
 pub mod Listed
 pub mod Pool
+pub mod Program
 pub mod RowSteps
 pub mod Taking
 pub mod Texts

@@ -61,7 +61,6 @@ impl<'a> Codegen<'a> {
     }
 
     /// Prints a program, which `check` has to accept. The only error is want of memory.
-    #[tactic(auto, using(jsgen_reading::proofs::Reading::read_back))]
     pub fn build(self, program: &'a Program) -> Result<CodegenReturn, CodegenError>
         requires valid { IsValid (program_plain program.now) }
 
