@@ -1,5 +1,6 @@
 -- The whole path: from a valid tree to its text, the text's tokens and their reading.
 use Rattle.std.proofs.Common.{◌≡◌, ℕ, true, false, List, [], inl, inr, chars, encode_utf8_all, refl, sym, ap, subst}
+use Rattle.std.specs.Str.{IsUtf8}
 use Rattle.std.proofs.lemmas.Str.{chars-encodes}
 use Rattle.jsgen_tree.specs.declared.types.NodeType.TheVariants as types
 use Rattle.jsgen_tree.specs.Tree.{Tree, Trees, Atoms, type_of}
@@ -57,3 +58,7 @@ bytes_are_read style t i s v p q = on_bytes (printed style t) t (printed_is_read
 -- for bytes that are known to be the text's
 pub read_back : (style : Style) (t : Tree) (bytes : List ℕ) → bytes ≡ text_bytes style t → IsIndented style → type_of t ≡ types.Program → IsValid t → IsPlain t → IsQuiet t → IsReadAs (chars bytes) t
 read_back style t bytes e i s v p q = subst (λ b. IsReadAs (chars b) t) (sym e) (bytes_are_read style t i s v p q)
+
+-- the bytes are a text in UTF-8
+pub text_is_utf8 : (style : Style) (t : Tree) → IsIndented style → type_of t ≡ types.Program → IsValid t → IsPlain t → IsQuiet t → IsUtf8 (text_bytes style t)
+text_is_utf8 style t i s v p q = let r = printed_is_read style t i s v p q in (printed style t, (tokens_scalars (printed style t) r.tokens r.are_tokens, refl))

@@ -1,5 +1,6 @@
 pub mod Answers
 pub mod Device
+pub mod Headline
 pub mod Job
 pub mod Lines
 pub mod Memory
