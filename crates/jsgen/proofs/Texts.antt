@@ -1,11 +1,11 @@
 -- Texts in bytes and in characters.
-use Rattle.std.proofs.Common.{◌≡◌, ℕ, zero, suc, codes, Result, Ok, Err, OnOk, ◌<◌, ◌+◌, ◌-◌, ◌*◌, Bool, true, false, nat_lt, Option, Some, None, List, [], ◌∷◌, ◌++◌, length, replicate, refl, sym, ap, ◌∙◌, append_assoc, append-nil, arith}
-use Rattle.std.specs.List.{list_all, last_or, slice_get}
+use Rattle.std.proofs.Common.{◌≡◌, ℕ, zero, suc, codes, Result, Ok, Err, OnOk, ◌<◌, ◌-◌, Bool, true, false, nat_lt, Option, Some, None, List, [], ◌∷◌, ◌++◌, length, replicate, refl, ap, ◌∙◌, append_assoc, append-nil, arith}
+use Rattle.std.specs.List.{slice_get}
 use Rattle.std.specs.Option.{option_map, option_map_or}
 use Rattle.std.specs.Str.{chars, IsAscii, IsUtf8}
 use Rattle.std.proofs.lemmas.Bool.{and_parts}
 use Rattle.std.proofs.lemmas.Bool.Decides.{nat_tests}
-use Rattle.std.proofs.lemmas.Str.{chars-IsAscii, chars-append}
+use Rattle.std.proofs.lemmas.Str.{chars-IsAscii}
 use Rattle.std.proofs.lemmas.Str.Ascii.{IsAscii-nil, IsAscii-cons}
 use Rattle.jsgen_syntax.proofs.Last.{last_goes_in_word}
 use Rattle.jsgen_syntax.specs.Buffer.{indent_byte, indent_code}

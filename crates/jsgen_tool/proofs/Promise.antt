@@ -48,6 +48,6 @@ prints WriteFault (Some bytes) before now sink_before sink_now old new program u
 prints Usage (Some bytes) before now sink_before sink_now old new program u r w i o holds plain quiet = absurd (u refl)
 prints TooLong (Some bytes) before now sink_before sink_now old new program u r w i o holds plain quiet = absurd (omega (arith, i, holds.0))
 prints (NotJob fault) (Some bytes) before now sink_before sink_now old new program u r w i o holds plain quiet = absurd (let a = i.1 in let b = holds.1 in cc)
-prints (Refused fault) (Some bytes) before now sink_before sink_now old new program u r w (within, (tree, (job, broken))) o holds plain quiet =
+prints (Refused fault) (Some bytes) before now sink_before sink_now old new program u r w (within, (tree, job, broken)) o holds plain quiet =
     let P : Tree → Type 0 = λ t. Contains (breaches t) fault in
     absurd (no_breach (breaches program) fault holds.2 (subst P (one_tree bytes tree program job holds.1) broken))

@@ -1,5 +1,5 @@
-use Rattle.std.proofs.Common.{sym, ap, ◌∙◌}
-use Rattle.std.specs.Str.{encode_utf8_all, IsUtf8}
+use Rattle.std.proofs.Common.{sym, ◌∙◌}
+use Rattle.std.specs.Str.{IsUtf8}
 use Rattle.std.proofs.lemmas.Str.{encodes-chars}
 use Rattle.jsgen_syntax.specs.Buffer.{buffer_bytes}
 use Rattle.jsgen.specs.Printer.{pen_of}
