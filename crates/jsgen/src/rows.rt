@@ -16,6 +16,8 @@ mod kept;
 mod names;
 mod statements;
 mod steps;
+#[cfg(test)]
+mod tests;
 mod values;
 mod words;
 
@@ -33,14 +35,14 @@ pub struct At {
 
 impl At {
     /// A field of the head.
-    pub fn of_head(field: usize) -> At
+    fn of_head(field: usize) -> At
         ensures { result ≡ head field }
     {
         At { row: None, field }
     }
 
     /// A field of a row.
-    pub fn of_row(row: usize, field: usize) -> At
+    fn of_row(row: usize, field: usize) -> At
         ensures { result ≡ at row field }
     {
         At {

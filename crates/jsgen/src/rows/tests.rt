@@ -1,0 +1,181 @@
+use crate::{At, InputFault, read_job};
+use std::alloc::Global;
+use std::rt::HostRuntime;
+
+fn fault_of(alloc: Global, text: &str) -> Option<InputFault> {
+    read_job(alloc, text.as_bytes()).err()
+}
+
+fn head(field: usize) -> At {
+    At { row: None, field }
+}
+
+fn at(row: usize, field: usize) -> At {
+    At {
+        row: Some(row),
+        field,
+    }
+}
+
+#[test]
+fn heads(rt: HostRuntime) {
+    let alloc = rt.alloc();
+    for (text, wanted) in [
+        (r#"{"rows":[{"type":"Program","kind":"module"}]}"#, None),
+        (
+            r#"{"options":null,"other":0.5,"rows":[{"type":"Program","kind":"module"}]}"#,
+            None,
+        ),
+        (
+            r#"{"rows":[{"type":"Program","kind":"module"}]"#,
+            Some(InputFault::Json),
+        ),
+        (
+            r#"{"rows":[{"type":"Program","kind":"module"}]} 1"#,
+            Some(InputFault::Json),
+        ),
+        ("[]", Some(InputFault::Json)),
+        ("", Some(InputFault::Json)),
+        (
+            r#"{"options":{},"rows":[]}"#,
+            Some(InputFault::Wrong(head(0))),
+        ),
+        (
+            r#"{"private":0.5,"symbols":[],"rows":7}"#,
+            Some(InputFault::Wrong(head(1))),
+        ),
+        (r#"{"references":[]}"#, Some(InputFault::Wrong(head(2)))),
+        (r#"{"private":false}"#, Some(InputFault::Wrong(head(3)))),
+        ("{}", Some(InputFault::Missing(head(4)))),
+        (r#"{"rows":null}"#, Some(InputFault::Missing(head(4)))),
+        (r#"{"rows":[]}"#, Some(InputFault::Wrong(head(4)))),
+        (r#"{"rows":{}}"#, Some(InputFault::Wrong(head(4)))),
+        (
+            r#"{"rows":{"a":[1,{"b":1e0}]}}"#,
+            Some(InputFault::Float(head(4))),
+        ),
+    ] {
+        assert!(rt; fault_of(alloc, text) == wanted, "{text}");
+    }
+    assert!(rt;
+        read_job(alloc, b"{\"rows\":\"\xff\"}").err() == Some(InputFault::Json),
+        "UTF-8"
+    );
+}
+
+#[test]
+fn rows(rt: HostRuntime) {
+    let alloc = rt.alloc();
+    for (rows, wanted) in [
+        (
+            r#"{"type":"BindingIdentifier","name":"a"},{"type":"NumericLiteral","kind":"whole","digits":1},{"type":"IdentifierReference","name":"b"},{"type":"ParenthesizedExpression","expression":2},{"type":"BinaryExpression","operator":"+","left":1,"right":3},{"type":"VariableDeclarator","id":0,"init":4},{"type":"VariableDeclaration","kind":"const","declarations":[5]},{"type":"IdentifierReference","name":"c"},{"type":"ExpressionStatement","span":[4,4294967295],"expression":7},{"type":"Program","kind":"module","source":"","body":[6,8]}"#,
+            None,
+        ),
+        (
+            r#"{"type":"NumericLiteral","kind":"whole","digits":"340282366920938463463374607431768211455"},{"type":"Program","kind":"module","body":null}"#,
+            None,
+        ),
+        ("7", Some(InputFault::Wrong(at(0, 0)))),
+        (r#"{"type":null}"#, Some(InputFault::Missing(at(0, 0)))),
+        (
+            r#"{"type":["Program",0.5]}"#,
+            Some(InputFault::Float(at(0, 0))),
+        ),
+        (r#"{"type":"Programme"}"#, Some(InputFault::Wrong(at(0, 0)))),
+        (
+            r#"{"type":"Program","kind":"module","span":[0]}"#,
+            Some(InputFault::Wrong(at(0, 1))),
+        ),
+        (
+            r#"{"type":"Program","kind":"module","span":[0,4294967296]}"#,
+            Some(InputFault::Wrong(at(0, 1))),
+        ),
+        (
+            r#"{"type":"Program","kind":"script","span":[0,-0]}"#,
+            Some(InputFault::Float(at(0, 1))),
+        ),
+        (
+            r#"{"type":"Program","source":1}"#,
+            Some(InputFault::Wrong(at(0, 2))),
+        ),
+        (r#"{"type":"Program"}"#, Some(InputFault::Missing(at(0, 3)))),
+        (
+            r#"{"type":"Program","kind":"script"}"#,
+            Some(InputFault::Wrong(at(0, 3))),
+        ),
+        (
+            r#"{"type":"Program","kind":"module","jsx":0.5}"#,
+            Some(InputFault::Wrong(at(0, 4))),
+        ),
+        (
+            r#"{"type":"Program","kind":"module","body":0}"#,
+            Some(InputFault::Wrong(at(0, 9))),
+        ),
+        (
+            r#"{"type":"Program","kind":"module","body":[null]}"#,
+            Some(InputFault::Wrong(at(0, 9))),
+        ),
+        (
+            r#"{"type":"Program","kind":"module","body":[0]}"#,
+            Some(InputFault::Child(at(0, 9))),
+        ),
+        (
+            r#"{"type":"Program","kind":"module","body":[-1,true]}"#,
+            Some(InputFault::Child(at(0, 9))),
+        ),
+        (
+            r#"{"type":"Program","kind":"module","body":["0",[18446744073709551616]]}"#,
+            Some(InputFault::Float(at(0, 9))),
+        ),
+        (
+            r#"{"type":"NumericLiteral","kind":"whole","digits":"01"}"#,
+            Some(InputFault::Wrong(at(0, 4))),
+        ),
+        (
+            r#"{"type":"NumericLiteral","kind":"whole","digits":"+1"}"#,
+            Some(InputFault::Wrong(at(0, 4))),
+        ),
+        (
+            r#"{"type":"NumericLiteral","kind":"whole","digits":""}"#,
+            Some(InputFault::Wrong(at(0, 4))),
+        ),
+        (
+            r#"{"type":"NumericLiteral","kind":"whole","digits":"340282366920938463463374607431768211456"}"#,
+            Some(InputFault::Wrong(at(0, 4))),
+        ),
+        (
+            r#"{"type":"NumericLiteral","kind":"whole","digits":-1}"#,
+            Some(InputFault::Wrong(at(0, 4))),
+        ),
+        (
+            r#"{"type":"NumericLiteral","kind":"whole","digits":1.0}"#,
+            Some(InputFault::Float(at(0, 4))),
+        ),
+        (
+            r#"{"type":"IdentifierReference","name":"a"},{"type":"BinaryExpression","operator":"+","left":0,"right":0},{"type":"Program"}"#,
+            Some(InputFault::Shared(0)),
+        ),
+        (
+            r#"{"type":"IdentifierReference","name":"a"},{"type":"BinaryExpression","operator":"*","left":0,"right":0}"#,
+            Some(InputFault::Wrong(at(1, 2))),
+        ),
+        (
+            r#"{"type":"BindingIdentifier","name":"a"},{"type":"ExpressionStatement","expression":0}"#,
+            Some(InputFault::Child(at(1, 2))),
+        ),
+        (
+            r#"{"type":"IdentifierReference","name":"a"}"#,
+            Some(InputFault::Wrong(at(0, 0))),
+        ),
+        (
+            r#"{"type":"Program","kind":"module"},{"type":"IdentifierReference","name":"a"}"#,
+            Some(InputFault::Wrong(at(1, 0))),
+        ),
+    ] {
+        let text = format!(in alloc; "{{\"rows\":[{rows}]}}");
+        match text {
+            Ok(text) => assert!(rt; fault_of(alloc, text.as_str()) == wanted, "{rows}"),
+            Err(_) => assert!(rt; false, "memory"),
+        }
+    }
+}
