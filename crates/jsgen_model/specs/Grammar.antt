@@ -1,12 +1,14 @@
 -- The grammar (ECMA-262, clauses 13 to 16): which rows of tokens are read as which tree, one production a line.
 use Rattle.std.specs.Prelude.{◌≡◌, ℕ, List, [], ◌∷◌, Bool, true, false, not, ◌&&◌, ◌||◌, codes}
 use Rattle.std.specs.Str.{bytes_eq}
-use Rattle.jsgen_syntax.specs.declared.operator.BinaryOperator.TheVariants.{Addition, Subtraction}
+use Rattle.jsgen_syntax.specs.declared.operator.BinaryOperator.{BinaryOperator}
+use Rattle.jsgen_syntax.specs.declared.operator.BinaryOperator.TheVariants as operators
+use Rattle.jsgen_syntax.specs.declared.operator.LogicalOperator.TheVariants.{Or, And, Coalesce}
 use Rattle.jsgen_tree.specs.declared.statements.VariableDeclarationKind.TheVariants.{Const}
-use Rattle.jsgen_tree.specs.Tree.{Tree, Maybe, absent, given, Trees, no_trees, more, Atoms, text, declaration_kind, binary_operator}
+use Rattle.jsgen_tree.specs.Tree.{Tree, Maybe, absent, given, Trees, no_trees, more, Atoms, text, declaration_kind, binary_operator, logical_operator}
 use Rattle.jsgen_tree.specs.Tree as tree
-use Rattle.jsgen_model.specs.Punctuator.{plus, minus, comma, semicolon, equal, Round, Square, Brace}
-use Rattle.jsgen_model.specs.Tokens.{Tokens, done, piece, group, ◌⧺◌, Word, Number, Sign}
+use Rattle.jsgen_model.specs.Punctuator.{plus, minus, star, slash, percent, star_star, equal_equal, not_equal, equal_equal_equal, not_equal_equal, less, less_equal, greater, greater_equal, shift_left, shift_right, shift_right_zero, bit_and, bit_or, bit_xor, and_and, or_or, nullish, comma, semicolon, equal, Round, Square, Brace}
+use Rattle.jsgen_model.specs.Tokens.{Piece, Tokens, done, piece, group, ◌⧺◌, Word, Number, Sign}
 use Rattle.jsgen_model.specs.Valid.{is_free_name}
 use Rattle.jsgen_model.specs.Normal.{bare}
 
@@ -27,8 +29,82 @@ with_in allowed = record allowed { in_operator = true }
 
 -- the levels of expressions, from the loosest to the tightest
 pub data Level : Type 0 where
-  Expression Assignment Conditional ShortCircuit LogicalOr LogicalAnd BitOr BitXor BitAnd : Level
+  Expression Assignment Conditional ShortCircuit Coalesced CoalesceHead LogicalOr LogicalAnd BitOr BitXor BitAnd : Level
   Equality Relational Shift Additive Multiplicative Exponent Unary Update LeftHandSide New Call Member Primary : Level
+
+-- ---- operators (13.6 to 13.12)
+
+-- `**` groups from the right, and stands by itself
+abbrev pub is_power : BinaryOperator → Bool
+is_power operators.Exponential = true
+is_power o = false
+
+-- the level of an operation
+abbrev pub operation_level : BinaryOperator → Level
+operation_level operators.BitwiseOR = BitOr
+operation_level operators.BitwiseXOR = BitXor
+operation_level operators.BitwiseAnd = BitAnd
+operation_level operators.Equality = Equality
+operation_level operators.Inequality = Equality
+operation_level operators.StrictEquality = Equality
+operation_level operators.StrictInequality = Equality
+operation_level operators.LessThan = Relational
+operation_level operators.LessEqualThan = Relational
+operation_level operators.GreaterThan = Relational
+operation_level operators.GreaterEqualThan = Relational
+operation_level operators.In = Relational
+operation_level operators.Instanceof = Relational
+operation_level operators.ShiftLeft = Shift
+operation_level operators.ShiftRight = Shift
+operation_level operators.ShiftRightZeroFill = Shift
+operation_level operators.Addition = Additive
+operation_level operators.Subtraction = Additive
+operation_level operators.Multiplication = Multiplicative
+operation_level operators.Division = Multiplicative
+operation_level operators.Remainder = Multiplicative
+operation_level operators.Exponential = Exponent
+
+-- the level of a right operand
+abbrev pub next_level : Level → Level
+next_level BitOr = BitXor
+next_level BitXor = BitAnd
+next_level BitAnd = Equality
+next_level Equality = Relational
+next_level Relational = Shift
+next_level Shift = Additive
+next_level Additive = Multiplicative
+next_level Multiplicative = Exponent
+next_level level = level
+
+-- the token of an operator
+abbrev pub operator_piece : BinaryOperator → Piece
+operator_piece operators.BitwiseOR = Sign bit_or
+operator_piece operators.BitwiseXOR = Sign bit_xor
+operator_piece operators.BitwiseAnd = Sign bit_and
+operator_piece operators.Equality = Sign equal_equal
+operator_piece operators.Inequality = Sign not_equal
+operator_piece operators.StrictEquality = Sign equal_equal_equal
+operator_piece operators.StrictInequality = Sign not_equal_equal
+operator_piece operators.LessThan = Sign less
+operator_piece operators.LessEqualThan = Sign less_equal
+operator_piece operators.GreaterThan = Sign greater
+operator_piece operators.GreaterEqualThan = Sign greater_equal
+operator_piece operators.In = Word (codes "in")
+operator_piece operators.Instanceof = Word (codes "instanceof")
+operator_piece operators.ShiftLeft = Sign shift_left
+operator_piece operators.ShiftRight = Sign shift_right
+operator_piece operators.ShiftRightZeroFill = Sign shift_right_zero
+operator_piece operators.Addition = Sign plus
+operator_piece operators.Subtraction = Sign minus
+operator_piece operators.Multiplication = Sign star
+operator_piece operators.Division = Sign slash
+operator_piece operators.Remainder = Sign percent
+operator_piece operators.Exponential = Sign star_star
+
+-- `in` stands where it is allowed
+abbrev pub may_stand : Allowed → BinaryOperator → Bool
+may_stand allowed operators.In = allowed.in_operator
+may_stand allowed o = true
 
 -- what the tree holds, which is read from no source
 abbrev pub named : List ℕ → Atoms
@@ -86,8 +162,14 @@ mutual
     a_call : {c : Allowed} {ts : Tokens} {t : Tree} → ReadsExpression c Call ts t → ReadsExpression c LeftHandSide ts t
     a_member : {c : Allowed} {ts : Tokens} {t : Tree} → ReadsExpression c Member ts t → ReadsExpression c New ts t
     a_primary : {c : Allowed} {ts : Tokens} {t : Tree} → ReadsExpression c Primary ts t → ReadsExpression c Member ts t
-    a_sum : {c : Allowed} {ts a b : Tokens} {l r : Tree} (mark : Bool) → ts ≡ a ⧺ piece mark (Sign plus) b → ReadsExpression c Additive a l → ReadsExpression c Multiplicative b r → ReadsExpression c Additive ts (tree.binary (bare (binary_operator Addition ∷ [])) l r)
-    a_difference : {c : Allowed} {ts a b : Tokens} {l r : Tree} (mark : Bool) → ts ≡ a ⧺ piece mark (Sign minus) b → ReadsExpression c Additive a l → ReadsExpression c Multiplicative b r → ReadsExpression c Additive ts (tree.binary (bare (binary_operator Subtraction ∷ [])) l r)
+    an_operation : {c : Allowed} {ts a b : Tokens} {l r : Tree} (o : BinaryOperator) (mark : Bool) → is_power o ≡ false → may_stand c o ≡ true → ts ≡ a ⧺ piece mark (operator_piece o) b → ReadsExpression c (operation_level o) a l → ReadsExpression c (next_level (operation_level o)) b r → ReadsExpression c (operation_level o) ts (tree.binary (bare (binary_operator o ∷ [])) l r)
+    a_power : {c : Allowed} {ts a b : Tokens} {l r : Tree} (mark : Bool) → ts ≡ a ⧺ piece mark (Sign star_star) b → ReadsExpression c Update a l → ReadsExpression c Exponent b r → ReadsExpression c Exponent ts (tree.binary (bare (binary_operator operators.Exponential ∷ [])) l r)
+    a_conjunction : {c : Allowed} {ts a b : Tokens} {l r : Tree} (mark : Bool) → ts ≡ a ⧺ piece mark (Sign and_and) b → ReadsExpression c LogicalAnd a l → ReadsExpression c BitOr b r → ReadsExpression c LogicalAnd ts (tree.logical (bare (logical_operator And ∷ [])) l r)
+    a_disjunction : {c : Allowed} {ts a b : Tokens} {l r : Tree} (mark : Bool) → ts ≡ a ⧺ piece mark (Sign or_or) b → ReadsExpression c LogicalOr a l → ReadsExpression c LogicalAnd b r → ReadsExpression c LogicalOr ts (tree.logical (bare (logical_operator Or ∷ [])) l r)
+    a_coalesce : {c : Allowed} {ts : Tokens} {t : Tree} → ReadsExpression c Coalesced ts t → ReadsExpression c ShortCircuit ts t
+    a_coalescing : {c : Allowed} {ts a b : Tokens} {l r : Tree} (mark : Bool) → ts ≡ a ⧺ piece mark (Sign nullish) b → ReadsExpression c CoalesceHead a l → ReadsExpression c BitOr b r → ReadsExpression c Coalesced ts (tree.logical (bare (logical_operator Coalesce ∷ [])) l r)
+    a_coalesced_head : {c : Allowed} {ts : Tokens} {t : Tree} → ReadsExpression c Coalesced ts t → ReadsExpression c CoalesceHead ts t
+    a_bit_or_head : {c : Allowed} {ts : Tokens} {t : Tree} → ReadsExpression c BitOr ts t → ReadsExpression c CoalesceHead ts t
     a_reference : {c : Allowed} {mark : Bool} {w : List ℕ} → is_free_name w ≡ true → ReadsExpression c Primary (piece mark (Word w) done) (tree.identifier_reference (named w))
     a_number : {c : Allowed} {mark : Bool} {w : List ℕ} → ReadsExpression c Primary (piece mark (Number w) done) (tree.numeric_literal (bare (text w ∷ [])))
     in_parentheses : {c : Allowed} {mark : Bool} {ts : Tokens} {t : Tree} → ReadsExpression (with_in c) Expression ts t → ReadsExpression c Primary (group mark Round ts done) (tree.parenthesized (bare []) t)

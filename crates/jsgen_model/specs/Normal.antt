@@ -1,6 +1,9 @@
 -- What two trees of one meaning have in common.
-use Rattle.std.specs.Prelude.{ℕ, List, [], ◌∷◌, decimal}
-use Rattle.jsgen_tree.specs.Tree.{Tree, node, Slots, no_slots, one, maybe, many, Maybe, absent, given, Trees, no_trees, more, hole, Atom, Atoms, text, digits, declaration_kind, binary_operator, text_in, declaration_kind_in, operator_in}
+use Rattle.std.specs.Prelude.{ℕ, List, [], ◌∷◌, Bool, true, false, decimal, if◌then◌else◌}
+use Rattle.jsgen_tree.specs.Tree.{Tree, node, Slots, no_slots, one, maybe, many, Maybe, absent, given, Trees, no_trees, more, hole, Atom, Atoms, text, digits, declaration_kind, binary_operator, logical_operator, text_in, declaration_kind_in, operator_in, logical_operator_in}
+use Rattle.jsgen_tree.specs.declared.types.NodeType.TheVariants as types
+use Rattle.jsgen_syntax.specs.declared.operator.LogicalOperator.{LogicalOperator}
+use Rattle.jsgen_syntax.specs.declared.operator.LogicalOperator.TheVariants.{Or, And, Coalesce}
 use Rattle.jsgen_tree.specs.Tree as tree
 
 -- values that stand nowhere in a source
@@ -14,7 +17,30 @@ number_text (text t ∷ values) = t
 number_text (digits n ∷ values) = decimal n
 number_text (a ∷ values) = number_text values
 
--- Parentheses, spans, the source and the kind of a program are away; a whole number is its digits.
+-- ---- chains of one logical operator
+
+-- operands of one operator, from left to right
+pattern abbrev pub chain : Atoms → Trees → Tree
+chain a operands = node types.LogicalExpression a (many operands no_slots)
+
+abbrev pub same_operator : LogicalOperator → LogicalOperator → Bool
+same_operator Or Or = true
+same_operator And And = true
+same_operator Coalesce Coalesce = true
+same_operator o p = false
+
+abbrev pub joined : Trees → Trees → Trees
+joined no_trees us = us
+joined (more t ts) us = more t (joined ts us)
+joined (hole ts) us = hole (joined ts us)
+
+-- what an operand adds to a chain: a chain of the same operator adds its own operands
+abbrev pub links : LogicalOperator → Tree → Trees
+links o (chain a operands) = if same_operator o (logical_operator_in a.values) then operands else more (chain a operands) no_trees
+links o t = more t no_trees
+
+-- Parentheses, spans, the source and the kind of a program are away; a whole number is its digits; a chain of one
+-- logical operator is one list, however it was grouped.
 abbrev mutual
   pub normal : Tree → Tree
   normal (tree.program a body) = tree.program (bare []) (normal_trees body)
@@ -26,6 +52,7 @@ abbrev mutual
   normal (tree.numeric_literal a) = tree.numeric_literal (bare (text (number_text a.values) ∷ []))
   normal (tree.parenthesized a expression) = normal expression
   normal (tree.binary a left right) = tree.binary (bare (binary_operator (operator_in a.values) ∷ [])) (normal left) (normal right)
+  normal (tree.logical a left right) = chain (bare (logical_operator (logical_operator_in a.values) ∷ [])) (joined (links (logical_operator_in a.values) (normal left)) (links (logical_operator_in a.values) (normal right)))
   normal (node type a slots) = node type (bare a.values) (normal_slots slots)
 
   pub normal_slots : Slots → Slots

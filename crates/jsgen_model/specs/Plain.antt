@@ -27,6 +27,7 @@ abbrev mutual
   IsPlain (tree.numeric_literal a) = is_whole a.values ≡ true
   IsPlain (tree.parenthesized a expression) = IsPlain expression
   IsPlain (tree.binary a left right) = IsPlain left × IsPlain right
+  IsPlain (tree.logical a left right) = IsPlain left × IsPlain right
   IsPlain t = ⊥
 
   pub IsPlainIfGiven : Maybe → Type 0

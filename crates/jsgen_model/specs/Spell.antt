@@ -1,16 +1,19 @@
 -- How each node is spelled: one row, one clause.
-use Rattle.std.specs.Prelude.{ℕ, List, Bool, true, false, nat_le, decimal}
+use Rattle.std.specs.Prelude.{ℕ, List, Bool, true, false, not, ◌&&◌, ◌||◌, ◌==◌, nat_le, codes, decimal, if◌then◌else◌}
 use Rattle.std.specs.Str.{encode_utf8_all}
 use Rattle.jsgen_syntax.specs.Precedence.{rank}
-use Rattle.jsgen_syntax.specs.Operator.{binary_level, lower_level}
+use Rattle.jsgen_syntax.specs.Operator.{binary_level, lower_level, logical_level, logical_lower_level}
 use Rattle.jsgen_syntax.specs.declared.precedence.Precedence.{Precedence}
-use Rattle.jsgen_syntax.specs.declared.precedence.Precedence.TheVariants.{Lowest, Comma}
+use Rattle.jsgen_syntax.specs.declared.precedence.Precedence.TheVariants.{Lowest, Comma, Multiply, Exponentiation, Prefix, Call}
 use Rattle.jsgen_syntax.specs.declared.operator.BinaryOperator.{BinaryOperator}
 use Rattle.jsgen_syntax.specs.declared.operator.BinaryOperator.TheVariants as operators
+use Rattle.jsgen_syntax.specs.declared.operator.LogicalOperator.{LogicalOperator}
+use Rattle.jsgen_syntax.specs.declared.operator.LogicalOperator.TheVariants as logical_operators
+use Rattle.jsgen_tree.specs.Table.{without_parentheses}
 use Rattle.jsgen_tree.specs.Words.{declaration_word}
-use Rattle.jsgen_tree.specs.Tree.{Tree, Maybe, absent, given, Trees, no_trees, more, hole, text_in, digits_in, declaration_kind_in, operator_in}
+use Rattle.jsgen_tree.specs.Tree.{Tree, Maybe, absent, given, Trees, no_trees, more, hole, text_in, digits_in, declaration_kind_in, operator_in, logical_operator_in}
 use Rattle.jsgen_tree.specs.Tree as tree
-use Rattle.jsgen_model.specs.Punctuator.{Punctuator, plus, minus, comma, equal}
+use Rattle.jsgen_model.specs.Punctuator.{comma, equal, plus, minus, star, slash, percent, star_star, equal_equal, not_equal, equal_equal_equal, not_equal_equal, less, less_equal, greater, greater_equal, shift_left, shift_right, shift_right_zero, bit_and, bit_or, bit_xor, and_and, or_or, nullish}
 use Rattle.jsgen_model.specs.Items.{Items, nothing, ◌⊕◌, word, name, number, punctuator, operator, soft_space, indentation, wrapped, statement_end, due_semicolon, statement_begins}
 use Rattle.jsgen_model.specs.Layout.{Start, nowhere, statement, unless_printed, Style, layout, empty_pen}
 
@@ -28,25 +31,30 @@ pub record Place : Type 0 where
   pub start : Start
   -- among statements, where a declaration is one
   pub in_list : Bool
+  -- the left operand of an operation, whose own operator goes on with no chain
+  pub left_operand : Bool
 
 abbrev pub free : Context
 free = record { forbids_in = false; forbids_call = false }
 
 -- a statement's place
 abbrev pub among_statements : Place
-among_statements = record { level = Lowest; context = free; start = nowhere; in_list = true }
+among_statements = record { level = Lowest; context = free; start = nowhere; in_list = true; left_operand = false }
 
 -- the expression of an expression statement
 abbrev pub whole_statement : Place
-whole_statement = record { level = Lowest; context = free; start = statement; in_list = false }
+whole_statement = record { level = Lowest; context = free; start = statement; in_list = false; left_operand = false }
 
 -- a child that something is printed before, at a level, under the same context
 abbrev pub behind : Precedence → Place → Place
-behind level place = record { level = level; context = place.context; start = nowhere; in_list = false }
+behind level place = record { level = level; context = place.context; start = nowhere; in_list = false; left_operand = false }
 
 -- a child that nothing is printed before
 abbrev pub in_front : Precedence → Place → Place
-in_front level place = record { level = level; context = place.context; start = place.start; in_list = false }
+in_front level place = record { level = level; context = place.context; start = place.start; in_list = false; left_operand = false }
+
+abbrev pub left_of : Precedence → Place → Place
+left_of level place = record (in_front level place) { left_operand = true }
 
 abbrev pub allow_in : Bool → Context → Context
 allow_in true context = record context { forbids_in = false }
@@ -60,13 +68,85 @@ within test place = record place { context = allow_in test place.context; start 
 abbrev pub wraps : Precedence → Place → Bool
 wraps own place = nat_le (rank own) (rank place.level)
 
-abbrev pub binary_sign : BinaryOperator → Punctuator
-binary_sign operators.Addition = plus
-binary_sign operators.Subtraction = minus
+-- ---- operations
 
--- an operation with its operator's sign, in parentheses where the test holds
-abbrev pub operation : Bool → Punctuator → Items → Items → Items
-operation test sign left right = wrapped test (left ⊕ (soft_space ⊕ (operator sign ⊕ (soft_space ⊕ right))))
+-- a word operator stands apart from words; a sign stands apart from a sign that it would join
+abbrev pub operator_item : BinaryOperator → Items
+operator_item operators.In = word (codes "in")
+operator_item operators.Instanceof = word (codes "instanceof")
+operator_item operators.Equality = operator equal_equal
+operator_item operators.Inequality = operator not_equal
+operator_item operators.StrictEquality = operator equal_equal_equal
+operator_item operators.StrictInequality = operator not_equal_equal
+operator_item operators.LessThan = operator less
+operator_item operators.LessEqualThan = operator less_equal
+operator_item operators.GreaterThan = operator greater
+operator_item operators.GreaterEqualThan = operator greater_equal
+operator_item operators.Addition = operator plus
+operator_item operators.Subtraction = operator minus
+operator_item operators.Multiplication = operator star
+operator_item operators.Division = operator slash
+operator_item operators.Remainder = operator percent
+operator_item operators.Exponential = operator star_star
+operator_item operators.ShiftLeft = operator shift_left
+operator_item operators.ShiftRight = operator shift_right
+operator_item operators.ShiftRightZeroFill = operator shift_right_zero
+operator_item operators.BitwiseOR = operator bit_or
+operator_item operators.BitwiseXOR = operator bit_xor
+operator_item operators.BitwiseAnd = operator bit_and
+
+-- a logical sign joins no sign before it
+abbrev pub logical_item : LogicalOperator → Items
+logical_item logical_operators.Or = punctuator or_or
+logical_item logical_operators.And = punctuator and_and
+logical_item logical_operators.Coalesce = punctuator nullish
+
+-- operands and the operator between them, in parentheses where the test holds
+abbrev pub operation : Bool → Items → Items → Items → Items
+operation test item left right = wrapped test (left ⊕ (soft_space ⊕ (item ⊕ (soft_space ⊕ right))))
+
+-- `in` where it is forbidden
+abbrev pub is_forbidden : BinaryOperator → Place → Bool
+is_forbidden operators.In place = place.context.forbids_in
+is_forbidden o place = false
+
+abbrev pub binary_wraps : BinaryOperator → Place → Bool
+binary_wraps o place = wraps (binary_level o) place || is_forbidden o place
+
+-- the operation goes on with a chain of its own operator: a right operand of it, which needs no parentheses
+abbrev pub goes_on : LogicalOperator → Place → Bool
+goes_on o place = not place.left_operand && (rank (logical_level o) == rank place.level)
+
+abbrev pub logical_wraps : LogicalOperator → Place → Bool
+logical_wraps o place = wraps (logical_level o) place && not (goes_on o place)
+
+abbrev pub is_number : Tree → Bool
+is_number (tree.numeric_literal a) = true
+is_number t = false
+
+abbrev pub is_or_or_and : LogicalOperator → Bool
+is_or_or_and logical_operators.Coalesce = false
+is_or_or_and o = true
+
+-- an operation by `||` or `&&`
+abbrev pub mixes : Tree → Bool
+mixes (tree.logical a left right) = is_or_or_and (logical_operator_in a.values)
+mixes t = false
+
+-- the level of a left operand: just below the operator's, but of `**` its own, and for a number a call's
+abbrev pub left_level : BinaryOperator → Tree → Precedence
+left_level operators.Exponential left = if is_number (without_parentheses left) then Call else Exponentiation
+left_level o left = lower_level o
+
+-- the level of a right operand: the operator's own, but of `**` the one below
+abbrev pub right_level : BinaryOperator → Precedence
+right_level operators.Exponential = Multiply
+right_level o = binary_level o
+
+-- `??` can't be mixed with `||` and `&&` (ECMA-262, 13.13)
+abbrev pub unmixed : LogicalOperator → Tree → Precedence → Precedence
+unmixed logical_operators.Coalesce operand level = if mixes (without_parentheses operand) then Prefix else level
+unmixed o operand level = level
 
 -- among statements a declaration has indentation and an end
 abbrev pub as_statement : Bool → Items → Items
@@ -84,9 +164,13 @@ abbrev mutual
   spell (tree.numeric_literal a) place = number true (decimal (digits_in a.values))
   spell (tree.parenthesized a expression) place = spell expression place
   spell (tree.binary a left right) place =
-      operation (wraps (binary_level (operator_in a.values)) place) (binary_sign (operator_in a.values))
-      (spell left (in_front (lower_level (operator_in a.values)) (within (wraps (binary_level (operator_in a.values)) place) place)))
-      (spell right (behind (binary_level (operator_in a.values)) (within (wraps (binary_level (operator_in a.values)) place) place)))
+      operation (binary_wraps (operator_in a.values) place) (operator_item (operator_in a.values))
+      (spell left (left_of (left_level (operator_in a.values) left) (within (binary_wraps (operator_in a.values) place) place)))
+      (spell right (behind (right_level (operator_in a.values)) (within (binary_wraps (operator_in a.values) place) place)))
+  spell (tree.logical a left right) place =
+      operation (logical_wraps (logical_operator_in a.values) place) (logical_item (logical_operator_in a.values))
+      (spell left (left_of (unmixed (logical_operator_in a.values) left (logical_lower_level (logical_operator_in a.values))) (within (logical_wraps (logical_operator_in a.values) place) place)))
+      (spell right (behind (unmixed (logical_operator_in a.values) right (logical_level (logical_operator_in a.values))) (within (logical_wraps (logical_operator_in a.values) place) place)))
   spell t place = nothing
 
   -- a list of statements, each after the semicolon that the one before may have left

@@ -1,5 +1,5 @@
 -- Validity: the rules that a tree breaks, each with the start of the node at which it is broken.
-use Rattle.std.specs.Prelude.{◌≡◌, ℕ, List, [], ◌∷◌, ◌++◌, length, Bool, true, false, nat_lt, Contains, Result, Ok, Err, if◌then◌else◌}
+use Rattle.std.specs.Prelude.{◌≡◌, ℕ, suc, max, List, [], ◌∷◌, ◌++◌, length, Bool, true, false, nat_lt, Contains, Result, Ok, Err, if◌then◌else◌}
 use Rattle.std.specs.Str.{encode_utf8_all}
 use Rattle.jsgen_syntax.specs.Name.{spells_name, is_reserved, is_strict_reserved}
 use Rattle.jsgen_syntax.specs.declared.span.Span.{Span}
@@ -43,9 +43,33 @@ is_too_long source = nat_lt 4294967295 (length (encode_utf8_all source))
 abbrev pub source_faults : Atoms → List TreeFault
 source_faults a = fault_if (is_too_long (text_in a.values)) (faults.Span a.span.start)
 
+-- how many nodes stand on the longest way down: 1 without a child
+abbrev mutual
+  pub height : Tree → ℕ
+  height (node type a slots) = suc (height_of_slots slots)
+
+  pub height_of_slots : Slots → ℕ
+  height_of_slots no_slots = 0
+  height_of_slots (one t slots) = max (height t) (height_of_slots slots)
+  height_of_slots (maybe m slots) = max (height_if_given m) (height_of_slots slots)
+  height_of_slots (many ts slots) = max (greatest_height ts) (height_of_slots slots)
+
+  pub height_if_given : Maybe → ℕ
+  height_if_given absent = 0
+  height_if_given (given t) = height t
+
+  pub greatest_height : Trees → ℕ
+  greatest_height no_trees = 0
+  greatest_height (more t ts) = max (height t) (greatest_height ts)
+  greatest_height (hole ts) = greatest_height ts
+
+-- the level of indentation of pretty text, from 0 on, could pass 32 bits
+abbrev pub indent_faults : Tree → List TreeFault
+indent_faults t = fault_if (nat_lt 4294967295 (height t)) (faults.Indent (span_of t).start)
+
 -- a row's rules of its own
 abbrev pub own_faults : Tree → List TreeFault
-own_faults (tree.program a body) = source_faults a
+own_faults (tree.program a body) = source_faults a ++ indent_faults (tree.program a body)
 own_faults (tree.variable_declaration a declarations) = declaration_faults a.span declarations
 own_faults (tree.binding_identifier a) = name_faults a
 own_faults (tree.identifier_reference a) = name_faults a

@@ -13,6 +13,6 @@ mod tests;
 pub use buffer::{CodeBuffer, IndentChar};
 pub use memory::Memory;
 pub use name::{is_name, is_reserved, is_strict_reserved};
-pub use operator::BinaryOperator;
+pub use operator::{BinaryOperator, LogicalOperator};
 pub use precedence::{GetPrecedence, Precedence, levels_are_ordered};
 pub use span::{SourceKind, Span};

@@ -2,8 +2,8 @@ ghost use Rattle.std.specs.Prelude.{◌≡◌, ◌*◌, ◌^◌, ◌<◌};
 ghost use Rattle.jsgen_syntax.specs.Buffer.{indent_width};
 
 use crate::{
-    BinaryOperator, CodeBuffer, GetPrecedence, IndentChar, Memory, Precedence, is_name,
-    is_reserved, is_strict_reserved,
+    BinaryOperator, CodeBuffer, GetPrecedence, IndentChar, LogicalOperator, Memory, Precedence,
+    is_name, is_reserved, is_strict_reserved,
 };
 use std::rt::HostRuntime;
 
@@ -103,27 +103,56 @@ fn reserved_words(rt: HostRuntime) {
 
 #[test]
 fn operators(rt: HostRuntime) {
-    for (operator, text, level, lower, equality) in [
+    use BinaryOperator as B;
+    use Precedence as P;
+    for (operator, text, level, lower) in [
+        (B::Equality, "==", P::Equals, P::BitwiseAnd),
+        (B::Inequality, "!=", P::Equals, P::BitwiseAnd),
+        (B::StrictEquality, "===", P::Equals, P::BitwiseAnd),
+        (B::StrictInequality, "!==", P::Equals, P::BitwiseAnd),
+        (B::LessThan, "<", P::Compare, P::Equals),
+        (B::LessEqualThan, "<=", P::Compare, P::Equals),
+        (B::GreaterThan, ">", P::Compare, P::Equals),
+        (B::GreaterEqualThan, ">=", P::Compare, P::Equals),
+        (B::In, "in", P::Compare, P::Equals),
+        (B::Instanceof, "instanceof", P::Compare, P::Equals),
+        (B::ShiftLeft, "<<", P::Shift, P::Compare),
+        (B::ShiftRight, ">>", P::Shift, P::Compare),
+        (B::ShiftRightZeroFill, ">>>", P::Shift, P::Compare),
+        (B::Addition, "+", P::Add, P::Shift),
+        (B::Subtraction, "-", P::Add, P::Shift),
+        (B::Multiplication, "*", P::Multiply, P::Add),
+        (B::Division, "/", P::Multiply, P::Add),
+        (B::Remainder, "%", P::Multiply, P::Add),
+        (B::Exponential, "**", P::Exponentiation, P::Multiply),
+        (B::BitwiseOR, "|", P::BitwiseOr, P::LogicalAnd),
+        (B::BitwiseXOR, "^", P::BitwiseXor, P::BitwiseOr),
+        (B::BitwiseAnd, "&", P::BitwiseAnd, P::BitwiseXor),
+    ] {
+        assert_eq!(rt; operator.as_str(), text);
+        assert!(rt; operator.precedence() == level, "{text}");
+        assert!(rt; operator.lower_precedence() == lower, "{text}");
+        assert!(rt; operator.is_equality() == (level == P::Equals), "{text}");
+        assert!(rt; operator.is_keyword() == text.starts_with('i'), "{text}");
+    }
+    for (operator, text, level, lower) in [
         (
-            BinaryOperator::Addition,
-            "+",
-            Precedence::Add,
-            Precedence::Shift,
-            false,
+            LogicalOperator::Or,
+            "||",
+            P::LogicalOr,
+            P::NullishCoalescing,
         ),
+        (LogicalOperator::And, "&&", P::LogicalAnd, P::LogicalOr),
         (
-            BinaryOperator::Subtraction,
-            "-",
-            Precedence::Add,
-            Precedence::Shift,
-            false,
+            LogicalOperator::Coalesce,
+            "??",
+            P::NullishCoalescing,
+            P::Conditional,
         ),
     ] {
         assert_eq!(rt; operator.as_str(), text);
         assert!(rt; operator.precedence() == level, "{text}");
         assert!(rt; operator.lower_precedence() == lower, "{text}");
-        assert!(rt; operator.is_equality() == equality, "{text}");
-        assert!(rt; !operator.is_keyword(), "{text}");
     }
 }
 

@@ -33,6 +33,7 @@ natural_expression : (h : Node → Tree) (e : Expression Node) → layer (map-No
 natural_expression h (expressions.IdentifierReference b) = refl
 natural_expression h (expressions.NumericLiteral b) = refl
 natural_expression h (expressions.BinaryExpression b) = refl
+natural_expression h (expressions.LogicalExpression b) = refl
 natural_expression h (expressions.ParenthesizedExpression b) = refl
 
 natural_statement : (h : Node → Tree) (s : Statement Node) → layer (map-Node Node Tree h (opened.Statement s)) ≡ statement_plain h s
@@ -64,6 +65,7 @@ row_spans : (h : Node → Tree) (e : Expression Node) → expression_span e ≡ 
 row_spans h (expressions.IdentifierReference b) = refl
 row_spans h (expressions.NumericLiteral b) = refl
 row_spans h (expressions.BinaryExpression b) = refl
+row_spans h (expressions.LogicalExpression b) = refl
 row_spans h (expressions.ParenthesizedExpression b) = refl
 
 pub expression_spans : (e : Expression Node) → expression_span e ≡ span_of (node_plain (nodes.Expression e))

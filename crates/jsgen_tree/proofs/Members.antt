@@ -18,6 +18,7 @@ of_expression : (h : Node → Tree) (e : Expression Node) → is_expression (typ
 of_expression h (expressions.IdentifierReference b) = refl
 of_expression h (expressions.NumericLiteral b) = refl
 of_expression h (expressions.BinaryExpression b) = refl
+of_expression h (expressions.LogicalExpression b) = refl
 of_expression h (expressions.ParenthesizedExpression b) = refl
 
 pub expression_is_one : (e : Expression Node) → is_expression (type_of (node_plain (nodes.Expression e))) ≡ true

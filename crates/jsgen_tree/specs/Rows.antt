@@ -2,7 +2,7 @@
 use Rattle.std.specs.Prelude.{ℕ, List, [], ◌∷◌, map, option_map, String, string_bytes}
 use Rattle.std.specs.Str.{chars}
 use Rattle.std.specs.declared.alloc.Global.{Global}
-use Rattle.jsgen_tree.specs.Tree.{Tree, Atom, text, digits, source_kind, declaration_kind, numeric_kind, Whole, binary_operator, optional, trees, program, expression_statement, variable_declaration, variable_declarator, binding_identifier, identifier_reference, numeric_literal, parenthesized, binary}
+use Rattle.jsgen_tree.specs.Tree.{Tree, Atom, text, digits, source_kind, declaration_kind, numeric_kind, Whole, binary_operator, logical_operator, optional, trees, program, expression_statement, variable_declaration, variable_declarator, binding_identifier, identifier_reference, numeric_literal, parenthesized, binary, logical}
 use Rattle.jsgen_tree.specs.declared.nodes.ExpressionNode.{ExpressionNode}
 use Rattle.jsgen_tree.specs.declared.nodes.StatementNode.{StatementNode}
 use Rattle.jsgen_tree.specs.declared.nodes.DeclarationNode.{DeclarationNode}
@@ -18,6 +18,7 @@ use Rattle.jsgen_tree.specs.declared.expressions.NumericValue.{NumericValue}
 use Rattle.jsgen_tree.specs.declared.expressions.NumericValue.TheVariants as numeric
 use Rattle.jsgen_tree.specs.declared.expressions.ParenthesizedExpression.{ParenthesizedExpression}
 use Rattle.jsgen_tree.specs.declared.expressions.BinaryExpression.{BinaryExpression}
+use Rattle.jsgen_tree.specs.declared.expressions.LogicalExpression.{LogicalExpression}
 use Rattle.jsgen_tree.specs.declared.sets.Expression.{Expression}
 use Rattle.jsgen_tree.specs.declared.sets.Expression.TheVariants as expression
 use Rattle.jsgen_tree.specs.declared.sets.Statement.{Statement}
@@ -62,6 +63,9 @@ parenthesized_expression_row plain n = parenthesized (record { span = n.span; va
 abbrev pub binary_expression_row : {N : Type 0} → (N → Tree) → BinaryExpression N → Tree
 binary_expression_row plain n = binary (record { span = n.span; values = binary_operator n.operator ∷ [] }) (in_expression plain n.left) (in_expression plain n.right)
 
+abbrev pub logical_expression_row : {N : Type 0} → (N → Tree) → LogicalExpression N → Tree
+logical_expression_row plain n = logical (record { span = n.span; values = logical_operator n.operator ∷ [] }) (in_expression plain n.left) (in_expression plain n.right)
+
 abbrev pub binding_identifier_row : BindingIdentifier → Tree
 binding_identifier_row n = binding_identifier (record { span = n.span; values = text (characters n.name) ∷ [] })
 
@@ -83,6 +87,7 @@ abbrev pub expression_plain : {N : Type 0} → (N → Tree) → Expression N →
 expression_plain plain (expression.IdentifierReference b) = identifier_reference_row b.value
 expression_plain plain (expression.NumericLiteral b) = numeric_literal_row b.value
 expression_plain plain (expression.BinaryExpression b) = binary_expression_row plain b.value
+expression_plain plain (expression.LogicalExpression b) = logical_expression_row plain b.value
 expression_plain plain (expression.ParenthesizedExpression b) = parenthesized_expression_row plain b.value
 
 abbrev pub declaration_plain : {N : Type 0} → (N → Tree) → Declaration N → Tree

@@ -13,6 +13,7 @@ abbrev pub expression_span : {N : Type 0} → Expression N → Span
 expression_span (expression.IdentifierReference b) = b.value.span
 expression_span (expression.NumericLiteral b) = b.value.span
 expression_span (expression.BinaryExpression b) = b.value.span
+expression_span (expression.LogicalExpression b) = b.value.span
 expression_span (expression.ParenthesizedExpression b) = b.value.span
 
 abbrev pub declaration_span : {N : Type 0} → Declaration N → Span

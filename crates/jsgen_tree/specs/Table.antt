@@ -2,12 +2,13 @@
 use Rattle.std.specs.Prelude.{◌≡◌, ℕ, List, [], ◌∷◌, Bool, true, false, codes, if◌then◌else◌}
 use Rattle.jsgen_syntax.specs.declared.span.SourceKind.TheVariants as source_kinds
 use Rattle.jsgen_syntax.specs.declared.operator.BinaryOperator.TheVariants as binary_operators
+use Rattle.jsgen_syntax.specs.declared.operator.LogicalOperator.TheVariants as logical_operators
 use Rattle.jsgen_tree.specs.declared.types.NodeType.{NodeType}
 use Rattle.jsgen_tree.specs.declared.types.NodeType.TheVariants as types
 use Rattle.jsgen_tree.specs.declared.types.NodeSet.{NodeSet}
 use Rattle.jsgen_tree.specs.declared.types.NodeSet.TheVariants as sets
 use Rattle.jsgen_tree.specs.declared.statements.VariableDeclarationKind.TheVariants as declaration_kinds
-use Rattle.jsgen_tree.specs.Tree.{Atom, Tree, type_of, parenthesized, source_kind, declaration_kind, numeric_kind, Whole, binary_operator}
+use Rattle.jsgen_tree.specs.Tree.{Atom, Tree, type_of, parenthesized, source_kind, declaration_kind, numeric_kind, Whole, binary_operator, logical_operator}
 
 -- a word, and what it stands for
 pub record Word : Type 0 where
@@ -53,7 +54,10 @@ abbrev pub numeric_kind_words : List Word
 numeric_kind_words = means (codes "whole") (numeric_kind Whole) ∷ []
 
 abbrev pub binary_operator_words : List Word
-binary_operator_words = means (codes "+") (binary_operator binary_operators.Addition) ∷ means (codes "-") (binary_operator binary_operators.Subtraction) ∷ []
+binary_operator_words = means (codes "==") (binary_operator binary_operators.Equality) ∷ means (codes "!=") (binary_operator binary_operators.Inequality) ∷ means (codes "===") (binary_operator binary_operators.StrictEquality) ∷ means (codes "!==") (binary_operator binary_operators.StrictInequality) ∷ means (codes "<") (binary_operator binary_operators.LessThan) ∷ means (codes "<=") (binary_operator binary_operators.LessEqualThan) ∷ means (codes ">") (binary_operator binary_operators.GreaterThan) ∷ means (codes ">=") (binary_operator binary_operators.GreaterEqualThan) ∷ means (codes "+") (binary_operator binary_operators.Addition) ∷ means (codes "-") (binary_operator binary_operators.Subtraction) ∷ means (codes "*") (binary_operator binary_operators.Multiplication) ∷ means (codes "/") (binary_operator binary_operators.Division) ∷ means (codes "%") (binary_operator binary_operators.Remainder) ∷ means (codes "**") (binary_operator binary_operators.Exponential) ∷ means (codes "<<") (binary_operator binary_operators.ShiftLeft) ∷ means (codes ">>") (binary_operator binary_operators.ShiftRight) ∷ means (codes ">>>") (binary_operator binary_operators.ShiftRightZeroFill) ∷ means (codes "|") (binary_operator binary_operators.BitwiseOR) ∷ means (codes "^") (binary_operator binary_operators.BitwiseXOR) ∷ means (codes "&") (binary_operator binary_operators.BitwiseAnd) ∷ means (codes "in") (binary_operator binary_operators.In) ∷ means (codes "instanceof") (binary_operator binary_operators.Instanceof) ∷ []
+
+abbrev pub logical_operator_words : List Word
+logical_operator_words = means (codes "||") (logical_operator logical_operators.Or) ∷ means (codes "&&") (logical_operator logical_operators.And) ∷ means (codes "??") (logical_operator logical_operators.Coalesce) ∷ []
 
 -- ---- fields: one list for each type, in the order of their numbers, from 2 on
 
@@ -84,6 +88,9 @@ parenthesized_expression_fields = needs (codes "expression") (child sets.Express
 abbrev pub binary_expression_fields : List Field
 binary_expression_fields = needs (codes "operator") (word binary_operator_words) ∷ needs (codes "left") (child sets.Expression) ∷ needs (codes "right") (child sets.Expression) ∷ []
 
+abbrev pub logical_expression_fields : List Field
+logical_expression_fields = needs (codes "operator") (word logical_operator_words) ∷ needs (codes "left") (child sets.Expression) ∷ needs (codes "right") (child sets.Expression) ∷ []
+
 abbrev pub fields : NodeType → List Field
 fields types.Program = program_fields
 fields types.ExpressionStatement = expression_statement_fields
@@ -94,6 +101,7 @@ fields types.IdentifierReference = identifier_reference_fields
 fields types.NumericLiteral = numeric_literal_fields
 fields types.ParenthesizedExpression = parenthesized_expression_fields
 fields types.BinaryExpression = binary_expression_fields
+fields types.LogicalExpression = logical_expression_fields
 
 -- ---- sets
 
@@ -102,6 +110,7 @@ is_expression types.IdentifierReference = true
 is_expression types.NumericLiteral = true
 is_expression types.ParenthesizedExpression = true
 is_expression types.BinaryExpression = true
+is_expression types.LogicalExpression = true
 is_expression other = false
 
 abbrev pub is_statement : NodeType → Bool

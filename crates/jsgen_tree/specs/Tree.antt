@@ -4,6 +4,8 @@ use Rattle.jsgen_syntax.specs.declared.span.Span.{Span}
 use Rattle.jsgen_syntax.specs.declared.span.SourceKind.{SourceKind}
 use Rattle.jsgen_syntax.specs.declared.operator.BinaryOperator.{BinaryOperator}
 use Rattle.jsgen_syntax.specs.declared.operator.BinaryOperator.TheVariants as binary_operators
+use Rattle.jsgen_syntax.specs.declared.operator.LogicalOperator.{LogicalOperator}
+use Rattle.jsgen_syntax.specs.declared.operator.LogicalOperator.TheVariants as logical_operators
 use Rattle.jsgen_tree.specs.declared.types.NodeType.{NodeType}
 use Rattle.jsgen_tree.specs.declared.types.NodeType.TheVariants as types
 use Rattle.jsgen_tree.specs.declared.statements.VariableDeclarationKind.{VariableDeclarationKind}
@@ -21,6 +23,7 @@ pub data Atom : Type 0 where
   declaration_kind : VariableDeclarationKind → Atom
   numeric_kind : NumericKind → Atom
   binary_operator : BinaryOperator → Atom
+  logical_operator : LogicalOperator → Atom
 
 -- what a node holds beside its children: its span, and its values in the order of its fields
 pub record Atoms : Type 0 where
@@ -88,6 +91,11 @@ operator_in [] = binary_operators.Addition
 operator_in (binary_operator o ∷ values) = o
 operator_in (a ∷ values) = operator_in values
 
+abbrev pub logical_operator_in : List Atom → LogicalOperator
+logical_operator_in [] = logical_operators.Or
+logical_operator_in (logical_operator o ∷ values) = o
+logical_operator_in (a ∷ values) = logical_operator_in values
+
 -- ---- the rows, as patterns
 
 pattern abbrev pub program : Atoms → Trees → Tree
@@ -116,3 +124,6 @@ parenthesized a expression = node types.ParenthesizedExpression a (one expressio
 
 pattern abbrev pub binary : Atoms → Tree → Tree → Tree
 binary a left right = node types.BinaryExpression a (one left (one right no_slots))
+
+pattern abbrev pub logical : Atoms → Tree → Tree → Tree
+logical a left right = node types.LogicalExpression a (one left (one right no_slots))

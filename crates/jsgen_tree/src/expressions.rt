@@ -1,6 +1,6 @@
 // Expressions (ECMA-262, clause 13).
 use crate::nodes::{ExpressionNode, Node};
-use jsgen_syntax::{BinaryOperator, Span};
+use jsgen_syntax::{BinaryOperator, LogicalOperator, Span};
 
 /// A name that is looked up.
 #[derive(Drop)]
@@ -33,6 +33,14 @@ pub struct ParenthesizedExpression<N = Node> {
 pub struct BinaryExpression<N = Node> {
     pub span: Span,
     pub operator: BinaryOperator,
+    pub left: ExpressionNode<N>,
+    pub right: ExpressionNode<N>,
+}
+
+#[derive(Drop)]
+pub struct LogicalExpression<N = Node> {
+    pub span: Span,
+    pub operator: LogicalOperator,
     pub left: ExpressionNode<N>,
     pub right: ExpressionNode<N>,
 }

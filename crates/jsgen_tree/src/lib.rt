@@ -12,7 +12,8 @@ mod statements;
 mod types;
 
 pub use expressions::{
-    BinaryExpression, IdentifierReference, NumericLiteral, NumericValue, ParenthesizedExpression,
+    BinaryExpression, IdentifierReference, LogicalExpression, NumericLiteral, NumericValue,
+    ParenthesizedExpression,
 };
 pub use nodes::{BindingPatternNode, DeclarationNode, ExpressionNode, Node, StatementNode};
 pub use sets::{BindingPattern, Declaration, Expression, Statement};

@@ -6,7 +6,8 @@ ghost use Rattle.jsgen_tree.specs.Rows.{expression_plain, statement_plain};
 ghost use Rattle.jsgen_tree.specs.Plain.{node_plain};
 
 use crate::expressions::{
-    BinaryExpression, IdentifierReference, NumericLiteral, ParenthesizedExpression,
+    BinaryExpression, IdentifierReference, LogicalExpression, NumericLiteral,
+    ParenthesizedExpression,
 };
 use crate::nodes::{DeclarationNode, Node};
 use crate::statements::{BindingIdentifier, ExpressionStatement, VariableDeclaration};
@@ -16,6 +17,7 @@ pub enum Expression<N = Node> {
     IdentifierReference(Box<IdentifierReference>),
     NumericLiteral(Box<NumericLiteral>),
     BinaryExpression(Box<BinaryExpression<N>>),
+    LogicalExpression(Box<LogicalExpression<N>>),
     ParenthesizedExpression(Box<ParenthesizedExpression<N>>),
 }
 
@@ -52,6 +54,7 @@ impl Expression {
             Expression::IdentifierReference(_) => self,
             Expression::NumericLiteral(_) => self,
             Expression::BinaryExpression(_) => self,
+            Expression::LogicalExpression(_) => self,
         }
     }
 }

@@ -5,7 +5,8 @@ ghost use Rattle.jsgen_tree.specs.Plain.{node_plain};
 ghost use Rattle.jsgen_tree.specs.Spans.{expression_span, statement_span, declaration_span, binding_pattern_span};
 
 use crate::expressions::{
-    BinaryExpression, IdentifierReference, NumericLiteral, ParenthesizedExpression,
+    BinaryExpression, IdentifierReference, LogicalExpression, NumericLiteral,
+    ParenthesizedExpression,
 };
 use crate::nodes::Node;
 use crate::sets::{BindingPattern, Declaration, Expression, Statement};
@@ -96,6 +97,14 @@ impl<N> GetSpan for BinaryExpression<N> {
     }
 }
 
+impl<N> GetSpan for LogicalExpression<N> {
+    ghost own_span = { λ n. n.span };
+
+    fn span(&self) -> Span {
+        self.span
+    }
+}
+
 impl<N> GetSpan for Expression<N> {
     ghost own_span = { λ e. expression_span e };
 
@@ -104,6 +113,7 @@ impl<N> GetSpan for Expression<N> {
             Expression::IdentifierReference(node) => node.span,
             Expression::NumericLiteral(node) => node.span,
             Expression::BinaryExpression(node) => node.span,
+            Expression::LogicalExpression(node) => node.span,
             Expression::ParenthesizedExpression(node) => node.span,
         }
     }

@@ -107,6 +107,7 @@ fn types_are_in_their_sets(rt: HostRuntime) {
         (NodeType::NumericLiteral, true, false, false),
         (NodeType::ParenthesizedExpression, true, false, false),
         (NodeType::BinaryExpression, true, false, false),
+        (NodeType::LogicalExpression, true, false, false),
     ] {
         assert_eq!(rt; node_type.is_in(NodeSet::Expression), expression);
         assert_eq!(rt; node_type.is_in(NodeSet::Statement), statement);

@@ -14,6 +14,7 @@ pub enum NodeType {
     NumericLiteral,
     ParenthesizedExpression,
     BinaryExpression,
+    LogicalExpression,
 }
 
 /// What the child of a field may be: a member of a set, or a node of one type.
@@ -48,6 +49,7 @@ impl NodeType {
                 | NodeType::NumericLiteral
                 | NodeType::ParenthesizedExpression
                 | NodeType::BinaryExpression
+                | NodeType::LogicalExpression
         )
     }
 
