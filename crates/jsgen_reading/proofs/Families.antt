@@ -15,7 +15,7 @@ use Rattle.jsgen_model.specs.Grammar.{Allowed, in_module}
 use Rattle.jsgen_model.specs.Plain.{IsPlain, IsPlainIfGiven, ArePlain, is_whole}
 use Rattle.jsgen_model.specs.Normal.{number_text}
 use Rattle.jsgen_model.specs.Valid as valid
-use Rattle.jsgen_model.specs.Valid.{breaches, in_slots, in_maybe, in_trees, fault_if, is_free_name, place_faults, head_set_faults, span_faults, own_faults, name_faults, declaration_faults, source_faults}
+use Rattle.jsgen_model.specs.Valid.{breaches, in_slots, in_maybe, in_trees, fault_if, is_free_name, place_faults, head_set_faults, span_faults, own_faults, name_faults, declaration_faults, source_faults, indent_faults}
 use Rattle.jsgen_reading.proofs.Numbers.{decimal_whole}
 
 mutual
@@ -24,6 +24,7 @@ mutual
     a_number : {c : Allowed} {a : Atoms} → spells_whole (decimal (digits_in a.values)) ≡ true → decimal (digits_in a.values) ≡ number_text a.values → IsExpression c (tree.numeric_literal a)
     in_parentheses : {c : Allowed} {a : Atoms} {t : Tree} → IsExpression c t → IsExpression c (tree.parenthesized a t)
     an_operation : {c : Allowed} {a : Atoms} {l r : Tree} → IsExpression c l → IsExpression c r → IsExpression c (tree.binary a l r)
+    a_logical_operation : {c : Allowed} {a : Atoms} {l r : Tree} → IsExpression c l → IsExpression c r → IsExpression c (tree.logical a l r)
 
   pub data IsBinding : Allowed → Tree → Type 0 where
     a_bound_name : {c : Allowed} {a : Atoms} → is_free_name (text_in a.values) ≡ true → IsBinding c (tree.binding_identifier a)
@@ -100,6 +101,11 @@ expression_valid c (tree.binary a l r) p s e =
     let k = in_its_set sets.Expression l ((place_faults sets.Expression r ++ breaches r) ++ []) h.1 in
     let j = in_its_set sets.Expression r [] k.2 in
     an_operation (expression_valid c l p.0 k.0 k.1) (expression_valid c r p.1 j.0 j.1)
+expression_valid c (tree.logical a l r) p s e =
+    let h = parts (span_faults a.span) [] _ e in
+    let k = in_its_set sets.Expression l ((place_faults sets.Expression r ++ breaches r) ++ []) h.1 in
+    let j = in_its_set sets.Expression r [] k.2 in
+    a_logical_operation (expression_valid c l p.0 k.0 k.1) (expression_valid c r p.1 j.0 j.1)
 expression_valid c t p s e = absurd (first_of (assumption p, search no_truth))
 
 binding_valid : (c : Allowed) (t : Tree) → IsPlain t → is_binding_pattern (type_of t) ≡ true → breaches t ≡ [] → IsBinding c t
@@ -149,7 +155,7 @@ statements_valid c (hole ss) p e = absurd p
 
 pub program_valid : (t : Tree) → IsPlain t → is_program (type_of t) ≡ true → breaches t ≡ [] → IsProgram t
 program_valid (tree.program a body) p s e =
-    let h = parts (span_faults a.span) (source_faults a) _ e in
+    let h = parts (span_faults a.span) (source_faults a ++ indent_faults (tree.program a body)) _ e in
     let k = none_both (in_trees (sets.Statement ∷ []) body) [] h.1 in
     a_program (statements_valid in_module body p.1 k.0)
 program_valid t p s e = absurd (first_of (assumption p, search no_truth))

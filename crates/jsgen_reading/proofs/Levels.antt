@@ -41,8 +41,15 @@ read_at no_call levels.New = grammar.Member
 read_at no_call levels.Call = grammar.Member
 read_at no_call levels.Member = grammar.Member
 
+-- a right operand of a logical operator may go on with its chain: it is read at the operator's own level
+abbrev pub operand_level : Bool → Bool → Precedence → Level
+operand_level false no_call levels.NullishCoalescing = grammar.ShortCircuit
+operand_level false no_call levels.LogicalOr = grammar.LogicalOr
+operand_level false no_call levels.LogicalAnd = grammar.LogicalAnd
+operand_level left no_call level = read_at no_call level
+
 abbrev pub level_of : Place → Level
-level_of place = read_at place.context.forbids_call place.level
+level_of place = operand_level place.left_operand place.context.forbids_call place.level
 
 -- what may stand at a place
 abbrev pub under : Place → Allowed → Allowed
@@ -88,7 +95,7 @@ unfolding all_levels
 level_with_rank levels.Lowest = refl
 level_with_rank l = refl
 
-same_rank : (a b : Precedence) → rank a ≡ rank b → a ≡ b
+pub same_rank : (a b : Precedence) → rank a ≡ rank b → a ≡ b
 same_rank a b e = sym (level_with_rank a) ∙ (ap (λ n. get_or all_levels n levels.Lowest) e ∙ level_with_rank b)
 
 weaken_member : {c : Allowed} {ts : Tokens} {t : Tree} (no_call : Bool) → ReadsExpression c grammar.Member ts t → ReadsExpression c (left_hand_side no_call) ts t
@@ -132,15 +139,22 @@ descend no_call (suc n) own l e r = descend no_call n (looser own) l (omega (ari
 pub lifted : {c : Allowed} {ts : Tokens} {t : Tree} (no_call : Bool) (own l : Precedence) → rank l ≤ rank own → ReadsExpression c (read_at no_call own) ts t → ReadsExpression c (read_at no_call l) ts t
 lifted no_call own l h r = descend no_call (rank own - rank l) own l (omega arith) r
 
+-- what is read at a level is read where a chain may go on
+loosened : {c : Allowed} {ts : Tokens} {t : Tree} (left no_call : Bool) (l : Precedence) → ReadsExpression c (read_at no_call l) ts t → ReadsExpression c (operand_level left no_call l) ts t
+loosened false no_call levels.NullishCoalescing r = grammar.a_logical_or r
+loosened false no_call levels.LogicalOr r = grammar.a_logical_and r
+loosened false no_call levels.LogicalAnd r = grammar.a_bit_or r
+loosened left no_call l r = r
+
 -- an operation of its own level, which needs no parentheses
 pub unwrapped : {c : Allowed} {ts : Tokens} {t : Tree} (own : Precedence) (place : Place) → wraps own place ≡ false → ReadsExpression c (read_at place.context.forbids_call (looser own)) ts t → ReadsExpression c (level_of place) ts t
 unwrapped own place h r =
     let k : rank place.level < rank own = leb-false (rank own) (rank place.level) h in
-    lifted place.context.forbids_call (looser own) place.level (omega (arith, rank_looser own)) r
+    loosened place.left_operand place.context.forbids_call place.level (lifted place.context.forbids_call (looser own) place.level (omega (arith, rank_looser own)) r)
 
 highest : (l : Precedence) → rank l ≤ 22
 highest levels.Lowest = omega arith
 highest l = omega arith
 
 pub from_primary : {c : Allowed} {ts : Tokens} {t : Tree} (place : Place) → ReadsExpression c grammar.Primary ts t → ReadsExpression c (level_of place) ts t
-from_primary place r = lifted place.context.forbids_call levels.Member place.level (highest place.level) (grammar.a_primary r)
+from_primary place r = loosened place.left_operand place.context.forbids_call place.level (lifted place.context.forbids_call levels.Member place.level (highest place.level) (grammar.a_primary r))

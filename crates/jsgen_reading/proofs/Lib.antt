@@ -3,6 +3,8 @@ pub mod Families
 pub mod Numbers
 pub mod Names
 pub mod Good
+pub mod Operations
+pub mod Chains
 pub mod Expressions
 pub mod Statements
 pub mod Reading

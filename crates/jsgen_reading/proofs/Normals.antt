@@ -1,8 +1,38 @@
 -- A normal form is its own.
-use Rattle.std.proofs.Common.{◌≡◌, [], ◌∷◌, refl, ap}
-use Rattle.jsgen_tree.specs.Tree.{Tree, node, Slots, no_slots, one, maybe, many, Maybe, absent, given, Trees, no_trees, more, hole, declaration_kind, declaration_kind_in, binary_operator, operator_in}
+use Rattle.std.proofs.Common.{◌≡◌, Bool, true, false, cond, [], ◌∷◌, refl, ap, ◌∙◌}
+use Rattle.jsgen_syntax.specs.declared.operator.LogicalOperator.{LogicalOperator}
+use Rattle.jsgen_tree.specs.Tree.{Tree, node, Slots, no_slots, one, maybe, many, Maybe, absent, given, Trees, no_trees, more, hole, declaration_kind, declaration_kind_in, binary_operator, operator_in, logical_operator, logical_operator_in}
 use Rattle.jsgen_tree.specs.Tree as tree
-use Rattle.jsgen_model.specs.Normal.{normal, normal_slots, normal_maybe, normal_trees, bare}
+use Rattle.jsgen_model.specs.Normal.{normal, normal_slots, normal_maybe, normal_trees, bare, chain, same_operator, joined, links}
+
+-- ---- chains
+
+joined_normal : (ts us : Trees) → normal_trees (joined ts us) ≡ joined (normal_trees ts) (normal_trees us)
+joined_normal no_trees us = refl
+joined_normal (more t ts) us = ap (λ vs. more (normal t) vs) (joined_normal ts us)
+joined_normal (hole ts) us = ap (λ vs. hole vs) (joined_normal ts us)
+
+-- the operands of a chain, and none of other trees
+abbrev operands_of : Tree → Trees
+operands_of (chain a operands) = operands
+operands_of t = no_trees
+
+-- what an operand in normal form adds is in normal form
+links_again : (o : LogicalOperator) (t : Tree) → normal t ≡ t → normal_trees (links o t) ≡ links o t
+links_again o (chain a operands) e = go (same_operator o (logical_operator_in a.values))
+  where
+    go : (b : Bool) → normal_trees (cond b operands (more (chain a operands) no_trees)) ≡ cond b operands (more (chain a operands) no_trees)
+    go true = ap operands_of e
+    go false = ap (λ u. more u no_trees) e
+links_again o t e = ap (λ u. more u no_trees) e
+
+normal_chain_again : (o : LogicalOperator) (t u : Tree) → normal t ≡ t → normal u ≡ u → chain (bare (logical_operator o ∷ [])) (normal_trees (joined (links o t) (links o u))) ≡ chain (bare (logical_operator o ∷ [])) (joined (links o t) (links o u))
+normal_chain_again o t u e f =
+    let g = links_again o t e in
+    let h = links_again o u f in
+    ap (λ ts. chain (bare (logical_operator o ∷ [])) ts) (joined_normal (links o t) (links o u) ∙ (λ i. joined (g i) (h i)))
+
+-- ---- the whole
 
 mutual
   pub normal_again : (t : Tree) → normal (normal t) ≡ normal t
@@ -15,6 +45,7 @@ mutual
   normal_again (tree.numeric_literal a) = refl
   normal_again (tree.parenthesized a expression) = normal_again expression
   normal_again (tree.binary a left right) = let e = normal_again left in let f = normal_again right in λ i. tree.binary (bare (binary_operator (operator_in a.values) ∷ [])) (e i) (f i)
+  normal_again (tree.logical a left right) = normal_chain_again (logical_operator_in a.values) (normal left) (normal right) (normal_again left) (normal_again right)
   normal_again (node type a slots) = ap (λ s. node type (bare a.values) s) (normal_slots_again slots)
 
   normal_slots_again : (s : Slots) → normal_slots (normal_slots s) ≡ normal_slots s
