@@ -1,5 +1,5 @@
 -- Logical operations. A right operand with the same operator goes on with the chain, and what is read groups from the left.
-use Rattle.std.proofs.Common.{◌≡◌, ℕ, Bool, true, false, not, ◌&&◌, ◌==◌, cond, List, [], ◌∷◌, refl, sym, ap, ◌∙◌, subst, subst₂, arith}
+use Rattle.std.proofs.Common.{◌≡◌, ℕ, Bool, true, false, not, ◌&&◌, ◌==◌, cond, [], ◌∷◌, refl, sym, ap, ◌∙◌, subst₂, arith}
 use Rattle.std.proofs.lemmas.Bool.{both_ways, and_parts, eqb-true, not-true}
 use Rattle.jsgen_syntax.specs.Precedence.{rank}
 use Rattle.jsgen_syntax.specs.Operator.{logical_level, logical_lower_level}
@@ -85,45 +85,18 @@ unwrapped_chain {c} {ts} {u} o place h r = by (wraps (logical_level o) place) re
 
 -- ---- no binary operation is read at the level of a logical one
 
-abbrev at_short : Level → Bool
-at_short grammar.ShortCircuit = true
-at_short g = false
+-- the levels of logical operations, told apart by numbers
+abbrev number_of : Level → ℕ
+number_of grammar.ShortCircuit = 1
+number_of grammar.Coalesced = 2
+number_of grammar.CoalesceHead = 3
+number_of grammar.LogicalOr = 4
+number_of grammar.LogicalAnd = 5
+number_of g = 0
 
-operation_no_short : (o : BinaryOperator) → at_short (operation_level o) ≡ false
-operation_no_short operators.Equality = refl
-operation_no_short o = refl
-
-abbrev at_or : Level → Bool
-at_or grammar.LogicalOr = true
-at_or g = false
-
-operation_no_or : (o : BinaryOperator) → at_or (operation_level o) ≡ false
-operation_no_or operators.Equality = refl
-operation_no_or o = refl
-
-abbrev at_and : Level → Bool
-at_and grammar.LogicalAnd = true
-at_and g = false
-
-operation_no_and : (o : BinaryOperator) → at_and (operation_level o) ≡ false
-operation_no_and operators.Equality = refl
-operation_no_and o = refl
-
-abbrev at_coalesced : Level → Bool
-at_coalesced grammar.Coalesced = true
-at_coalesced g = false
-
-operation_no_coalesced : (o : BinaryOperator) → at_coalesced (operation_level o) ≡ false
-operation_no_coalesced operators.Equality = refl
-operation_no_coalesced o = refl
-
-abbrev at_head : Level → Bool
-at_head grammar.CoalesceHead = true
-at_head g = false
-
-operation_no_head : (o : BinaryOperator) → at_head (operation_level o) ≡ false
-operation_no_head operators.Equality = refl
-operation_no_head o = refl
+operation_number : (o : BinaryOperator) → number_of (operation_level o) ≡ 0
+operation_number operators.Equality = refl
+operation_number o = refl
 
 -- ---- chains
 
@@ -144,8 +117,8 @@ join_or a u line d r (grammar.a_disjunction {a = e} {b = f} {l = x} {r = y} m q 
       grammar.a_disjunction m (ap (λ ts. a ⧺ piece line (Sign or_or) ts) q ∙ sym (then_assoc a (piece line (Sign or_or) e) (piece m (Sign or_or) f))) h.1 t,
       ap (λ k. chain (bare (logical_operator Or ∷ [])) (joined (links Or k) (links Or (normal y)))) h.2 ∙ ap (λ ts. chain (bare (logical_operator Or ∷ [])) ts) (joined_assoc (links Or (normal u)) (links Or (normal x)) (links Or (normal y))),
     )
-join_or a u line d r (grammar.an_operation o m p h q s t) = absurd (both_ways (at_or (operation_level o)) (operation_no_or o) (ap at_or d))
-join_or a u line d r s = absurd (both_ways false refl (ap at_or d))
+join_or a u line d r (grammar.an_operation o m p h q s t) = absurd (omega (arith, operation_number o, ap number_of d))
+join_or a u line d r s = absurd (omega (arith, ap number_of d))
 
 join_and : {c : Allowed} {g : Level} {b : Tokens} {v : Tree} (a : Tokens) (u : Tree) (line : Bool) → g ≡ grammar.LogicalAnd → ReadsExpression c grammar.LogicalAnd a u → ReadsExpression c g b v → Joined c And grammar.LogicalAnd (a ⧺ piece line (Sign and_and) b) u v
 join_and {v = v} a u line d r (grammar.a_bit_or s) = (tree.logical (bare (logical_operator And ∷ [])) u v, grammar.a_conjunction line refl r s, refl)
@@ -155,8 +128,8 @@ join_and a u line d r (grammar.a_conjunction {a = e} {b = f} {l = x} {r = y} m q
       grammar.a_conjunction m (ap (λ ts. a ⧺ piece line (Sign and_and) ts) q ∙ sym (then_assoc a (piece line (Sign and_and) e) (piece m (Sign and_and) f))) h.1 t,
       ap (λ k. chain (bare (logical_operator And ∷ [])) (joined (links And k) (links And (normal y)))) h.2 ∙ ap (λ ts. chain (bare (logical_operator And ∷ [])) ts) (joined_assoc (links And (normal u)) (links And (normal x)) (links And (normal y))),
     )
-join_and a u line d r (grammar.an_operation o m p h q s t) = absurd (both_ways (at_and (operation_level o)) (operation_no_and o) (ap at_and d))
-join_and a u line d r s = absurd (both_ways false refl (ap at_and d))
+join_and a u line d r (grammar.an_operation o m p h q s t) = absurd (omega (arith, operation_number o, ap number_of d))
+join_and a u line d r s = absurd (omega (arith, ap number_of d))
 
 -- with a chain to the right, or with one operand
 mutual
@@ -167,14 +140,14 @@ mutual
         grammar.a_coalescing m (ap (λ ts. a ⧺ piece line (Sign nullish) ts) q ∙ sym (then_assoc a (piece line (Sign nullish) e) (piece m (Sign nullish) f))) (grammar.a_coalesced_head h.1) t,
         ap (λ k. chain (bare (logical_operator Coalesce ∷ [])) (joined (links Coalesce k) (links Coalesce (normal y)))) h.2 ∙ ap (λ ts. chain (bare (logical_operator Coalesce ∷ [])) ts) (joined_assoc (links Coalesce (normal u)) (links Coalesce (normal x)) (links Coalesce (normal y))),
       )
-  join_coalesced a u line d r (grammar.an_operation o m p h q s t) = absurd (both_ways (at_coalesced (operation_level o)) (operation_no_coalesced o) (ap at_coalesced d))
-  join_coalesced a u line d r s = absurd (both_ways false refl (ap at_coalesced d))
+  join_coalesced a u line d r (grammar.an_operation o m p h q s t) = absurd (omega (arith, operation_number o, ap number_of d))
+  join_coalesced a u line d r s = absurd (omega (arith, ap number_of d))
 
   join_coalesce : {c : Allowed} {g : Level} {b : Tokens} {v : Tree} (a : Tokens) (u : Tree) (line : Bool) → g ≡ grammar.CoalesceHead → ReadsExpression c grammar.CoalesceHead a u → ReadsExpression c g b v → Joined c Coalesce grammar.Coalesced (a ⧺ piece line (Sign nullish) b) u v
   join_coalesce {v = v} a u line d r (grammar.a_bit_or_head s) = (tree.logical (bare (logical_operator Coalesce ∷ [])) u v, grammar.a_coalescing line refl r s, refl)
   join_coalesce a u line d r (grammar.a_coalesced_head s) = join_coalesced a u line refl r s
-  join_coalesce a u line d r (grammar.an_operation o m p h q s t) = absurd (both_ways (at_head (operation_level o)) (operation_no_head o) (ap at_head d))
-  join_coalesce a u line d r s = absurd (both_ways false refl (ap at_head d))
+  join_coalesce a u line d r (grammar.an_operation o m p h q s t) = absurd (omega (arith, operation_number o, ap number_of d))
+  join_coalesce a u line d r s = absurd (omega (arith, ap number_of d))
 
 join : {c : Allowed} {b : Tokens} {v : Tree} (o : LogicalOperator) (a : Tokens) (u : Tree) (line : Bool) → ReadsExpression c (operand_goal o) a u → ReadsExpression c (operand_goal o) b v → Joined c o (own_goal o) (a ⧺ piece line (Sign (logical_sign o)) b) u v
 join Or a u line r s = join_or a u line refl r s
@@ -189,23 +162,24 @@ is_mixed (chain a operands) = is_or_or_and (logical_operator_in a.values)
 is_mixed t = false
 
 -- what is read as neither may stand in a chain of `??`
+-- by the level at which it is read
 head_at_and : {c : Allowed} {g : Level} {ts : Tokens} {u : Tree} → g ≡ grammar.LogicalAnd → is_mixed (normal u) ≡ false → ReadsExpression c g ts u → ReadsExpression c grammar.CoalesceHead ts u
 head_at_and d h (grammar.a_bit_or r) = grammar.a_bit_or_head r
 head_at_and d h (grammar.a_conjunction m e r s) = absurd (both_ways true h refl)
-head_at_and d h (grammar.an_operation o m p k q s t) = absurd (both_ways (at_and (operation_level o)) (operation_no_and o) (ap at_and d))
-head_at_and d h r = absurd (both_ways false refl (ap at_and d))
+head_at_and d h (grammar.an_operation o m p k q s t) = absurd (omega (arith, operation_number o, ap number_of d))
+head_at_and d h r = absurd (omega (arith, ap number_of d))
 
 head_at_or : {c : Allowed} {g : Level} {ts : Tokens} {u : Tree} → g ≡ grammar.LogicalOr → is_mixed (normal u) ≡ false → ReadsExpression c g ts u → ReadsExpression c grammar.CoalesceHead ts u
 head_at_or d h (grammar.a_logical_and r) = head_at_and refl h r
 head_at_or d h (grammar.a_disjunction m e r s) = absurd (both_ways true h refl)
-head_at_or d h (grammar.an_operation o m p k q s t) = absurd (both_ways (at_or (operation_level o)) (operation_no_or o) (ap at_or d))
-head_at_or d h r = absurd (both_ways false refl (ap at_or d))
+head_at_or d h (grammar.an_operation o m p k q s t) = absurd (omega (arith, operation_number o, ap number_of d))
+head_at_or d h r = absurd (omega (arith, ap number_of d))
 
 head_at_short : {c : Allowed} {g : Level} {ts : Tokens} {u : Tree} → g ≡ grammar.ShortCircuit → is_mixed (normal u) ≡ false → ReadsExpression c g ts u → ReadsExpression c grammar.CoalesceHead ts u
 head_at_short d h (grammar.a_coalesce r) = grammar.a_coalesced_head r
 head_at_short d h (grammar.a_logical_or r) = head_at_or refl h r
-head_at_short d h (grammar.an_operation o m p k q s t) = absurd (both_ways (at_short (operation_level o)) (operation_no_short o) (ap at_short d))
-head_at_short d h r = absurd (both_ways false refl (ap at_short d))
+head_at_short d h (grammar.an_operation o m p k q s t) = absurd (omega (arith, operation_number o, ap number_of d))
+head_at_short d h r = absurd (omega (arith, ap number_of d))
 
 an_expression : {c : Allowed} {t : Tree} → IsExpression c t → is_expression (type_of t) ≡ true
 an_expression (family.a_reference h) = refl

@@ -22,7 +22,7 @@ use Rattle.jsgen_model.specs.Spell.{Place, spell, within, left_of, behind, opera
 use Rattle.jsgen_lexing.proofs.Characters.{letters_spelled}
 use Rattle.jsgen_lexing.proofs.Last.{Last, After, Ready, Knows, NoDot}
 use Rattle.jsgen_lexing.proofs.Steps.{wrote_word, wrote_operator}
-use Rattle.jsgen_reading.proofs.Levels.{read_at, level_of, under, looser, lifted, unwrapped}
+use Rattle.jsgen_reading.proofs.Levels.{read_at, under, looser, lifted, unwrapped}
 use Rattle.jsgen_reading.proofs.Families.{IsExpression}
 use Rattle.jsgen_reading.proofs.Families as family
 use Rattle.jsgen_reading.proofs.Good.{Good, Printed, Between, good_at, good_wrapped, good_infix}
