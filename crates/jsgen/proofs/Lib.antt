@@ -4,6 +4,8 @@ pub mod JobLaw
 pub mod Json
 pub mod LastRow
 pub mod Listed
+pub mod Operations
+pub mod Operators
 pub mod Pool
 pub mod Program
 pub mod RowSteps

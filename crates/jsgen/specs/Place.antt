@@ -3,9 +3,10 @@ use Rattle.std.specs.Prelude.{Bool, true, false}
 use Rattle.jsgen_tree.specs.Tree.{Tree}
 use Rattle.jsgen_model.specs.Layout.{Pen, layout}
 use Rattle.jsgen_model.specs.Spell as spells
-use Rattle.jsgen_model.specs.Spell.{spell}
+use Rattle.jsgen_model.specs.Spell.{spell, is_number, mixes}
 use Rattle.jsgen.specs.declared.nodes.place.Context.{Context}
 use Rattle.jsgen.specs.declared.nodes.place.Place.{Place}
+use Rattle.jsgen.specs.declared.nodes.operands.Operand.{Operand}
 use Rattle.jsgen.specs.declared.printer.Printer.{Printer}
 use Rattle.jsgen.specs.Printer.{pen_of}
 
@@ -14,7 +15,7 @@ context_of context = record { forbids_in = context.forbids_in; forbids_call = co
 
 -- what begins with a node is what begins at the pen
 abbrev pub place_of : Place → Pen → spells.Place
-place_of place pen = record { level = place.level; context = context_of place.context; start = pen.start; in_list = place.in_list }
+place_of place pen = record { level = place.level; context = context_of place.context; start = pen.start; in_list = place.in_list; left_operand = place.left_operand }
 
 -- within parentheses, where the test holds, `in` may stand
 abbrev pub place_within : Bool → Place → Place
@@ -22,5 +23,9 @@ place_within true place = record place { context = record place.context { forbid
 place_within false place = place
 
 -- the pen after a tree
-abbrev pub pen_after : Tree → Place → Printer → Pen
+unfoldable pub pen_after : Tree → Place → Printer → Pen
 pen_after tree place p = layout (spell tree (place_of place (pen_of p))) (pen_of p)
+
+-- what matters of an operand
+abbrev pub operand_of : Tree → Operand
+operand_of tree = record { is_number = is_number tree; mixes = mixes tree }

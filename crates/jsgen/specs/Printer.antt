@@ -1,20 +1,32 @@
 -- What a printer stands for: a pen of the layout.
-use Rattle.std.specs.Prelude.{ℕ, List, Bool, nat_lt}
+use Rattle.std.specs.Prelude.{ℕ, List, Bool, false, nat_lt}
 use Rattle.std.specs.List.{list_all}
 use Rattle.std.specs.Str.{chars}
 use Rattle.jsgen_syntax.specs.Buffer.{buffer_bytes, indent_byte, indent_width}
 use Rattle.jsgen_model.specs.Layout as layouts
-use Rattle.jsgen_model.specs.Layout.{Pen}
-use Rattle.jsgen_model.specs.Spell.{binary_sign}
+use Rattle.jsgen_model.specs.Layout.{Pen, ends_in_word, joins}
+use Rattle.jsgen_model.specs.Items.{Items, word, operator}
+use Rattle.jsgen_model.specs.Spell.{operator_item}
 use Rattle.jsgen.specs.declared.printer.Printer.{Printer}
 use Rattle.jsgen.specs.declared.printer.Ending.{Ending}
 use Rattle.jsgen.specs.declared.printer.Ending.TheVariants as endings
 use Rattle.jsgen.specs.declared.printer.Start.{Start}
 use Rattle.jsgen.specs.declared.printer.Start.TheVariants as starts
 
+-- what the code ends in after an item: a sign may join the next one
+abbrev pub end_of : Items → layouts.Ending
+end_of (operator sign) = layouts.operator_end sign
+end_of item = layouts.other_end
+
+-- a space stands before the item: a word apart from a word, a sign from one that it would join
+abbrev pub stands_apart : Items → Pen → Bool
+stands_apart (word w) pen = ends_in_word pen.code
+stands_apart (operator sign) pen = joins pen.ending pen.code sign
+stands_apart item pen = false
+
 abbrev pub ending_of : Ending → layouts.Ending
 ending_of endings.Other = layouts.other_end
-ending_of (endings.Operator o) = layouts.operator_end (binary_sign o)
+ending_of (endings.Operator o) = end_of (operator_item o)
 ending_of endings.Number = layouts.number_end
 
 abbrev pub start_of : Start → layouts.Start

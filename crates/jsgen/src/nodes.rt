@@ -1,5 +1,6 @@
 // Print functions: one for each row, generic in the tree's recursive type, and one impl that ties the knot.
 mod expressions;
+mod operands;
 mod place;
 mod sets;
 mod statements;
@@ -8,13 +9,18 @@ mod tests;
 
 ghost use Rattle.std.specs.Prelude.{◌≡◌, OnOk};
 ghost use Rattle.jsgen_tree.specs.Tree.{Tree};
+ghost use Rattle.jsgen_tree.specs.Table.{without_parentheses};
 ghost use Rattle.jsgen_tree.specs.Plain.{node_plain};
 ghost use Rattle.jsgen.specs.Printer.{pen_of};
-ghost use Rattle.jsgen.specs.Place.{pen_after};
+ghost use Rattle.jsgen.specs.Place.{pen_after, operand_of};
 
 use crate::printer::Printer;
 use jsgen_syntax::Memory;
 use jsgen_tree::Node;
+pub use operands::Operand;
+use operands::{
+    binding_pattern_operand, declaration_operand, expression_operand, statement_operand,
+};
 pub use place::{Context, Place};
 use sets::{print_binding_pattern, print_declaration, print_expression, print_statement};
 pub use statements::print_program;
@@ -25,6 +31,10 @@ pub trait PrintNode {
 
     fn print(&self, p: &mut Printer, place: Place) -> Result<(), Memory>
         ensures { OnOk result (pen_of p.new ≡ pen_after (plain self.now) place p.old) };
+
+    /// What matters of it as an operand.
+    fn operand(&self) -> Operand
+        ensures { result ≡ operand_of (without_parentheses (plain self.now)) };
 }
 
 /// The knot: the one recursion.
@@ -38,6 +48,16 @@ impl PrintNode for Node {
             Node::Statement(node) => print_statement(node, p, place),
             Node::Declaration(node) => print_declaration(node, p, place),
             Node::BindingPattern(node) => print_binding_pattern(node, p, place),
+        }
+    }
+
+    #[cycle(node)]
+    fn operand(&self) -> Operand {
+        match self {
+            Node::Expression(node) => expression_operand(node),
+            Node::Statement(node) => statement_operand(node),
+            Node::Declaration(node) => declaration_operand(node),
+            Node::BindingPattern(node) => binding_pattern_operand(node),
         }
     }
 }

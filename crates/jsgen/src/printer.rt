@@ -3,13 +3,14 @@ ghost use Rattle.std.specs.Prelude.{◌≡◌, ◌^◌, ◌<◌, ◌*◌};
 ghost use Rattle.jsgen_syntax.specs.Buffer.{indent_width};
 ghost use Rattle.jsgen_syntax.specs.Name.{goes_in_word};
 
-use jsgen_syntax::{BinaryOperator, CodeBuffer, IndentChar, Memory};
+use jsgen_syntax::{BinaryOperator, CodeBuffer, IndentChar, LogicalOperator, Memory};
 use std::alloc::Global;
 
 /// What the code so far ends in, as far as it matters to what follows.
 #[derive(Clone, Copy)]
 pub enum Ending {
     Other,
+    /// An operator, behind whose sign another may have to stand apart.
     Operator(BinaryOperator),
     /// A number, behind which a dot would be its own.
     Number,
@@ -39,12 +40,12 @@ pub struct Printer {
 impl Printer {
     ghost use Rattle.std.specs.Prelude.{OnOk, ◌++◌, decimal, replicate, string_bytes, true, IsTrue};
     ghost use Rattle.std.specs.Str.{chars, encode_utf8_all};
-    ghost use Rattle.jsgen_model.specs.Punctuator.{Round, opening, closing, comma, equal};
-    ghost use Rattle.jsgen_model.specs.Items.{word, name, number, punctuator, operator, soft_space, indentation, statement_end, due_semicolon, statement_begins};
+    ghost use Rattle.jsgen_model.specs.Punctuator.{Round, opening, closing, comma, equal, plus, minus};
+    ghost use Rattle.jsgen_model.specs.Items.{word, name, number, punctuator, soft_space, indentation, statement_end, due_semicolon, statement_begins};
     ghost use Rattle.jsgen_model.specs.Layout.{layout, written, written_if, space_if, ends_in_word, joins, indented, pretty, empty_pen};
     ghost use Rattle.jsgen_syntax.specs.Buffer.{indent_byte};
-    ghost use Rattle.jsgen_model.specs.Spell.{binary_sign};
-    ghost use Rattle.jsgen.specs.Printer.{pen_of, ending_of, is_ascii};
+    ghost use Rattle.jsgen_model.specs.Spell.{operator_item, logical_item};
+    ghost use Rattle.jsgen.specs.Printer.{pen_of, ending_of, stands_apart, is_ascii};
 
     /// A printer of pretty text that has printed nothing.
     pub fn new(alloc: Global) -> Printer
@@ -102,15 +103,28 @@ impl Printer {
         }
     }
 
-    // Whether the sign would join the one that the code ends in.
-    fn joins(&self, sign: BinaryOperator) -> bool
-        ensures { result ≡ joins (pen_of self.now).ending (pen_of self.now).code (binary_sign sign) }
+    // Whether the operator stands apart from what the code ends in: a word from a word, a sign from one that it would join.
+    fn stands_apart(&self, operator: BinaryOperator) -> bool
+        ensures { result ≡ stands_apart (operator_item operator) (pen_of self.now) }
     {
-        match (self.ending, sign) {
-            (Ending::Operator(BinaryOperator::Addition), BinaryOperator::Addition) => true,
-            (Ending::Operator(BinaryOperator::Subtraction), BinaryOperator::Subtraction) => true,
+        match operator {
+            BinaryOperator::In | BinaryOperator::Instanceof => self.ends_in_word(),
+            BinaryOperator::Addition => self.ends_in_plus(),
+            BinaryOperator::Subtraction => self.ends_in_minus(),
             _ => false,
         }
+    }
+
+    fn ends_in_plus(&self) -> bool
+        ensures { result ≡ joins (pen_of self.now).ending (pen_of self.now).code plus }
+    {
+        matches!(&self.ending, Ending::Operator(BinaryOperator::Addition))
+    }
+
+    fn ends_in_minus(&self) -> bool
+        ensures { result ≡ joins (pen_of self.now).ending (pen_of self.now).code minus }
+    {
+        matches!(&self.ending, Ending::Operator(BinaryOperator::Subtraction))
     }
 
     pub fn print_word(&mut self, text: &str) -> Result<(), Memory>
@@ -149,11 +163,17 @@ impl Printer {
         self.print_str("=", Ending::Other)
     }
 
-    pub fn print_operator(&mut self, sign: BinaryOperator) -> Result<(), Memory>
-        ensures { OnOk result (pen_of self.new ≡ layout (operator (binary_sign sign)) (pen_of self.old)) }
+    pub fn print_operator(&mut self, operator: BinaryOperator) -> Result<(), Memory>
+        ensures { OnOk result (pen_of self.new ≡ layout (operator_item operator) (pen_of self.old)) }
     {
-        let apart = self.joins(sign);
-        self.print_apart(apart, sign.as_str(), Ending::Operator(sign))
+        let apart = self.stands_apart(operator);
+        self.print_apart(apart, operator.as_str(), Ending::Operator(operator))
+    }
+
+    pub fn print_logical_sign(&mut self, operator: LogicalOperator) -> Result<(), Memory>
+        ensures { OnOk result (pen_of self.new ≡ layout (logical_item operator) (pen_of self.old)) }
+    {
+        self.print_str(operator.as_str(), Ending::Other)
     }
 
     pub fn print_soft_space(&mut self) -> Result<(), Memory>

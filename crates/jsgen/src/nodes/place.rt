@@ -1,9 +1,11 @@
 // Where a node is printed.
-ghost use Rattle.std.specs.Prelude.{◌≡◌, nat_le, false};
+ghost use Rattle.std.specs.Prelude.{◌≡◌, nat_le, false, true};
 ghost use Rattle.jsgen_syntax.specs.Precedence.{rank};
-ghost use Rattle.jsgen.specs.Place.{place_within};
+ghost use Rattle.jsgen_model.specs.Layout.{Pen};
+ghost use Rattle.jsgen_model.specs.Spell.{is_forbidden, binary_wraps, goes_on, logical_wraps};
+ghost use Rattle.jsgen.specs.Place.{place_of, place_within};
 
-use jsgen_syntax::Precedence;
+use jsgen_syntax::{BinaryOperator, GetPrecedence, LogicalOperator, Precedence};
 
 /// What an expression's surroundings forbid.
 #[derive(Clone, Copy)]
@@ -27,6 +29,8 @@ pub struct Place {
     pub context: Context,
     /// Among statements, where a declaration is one.
     pub in_list: bool,
+    /// The left operand of an operation, whose own operator goes on with no chain.
+    pub left_operand: bool,
 }
 
 impl Place {
@@ -34,6 +38,7 @@ impl Place {
         level: Precedence::Lowest,
         context: Context::FREE,
         in_list: true,
+        left_operand: false,
     };
 
     /// The expression of an expression statement.
@@ -41,16 +46,30 @@ impl Place {
         level: Precedence::Lowest,
         context: Context::FREE,
         in_list: false,
+        left_operand: false,
     };
 
     /// A child's place, under the same context.
     pub fn child(self, level: Precedence) -> Place
-        ensures { result ≡ record { level = level; context = self.context; in_list = false } }
+        ensures { result ≡ record { level = level; context = self.context; in_list = false; left_operand = false } }
     {
         Place {
             level,
             context: self.context,
             in_list: false,
+            left_operand: false,
+        }
+    }
+
+    /// A left operand's place, under the same context.
+    pub fn left_operand(self, level: Precedence) -> Place
+        ensures { result ≡ record { level = level; context = self.context; in_list = false; left_operand = true } }
+    {
+        Place {
+            level,
+            context: self.context,
+            in_list: false,
+            left_operand: true,
         }
     }
 
@@ -76,5 +95,34 @@ impl Place {
         ensures { result ≡ nat_le (rank own) (rank self.level) }
     {
         self.level >= own
+    }
+
+    fn is_forbidden(self, operator: BinaryOperator) -> bool
+        ensures { (pen : Pen) → result ≡ is_forbidden operator (place_of self pen) }
+    {
+        match operator {
+            BinaryOperator::In => self.context.forbids_in,
+            _ => false,
+        }
+    }
+
+    /// Whether an operation by this operator stands in parentheses here.
+    pub fn wraps_binary(self, operator: BinaryOperator) -> bool
+        ensures { (pen : Pen) → result ≡ binary_wraps operator (place_of self pen) }
+    {
+        self.wraps(operator.precedence()) || self.is_forbidden(operator)
+    }
+
+    fn goes_on(self, operator: LogicalOperator) -> bool
+        ensures { (pen : Pen) → result ≡ goes_on operator (place_of self pen) }
+    {
+        !self.left_operand && operator.precedence() == self.level
+    }
+
+    /// Whether an operation by this operator stands in parentheses here.
+    pub fn wraps_logical(self, operator: LogicalOperator) -> bool
+        ensures { (pen : Pen) → result ≡ logical_wraps operator (place_of self pen) }
+    {
+        self.wraps(operator.precedence()) && !self.goes_on(operator)
     }
 }

@@ -5,8 +5,8 @@ ghost use Rattle.jsgen.specs.Printer.{pen_of};
 ghost use Rattle.jsgen.specs.Place.{pen_after};
 
 use crate::nodes::expressions::{
-    print_binary_expression, print_identifier_reference, print_numeric_literal,
-    print_parenthesized_expression,
+    print_binary_expression, print_identifier_reference, print_logical_expression,
+    print_numeric_literal, print_parenthesized_expression,
 };
 use crate::nodes::statements::{
     print_binding_identifier, print_expression_statement, print_variable_declaration,
@@ -27,6 +27,7 @@ pub fn print_expression<N: PrintNode>(
         Expression::IdentifierReference(node) => print_identifier_reference(node, p, place),
         Expression::NumericLiteral(node) => print_numeric_literal(node, p, place),
         Expression::BinaryExpression(node) => print_binary_expression(node, p, place),
+        Expression::LogicalExpression(node) => print_logical_expression(node, p, place),
         Expression::ParenthesizedExpression(node) => print_parenthesized_expression(node, p, place),
     }
 }

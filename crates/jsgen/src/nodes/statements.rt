@@ -18,6 +18,7 @@ use jsgen_tree::{
     VariableDeclaration, VariableDeclarator,
 };
 
+#[tactic(auto, unfolding(crate::specs::Place::pen_after))]
 pub fn print_program<N: PrintNode>(node: &Program<N>, p: &mut Printer) -> Result<(), Memory>
     ensures { OnOk result (pen_of p.new
         ≡ layout (spell (program_row N.plain node.now) among_statements) (pen_of p.old)) }
@@ -26,6 +27,7 @@ pub fn print_program<N: PrintNode>(node: &Program<N>, p: &mut Printer) -> Result
     p.print_due_semicolon()
 }
 
+#[tactic(auto, unfolding(crate::specs::Place::pen_after))]
 fn print_statements<N: PrintNode>(
     statements: &[StatementNode<N>],
     p: &mut Printer,
@@ -40,6 +42,7 @@ fn print_statements<N: PrintNode>(
     Ok(())
 }
 
+#[tactic(auto, unfolding(crate::specs::Place::pen_after))]
 pub fn print_expression_statement<N: PrintNode>(
     node: &ExpressionStatement<N>,
     p: &mut Printer,
@@ -54,6 +57,7 @@ pub fn print_expression_statement<N: PrintNode>(
     p.print_statement_end()
 }
 
+#[tactic(auto, unfolding(crate::specs::Place::pen_after))]
 pub fn print_variable_declaration<N: PrintNode>(
     node: &VariableDeclaration<N>,
     p: &mut Printer,
@@ -71,6 +75,7 @@ pub fn print_variable_declaration<N: PrintNode>(
 }
 
 // The word and its declarators.
+#[tactic(auto, unfolding(crate::specs::Place::pen_after))]
 fn print_declarators<N: PrintNode>(
     node: &VariableDeclaration<N>,
     p: &mut Printer,
@@ -93,6 +98,7 @@ fn print_declarators<N: PrintNode>(
 }
 
 // Each with a comma before it.
+#[tactic(auto, unfolding(crate::specs::Place::pen_after))]
 fn print_more_declarators<N: PrintNode>(
     declarators: &[VariableDeclarator<N>],
     p: &mut Printer,
@@ -110,6 +116,7 @@ fn print_more_declarators<N: PrintNode>(
     Ok(())
 }
 
+#[tactic(auto, unfolding(crate::specs::Place::pen_after))]
 pub fn print_variable_declarator<N: PrintNode>(
     node: &VariableDeclarator<N>,
     p: &mut Printer,
@@ -122,6 +129,7 @@ pub fn print_variable_declarator<N: PrintNode>(
 }
 
 // The value of a declarator.
+#[tactic(auto, unfolding(crate::specs::Place::pen_after))]
 fn print_value<N: PrintNode>(
     value: &Option<ExpressionNode<N>>,
     p: &mut Printer,
@@ -142,6 +150,7 @@ fn print_value<N: PrintNode>(
     }
 }
 
+#[tactic(auto, unfolding(crate::specs::Place::pen_after))]
 pub fn print_binding_identifier(
     node: &BindingIdentifier,
     p: &mut Printer,

@@ -2,14 +2,26 @@ use Rattle.std.proofs.Common.{rules}
 use Rattle.jsgen_tree.proofs.Knot.{plain_expression, plain_statement, plain_declaration, plain_binding_pattern}
 use Rattle.jsgen.proofs.nodes.NodePrintNode.+node.Goals as goal
 
-pub returns-in-Expression : goal.returns-in-Expression
-returns-in-Expression t c = search (rules, plain_expression)
+pub print-returns-in-Expression : goal.print-returns-in-Expression
+print-returns-in-Expression t c = search (rules, plain_expression)
 
-pub returns-in-Statement : goal.returns-in-Statement
-returns-in-Statement t c = search (rules, plain_statement)
+pub print-returns-in-Statement : goal.print-returns-in-Statement
+print-returns-in-Statement t c = search (rules, plain_statement)
 
-pub returns-in-Declaration : goal.returns-in-Declaration
-returns-in-Declaration t c = search (rules, plain_declaration)
+pub print-returns-in-Declaration : goal.print-returns-in-Declaration
+print-returns-in-Declaration t c = search (rules, plain_declaration)
 
-pub returns-in-BindingPattern : goal.returns-in-BindingPattern
-returns-in-BindingPattern t c = search (rules, plain_binding_pattern)
+pub print-returns-in-BindingPattern : goal.print-returns-in-BindingPattern
+print-returns-in-BindingPattern t c = search (rules, plain_binding_pattern)
+
+pub operand-returns-in-Expression : goal.operand-returns-in-Expression
+operand-returns-in-Expression t c = search (rules, plain_expression)
+
+pub operand-returns-in-Statement : goal.operand-returns-in-Statement
+operand-returns-in-Statement t c = search (rules, plain_statement)
+
+pub operand-returns-in-Declaration : goal.operand-returns-in-Declaration
+operand-returns-in-Declaration t c = search (rules, plain_declaration)
+
+pub operand-returns-in-BindingPattern : goal.operand-returns-in-BindingPattern
+operand-returns-in-BindingPattern t c = search (rules, plain_binding_pattern)
