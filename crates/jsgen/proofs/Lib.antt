@@ -1,5 +1,6 @@
 pub mod Declarators
 pub mod Digits
+pub mod Height
 pub mod JobLaw
 pub mod Json
 pub mod LastRow
@@ -13,3 +14,4 @@ pub mod Taking
 pub mod Texts
 pub mod Told
 pub mod Validity
+pub mod Words

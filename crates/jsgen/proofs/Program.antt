@@ -24,6 +24,7 @@ program_type types.IdentifierReference h = cc
 program_type types.NumericLiteral h = cc
 program_type types.ParenthesizedExpression h = cc
 program_type types.BinaryExpression h = cc
+program_type types.LogicalExpression h = cc
 
 told : (b : Bool) (a : At) → (if b then [] else Wrong a ∷ []) ≡ [] → b ≡ true
 told true a h = refl

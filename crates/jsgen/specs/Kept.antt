@@ -2,7 +2,7 @@
 use Rattle.std.specs.Prelude.{List, map}
 use Rattle.jsgen_tree.specs.Tree.{Tree}
 use Rattle.jsgen_tree.specs.Plain.{node_plain}
-use Rattle.jsgen_tree.specs.Rows.{program_row, expression_statement_row, variable_declaration_row, variable_declarator_row, binding_identifier_row, identifier_reference_row, numeric_literal_row, parenthesized_expression_row, binary_expression_row}
+use Rattle.jsgen_tree.specs.Rows.{program_row, expression_statement_row, variable_declaration_row, variable_declarator_row, binding_identifier_row, identifier_reference_row, numeric_literal_row, parenthesized_expression_row, binary_expression_row, logical_expression_row}
 use Rattle.jsgen.specs.Reads.{Entry, there, taken}
 use Rattle.jsgen.specs.declared.rows.kept.Row.{Row}
 use Rattle.jsgen.specs.declared.rows.kept.Row.TheVariants as rows
@@ -19,6 +19,7 @@ row_plain (rows.IdentifierReference b) = identifier_reference_row b.value
 row_plain (rows.NumericLiteral b) = numeric_literal_row b.value
 row_plain (rows.ParenthesizedExpression b) = parenthesized_expression_row node_plain b.value
 row_plain (rows.BinaryExpression b) = binary_expression_row node_plain b.value
+row_plain (rows.LogicalExpression b) = logical_expression_row node_plain b.value
 
 abbrev pub entry : Kept → Entry
 entry (kept.There row) = there (row_plain row)

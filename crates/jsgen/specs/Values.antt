@@ -1,5 +1,5 @@
 -- What stands in a field of a job by itself: JSON (RFC 8259), in the fields that docs/FORMAT.md lists.
-use Rattle.std.specs.Prelude.{ℕ, ◌^◌, ◌==◌, ◌&&◌, List, [], ◌∷◌, Bool, true, false, not, nat_lt, codes, Option, Some, None, option_map, option_and_then, Result, Ok, Err, if◌then◌else◌, ⊤}
+use Rattle.std.specs.Prelude.{ℕ, ◌^◌, ◌==◌, ◌&&◌, List, [], ◌∷◌, length, filter, Bool, true, false, not, nat_lt, codes, Option, Some, None, option_map, option_and_then, Result, Ok, Err, if◌then◌else◌, ⊤}
 use Rattle.std.specs.Str.{bytes_eq, chars, all_ascii_digits}
 use Rattle.std.specs.Str.Parse.{digits_value}
 use Rattle.serde_json.specs.Data.{Data, null, Items, no_items, item}
@@ -85,6 +85,10 @@ abbrev pub word_meaning : List Word → List ℕ → Option Atom
 word_meaning [] s = None
 word_meaning (w ∷ ws) s = if bytes_eq s w.spelling then Some w.meaning else word_meaning ws s
 
+-- the words whose spelling is n bytes long
+abbrev pub words_of_length : ℕ → List Word → List Word
+words_of_length n ws = filter (λ w. length w.spelling == n) ws
+
 abbrev pub word_in : At → List Word → Data → Result Atom InputFault
 word_in a ws d = after (text_in a d) (λ s. or_fault (Wrong a) (word_meaning ws s))
 
@@ -141,7 +145,8 @@ expression_named s =
     else (if bytes_eq s (codes "NumericLiteral") then Some types.NumericLiteral
     else (if bytes_eq s (codes "ParenthesizedExpression") then Some types.ParenthesizedExpression
     else (if bytes_eq s (codes "BinaryExpression") then Some types.BinaryExpression
-    else None)))
+    else (if bytes_eq s (codes "LogicalExpression") then Some types.LogicalExpression
+    else None))))
 
 -- the type that a name names
 abbrev pub type_named : List ℕ → Option NodeType

@@ -1,19 +1,26 @@
 // Validity: Ok exactly where no rule is broken, else a rule that is. It takes no memory.
-ghost use Rattle.std.specs.Prelude.{◌≡◌, ◌++◌, List, [], ◌∷◌, map};
+ghost use Rattle.std.specs.Prelude.{◌≡◌, ◌++◌, List, [], ◌∷◌, map, nat_lt};
 ghost use Rattle.std.specs.Str.{chars};
 ghost use Rattle.jsgen_tree.specs.Tree.{Tree, type_of, span_of, trees};
-ghost use Rattle.jsgen_tree.specs.Rows.{program_row, expression_statement_row, variable_declaration_row, variable_declarator_row, binding_identifier_row, identifier_reference_row, numeric_literal_row, parenthesized_expression_row, binary_expression_row, expression_plain, statement_plain, declaration_plain, binding_pattern_plain, characters};
+ghost use Rattle.jsgen_tree.specs.Rows.{program_row, expression_statement_row, variable_declaration_row, variable_declarator_row, binding_identifier_row, identifier_reference_row, numeric_literal_row, parenthesized_expression_row, binary_expression_row, logical_expression_row, expression_plain, statement_plain, declaration_plain, binding_pattern_plain, characters};
 ghost use Rattle.jsgen_tree.specs.Plain.{node_plain};
-ghost use Rattle.jsgen_model.specs.Valid.{breaches, place_faults, span_faults, fault_if, not, is_free_name, is_too_long, declaration_faults, in_trees, Judges};
+ghost use Rattle.jsgen_model.specs.Valid.{breaches, place_faults, span_faults, indent_faults, height, fault_if, not, is_free_name, is_too_long, declaration_faults, in_trees, Judges};
 ghost use Rattle.jsgen_model.specs.declared.fault.TreeFault.TheVariants as faults;
 ghost use Rattle.jsgen_tree.specs.declared.types.NodeSet.TheVariants as sets;
 
+mod height;
+
+use crate::check::height::{
+    is_binding_pattern_higher, is_declaration_higher, is_expression_higher, is_program_higher,
+    is_statement_higher,
+};
 use jsgen_model::TreeFault;
 use jsgen_syntax::{Span, is_name, is_reserved, is_strict_reserved};
 use jsgen_tree::{
     BinaryExpression, BindingIdentifier, BindingPattern, Declaration, Expression,
-    ExpressionStatement, GetSpan, IdentifierReference, Node, NodeSet, NodeType, NumericLiteral,
-    ParenthesizedExpression, Program, Statement, VariableDeclaration, VariableDeclarator,
+    ExpressionStatement, GetSpan, IdentifierReference, LogicalExpression, Node, NodeSet, NodeType,
+    NumericLiteral, ParenthesizedExpression, Program, Statement, VariableDeclaration,
+    VariableDeclarator,
 };
 
 /// What the checks ask of a child. Only `Node` implements it.
@@ -30,6 +37,10 @@ pub trait CheckNode {
 
     fn check(&self) -> Result<(), TreeFault>
         ensures { Judges (breaches (plain self.now)) result };
+
+    /// Whether the longest way down holds more nodes than `levels`, this one among them.
+    fn is_higher_than(&self, levels: u32) -> bool
+        ensures { result ≡ nat_lt levels (height (plain self.now)) };
 }
 
 fn check_span(span: Span) -> Result<(), TreeFault>
@@ -105,6 +116,14 @@ fn check_binary_expression<N: CheckNode>(node: &BinaryExpression<N>) -> Result<(
     check_child(node.right.get(), NodeSet::Expression)
 }
 
+fn check_logical_expression<N: CheckNode>(node: &LogicalExpression<N>) -> Result<(), TreeFault>
+    ensures { Judges (breaches (logical_expression_row N.plain node.now)) result }
+{
+    check_span(node.span)?;
+    check_child(node.left.get(), NodeSet::Expression)?;
+    check_child(node.right.get(), NodeSet::Expression)
+}
+
 fn check_expression_statement<N: CheckNode>(node: &ExpressionStatement<N>) -> Result<(), TreeFault>
     ensures { Judges (breaches (expression_statement_row N.plain node.now)) result }
 {
@@ -163,11 +182,23 @@ fn check_source(source: &str, start: u32) -> Result<(), TreeFault>
     Ok(())
 }
 
+fn check_height<N: CheckNode>(node: &Program<N>) -> Result<(), TreeFault>
+    ensures { Judges (indent_faults (program_row N.plain node.now)) result }
+{
+    if is_program_higher(node, 4_294_967_295) {
+        return Err(TreeFault::Indent {
+            start: node.span.start,
+        });
+    }
+    Ok(())
+}
+
 pub fn check_program<N: CheckNode>(node: &Program<N>) -> Result<(), TreeFault>
     ensures { Judges (breaches (program_row N.plain node.now)) result }
 {
     check_span(node.span)?;
     check_source(&node.source, node.span.start)?;
+    check_height(node)?;
     for statement in &node.body {
         check_child(statement.get(), NodeSet::Statement)?;
     }
@@ -181,6 +212,7 @@ fn check_expression_set<N: CheckNode>(node: &Expression<N>) -> Result<(), TreeFa
         Expression::IdentifierReference(node) => check_identifier_reference(node),
         Expression::NumericLiteral(node) => check_numeric_literal(node),
         Expression::BinaryExpression(node) => check_binary_expression(node),
+        Expression::LogicalExpression(node) => check_logical_expression(node),
         Expression::ParenthesizedExpression(node) => check_parenthesized_expression(node),
     }
 }
@@ -217,6 +249,7 @@ fn expression_type<N>(node: &Expression<N>) -> NodeType
         Expression::IdentifierReference(_) => NodeType::IdentifierReference,
         Expression::NumericLiteral(_) => NodeType::NumericLiteral,
         Expression::BinaryExpression(_) => NodeType::BinaryExpression,
+        Expression::LogicalExpression(_) => NodeType::LogicalExpression,
         Expression::ParenthesizedExpression(_) => NodeType::ParenthesizedExpression,
     }
 }
@@ -271,6 +304,16 @@ impl CheckNode for Node {
             Node::Statement(statement) => check_statement_set(statement),
             Node::Declaration(declaration) => check_declaration_set(declaration),
             Node::BindingPattern(pattern) => check_binding_pattern_set(pattern),
+        }
+    }
+
+    #[cycle(node)]
+    fn is_higher_than(&self, levels: u32) -> bool {
+        match self {
+            Node::Expression(expression) => is_expression_higher(expression, levels),
+            Node::Statement(statement) => is_statement_higher(statement, levels),
+            Node::Declaration(declaration) => is_declaration_higher(declaration, levels),
+            Node::BindingPattern(pattern) => is_binding_pattern_higher(pattern, levels),
         }
     }
 }

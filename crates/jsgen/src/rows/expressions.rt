@@ -3,19 +3,20 @@ ghost use Rattle.std.specs.Prelude.{◌≡◌};
 ghost use Rattle.serde_json.specs.View.{view};
 ghost use Rattle.jsgen_tree.specs.declared.types.NodeType.TheVariants as types;
 ghost use Rattle.jsgen_tree.specs.Plain.{node_plain};
-ghost use Rattle.jsgen_tree.specs.Rows.{identifier_reference_row, numeric_literal_row, parenthesized_expression_row, binary_expression_row};
-ghost use Rattle.jsgen_tree.specs.Table.{identifier_reference_fields, numeric_literal_fields, parenthesized_expression_fields, binary_expression_fields};
+ghost use Rattle.jsgen_tree.specs.Rows.{identifier_reference_row, numeric_literal_row, parenthesized_expression_row, binary_expression_row, logical_expression_row};
+ghost use Rattle.jsgen_tree.specs.Table.{identifier_reference_fields, numeric_literal_fields, parenthesized_expression_fields, binary_expression_fields, logical_expression_fields};
 ghost use Rattle.jsgen.specs.Reads.{Gives, read_node};
 ghost use Rattle.jsgen.specs.Kept.{entries};
 
 use crate::rows::fields::needed_expression;
 use crate::rows::kept::Kept;
 use crate::rows::values::{needed_digits, needed_text, unread};
-use crate::rows::words::{needed_binary_operator, needed_numeric_kind};
+use crate::rows::words::{needed_binary_operator, needed_logical_operator, needed_numeric_kind};
 use crate::rows::{At, InputFault};
 use jsgen_syntax::Span;
 use jsgen_tree::{
-    BinaryExpression, IdentifierReference, NumericLiteral, NumericValue, ParenthesizedExpression,
+    BinaryExpression, IdentifierReference, LogicalExpression, NumericLiteral, NumericValue,
+    ParenthesizedExpression,
 };
 use serde_json::Value;
 use std::alloc::Global;
@@ -87,6 +88,29 @@ pub fn read_binary_expression(
     let left = needed_expression(kept, At::of_row(number, 3), row, "left")?;
     let right = needed_expression(kept, At::of_row(number, 4), row, "right")?;
     let node = BinaryExpression {
+        span,
+        operator,
+        left,
+        right,
+    };
+    Ok(Box::new(alloc, node)?)
+}
+
+#[tactic(auto, unfolding(crate::specs::Reads::read_node))]
+pub fn read_logical_expression(
+    alloc: Global,
+    kept: &mut Vec<Kept>,
+    number: usize,
+    span: Span,
+    row: &Value,
+) -> Result<Box<LogicalExpression>, InputFault>
+    ensures { Gives (λ b. logical_expression_row node_plain b.value) result (entries kept.new.items)
+        (read_node number types.LogicalExpression logical_expression_fields span (view row.now) (entries kept.old.items)) }
+{
+    let operator = needed_logical_operator(At::of_row(number, 2), row, "operator")?;
+    let left = needed_expression(kept, At::of_row(number, 3), row, "left")?;
+    let right = needed_expression(kept, At::of_row(number, 4), row, "right")?;
+    let node = LogicalExpression {
         span,
         operator,
         left,

@@ -11,8 +11,8 @@ ghost use Rattle.jsgen.specs.Kept.{row_plain, entry};
 use jsgen_tree::{
     BinaryExpression, BindingIdentifier, BindingPattern, BindingPatternNode, Declaration,
     DeclarationNode, Expression, ExpressionNode, ExpressionStatement, IdentifierReference,
-    NodeType, NumericLiteral, ParenthesizedExpression, Program, Statement, StatementNode,
-    VariableDeclaration, VariableDeclarator,
+    LogicalExpression, NodeType, NumericLiteral, ParenthesizedExpression, Program, Statement,
+    StatementNode, VariableDeclaration, VariableDeclarator,
 };
 use std::alloc::{AllocError, Global};
 
@@ -28,6 +28,7 @@ pub enum Row {
     NumericLiteral(Box<NumericLiteral>),
     ParenthesizedExpression(Box<ParenthesizedExpression>),
     BinaryExpression(Box<BinaryExpression>),
+    LogicalExpression(Box<LogicalExpression>),
 }
 
 /// A row that was read, or its type where it is a child already.
@@ -51,6 +52,7 @@ impl Row {
             Row::NumericLiteral(_) => NodeType::NumericLiteral,
             Row::ParenthesizedExpression(_) => NodeType::ParenthesizedExpression,
             Row::BinaryExpression(_) => NodeType::BinaryExpression,
+            Row::LogicalExpression(_) => NodeType::LogicalExpression,
         }
     }
 
@@ -73,6 +75,7 @@ impl Row {
             Row::NumericLiteral(row) => Some(Expression::NumericLiteral(row)),
             Row::ParenthesizedExpression(row) => Some(Expression::ParenthesizedExpression(row)),
             Row::BinaryExpression(row) => Some(Expression::BinaryExpression(row)),
+            Row::LogicalExpression(row) => Some(Expression::LogicalExpression(row)),
             _ => None,
         }
     }

@@ -35,6 +35,8 @@ fn expression_by_name(name: &str) -> Option<NodeType>
         Some(NodeType::ParenthesizedExpression)
     } else if name == "BinaryExpression" {
         Some(NodeType::BinaryExpression)
+    } else if name == "LogicalExpression" {
+        Some(NodeType::LogicalExpression)
     } else {
         None
     }

@@ -8,8 +8,8 @@ ghost use Rattle.jsgen.specs.Reads.{Gives, root_found, read_typed, read_row, rea
 ghost use Rattle.jsgen.specs.Kept.{entry, entries, row_plain};
 
 use crate::rows::expressions::{
-    read_binary_expression, read_identifier_reference, read_numeric_literal,
-    read_parenthesized_expression,
+    read_binary_expression, read_identifier_reference, read_logical_expression,
+    read_numeric_literal, read_parenthesized_expression,
 };
 use crate::rows::floats::holds_float;
 use crate::rows::kept::{Kept, Row};
@@ -59,6 +59,9 @@ fn read_typed(
             read_parenthesized_expression(alloc, kept, number, span, row)?,
         )),
         NodeType::BinaryExpression => Ok(Row::BinaryExpression(read_binary_expression(
+            alloc, kept, number, span, row,
+        )?)),
+        NodeType::LogicalExpression => Ok(Row::LogicalExpression(read_logical_expression(
             alloc, kept, number, span, row,
         )?)),
     }

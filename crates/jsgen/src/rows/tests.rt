@@ -156,7 +156,7 @@ fn rows(rt: HostRuntime) {
             Some(InputFault::Shared(0)),
         ),
         (
-            r#"{"type":"IdentifierReference","name":"a"},{"type":"BinaryExpression","operator":"*","left":0,"right":0}"#,
+            r#"{"type":"IdentifierReference","name":"a"},{"type":"BinaryExpression","operator":"=","left":0,"right":0}"#,
             Some(InputFault::Wrong(at(1, 2))),
         ),
         (
@@ -175,6 +175,65 @@ fn rows(rt: HostRuntime) {
         let text = format!(in alloc; "{{\"rows\":[{rows}]}}");
         match text {
             Ok(text) => assert!(rt; fault_of(alloc, text.as_str()) == wanted, "{rows}"),
+            Err(_) => assert!(rt; false, "memory"),
+        }
+    }
+}
+
+#[test]
+fn operators(rt: HostRuntime) {
+    let alloc = rt.alloc();
+    let wrong = Some(InputFault::Wrong(at(2, 2)));
+    for (node_type, word, wanted) in [
+        ("BinaryExpression", "==", None),
+        ("BinaryExpression", "!=", None),
+        ("BinaryExpression", "===", None),
+        ("BinaryExpression", "!==", None),
+        ("BinaryExpression", "<", None),
+        ("BinaryExpression", "<=", None),
+        ("BinaryExpression", ">", None),
+        ("BinaryExpression", ">=", None),
+        ("BinaryExpression", "+", None),
+        ("BinaryExpression", "-", None),
+        ("BinaryExpression", "*", None),
+        ("BinaryExpression", "/", None),
+        ("BinaryExpression", "%", None),
+        ("BinaryExpression", "**", None),
+        ("BinaryExpression", "<<", None),
+        ("BinaryExpression", ">>", None),
+        ("BinaryExpression", ">>>", None),
+        ("BinaryExpression", "|", None),
+        ("BinaryExpression", "^", None),
+        ("BinaryExpression", "&", None),
+        ("BinaryExpression", "in", None),
+        ("BinaryExpression", "instanceof", None),
+        ("LogicalExpression", "||", None),
+        ("LogicalExpression", "&&", None),
+        ("LogicalExpression", "??", None),
+        ("BinaryExpression", "== ", wrong),
+        ("BinaryExpression", "", wrong),
+        ("BinaryExpression", "=", wrong),
+        ("BinaryExpression", "instance", wrong),
+        ("BinaryExpression", "&&", wrong),
+        ("BinaryExpression", "||", wrong),
+        ("BinaryExpression", "??", wrong),
+        ("BinaryExpression", ",", wrong),
+        ("BinaryExpression", "<<<", wrong),
+        ("BinaryExpression", "instanceOf", wrong),
+        ("LogicalExpression", "and", wrong),
+        ("LogicalExpression", "&", wrong),
+        ("LogicalExpression", "+", wrong),
+        ("LogicalExpression", "|||", wrong),
+        ("LogicalExpression", "?? ", wrong),
+    ] {
+        let text = format!(in alloc;
+            r#"{{"rows":[{{"type":"IdentifierReference","name":"a"}},{{"type":"IdentifierReference","name":"b"}},{{"type":"{node_type}","operator":"{word}","left":0,"right":1}},{{"type":"ExpressionStatement","expression":2}},{{"type":"Program","kind":"module","body":[3]}}]}}"#
+        );
+        match text {
+            Ok(text) => assert!(rt;
+                fault_of(alloc, text.as_str()) == wanted,
+                "{node_type} {word}"
+            ),
             Err(_) => assert!(rt; false, "memory"),
         }
     }

@@ -25,3 +25,15 @@ node_type-returns-in-Declaration t c = search (rules, plain_declaration)
 
 pub node_type-returns-in-BindingPattern : goal.node_type-returns-in-BindingPattern
 node_type-returns-in-BindingPattern t c = search (rules, plain_binding_pattern)
+
+pub is_higher_than-returns-in-Expression : goal.is_higher_than-returns-in-Expression
+is_higher_than-returns-in-Expression t c = search (rules, plain_expression)
+
+pub is_higher_than-returns-in-Statement : goal.is_higher_than-returns-in-Statement
+is_higher_than-returns-in-Statement t c = search (rules, plain_statement)
+
+pub is_higher_than-returns-in-Declaration : goal.is_higher_than-returns-in-Declaration
+is_higher_than-returns-in-Declaration t c = search (rules, plain_declaration)
+
+pub is_higher_than-returns-in-BindingPattern : goal.is_higher_than-returns-in-BindingPattern
+is_higher_than-returns-in-BindingPattern t c = search (rules, plain_binding_pattern)
