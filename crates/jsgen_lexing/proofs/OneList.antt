@@ -13,12 +13,12 @@ use Rattle.jsgen_lexing.proofs.Last.{After, clear_closing}
 use Rattle.jsgen_lexing.proofs.Signs.{one_sign, closing_char, Shut, sign_ends_shut}
 
 -- the text doesn't begin with what passes
-abbrev Stops : (ℕ → Bool) → List ℕ → Type 0
+abbrev pub Stops : (ℕ → Bool) → List ℕ → Type 0
 Stops f [] = Unit {0}
 Stops f (c ∷ cs) = f c ≡ false
 
 -- the longest front of characters that pass is one
-one_span : (f : ℕ → Bool) (a b x y : List ℕ) → list_all f a ≡ true → list_all f b ≡ true → Stops f x → Stops f y → a ++ x ≡ b ++ y → (a ≡ b) × (x ≡ y)
+pub one_span : (f : ℕ → Bool) (a b x y : List ℕ) → list_all f a ≡ true → list_all f b ≡ true → Stops f x → Stops f y → a ++ x ≡ b ++ y → (a ≡ b) × (x ≡ y)
 one_span f [] [] x y g h s t e = (refl, e)
 one_span f [] (d ∷ b) [] y g h s t e = absurd (cc)
 one_span f [] (d ∷ b) (c ∷ x) y g h s t e = let k = (and_parts (f d) (list_all f b) h).0 in absurd (cc)
@@ -31,26 +31,26 @@ one_span f (c ∷ a) (d ∷ b) x y g h s t e =
 
 -- ---- which kinds of character begin a token
 
-abbrev begins_sign : ℕ → Bool
+abbrev pub begins_sign : ℕ → Bool
 begins_sign c = list_any (λ d. c == d) (codes ".;,:?=<>!+-*/%&|^~")
 
-starts_piece : Piece → ℕ → Bool
+unfoldable pub starts_piece : Piece → ℕ → Bool
 starts_piece (Word w) c = starts_name c
 starts_piece (Number w) c = is_ascii_digit c
 starts_piece (Sign s) c = begins_sign c
 
-record Begins (p : Piece) : Type 0 where
-  head : ℕ
-  tail : List ℕ
-  text : piece_text p ≡ head ∷ tail
-  starts : starts_piece p head ≡ true
+pub record Begins (p : Piece) : Type 0 where
+  pub head : ℕ
+  pub tail : List ℕ
+  pub text : piece_text p ≡ head ∷ tail
+  pub starts : starts_piece p head ≡ true
 
 sign_begins : (s : Punctuator) → Begins (Sign s)
 unfolding starts_piece
 sign_begins dot = record { head = _; tail = _; text = refl; starts = refl }
 sign_begins s = record { head = _; tail = _; text = refl; starts = refl }
 
-begins : (p : Piece) → is_spelled p ≡ true → Begins p
+pub begins : (p : Piece) → is_spelled p ≡ true → Begins p
 unfolding starts_piece
 begins (Word []) h = absurd (both_ways false refl h)
 begins (Word (c ∷ cs)) h = record { head = c; tail = cs; text = refl; starts = (and_parts (starts_name c) (list_all continues_name cs) h).0 }
@@ -90,7 +90,7 @@ blank_passes f c a b d e g h i = outer (or_cases ((c == 32) || (c == 9)) (is_lin
     outer (inl k) = two 32 9 a b (or_cases (c == 32) (c == 9) k)
     outer (inr k) = four (or_cases ((c == 10) || (c == 13) || (c == 8232)) (c == 8233) k)
 
-starts_no_blank : (p : Piece) (c : ℕ) → starts_piece p c ≡ true → is_blank c ≡ false
+pub starts_no_blank : (p : Piece) (c : ℕ) → starts_piece p c ≡ true → is_blank c ≡ false
 unfolding starts_piece
 starts_no_blank (Word w) c h = false_from_ne_true (is_blank c) (λ e. both_ways (starts_name c) (blank_passes starts_name c (no_word_no_start 32 refl) (no_word_no_start 9 refl) (no_word_no_start 10 refl) (no_word_no_start 13 refl) line_separators.0 line_separators.1 e) h)
 starts_no_blank (Number w) c h = false_from_ne_true (is_blank c) (λ e. both_ways (is_ascii_digit c) (blank_passes is_ascii_digit c refl refl refl refl refl refl e) h)
@@ -102,18 +102,18 @@ starts_none d h g (Word w) = no_word_no_start d h
 starts_none d h g (Number w) = no_word_no_digit d h
 starts_none d h g (Sign s) = g
 
-starts_no_closing : (p : Piece) (b : Bracket) → starts_piece p (closing_char b) ≡ false
+pub starts_no_closing : (p : Piece) (b : Bracket) → starts_piece p (closing_char b) ≡ false
 unfolding closing_char
 starts_no_closing p Round = starts_none 41 refl refl p
 starts_no_closing p Square = starts_none 93 refl refl p
 starts_no_closing p Brace = starts_none 125 refl refl p
 
-opening_char : Bracket → ℕ
+unfoldable pub opening_char : Bracket → ℕ
 opening_char Round = 40
 opening_char Square = 91
 opening_char Brace = 123
 
-starts_no_opening : (p : Piece) (b : Bracket) → starts_piece p (opening_char b) ≡ false
+pub starts_no_opening : (p : Piece) (b : Bracket) → starts_piece p (opening_char b) ≡ false
 unfolding opening_char
 starts_no_opening p Round = starts_none 40 refl refl p
 starts_no_opening p Square = starts_none 91 refl refl p
@@ -125,11 +125,11 @@ word_all : (w : List ℕ) → spells_name w ≡ true → list_all continues_name
 word_all [] h = refl
 word_all (c ∷ cs) h = let k = and_parts (starts_name c) (list_all continues_name cs) h in and_from (continues_name c) (list_all continues_name cs) (starts_continues c k.0) k.1
 
-word_stops : (w x : List ℕ) → ends_before (Word w) x ≡ true → Stops continues_name x
+pub word_stops : (w x : List ℕ) → ends_before (Word w) x ≡ true → Stops continues_name x
 word_stops w [] h = tt
 word_stops w (c ∷ cs) h = not-true (continues_name c) h
 
-number_stops : (w x : List ℕ) → ends_before (Number w) x ≡ true → Stops is_ascii_digit x
+pub number_stops : (w x : List ℕ) → ends_before (Number w) x ≡ true → Stops is_ascii_digit x
 number_stops w [] h = tt
 number_stops w (c ∷ cs) h = let k = or_parts (starts_name c || is_ascii_digit c) (c == 46) (not-true _ h) in (or_parts (starts_name c) (is_ascii_digit c) k.0).1
 
@@ -141,13 +141,13 @@ apart p q x y g h clash e =
     let f : d.head ≡ b.head = cc in
     clash b.head b.starts (subst (λ c. starts_piece q c ≡ true) f d.starts)
 
-name_or_digit : (c : ℕ) → starts_name c ≡ true → is_ascii_digit c ≡ true → ⊥
+pub name_or_digit : (c : ℕ) → starts_name c ≡ true → is_ascii_digit c ≡ true → ⊥
 name_or_digit c g h = both_ways (is_ascii_digit c) (starts_no_digit c g) h
 
-sign_or : (c : ℕ) → begins_sign c ≡ true → goes_in_word c ≡ true → ⊥
+pub sign_or : (c : ℕ) → begins_sign c ≡ true → goes_in_word c ≡ true → ⊥
 sign_or c g h = both_ways (goes_in_word c) (sign_no_word c g) h
 
-one_piece : (p q : Piece) (x y : List ℕ) → is_spelled p ≡ true → is_spelled q ≡ true → ends_before p x ≡ true → ends_before q y ≡ true → piece_text p ++ x ≡ piece_text q ++ y → (p ≡ q) × (x ≡ y)
+pub one_piece : (p q : Piece) (x y : List ℕ) → is_spelled p ≡ true → is_spelled q ≡ true → ends_before p x ≡ true → ends_before q y ≡ true → piece_text p ++ x ≡ piece_text q ++ y → (p ≡ q) × (x ≡ y)
 unfolding starts_piece
 one_piece (Word v) (Word w) x y g h s t e = let k = one_span continues_name v w x y (word_all v g) (word_all w h) (word_stops v x s) (word_stops w y t) e in (ap Word k.0, k.1)
 one_piece (Number v) (Number w) x y g h s t e = let k = one_span is_ascii_digit v w x y (whole_digits v g) (whole_digits w h) (number_stops v x s) (number_stops w y t) e in (ap Number k.0, k.1)
@@ -161,7 +161,7 @@ one_piece (Number v) (Sign w) x y g h s t e = absurd (apart (Number v) (Sign w) 
 
 -- ---- blanks, tokens and brackets
 
-shut_stops : (x : List ℕ) → Shut x → Stops is_blank x
+pub shut_stops : (x : List ℕ) → Shut x → Stops is_blank x
 unfolding closing_char
 shut_stops [] h = tt
 shut_stops (c ∷ cs) h = subst (λ d. is_blank d ≡ false) (sym h.1) (go h.0)
@@ -171,10 +171,10 @@ shut_stops (c ∷ cs) h = subst (λ d. is_blank d ≡ false) (sym h.1) (go h.0)
     go Square = refl
     go Brace = refl
 
-piece_stops : (p : Piece) (r : List ℕ) → is_spelled p ≡ true → Stops is_blank (piece_text p ++ r)
+pub piece_stops : (p : Piece) (r : List ℕ) → is_spelled p ≡ true → Stops is_blank (piece_text p ++ r)
 piece_stops p r h = let b = begins p h in subst (λ t. Stops is_blank (t ++ r)) (sym b.text) (starts_no_blank p b.head b.starts)
 
-opening_stops : (b : Bracket) → is_blank (opening_char b) ≡ false
+pub opening_stops : (b : Bracket) → is_blank (opening_char b) ≡ false
 unfolding opening_char
 opening_stops Round = refl
 opening_stops Square = refl
@@ -205,14 +205,14 @@ no_group : (b : Bracket) (x r : List ℕ) → Shut x → x ≡ opening_char b �
 no_group b [] r s e = absurd (cc)
 no_group b (c ∷ cs) r s e = let i = s.1 in open_or_close b s.0 cc
 
-piece_or_group : (p : Piece) (b : Bracket) (r s : List ℕ) → is_spelled p ≡ true → piece_text p ++ r ≡ opening_char b ∷ s → ⊥
+pub piece_or_group : (p : Piece) (b : Bracket) (r s : List ℕ) → is_spelled p ≡ true → piece_text p ++ r ≡ opening_char b ∷ s → ⊥
 piece_or_group p b r s h e =
     let k = begins p h in
     let l : k.head ∷ (k.tail ++ r) ≡ opening_char b ∷ s = sym (ap (λ t. t ++ r) k.text) ∙ e in
     let f : k.head ≡ opening_char b = cc in
     both_ways (starts_piece p (opening_char b)) (starts_no_opening p b) (subst (λ d. starts_piece p d ≡ true) f k.starts)
 
-same_bracket : (b d : Bracket) → opening_char b ≡ opening_char d → b ≡ d
+pub same_bracket : (b d : Bracket) → opening_char b ≡ opening_char d → b ≡ d
 unfolding opening_char
 same_bracket Round Round e = refl
 same_bracket Square Square e = refl
@@ -224,20 +224,20 @@ same_bracket Square Brace e = absurd (omega arith)
 same_bracket Brace Round e = absurd (omega arith)
 same_bracket Brace Square e = absurd (omega arith)
 
-opened : (b : Bracket) → opening b ≡ opening_char b ∷ []
+pub opened : (b : Bracket) → opening b ≡ opening_char b ∷ []
 unfolding opening_char
 opened Round = refl
 opened Square = refl
 opened Brace = refl
 
-closed : (b : Bracket) → closing b ≡ closing_char b ∷ []
+pub closed : (b : Bracket) → closing b ≡ closing_char b ∷ []
 unfolding closing_char
 closed Round = refl
 closed Square = refl
 closed Brace = refl
 
 -- a token that ends before a text does so before it and what a closing bracket begins
-ends_more : (p : Piece) (r x : List ℕ) → ends_before p r ≡ true → Shut x → ends_before p (r ++ x) ≡ true
+pub ends_more : (p : Piece) (r x : List ℕ) → ends_before p r ≡ true → Shut x → ends_before p (r ++ x) ≡ true
 ends_more (Sign q) r x h s = sign_ends_shut q r x h s
 ends_more (Word w) [] [] h s = refl
 ends_more (Word w) [] (c ∷ cs) h s = subst (λ t. ends_before (Word w) t ≡ true) (ap (λ t. t ++ cs) (closed s.0) ∙ ap (λ d. d ∷ cs) (sym s.1)) (clear_closing s.0 (After (Word w)) cs)
@@ -259,7 +259,7 @@ behind_group a gap b inner rest x e =
 
 -- ---- the whole
 
-one_list : (ts us : Tokens) (line : Bool) (a b x y : List ℕ) → AreTokensAfter line a ts → AreTokensAfter line b us → Shut x → Shut y → a ++ x ≡ b ++ y → (ts ≡ us) × (a ≡ b)
+pub one_list : (ts us : Tokens) (line : Bool) (a b x y : List ℕ) → AreTokensAfter line a ts → AreTokensAfter line b us → Shut x → Shut y → a ++ x ≡ b ++ y → (ts ≡ us) × (a ≡ b)
 one_list done done line a b x y l m s t e = (refl, (one_span is_blank a b x y l m (shut_stops x s) (shut_stops y t) e).0)
 one_list done (piece n q us) line a b x y l m s t e =
     let f : a ++ x ≡ m.0 ++ (piece_text q ++ (m.1 ++ y)) = e ∙ behind_piece b m.0 (piece_text q) m.1 y m.6 in

@@ -158,5 +158,9 @@ longer_shut p a x s = go punctuators
     go [] = refl
     go (q ∷ qs) = rw (stands_shut q a x s, go qs) refl
 
+-- whether the token ends there doesn't depend on what a closing bracket begins
+pub sign_ends_same : (p : Punctuator) (r x : List ℕ) → Shut x → ends_before (Sign p) (r ++ x) ≡ ends_before (Sign p) r
+sign_ends_same p r x s = ap (λ t. stands p t && not (longer_stands p t)) (sym (append_assoc (punctuator_text p) r x)) ∙ rw (stands_shut p (punctuator_text p ++ r) x s, longer_shut p (punctuator_text p ++ r) x s) refl
+
 pub sign_ends_shut : (p : Punctuator) (r x : List ℕ) → ends_before (Sign p) r ≡ true → Shut x → ends_before (Sign p) (r ++ x) ≡ true
 sign_ends_shut p r x h s = subst (λ t. (stands p t && not (longer_stands p t)) ≡ true) (append_assoc (punctuator_text p) r x) (rw (stands_shut p (punctuator_text p ++ r) x s, longer_shut p (punctuator_text p ++ r) x s) h)

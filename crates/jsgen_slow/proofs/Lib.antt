@@ -1,0 +1,6 @@
+pub mod Spans
+pub mod Signs
+pub mod Pieces
+pub mod Rows
+pub mod Groups
+pub mod Made

@@ -1,0 +1,4 @@
+pub mod Signs
+pub mod Plain
+pub mod Law
+pub mod Steps

@@ -1,0 +1,56 @@
+-- What stands at a place of a text.
+use Rattle.std.specs.Prelude.{◌≡◌, ℕ, List, [], ◌∷◌, ◌++◌, Bool, true, false, ◌||◌, ◌==◌, Option, Some, None, if◌then◌else◌, take, drop}
+use Rattle.std.specs.List.{prefix_len}
+use Rattle.jsgen_model.specs.Punctuator.{Punctuator, Bracket, Round, Square, Brace, opening, closing}
+use Rattle.jsgen_model.specs.Tokens.{Tokens, done, piece, group, Piece, piece_text, is_spelled, ends_before, stands, longer_stands, is_blank, has_line_end}
+
+-- the first character passes
+abbrev pub begins : (ℕ → Bool) → List ℕ → Bool
+begins f [] = false
+begins f (c ∷ cs) = f c
+
+-- the text begins with this token
+pub record StandsAt (text : List ℕ) (p : Piece) (rest : List ℕ) : Type 0 where
+  pub text_is : text ≡ piece_text p ++ rest
+  pub spelled : is_spelled p ≡ true
+  pub ends : ends_before p rest ≡ true
+
+abbrev pub HasNoPiece : List ℕ → Type 0
+HasNoPiece text = (p : Piece) (rest : List ℕ) → StandsAt text p rest → ⊥
+
+abbrev pub HasNoSign : List ℕ → Type 0
+HasNoSign text = (p : Punctuator) → stands p text ≡ false
+
+-- it is the longest there
+abbrev pub IsSignAt : List ℕ → Punctuator → Type 0
+IsSignAt text p = (stands p text ≡ true) × (longer_stands p text ≡ false)
+
+-- ---- brackets
+
+abbrev pub opening_at : List ℕ → Option Bracket
+opening_at [] = None
+opening_at (c ∷ cs) = if c == 40 then Some Round else (if c == 91 then Some Square else (if c == 123 then Some Brace else None))
+
+-- a closing bracket or the end
+abbrev pub ends_row : List ℕ → Bool
+ends_row [] = true
+ends_row (c ∷ cs) = (c == 41) || (c == 93) || (c == 125)
+
+-- ---- rows of tokens
+
+abbrev pub behind_blanks : List ℕ → List ℕ
+behind_blanks text = drop (prefix_len is_blank text) text
+
+-- the mark of the first token
+abbrev pub mark_at : Bool → List ℕ → Bool
+mark_at line text = line || has_line_end (take (prefix_len is_blank text) text)
+
+-- These are the tokens of a text that no blank begins, up to this rest, and the first has this mark.
+abbrev pub IsRow : Bool → List ℕ → Tokens → List ℕ → Type 0
+IsRow line text done rest = (text ≡ rest) × (ends_row rest ≡ true)
+IsRow line text (piece mark p ts) rest = (behind : List ℕ) × (mark ≡ line) × StandsAt text p behind × IsRow (mark_at false behind) (behind_blanks behind) ts rest
+IsRow line text (group mark b inside ts) rest =
+    (inner behind : List ℕ) × (mark ≡ line) × (text ≡ opening b ++ inner) × IsRow (mark_at false inner) (behind_blanks inner) inside (closing b ++ behind) × IsRow (mark_at false behind) (behind_blanks behind) ts rest
+
+abbrev pub HasNoRow : Bool → List ℕ → Type 0
+HasNoRow line text = (ts : Tokens) (rest : List ℕ) → IsRow line text ts rest → ⊥

@@ -1,0 +1,70 @@
+// Characters, and the longest front of a text whose characters all pass a test.
+ghost use Rattle.std.specs.Prelude.{◌≡◌, ◌≤◌, ◌||◌, length};
+ghost use Rattle.std.specs.List.{prefix_len, list_all};
+ghost use Rattle.std.specs.Char.{is_ascii_digit};
+ghost use Rattle.jsgen_syntax.specs.Name.{starts_name, continues_name};
+ghost use Rattle.jsgen_model.specs.Tokens.{is_line_terminator, is_blank, has_line_end};
+
+pub(crate) fn is_line_terminator(c: char) -> bool
+    ensures { result ≡ is_line_terminator c }
+{
+    c == '\n' || c == '\r' || c == '\u{2028}' || c == '\u{2029}'
+}
+
+pub(crate) fn is_blank(c: char) -> bool
+    ensures { result ≡ is_blank c }
+{
+    c == ' ' || c == '\t' || is_line_terminator(c)
+}
+
+pub(crate) fn starts_name(c: char) -> bool
+    ensures { result ≡ starts_name c }
+{
+    unicode_ident::is_xid_start(c) || c == '$' || c == '_'
+}
+
+fn continues_name(c: char) -> bool
+    ensures { result ≡ continues_name c }
+{
+    unicode_ident::is_xid_continue(c) || c == '$' || c == '\u{200C}' || c == '\u{200D}'
+}
+
+fn has_line_end(blanks: &[char]) -> bool
+    ensures { result ≡ has_line_end blanks.now }
+{
+    blanks.iter().any(|c| is_line_terminator(*c))
+}
+
+// The mark of a token behind these blanks.
+pub(crate) fn mark_at(line: bool, blanks: &[char]) -> bool
+    ensures { result ≡ (line || has_line_end blanks.now) }
+{
+    line || has_line_end(blanks)
+}
+
+pub(crate) fn count_blanks(text: &[char]) -> usize
+    ensures value { result ≡ prefix_len is_blank text.now }
+    ensures within { result ≤ length text.now }
+{
+    text.iter().take_while(|c| is_blank(**c)).count()
+}
+
+pub(crate) fn count_name(text: &[char]) -> usize
+    ensures value { result ≡ prefix_len continues_name text.now }
+    ensures within { result ≤ length text.now }
+{
+    text.iter().take_while(|c| continues_name(**c)).count()
+}
+
+pub(crate) fn count_digits(text: &[char]) -> usize
+    ensures value { result ≡ prefix_len is_ascii_digit text.now }
+    ensures within { result ≤ length text.now }
+{
+    text.iter().take_while(|c| c.is_ascii_digit()).count()
+}
+
+pub(crate) fn are_digits(text: &[char]) -> bool
+    ensures { result ≡ list_all is_ascii_digit text.now }
+{
+    text.iter().all(|c| c.is_ascii_digit())
+}

@@ -1,0 +1,208 @@
+// Texts whose tokens ECMA-262, clause 12, fixes.
+use crate::{Bracket, Piece, Token, tokens_of};
+use jsgen_syntax::Memory;
+use std::alloc::Global;
+use std::rt::HostRuntime;
+use std::test::Fail;
+
+// A text, and its tokens with a space between each two and an arrow before each that a line end precedes.
+const READ: [(&str, &str); 62] = [
+    ("", ""),
+    (" \t ", ""),
+    ("\n\r\n", ""),
+    // the longest punctuator
+    ("+++", "++ +"),
+    ("++++", "++ ++"),
+    ("+ ++x", "+ ++ x"),
+    ("- -x", "- - x"),
+    ("--x", "-- x"),
+    ("x-->0", "x -- > 0"),
+    ("x-->=0", "x -- >= 0"),
+    (">>>=", ">>>="),
+    (">>>", ">>>"),
+    (">>=", ">>="),
+    (">>", ">>"),
+    (">>>>=", ">>> >="),
+    ("> >", "> >"),
+    ("<<=", "<<="),
+    ("<<<=", "<< <="),
+    ("**=", "**="),
+    ("** =", "** ="),
+    ("***", "** *"),
+    ("??=", "??="),
+    ("???", "?? ?"),
+    ("a?.b", "a ?. b"),
+    ("a?.(b)", "a ?. ( b )"),
+    ("a?b:c", "a ? b : c"),
+    ("=>", "=>"),
+    ("= >", "= >"),
+    ("====", "=== ="),
+    ("!==", "!=="),
+    ("!!=", "! !="),
+    ("&&=", "&&="),
+    ("&&&", "&& &"),
+    ("||=", "||="),
+    ("|||=", "|| |="),
+    ("^=~%", "^= ~ %"),
+    ("...", "..."),
+    ("..", ". ."),
+    ("....", "... ."),
+    ("a / b", "a / b"),
+    ("a /b", "a / b"),
+    ("a/=b", "a /= b"),
+    // names and numbers
+    ("a1", "a1"),
+    ("$_", "$_"),
+    ("größe", "größe"),
+    ("a\u{200D}b", "a\u{200D}b"),
+    ("𝒜", "𝒜"),
+    ("0", "0"),
+    ("10", "10"),
+    ("0 1", "0 1"),
+    ("a.b.c", "a . b . c"),
+    ("const a=1,b;", "const a = 1 , b ;"),
+    // line ends
+    ("a\n+b", "a ↵+ b"),
+    ("a\r\nb", "a ↵b"),
+    ("a\rb", "a ↵b"),
+    ("a\u{2028}b", "a ↵b"),
+    ("a\u{2029}\tb", "a ↵b"),
+    ("\na b\n", "↵a b"),
+    // groups
+    ("(a)[b]{c}", "( a ) [ b ] { c }"),
+    ("([{}])", "( [ { } ] )"),
+    ("(\na)\n(b\n)", "( ↵a ) ↵( b )"),
+    ("()=>{a;}", "( ) => { a ; }"),
+];
+
+// What the standard reads as no tokens, or as brackets that don't match.
+const NOT_TOKENS: [&str; 14] = [
+    "3in",
+    "01",
+    "00",
+    "1a",
+    "1$",
+    "0a",
+    "(a",
+    "a)",
+    "(]",
+    "([)]",
+    "{(}",
+    "]",
+    "a\\",
+    "\u{200D}a",
+];
+
+// What the standard reads, in forms that the definition doesn't have: comments, other white space and numbers, texts
+// in quotes, private names.
+const NOT_YET: [&str; 22] = [
+    "a/**/b",
+    "a//b",
+    "/*",
+    "//",
+    "a /*\n*/ b",
+    "a\u{C}b",
+    "a\u{B}b",
+    "a\u{A0}b",
+    "\u{FEFF}",
+    "a\u{2003}b",
+    "1.",
+    ".5",
+    "1.5",
+    "a?.1",
+    "0x1",
+    "1n",
+    "1_0",
+    "'a'",
+    "\"a\"",
+    "`a`",
+    "#a",
+    "\\u0061",
+];
+
+#[test]
+fn texts_with_tokens(rt: HostRuntime) -> Result<(), Fail> {
+    for (text, wanted) in READ {
+        match tokens_of(rt.alloc(), text)? {
+            Some(tokens) => {
+                let mut shown = String::new(rt.alloc());
+                push_tokens(&mut shown, &tokens)?;
+                assert_eq!(rt; shown.as_str(), wanted, "{text:?}");
+            }
+            None => panic!(rt; "no tokens: {text:?}"),
+        }
+    }
+    Ok(())
+}
+
+#[test]
+fn texts_without_tokens(rt: HostRuntime) -> Result<(), Fail> {
+    for text in NOT_TOKENS {
+        assert!(rt; tokens_of(rt.alloc(), text)?.is_none(), "{text:?}");
+    }
+    Ok(())
+}
+
+#[test]
+fn texts_in_other_forms(rt: HostRuntime) -> Result<(), Fail> {
+    for text in NOT_YET {
+        assert!(rt; tokens_of(rt.alloc(), text)?.is_none(), "{text:?}");
+    }
+    Ok(())
+}
+
+fn push_tokens(shown: &mut String, tokens: &[Token]) -> Result<(), Memory> {
+    for token in tokens {
+        match token {
+            Token::Piece { line, piece } => {
+                push_apart(shown, *line)?;
+                push_piece(shown, piece)?;
+            }
+            Token::Group {
+                line,
+                bracket,
+                tokens,
+            } => {
+                push_apart(shown, *line)?;
+                shown.push(opening(*bracket))?;
+                push_tokens(shown, tokens)?;
+                push_apart(shown, false)?;
+                push_characters(shown, bracket.closing())?;
+            }
+        }
+    }
+    Ok(())
+}
+
+fn opening(bracket: Bracket) -> char {
+    match bracket {
+        Bracket::Round => '(',
+        Bracket::Square => '[',
+        Bracket::Brace => '{',
+    }
+}
+
+fn push_apart(shown: &mut String, line: bool) -> Result<(), Memory> {
+    if !shown.is_empty() {
+        shown.push(' ')?;
+    }
+    if line {
+        shown.push('↵')?;
+    }
+    Ok(())
+}
+
+fn push_piece(shown: &mut String, piece: &Piece) -> Result<(), Memory> {
+    match piece {
+        Piece::Word(word) => push_characters(shown, word),
+        Piece::Number(number) => push_characters(shown, number),
+        Piece::Sign(sign) => push_characters(shown, sign.text()),
+    }
+}
+
+fn push_characters(shown: &mut String, characters: &[char]) -> Result<(), Memory> {
+    for c in characters {
+        shown.push(*c)?;
+    }
+    Ok(())
+}

@@ -1,0 +1,180 @@
+// Tokens, and the one at the front of a text (ECMA-262, clause 12).
+ghost use Rattle.std.specs.Prelude.{◌≡◌, [], true, IfOk, MatchOption, option_map};
+ghost use Rattle.std.specs.Char.{is_ascii_digit};
+ghost use Rattle.jsgen_syntax.specs.Name.{starts_name};
+ghost use Rattle.jsgen_model.specs.Punctuator.{closing};
+ghost use Rattle.jsgen_model.specs.Tokens.{spells_whole, ends_before, Number};
+ghost use Rattle.jsgen_slow.specs.Plain.{bracket_plain, piece_plain};
+ghost use Rattle.jsgen_slow.specs.Steps.{begins, StandsAt, HasNoPiece, HasNoSign, opening_at, ends_row};
+
+use crate::characters::{are_digits, count_digits, count_name, starts_name};
+use crate::punctuator::{Punctuator, sign_at};
+use jsgen_syntax::Memory;
+use std::alloc::Global;
+
+#[derive(Clone, Copy, Debug, PartialEq, Eq)]
+pub enum Bracket {
+    Round,
+    Square,
+    Brace,
+}
+
+/// A token that is no bracket.
+#[derive(Drop)]
+pub enum Piece {
+    Word(Vec<char>),
+    Number(Vec<char>),
+    Sign(Punctuator),
+}
+
+/// A token, or a group of them in brackets that match.
+#[derive(Drop)]
+pub enum Token {
+    Piece {
+        /// A line end stands before it.
+        line: bool,
+        piece: Piece,
+    },
+    Group {
+        /// A line end stands before the opening bracket.
+        line: bool,
+        bracket: Bracket,
+        tokens: Vec<Token>,
+    },
+}
+
+// A token, and the text behind it.
+#[derive(Drop)]
+pub(crate) struct Taken<'a> {
+    pub piece: Piece,
+    pub rest: &'a [char],
+}
+
+impl Bracket {
+    pub(crate) fn closing(self) -> &'static [char]
+        ensures { result.now ≡ closing (bracket_plain self) }
+    {
+        match self {
+            Bracket::Round => &[')'],
+            Bracket::Square => &[']'],
+            Bracket::Brace => &['}'],
+        }
+    }
+}
+
+pub(crate) fn opening_at(text: &[char]) -> Option<Bracket>
+    ensures { option_map bracket_plain result ≡ opening_at text.now }
+{
+    match text.first()? {
+        '(' => Some(Bracket::Round),
+        '[' => Some(Bracket::Square),
+        '{' => Some(Bracket::Brace),
+        _ => None,
+    }
+}
+
+// Whether a closing bracket or the end stands there.
+pub(crate) fn ends_row(text: &[char]) -> bool
+    ensures { result ≡ ends_row text.now }
+{
+    match text.first() {
+        Some(c) => *c == ')' || *c == ']' || *c == '}',
+        None => true,
+    }
+}
+
+// The token at the front of the text.
+pub(crate) fn take_piece<'a>(alloc: Global, text: &'a [char]) -> Result<Option<Taken<'a>>, Memory>
+    ensures { IfOk result (λ r. MatchOption r (HasNoPiece text.now)
+        (λ t. StandsAt text.now (piece_plain t.piece) t.rest.now)) }
+{
+    if begins_name(text) {
+        Ok(Some(take_word(alloc, text)?))
+    } else if begins_number(text) {
+        take_number(alloc, text)
+    } else {
+        Ok(take_sign(text))
+    }
+}
+
+fn begins_name(text: &[char]) -> bool
+    ensures { result ≡ begins starts_name text.now }
+{
+    match text.first() {
+        Some(c) => starts_name(*c),
+        None => false,
+    }
+}
+
+fn begins_number(text: &[char]) -> bool
+    ensures { result ≡ begins is_ascii_digit text.now }
+{
+    match text.first() {
+        Some(c) => c.is_ascii_digit(),
+        None => false,
+    }
+}
+
+fn take_word<'a>(alloc: Global, text: &'a [char]) -> Result<Taken<'a>, Memory>
+    requires { begins starts_name text.now ≡ true }
+    ensures { IfOk result (λ t. StandsAt text.now (piece_plain t.piece) t.rest.now) }
+{
+    let (word, rest) = text.split_at(count_name(text));
+    Ok(Taken {
+        piece: Piece::Word(Vec::from_slice(alloc, word)?),
+        rest,
+    })
+}
+
+fn take_number<'a>(alloc: Global, text: &'a [char]) -> Result<Option<Taken<'a>>, Memory>
+    requires { begins is_ascii_digit text.now ≡ true }
+    ensures { IfOk result (λ r. MatchOption r (HasNoPiece text.now)
+        (λ t. StandsAt text.now (piece_plain t.piece) t.rest.now)) }
+{
+    let (number, rest) = text.split_at(count_digits(text));
+    if is_whole(number) && ends_number(rest) {
+        Ok(Some(Taken {
+            piece: Piece::Number(Vec::from_slice(alloc, number)?),
+            rest,
+        }))
+    } else {
+        Ok(None)
+    }
+}
+
+fn is_whole(number: &[char]) -> bool
+    ensures { result ≡ spells_whole number.now }
+{
+    match number.split_first() {
+        Some((first, rest)) => {
+            first.is_ascii_digit() && are_digits(rest) && (rest.is_empty() || *first != '0')
+        }
+        None => false,
+    }
+}
+
+// Whether a number may end before this text.
+fn ends_number(rest: &[char]) -> bool
+    ensures { result ≡ ends_before (Number []) rest.now }
+{
+    match rest.first() {
+        Some(c) => !(starts_name(*c) || c.is_ascii_digit() || *c == '.'),
+        None => true,
+    }
+}
+
+fn take_sign<'a>(text: &'a [char]) -> Option<Taken<'a>>
+    ensures { MatchOption result (HasNoSign text.now)
+        (λ t. StandsAt text.now (piece_plain t.piece) t.rest.now) }
+{
+    match sign_at(text) {
+        Some(sign) => {
+            let (_, rest) = text.split_at(sign.text().len());
+            Some(Taken {
+                piece: Piece::Sign(sign),
+                rest,
+            })
+        }
+        None => None,
+    }
+}
