@@ -12,10 +12,12 @@ mod tests;
 mod top;
 mod transfer;
 
+use crate::line::say;
 use crate::standard::{StdSink, StdSource};
+use crate::status::Status;
 use crate::top::run;
 use std::env;
-use std::io::{self, Stderr, Stdout, Write};
+use std::io::{self, ErrorKind, Stderr, Stdout, Write};
 use std::process::ExitCode;
 
 // Either output, as one type.
@@ -41,14 +43,38 @@ impl Write for Stream {
     }
 }
 
-fn main(rt: HostRuntime) -> io::Result<ExitCode> {
+// The words after the program's name. Arguments that can't be had as text are a faulty command line.
+fn words_of(rt: &HostRuntime) -> Result<Vec<String>, Status> {
     let mut words = Vec::new(rt.alloc());
-    for word in env::args(&rt)?.skip(1) {
-        words.push(word)?;
+    let arguments = match env::args(rt) {
+        Ok(arguments) => arguments,
+        Err(error) => {
+            return Err(match error.kind() {
+                ErrorKind::OutOfMemory => Status::Memory,
+                _ => Status::Usage,
+            });
+        }
+    };
+    for word in arguments.skip(1) {
+        if words.push(word).is_err() {
+            return Err(Status::Memory);
+        }
     }
-    let mut source = StdSource::new(rt.stdin());
-    let mut out = StdSink::new(Stream::Out(rt.stdout()));
+    Ok(words)
+}
+
+fn main(rt: HostRuntime) -> ExitCode {
     let mut err = StdSink::new(Stream::Err(rt.stderr()));
-    let status = run(rt.alloc(), &words, &mut source, &mut out, &mut err);
-    Ok(ExitCode::from(status.code()))
+    let status = match words_of(&rt) {
+        Ok(words) => {
+            let mut source = StdSource::new(rt.stdin());
+            let mut out = StdSink::new(Stream::Out(rt.stdout()));
+            run(rt.alloc(), &words, &mut source, &mut out, &mut err)
+        }
+        Err(status) => {
+            say(&mut err, status);
+            status
+        }
+    };
+    ExitCode::from(status.code())
 }
