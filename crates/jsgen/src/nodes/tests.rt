@@ -1,10 +1,10 @@
 // What the layout's definitions mean: trees made by hand, and their texts.
 use crate::nodes::print_program;
 use crate::printer::Printer;
-use jsgen_syntax::{BinaryOperator, Memory, SourceKind, Span};
+use jsgen_syntax::{BinaryOperator, LogicalOperator, Memory, SourceKind, Span};
 use jsgen_tree::{
     BinaryExpression, BindingIdentifier, BindingPattern, Declaration, Expression,
-    ExpressionStatement, IdentifierReference, NumericLiteral, NumericValue,
+    ExpressionStatement, IdentifierReference, LogicalExpression, NumericLiteral, NumericValue,
     ParenthesizedExpression, Program, Statement, StatementNode, VariableDeclaration,
     VariableDeclarationKind, VariableDeclarator,
 };
@@ -38,6 +38,94 @@ fn binary(
         right: right.into(),
     };
     Ok(Expression::BinaryExpression(Box::new(alloc, node)?))
+}
+
+fn logical(
+    alloc: Global,
+    left: Expression,
+    operator: LogicalOperator,
+    right: Expression,
+) -> Result<Expression, Memory> {
+    let node = LogicalExpression {
+        span: SPAN,
+        operator,
+        left: left.into(),
+        right: right.into(),
+    };
+    Ok(Expression::LogicalExpression(Box::new(alloc, node)?))
+}
+
+// An operator of either kind.
+#[derive(Clone, Copy)]
+enum Operator {
+    Binary(BinaryOperator),
+    Logical(LogicalOperator),
+}
+
+fn operation(
+    alloc: Global,
+    left: Expression,
+    operator: Operator,
+    right: Expression,
+) -> Result<Expression, Memory> {
+    match operator {
+        Operator::Binary(operator) => binary(alloc, left, operator, right),
+        Operator::Logical(operator) => logical(alloc, left, operator, right),
+    }
+}
+
+const COALESCE: Operator = Operator::Logical(LogicalOperator::Coalesce);
+
+const OR: Operator = Operator::Logical(LogicalOperator::Or);
+
+const AND: Operator = Operator::Logical(LogicalOperator::And);
+
+const BIT_OR: Operator = Operator::Binary(BinaryOperator::BitwiseOR);
+
+const BIT_XOR: Operator = Operator::Binary(BinaryOperator::BitwiseXOR);
+
+const BIT_AND: Operator = Operator::Binary(BinaryOperator::BitwiseAnd);
+
+const EQUAL: Operator = Operator::Binary(BinaryOperator::Equality);
+
+const NOT_EQUAL: Operator = Operator::Binary(BinaryOperator::Inequality);
+
+const STRICT_EQUAL: Operator = Operator::Binary(BinaryOperator::StrictEquality);
+
+const LESS: Operator = Operator::Binary(BinaryOperator::LessThan);
+
+const IN: Operator = Operator::Binary(BinaryOperator::In);
+
+const INSTANCEOF: Operator = Operator::Binary(BinaryOperator::Instanceof);
+
+const SHIFT_LEFT: Operator = Operator::Binary(BinaryOperator::ShiftLeft);
+
+const SHIFT_RIGHT: Operator = Operator::Binary(BinaryOperator::ShiftRight);
+
+const SHIFT_RIGHT_ZERO: Operator = Operator::Binary(BinaryOperator::ShiftRightZeroFill);
+
+const MINUS: Operator = Operator::Binary(BinaryOperator::Subtraction);
+
+const PLUS: Operator = Operator::Binary(BinaryOperator::Addition);
+
+const TIMES: Operator = Operator::Binary(BinaryOperator::Multiplication);
+
+const DIVIDED: Operator = Operator::Binary(BinaryOperator::Division);
+
+const REMAINDER: Operator = Operator::Binary(BinaryOperator::Remainder);
+
+const POWER: Operator = Operator::Binary(BinaryOperator::Exponential);
+
+// The text of `(a first b) second c`.
+fn grouped_left(alloc: Global, first: Operator, second: Operator) -> Result<String, Memory> {
+    let inner = operation(alloc, name(alloc, "a")?, first, name(alloc, "b")?)?;
+    printed_expression(alloc, operation(alloc, inner, second, name(alloc, "c")?)?)
+}
+
+// The text of `a first (b second c)`.
+fn grouped_right(alloc: Global, first: Operator, second: Operator) -> Result<String, Memory> {
+    let inner = operation(alloc, name(alloc, "b")?, second, name(alloc, "c")?)?;
+    printed_expression(alloc, operation(alloc, name(alloc, "a")?, first, inner)?)
 }
 
 fn difference(alloc: Global, left: Expression, right: Expression) -> Result<Expression, Memory> {
@@ -172,5 +260,132 @@ fn deep_sum(rt: HostRuntime) -> Result<(), Fail> {
     wanted.push_str(";\n")?;
     let text = printed_expression(alloc, sum)?;
     assert!(rt; text.as_str() == wanted.as_str());
+    Ok(())
+}
+
+#[test]
+fn binary_operators(rt: HostRuntime) -> Result<(), Fail> {
+    let alloc = rt.alloc();
+    let texts = [
+        (BinaryOperator::Equality, "a == b;\n"),
+        (BinaryOperator::Inequality, "a != b;\n"),
+        (BinaryOperator::StrictEquality, "a === b;\n"),
+        (BinaryOperator::StrictInequality, "a !== b;\n"),
+        (BinaryOperator::LessThan, "a < b;\n"),
+        (BinaryOperator::LessEqualThan, "a <= b;\n"),
+        (BinaryOperator::GreaterThan, "a > b;\n"),
+        (BinaryOperator::GreaterEqualThan, "a >= b;\n"),
+        (BinaryOperator::Addition, "a + b;\n"),
+        (BinaryOperator::Subtraction, "a - b;\n"),
+        (BinaryOperator::Multiplication, "a * b;\n"),
+        (BinaryOperator::Division, "a / b;\n"),
+        (BinaryOperator::Remainder, "a % b;\n"),
+        (BinaryOperator::Exponential, "a ** b;\n"),
+        (BinaryOperator::ShiftLeft, "a << b;\n"),
+        (BinaryOperator::ShiftRight, "a >> b;\n"),
+        (BinaryOperator::ShiftRightZeroFill, "a >>> b;\n"),
+        (BinaryOperator::BitwiseOR, "a | b;\n"),
+        (BinaryOperator::BitwiseXOR, "a ^ b;\n"),
+        (BinaryOperator::BitwiseAnd, "a & b;\n"),
+        (BinaryOperator::In, "a in b;\n"),
+        (BinaryOperator::Instanceof, "a instanceof b;\n"),
+    ];
+    for (operator, wanted) in &texts {
+        let operation = binary(alloc, name(alloc, "a")?, *operator, name(alloc, "b")?)?;
+        let text = printed_expression(alloc, operation)?;
+        assert!(rt; text.as_str() == *wanted, "{wanted}");
+    }
+    Ok(())
+}
+
+// Of two operators, grouped to the left and to the right, those of neighbouring levels.
+#[test]
+fn groups(rt: HostRuntime) -> Result<(), Fail> {
+    let alloc = rt.alloc();
+    let texts = [
+        (COALESCE, OR, "(a ?? b) || c;\n", "a ?? (b || c);\n"),
+        (OR, COALESCE, "(a || b) ?? c;\n", "a || (b ?? c);\n"),
+        (AND, COALESCE, "(a && b) ?? c;\n", "a && (b ?? c);\n"),
+        (COALESCE, COALESCE, "a ?? b ?? c;\n", "a ?? b ?? c;\n"),
+        (OR, OR, "a || b || c;\n", "a || b || c;\n"),
+        (AND, AND, "a && b && c;\n", "a && b && c;\n"),
+        (OR, AND, "(a || b) && c;\n", "a || b && c;\n"),
+        (AND, OR, "a && b || c;\n", "a && (b || c);\n"),
+        (AND, BIT_OR, "(a && b) | c;\n", "a && b | c;\n"),
+        (BIT_OR, AND, "a | b && c;\n", "a | (b && c);\n"),
+        (BIT_OR, BIT_XOR, "(a | b) ^ c;\n", "a | b ^ c;\n"),
+        (BIT_XOR, BIT_OR, "a ^ b | c;\n", "a ^ (b | c);\n"),
+        (BIT_OR, BIT_AND, "(a | b) & c;\n", "a | b & c;\n"),
+        (BIT_XOR, BIT_AND, "(a ^ b) & c;\n", "a ^ b & c;\n"),
+        (BIT_AND, BIT_XOR, "a & b ^ c;\n", "a & (b ^ c);\n"),
+        (BIT_AND, EQUAL, "(a & b) == c;\n", "a & b == c;\n"),
+        (EQUAL, BIT_AND, "a == b & c;\n", "a == (b & c);\n"),
+        (EQUAL, NOT_EQUAL, "a == b != c;\n", "a == (b != c);\n"),
+        (STRICT_EQUAL, LESS, "(a === b) < c;\n", "a === b < c;\n"),
+        (LESS, STRICT_EQUAL, "a < b === c;\n", "a < (b === c);\n"),
+        (
+            IN,
+            INSTANCEOF,
+            "a in b instanceof c;\n",
+            "a in (b instanceof c);\n",
+        ),
+        (
+            INSTANCEOF,
+            SHIFT_LEFT,
+            "(a instanceof b) << c;\n",
+            "a instanceof b << c;\n",
+        ),
+        (SHIFT_LEFT, IN, "a << b in c;\n", "a << (b in c);\n"),
+        (
+            SHIFT_LEFT,
+            SHIFT_RIGHT,
+            "a << b >> c;\n",
+            "a << (b >> c);\n",
+        ),
+        (
+            SHIFT_RIGHT_ZERO,
+            MINUS,
+            "(a >>> b) - c;\n",
+            "a >>> b - c;\n",
+        ),
+        (PLUS, SHIFT_RIGHT_ZERO, "a + b >>> c;\n", "a + (b >>> c);\n"),
+        (MINUS, PLUS, "a - b + c;\n", "a - (b + c);\n"),
+        (PLUS, TIMES, "(a + b) * c;\n", "a + b * c;\n"),
+        (TIMES, PLUS, "a * b + c;\n", "a * (b + c);\n"),
+        (DIVIDED, REMAINDER, "a / b % c;\n", "a / (b % c);\n"),
+        (REMAINDER, POWER, "(a % b) ** c;\n", "a % b ** c;\n"),
+        (POWER, TIMES, "a ** b * c;\n", "a ** (b * c);\n"),
+        (POWER, POWER, "(a ** b) ** c;\n", "a ** b ** c;\n"),
+    ];
+    for (first, second, left, right) in &texts {
+        let text = grouped_left(alloc, *first, *second)?;
+        assert!(rt; text.as_str() == *left, "{left}");
+        let text = grouped_right(alloc, *first, *second)?;
+        assert!(rt; text.as_str() == *right, "{right}");
+    }
+    Ok(())
+}
+
+// Parentheses round an operand count for nothing; a power that is the base of another keeps its own, of numbers too.
+#[test]
+fn operands(rt: HostRuntime) -> Result<(), Fail> {
+    let alloc = rt.alloc();
+    let bare = operation(alloc, number(alloc, 1)?, POWER, number(alloc, 2)?)?;
+    let inner = operation(alloc, number(alloc, 1)?, POWER, number(alloc, 2)?)?;
+    let twice = operation(alloc, inner, POWER, number(alloc, 3)?)?;
+    let base = parenthesized(alloc, number(alloc, 1)?)?;
+    let layers = operation(alloc, base, POWER, number(alloc, 2)?)?;
+    let mixed = operation(alloc, name(alloc, "a")?, AND, name(alloc, "b")?)?;
+    let mixed = parenthesized(alloc, parenthesized(alloc, mixed)?)?;
+    let coalesced = operation(alloc, mixed, COALESCE, name(alloc, "c")?)?;
+    let texts = [
+        (printed_expression(alloc, bare)?, "1 ** 2;\n"),
+        (printed_expression(alloc, twice)?, "(1 ** 2) ** 3;\n"),
+        (printed_expression(alloc, layers)?, "1 ** 2;\n"),
+        (printed_expression(alloc, coalesced)?, "(a && b) ?? c;\n"),
+    ];
+    for (text, wanted) in &texts {
+        assert!(rt; text.as_str() == *wanted, "{wanted}");
+    }
     Ok(())
 }
