@@ -1,19 +1,14 @@
 -- Texts that are read, and texts that aren't.
-use Rattle.std.proofs.Common.{◌≡◌, ℕ, Bool, true, false, not, ◌&&◌, ◌||◌, ◌==◌, List, [], ◌∷◌, ◌++◌, codes, refl, sym, ap, ◌∙◌, subst}
-use Rattle.std.specs.List.{list_all, list_any}
-use Rattle.std.specs.Str.{bytes_eq}
-use Rattle.std.proofs.lemmas.Bool.{both_ways, and_from, and_parts, or_left, or_right}
+use Rattle.std.proofs.Common.{◌≡◌, ℕ, Bool, true, false, List, [], codes, refl}
 use lib.Utf8.{encode}
 use Rattle.unicode_ident.proofs.Computing.{unicode_ident}
 use Rattle.jsgen_syntax.specs.Name.{is_reserved, is_strict_reserved}
-use Rattle.jsgen_tree.specs.Tree.{Tree, Maybe, absent, given, Trees, no_trees, more}
-use Rattle.jsgen_model.specs.Punctuator.{Punctuator, plus, minus, plus_plus, comma, semicolon, equal, Bracket, Round, Square, Brace, opening, closing}
-use Rattle.jsgen_model.specs.Tokens.{Tokens, done, piece, group, ◌⧺◌, Piece, Word, Number, Sign, piece_text, is_spelled, ends_before, is_blank, has_line_end, longer_stands, AreTokensAfter, AreTokensOf}
+use Rattle.jsgen_tree.specs.Tree.{Tree, absent, given, no_trees, more}
+use Rattle.jsgen_model.specs.Punctuator.{Punctuator, plus, minus, comma, semicolon, equal, Round}
+use Rattle.jsgen_model.specs.Tokens.{Tokens, done, piece, group, ◌⧺◌, Word, Number, Sign, longer_stands}
 use Rattle.jsgen_model.specs.Valid.{is_free_name}
 use Rattle.jsgen_model.specs.Grammar.{Allowed, Level, Expression, Assignment, Multiplicative, Additive, Primary, in_module, with_in, ReadsExpression, ReadsBinding, ReadsDeclarator, ReadsDeclarators, ReadsDeclaration, ReadsUnended, ReadsStatement, ReadsStatements, ReadsModule, a_module}
 use Rattle.jsgen_model.specs.Grammar as grammar
-use Rattle.jsgen_lexing.proofs.Characters.{any_append}
-use Rattle.jsgen_lexing.proofs.OneList.{one_token_list, one_span, piece_stops, piece_or_group}
 use Rattle.jsgen_slow.specs.Samples.{IsRead, IsNotRead}
 use Rattle.jsgen_slow.specs.Samples as samples
 
@@ -67,53 +62,60 @@ nothing = (done, refl, a_module grammar.no_statement)
 
 pub two_statements : IsRead (codes "a;b;") (samples.module_of (more (samples.statement_of samples.a) (more (samples.statement_of samples.b) no_trees)))
 unfolding unicode_ident longer_stands
-two_statements =
-    (word (codes "a") (sign semicolon (word (codes "b") (sign semicolon done))),
-    ([], codes ";b;", refl, refl, refl, refl, refl, ([], codes "b;", refl, refl, refl, refl, refl, ([], codes ";", refl, refl, refl, refl, refl, ([], [], refl, refl, refl, refl, refl, refl)))),
-    a_module (grammar.first_statement {a = word (codes "a") (sign semicolon done)} {b = word (codes "b") (sign semicolon done)} refl (grammar.ended {a = word (codes "a") done} false refl (grammar.an_expression refl (whole (first_of_sum read_a)))) (grammar.last_statement (grammar.ended {a = word (codes "b") done} false refl (grammar.an_expression refl (whole (first_of_sum read_b)))))))
+two_statements = (
+  word (codes "a") (sign semicolon (word (codes "b") (sign semicolon done))),
+  ([], codes ";b;", refl, refl, refl, refl, refl, ([], codes "b;", refl, refl, refl, refl, refl, ([], codes ";", refl, refl, refl, refl, refl, ([], [], refl, refl, refl, refl, refl, refl)))),
+  a_module (grammar.first_statement {a = word (codes "a") (sign semicolon done)} {b = word (codes "b") (sign semicolon done)} refl (grammar.ended {a = word (codes "a") done} false refl (grammar.an_expression refl (whole (first_of_sum read_a)))) (grammar.last_statement (grammar.ended {a = word (codes "b") done} false refl (grammar.an_expression refl (whole (first_of_sum read_b)))))),
+)
 
 pub to_the_left : IsRead (codes "a+b-c;") (samples.module_of (more (samples.statement_of (samples.difference_of (samples.sum_of samples.a samples.b) samples.c)) no_trees))
 unfolding unicode_ident longer_stands
-to_the_left =
-    (word (codes "a") (sign plus (word (codes "b") (sign minus (word (codes "c") (sign semicolon done))))),
-    ([], codes "+b-c;", refl, refl, refl, refl, refl, ([], codes "b-c;", refl, refl, refl, refl, refl, ([], codes "-c;", refl, refl, refl, refl, refl, ([], codes "c;", refl, refl, refl, refl, refl, ([], codes ";", refl, refl, refl, refl, refl, ([], [], refl, refl, refl, refl, refl, refl)))))),
-    a_module (grammar.last_statement (grammar.ended {a = word (codes "a") (sign plus (word (codes "b") (sign minus (word (codes "c") done))))} false refl (grammar.an_expression refl (whole (grammar.a_difference {a = word (codes "a") (sign plus (word (codes "b") done))} {b = word (codes "c") done} false refl (grammar.a_sum {a = word (codes "a") done} {b = word (codes "b") done} false refl (first_of_sum read_a) (times read_b)) (times read_c)))))))
+to_the_left = (
+  word (codes "a") (sign plus (word (codes "b") (sign minus (word (codes "c") (sign semicolon done))))),
+  ([], codes "+b-c;", refl, refl, refl, refl, refl, ([], codes "b-c;", refl, refl, refl, refl, refl, ([], codes "-c;", refl, refl, refl, refl, refl, ([], codes "c;", refl, refl, refl, refl, refl, ([], codes ";", refl, refl, refl, refl, refl, ([], [], refl, refl, refl, refl, refl, refl)))))),
+  a_module (grammar.last_statement (grammar.ended {a = word (codes "a") (sign plus (word (codes "b") (sign minus (word (codes "c") done))))} false refl (grammar.an_expression refl (whole (grammar.a_difference {a = word (codes "a") (sign plus (word (codes "b") done))} {b = word (codes "c") done} false refl (grammar.a_sum {a = word (codes "a") done} {b = word (codes "b") done} false refl (first_of_sum read_a) (times read_b)) (times read_c)))))),
+)
 
 pub to_the_right : IsRead (codes "a-(b-c);") (samples.module_of (more (samples.statement_of (samples.difference_of samples.a (samples.in_parentheses (samples.difference_of samples.b samples.c)))) no_trees))
 unfolding unicode_ident longer_stands
 to_the_right =
-    let inside = word (codes "b") (sign minus (word (codes "c") done)) in
-    (word (codes "a") (sign minus (group false Round inside (sign semicolon done))),
-    ([], codes "-(b-c);", refl, refl, refl, refl, refl, ([], codes "(b-c);", refl, refl, refl, refl, refl, ([], codes "b-c", codes ";", refl, refl, refl, ([], codes "-c", refl, refl, refl, refl, refl, ([], codes "c", refl, refl, refl, refl, refl, ([], [], refl, refl, refl, refl, refl, refl))), ([], [], refl, refl, refl, refl, refl, refl)))),
-    a_module (grammar.last_statement (grammar.ended {a = word (codes "a") (sign minus (group false Round inside done))} false refl (grammar.an_expression refl (whole (grammar.a_difference {a = word (codes "a") done} {b = group false Round inside done} false refl (first_of_sum read_a) (times (grammar.in_parentheses (whole (grammar.a_difference {a = word (codes "b") done} {b = word (codes "c") done} false refl (first_of_sum read_b) (times read_c)))))))))))
+    let inside = word (codes "b") (sign minus (word (codes "c") done)) in (
+      word (codes "a") (sign minus (group false Round inside (sign semicolon done))),
+      ([], codes "-(b-c);", refl, refl, refl, refl, refl, ([], codes "(b-c);", refl, refl, refl, refl, refl, ([], codes "b-c", codes ";", refl, refl, refl, ([], codes "-c", refl, refl, refl, refl, refl, ([], codes "c", refl, refl, refl, refl, refl, ([], [], refl, refl, refl, refl, refl, refl))), ([], [], refl, refl, refl, refl, refl, refl)))),
+      a_module (grammar.last_statement (grammar.ended {a = word (codes "a") (sign minus (group false Round inside done))} false refl (grammar.an_expression refl (whole (grammar.a_difference {a = word (codes "a") done} {b = group false Round inside done} false refl (first_of_sum read_a) (times (grammar.in_parentheses (whole (grammar.a_difference {a = word (codes "b") done} {b = word (codes "c") done} false refl (first_of_sum read_b) (times read_c)))))))))),
+    )
 
 pub parentheses : IsRead (codes "(a);") (samples.module_of (more (samples.statement_of (samples.in_parentheses samples.a)) no_trees))
 unfolding unicode_ident longer_stands
-parentheses =
-    (group false Round (word (codes "a") done) (sign semicolon done),
-    ([], codes "a", codes ";", refl, refl, refl, ([], [], refl, refl, refl, refl, refl, refl), ([], [], refl, refl, refl, refl, refl, refl)),
-    a_module (grammar.last_statement (grammar.ended {a = group false Round (word (codes "a") done) done} false refl (grammar.an_expression refl (whole (first_of_sum (grammar.in_parentheses (whole (first_of_sum read_a)))))))))
+parentheses = (
+  group false Round (word (codes "a") done) (sign semicolon done),
+  ([], codes "a", codes ";", refl, refl, refl, ([], [], refl, refl, refl, refl, refl, refl), ([], [], refl, refl, refl, refl, refl, refl)),
+  a_module (grammar.last_statement (grammar.ended {a = group false Round (word (codes "a") done) done} false refl (grammar.an_expression refl (whole (first_of_sum (grammar.in_parentheses (whole (first_of_sum read_a)))))))),
+)
 
 pub declarators : IsRead (codes "const a=1,b=c;") (samples.module_of (more (samples.const_of (more (samples.bound (codes "a") (given samples.one)) (more (samples.bound (codes "b") (given samples.c)) no_trees))) no_trees))
 unfolding unicode_ident longer_stands
 declarators =
     let first = word (codes "a") (sign equal (piece false (Number (codes "1")) done)) in
-    let second = word (codes "b") (sign equal (word (codes "c") done)) in
-    (word (codes "const") ((first ⧺ sign comma second) ⧺ sign semicolon done),
-    ([], codes " a=1,b=c;", refl, refl, refl, refl, refl, (codes " ", codes "=1,b=c;", refl, refl, refl, refl, refl, ([], codes "1,b=c;", refl, refl, refl, refl, refl, ([], codes ",b=c;", refl, refl, refl, refl, refl, ([], codes "b=c;", refl, refl, refl, refl, refl, ([], codes "=c;", refl, refl, refl, refl, refl, ([], codes "c;", refl, refl, refl, refl, refl, ([], codes ";", refl, refl, refl, refl, refl, ([], [], refl, refl, refl, refl, refl, refl))))))))),
-    a_module (grammar.last_statement (grammar.ended {a = word (codes "const") (first ⧺ sign comma second)} false refl (grammar.a_declaration (grammar.a_const (grammar.first_declarator {a = first} {b = second} false refl (grammar.with_value {a = word (codes "a") done} {v = piece false (Number (codes "1")) done} false refl (grammar.a_bound_name free_a) (value (first_of_sum grammar.a_number))) (grammar.last_declarator (grammar.with_value {a = word (codes "b") done} {v = word (codes "c") done} false refl (grammar.a_bound_name free_b) (value (first_of_sum read_c))))))))))
+    let second = word (codes "b") (sign equal (word (codes "c") done)) in (
+      word (codes "const") ((first ⧺ sign comma second) ⧺ sign semicolon done),
+      ([], codes " a=1,b=c;", refl, refl, refl, refl, refl, (codes " ", codes "=1,b=c;", refl, refl, refl, refl, refl, ([], codes "1,b=c;", refl, refl, refl, refl, refl, ([], codes ",b=c;", refl, refl, refl, refl, refl, ([], codes "b=c;", refl, refl, refl, refl, refl, ([], codes "=c;", refl, refl, refl, refl, refl, ([], codes "c;", refl, refl, refl, refl, refl, ([], codes ";", refl, refl, refl, refl, refl, ([], [], refl, refl, refl, refl, refl, refl))))))))),
+      a_module (grammar.last_statement (grammar.ended {a = word (codes "const") (first ⧺ sign comma second)} false refl (grammar.a_declaration (grammar.a_const (grammar.first_declarator {a = first} {b = second} false refl (grammar.with_value {a = word (codes "a") done} {v = piece false (Number (codes "1")) done} false refl (grammar.a_bound_name free_a) (value (first_of_sum grammar.a_number))) (grammar.last_declarator (grammar.with_value {a = word (codes "b") done} {v = word (codes "c") done} false refl (grammar.a_bound_name free_b) (value (first_of_sum read_c))))))))),
+    )
 
 pub without_value : IsRead (codes "const a;") (samples.module_of (more (samples.const_of (more (samples.bound (codes "a") absent) no_trees)) no_trees))
 unfolding unicode_ident longer_stands
-without_value =
-    (word (codes "const") (word (codes "a") (sign semicolon done)),
-    ([], codes " a;", refl, refl, refl, refl, refl, (codes " ", codes ";", refl, refl, refl, refl, refl, ([], [], refl, refl, refl, refl, refl, refl))),
-    a_module (grammar.last_statement (grammar.ended {a = word (codes "const") (word (codes "a") done)} false refl (grammar.a_declaration (grammar.a_const (grammar.last_declarator (grammar.without_value (grammar.a_bound_name free_a))))))))
+without_value = (
+  word (codes "const") (word (codes "a") (sign semicolon done)),
+  ([], codes " a;", refl, refl, refl, refl, refl, (codes " ", codes ";", refl, refl, refl, refl, refl, ([], [], refl, refl, refl, refl, refl, refl))),
+  a_module (grammar.last_statement (grammar.ended {a = word (codes "const") (word (codes "a") done)} false refl (grammar.a_declaration (grammar.a_const (grammar.last_declarator (grammar.without_value (grammar.a_bound_name free_a))))))),
+)
 
 pub over_lines : IsRead (codes "a\n+b;") (samples.module_of (more (samples.statement_of (samples.sum_of samples.a samples.b)) no_trees))
 unfolding unicode_ident longer_stands
 over_lines =
-    let tail = piece true (Sign plus) (word (codes "b") done) in
-    (word (codes "a") (tail ⧺ sign semicolon done),
-    ([], codes "\n+b;", refl, refl, refl, refl, refl, (codes "\n", codes "b;", refl, refl, refl, refl, refl, ([], codes ";", refl, refl, refl, refl, refl, ([], [], refl, refl, refl, refl, refl, refl)))),
-    a_module (grammar.last_statement (grammar.ended {a = word (codes "a") tail} false refl (grammar.an_expression refl (whole (grammar.a_sum {a = word (codes "a") done} {b = word (codes "b") done} true refl (first_of_sum read_a) (times read_b)))))))
+    let tail = piece true (Sign plus) (word (codes "b") done) in (
+      word (codes "a") (tail ⧺ sign semicolon done),
+      ([], codes "\n+b;", refl, refl, refl, refl, refl, (codes "\n", codes "b;", refl, refl, refl, refl, refl, ([], codes ";", refl, refl, refl, refl, refl, ([], [], refl, refl, refl, refl, refl, refl)))),
+      a_module (grammar.last_statement (grammar.ended {a = word (codes "a") tail} false refl (grammar.an_expression refl (whole (grammar.a_sum {a = word (codes "a") done} {b = word (codes "b") done} true refl (first_of_sum read_a) (times read_b)))))),
+    )
