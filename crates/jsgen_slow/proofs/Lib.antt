@@ -4,3 +4,5 @@ pub mod Pieces
 pub mod Rows
 pub mod Groups
 pub mod Made
+pub mod Samples
+pub mod Refused

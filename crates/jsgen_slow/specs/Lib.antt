@@ -2,3 +2,4 @@ pub mod Signs
 pub mod Plain
 pub mod Law
 pub mod Steps
+pub mod Samples

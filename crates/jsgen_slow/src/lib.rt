@@ -6,6 +6,7 @@ ghost use Rattle.std.specs.Str.{chars};
 ghost use Rattle.jsgen_model.specs.Tokens.{AreTokensOf};
 ghost use Rattle.jsgen_slow.specs.Plain.{tokens_plain};
 ghost use Rattle.jsgen_slow.specs.Law.{HasNoTokens};
+ghost use Rattle.jsgen_slow.specs.Samples.{GrammarSamples};
 
 mod characters;
 mod punctuator;
@@ -42,3 +43,8 @@ fn characters_of(alloc: Global, text: &str) -> Result<Vec<char>, Memory>
 {
     Ok(text.chars().collect(alloc)?)
 }
+
+/// The grammar of the model reads a few texts as ECMA-262 does.
+pub fn grammar_samples()
+    ensures { GrammarSamples }
+{}

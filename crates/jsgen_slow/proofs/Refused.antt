@@ -1,0 +1,234 @@
+-- What every program that the grammar reads has in common, and texts that haven't.
+use Rattle.std.proofs.Common.{◌≡◌, ℕ, Bool, true, false, ◌&&◌, ◌||◌, ◌==◌, List, [], ◌++◌, codes, refl, sym, ap, ◌∙◌, subst}
+use Rattle.std.specs.List.{list_any}
+use Rattle.std.specs.Str.{bytes_eq}
+use Rattle.std.proofs.lemmas.Bool.{both_ways, and_parts, and_from, or_left, or_right}
+use lib.Utf8.{encode}
+use Rattle.unicode_ident.proofs.Computing.{unicode_ident}
+use Rattle.jsgen_syntax.specs.Name.{is_reserved, is_strict_reserved}
+use Rattle.jsgen_tree.specs.Tree.{Tree, Trees}
+use Rattle.jsgen_model.specs.Punctuator.{Punctuator, plus, minus, plus_plus, semicolon, Bracket, Round, Square, Brace, opening, closing}
+use Rattle.jsgen_model.specs.Tokens.{Tokens, done, piece, group, ◌⧺◌, Piece, Word, Number, Sign, piece_text, is_blank, longer_stands, AreTokensOf}
+use Rattle.jsgen_model.specs.Valid.{is_free_name}
+use Rattle.jsgen_model.specs.Grammar.{Allowed, Level, ReadsExpression, ReadsBinding, ReadsDeclarator, ReadsDeclarators, ReadsDeclaration, ReadsUnended, ReadsStatement, ReadsStatements, ReadsModule, a_module}
+use Rattle.jsgen_model.specs.Grammar as grammar
+use Rattle.jsgen_lexing.proofs.Characters.{any_append}
+use Rattle.jsgen_lexing.proofs.OneList.{one_token_list, one_span, piece_stops, piece_or_group, opening_char}
+use Rattle.jsgen_slow.specs.Samples.{IsNotRead}
+use Rattle.jsgen_slow.proofs.Samples.{word, sign}
+
+-- ---- a program's last token
+
+-- a semicolon stands at the end; of no tokens, as the flag says
+abbrev ends_so : Bool → Tokens → Bool
+ends_so last done = last
+ends_so last (piece m (Sign semicolon) ts) = ends_so true ts
+ends_so last (piece m p ts) = ends_so false ts
+ends_so last (group m b inside ts) = ends_so false ts
+
+ends_behind : (v m : Bool) (a b : Tokens) → ends_so true b ≡ true → ends_so v (a ⧺ piece m (Sign semicolon) b) ≡ true
+ends_behind v m done b h = h
+ends_behind v m (piece n (Sign semicolon) a) b h = ends_behind true m a b h
+ends_behind v m (piece n p a) b h = ends_behind false m a b h
+ends_behind v m (group n d inside a) b h = ends_behind false m a b h
+
+one_more : (m : Bool) (p : Piece) (a b : Tokens) → (a ⧺ piece m p done) ⧺ b ≡ a ⧺ piece m p b
+one_more m p done b = refl
+one_more m p (piece n q a) b = ap (piece n q) (one_more m p a b)
+one_more m p (group n d inside a) b = ap (group n d inside) (one_more m p a b)
+
+-- ---- its first two tokens
+
+-- these signs may stand behind an operand
+abbrev joins : Punctuator → Bool
+joins plus = true
+joins minus = true
+joins semicolon = true
+joins s = false
+
+abbrev goes_on : Tokens → Bool
+goes_on done = true
+goes_on (piece m (Sign s) ts) = joins s
+goes_on ts = false
+
+abbrev begins_with_name : Tokens → Bool
+begins_with_name (piece m (Word w) ts) = true
+begins_with_name ts = false
+
+-- an operand that a sign or nothing follows, or `const` and a name
+abbrev starts_well : Tokens → Bool
+starts_well (piece m (Word w) ts) = (is_free_name w && goes_on ts) || (bytes_eq w (codes "const") && begins_with_name ts)
+starts_well (piece m (Number w) ts) = goes_on ts
+starts_well (group m Round inside ts) = goes_on ts
+starts_well ts = false
+
+goes_further : (m : Bool) (s : Punctuator) (ts b : Tokens) → joins s ≡ true → goes_on ts ≡ true → goes_on (ts ⧺ piece m (Sign s) b) ≡ true
+goes_further m s done b j h = j
+goes_further m s (piece n (Sign r) ts) b j h = h
+goes_further m s (piece n (Word w) ts) b j h = absurd (both_ways false refl h)
+goes_further m s (piece n (Number w) ts) b j h = absurd (both_ways false refl h)
+goes_further m s (group n d inside ts) b j h = absurd (both_ways false refl h)
+
+named_further : (ts b : Tokens) → begins_with_name ts ≡ true → begins_with_name (ts ⧺ b) ≡ true
+named_further done b h = absurd (both_ways false refl h)
+named_further (piece n (Word w) ts) b h = refl
+named_further (piece n (Number w) ts) b h = absurd (both_ways false refl h)
+named_further (piece n (Sign s) ts) b h = absurd (both_ways false refl h)
+named_further (group n d inside ts) b h = absurd (both_ways false refl h)
+
+either : (f g x y u v : Bool) → (g ≡ true → u ≡ true) → (y ≡ true → v ≡ true) → ((f && g) || (x && y)) ≡ true → ((f && u) || (x && v)) ≡ true
+either true true x y u v p q h = or_left _ _ (p refl)
+either true false true true u v p q h = or_right _ _ (q refl)
+either false g true true u v p q h = q refl
+either true false true false u v p q h = absurd (both_ways false refl h)
+either true false false y u v p q h = absurd (both_ways false refl h)
+either false g true false u v p q h = absurd (both_ways false refl h)
+either false g false y u v p q h = absurd (both_ways false refl h)
+
+starts_further : (m : Bool) (s : Punctuator) (ts b : Tokens) → joins s ≡ true → starts_well ts ≡ true → starts_well (ts ⧺ piece m (Sign s) b) ≡ true
+starts_further m s done b j h = absurd (both_ways false refl h)
+starts_further m s (piece n (Word w) ts) b j h = either (is_free_name w) (goes_on ts) (bytes_eq w (codes "const")) (begins_with_name ts) _ _ (goes_further m s ts b j) (named_further ts (piece m (Sign s) b)) h
+starts_further m s (piece n (Number w) ts) b j h = goes_further m s ts b j h
+starts_further m s (piece n (Sign r) ts) b j h = absurd (both_ways false refl h)
+starts_further m s (group n Round inside ts) b j h = goes_further m s ts b j h
+starts_further m s (group n Square inside ts) b j h = absurd (both_ways false refl h)
+starts_further m s (group n Brace inside ts) b j h = absurd (both_ways false refl h)
+
+expression_starts : {c : Allowed} {l : Level} {ts : Tokens} {t : Tree} → ReadsExpression c l ts t → starts_well ts ≡ true
+expression_starts (grammar.an_assignment r) = expression_starts r
+expression_starts (grammar.a_conditional r) = expression_starts r
+expression_starts (grammar.a_short_circuit r) = expression_starts r
+expression_starts (grammar.a_logical_or r) = expression_starts r
+expression_starts (grammar.a_logical_and r) = expression_starts r
+expression_starts (grammar.a_bit_or r) = expression_starts r
+expression_starts (grammar.a_bit_xor r) = expression_starts r
+expression_starts (grammar.a_bit_and r) = expression_starts r
+expression_starts (grammar.an_equality r) = expression_starts r
+expression_starts (grammar.a_relation r) = expression_starts r
+expression_starts (grammar.a_shift r) = expression_starts r
+expression_starts (grammar.an_additive r) = expression_starts r
+expression_starts (grammar.a_multiplicative r) = expression_starts r
+expression_starts (grammar.an_exponent r) = expression_starts r
+expression_starts (grammar.a_unary r) = expression_starts r
+expression_starts (grammar.an_update r) = expression_starts r
+expression_starts (grammar.a_left_hand_side r) = expression_starts r
+expression_starts (grammar.a_new r) = expression_starts r
+expression_starts (grammar.a_call r) = expression_starts r
+expression_starts (grammar.a_member r) = expression_starts r
+expression_starts (grammar.a_primary r) = expression_starts r
+expression_starts (grammar.a_sum {a = a} {b = b} m e l r) = subst (λ x. starts_well x ≡ true) (sym e) (starts_further m plus a b refl (expression_starts l))
+expression_starts (grammar.a_difference {a = a} {b = b} m e l r) = subst (λ x. starts_well x ≡ true) (sym e) (starts_further m minus a b refl (expression_starts l))
+expression_starts (grammar.a_reference {w = w} h) = or_left _ _ (and_from (is_free_name w) true h refl)
+expression_starts grammar.a_number = refl
+expression_starts (grammar.in_parentheses r) = refl
+
+binding_starts : {c : Allowed} {ts : Tokens} {t : Tree} → ReadsBinding c ts t → begins_with_name ts ≡ true
+binding_starts (grammar.a_bound_name h) = refl
+
+declarator_starts : {c : Allowed} {ts : Tokens} {t : Tree} → ReadsDeclarator c ts t → begins_with_name ts ≡ true
+declarator_starts (grammar.without_value r) = binding_starts r
+declarator_starts (grammar.with_value {a = a} m e r v) = subst (λ x. begins_with_name x ≡ true) (sym e) (named_further a _ (binding_starts r))
+
+declarators_start : {c : Allowed} {ts : Tokens} {ds : Trees} → ReadsDeclarators c ts ds → begins_with_name ts ≡ true
+declarators_start (grammar.last_declarator r) = declarator_starts r
+declarators_start (grammar.first_declarator {a = a} m e r s) = subst (λ x. begins_with_name x ≡ true) (sym e) (named_further a _ (declarator_starts r))
+
+declaration_starts : {c : Allowed} {ts : Tokens} {t : Tree} → ReadsDeclaration c ts t → starts_well ts ≡ true
+declaration_starts (grammar.a_const r) = or_right _ _ (declarators_start r)
+
+unended_starts : {c : Allowed} {ts : Tokens} {t : Tree} → ReadsUnended c ts t → starts_well ts ≡ true
+unended_starts (grammar.a_declaration r) = declaration_starts r
+unended_starts (grammar.an_expression h r) = expression_starts r
+
+-- ---- a program
+
+abbrev is_sound : Tokens → Bool
+is_sound done = true
+is_sound ts = starts_well ts && ends_so true ts
+
+sound_from : (ts : Tokens) → starts_well ts ≡ true → ends_so true ts ≡ true → is_sound ts ≡ true
+sound_from done h g = refl
+sound_from (piece m p ts) h g = and_from _ _ h g
+sound_from (group m b inside ts) h g = and_from _ _ h g
+
+sound_ends : (ts : Tokens) → is_sound ts ≡ true → ends_so true ts ≡ true
+sound_ends done h = refl
+sound_ends (piece m p ts) h = (and_parts _ _ h).1
+sound_ends (group m b inside ts) h = (and_parts _ _ h).1
+
+statement_sound : {c : Allowed} {a : Tokens} {s : Tree} → ReadsStatement c false a s → (b : Tokens) → ends_so true b ≡ true → is_sound (a ⧺ b) ≡ true
+statement_sound (grammar.ended {a = a} m e r) b h = subst (λ x. is_sound (x ⧺ b) ≡ true) (sym e) (subst (λ x. is_sound x ≡ true) (sym (one_more m (Sign semicolon) a b)) (sound_from _ (starts_further m semicolon a b refl (unended_starts r)) (ends_behind true m a b h)))
+
+end_nothing : (a : Tokens) → a ⧺ done ≡ a
+end_nothing done = refl
+end_nothing (piece m p a) = ap (piece m p) (end_nothing a)
+end_nothing (group m b inside a) = ap (group m b inside) (end_nothing a)
+
+statements_sound : {c : Allowed} {ts : Tokens} {ss : Trees} → ReadsStatements c false ts ss → is_sound ts ≡ true
+statements_sound grammar.no_statement = refl
+statements_sound (grammar.last_statement {ts = ts} r) = subst (λ x. is_sound x ≡ true) (end_nothing ts) (statement_sound r done refl)
+statements_sound (grammar.first_statement {a = a} {b = b} e r s) = subst (λ x. is_sound x ≡ true) (sym e) (statement_sound r b (sound_ends b (statements_sound s)))
+
+module_sound : {ts : Tokens} {t : Tree} → ReadsModule ts t → is_sound ts ≡ true
+module_sound (a_module r) = statements_sound r
+
+refused : (source : List ℕ) (ts : Tokens) → AreTokensOf source ts → is_sound ts ≡ false → IsNotRead source
+refused source ts h f us t g r = both_ways (is_sound ts) f (subst (λ x. is_sound x ≡ true) (one_token_list source us ts g h) (module_sound r))
+
+-- ---- texts
+
+pub two_names : IsNotRead (codes "a b")
+unfolding unicode_ident longer_stands is_reserved is_strict_reserved encode
+two_names = refused (codes "a b") (word (codes "a") (word (codes "b") done)) ([], codes " b", refl, refl, refl, refl, refl, (codes " ", [], refl, refl, refl, refl, refl, refl)) refl
+
+pub two_numbers : IsNotRead (codes "1 2;")
+unfolding unicode_ident longer_stands
+two_numbers = refused (codes "1 2;") (piece false (Number (codes "1")) (piece false (Number (codes "2")) (sign semicolon done))) ([], codes " 2;", refl, refl, refl, refl, refl, (codes " ", codes ";", refl, refl, refl, refl, refl, ([], [], refl, refl, refl, refl, refl, refl))) refl
+
+pub no_right_operand : IsNotRead (codes "a +")
+unfolding unicode_ident longer_stands is_reserved is_strict_reserved encode
+no_right_operand = refused (codes "a +") (word (codes "a") (sign plus done)) ([], codes " +", refl, refl, refl, refl, refl, (codes " ", [], refl, refl, refl, refl, refl, refl)) refl
+
+pub increment_between : IsNotRead (codes "a ++ b;")
+unfolding unicode_ident longer_stands is_reserved is_strict_reserved encode
+increment_between = refused (codes "a ++ b;") (word (codes "a") (sign plus_plus (word (codes "b") (sign semicolon done)))) ([], codes " ++ b;", refl, refl, refl, refl, refl, (codes " ", codes " b;", refl, refl, refl, refl, refl, (codes " ", codes ";", refl, refl, refl, refl, refl, ([], [], refl, refl, refl, refl, refl, refl)))) refl
+
+pub no_binding : IsNotRead (codes "const;")
+unfolding unicode_ident longer_stands is_reserved is_strict_reserved encode
+no_binding = refused (codes "const;") (word (codes "const") (sign semicolon done)) ([], codes ";", refl, refl, refl, refl, refl, ([], [], refl, refl, refl, refl, refl, refl)) refl
+
+pub reserved_word : IsNotRead (codes "if;")
+unfolding unicode_ident longer_stands is_reserved is_strict_reserved encode
+reserved_word = refused (codes "if;") (word (codes "if") (sign semicolon done)) ([], codes ";", refl, refl, refl, refl, refl, ([], [], refl, refl, refl, refl, refl, refl)) refl
+
+pub unended_name : IsNotRead (codes "a")
+unfolding unicode_ident longer_stands is_reserved is_strict_reserved encode
+unended_name = refused (codes "a") (word (codes "a") done) ([], [], refl, refl, refl, refl, refl, refl) refl
+
+pub unended_declaration : IsNotRead (codes "const a")
+unfolding unicode_ident longer_stands is_reserved is_strict_reserved encode
+unended_declaration = refused (codes "const a") (word (codes "const") (word (codes "a") done)) ([], codes " a", refl, refl, refl, refl, refl, (codes " ", [], refl, refl, refl, refl, refl, refl)) refl
+
+-- ---- a bracket that isn't closed
+
+abbrev is_closing : ℕ → Bool
+is_closing c = (c == 41) || (c == 93) || (c == 125)
+
+closing_found : (b : Bracket) (x : List ℕ) → list_any is_closing (closing b ++ x) ≡ true
+closing_found Round x = refl
+closing_found Square x = refl
+closing_found Brace x = refl
+
+any_behind : (f : ℕ → Bool) (a b : List ℕ) → list_any f b ≡ true → list_any f (a ++ b) ≡ true
+any_behind f a b h = any_append f a b ∙ or_right (list_any f a) (list_any f b) h
+
+no_tokens : (ts : Tokens) → AreTokensOf (codes "(a") ts → ⊥
+unfolding opening_char
+no_tokens done h = both_ways false refl h
+no_tokens (piece m p ts) h =
+    let k = one_span is_blank [] h.0 (codes "(a") (piece_text p ++ h.1) refl h.2 refl (piece_stops p h.1 h.4) h.6 in
+    piece_or_group p Round h.1 (codes "a") h.4 (sym k.1)
+no_tokens (group m b inside ts) h = both_ways false refl (ap (list_any is_closing) h.5 ∙ any_behind is_closing h.0 _ (any_behind is_closing (opening b) _ (any_behind is_closing h.1 _ (closing_found b h.2))))
+
+pub open_bracket : IsNotRead (codes "(a")
+open_bracket ts t h r = no_tokens ts h

@@ -1,0 +1,121 @@
+-- Texts that are read, and texts that aren't.
+use Rattle.std.proofs.Common.{◌≡◌, ℕ, Bool, true, false, List, [], codes, refl}
+use lib.Utf8.{encode}
+use Rattle.unicode_ident.proofs.Computing.{unicode_ident}
+use Rattle.jsgen_syntax.specs.Name.{is_reserved, is_strict_reserved}
+use Rattle.jsgen_tree.specs.Tree.{Tree, absent, given, no_trees, more}
+use Rattle.jsgen_model.specs.Punctuator.{Punctuator, plus, minus, comma, semicolon, equal, Round}
+use Rattle.jsgen_model.specs.Tokens.{Tokens, done, piece, group, ◌⧺◌, Word, Number, Sign, longer_stands}
+use Rattle.jsgen_model.specs.Valid.{is_free_name}
+use Rattle.jsgen_model.specs.Grammar.{Allowed, Level, Expression, Assignment, Multiplicative, Additive, Primary, in_module, with_in, ReadsExpression, ReadsBinding, ReadsDeclarator, ReadsDeclarators, ReadsDeclaration, ReadsUnended, ReadsStatement, ReadsStatements, ReadsModule, a_module}
+use Rattle.jsgen_model.specs.Grammar as grammar
+use Rattle.jsgen_slow.specs.Samples.{IsRead, IsNotRead}
+use Rattle.jsgen_slow.specs.Samples as samples
+
+-- ---- levels
+
+times : {c : Allowed} {ts : Tokens} {t : Tree} → ReadsExpression c Primary ts t → ReadsExpression c Multiplicative ts t
+times r = grammar.an_exponent (grammar.a_unary (grammar.an_update (grammar.a_left_hand_side (grammar.a_new (grammar.a_member (grammar.a_primary r))))))
+
+first_of_sum : {c : Allowed} {ts : Tokens} {t : Tree} → ReadsExpression c Primary ts t → ReadsExpression c Additive ts t
+first_of_sum r = grammar.a_multiplicative (times r)
+
+value : {c : Allowed} {ts : Tokens} {t : Tree} → ReadsExpression c Additive ts t → ReadsExpression c Assignment ts t
+value r = grammar.a_conditional (grammar.a_short_circuit (grammar.a_logical_or (grammar.a_logical_and (grammar.a_bit_or (grammar.a_bit_xor (grammar.a_bit_and (grammar.an_equality (grammar.a_relation (grammar.a_shift (grammar.an_additive r))))))))))
+
+whole : {c : Allowed} {ts : Tokens} {t : Tree} → ReadsExpression c Additive ts t → ReadsExpression c Expression ts t
+whole r = grammar.an_assignment (value r)
+
+abbrev pub word : List ℕ → Tokens → Tokens
+word w ts = piece false (Word w) ts
+
+abbrev pub sign : Punctuator → Tokens → Tokens
+sign s ts = piece false (Sign s) ts
+
+-- ---- names
+
+free_a : is_free_name (codes "a") ≡ true
+unfolding unicode_ident is_reserved is_strict_reserved encode
+free_a = refl
+
+free_b : is_free_name (codes "b") ≡ true
+unfolding unicode_ident is_reserved is_strict_reserved encode
+free_b = refl
+
+free_c : is_free_name (codes "c") ≡ true
+unfolding unicode_ident is_reserved is_strict_reserved encode
+free_c = refl
+
+read_a : {c : Allowed} {mark : Bool} → ReadsExpression c Primary (piece mark (Word (codes "a")) done) samples.a
+read_a = grammar.a_reference free_a
+
+read_b : {c : Allowed} {mark : Bool} → ReadsExpression c Primary (piece mark (Word (codes "b")) done) samples.b
+read_b = grammar.a_reference free_b
+
+read_c : {c : Allowed} {mark : Bool} → ReadsExpression c Primary (piece mark (Word (codes "c")) done) samples.c
+read_c = grammar.a_reference free_c
+
+-- ---- what is read
+
+pub nothing : IsRead (codes "") (samples.module_of no_trees)
+nothing = (done, refl, a_module grammar.no_statement)
+
+pub two_statements : IsRead (codes "a;b;") (samples.module_of (more (samples.statement_of samples.a) (more (samples.statement_of samples.b) no_trees)))
+unfolding unicode_ident longer_stands
+two_statements = (
+  word (codes "a") (sign semicolon (word (codes "b") (sign semicolon done))),
+  ([], codes ";b;", refl, refl, refl, refl, refl, ([], codes "b;", refl, refl, refl, refl, refl, ([], codes ";", refl, refl, refl, refl, refl, ([], [], refl, refl, refl, refl, refl, refl)))),
+  a_module (grammar.first_statement {a = word (codes "a") (sign semicolon done)} {b = word (codes "b") (sign semicolon done)} refl (grammar.ended {a = word (codes "a") done} false refl (grammar.an_expression refl (whole (first_of_sum read_a)))) (grammar.last_statement (grammar.ended {a = word (codes "b") done} false refl (grammar.an_expression refl (whole (first_of_sum read_b)))))),
+)
+
+pub to_the_left : IsRead (codes "a+b-c;") (samples.module_of (more (samples.statement_of (samples.difference_of (samples.sum_of samples.a samples.b) samples.c)) no_trees))
+unfolding unicode_ident longer_stands
+to_the_left = (
+  word (codes "a") (sign plus (word (codes "b") (sign minus (word (codes "c") (sign semicolon done))))),
+  ([], codes "+b-c;", refl, refl, refl, refl, refl, ([], codes "b-c;", refl, refl, refl, refl, refl, ([], codes "-c;", refl, refl, refl, refl, refl, ([], codes "c;", refl, refl, refl, refl, refl, ([], codes ";", refl, refl, refl, refl, refl, ([], [], refl, refl, refl, refl, refl, refl)))))),
+  a_module (grammar.last_statement (grammar.ended {a = word (codes "a") (sign plus (word (codes "b") (sign minus (word (codes "c") done))))} false refl (grammar.an_expression refl (whole (grammar.a_difference {a = word (codes "a") (sign plus (word (codes "b") done))} {b = word (codes "c") done} false refl (grammar.a_sum {a = word (codes "a") done} {b = word (codes "b") done} false refl (first_of_sum read_a) (times read_b)) (times read_c)))))),
+)
+
+pub to_the_right : IsRead (codes "a-(b-c);") (samples.module_of (more (samples.statement_of (samples.difference_of samples.a (samples.in_parentheses (samples.difference_of samples.b samples.c)))) no_trees))
+unfolding unicode_ident longer_stands
+to_the_right =
+    let inside = word (codes "b") (sign minus (word (codes "c") done)) in (
+      word (codes "a") (sign minus (group false Round inside (sign semicolon done))),
+      ([], codes "-(b-c);", refl, refl, refl, refl, refl, ([], codes "(b-c);", refl, refl, refl, refl, refl, ([], codes "b-c", codes ";", refl, refl, refl, ([], codes "-c", refl, refl, refl, refl, refl, ([], codes "c", refl, refl, refl, refl, refl, ([], [], refl, refl, refl, refl, refl, refl))), ([], [], refl, refl, refl, refl, refl, refl)))),
+      a_module (grammar.last_statement (grammar.ended {a = word (codes "a") (sign minus (group false Round inside done))} false refl (grammar.an_expression refl (whole (grammar.a_difference {a = word (codes "a") done} {b = group false Round inside done} false refl (first_of_sum read_a) (times (grammar.in_parentheses (whole (grammar.a_difference {a = word (codes "b") done} {b = word (codes "c") done} false refl (first_of_sum read_b) (times read_c)))))))))),
+    )
+
+pub parentheses : IsRead (codes "(a);") (samples.module_of (more (samples.statement_of (samples.in_parentheses samples.a)) no_trees))
+unfolding unicode_ident longer_stands
+parentheses = (
+  group false Round (word (codes "a") done) (sign semicolon done),
+  ([], codes "a", codes ";", refl, refl, refl, ([], [], refl, refl, refl, refl, refl, refl), ([], [], refl, refl, refl, refl, refl, refl)),
+  a_module (grammar.last_statement (grammar.ended {a = group false Round (word (codes "a") done) done} false refl (grammar.an_expression refl (whole (first_of_sum (grammar.in_parentheses (whole (first_of_sum read_a)))))))),
+)
+
+pub declarators : IsRead (codes "const a=1,b=c;") (samples.module_of (more (samples.const_of (more (samples.bound (codes "a") (given samples.one)) (more (samples.bound (codes "b") (given samples.c)) no_trees))) no_trees))
+unfolding unicode_ident longer_stands
+declarators =
+    let first = word (codes "a") (sign equal (piece false (Number (codes "1")) done)) in
+    let second = word (codes "b") (sign equal (word (codes "c") done)) in (
+      word (codes "const") ((first ⧺ sign comma second) ⧺ sign semicolon done),
+      ([], codes " a=1,b=c;", refl, refl, refl, refl, refl, (codes " ", codes "=1,b=c;", refl, refl, refl, refl, refl, ([], codes "1,b=c;", refl, refl, refl, refl, refl, ([], codes ",b=c;", refl, refl, refl, refl, refl, ([], codes "b=c;", refl, refl, refl, refl, refl, ([], codes "=c;", refl, refl, refl, refl, refl, ([], codes "c;", refl, refl, refl, refl, refl, ([], codes ";", refl, refl, refl, refl, refl, ([], [], refl, refl, refl, refl, refl, refl))))))))),
+      a_module (grammar.last_statement (grammar.ended {a = word (codes "const") (first ⧺ sign comma second)} false refl (grammar.a_declaration (grammar.a_const (grammar.first_declarator {a = first} {b = second} false refl (grammar.with_value {a = word (codes "a") done} {v = piece false (Number (codes "1")) done} false refl (grammar.a_bound_name free_a) (value (first_of_sum grammar.a_number))) (grammar.last_declarator (grammar.with_value {a = word (codes "b") done} {v = word (codes "c") done} false refl (grammar.a_bound_name free_b) (value (first_of_sum read_c))))))))),
+    )
+
+pub without_value : IsRead (codes "const a;") (samples.module_of (more (samples.const_of (more (samples.bound (codes "a") absent) no_trees)) no_trees))
+unfolding unicode_ident longer_stands
+without_value = (
+  word (codes "const") (word (codes "a") (sign semicolon done)),
+  ([], codes " a;", refl, refl, refl, refl, refl, (codes " ", codes ";", refl, refl, refl, refl, refl, ([], [], refl, refl, refl, refl, refl, refl))),
+  a_module (grammar.last_statement (grammar.ended {a = word (codes "const") (word (codes "a") done)} false refl (grammar.a_declaration (grammar.a_const (grammar.last_declarator (grammar.without_value (grammar.a_bound_name free_a))))))),
+)
+
+pub over_lines : IsRead (codes "a\n+b;") (samples.module_of (more (samples.statement_of (samples.sum_of samples.a samples.b)) no_trees))
+unfolding unicode_ident longer_stands
+over_lines =
+    let tail = piece true (Sign plus) (word (codes "b") done) in (
+      word (codes "a") (tail ⧺ sign semicolon done),
+      ([], codes "\n+b;", refl, refl, refl, refl, refl, (codes "\n", codes "b;", refl, refl, refl, refl, refl, ([], codes ";", refl, refl, refl, refl, refl, ([], [], refl, refl, refl, refl, refl, refl)))),
+      a_module (grammar.last_statement (grammar.ended {a = word (codes "a") tail} false refl (grammar.an_expression refl (whole (grammar.a_sum {a = word (codes "a") done} {b = word (codes "b") done} true refl (first_of_sum read_a) (times read_b)))))),
+    )

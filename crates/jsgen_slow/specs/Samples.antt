@@ -1,0 +1,77 @@
+-- What a few texts are read as by ECMA-262, worked out by hand, and a few that aren't read.
+use Rattle.std.specs.Prelude.{ℕ, List, [], ◌∷◌, codes}
+use Rattle.jsgen_syntax.specs.declared.operator.BinaryOperator.TheVariants.{Addition, Subtraction}
+use Rattle.jsgen_tree.specs.declared.statements.VariableDeclarationKind.TheVariants.{Const}
+use Rattle.jsgen_tree.specs.Tree.{Tree, Maybe, absent, given, Trees, no_trees, more, text, declaration_kind, binary_operator}
+use Rattle.jsgen_tree.specs.Tree as tree
+use Rattle.jsgen_model.specs.Tokens.{Tokens, AreTokensOf}
+use Rattle.jsgen_model.specs.Normal.{bare}
+use Rattle.jsgen_model.specs.Grammar.{named, ReadsModule}
+
+-- the text has tokens, and they are read as this program
+abbrev pub IsRead : List ℕ → Tree → Type 0
+IsRead source t = (ts : Tokens) × AreTokensOf source ts × ReadsModule ts t
+
+-- no tokens of the text are read as anything
+abbrev pub IsNotRead : List ℕ → Type 0
+IsNotRead source = (ts : Tokens) (t : Tree) → AreTokensOf source ts → ReadsModule ts t → ⊥
+
+-- ---- trees
+
+abbrev pub module_of : Trees → Tree
+module_of statements = tree.program (bare []) statements
+
+abbrev pub a : Tree
+a = tree.identifier_reference (named (codes "a"))
+
+abbrev pub b : Tree
+b = tree.identifier_reference (named (codes "b"))
+
+abbrev pub c : Tree
+c = tree.identifier_reference (named (codes "c"))
+
+abbrev pub one : Tree
+one = tree.numeric_literal (bare (text (codes "1") ∷ []))
+
+abbrev pub sum_of : Tree → Tree → Tree
+sum_of left right = tree.binary (bare (binary_operator Addition ∷ [])) left right
+
+abbrev pub difference_of : Tree → Tree → Tree
+difference_of left right = tree.binary (bare (binary_operator Subtraction ∷ [])) left right
+
+abbrev pub in_parentheses : Tree → Tree
+in_parentheses inner = tree.parenthesized (bare []) inner
+
+abbrev pub statement_of : Tree → Tree
+statement_of expression = tree.expression_statement (bare []) expression
+
+abbrev pub bound : List ℕ → Maybe → Tree
+bound name value = tree.variable_declarator (bare []) (tree.binding_identifier (named name)) value
+
+abbrev pub const_of : Trees → Tree
+const_of bounds = tree.variable_declaration (bare (declaration_kind Const ∷ [])) bounds
+
+-- ---- the samples
+
+pub record GrammarSamples : Type 0 where
+  pub nothing : IsRead (codes "") (module_of no_trees)
+  pub two_statements : IsRead (codes "a;b;") (module_of (more (statement_of a) (more (statement_of b) no_trees)))
+  -- `+` and `-` group to the left (13.8)
+  pub to_the_left : IsRead (codes "a+b-c;") (module_of (more (statement_of (difference_of (sum_of a b) c)) no_trees))
+  pub to_the_right : IsRead (codes "a-(b-c);") (module_of (more (statement_of (difference_of a (in_parentheses (difference_of b c)))) no_trees))
+  pub parentheses : IsRead (codes "(a);") (module_of (more (statement_of (in_parentheses a)) no_trees))
+  pub declarators : IsRead (codes "const a=1,b=c;") (module_of (more (const_of (more (bound (codes "a") (given one)) (more (bound (codes "b") (given c)) no_trees))) no_trees))
+  -- by the grammar; that a constant needs a value is an early error (14.3.1.1)
+  pub without_value : IsRead (codes "const a;") (module_of (more (const_of (more (bound (codes "a") absent) no_trees)) no_trees))
+  -- a line end before `+` ends no statement (12.10)
+  pub over_lines : IsRead (codes "a\n+b;") (module_of (more (statement_of (sum_of a b)) no_trees))
+  pub two_names : IsNotRead (codes "a b")
+  pub two_numbers : IsNotRead (codes "1 2;")
+  pub no_right_operand : IsNotRead (codes "a +")
+  pub increment_between : IsNotRead (codes "a ++ b;")
+  pub no_binding : IsNotRead (codes "const;")
+  pub reserved_word : IsNotRead (codes "if;")
+  pub open_bracket : IsNotRead (codes "(a")
+  -- at a module's end the definition adds no semicolon, though 12.10 does
+  pub unended_name : IsNotRead (codes "a")
+  pub unended_declaration : IsNotRead (codes "const a")
