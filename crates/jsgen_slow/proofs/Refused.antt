@@ -6,11 +6,13 @@ use Rattle.std.proofs.lemmas.Bool.{both_ways, and_parts, and_from, or_left, or_r
 use lib.Utf8.{encode}
 use Rattle.unicode_ident.proofs.Computing.{unicode_ident}
 use Rattle.jsgen_syntax.specs.Name.{is_reserved, is_strict_reserved}
+use Rattle.jsgen_syntax.specs.declared.operator.BinaryOperator.{BinaryOperator}
+use Rattle.jsgen_syntax.specs.declared.operator.BinaryOperator.TheVariants as operators
 use Rattle.jsgen_tree.specs.Tree.{Tree, Trees}
-use Rattle.jsgen_model.specs.Punctuator.{Punctuator, plus, minus, plus_plus, semicolon, Bracket, Round, Square, Brace, opening, closing}
+use Rattle.jsgen_model.specs.Punctuator.{plus, plus_plus, minus_minus, star_star, and_and, or_or, nullish, semicolon, Bracket, Round, Square, Brace, opening, closing}
 use Rattle.jsgen_model.specs.Tokens.{Tokens, done, piece, group, ◌⧺◌, Piece, Word, Number, Sign, piece_text, is_blank, longer_stands, AreTokensOf}
 use Rattle.jsgen_model.specs.Valid.{is_free_name}
-use Rattle.jsgen_model.specs.Grammar.{Allowed, Level, ReadsExpression, ReadsBinding, ReadsDeclarator, ReadsDeclarators, ReadsDeclaration, ReadsUnended, ReadsStatement, ReadsStatements, ReadsModule, a_module}
+use Rattle.jsgen_model.specs.Grammar.{Allowed, Level, operator_piece, ReadsExpression, ReadsBinding, ReadsDeclarator, ReadsDeclarators, ReadsDeclaration, ReadsUnended, ReadsStatement, ReadsStatements, ReadsModule, a_module}
 use Rattle.jsgen_model.specs.Grammar as grammar
 use Rattle.jsgen_lexing.proofs.Characters.{any_append}
 use Rattle.jsgen_lexing.proofs.OneList.{one_token_list, one_span, piece_stops, piece_or_group, opening_char}
@@ -39,16 +41,17 @@ one_more m p (group n d inside a) b = ap (group n d inside) (one_more m p a b)
 
 -- ---- its first two tokens
 
--- these signs may stand behind an operand
-abbrev joins : Punctuator → Bool
-joins plus = true
-joins minus = true
-joins semicolon = true
-joins s = false
+-- these tokens may stand behind an operand
+abbrev joins : Piece → Bool
+joins (Sign plus_plus) = false
+joins (Sign minus_minus) = false
+joins (Sign s) = true
+joins (Number w) = false
+joins (Word w) = bytes_eq w (codes "in") || bytes_eq w (codes "instanceof")
 
 abbrev goes_on : Tokens → Bool
 goes_on done = true
-goes_on (piece m (Sign s) ts) = joins s
+goes_on (piece m p ts) = joins p
 goes_on ts = false
 
 abbrev begins_with_name : Tokens → Bool
@@ -62,12 +65,10 @@ starts_well (piece m (Number w) ts) = goes_on ts
 starts_well (group m Round inside ts) = goes_on ts
 starts_well ts = false
 
-goes_further : (m : Bool) (s : Punctuator) (ts b : Tokens) → joins s ≡ true → goes_on ts ≡ true → goes_on (ts ⧺ piece m (Sign s) b) ≡ true
-goes_further m s done b j h = j
-goes_further m s (piece n (Sign r) ts) b j h = h
-goes_further m s (piece n (Word w) ts) b j h = absurd (both_ways false refl h)
-goes_further m s (piece n (Number w) ts) b j h = absurd (both_ways false refl h)
-goes_further m s (group n d inside ts) b j h = absurd (both_ways false refl h)
+goes_further : (m : Bool) (p : Piece) (ts b : Tokens) → joins p ≡ true → goes_on ts ≡ true → goes_on (ts ⧺ piece m p b) ≡ true
+goes_further m p done b j h = j
+goes_further m p (piece n q ts) b j h = h
+goes_further m p (group n d inside ts) b j h = absurd (both_ways false refl h)
 
 named_further : (ts b : Tokens) → begins_with_name ts ≡ true → begins_with_name (ts ⧺ b) ≡ true
 named_further done b h = absurd (both_ways false refl h)
@@ -85,14 +86,42 @@ either true false false y u v p q h = absurd (both_ways false refl h)
 either false g true false u v p q h = absurd (both_ways false refl h)
 either false g false y u v p q h = absurd (both_ways false refl h)
 
-starts_further : (m : Bool) (s : Punctuator) (ts b : Tokens) → joins s ≡ true → starts_well ts ≡ true → starts_well (ts ⧺ piece m (Sign s) b) ≡ true
-starts_further m s done b j h = absurd (both_ways false refl h)
-starts_further m s (piece n (Word w) ts) b j h = either (is_free_name w) (goes_on ts) (bytes_eq w (codes "const")) (begins_with_name ts) _ _ (goes_further m s ts b j) (named_further ts (piece m (Sign s) b)) h
-starts_further m s (piece n (Number w) ts) b j h = goes_further m s ts b j h
-starts_further m s (piece n (Sign r) ts) b j h = absurd (both_ways false refl h)
-starts_further m s (group n Round inside ts) b j h = goes_further m s ts b j h
-starts_further m s (group n Square inside ts) b j h = absurd (both_ways false refl h)
-starts_further m s (group n Brace inside ts) b j h = absurd (both_ways false refl h)
+starts_further : (m : Bool) (p : Piece) (ts b : Tokens) → joins p ≡ true → starts_well ts ≡ true → starts_well (ts ⧺ piece m p b) ≡ true
+starts_further m p done b j h = absurd (both_ways false refl h)
+starts_further m p (piece n (Word w) ts) b j h = either (is_free_name w) (goes_on ts) (bytes_eq w (codes "const")) (begins_with_name ts) _ _ (goes_further m p ts b j) (named_further ts (piece m p b)) h
+starts_further m p (piece n (Number w) ts) b j h = goes_further m p ts b j h
+starts_further m p (piece n (Sign r) ts) b j h = absurd (both_ways false refl h)
+starts_further m p (group n Round inside ts) b j h = goes_further m p ts b j h
+starts_further m p (group n Square inside ts) b j h = absurd (both_ways false refl h)
+starts_further m p (group n Brace inside ts) b j h = absurd (both_ways false refl h)
+
+operator_joins : (o : BinaryOperator) → joins (operator_piece o) ≡ true
+operator_joins operators.BitwiseOR = refl
+operator_joins operators.BitwiseXOR = refl
+operator_joins operators.BitwiseAnd = refl
+operator_joins operators.Equality = refl
+operator_joins operators.Inequality = refl
+operator_joins operators.StrictEquality = refl
+operator_joins operators.StrictInequality = refl
+operator_joins operators.LessThan = refl
+operator_joins operators.LessEqualThan = refl
+operator_joins operators.GreaterThan = refl
+operator_joins operators.GreaterEqualThan = refl
+operator_joins operators.In = refl
+operator_joins operators.Instanceof = refl
+operator_joins operators.ShiftLeft = refl
+operator_joins operators.ShiftRight = refl
+operator_joins operators.ShiftRightZeroFill = refl
+operator_joins operators.Addition = refl
+operator_joins operators.Subtraction = refl
+operator_joins operators.Multiplication = refl
+operator_joins operators.Division = refl
+operator_joins operators.Remainder = refl
+operator_joins operators.Exponential = refl
+
+-- a sign behind an operand
+joined : (m : Bool) (p : Piece) (ts a b : Tokens) → joins p ≡ true → ts ≡ a ⧺ piece m p b → starts_well a ≡ true → starts_well ts ≡ true
+joined m p ts a b j e h = subst (λ x. starts_well x ≡ true) (sym e) (starts_further m p a b j h)
 
 expression_starts : {c : Allowed} {l : Level} {ts : Tokens} {t : Tree} → ReadsExpression c l ts t → starts_well ts ≡ true
 expression_starts (grammar.an_assignment r) = expression_starts r
@@ -116,8 +145,14 @@ expression_starts (grammar.a_new r) = expression_starts r
 expression_starts (grammar.a_call r) = expression_starts r
 expression_starts (grammar.a_member r) = expression_starts r
 expression_starts (grammar.a_primary r) = expression_starts r
-expression_starts (grammar.a_sum {a = a} {b = b} m e l r) = subst (λ x. starts_well x ≡ true) (sym e) (starts_further m plus a b refl (expression_starts l))
-expression_starts (grammar.a_difference {a = a} {b = b} m e l r) = subst (λ x. starts_well x ≡ true) (sym e) (starts_further m minus a b refl (expression_starts l))
+expression_starts (grammar.an_operation o m p q e l r) = joined m (operator_piece o) _ _ _ (operator_joins o) e (expression_starts l)
+expression_starts (grammar.a_power m e l r) = joined m (Sign star_star) _ _ _ refl e (expression_starts l)
+expression_starts (grammar.a_conjunction m e l r) = joined m (Sign and_and) _ _ _ refl e (expression_starts l)
+expression_starts (grammar.a_disjunction m e l r) = joined m (Sign or_or) _ _ _ refl e (expression_starts l)
+expression_starts (grammar.a_coalesce r) = expression_starts r
+expression_starts (grammar.a_coalescing m e l r) = joined m (Sign nullish) _ _ _ refl e (expression_starts l)
+expression_starts (grammar.a_coalesced_head r) = expression_starts r
+expression_starts (grammar.a_bit_or_head r) = expression_starts r
 expression_starts (grammar.a_reference {w = w} h) = or_left _ _ (and_from (is_free_name w) true h refl)
 expression_starts grammar.a_number = refl
 expression_starts (grammar.in_parentheses r) = refl
@@ -157,7 +192,7 @@ sound_ends (piece m p ts) h = (and_parts _ _ h).1
 sound_ends (group m b inside ts) h = (and_parts _ _ h).1
 
 statement_sound : {c : Allowed} {a : Tokens} {s : Tree} → ReadsStatement c false a s → (b : Tokens) → ends_so true b ≡ true → is_sound (a ⧺ b) ≡ true
-statement_sound (grammar.ended {a = a} m e r) b h = subst (λ x. is_sound (x ⧺ b) ≡ true) (sym e) (subst (λ x. is_sound x ≡ true) (sym (one_more m (Sign semicolon) a b)) (sound_from _ (starts_further m semicolon a b refl (unended_starts r)) (ends_behind true m a b h)))
+statement_sound (grammar.ended {a = a} m e r) b h = subst (λ x. is_sound (x ⧺ b) ≡ true) (sym e) (subst (λ x. is_sound x ≡ true) (sym (one_more m (Sign semicolon) a b)) (sound_from (a ⧺ piece m (Sign semicolon) b) (starts_further m (Sign semicolon) a b refl (unended_starts r)) (ends_behind true m a b h)))
 
 end_nothing : (a : Tokens) → a ⧺ done ≡ a
 end_nothing done = refl

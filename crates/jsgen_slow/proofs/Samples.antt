@@ -3,19 +3,26 @@ use Rattle.std.proofs.Common.{◌≡◌, ℕ, Bool, true, false, List, [], codes
 use lib.Utf8.{encode}
 use Rattle.unicode_ident.proofs.Computing.{unicode_ident}
 use Rattle.jsgen_syntax.specs.Name.{is_reserved, is_strict_reserved}
+use Rattle.jsgen_syntax.specs.declared.operator.BinaryOperator.TheVariants.{Addition, Subtraction, Multiplication}
 use Rattle.jsgen_tree.specs.Tree.{Tree, absent, given, no_trees, more}
-use Rattle.jsgen_model.specs.Punctuator.{Punctuator, plus, minus, comma, semicolon, equal, Round}
+use Rattle.jsgen_model.specs.Punctuator.{Punctuator, plus, minus, star, star_star, comma, semicolon, equal, Round}
 use Rattle.jsgen_model.specs.Tokens.{Tokens, done, piece, group, ◌⧺◌, Word, Number, Sign, longer_stands}
 use Rattle.jsgen_model.specs.Valid.{is_free_name}
-use Rattle.jsgen_model.specs.Grammar.{Allowed, Level, Expression, Assignment, Multiplicative, Additive, Primary, in_module, with_in, ReadsExpression, ReadsBinding, ReadsDeclarator, ReadsDeclarators, ReadsDeclaration, ReadsUnended, ReadsStatement, ReadsStatements, ReadsModule, a_module}
+use Rattle.jsgen_model.specs.Grammar.{Allowed, Level, Expression, Assignment, Multiplicative, Additive, Exponent, Update, Primary, in_module, with_in, ReadsExpression, ReadsBinding, ReadsDeclarator, ReadsDeclarators, ReadsDeclaration, ReadsUnended, ReadsStatement, ReadsStatements, ReadsModule, a_module}
 use Rattle.jsgen_model.specs.Grammar as grammar
 use Rattle.jsgen_slow.specs.Samples.{IsRead, IsNotRead}
 use Rattle.jsgen_slow.specs.Samples as samples
 
 -- ---- levels
 
+update : {c : Allowed} {ts : Tokens} {t : Tree} → ReadsExpression c Primary ts t → ReadsExpression c Update ts t
+update r = grammar.a_left_hand_side (grammar.a_new (grammar.a_member (grammar.a_primary r)))
+
+power : {c : Allowed} {ts : Tokens} {t : Tree} → ReadsExpression c Primary ts t → ReadsExpression c Exponent ts t
+power r = grammar.a_unary (grammar.an_update (update r))
+
 times : {c : Allowed} {ts : Tokens} {t : Tree} → ReadsExpression c Primary ts t → ReadsExpression c Multiplicative ts t
-times r = grammar.an_exponent (grammar.a_unary (grammar.an_update (grammar.a_left_hand_side (grammar.a_new (grammar.a_member (grammar.a_primary r))))))
+times r = grammar.an_exponent (power r)
 
 first_of_sum : {c : Allowed} {ts : Tokens} {t : Tree} → ReadsExpression c Primary ts t → ReadsExpression c Additive ts t
 first_of_sum r = grammar.a_multiplicative (times r)
@@ -73,7 +80,7 @@ unfolding unicode_ident longer_stands
 to_the_left = (
   word (codes "a") (sign plus (word (codes "b") (sign minus (word (codes "c") (sign semicolon done))))),
   ([], codes "+b-c;", refl, refl, refl, refl, refl, ([], codes "b-c;", refl, refl, refl, refl, refl, ([], codes "-c;", refl, refl, refl, refl, refl, ([], codes "c;", refl, refl, refl, refl, refl, ([], codes ";", refl, refl, refl, refl, refl, ([], [], refl, refl, refl, refl, refl, refl)))))),
-  a_module (grammar.last_statement (grammar.ended {a = word (codes "a") (sign plus (word (codes "b") (sign minus (word (codes "c") done))))} false refl (grammar.an_expression refl (whole (grammar.a_difference {a = word (codes "a") (sign plus (word (codes "b") done))} {b = word (codes "c") done} false refl (grammar.a_sum {a = word (codes "a") done} {b = word (codes "b") done} false refl (first_of_sum read_a) (times read_b)) (times read_c)))))),
+  a_module (grammar.last_statement (grammar.ended {a = word (codes "a") (sign plus (word (codes "b") (sign minus (word (codes "c") done))))} false refl (grammar.an_expression refl (whole (grammar.an_operation {a = word (codes "a") (sign plus (word (codes "b") done))} {b = word (codes "c") done} Subtraction false refl refl refl (grammar.an_operation {a = word (codes "a") done} {b = word (codes "b") done} Addition false refl refl refl (first_of_sum read_a) (times read_b)) (times read_c)))))),
 )
 
 pub to_the_right : IsRead (codes "a-(b-c);") (samples.module_of (more (samples.statement_of (samples.difference_of samples.a (samples.in_parentheses (samples.difference_of samples.b samples.c)))) no_trees))
@@ -82,7 +89,7 @@ to_the_right =
     let inside = word (codes "b") (sign minus (word (codes "c") done)) in (
       word (codes "a") (sign minus (group false Round inside (sign semicolon done))),
       ([], codes "-(b-c);", refl, refl, refl, refl, refl, ([], codes "(b-c);", refl, refl, refl, refl, refl, ([], codes "b-c", codes ";", refl, refl, refl, ([], codes "-c", refl, refl, refl, refl, refl, ([], codes "c", refl, refl, refl, refl, refl, ([], [], refl, refl, refl, refl, refl, refl))), ([], [], refl, refl, refl, refl, refl, refl)))),
-      a_module (grammar.last_statement (grammar.ended {a = word (codes "a") (sign minus (group false Round inside done))} false refl (grammar.an_expression refl (whole (grammar.a_difference {a = word (codes "a") done} {b = group false Round inside done} false refl (first_of_sum read_a) (times (grammar.in_parentheses (whole (grammar.a_difference {a = word (codes "b") done} {b = word (codes "c") done} false refl (first_of_sum read_b) (times read_c)))))))))),
+      a_module (grammar.last_statement (grammar.ended {a = word (codes "a") (sign minus (group false Round inside done))} false refl (grammar.an_expression refl (whole (grammar.an_operation {a = word (codes "a") done} {b = group false Round inside done} Subtraction false refl refl refl (first_of_sum read_a) (times (grammar.in_parentheses (whole (grammar.an_operation {a = word (codes "b") done} {b = word (codes "c") done} Subtraction false refl refl refl (first_of_sum read_b) (times read_c)))))))))),
     )
 
 pub parentheses : IsRead (codes "(a);") (samples.module_of (more (samples.statement_of (samples.in_parentheses samples.a)) no_trees))
@@ -117,5 +124,21 @@ over_lines =
     let tail = piece true (Sign plus) (word (codes "b") done) in (
       word (codes "a") (tail ⧺ sign semicolon done),
       ([], codes "\n+b;", refl, refl, refl, refl, refl, (codes "\n", codes "b;", refl, refl, refl, refl, refl, ([], codes ";", refl, refl, refl, refl, refl, ([], [], refl, refl, refl, refl, refl, refl)))),
-      a_module (grammar.last_statement (grammar.ended {a = word (codes "a") tail} false refl (grammar.an_expression refl (whole (grammar.a_sum {a = word (codes "a") done} {b = word (codes "b") done} true refl (first_of_sum read_a) (times read_b)))))),
+      a_module (grammar.last_statement (grammar.ended {a = word (codes "a") tail} false refl (grammar.an_expression refl (whole (grammar.an_operation {a = word (codes "a") done} {b = word (codes "b") done} Addition true refl refl refl (first_of_sum read_a) (times read_b)))))),
     )
+
+pub powers_to_the_right : IsRead (codes "a**b**c;") (samples.module_of (more (samples.statement_of (samples.power_of samples.a (samples.power_of samples.b samples.c))) no_trees))
+unfolding unicode_ident longer_stands
+powers_to_the_right = (
+  word (codes "a") (sign star_star (word (codes "b") (sign star_star (word (codes "c") (sign semicolon done))))),
+  ([], codes "**b**c;", refl, refl, refl, refl, refl, ([], codes "b**c;", refl, refl, refl, refl, refl, ([], codes "**c;", refl, refl, refl, refl, refl, ([], codes "c;", refl, refl, refl, refl, refl, ([], codes ";", refl, refl, refl, refl, refl, ([], [], refl, refl, refl, refl, refl, refl)))))),
+  a_module (grammar.last_statement (grammar.ended {a = word (codes "a") (sign star_star (word (codes "b") (sign star_star (word (codes "c") done))))} false refl (grammar.an_expression refl (whole (grammar.a_multiplicative (grammar.an_exponent (grammar.a_power {a = word (codes "a") done} {b = word (codes "b") (sign star_star (word (codes "c") done))} false refl (update read_a) (grammar.a_power {a = word (codes "b") done} {b = word (codes "c") done} false refl (update read_b) (power read_c))))))))),
+)
+
+pub product_in_sum : IsRead (codes "a+b*c;") (samples.module_of (more (samples.statement_of (samples.sum_of samples.a (samples.product_of samples.b samples.c))) no_trees))
+unfolding unicode_ident longer_stands
+product_in_sum = (
+  word (codes "a") (sign plus (word (codes "b") (sign star (word (codes "c") (sign semicolon done))))),
+  ([], codes "+b*c;", refl, refl, refl, refl, refl, ([], codes "b*c;", refl, refl, refl, refl, refl, ([], codes "*c;", refl, refl, refl, refl, refl, ([], codes "c;", refl, refl, refl, refl, refl, ([], codes ";", refl, refl, refl, refl, refl, ([], [], refl, refl, refl, refl, refl, refl)))))),
+  a_module (grammar.last_statement (grammar.ended {a = word (codes "a") (sign plus (word (codes "b") (sign star (word (codes "c") done))))} false refl (grammar.an_expression refl (whole (grammar.an_operation {a = word (codes "a") done} {b = word (codes "b") (sign star (word (codes "c") done))} Addition false refl refl refl (first_of_sum read_a) (grammar.an_operation {a = word (codes "b") done} {b = word (codes "c") done} Multiplication false refl refl refl (times read_b) (power read_c))))))),
+)

@@ -1,6 +1,6 @@
 -- What a few texts are read as by ECMA-262, worked out by hand, and a few that aren't read.
 use Rattle.std.specs.Prelude.{ℕ, List, [], ◌∷◌, codes}
-use Rattle.jsgen_syntax.specs.declared.operator.BinaryOperator.TheVariants.{Addition, Subtraction}
+use Rattle.jsgen_syntax.specs.declared.operator.BinaryOperator.TheVariants.{Addition, Subtraction, Multiplication, Exponential}
 use Rattle.jsgen_tree.specs.declared.statements.VariableDeclarationKind.TheVariants.{Const}
 use Rattle.jsgen_tree.specs.Tree.{Tree, Maybe, absent, given, Trees, no_trees, more, text, declaration_kind, binary_operator}
 use Rattle.jsgen_tree.specs.Tree as tree
@@ -39,6 +39,12 @@ sum_of left right = tree.binary (bare (binary_operator Addition ∷ [])) left ri
 abbrev pub difference_of : Tree → Tree → Tree
 difference_of left right = tree.binary (bare (binary_operator Subtraction ∷ [])) left right
 
+abbrev pub product_of : Tree → Tree → Tree
+product_of left right = tree.binary (bare (binary_operator Multiplication ∷ [])) left right
+
+abbrev pub power_of : Tree → Tree → Tree
+power_of left right = tree.binary (bare (binary_operator Exponential ∷ [])) left right
+
 abbrev pub in_parentheses : Tree → Tree
 in_parentheses inner = tree.parenthesized (bare []) inner
 
@@ -59,6 +65,9 @@ pub record GrammarSamples : Type 0 where
   -- `+` and `-` group to the left (13.8)
   pub to_the_left : IsRead (codes "a+b-c;") (module_of (more (statement_of (difference_of (sum_of a b) c)) no_trees))
   pub to_the_right : IsRead (codes "a-(b-c);") (module_of (more (statement_of (difference_of a (in_parentheses (difference_of b c)))) no_trees))
+  -- `**` groups to the right (13.6), `*` before `+` (13.7)
+  pub powers_to_the_right : IsRead (codes "a**b**c;") (module_of (more (statement_of (power_of a (power_of b c))) no_trees))
+  pub product_in_sum : IsRead (codes "a+b*c;") (module_of (more (statement_of (sum_of a (product_of b c))) no_trees))
   pub parentheses : IsRead (codes "(a);") (module_of (more (statement_of (in_parentheses a)) no_trees))
   pub declarators : IsRead (codes "const a=1,b=c;") (module_of (more (const_of (more (bound (codes "a") (given one)) (more (bound (codes "b") (given c)) no_trees))) no_trees))
   -- by the grammar; that a constant needs a value is an early error (14.3.1.1)

@@ -1,7 +1,6 @@
 -- The promise of the program follows from the rows of its answers.
-use Rattle.std.proofs.Common.{◌≡◌, ℕ, List, [], ◌∷◌, Option, Some, None, Ok, Err, IfSome, inl, refl, sym, ap, ◌∙◌, subst, arith}
+use Rattle.std.proofs.Common.{◌≡◌, ℕ, List, [], ◌∷◌, Option, Some, None, Ok, IfSome, inl, refl, ap, ◌∙◌, subst, arith}
 use Rattle.std.specs.Prelude.{Contains}
-use Rattle.std.specs.Str.{chars}
 use Rattle.std.specs.Io.KnownBytes.{Appends}
 use Rattle.jsgen_tree.specs.Tree.{Tree}
 use Rattle.jsgen_model.specs.Layout.{pretty}

@@ -9,7 +9,7 @@ use Rattle.jsgen_tool.specs.Device.{Rose, AppendsPart}
 use Rattle.jsgen_tool.specs.Transfer.{IsWithin, limit}
 use Rattle.jsgen_tool.specs.Job.{IsJobOf, Breaks, IsNoJob, text_of}
 use Rattle.jsgen_tool.specs.declared.status.Status.{Status}
-use Rattle.jsgen_tool.specs.declared.status.Status.TheVariants.{Done, Refused, Usage, NotJob, ReadFault, WriteFault, Memory, TooLong}
+use Rattle.jsgen_tool.specs.declared.status.Status.TheVariants.{Done, Refused, NotJob, ReadFault, WriteFault, Memory, TooLong}
 
 -- the words are the one command
 abbrev pub IsPrint : List (String Global) → Type 0

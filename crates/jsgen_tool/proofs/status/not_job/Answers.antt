@@ -1,4 +1,4 @@
-use Rattle.std.proofs.Common.{◌≡◌, ◌++◌, codes, ap, sym}
+use Rattle.std.proofs.Common.{◌++◌, codes, ap, sym}
 use Rattle.jsgen_tool.specs.Lines.{fault_text}
 use Rattle.jsgen_tool.proofs.status.not_job.Goals as goal
 
