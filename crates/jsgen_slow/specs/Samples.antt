@@ -1,11 +1,12 @@
--- What a few texts are read as by ECMA-262, worked out by hand, and a few that aren't read.
-use Rattle.std.specs.Prelude.{ℕ, List, [], ◌∷◌, codes}
+-- What a few texts are read as by ECMA-262, worked out by hand, a few that aren't read, and which trees have one normal form.
+use Rattle.std.specs.Prelude.{◌≡◌, ℕ, List, [], ◌∷◌, codes}
 use Rattle.jsgen_syntax.specs.declared.operator.BinaryOperator.TheVariants.{Addition, Subtraction, Multiplication, Exponential}
+use Rattle.jsgen_syntax.specs.declared.operator.LogicalOperator.TheVariants.{Or, And}
 use Rattle.jsgen_tree.specs.declared.statements.VariableDeclarationKind.TheVariants.{Const}
-use Rattle.jsgen_tree.specs.Tree.{Tree, Maybe, absent, given, Trees, no_trees, more, text, declaration_kind, binary_operator}
+use Rattle.jsgen_tree.specs.Tree.{Tree, Maybe, absent, given, Trees, no_trees, more, text, digits, numeric_kind, Whole, declaration_kind, binary_operator, logical_operator}
 use Rattle.jsgen_tree.specs.Tree as tree
 use Rattle.jsgen_model.specs.Tokens.{Tokens, AreTokensOf}
-use Rattle.jsgen_model.specs.Normal.{bare}
+use Rattle.jsgen_model.specs.Normal.{bare, normal}
 use Rattle.jsgen_model.specs.Grammar.{named, ReadsModule}
 
 -- the text has tokens, and they are read as this program
@@ -44,6 +45,12 @@ product_of left right = tree.binary (bare (binary_operator Multiplication ∷ []
 
 abbrev pub power_of : Tree → Tree → Tree
 power_of left right = tree.binary (bare (binary_operator Exponential ∷ [])) left right
+
+abbrev pub and_of : Tree → Tree → Tree
+and_of left right = tree.logical (bare (logical_operator And ∷ [])) left right
+
+abbrev pub or_of : Tree → Tree → Tree
+or_of left right = tree.logical (bare (logical_operator Or ∷ [])) left right
 
 abbrev pub in_parentheses : Tree → Tree
 in_parentheses inner = tree.parenthesized (bare []) inner
@@ -84,3 +91,32 @@ pub record GrammarSamples : Type 0 where
   -- at a module's end the definition adds no semicolon, though 12.10 does
   pub unended_name : IsNotRead (codes "a")
   pub unended_declaration : IsNotRead (codes "const a")
+
+-- ---- normal forms
+
+abbrev pub AreOne : Tree → Tree → Type 0
+AreOne t u = normal t ≡ normal u
+
+abbrev pub AreTwo : Tree → Tree → Type 0
+AreTwo t u = normal t ≡ normal u → ⊥
+
+pub record NormalSamples : Type 0 where
+  -- `((a))` and `a`
+  pub parentheses : AreOne (in_parentheses (in_parentheses a)) a
+  -- `(a+b)-c` and `a+b-c`
+  pub as_grouped : AreOne (difference_of (in_parentheses (sum_of a b)) c) (difference_of (sum_of a b) c)
+  -- `a-(b-c)` and `a-b-c`
+  pub grouped_otherwise : AreTwo (difference_of a (in_parentheses (difference_of b c))) (difference_of (difference_of a b) c)
+  -- a chain of one logical operator is one list of operands: `a&&(b&&c)` and `a&&b&&c`
+  pub chain : AreOne (and_of a (in_parentheses (and_of b c))) (and_of (and_of a b) c)
+  -- `a&&(b||c)` and `a&&b||c`
+  pub two_logical_operators : AreTwo (and_of a (in_parentheses (or_of b c))) (or_of (and_of a b) c)
+  pub other_operator : AreTwo (sum_of a b) (difference_of a b)
+  pub other_name : AreTwo a b
+  pub name_or_number : AreTwo a one
+  -- a number by its value, as a job gives it, and by its digits, as it is read
+  pub number : AreOne (tree.numeric_literal (record { span = record { start = 3; end = 5 }; values = numeric_kind Whole ∷ digits 10 ∷ [] })) (tree.numeric_literal (bare (text (codes "10") ∷ [])))
+  -- `const a;` and `const a=1;`
+  pub value_or_none : AreTwo (const_of (more (bound (codes "a") absent) no_trees)) (const_of (more (bound (codes "a") (given one)) no_trees))
+  -- `a;b;` and `b;a;`
+  pub order : AreTwo (module_of (more (statement_of a) (more (statement_of b) no_trees))) (module_of (more (statement_of b) (more (statement_of a) no_trees)))

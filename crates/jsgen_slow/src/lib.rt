@@ -6,7 +6,7 @@ ghost use Rattle.std.specs.Str.{chars};
 ghost use Rattle.jsgen_model.specs.Tokens.{AreTokensOf};
 ghost use Rattle.jsgen_slow.specs.Plain.{tokens_plain};
 ghost use Rattle.jsgen_slow.specs.Law.{HasNoTokens};
-ghost use Rattle.jsgen_slow.specs.Samples.{GrammarSamples};
+ghost use Rattle.jsgen_slow.specs.Samples.{GrammarSamples, NormalSamples};
 
 mod characters;
 mod punctuator;
@@ -47,4 +47,9 @@ fn characters_of(alloc: Global, text: &str) -> Result<Vec<char>, Memory>
 /// The grammar of the model reads a few texts as ECMA-262 does.
 pub fn grammar_samples()
     ensures { GrammarSamples }
+{}
+
+/// The normal form keeps what a program means, and drops parentheses, spans and how a number is held.
+pub fn normal_samples()
+    ensures { NormalSamples }
 {}
