@@ -130,10 +130,10 @@ fn operators(rt: HostRuntime) {
         (B::BitwiseAnd, "&", P::BitwiseAnd, P::BitwiseXor),
     ] {
         assert_eq!(rt; operator.as_str(), text);
-        assert!(rt; operator.precedence() == level, "{text}");
-        assert!(rt; operator.lower_precedence() == lower, "{text}");
-        assert!(rt; operator.is_equality() == (level == P::Equals), "{text}");
-        assert!(rt; operator.is_keyword() == text.starts_with('i'), "{text}");
+        assert!(rt; operator.precedence() == level);
+        assert!(rt; operator.lower_precedence() == lower);
+        assert!(rt; operator.is_equality() == (level == P::Equals));
+        assert!(rt; operator.is_keyword() == text.starts_with('i'));
     }
     for (operator, text, level, lower) in [
         (
@@ -151,8 +151,8 @@ fn operators(rt: HostRuntime) {
         ),
     ] {
         assert_eq!(rt; operator.as_str(), text);
-        assert!(rt; operator.precedence() == level, "{text}");
-        assert!(rt; operator.lower_precedence() == lower, "{text}");
+        assert!(rt; operator.precedence() == level);
+        assert!(rt; operator.lower_precedence() == lower);
     }
 }
 
