@@ -8,10 +8,10 @@ ghost use Rattle.jsgen_model.specs.Plain.{IsPlain, IsQuiet};
 ghost use Rattle.jsgen_model.specs.Reading.{IsReadAs};
 ghost use Rattle.jsgen_model.specs.Valid.{breaches, IsValid, Judges};
 
-use crate::check::check_program;
-use crate::nodes::print_program;
-use crate::printer::Printer;
+use jsgen_check::check_program;
 use jsgen_model::TreeFault;
+use jsgen_nodes::print_program;
+use jsgen_printer::Printer;
 use jsgen_syntax::Memory;
 use jsgen_tree::Program;
 use std::alloc::Global;

@@ -1,12 +1,8 @@
-//! The printer, the checker of trees, and the reader of jobs.
+//! The printer's public calls, beside those of the checker of trees and the reader of jobs.
 #![tactic(auto)]
 
-mod check;
 mod codegen;
-mod nodes;
-mod printer;
-mod rows;
 
 pub use codegen::{Codegen, CodegenError, CodegenReturn};
 pub use jsgen_model::TreeFault;
-pub use rows::{At, InputFault, Job, job_faults_are_told, read_job};
+pub use jsgen_rows::{At, InputFault, Job, job_faults_are_told, read_job};

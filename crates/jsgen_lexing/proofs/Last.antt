@@ -4,8 +4,11 @@ use Rattle.std.specs.Char.{is_ascii_digit}
 use Rattle.std.specs.Option.{option_map_or}
 use Rattle.std.proofs.lemmas.Bool.{both_ways, and_from, or_from}
 use Rattle.jsgen_syntax.specs.Name.{starts_name, goes_in_word}
+use Rattle.jsgen_syntax.specs.Strings.{quote_char}
+use Rattle.jsgen_syntax.specs.declared.quote.Quote.{Quote}
+use Rattle.jsgen_syntax.specs.declared.quote.Quote.TheVariants as quotes
 use Rattle.jsgen_model.specs.Punctuator.{Punctuator, punctuator_text, dot, ellipsis, question_dot, slash, plus, minus, Bracket, Round, Square, Brace, opening, closing}
-use Rattle.jsgen_model.specs.Tokens.{Piece, Word, Number, Sign, ends_before, may_precede, stands, longer_stands}
+use Rattle.jsgen_model.specs.Tokens.{Piece, Word, Number, Quoted, Sign, ends_before, may_precede, stands, longer_stands}
 use Rattle.jsgen_model.specs.Layout.{Pen, Ending, operator_end, number_end, ends_in_word, space_if}
 use Rattle.jsgen_lexing.proofs.Characters.{goes_on_in_sign, none_longer, behind_itself, no_word_no_name, no_word_no_start, no_word_no_digit, word_no_sign, not_that, continues_goes, starts_continues, starts_no_digit, digit_goes}
 
@@ -45,6 +48,7 @@ abbrev pub Ended : List ℕ → Ending → Last → Type 0
 Ended code e (Open line) = Unit {0}
 Ended code e (After (Word w)) = ends_in_word code ≡ true
 Ended code e (After (Number w)) = (ends_in_word code ≡ true) × (e ≡ number_end)
+Ended code e (After (Quoted q w)) = Unit {0}
 Ended code e (After (Sign s)) = Remembers s e
 
 -- a level of indentation is of spaces or of tabs
@@ -75,6 +79,7 @@ pub clear_apart : (l : Last) (c : ℕ) (r : List ℕ) → goes_in_word c ≡ fal
 clear_apart (Open line) c r h g = tt
 clear_apart (After (Word w)) c r h g = ap not (no_word_no_name c h)
 clear_apart (After (Number w)) c r h g = ap not (or_from _ (c == 46) (or_from (starts_name c) (is_ascii_digit c) (no_word_no_start c h) (no_word_no_digit c h)) (not_that c 46 g refl))
+clear_apart (After (Quoted q w)) c r h g = refl
 clear_apart (After (Sign s)) c r h g = clear_sign s c r g (precedes_apart s c r g (no_word_no_digit c h))
 
 pub clear_end : (l : Last) → Clear l []
@@ -82,6 +87,7 @@ unfolding longer_stands
 clear_end (Open line) = tt
 clear_end (After (Word w)) = refl
 clear_end (After (Number w)) = refl
+clear_end (After (Quoted q w)) = refl
 clear_end (After (Sign s)) = sign_end s
   where
     sign_end : (s : Punctuator) → ends_before (Sign s) [] ≡ true
@@ -107,6 +113,7 @@ clear_operand : (l : Last) (c : ℕ) (r : List ℕ) → Operand l → goes_in_wo
 clear_operand (Open line) c r o h e = tt
 clear_operand (After (Word w)) c r o h e = ap not (no_word_no_name c h)
 clear_operand (After (Number w)) c r o h e = ap not (or_from _ (c == 46) (or_from (starts_name c) (is_ascii_digit c) (no_word_no_start c h) (no_word_no_digit c h)) e)
+clear_operand (After (Quoted q w)) c r o h e = refl
 clear_operand (After (Sign s)) c r o h e = absurd o
 
 -- a sign that doesn't begin with a dot
@@ -120,12 +127,23 @@ clear_operator dot l r i o = absurd i
 clear_operator ellipsis l r i o = absurd i
 clear_operator s l r i o = clear_operand l _ _ o refl refl
 
+-- a quote is in no word and in no sign
+pub clear_quote : (q : Quote) (l : Last) (r : List ℕ) → Clear l (quote_char q ∷ r)
+clear_quote quotes.Single l r = clear_apart l 39 r refl refl
+clear_quote quotes.Double l r = clear_apart l 34 r refl refl
+clear_quote quotes.Backtick l r = clear_apart l 96 r refl refl
+
 -- ---- words and numbers, behind a space where the code ends in a word
 
 -- a space, or nothing, behind a word
 spaced : (w : Piece) (b : Bool) (r : List ℕ) → b ≡ true → Clear (After w) (space_if b ++ r)
 spaced w true r e = clear_space (After w) r
 spaced w false r e = absurd (both_ways false refl e)
+
+-- anything may stand behind a string
+pub clear_quoted : (q : Quote) (w r : List ℕ) → Clear (After (Quoted q w)) r
+clear_quoted q w [] = refl
+clear_quoted q w (c ∷ r) = refl
 
 -- a space, or nothing, behind a sign
 spaced_sign : (s : Punctuator) (b : Bool) (c : ℕ) (r : List ℕ) → Clear (After (Sign s)) (c ∷ r) → Clear (After (Sign s)) (space_if b ++ (c ∷ r))
@@ -136,6 +154,7 @@ pub clear_word : (code : List ℕ) (e : Ending) (l : Last) (c : ℕ) (r : List �
 clear_word code e (Open line) c r k h = tt
 clear_word code e (After (Word w)) c r k h = spaced (Word w) (ends_in_word code) (c ∷ r) k
 clear_word code e (After (Number w)) c r k h = spaced (Number w) (ends_in_word code) (c ∷ r) k.0
+clear_word code e (After (Quoted q w)) c r k h = clear_quoted q w (space_if (ends_in_word code) ++ (c ∷ r))
 clear_word code e (After (Sign s)) c r k h =
     let g : goes_on_in_sign c ≡ false = word_no_sign c (continues_goes c (starts_continues c h)) in
     spaced_sign s (ends_in_word code) c r (clear_sign s c r g (precedes_apart s c r g (starts_no_digit c h)))
@@ -151,6 +170,7 @@ pub clear_digit : (code : List ℕ) (e : Ending) (l : Last) (c : ℕ) (r : List 
 clear_digit code e (Open line) c r k y h = tt
 clear_digit code e (After (Word w)) c r k y h = spaced (Word w) (ends_in_word code) (c ∷ r) k
 clear_digit code e (After (Number w)) c r k y h = spaced (Number w) (ends_in_word code) (c ∷ r) k.0
+clear_digit code e (After (Quoted q w)) c r k y h = clear_quoted q w (space_if (ends_in_word code) ++ (c ∷ r))
 clear_digit code e (After (Sign s)) c r k y h =
     let g : goes_on_in_sign c ≡ false = word_no_sign c (digit_goes c h) in
     spaced_sign s (ends_in_word code) c r (clear_sign s c r g (precedes_digit s c r y g))

@@ -1,15 +1,19 @@
 -- A text has at most one token list.
-use Rattle.std.proofs.Common.{◌≡◌, ℕ, Bool, true, false, not, ◌||◌, ◌==◌, ◌⊎◌, inl, inr, codes, List, [], ◌∷◌, ◌++◌, refl, sym, ap, ◌∙◌, subst, append_assoc, arith}
+use Rattle.std.proofs.Common.{◌≡◌, ℕ, Bool, true, false, not, ◌||◌, ◌==◌, ◌⊎◌, inl, inr, codes, Option, Some, None, is_some, List, [], ◌∷◌, ◌++◌, refl, sym, ap, ◌∙◌, subst, append_assoc, arith}
 use Rattle.std.specs.Char.{is_ascii_digit}
 use Rattle.std.specs.List.{list_all, list_any}
 use Rattle.std.proofs.lemmas.Bool.{both_ways, and_parts, and_from, or_parts, or_cases, eqb-true, not-true, false_from_ne_true}
 use Rattle.std.proofs.lemmas.List.{append_cancel_left}
 use Rattle.unicode_ident.proofs.Computing.{unicode_ident}
 use Rattle.jsgen_syntax.specs.Name.{starts_name, continues_name, goes_in_word, spells_name}
+use Rattle.jsgen_syntax.specs.Strings.{quote_char, string_value}
+use Rattle.jsgen_syntax.specs.declared.quote.Quote.{Quote}
+use Rattle.jsgen_syntax.specs.declared.quote.Quote.TheVariants as quotes
+use Rattle.jsgen_syntax.proofs.Strings.{closed as is_closed, valued_closed, one_string}
 use Rattle.jsgen_model.specs.Punctuator.{Punctuator, dot, Bracket, Round, Square, Brace, opening, closing}
-use Rattle.jsgen_model.specs.Tokens.{Tokens, done, piece, group, Piece, Word, Number, Sign, piece_text, is_spelled, is_blank, is_line_terminator, has_line_end, ends_before, AreTokensAfter, AreTokensOf}
+use Rattle.jsgen_model.specs.Tokens.{Tokens, done, piece, group, Piece, Word, Number, Quoted, Sign, piece_text, is_spelled, is_blank, is_line_terminator, has_line_end, ends_before, AreTokensAfter, AreTokensOf}
 use Rattle.jsgen_lexing.proofs.Characters.{starts_continues, continues_goes, digit_goes, whole_digits, found_passes, no_word_no_start, no_word_no_digit, starts_no_digit}
-use Rattle.jsgen_lexing.proofs.Last.{After, clear_closing}
+use Rattle.jsgen_lexing.proofs.Last.{After, clear_closing, clear_quoted}
 use Rattle.jsgen_lexing.proofs.Signs.{one_sign, closing_char, Shut, sign_ends_shut}
 
 -- the text doesn't begin with what passes
@@ -34,9 +38,13 @@ one_span f (c ∷ a) (d ∷ b) x y g h s t e =
 abbrev pub begins_sign : ℕ → Bool
 begins_sign c = list_any (λ d. c == d) (codes ".;,:?=<>!+-*/%&|^~")
 
+abbrev pub is_quote : ℕ → Bool
+is_quote c = list_any (λ d. c == d) (codes "'\"`")
+
 unfoldable pub starts_piece : Piece → ℕ → Bool
 starts_piece (Word w) c = starts_name c
 starts_piece (Number w) c = is_ascii_digit c
+starts_piece (Quoted q w) c = is_quote c
 starts_piece (Sign s) c = begins_sign c
 
 pub record Begins (p : Piece) : Type 0 where
@@ -44,6 +52,11 @@ pub record Begins (p : Piece) : Type 0 where
   pub tail : List ℕ
   pub text : piece_text p ≡ head ∷ tail
   pub starts : starts_piece p head ≡ true
+
+quote_is_one : (q : Quote) → is_quote (quote_char q) ≡ true
+quote_is_one quotes.Single = refl
+quote_is_one quotes.Double = refl
+quote_is_one quotes.Backtick = refl
 
 sign_begins : (s : Punctuator) → Begins (Sign s)
 unfolding starts_piece
@@ -56,10 +69,17 @@ begins (Word []) h = absurd (both_ways false refl h)
 begins (Word (c ∷ cs)) h = record { head = c; tail = cs; text = refl; starts = (and_parts (starts_name c) (list_all continues_name cs) h).0 }
 begins (Number []) h = absurd (both_ways false refl h)
 begins (Number (c ∷ cs)) h = record { head = c; tail = cs; text = refl; starts = (and_parts (is_ascii_digit c) (list_all is_ascii_digit cs) (whole_digits (c ∷ cs) h)).0 }
+begins (Quoted q w) h = record { head = quote_char q; tail = w ++ quote_char q ∷ []; text = refl; starts = quote_is_one q }
 begins (Sign s) h = sign_begins s
 
 sign_no_word : (c : ℕ) → begins_sign c ≡ true → goes_in_word c ≡ false
 sign_no_word c h = not-true (goes_in_word c) (found_passes (λ d. not (goes_in_word d)) c (codes ".;,:?=<>!+-*/%&|^~") refl h)
+
+quote_no_word : (c : ℕ) → is_quote c ≡ true → goes_in_word c ≡ false
+quote_no_word c h = not-true (goes_in_word c) (found_passes (λ d. not (goes_in_word d)) c (codes "'\"`") refl h)
+
+quote_no_sign : (c : ℕ) → is_quote c ≡ true → begins_sign c ≡ false
+quote_no_sign c h = not-true (begins_sign c) (found_passes (λ d. not (begins_sign d)) c (codes "'\"`") refl h)
 
 -- ---- no token begins with a blank or a bracket
 
@@ -94,19 +114,21 @@ pub starts_no_blank : (p : Piece) (c : ℕ) → starts_piece p c ≡ true → is
 unfolding starts_piece
 starts_no_blank (Word w) c h = false_from_ne_true (is_blank c) (λ e. both_ways (starts_name c) (blank_passes starts_name c (no_word_no_start 32 refl) (no_word_no_start 9 refl) (no_word_no_start 10 refl) (no_word_no_start 13 refl) line_separators.0 line_separators.1 e) h)
 starts_no_blank (Number w) c h = false_from_ne_true (is_blank c) (λ e. both_ways (is_ascii_digit c) (blank_passes is_ascii_digit c refl refl refl refl refl refl e) h)
+starts_no_blank (Quoted q w) c h = false_from_ne_true (is_blank c) (λ e. both_ways (is_quote c) (blank_passes is_quote c refl refl refl refl refl refl e) h)
 starts_no_blank (Sign s) c h = false_from_ne_true (is_blank c) (λ e. both_ways (begins_sign c) (blank_passes begins_sign c refl refl refl refl refl refl e) h)
 
-starts_none : (d : ℕ) → goes_in_word d ≡ false → begins_sign d ≡ false → (p : Piece) → starts_piece p d ≡ false
+starts_none : (d : ℕ) → goes_in_word d ≡ false → begins_sign d ≡ false → is_quote d ≡ false → (p : Piece) → starts_piece p d ≡ false
 unfolding starts_piece
-starts_none d h g (Word w) = no_word_no_start d h
-starts_none d h g (Number w) = no_word_no_digit d h
-starts_none d h g (Sign s) = g
+starts_none d h g i (Word w) = no_word_no_start d h
+starts_none d h g i (Number w) = no_word_no_digit d h
+starts_none d h g i (Quoted q w) = i
+starts_none d h g i (Sign s) = g
 
 pub starts_no_closing : (p : Piece) (b : Bracket) → starts_piece p (closing_char b) ≡ false
 unfolding closing_char
-starts_no_closing p Round = starts_none 41 refl refl p
-starts_no_closing p Square = starts_none 93 refl refl p
-starts_no_closing p Brace = starts_none 125 refl refl p
+starts_no_closing p Round = starts_none 41 refl refl refl p
+starts_no_closing p Square = starts_none 93 refl refl refl p
+starts_no_closing p Brace = starts_none 125 refl refl refl p
 
 unfoldable pub opening_char : Bracket → ℕ
 opening_char Round = 40
@@ -115,9 +137,9 @@ opening_char Brace = 123
 
 pub starts_no_opening : (p : Piece) (b : Bracket) → starts_piece p (opening_char b) ≡ false
 unfolding opening_char
-starts_no_opening p Round = starts_none 40 refl refl p
-starts_no_opening p Square = starts_none 91 refl refl p
-starts_no_opening p Brace = starts_none 123 refl refl p
+starts_no_opening p Round = starts_none 40 refl refl refl p
+starts_no_opening p Square = starts_none 91 refl refl refl p
+starts_no_opening p Brace = starts_none 123 refl refl refl p
 
 -- ---- one token stands at the front
 
@@ -147,10 +169,45 @@ name_or_digit c g h = both_ways (is_ascii_digit c) (starts_no_digit c g) h
 pub sign_or : (c : ℕ) → begins_sign c ≡ true → goes_in_word c ≡ true → ⊥
 sign_or c g h = both_ways (goes_in_word c) (sign_no_word c g) h
 
+quote_or_word : (c : ℕ) → is_quote c ≡ true → goes_in_word c ≡ true → ⊥
+quote_or_word c g h = both_ways (goes_in_word c) (quote_no_word c g) h
+
+quote_or_sign : (c : ℕ) → is_quote c ≡ true → begins_sign c ≡ true → ⊥
+quote_or_sign c g h = both_ways (begins_sign c) (quote_no_sign c g) h
+
+same_quote : (q r : Quote) → quote_char q ≡ quote_char r → q ≡ r
+same_quote quotes.Single quotes.Single e = refl
+same_quote quotes.Double quotes.Double e = refl
+same_quote quotes.Backtick quotes.Backtick e = refl
+same_quote quotes.Single quotes.Double e = absurd (omega arith)
+same_quote quotes.Single quotes.Backtick e = absurd (omega arith)
+same_quote quotes.Double quotes.Single e = absurd (omega arith)
+same_quote quotes.Double quotes.Backtick e = absurd (omega arith)
+same_quote quotes.Backtick quotes.Single e = absurd (omega arith)
+same_quote quotes.Backtick quotes.Double e = absurd (omega arith)
+
+-- a spelling has its quote nowhere but behind a backslash
+spelled_closed : (q : Quote) (w : List ℕ) → is_some (string_value q w) ≡ true → is_closed q w ≡ true
+spelled_closed q w h = go (string_value q w) refl h
+  where
+    go : (o : Option (List ℕ)) → string_value q w ≡ o → is_some o ≡ true → is_closed q w ≡ true
+    go (Some us) e k = valued_closed q w us e
+    go None e k = absurd (both_ways false refl k)
+
+one_quoted : (q r : Quote) (v w x y : List ℕ) → is_some (string_value q v) ≡ true → is_some (string_value r w) ≡ true → piece_text (Quoted q v) ++ x ≡ piece_text (Quoted r w) ++ y → (Quoted q v ≡ Quoted r w) × (x ≡ y)
+one_quoted q r v w x y g h e =
+    let k : quote_char q ∷ (v ++ (quote_char q ∷ x)) ≡ quote_char r ∷ (w ++ (quote_char r ∷ y)) = ap (λ t. quote_char q ∷ t) (sym (append_assoc v (quote_char q ∷ []) x)) ∙ (e ∙ ap (λ t. quote_char r ∷ t) (append_assoc w (quote_char r ∷ []) y)) in
+    let f : quote_char q ≡ quote_char r = cc in
+    of_one r (same_quote q r f) h cc
+  where
+    of_one : (r : Quote) → q ≡ r → is_some (string_value r w) ≡ true → v ++ (quote_char q ∷ x) ≡ w ++ (quote_char r ∷ y) → (Quoted q v ≡ Quoted r w) × (x ≡ y)
+    of_one r f h e = subst (λ s. is_some (string_value s w) ≡ true → v ++ (quote_char q ∷ x) ≡ w ++ (quote_char s ∷ y) → (Quoted q v ≡ Quoted s w) × (x ≡ y)) f (λ i j. let k = one_string q v w x y (spelled_closed q v g) (spelled_closed q w i) j in (ap (λ s. Quoted q s) k.0, k.1)) h e
+
 pub one_piece : (p q : Piece) (x y : List ℕ) → is_spelled p ≡ true → is_spelled q ≡ true → ends_before p x ≡ true → ends_before q y ≡ true → piece_text p ++ x ≡ piece_text q ++ y → (p ≡ q) × (x ≡ y)
 unfolding starts_piece
 one_piece (Word v) (Word w) x y g h s t e = let k = one_span continues_name v w x y (word_all v g) (word_all w h) (word_stops v x s) (word_stops w y t) e in (ap Word k.0, k.1)
 one_piece (Number v) (Number w) x y g h s t e = let k = one_span is_ascii_digit v w x y (whole_digits v g) (whole_digits w h) (number_stops v x s) (number_stops w y t) e in (ap Number k.0, k.1)
+one_piece (Quoted q v) (Quoted r w) x y g h s t e = one_quoted q r v w x y g h e
 one_piece (Sign v) (Sign w) x y g h s t e = let k = one_sign v w x y s t e in (ap Sign k.0, k.1)
 one_piece (Word v) (Number w) x y g h s t e = absurd (apart (Word v) (Number w) x y g h name_or_digit e)
 one_piece (Number v) (Word w) x y g h s t e = absurd (apart (Number v) (Word w) x y g h (λ c a b. name_or_digit c b a) e)
@@ -158,6 +215,12 @@ one_piece (Sign v) (Word w) x y g h s t e = absurd (apart (Sign v) (Word w) x y 
 one_piece (Word v) (Sign w) x y g h s t e = absurd (apart (Word v) (Sign w) x y g h (λ c a b. sign_or c b (continues_goes c (starts_continues c a))) e)
 one_piece (Sign v) (Number w) x y g h s t e = absurd (apart (Sign v) (Number w) x y g h (λ c a b. sign_or c a (digit_goes c b)) e)
 one_piece (Number v) (Sign w) x y g h s t e = absurd (apart (Number v) (Sign w) x y g h (λ c a b. sign_or c b (digit_goes c a)) e)
+one_piece (Quoted q v) (Word w) x y g h s t e = absurd (apart (Quoted q v) (Word w) x y g h (λ c a b. quote_or_word c a (continues_goes c (starts_continues c b))) e)
+one_piece (Word v) (Quoted q w) x y g h s t e = absurd (apart (Word v) (Quoted q w) x y g h (λ c a b. quote_or_word c b (continues_goes c (starts_continues c a))) e)
+one_piece (Quoted q v) (Number w) x y g h s t e = absurd (apart (Quoted q v) (Number w) x y g h (λ c a b. quote_or_word c a (digit_goes c b)) e)
+one_piece (Number v) (Quoted q w) x y g h s t e = absurd (apart (Number v) (Quoted q w) x y g h (λ c a b. quote_or_word c b (digit_goes c a)) e)
+one_piece (Quoted q v) (Sign w) x y g h s t e = absurd (apart (Quoted q v) (Sign w) x y g h (λ c a b. quote_or_sign c a b) e)
+one_piece (Sign v) (Quoted q w) x y g h s t e = absurd (apart (Sign v) (Quoted q w) x y g h (λ c a b. quote_or_sign c b a) e)
 
 -- ---- blanks, tokens and brackets
 
@@ -239,6 +302,7 @@ closed Brace = refl
 -- a token that ends before a text does so before it and what a closing bracket begins
 pub ends_more : (p : Piece) (r x : List ℕ) → ends_before p r ≡ true → Shut x → ends_before p (r ++ x) ≡ true
 ends_more (Sign q) r x h s = sign_ends_shut q r x h s
+ends_more (Quoted q w) r x h s = clear_quoted q w (r ++ x)
 ends_more (Word w) [] [] h s = refl
 ends_more (Word w) [] (c ∷ cs) h s = subst (λ t. ends_before (Word w) t ≡ true) (ap (λ t. t ++ cs) (closed s.0) ∙ ap (λ d. d ∷ cs) (sym s.1)) (clear_closing s.0 (After (Word w)) cs)
 ends_more (Word w) (d ∷ r) x h s = h

@@ -1,10 +1,10 @@
 -- The characters of a text that has tokens are Unicode scalar values.
-use Rattle.std.proofs.Common.{◌≡◌, ℕ, ◌<◌, ◌≤◌, Bool, true, false, not, cond, nat_lt, ◌||◌, ◌==◌, ◌⊎◌, inl, inr, List, [], ◌∷◌, ◌++◌, refl, sym, ap, subst, arith}
+use Rattle.std.proofs.Common.{◌≡◌, ℕ, ◌<◌, ◌≤◌, Bool, true, false, not, cond, nat_lt, ◌||◌, ◌==◌, ◌⊎◌, inl, inr, Option, Some, None, is_some, List, [], ◌∷◌, ◌++◌, refl, sym, ap, subst, arith}
 use Rattle.std.specs.Char.{is_ascii_digit}
 use Rattle.std.specs.List.{list_all}
 use Rattle.std.specs.Str.{all_scalars}
 use lib.Utf8.{scalar, low_scalar}
-use Rattle.std.proofs.lemmas.Bool.{and_parts, and_from, or_cases, eqb-true, cases_lt, lt-ltb, le-ltb, le-leb, lt-leb}
+use Rattle.std.proofs.lemmas.Bool.{both_ways, and_parts, and_from, or_cases, eqb-true, cases_lt, lt-ltb, le-ltb, le-leb, lt-leb}
 use Rattle.ucd_table.specs.Steps.{step_value}
 use Rattle.ucd_table.proofs.Stepped.{Stepped, zip_stepped}
 use Rattle.ucd_table.proofs.Facts.{Stepped-everywhere}
@@ -12,8 +12,12 @@ use Rattle.ucd_derived.proofs.BinaryLemmas.{is_xid_continue_stepped}
 use Rattle.unicode_ident.specs.Ident.{is_xid_continue}
 use Rattle.unicode_ident.proofs.Computing.{unicode_ident}
 use Rattle.jsgen_syntax.specs.Name.{starts_name, continues_name, spells_name}
+use Rattle.jsgen_syntax.specs.Strings.{quote_char, string_value}
+use Rattle.jsgen_syntax.specs.declared.quote.Quote.{Quote}
+use Rattle.jsgen_syntax.specs.declared.quote.Quote.TheVariants as quotes
+use Rattle.jsgen_syntax.proofs.Strings.{valued_scalars}
 use Rattle.jsgen_model.specs.Punctuator.{Punctuator, punctuator_text, dot, Bracket, Round, opening, closing}
-use Rattle.jsgen_model.specs.Tokens.{Tokens, done, piece, group, Piece, Word, Number, Sign, piece_text, is_spelled, is_blank, is_line_terminator, AreTokensAfter, AreTokensOf}
+use Rattle.jsgen_model.specs.Tokens.{Tokens, done, piece, group, Piece, Word, Number, Quoted, Sign, piece_text, is_spelled, is_blank, is_line_terminator, AreTokensAfter, AreTokensOf}
 use Rattle.jsgen_lexing.proofs.Characters.{starts_continues, whole_digits, ranged}
 
 pub scalars_append : (a b : List ℕ) → all_scalars a ≡ true → all_scalars b ≡ true → all_scalars (a ++ b) ≡ true
@@ -97,9 +101,22 @@ sign_scalars : (p : Punctuator) → all_scalars (punctuator_text p) ≡ true
 sign_scalars dot = refl
 sign_scalars p = refl
 
+quote_scalar : (q : Quote) → scalar (quote_char q) ≡ true
+quote_scalar quotes.Single = refl
+quote_scalar quotes.Double = refl
+quote_scalar quotes.Backtick = refl
+
+spelling_scalars : (q : Quote) (w : List ℕ) → is_some (string_value q w) ≡ true → all_scalars w ≡ true
+spelling_scalars q w h = go (string_value q w) refl h
+  where
+    go : (o : Option (List ℕ)) → string_value q w ≡ o → is_some o ≡ true → all_scalars w ≡ true
+    go (Some us) e k = valued_scalars q w us e
+    go None e k = absurd (both_ways false refl k)
+
 piece_scalars : (p : Piece) → is_spelled p ≡ true → all_scalars (piece_text p) ≡ true
 piece_scalars (Word w) h = name_scalars w h
 piece_scalars (Number w) h = scalars_follow is_ascii_digit digit_scalar w (whole_digits w h)
+piece_scalars (Quoted q w) h = and_from (scalar (quote_char q)) _ (quote_scalar q) (scalars_append w (quote_char q ∷ []) (spelling_scalars q w h) (and_from (scalar (quote_char q)) true (quote_scalar q) refl))
 piece_scalars (Sign p) h = sign_scalars p
 
 opening_scalars : (b : Bracket) → all_scalars (opening b) ≡ true

@@ -1,15 +1,18 @@
 -- What each item of a layout writes.
-use Rattle.std.proofs.Common.{◌≡◌, ℕ, zero, suc, ◌*◌, Bool, true, false, not, ◌||◌, ◌==◌, ◌⊎◌, inl, inr, List, [], ◌∷◌, ◌++◌, codes, replicate, refl, sym, ap, ◌∙◌, subst, subst₂, append_assoc, append-nil}
+use Rattle.std.proofs.Common.{◌≡◌, ℕ, zero, suc, ◌*◌, Bool, true, false, not, ◌||◌, ◌==◌, ◌⊎◌, inl, inr, is_some, List, [], ◌∷◌, ◌++◌, codes, replicate, refl, sym, ap, ◌∙◌, subst, subst₂, append_assoc, append-nil}
 use Rattle.std.specs.Char.{is_ascii_digit}
 use Rattle.std.specs.List.{list_all}
 use Rattle.std.proofs.lemmas.Bool.{both_ways, and_parts, and_from, or_from, or_cases, or_left, eqb-true}
 use Rattle.jsgen_syntax.specs.Name.{starts_name, continues_name, spells_name, goes_in_word}
-use Rattle.jsgen_model.specs.Punctuator.{Punctuator, punctuator_text, plus, minus, dot, semicolon, Round, opening, closing}
-use Rattle.jsgen_model.specs.Tokens.{longer_stands, Tokens, done, piece, group, Word, Number, Sign, is_blank, is_line_terminator, has_line_end, spells_whole}
+use Rattle.jsgen_syntax.specs.Strings.{escaped, quoted, is_plain_string}
+use Rattle.jsgen_syntax.specs.declared.quote.Quote.{Quote}
+use Rattle.jsgen_syntax.proofs.Strings.{escaped_value}
+use Rattle.jsgen_model.specs.Punctuator.{Punctuator, Bracket, punctuator_text, plus, minus, dot, semicolon, Round, opening, closing}
+use Rattle.jsgen_model.specs.Tokens.{longer_stands, Tokens, done, piece, group, Word, Number, Quoted, Sign, is_blank, is_line_terminator, has_line_end, spells_whole}
 use Rattle.jsgen_model.specs.Items.{member_dot, word, number, punctuator, operator, soft_space, indentation, due_semicolon, statement_begins}
 use Rattle.jsgen_model.specs.Layout.{Pen, Ending, other_end, operator_end, layout, written, written_if, text_if, ending_unless, ends_in_word, space_if, joins, dot_joins, indented, indent_or_space, at_indentation, end_statement}
 use Rattle.jsgen_lexing.proofs.Characters.{no_word_no_name, ends_in_word_behind, all_goes, whole_digits, digit_goes, all_follow}
-use Rattle.jsgen_lexing.proofs.Last.{Last, Open, After, line_of, Clear, Operand, Ready, Remembers, Ended, is_indent, Knows, NoDot, clear_apart, clear_space, clear_operator, clear_word, clear_digit}
+use Rattle.jsgen_lexing.proofs.Last.{Last, Open, After, line_of, Clear, Operand, Ready, Remembers, Ended, is_indent, Knows, NoDot, clear_apart, clear_quote, clear_quoted, clear_space, clear_operator, clear_word, clear_digit}
 use Rattle.jsgen_lexing.proofs.Writes.{Writes, wrote_none, wrote_and_none, wrote_blank, wrote_piece, wrote_brackets}
 
 -- ---- gaps
@@ -41,6 +44,13 @@ wrote_number (c ∷ w) p l h y k =
     wrote_piece p (layout (number true (c ∷ w)) p) l (space_if (ends_in_word p.code)) (Number (c ∷ w)) (line_of l) (space_blank (ends_in_word p.code)) (space_mark (ends_in_word p.code) (line_of l)) h
     (λ r. clear_digit p.code p.ending l c (w ++ r) k.ending y (and_parts (is_ascii_digit c) (list_all is_ascii_digit w) d).0) refl
     (record { indent = k.indent; ending = (ends_in_word_behind p.code (space_if (ends_in_word p.code)) c w (all_follow is_ascii_digit goes_in_word digit_goes (c ∷ w) d), refl) })
+
+-- ---- strings, behind anything
+
+pub wrote_quoted : (q : Quote) (us : List ℕ) (p r : Pen) (l : Last) → is_plain_string us ≡ true → r.code ≡ p.code ++ quoted q us → r.style ≡ p.style → Knows p l → Writes p l r (After (Quoted q (escaped q us))) (piece (line_of l) (Quoted q (escaped q us)) done)
+wrote_quoted q us p r l h e f k =
+    wrote_piece p r l [] (Quoted q (escaped q us)) (line_of l) refl (space_mark false (line_of l)) (ap is_some (escaped_value q us h)) (λ x. clear_quote q l _) e
+    (record { indent = subst (λ s. is_indent s.indent ≡ true) (sym f) k.indent; ending = tt })
 
 -- ---- punctuators behind an operand
 
@@ -181,6 +191,13 @@ opened p l k = record { indent = k.indent; ending = tt }
 pub parentheses_written : (p q : Pen) (l m : Last) (ts : Tokens) → Writes (written_if true (opening Round) p) (Open false) q m ts → Writes p l (written_if true (closing Round) q) (Open false) (group (line_of l) Round ts done)
 parentheses_written p q l m ts w = wrote_brackets Round p (written_if true (opening Round) p) q (written_if true (closing Round) q) l m ts refl refl (record { indent = w.knows.indent; ending = tt }) w
 
+-- brackets that are always there
+pub within_brackets : (b : Bracket) (p : Pen) (l : Last) → Knows p l → Knows (written (opening b) other_end p) (Open false)
+within_brackets b p l k = record { indent = k.indent; ending = tt }
+
+pub brackets_written : (b : Bracket) (p q : Pen) (l m : Last) (ts : Tokens) → Writes (written (opening b) other_end p) (Open false) q m ts → Writes p l (written (closing b) other_end q) (Open false) (group (line_of l) b ts done)
+brackets_written b p q l m ts w = wrote_brackets b p (written (opening b) other_end p) q (written (closing b) other_end q) l m ts refl refl (record { indent = w.knows.indent; ending = tt }) w
+
 -- where none are printed
 pub unopened : (p : Pen) (l : Last) → (text : List ℕ) → Knows p l → Soft p l (written_if false text p)
 unopened p l text k = no_soft p (written_if false text p) l (append-nil p.code) refl refl refl k
@@ -217,6 +234,7 @@ plus_clear : (code : List ℕ) (e : Ending) (l : Last) (r : List ℕ) → Ended 
 plus_clear code e (Open line) r k = tt
 plus_clear code e (After (Word w)) r k = spaced_operator plus (After (Word w)) (joins e code plus) r tt tt
 plus_clear code e (After (Number w)) r k = spaced_operator plus (After (Number w)) (joins e code plus) r tt tt
+plus_clear code e (After (Quoted q w)) r k = clear_quoted q w (space_if (joins e code plus) ++ (43 ∷ r))
 plus_clear code e (After (Sign plus)) r k = spaced_since (After (Sign plus)) (joins e code plus) (43 ∷ r) (ap (λ x. joins x code plus) k)
 plus_clear code e (After (Sign s)) r k = spaced_or (After (Sign s)) (joins e code plus) (43 ∷ r) (plus_behind s r tt)
 
@@ -224,6 +242,7 @@ minus_clear : (code : List ℕ) (e : Ending) (l : Last) (r : List ℕ) → Ended
 minus_clear code e (Open line) r k = tt
 minus_clear code e (After (Word w)) r k = spaced_operator minus (After (Word w)) (joins e code minus) r tt tt
 minus_clear code e (After (Number w)) r k = spaced_operator minus (After (Number w)) (joins e code minus) r tt tt
+minus_clear code e (After (Quoted q w)) r k = clear_quoted q w (space_if (joins e code minus) ++ (45 ∷ r))
 minus_clear code e (After (Sign minus)) r k = spaced_since (After (Sign minus)) (joins e code minus) (45 ∷ r) (ap (λ x. joins x code minus) k)
 minus_clear code e (After (Sign s)) r k = spaced_or (After (Sign s)) (joins e code minus) (45 ∷ r) (minus_behind s r tt)
 
@@ -243,6 +262,7 @@ dot_apart : (l : Last) (e : Ending) (code : List ℕ) (r : List ℕ) → Operand
 dot_apart (Open line) e code r o k = tt
 dot_apart (After (Word w)) e code r o k = spaced_or (After (Word w)) (dot_joins e) (46 ∷ r) (ap not (no_word_no_name 46 refl))
 dot_apart (After (Number w)) e code r o k = spaced_since (After (Number w)) (dot_joins e) (46 ∷ r) (ap dot_joins k.1)
+dot_apart (After (Quoted q w)) e code r o k = clear_quoted q w (space_if (dot_joins e) ++ (46 ∷ r))
 dot_apart (After (Sign s)) e code r o k = absurd o
 
 pub wrote_dot : (p : Pen) (l : Last) → Operand l → Knows p l → Writes p l (layout member_dot p) (After (Sign dot)) (piece (line_of l) (Sign dot) done)

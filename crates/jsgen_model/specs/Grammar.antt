@@ -1,14 +1,16 @@
 -- The grammar (ECMA-262, clauses 13 to 16): which rows of tokens are read as which tree, one production a line.
-use Rattle.std.specs.Prelude.{◌≡◌, ℕ, List, [], ◌∷◌, Bool, true, false, not, ◌&&◌, ◌||◌, codes}
+use Rattle.std.specs.Prelude.{◌≡◌, ℕ, List, [], ◌∷◌, Bool, true, false, not, ◌&&◌, ◌||◌, Some, codes}
 use Rattle.std.specs.Str.{bytes_eq}
+use Rattle.jsgen_syntax.specs.Strings.{is_backtick, string_value}
+use Rattle.jsgen_syntax.specs.declared.quote.Quote.{Quote}
 use Rattle.jsgen_syntax.specs.declared.operator.BinaryOperator.{BinaryOperator}
 use Rattle.jsgen_syntax.specs.declared.operator.BinaryOperator.TheVariants as operators
 use Rattle.jsgen_syntax.specs.declared.operator.LogicalOperator.TheVariants.{Or, And, Coalesce}
 use Rattle.jsgen_tree.specs.declared.statements.VariableDeclarationKind.TheVariants.{Const}
-use Rattle.jsgen_tree.specs.Tree.{Tree, Maybe, absent, given, Trees, no_trees, more, Atoms, text, declaration_kind, binary_operator, logical_operator}
+use Rattle.jsgen_tree.specs.Tree.{Tree, Maybe, absent, given, Trees, no_trees, more, Atoms, text, units, declaration_kind, binary_operator, logical_operator}
 use Rattle.jsgen_tree.specs.Tree as tree
-use Rattle.jsgen_model.specs.Punctuator.{plus, minus, star, slash, percent, star_star, equal_equal, not_equal, equal_equal_equal, not_equal_equal, less, less_equal, greater, greater_equal, shift_left, shift_right, shift_right_zero, bit_and, bit_or, bit_xor, and_and, or_or, nullish, comma, semicolon, equal, Round, Square, Brace}
-use Rattle.jsgen_model.specs.Tokens.{Piece, Tokens, done, piece, group, ◌⧺◌, Word, Number, Sign}
+use Rattle.jsgen_model.specs.Punctuator.{plus, minus, star, slash, percent, star_star, equal_equal, not_equal, equal_equal_equal, not_equal_equal, less, less_equal, greater, greater_equal, shift_left, shift_right, shift_right_zero, bit_and, bit_or, bit_xor, and_and, or_or, nullish, dot, comma, semicolon, equal, Round, Square, Brace}
+use Rattle.jsgen_model.specs.Tokens.{Piece, Tokens, done, piece, group, ◌⧺◌, Word, Number, Quoted, Sign}
 use Rattle.jsgen_model.specs.Valid.{is_free_name}
 use Rattle.jsgen_model.specs.Normal.{bare}
 
@@ -27,10 +29,10 @@ in_module = record { in_operator = true; yield_operand = false; await_operand = 
 abbrev pub with_in : Allowed → Allowed
 with_in allowed = record allowed { in_operator = true }
 
--- the levels of expressions, from the loosest to the tightest
+-- the levels of expressions, from the loosest to the tightest. A callee is what arguments may follow: a member or a call (13.3)
 pub data Level : Type 0 where
   Expression Assignment Conditional ShortCircuit Coalesced CoalesceHead LogicalOr LogicalAnd BitOr BitXor BitAnd : Level
-  Equality Relational Shift Additive Multiplicative Exponent Unary Update LeftHandSide New Call Member Primary : Level
+  Equality Relational Shift Additive Multiplicative Exponent Unary Update LeftHandSide New Callee Call Member Primary : Level
 
 -- ---- operators (13.6 to 13.12)
 
@@ -162,6 +164,13 @@ mutual
     a_call : {c : Allowed} {ts : Tokens} {t : Tree} → ReadsExpression c Call ts t → ReadsExpression c LeftHandSide ts t
     a_member : {c : Allowed} {ts : Tokens} {t : Tree} → ReadsExpression c Member ts t → ReadsExpression c New ts t
     a_primary : {c : Allowed} {ts : Tokens} {t : Tree} → ReadsExpression c Primary ts t → ReadsExpression c Member ts t
+    a_called_member : {c : Allowed} {ts : Tokens} {t : Tree} → ReadsExpression c Member ts t → ReadsExpression c Callee ts t
+    a_called_call : {c : Allowed} {ts : Tokens} {t : Tree} → ReadsExpression c Call ts t → ReadsExpression c Callee ts t
+    a_named_member : {c : Allowed} {ts a : Tokens} {o : Tree} {w : List ℕ} (mark next : Bool) → ts ≡ a ⧺ piece mark (Sign dot) (piece next (Word w) done) → ReadsExpression c Member a o → ReadsExpression c Member ts (tree.static_member (bare []) o (tree.identifier_name (named w)))
+    a_computed_member : {c : Allowed} {ts a inside : Tokens} {o e : Tree} (mark : Bool) → ts ≡ a ⧺ group mark Square inside done → ReadsExpression c Member a o → ReadsExpression (with_in c) Expression inside e → ReadsExpression c Member ts (tree.computed_member (bare []) o e)
+    with_arguments : {c : Allowed} {ts a inside : Tokens} {f : Tree} {es : Trees} (mark : Bool) → ts ≡ a ⧺ group mark Round inside done → ReadsExpression c Callee a f → ReadsArguments (with_in c) inside es → ReadsExpression c Call ts (tree.call (bare []) f es)
+    a_named_member_of_call : {c : Allowed} {ts a : Tokens} {o : Tree} {w : List ℕ} (mark next : Bool) → ts ≡ a ⧺ piece mark (Sign dot) (piece next (Word w) done) → ReadsExpression c Call a o → ReadsExpression c Call ts (tree.static_member (bare []) o (tree.identifier_name (named w)))
+    a_computed_member_of_call : {c : Allowed} {ts a inside : Tokens} {o e : Tree} (mark : Bool) → ts ≡ a ⧺ group mark Square inside done → ReadsExpression c Call a o → ReadsExpression (with_in c) Expression inside e → ReadsExpression c Call ts (tree.computed_member (bare []) o e)
     an_operation : {c : Allowed} {ts a b : Tokens} {l r : Tree} (o : BinaryOperator) (mark : Bool) → is_power o ≡ false → may_stand c o ≡ true → ts ≡ a ⧺ piece mark (operator_piece o) b → ReadsExpression c (operation_level o) a l → ReadsExpression c (next_level (operation_level o)) b r → ReadsExpression c (operation_level o) ts (tree.binary (bare (binary_operator o ∷ [])) l r)
     a_power : {c : Allowed} {ts a b : Tokens} {l r : Tree} (mark : Bool) → ts ≡ a ⧺ piece mark (Sign star_star) b → ReadsExpression c Update a l → ReadsExpression c Exponent b r → ReadsExpression c Exponent ts (tree.binary (bare (binary_operator operators.Exponential ∷ [])) l r)
     a_conjunction : {c : Allowed} {ts a b : Tokens} {l r : Tree} (mark : Bool) → ts ≡ a ⧺ piece mark (Sign and_and) b → ReadsExpression c LogicalAnd a l → ReadsExpression c BitOr b r → ReadsExpression c LogicalAnd ts (tree.logical (bare (logical_operator And ∷ [])) l r)
@@ -172,7 +181,18 @@ mutual
     a_bit_or_head : {c : Allowed} {ts : Tokens} {t : Tree} → ReadsExpression c BitOr ts t → ReadsExpression c CoalesceHead ts t
     a_reference : {c : Allowed} {mark : Bool} {w : List ℕ} → is_free_name w ≡ true → ReadsExpression c Primary (piece mark (Word w) done) (tree.identifier_reference (named w))
     a_number : {c : Allowed} {mark : Bool} {w : List ℕ} → ReadsExpression c Primary (piece mark (Number w) done) (tree.numeric_literal (bare (text w ∷ [])))
+    a_string : {c : Allowed} {mark : Bool} {q : Quote} {w us : List ℕ} → string_value q w ≡ Some us → ReadsExpression c Primary (piece mark (Quoted q w) done) (tree.string_literal (bare (units us ∷ [])))
     in_parentheses : {c : Allowed} {mark : Bool} {ts : Tokens} {t : Tree} → ReadsExpression (with_in c) Expression ts t → ReadsExpression c Primary (group mark Round ts done) (tree.parenthesized (bare []) t)
+
+  -- between the parentheses of a call (13.3); a comma may end the list
+  pub data ReadsArguments : Allowed → Tokens → Trees → Type 0 where
+    no_argument : {c : Allowed} → ReadsArguments c done no_trees
+    some_arguments : {c : Allowed} {ts : Tokens} {es : Trees} → ReadsArgumentList c ts es → ReadsArguments c ts es
+    with_last_comma : {c : Allowed} {ts a : Tokens} {es : Trees} (mark : Bool) → ts ≡ a ⧺ piece mark (Sign comma) done → ReadsArgumentList c a es → ReadsArguments c ts es
+
+  pub data ReadsArgumentList : Allowed → Tokens → Trees → Type 0 where
+    last_argument : {c : Allowed} {ts : Tokens} {e : Tree} → ReadsExpression c Assignment ts e → ReadsArgumentList c ts (more e no_trees)
+    first_argument : {c : Allowed} {ts a b : Tokens} {e : Tree} {es : Trees} (mark : Bool) → ts ≡ a ⧺ piece mark (Sign comma) b → ReadsExpression c Assignment a e → ReadsArgumentList c b es → ReadsArgumentList c ts (more e es)
 
   -- ---- bindings and declarations (14.3)
 
@@ -209,5 +229,11 @@ mutual
 
 -- ---- modules (16.2)
 
+-- The first statement is one string in `'` or `"`: a directive (11.2.1). None is read so far.
+abbrev pub starts_with_directive : Tokens → Bool
+starts_with_directive (piece mark (Quoted q w) done) = not (is_backtick q)
+starts_with_directive (piece mark (Quoted q w) (piece next (Sign semicolon) ts)) = not (is_backtick q)
+starts_with_directive ts = false
+
 pub data ReadsModule : Tokens → Tree → Type 0 where
-  a_module : {ts : Tokens} {body : Trees} → ReadsStatements in_module false ts body → ReadsModule ts (tree.program (bare []) body)
+  a_module : {ts : Tokens} {body : Trees} → starts_with_directive ts ≡ false → ReadsStatements in_module false ts body → ReadsModule ts (tree.program (bare []) body)

@@ -12,8 +12,12 @@ pub data Items : Type 0 where
   name : List ℕ → Items
   -- a number, apart from a word before it; the test holds where a dot behind it would be its own
   number : Bool → List ℕ → Items
-  -- a literal that begins and ends with a mark of its own, as a string
+  -- a literal that begins and ends with a mark of its own, as a regular expression
   literal : List ℕ → Items
+  -- a string by its units, in backticks only where the test holds
+  string : Bool → List ℕ → Items
+  -- a string that is a whole first statement, and mustn't be read as a directive
+  first_string : List ℕ → Items
   punctuator : Punctuator → Items
   -- an operator's sign, apart from a sign before it that it would join
   operator : Punctuator → Items

@@ -1,14 +1,18 @@
 -- The text that items give, from a pen.
-use Rattle.std.specs.Prelude.{ℕ, suc, ◌*◌, List, [], ◌∷◌, ◌++◌, Bool, true, false, None, ◌==◌, codes, replicate}
+use Rattle.std.specs.Prelude.{ℕ, suc, ◌*◌, List, [], ◌∷◌, ◌++◌, Bool, true, false, None, ◌==◌, codes, replicate, if◌then◌else◌}
 use Rattle.std.specs.List.{last_or}
 use Rattle.std.specs.Option.{option_map_or}
 use Rattle.jsgen_syntax.specs.Name.{goes_in_word}
+use Rattle.jsgen_syntax.specs.Strings.{quoted, cheapest, is_plain_string}
+use Rattle.jsgen_syntax.specs.declared.quote.Quote.{Quote}
+use Rattle.jsgen_syntax.specs.declared.quote.Quote.TheVariants.{Double, Backtick}
 use Rattle.jsgen_model.specs.Punctuator.{Punctuator, plus, plus_plus, minus, minus_minus, bang, equal_equal, equal_equal_equal, punctuator_text, Round, opening, closing}
-use Rattle.jsgen_model.specs.Items.{Items, nothing, ◌⊕◌, word, name, number, literal, punctuator, operator, member_dot, soft_space, soft_line, hard_space, indentation, body_space, deeper, brackets, wrapped, statement_end, due_semicolon, drop_semicolon, statement_begins, arrow_body_begins, default_export_begins}
+use Rattle.jsgen_model.specs.Items.{Items, nothing, ◌⊕◌, word, name, number, literal, string, first_string, punctuator, operator, member_dot, soft_space, soft_line, hard_space, indentation, body_space, deeper, brackets, wrapped, statement_end, due_semicolon, drop_semicolon, statement_begins, arrow_body_begins, default_export_begins}
 
--- what never changes: whether the text is minified, and what a level of indentation is made of
+-- what never changes: whether the text is minified, the quote of pretty text, and what a level of indentation is made of
 pub record Style : Type 0 where
   pub minified : Bool
+  pub quote : Quote
   pub indent : ℕ
   pub width : ℕ
 
@@ -132,6 +136,20 @@ abbrev pub deeper_level : Bool → ℕ → ℕ
 deeper_level true depth = depth
 deeper_level false depth = suc depth
 
+-- ---- strings
+
+-- minified, the quote is the one that gives the shortest text
+abbrev pub chosen_quote : Style → Bool → List ℕ → Quote
+chosen_quote style backticks units = if style.minified then cheapest backticks units else style.quote
+
+-- so far a string of other characters than those from a space to `~` is spelled by nothing: no valid tree has one
+abbrev pub string_text : Quote → List ℕ → List ℕ
+string_text quote units = if is_plain_string units then quoted quote units else []
+
+-- a first statement: minified in backticks, and else in parentheses
+abbrev pub first_text : Style → List ℕ → List ℕ
+first_text style units = if style.minified then string_text Backtick units else opening Round ++ (string_text style.quote units ++ closing Round)
+
 -- ---- the whole
 
 -- the pen after the items: of two, after the second from where the first ends
@@ -142,6 +160,8 @@ layout (word w) pen = written (space_if (ends_in_word pen.code) ++ w) other_end 
 layout (name w) pen = written (space_if (ends_in_word pen.code) ++ w) other_end pen
 layout (number dot_is_its_own w) pen = written (space_if (ends_in_word pen.code) ++ w) (number_ending dot_is_its_own) pen
 layout (literal w) pen = written w other_end pen
+layout (string backticks units) pen = written (string_text (chosen_quote pen.style backticks units) units) other_end pen
+layout (first_string units) pen = written (first_text pen.style units) other_end pen
 layout (punctuator p) pen = written (punctuator_text p) other_end pen
 layout (operator p) pen = written (space_if (joins pen.ending pen.code p) ++ punctuator_text p) (operator_end p) pen
 layout member_dot pen = written (space_if (dot_joins pen.ending) ++ codes ".") other_end pen
@@ -164,6 +184,6 @@ layout default_export_begins pen = record pen { start = default_export }
 abbrev pub empty_pen : Style → ℕ → Pen
 empty_pen style depth = record { style = style; code = []; depth = depth; pending_space = false; pending_semicolon = false; ending = other_end; start = statement }
 
--- pretty text, indented by tabs
+-- pretty text, with double quotes and indented by tabs
 abbrev pub pretty : Style
-pretty = record { minified = false; indent = 9; width = 1 }
+pretty = record { minified = false; quote = Double; indent = 9; width = 1 }

@@ -1,6 +1,6 @@
 -- What two trees of one meaning have in common.
 use Rattle.std.specs.Prelude.{ℕ, List, [], ◌∷◌, Bool, true, false, decimal, if◌then◌else◌}
-use Rattle.jsgen_tree.specs.Tree.{Tree, node, Slots, no_slots, one, maybe, many, Maybe, absent, given, Trees, no_trees, more, hole, Atom, Atoms, text, digits, declaration_kind, binary_operator, logical_operator, text_in, declaration_kind_in, operator_in, logical_operator_in}
+use Rattle.jsgen_tree.specs.Tree.{Tree, node, Slots, no_slots, one, maybe, many, Maybe, absent, given, Trees, no_trees, more, hole, Atom, Atoms, text, units, digits, declaration_kind, binary_operator, logical_operator, text_in, units_in, declaration_kind_in, operator_in, logical_operator_in}
 use Rattle.jsgen_tree.specs.declared.types.NodeType.TheVariants as types
 use Rattle.jsgen_syntax.specs.declared.operator.LogicalOperator.{LogicalOperator}
 use Rattle.jsgen_syntax.specs.declared.operator.LogicalOperator.TheVariants.{Or, And, Coalesce}
@@ -39,8 +39,8 @@ abbrev pub links : LogicalOperator → Tree → Trees
 links o (chain a operands) = if same_operator o (logical_operator_in a.values) then operands else more (chain a operands) no_trees
 links o t = more t no_trees
 
--- Parentheses, spans, the source and the kind of a program are away; a whole number is its digits; a chain of one
--- logical operator is one list, however it was grouped.
+-- Parentheses, spans, the source and the kind of a program are away, and whether a call is pure; a whole number is its
+-- digits; a chain of one logical operator is one list, however it was grouped.
 abbrev mutual
   pub normal : Tree → Tree
   normal (tree.program a body) = tree.program (bare []) (normal_trees body)
@@ -50,9 +50,14 @@ abbrev mutual
   normal (tree.binding_identifier a) = tree.binding_identifier (bare (text (text_in a.values) ∷ []))
   normal (tree.identifier_reference a) = tree.identifier_reference (bare (text (text_in a.values) ∷ []))
   normal (tree.numeric_literal a) = tree.numeric_literal (bare (text (number_text a.values) ∷ []))
+  normal (tree.string_literal a) = tree.string_literal (bare (units (units_in a.values) ∷ []))
   normal (tree.parenthesized a expression) = normal expression
   normal (tree.binary a left right) = tree.binary (bare (binary_operator (operator_in a.values) ∷ [])) (normal left) (normal right)
   normal (tree.logical a left right) = chain (bare (logical_operator (logical_operator_in a.values) ∷ [])) (joined (links (logical_operator_in a.values) (normal left)) (links (logical_operator_in a.values) (normal right)))
+  normal (tree.identifier_name a) = tree.identifier_name (bare (text (text_in a.values) ∷ []))
+  normal (tree.static_member a object property) = tree.static_member (bare []) (normal object) (normal property)
+  normal (tree.computed_member a object expression) = tree.computed_member (bare []) (normal object) (normal expression)
+  normal (tree.call a callee arguments) = tree.call (bare []) (normal callee) (normal_trees arguments)
   normal (node type a slots) = node type (bare a.values) (normal_slots slots)
 
   pub normal_slots : Slots → Slots

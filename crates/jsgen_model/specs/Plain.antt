@@ -25,9 +25,14 @@ abbrev mutual
   IsPlain (tree.binding_identifier a) = ⊤
   IsPlain (tree.identifier_reference a) = ⊤
   IsPlain (tree.numeric_literal a) = is_whole a.values ≡ true
+  IsPlain (tree.string_literal a) = ⊤
   IsPlain (tree.parenthesized a expression) = IsPlain expression
   IsPlain (tree.binary a left right) = IsPlain left × IsPlain right
   IsPlain (tree.logical a left right) = IsPlain left × IsPlain right
+  IsPlain (tree.identifier_name a) = ⊤
+  IsPlain (tree.static_member a object property) = IsPlain object × IsPlain property
+  IsPlain (tree.computed_member a object expression) = IsPlain object × IsPlain expression
+  IsPlain (tree.call a callee arguments) = IsPlain callee × ArePlain arguments
   IsPlain t = ⊥
 
   pub IsPlainIfGiven : Maybe → Type 0

@@ -1,20 +1,20 @@
 -- How each node is spelled: one row, one clause.
-use Rattle.std.specs.Prelude.{ℕ, List, Bool, true, false, not, ◌&&◌, ◌||◌, ◌==◌, nat_le, codes, decimal, if◌then◌else◌}
+use Rattle.std.specs.Prelude.{ℕ, List, Bool, true, false, not, ◌&&◌, ◌||◌, ◌==◌, nat_le, codes, decimal, Option, Some, None, if◌then◌else◌}
 use Rattle.std.specs.Str.{encode_utf8_all}
 use Rattle.jsgen_syntax.specs.Precedence.{rank}
 use Rattle.jsgen_syntax.specs.Operator.{binary_level, lower_level, logical_level, logical_lower_level}
 use Rattle.jsgen_syntax.specs.declared.precedence.Precedence.{Precedence}
-use Rattle.jsgen_syntax.specs.declared.precedence.Precedence.TheVariants.{Lowest, Comma, Multiply, Exponentiation, Prefix, Call}
+use Rattle.jsgen_syntax.specs.declared.precedence.Precedence.TheVariants.{Lowest, Comma, Multiply, Exponentiation, Prefix, Postfix, New, Call}
 use Rattle.jsgen_syntax.specs.declared.operator.BinaryOperator.{BinaryOperator}
 use Rattle.jsgen_syntax.specs.declared.operator.BinaryOperator.TheVariants as operators
 use Rattle.jsgen_syntax.specs.declared.operator.LogicalOperator.{LogicalOperator}
 use Rattle.jsgen_syntax.specs.declared.operator.LogicalOperator.TheVariants as logical_operators
 use Rattle.jsgen_tree.specs.Table.{without_parentheses}
 use Rattle.jsgen_tree.specs.Words.{declaration_word}
-use Rattle.jsgen_tree.specs.Tree.{Tree, Maybe, absent, given, Trees, no_trees, more, hole, text_in, digits_in, declaration_kind_in, operator_in, logical_operator_in}
+use Rattle.jsgen_tree.specs.Tree.{Tree, Maybe, absent, given, Trees, no_trees, more, hole, text_in, units_in, digits_in, declaration_kind_in, operator_in, logical_operator_in}
 use Rattle.jsgen_tree.specs.Tree as tree
-use Rattle.jsgen_model.specs.Punctuator.{comma, equal, plus, minus, star, slash, percent, star_star, equal_equal, not_equal, equal_equal_equal, not_equal_equal, less, less_equal, greater, greater_equal, shift_left, shift_right, shift_right_zero, bit_and, bit_or, bit_xor, and_and, or_or, nullish}
-use Rattle.jsgen_model.specs.Items.{Items, nothing, ◌⊕◌, word, name, number, punctuator, operator, soft_space, indentation, wrapped, statement_end, due_semicolon, statement_begins}
+use Rattle.jsgen_model.specs.Punctuator.{comma, equal, plus, minus, star, slash, percent, star_star, equal_equal, not_equal, equal_equal_equal, not_equal_equal, less, less_equal, greater, greater_equal, shift_left, shift_right, shift_right_zero, bit_and, bit_or, bit_xor, and_and, or_or, nullish, Round, Square}
+use Rattle.jsgen_model.specs.Items.{Items, nothing, ◌⊕◌, word, name, number, string, first_string, punctuator, operator, member_dot, brackets, soft_space, indentation, wrapped, statement_end, due_semicolon, statement_begins}
 use Rattle.jsgen_model.specs.Layout.{Start, nowhere, statement, unless_printed, Style, layout, empty_pen}
 
 -- what an expression's surroundings forbid
@@ -55,6 +55,18 @@ in_front level place = record { level = level; context = place.context; start = 
 
 abbrev pub left_of : Precedence → Place → Place
 left_of level place = record (in_front level place) { left_operand = true }
+
+-- a child in brackets, where nothing is forbidden
+abbrev pub in_brackets : Precedence → Place
+in_brackets level = record { level = level; context = free; start = nowhere; in_list = false; left_operand = false }
+
+-- the object of a member
+abbrev pub linked : Place → Place
+linked place = in_front Postfix place
+
+-- what is called: calls may stand in it
+abbrev pub called : Place → Place
+called place = record (in_front Postfix place) { context = record place.context { forbids_call = false } }
 
 abbrev pub allow_in : Bool → Context → Context
 allow_in true context = record context { forbids_in = false }
@@ -148,20 +160,46 @@ abbrev pub unmixed : LogicalOperator → Tree → Precedence → Precedence
 unmixed logical_operators.Coalesce operand level = if mixes (without_parentheses operand) then Prefix else level
 unmixed o operand level = level
 
+-- a call stands in parentheses where something tighter is asked for, and where calls are forbidden
+abbrev pub call_wraps : Place → Bool
+call_wraps place = wraps New place || place.context.forbids_call
+
 -- among statements a declaration has indentation and an end
 abbrev pub as_statement : Bool → Items → Items
 as_statement true items = indentation ⊕ (items ⊕ statement_end)
 as_statement false items = items
 
+-- ---- the first statement of a body
+
+abbrev pub string_in : Tree → Option (List ℕ)
+string_in (tree.string_literal a) = Some (units_in a.values)
+string_in t = None
+
+-- the string that a statement is, and nothing else
+abbrev pub string_statement : Tree → Option (List ℕ)
+string_statement (tree.expression_statement a expression) = string_in (without_parentheses expression)
+string_statement t = None
+
+abbrev pub unless_string : Option (List ℕ) → Items → Items
+unless_string (Some units) items = indentation ⊕ (first_string units ⊕ statement_end)
+unless_string None items = items
+
+-- a string alone, which would be read as a directive, is spelled otherwise than elsewhere (ECMA-262, 11.2.1)
+abbrev pub first_statement : Tree → Items → Items
+first_statement t items = unless_string (string_statement t) items
+
+-- ---- the whole
+
 abbrev mutual
   pub spell : Tree → Place → Items
-  spell (tree.program a body) place = spell_statements body ⊕ due_semicolon
+  spell (tree.program a body) place = spell_body body ⊕ due_semicolon
   spell (tree.expression_statement a expression) place = indentation ⊕ (statement_begins ⊕ (spell expression whole_statement ⊕ statement_end))
   spell (tree.variable_declaration a declarations) place = as_statement place.in_list (word (declaration_word (declaration_kind_in a.values)) ⊕ (soft_space ⊕ spell_list declarations (behind Lowest place)))
   spell (tree.variable_declarator a id init) place = spell id (in_front Lowest place) ⊕ spell_value init (behind Comma place)
   spell (tree.binding_identifier a) place = name (text_in a.values)
   spell (tree.identifier_reference a) place = name (text_in a.values)
   spell (tree.numeric_literal a) place = number true (decimal (digits_in a.values))
+  spell (tree.string_literal a) place = string true (units_in a.values)
   spell (tree.parenthesized a expression) place = spell expression place
   spell (tree.binary a left right) place =
       operation (binary_wraps (operator_in a.values) place) (operator_item (operator_in a.values))
@@ -171,7 +209,18 @@ abbrev mutual
       operation (logical_wraps (logical_operator_in a.values) place) (logical_item (logical_operator_in a.values))
       (spell left (left_of (unmixed (logical_operator_in a.values) left (logical_lower_level (logical_operator_in a.values))) (within (logical_wraps (logical_operator_in a.values) place) place)))
       (spell right (behind (unmixed (logical_operator_in a.values) right (logical_level (logical_operator_in a.values))) (within (logical_wraps (logical_operator_in a.values) place) place)))
+  spell (tree.identifier_name a) place = name (text_in a.values)
+  spell (tree.static_member a object property) place = spell object (linked place) ⊕ (member_dot ⊕ spell property (behind Lowest place))
+  spell (tree.computed_member a object expression) place = spell object (linked place) ⊕ brackets Square (spell expression (in_brackets Lowest))
+  spell (tree.call a callee arguments) place =
+      wrapped (call_wraps place) (spell callee (called (within (call_wraps place) place)) ⊕ brackets Round (spell_list arguments (in_brackets Comma)))
   spell t place = nothing
+
+  -- the statements of a body
+  pub spell_body : Trees → Items
+  spell_body no_trees = nothing
+  spell_body (more t ts) = due_semicolon ⊕ (first_statement t (spell t among_statements) ⊕ spell_statements ts)
+  spell_body (hole ts) = spell_body ts
 
   -- a list of statements, each after the semicolon that the one before may have left
   pub spell_statements : Trees → Items

@@ -1,15 +1,19 @@
 -- How a text is cut into tokens (ECMA-262, clause 12): always the longest that stands there. Texts are lists of characters.
-use Rattle.std.specs.Prelude.{◌≡◌, ℕ, List, [], ◌∷◌, ◌++◌, length, Bool, true, false, not, ◌&&◌, ◌||◌, ◌==◌, nat_lt, Option, Some, None, if◌then◌else◌}
+use Rattle.std.specs.Prelude.{◌≡◌, ℕ, List, [], ◌∷◌, ◌++◌, length, Bool, true, false, not, ◌&&◌, ◌||◌, ◌==◌, nat_lt, Option, Some, None, is_some, if◌then◌else◌}
 use Rattle.std.specs.Char.{is_ascii_digit}
 use Rattle.std.specs.List.{list_all, list_any}
 use Rattle.std.specs.Option.{option_map_or}
 use Rattle.jsgen_syntax.specs.Name.{starts_name, continues_name, spells_name}
+use Rattle.jsgen_syntax.specs.Strings.{quote_char, string_value}
+use Rattle.jsgen_syntax.specs.declared.quote.Quote.{Quote}
 use Rattle.jsgen_model.specs.Punctuator.{Punctuator, punctuator_text, dot, ellipsis, semicolon, comma, colon, question, question_dot, arrow, less, greater, less_equal, greater_equal, equal_equal, not_equal, equal_equal_equal, not_equal_equal, plus, minus, star, slash, percent, star_star, plus_plus, minus_minus, shift_left, shift_right, shift_right_zero, bit_and, bit_or, bit_xor, bang, tilde, and_and, or_or, nullish, equal, plus_equal, minus_equal, star_equal, slash_equal, percent_equal, star_star_equal, shift_left_equal, shift_right_equal, shift_right_zero_equal, bit_and_equal, bit_or_equal, bit_xor_equal, and_and_equal, or_or_equal, nullish_equal, Bracket, opening, closing}
 
--- A token that is no bracket. Private names, strings, regular expressions and the parts of templates come with the nodes that print them.
+-- A token that is no bracket. Private names, regular expressions and the parts of templates come with the nodes that print them.
 pub data Piece : Type 0 where
   Word : List ℕ → Piece
   Number : List ℕ → Piece
+  -- a string, or a template without substitutions that a string spells: what stands between the quotes
+  Quoted : Quote → List ℕ → Piece
   Sign : Punctuator → Piece
 
 -- A row of tokens. The mark tells that a line end stands before the token. Brackets that match make a group, as `${` and `}` will.
@@ -78,17 +82,20 @@ spells_whole (c ∷ d ∷ ds) = not (c == 48) && list_all is_ascii_digit (c ∷ 
 abbrev pub piece_text : Piece → List ℕ
 piece_text (Word w) = w
 piece_text (Number w) = w
+piece_text (Quoted q w) = quote_char q ∷ (w ++ quote_char q ∷ [])
 piece_text (Sign p) = punctuator_text p
 
 abbrev pub is_spelled : Piece → Bool
 is_spelled (Word w) = spells_name w
 is_spelled (Number w) = spells_whole w
+is_spelled (Quoted q w) = is_some (string_value q w)
 is_spelled (Sign p) = true
 
--- with this character behind it, a word is longer, and a number another one or none (12.9.3)
+-- with this character behind it, a word is longer, and a number another one or none (12.9.3); a string has its end
 abbrev pub goes_on_with : Piece → ℕ → Bool
 goes_on_with (Word w) c = continues_name c
 goes_on_with (Number w) c = starts_name c || is_ascii_digit c || (c == 46)
+goes_on_with (Quoted q w) c = false
 goes_on_with (Sign p) c = false
 
 -- the token ends before this text

@@ -2,10 +2,11 @@
 use Rattle.std.specs.Prelude.{◌≡◌, ℕ, suc, max, List, [], ◌∷◌, ◌++◌, length, Bool, true, false, nat_lt, Contains, Result, Ok, Err, if◌then◌else◌}
 use Rattle.std.specs.Str.{encode_utf8_all}
 use Rattle.jsgen_syntax.specs.Name.{spells_name, is_reserved, is_strict_reserved}
+use Rattle.jsgen_syntax.specs.Strings.{is_plain_string}
 use Rattle.jsgen_syntax.specs.declared.span.Span.{Span}
 use Rattle.jsgen_tree.specs.declared.types.NodeSet.{NodeSet}
 use Rattle.jsgen_tree.specs.Table.{fields, child_sets, in_set}
-use Rattle.jsgen_tree.specs.Tree.{Tree, node, Slots, no_slots, one, maybe, many, Maybe, absent, given, Trees, no_trees, more, hole, Atoms, type_of, span_of, text_in}
+use Rattle.jsgen_tree.specs.Tree.{Tree, node, Slots, no_slots, one, maybe, many, Maybe, absent, given, Trees, no_trees, more, hole, Atoms, type_of, span_of, text_in, units_in}
 use Rattle.jsgen_tree.specs.Tree as tree
 use Rattle.jsgen_model.specs.declared.fault.TreeFault.{TreeFault}
 use Rattle.jsgen_model.specs.declared.fault.TreeFault.TheVariants as faults
@@ -30,6 +31,14 @@ is_free_name w = if spells_name w then (if is_reserved (encode_utf8_all w) then 
 
 abbrev pub name_faults : Atoms → List TreeFault
 name_faults a = fault_if (not (is_free_name (text_in a.values))) (faults.Name a.span.start)
+
+-- so far a string has the characters from a space to `~`
+abbrev pub string_faults : Atoms → List TreeFault
+string_faults a = fault_if (not (is_plain_string (units_in a.values))) (faults.Literal a.span.start)
+
+-- a member's name is a name, be it reserved or not
+abbrev pub written_name_faults : Atoms → List TreeFault
+written_name_faults a = fault_if (not (spells_name (text_in a.values))) (faults.Name a.span.start)
 
 -- a declaration has a declarator
 abbrev pub declaration_faults : Span → Trees → List TreeFault
@@ -73,6 +82,8 @@ own_faults (tree.program a body) = source_faults a ++ indent_faults (tree.progra
 own_faults (tree.variable_declaration a declarations) = declaration_faults a.span declarations
 own_faults (tree.binding_identifier a) = name_faults a
 own_faults (tree.identifier_reference a) = name_faults a
+own_faults (tree.string_literal a) = string_faults a
+own_faults (tree.identifier_name a) = written_name_faults a
 own_faults t = []
 
 -- a child stands where its field asks for it

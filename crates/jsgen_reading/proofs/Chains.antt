@@ -1,10 +1,8 @@
 -- Logical operations. A right operand with the same operator goes on with the chain, and what is read groups from the left.
-use Rattle.std.proofs.Common.{◌≡◌, ℕ, Bool, true, false, not, ◌&&◌, ◌==◌, cond, [], ◌∷◌, refl, sym, ap, ◌∙◌, subst₂, arith}
+use Rattle.std.proofs.Common.{◌≡◌, Bool, true, false, not, ◌&&◌, ◌==◌, cond, [], ◌∷◌, refl, sym, ap, ◌∙◌, subst₂, arith}
 use Rattle.std.proofs.lemmas.Bool.{both_ways, and_parts, eqb-true, not-true}
 use Rattle.jsgen_syntax.specs.Precedence.{rank}
 use Rattle.jsgen_syntax.specs.Operator.{logical_level, logical_lower_level}
-use Rattle.jsgen_syntax.specs.declared.operator.BinaryOperator.{BinaryOperator}
-use Rattle.jsgen_syntax.specs.declared.operator.BinaryOperator.TheVariants as operators
 use Rattle.jsgen_syntax.specs.declared.operator.LogicalOperator.{LogicalOperator}
 use Rattle.jsgen_syntax.specs.declared.operator.LogicalOperator.TheVariants.{Or, And, Coalesce}
 use Rattle.jsgen_syntax.specs.declared.precedence.Precedence.{Precedence}
@@ -16,14 +14,14 @@ use Rattle.jsgen_model.specs.Punctuator.{Punctuator, and_and, or_or, nullish}
 use Rattle.jsgen_model.specs.Tokens.{Tokens, piece, ◌⧺◌, Sign}
 use Rattle.jsgen_model.specs.Items.{◌⊕◌, soft_space, punctuator}
 use Rattle.jsgen_model.specs.Layout.{Pen, Start, nowhere, other_end, layout, unless_printed}
-use Rattle.jsgen_model.specs.Grammar.{Allowed, Level, ReadsExpression, operation_level}
+use Rattle.jsgen_model.specs.Grammar.{Allowed, Level, ReadsExpression}
 use Rattle.jsgen_model.specs.Grammar as grammar
 use Rattle.jsgen_model.specs.Normal.{normal, bare, chain, links, joined}
 use Rattle.jsgen_model.specs.Spell.{Place, spell, within, left_of, behind, wraps, logical_item, goes_on, logical_wraps, unmixed, mixes, is_or_or_and}
 use Rattle.jsgen_lexing.proofs.Last.{Last, After, Ready, Remembers, Knows, NoDot}
 use Rattle.jsgen_lexing.proofs.Writes.{then_assoc}
 use Rattle.jsgen_lexing.proofs.Steps.{wrote_punctuator}
-use Rattle.jsgen_reading.proofs.Levels.{operand_level, level_of, under, looser, read_at, same_rank, lifted, unwrapped}
+use Rattle.jsgen_reading.proofs.Levels.{number_of, operation_number, operand_level, level_of, under, looser, read_at, same_rank, lifted, unwrapped}
 use Rattle.jsgen_reading.proofs.Families.{IsExpression}
 use Rattle.jsgen_reading.proofs.Families as family
 use Rattle.jsgen_reading.proofs.Good.{Good, Printed, Between, good_at, good_since, good_wrapped, good_infix}
@@ -82,21 +80,6 @@ unwrapped_chain {c} {ts} {u} o place h r = by (wraps (logical_level o) place) re
     by : (w : Bool) → wraps (logical_level o) place ≡ w → (w && not (goes_on o place)) ≡ false → ReadsExpression c (level_of place) ts u
     by false e n = unwrapped (logical_level o) place e (own_level place.context.forbids_call o r)
     by true e n = by_goes (goes_on o place) refl n
-
--- ---- no binary operation is read at the level of a logical one
-
--- the levels of logical operations, told apart by numbers
-abbrev number_of : Level → ℕ
-number_of grammar.ShortCircuit = 1
-number_of grammar.Coalesced = 2
-number_of grammar.CoalesceHead = 3
-number_of grammar.LogicalOr = 4
-number_of grammar.LogicalAnd = 5
-number_of g = 0
-
-operation_number : (o : BinaryOperator) → number_of (operation_level o) ≡ 0
-operation_number operators.Equality = refl
-operation_number o = refl
 
 -- ---- chains
 
@@ -181,20 +164,28 @@ head_at_short d h (grammar.a_logical_or r) = head_at_or refl h r
 head_at_short d h (grammar.an_operation o m p k q s t) = absurd (omega (arith, operation_number o, ap number_of d))
 head_at_short d h r = absurd (omega (arith, ap number_of d))
 
-an_expression : {c : Allowed} {t : Tree} → IsExpression c t → is_expression (type_of t) ≡ true
+pub an_expression : {c : Allowed} {t : Tree} → IsExpression c t → is_expression (type_of t) ≡ true
 an_expression (family.a_reference h) = refl
 an_expression (family.a_number h e) = refl
+an_expression (family.a_string h) = refl
 an_expression (family.in_parentheses v) = refl
 an_expression (family.an_operation v w) = refl
 an_expression (family.a_logical_operation v w) = refl
+an_expression (family.a_named_member v h) = refl
+an_expression (family.a_computed_member v w) = refl
+an_expression (family.a_call v w) = refl
 
 -- the normal form tells which operands mix
 pub mixes_so : {c : Allowed} {t : Tree} → IsExpression c t → is_mixed (normal t) ≡ mixes (without_parentheses t)
 mixes_so (family.a_reference h) = refl
 mixes_so (family.a_number h e) = refl
+mixes_so (family.a_string h) = refl
 mixes_so (family.in_parentheses {a} {t} v) = mixes_so v ∙ ap (λ b. mixes (cond b (without_parentheses t) (tree.parenthesized a t))) (sym (an_expression v))
 mixes_so (family.an_operation v w) = refl
 mixes_so (family.a_logical_operation v w) = refl
+mixes_so (family.a_named_member v h) = refl
+mixes_so (family.a_computed_member v w) = refl
+mixes_so (family.a_call v w) = refl
 
 -- in parentheses where it mixes
 head_there : (c : Allowed) (t : Tree) (at : Precedence → Place) (start : Start) (level : Precedence) → is_mixed (normal t) ≡ mixes (without_parentheses t) → ((p : Pen) (l : Last) → p.pending_semicolon ≡ false → Ready l → Knows p l → Good p l (layout (spell t (at levels.Prefix)) p) c grammar.Update start t)

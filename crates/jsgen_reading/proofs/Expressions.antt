@@ -1,22 +1,27 @@
 -- One lemma for each type of expression.
-use Rattle.std.proofs.Common.{◌≡◌, ℕ, Bool, true, false, not, decimal, codes, List, [], ◌∷◌, refl, ap}
-use Rattle.jsgen_tree.specs.Tree.{Tree, Atoms, text, text_in, digits_in}
+use Rattle.std.proofs.Common.{◌≡◌, ℕ, Bool, true, false, not, cond, decimal, codes, List, [], ◌∷◌, ◌++◌, refl, ap}
+use Rattle.jsgen_syntax.specs.Strings.{escaped, quoted, is_plain_string}
+use Rattle.jsgen_syntax.specs.declared.quote.Quote.{Quote}
+use Rattle.jsgen_syntax.proofs.Strings.{escaped_value}
+use Rattle.jsgen_model.specs.Items.{string}
+use Rattle.jsgen_tree.specs.Tree.{Tree, Trees, Atoms, text, units, text_in, units_in, digits_in}
 use Rattle.jsgen_tree.specs.Tree as tree
-use Rattle.jsgen_model.specs.Tokens.{Tokens, done, piece, Word, Number, spells_whole}
-use Rattle.jsgen_model.specs.Layout.{Start, nowhere, statement, arrow_body, default_export}
+use Rattle.jsgen_model.specs.Tokens.{Tokens, done, piece, Word, Number, Quoted, spells_whole}
+use Rattle.jsgen_model.specs.Layout.{layout, chosen_quote, Start, nowhere, statement, arrow_body, default_export}
 use Rattle.jsgen_model.specs.Grammar.{Allowed, is_word, named}
 use Rattle.jsgen_model.specs.Grammar as grammar
 use Rattle.jsgen_model.specs.Normal.{bare, number_text}
 use Rattle.jsgen_model.specs.Valid.{is_free_name}
-use Rattle.jsgen_lexing.proofs.Last.{line_of}
-use Rattle.jsgen_lexing.proofs.Steps.{wrote_word, wrote_number}
+use Rattle.jsgen_lexing.proofs.Last.{After, line_of}
+use Rattle.jsgen_lexing.proofs.Steps.{wrote_word, wrote_number, wrote_quoted}
 use Rattle.jsgen_reading.proofs.Levels.{from_primary}
-use Rattle.jsgen_reading.proofs.Families.{IsExpression}
+use Rattle.jsgen_reading.proofs.Families.{IsExpression, AreArguments}
 use Rattle.jsgen_reading.proofs.Families as family
 use Rattle.jsgen_reading.proofs.Names.{free_spelled, free_starts_none}
 use Rattle.jsgen_reading.proofs.Good.{Printed, may_begin}
 use Rattle.jsgen_reading.proofs.Operations.{good_operation, spelled_alike}
 use Rattle.jsgen_reading.proofs.Chains.{good_logical_operation, mixes_so}
+use Rattle.jsgen_reading.proofs.Links.{ArgumentsAt, MoreArgumentsAt, good_named_member, good_computed_member, good_call, no_arguments, first_of_arguments, no_more_arguments, one_more_argument}
 
 -- ---- names and numbers
 
@@ -60,6 +65,31 @@ good_number c a h e place p l z y k = record {
   same = ap (λ w. tree.numeric_literal (bare (text w ∷ []))) e;
 }
 
+-- ---- strings
+
+quoted_begins : (start : Start) (line : Bool) (q : Quote) (w : List ℕ) (b : Tokens) → may_begin start (piece line (Quoted q w) b) ≡ true
+quoted_begins nowhere line q w b = refl
+quoted_begins statement line q w b = refl
+quoted_begins arrow_body line q w b = refl
+quoted_begins default_export line q w b = refl
+
+pub good_string : (c : Allowed) (a : Atoms) → is_plain_string (units_in a.values) ≡ true → Printed c (tree.string_literal a)
+good_string c a h place p l z y k =
+    let us : List ℕ = units_in a.values in
+    let q : Quote = chosen_quote p.style true us in
+    record {
+      last = After (Quoted q (escaped q us));
+      tokens = piece (line_of l) (Quoted q (escaped q us)) done;
+      writes = wrote_quoted q us p (layout (string true us) p) l h (ap (λ b. p.code ++ cond b (quoted q us) []) h) refl k;
+      operand = tt;
+      semicolon = z;
+      begins = λ b n. quoted_begins place.start (line_of l) q (escaped q us) b;
+      line = λ g. ap not g;
+      tree = tree.string_literal (bare (units us ∷ []));
+      reads = from_primary place (grammar.a_string (escaped_value q us h));
+      same = refl;
+    }
+
 -- ---- parentheses, which aren't printed
 
 pub good_parenthesized : (c : Allowed) (a : Atoms) (t : Tree) → Printed c t → Printed c (tree.parenthesized a t)
@@ -69,9 +99,22 @@ good_parenthesized c a t f place p l z y k =
 
 -- ---- the whole
 
-pub printed_expression : {c : Allowed} {t : Tree} → IsExpression c t → Printed c t
-printed_expression {c} (family.a_reference {a} h) = good_reference c a h
-printed_expression {c} (family.a_number {a} h e) = good_number c a h e
-printed_expression {c} (family.in_parentheses {a} {t} v) = good_parenthesized c a t (printed_expression v)
-printed_expression {c} (family.an_operation {a} {l} {r} v w) = good_operation c a l r (spelled_alike v) (printed_expression v) (printed_expression w)
-printed_expression {c} (family.a_logical_operation {a} {l} {r} v w) = good_logical_operation c a l r (printed_expression v) (printed_expression w) (mixes_so v) (mixes_so w)
+mutual
+  pub printed_expression : {c : Allowed} {t : Tree} → IsExpression c t → Printed c t
+  printed_expression {c} (family.a_reference {a} h) = good_reference c a h
+  printed_expression {c} (family.a_number {a} h e) = good_number c a h e
+  printed_expression {c} (family.a_string {a} h) = good_string c a h
+  printed_expression {c} (family.in_parentheses {a} {t} v) = good_parenthesized c a t (printed_expression v)
+  printed_expression {c} (family.an_operation {a} {l} {r} v w) = good_operation c a l r (spelled_alike v) (printed_expression v) (printed_expression w)
+  printed_expression {c} (family.a_logical_operation {a} {l} {r} v w) = good_logical_operation c a l r (printed_expression v) (printed_expression w) (mixes_so v) (mixes_so w)
+  printed_expression {c} (family.a_named_member {a} {b} {o} v h) = good_named_member c a b o h (printed_expression v)
+  printed_expression {c} (family.a_computed_member {a} {o} {e} v w) = good_computed_member c a o e (printed_expression v) (printed_expression w)
+  printed_expression {c} (family.a_call {a} {f} {es} v w) = good_call c a f es (printed_expression v) (printed_arguments w)
+
+  printed_arguments : {c : Allowed} {es : Trees} → AreArguments c es → ArgumentsAt c es
+  printed_arguments {c} family.no_argument = no_arguments c
+  printed_arguments {c} (family.first_argument {e} {es} v w) = first_of_arguments c e es (printed_expression v) (more_arguments w)
+
+  more_arguments : {c : Allowed} {es : Trees} → AreArguments c es → MoreArgumentsAt c es
+  more_arguments {c} family.no_argument = no_more_arguments c
+  more_arguments {c} (family.first_argument {e} {es} v w) = one_more_argument c e es (printed_expression v) (more_arguments w)

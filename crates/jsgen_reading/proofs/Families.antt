@@ -1,13 +1,15 @@
 -- The trees over which the induction goes. They follow from the rules, one lemma a row.
 use Rattle.std.proofs.Common.{◌≡◌, Bool, true, false, ◌++◌, List, [], ◌∷◌, decimal, refl}
 use Rattle.std.proofs.lemmas.Bool.{both_ways, ltb-true}
-use Rattle.jsgen_tree.specs.Tree.{Tree, Maybe, absent, given, Trees, no_trees, more, hole, Atom, Atoms, type_of, span_of, text_in, digits_in, digits, numeric_kind, Whole}
+use Rattle.jsgen_tree.specs.Tree.{Tree, Maybe, absent, given, Trees, no_trees, more, hole, Atom, Atoms, type_of, span_of, text_in, units_in, digits_in, digits, numeric_kind, Whole}
 use Rattle.jsgen_tree.specs.Tree as tree
-use Rattle.jsgen_tree.specs.Table.{in_set, is_expression, is_statement, is_binding_pattern, is_variable_declarator}
+use Rattle.jsgen_tree.specs.Table.{in_set, is_expression, is_statement, is_binding_pattern, is_variable_declarator, is_identifier_name}
 use Rattle.jsgen_tree.specs.declared.types.NodeType.{NodeType}
 use Rattle.jsgen_tree.specs.declared.types.NodeType.TheVariants as types
 use Rattle.jsgen_tree.specs.declared.types.NodeSet.{NodeSet}
 use Rattle.jsgen_tree.specs.declared.types.NodeSet.TheVariants as sets
+use Rattle.jsgen_syntax.specs.Name.{spells_name}
+use Rattle.jsgen_syntax.specs.Strings.{is_plain_string}
 use Rattle.jsgen_model.specs.declared.fault.TreeFault.{TreeFault}
 use Rattle.jsgen_model.specs.declared.fault.TreeFault.TheVariants as faults
 use Rattle.jsgen_model.specs.Tokens.{spells_whole}
@@ -15,16 +17,24 @@ use Rattle.jsgen_model.specs.Grammar.{Allowed, in_module}
 use Rattle.jsgen_model.specs.Plain.{IsPlain, IsPlainIfGiven, ArePlain, is_whole}
 use Rattle.jsgen_model.specs.Normal.{number_text}
 use Rattle.jsgen_model.specs.Valid as valid
-use Rattle.jsgen_model.specs.Valid.{breaches, in_slots, in_maybe, in_trees, fault_if, is_free_name, place_faults, head_set_faults, span_faults, own_faults, name_faults, declaration_faults, source_faults, indent_faults}
+use Rattle.jsgen_model.specs.Valid.{breaches, in_slots, in_maybe, in_trees, fault_if, is_free_name, place_faults, head_set_faults, span_faults, own_faults, name_faults, string_faults, written_name_faults, declaration_faults, source_faults, indent_faults}
 use Rattle.jsgen_reading.proofs.Numbers.{decimal_whole}
 
 mutual
   pub data IsExpression : Allowed → Tree → Type 0 where
     a_reference : {c : Allowed} {a : Atoms} → is_free_name (text_in a.values) ≡ true → IsExpression c (tree.identifier_reference a)
     a_number : {c : Allowed} {a : Atoms} → spells_whole (decimal (digits_in a.values)) ≡ true → decimal (digits_in a.values) ≡ number_text a.values → IsExpression c (tree.numeric_literal a)
+    a_string : {c : Allowed} {a : Atoms} → is_plain_string (units_in a.values) ≡ true → IsExpression c (tree.string_literal a)
     in_parentheses : {c : Allowed} {a : Atoms} {t : Tree} → IsExpression c t → IsExpression c (tree.parenthesized a t)
+    a_named_member : {c : Allowed} {a b : Atoms} {o : Tree} → IsExpression c o → spells_name (text_in b.values) ≡ true → IsExpression c (tree.static_member a o (tree.identifier_name b))
+    a_computed_member : {c : Allowed} {a : Atoms} {o e : Tree} → IsExpression c o → IsExpression c e → IsExpression c (tree.computed_member a o e)
+    a_call : {c : Allowed} {a : Atoms} {f : Tree} {es : Trees} → IsExpression c f → AreArguments c es → IsExpression c (tree.call a f es)
     an_operation : {c : Allowed} {a : Atoms} {l r : Tree} → IsExpression c l → IsExpression c r → IsExpression c (tree.binary a l r)
     a_logical_operation : {c : Allowed} {a : Atoms} {l r : Tree} → IsExpression c l → IsExpression c r → IsExpression c (tree.logical a l r)
+
+  pub data AreArguments : Allowed → Trees → Type 0 where
+    no_argument : {c : Allowed} → AreArguments c no_trees
+    first_argument : {c : Allowed} {e : Tree} {es : Trees} → IsExpression c e → AreArguments c es → AreArguments c (more e es)
 
   pub data IsBinding : Allowed → Tree → Type 0 where
     a_bound_name : {c : Allowed} {a : Atoms} → is_free_name (text_in a.values) ≡ true → IsBinding c (tree.binding_identifier a)
@@ -89,24 +99,50 @@ abbrev pub is_program : NodeType → Bool
 is_program types.Program = true
 is_program other = false
 
-pub expression_valid : (c : Allowed) (t : Tree) → IsPlain t → is_expression (type_of t) ≡ true → breaches t ≡ [] → IsExpression c t
-expression_valid c (tree.identifier_reference a) p s e = a_reference (none_if (is_free_name (text_in a.values)) (faults.Name a.span.start) (parts (span_faults a.span) (name_faults a) [] e).0)
-expression_valid c (tree.numeric_literal a) p s e = let k = plain_digits a.values p in a_number k.0 k.1
-expression_valid c (tree.parenthesized a t) p s e =
-    let h = parts (span_faults a.span) [] _ e in
-    let k = in_its_set sets.Expression t [] h.1 in
-    in_parentheses (expression_valid c t p k.0 k.1)
-expression_valid c (tree.binary a l r) p s e =
-    let h = parts (span_faults a.span) [] _ e in
-    let k = in_its_set sets.Expression l ((place_faults sets.Expression r ++ breaches r) ++ []) h.1 in
-    let j = in_its_set sets.Expression r [] k.2 in
-    an_operation (expression_valid c l p.0 k.0 k.1) (expression_valid c r p.1 j.0 j.1)
-expression_valid c (tree.logical a l r) p s e =
-    let h = parts (span_faults a.span) [] _ e in
-    let k = in_its_set sets.Expression l ((place_faults sets.Expression r ++ breaches r) ++ []) h.1 in
-    let j = in_its_set sets.Expression r [] k.2 in
-    a_logical_operation (expression_valid c l p.0 k.0 k.1) (expression_valid c r p.1 j.0 j.1)
-expression_valid c t p s e = absurd (first_of (assumption p, search no_truth))
+member_valid : (c : Allowed) (a : Atoms) (o n : Tree) → IsExpression c o → IsPlain n → is_identifier_name (type_of n) ≡ true → breaches n ≡ [] → IsExpression c (tree.static_member a o n)
+member_valid c a o (tree.identifier_name b) v p s e = a_named_member v (none_if (spells_name (text_in b.values)) (faults.Name b.span.start) (parts (span_faults b.span) (written_name_faults b) [] e).0)
+member_valid c a o n v p s e = absurd (first_of (assumption p, search no_truth))
+
+mutual
+  pub expression_valid : (c : Allowed) (t : Tree) → IsPlain t → is_expression (type_of t) ≡ true → breaches t ≡ [] → IsExpression c t
+  expression_valid c (tree.identifier_reference a) p s e = a_reference (none_if (is_free_name (text_in a.values)) (faults.Name a.span.start) (parts (span_faults a.span) (name_faults a) [] e).0)
+  expression_valid c (tree.numeric_literal a) p s e = let k = plain_digits a.values p in a_number k.0 k.1
+  expression_valid c (tree.string_literal a) p s e = a_string (none_if (is_plain_string (units_in a.values)) (faults.Literal a.span.start) (parts (span_faults a.span) (string_faults a) [] e).0)
+  expression_valid c (tree.parenthesized a t) p s e =
+      let h = parts (span_faults a.span) [] _ e in
+      let k = in_its_set sets.Expression t [] h.1 in
+      in_parentheses (expression_valid c t p k.0 k.1)
+  expression_valid c (tree.binary a l r) p s e =
+      let h = parts (span_faults a.span) [] _ e in
+      let k = in_its_set sets.Expression l ((place_faults sets.Expression r ++ breaches r) ++ []) h.1 in
+      let j = in_its_set sets.Expression r [] k.2 in
+      an_operation (expression_valid c l p.0 k.0 k.1) (expression_valid c r p.1 j.0 j.1)
+  expression_valid c (tree.logical a l r) p s e =
+      let h = parts (span_faults a.span) [] _ e in
+      let k = in_its_set sets.Expression l ((place_faults sets.Expression r ++ breaches r) ++ []) h.1 in
+      let j = in_its_set sets.Expression r [] k.2 in
+      a_logical_operation (expression_valid c l p.0 k.0 k.1) (expression_valid c r p.1 j.0 j.1)
+  expression_valid c (tree.static_member a o n) p s e =
+      let h = parts (span_faults a.span) [] _ e in
+      let k = in_its_set sets.Expression o ((place_faults sets.IdentifierName n ++ breaches n) ++ []) h.1 in
+      let j = in_its_set sets.IdentifierName n [] k.2 in
+      member_valid c a o n (expression_valid c o p.0 k.0 k.1) p.1 j.0 j.1
+  expression_valid c (tree.computed_member a o x) p s e =
+      let h = parts (span_faults a.span) [] _ e in
+      let k = in_its_set sets.Expression o ((place_faults sets.Expression x ++ breaches x) ++ []) h.1 in
+      let j = in_its_set sets.Expression x [] k.2 in
+      a_computed_member (expression_valid c o p.0 k.0 k.1) (expression_valid c x p.1 j.0 j.1)
+  expression_valid c (tree.call a f es) p s e =
+      let h = parts (span_faults a.span) [] _ e in
+      let k = in_its_set sets.Expression f (in_trees (sets.Argument ∷ []) es ++ []) h.1 in
+      let j = none_both (in_trees (sets.Argument ∷ []) es) [] k.2 in
+      a_call (expression_valid c f p.0 k.0 k.1) (arguments_valid c es p.1 j.0)
+  expression_valid c t p s e = absurd (first_of (assumption p, search no_truth))
+
+  arguments_valid : (c : Allowed) (es : Trees) → ArePlain es → in_trees (sets.Argument ∷ []) es ≡ [] → AreArguments c es
+  arguments_valid c no_trees p e = no_argument
+  arguments_valid c (more t ts) p e = let k = in_its_set sets.Argument t (in_trees (sets.Argument ∷ []) ts) e in first_argument (expression_valid c t p.0 k.0 k.1) (arguments_valid c ts p.1 k.2)
+  arguments_valid c (hole ts) p e = absurd p
 
 binding_valid : (c : Allowed) (t : Tree) → IsPlain t → is_binding_pattern (type_of t) ≡ true → breaches t ≡ [] → IsBinding c t
 binding_valid c (tree.binding_identifier a) p s e = a_bound_name (none_if (is_free_name (text_in a.values)) (faults.Name a.span.start) (parts (span_faults a.span) (name_faults a) [] e).0)

@@ -2,18 +2,20 @@
 use Rattle.std.proofs.Common.{◌≡◌, ℕ, zero, suc, pred, ◌+◌, ◌-◌, ◌<◌, ◌≤◌, Bool, true, false, not, List, [], ◌∷◌, get_or, refl, sym, ap, ◌∙◌, subst, arith}
 use Rattle.std.proofs.lemmas.Bool.{leb-false}
 use Rattle.jsgen_syntax.specs.Precedence.{rank}
+use Rattle.jsgen_syntax.specs.declared.operator.BinaryOperator.{BinaryOperator}
+use Rattle.jsgen_syntax.specs.declared.operator.BinaryOperator.TheVariants as operators
 use Rattle.jsgen_syntax.specs.declared.precedence.Precedence.{Precedence}
 use Rattle.jsgen_syntax.specs.declared.precedence.Precedence.TheVariants as levels
 use Rattle.jsgen_tree.specs.Tree.{Tree}
 use Rattle.jsgen_model.specs.Tokens.{Tokens}
-use Rattle.jsgen_model.specs.Grammar.{Allowed, Level, ReadsExpression}
+use Rattle.jsgen_model.specs.Grammar.{Allowed, Level, ReadsExpression, operation_level}
 use Rattle.jsgen_model.specs.Grammar as grammar
 use Rattle.jsgen_model.specs.Spell.{Place, wraps}
 
--- where calls are forbidden nothing looser than a member stands
+-- where calls are forbidden a member stands, and else a member or a call
 abbrev pub left_hand_side : Bool → Level
 left_hand_side true = grammar.Member
-left_hand_side false = grammar.LeftHandSide
+left_hand_side false = grammar.Callee
 
 -- calls are forbidden or not
 abbrev pub read_at : Bool → Precedence → Level
@@ -37,9 +39,9 @@ read_at no_call levels.Multiply = grammar.Exponent
 read_at no_call levels.Exponentiation = grammar.Unary
 read_at no_call levels.Prefix = grammar.Update
 read_at no_call levels.Postfix = left_hand_side no_call
-read_at no_call levels.New = grammar.Member
-read_at no_call levels.Call = grammar.Member
-read_at no_call levels.Member = grammar.Member
+read_at no_call levels.New = left_hand_side no_call
+read_at no_call levels.Call = left_hand_side no_call
+read_at no_call levels.Member = left_hand_side no_call
 
 -- a right operand of a logical operator may go on with its chain: it is read at the operator's own level
 abbrev pub operand_level : Bool → Bool → Precedence → Level
@@ -98,13 +100,34 @@ level_with_rank l = refl
 pub same_rank : (a b : Precedence) → rank a ≡ rank b → a ≡ b
 same_rank a b e = sym (level_with_rank a) ∙ (ap (λ n. get_or all_levels n levels.Lowest) e ∙ level_with_rank b)
 
-weaken_member : {c : Allowed} {ts : Tokens} {t : Tree} (no_call : Bool) → ReadsExpression c grammar.Member ts t → ReadsExpression c (left_hand_side no_call) ts t
+-- some levels, told apart by numbers: that of no binary operation is among them
+abbrev pub number_of : Level → ℕ
+number_of grammar.ShortCircuit = 1
+number_of grammar.Coalesced = 2
+number_of grammar.CoalesceHead = 3
+number_of grammar.LogicalOr = 4
+number_of grammar.LogicalAnd = 5
+number_of grammar.Callee = 6
+number_of g = 0
+
+pub operation_number : (o : BinaryOperator) → number_of (operation_level o) ≡ 0
+operation_number operators.Equality = refl
+operation_number o = refl
+
+-- a member is read where calls are forbidden and where they aren't
+pub weaken_member : {c : Allowed} {ts : Tokens} {t : Tree} (no_call : Bool) → ReadsExpression c grammar.Member ts t → ReadsExpression c (left_hand_side no_call) ts t
 weaken_member true r = r
-weaken_member false r = grammar.a_new (grammar.a_member r)
+weaken_member false r = grammar.a_called_member r
+
+callee_is_left : {c : Allowed} {g : Level} {ts : Tokens} {t : Tree} → g ≡ grammar.Callee → ReadsExpression c g ts t → ReadsExpression c grammar.LeftHandSide ts t
+callee_is_left d (grammar.a_called_member r) = grammar.a_new (grammar.a_member r)
+callee_is_left d (grammar.a_called_call r) = grammar.a_call r
+callee_is_left d (grammar.an_operation o m p h q s t) = absurd (omega (arith, operation_number o, ap number_of d))
+callee_is_left d r = absurd (omega (arith, ap number_of d))
 
 weaken_postfix : {c : Allowed} {ts : Tokens} {t : Tree} (no_call : Bool) → ReadsExpression c (left_hand_side no_call) ts t → ReadsExpression c grammar.Update ts t
 weaken_postfix true r = grammar.a_left_hand_side (grammar.a_new (grammar.a_member r))
-weaken_postfix false r = grammar.a_left_hand_side r
+weaken_postfix false r = grammar.a_left_hand_side (callee_is_left refl r)
 
 weaken : {c : Allowed} {ts : Tokens} {t : Tree} (no_call : Bool) (l : Precedence) → ReadsExpression c (read_at no_call l) ts t → ReadsExpression c (read_at no_call (looser l)) ts t
 weaken no_call levels.Lowest r = r
@@ -127,7 +150,7 @@ weaken no_call levels.Multiply r = grammar.an_exponent r
 weaken no_call levels.Exponentiation r = grammar.a_unary r
 weaken no_call levels.Prefix r = grammar.an_update r
 weaken no_call levels.Postfix r = weaken_postfix no_call r
-weaken no_call levels.New r = weaken_member no_call r
+weaken no_call levels.New r = r
 weaken no_call levels.Call r = r
 weaken no_call levels.Member r = r
 
@@ -156,5 +179,9 @@ highest : (l : Precedence) → rank l ≤ 22
 highest levels.Lowest = omega arith
 highest l = omega arith
 
+-- what is a member, or a call where calls aren't forbidden, is read everywhere
+pub from_left : {c : Allowed} {ts : Tokens} {t : Tree} (place : Place) → ReadsExpression c (left_hand_side place.context.forbids_call) ts t → ReadsExpression c (level_of place) ts t
+from_left place r = loosened place.left_operand place.context.forbids_call place.level (lifted place.context.forbids_call levels.Member place.level (highest place.level) r)
+
 pub from_primary : {c : Allowed} {ts : Tokens} {t : Tree} (place : Place) → ReadsExpression c grammar.Primary ts t → ReadsExpression c (level_of place) ts t
-from_primary place r = loosened place.left_operand place.context.forbids_call place.level (lifted place.context.forbids_call levels.Member place.level (highest place.level) (grammar.a_primary r))
+from_primary place r = from_left place (weaken_member place.context.forbids_call (grammar.a_primary r))

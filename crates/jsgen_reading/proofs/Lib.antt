@@ -3,9 +3,12 @@ pub mod Families
 pub mod Numbers
 pub mod Names
 pub mod Good
+pub mod Lists
 pub mod Operations
 pub mod Chains
+pub mod Links
 pub mod Expressions
 pub mod Statements
+pub mod Directives
 pub mod Reading
 pub mod Normals

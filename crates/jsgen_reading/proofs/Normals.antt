@@ -43,9 +43,14 @@ mutual
   normal_again (tree.binding_identifier a) = refl
   normal_again (tree.identifier_reference a) = refl
   normal_again (tree.numeric_literal a) = refl
+  normal_again (tree.string_literal a) = refl
   normal_again (tree.parenthesized a expression) = normal_again expression
   normal_again (tree.binary a left right) = let e = normal_again left in let f = normal_again right in λ i. tree.binary (bare (binary_operator (operator_in a.values) ∷ [])) (e i) (f i)
   normal_again (tree.logical a left right) = normal_chain_again (logical_operator_in a.values) (normal left) (normal right) (normal_again left) (normal_again right)
+  normal_again (tree.identifier_name a) = refl
+  normal_again (tree.static_member a object property) = let e = normal_again object in let f = normal_again property in λ i. tree.static_member (bare []) (e i) (f i)
+  normal_again (tree.computed_member a object expression) = let e = normal_again object in let f = normal_again expression in λ i. tree.computed_member (bare []) (e i) (f i)
+  normal_again (tree.call a callee arguments) = let e = normal_again callee in let f = normal_trees_again arguments in λ i. tree.call (bare []) (e i) (f i)
   normal_again (node type a slots) = ap (λ s. node type (bare a.values) s) (normal_slots_again slots)
 
   normal_slots_again : (s : Slots) → normal_slots (normal_slots s) ≡ normal_slots s

@@ -72,10 +72,15 @@ same_logical : (o : LogicalOperator) (place : Place) → logical_wraps o (left_o
 same_logical logical_operators.Or place = refl
 same_logical o place = refl
 
+-- a call needs none at either
 pub spelled_alike : {c : Allowed} {t : Tree} → IsExpression c t → (place : Place) → spell t (left_of levels.Exponentiation place) ≡ spell t (left_of levels.Prefix place)
 spelled_alike (family.a_reference h) place = refl
 spelled_alike (family.a_number h e) place = refl
+spelled_alike (family.a_string h) place = refl
 spelled_alike (family.in_parentheses v) place = spelled_alike v place
+spelled_alike (family.a_named_member v h) place = refl
+spelled_alike (family.a_computed_member v w) place = refl
+spelled_alike (family.a_call v w) place = refl
 spelled_alike (family.an_operation {a} {l = x} {r = y} v w) place =
     ap (λ b. operation b (operator_item (operator_in a.values)) (spell x (left_of (left_level (operator_in a.values) x) (within b place))) (spell y (behind (right_level (operator_in a.values)) (within b place)))) (same_binary (operator_in a.values) place)
 spelled_alike (family.a_logical_operation {a} {l = x} {r = y} v w) place =

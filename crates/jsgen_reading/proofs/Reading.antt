@@ -3,15 +3,15 @@ use Rattle.std.proofs.Common.{◌≡◌, ℕ, true, false, List, [], inl, inr, c
 use Rattle.std.specs.Str.{IsUtf8}
 use Rattle.std.proofs.lemmas.Str.{chars-encodes}
 use Rattle.jsgen_tree.specs.declared.types.NodeType.TheVariants as types
-use Rattle.jsgen_tree.specs.Tree.{Tree, Trees, Atoms, type_of}
+use Rattle.jsgen_tree.specs.Tree.{Tree, Trees, no_trees, more, Atoms, type_of}
 use Rattle.jsgen_tree.specs.Tree as tree
-use Rattle.jsgen_model.specs.Tokens.{◌⧺◌}
+use Rattle.jsgen_model.specs.Tokens.{done, ◌⧺◌}
 use Rattle.jsgen_model.specs.Items.{due_semicolon}
 use Rattle.jsgen_model.specs.Layout.{Pen, Style, layout, empty_pen}
-use Rattle.jsgen_model.specs.Grammar.{in_module}
+use Rattle.jsgen_model.specs.Grammar.{in_module, starts_with_directive}
 use Rattle.jsgen_model.specs.Grammar as grammar
 use Rattle.jsgen_model.specs.Normal.{bare}
-use Rattle.jsgen_model.specs.Spell.{spell_statements, printed, text_bytes}
+use Rattle.jsgen_model.specs.Spell.{spell_body, printed, text_bytes}
 use Rattle.jsgen_model.specs.Valid.{IsValid}
 use Rattle.jsgen_model.specs.Plain.{IsPlain, IsQuiet}
 use Rattle.jsgen_model.specs.Reading.{IsReadAs}
@@ -21,22 +21,29 @@ use Rattle.jsgen_lexing.proofs.Scalars.{tokens_scalars}
 use Rattle.jsgen_reading.specs.Law.{IsIndented}
 use Rattle.jsgen_reading.proofs.Families.{IsProgram, AreStatements, is_program, program_valid}
 use Rattle.jsgen_reading.proofs.Families as family
-use Rattle.jsgen_reading.proofs.Statements.{rows, all_due}
+use Rattle.jsgen_reading.proofs.Statements.{GoodRow, SemiAll, rows, all_due}
+use Rattle.jsgen_reading.proofs.Directives.{first_row}
+
+-- from the rows of its statements, and the last semicolon
+from_row : (style : Style) (a : Atoms) (body : Trees) (q : Pen) → (g : GoodRow (empty_pen style 0) (Open false) q in_module body) → (d : SemiAll q g.last (layout due_semicolon q) in_module g.tokens g.trees) → starts_with_directive (g.tokens ⧺ d.semi) ≡ false → IsReadAs (layout due_semicolon q).code (tree.program a body)
+from_row style a body q g d n = record {
+  tokens = g.tokens ⧺ d.semi;
+  are_tokens = all_tokens (empty_pen style 0) (layout due_semicolon q) d.last (g.tokens ⧺ d.semi) refl (wrote_both g.writes d.writes);
+  reading = tree.program (bare []) g.trees;
+  reads = grammar.a_module n d.reads;
+  same = ap (λ ts. tree.program (bare []) ts) g.same;
+}
 
 whole : (style : Style) (a : Atoms) (body : Trees) → is_indent style.indent ≡ true → AreStatements in_module body → IsReadAs (printed style (tree.program a body)) (tree.program a body)
-whole style a body i v =
+whole style a body i family.no_statement = record { tokens = done; are_tokens = refl; reading = tree.program (bare []) no_trees; reads = grammar.a_module refl grammar.no_statement; same = refl }
+whole style a body i (family.first_statement {s} {ss} v w) =
     let p : Pen = empty_pen style 0 in
     let k : Knows p (Open false) = record { indent = i; ending = tt } in
-    let g = (rows v).0 p (Open false) refl tt k in
-    let q : Pen = layout (spell_statements body) p in
+    let f = first_row v (rows w).1 p (Open false) refl tt k in
+    let g = f.row in
+    let q : Pen = layout (spell_body (more s ss)) p in
     let d = all_due q.pending_semicolon q g.last in_module g.tokens g.trees refl g.writes.knows g.reads in
-    record {
-      tokens = g.tokens ⧺ d.semi;
-      are_tokens = all_tokens p (layout due_semicolon q) d.last (g.tokens ⧺ d.semi) refl (wrote_both g.writes d.writes);
-      reading = tree.program (bare []) g.trees;
-      reads = grammar.a_module d.reads;
-      same = ap (λ ts. tree.program (bare []) ts) g.same;
-    }
+    from_row style a (more s ss) q g d (f.apart d.semi)
 
 pub read_as : (style : Style) (t : Tree) → is_indent style.indent ≡ true → IsProgram t → IsReadAs (printed style t) t
 read_as style t i (family.a_program {a} {body} v) = whole style a body i v

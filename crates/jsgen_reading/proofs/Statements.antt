@@ -7,15 +7,15 @@ use Rattle.jsgen_tree.specs.declared.statements.VariableDeclarationKind.TheVaria
 use Rattle.jsgen_tree.specs.Words.{declaration_word}
 use Rattle.jsgen_tree.specs.Tree.{Tree, Maybe, absent, given, Trees, no_trees, more, Atoms, text_in, declaration_kind_in, declaration_kind}
 use Rattle.jsgen_tree.specs.Tree as tree
-use Rattle.jsgen_model.specs.Punctuator.{comma, equal, semicolon}
+use Rattle.jsgen_model.specs.Punctuator.{equal, semicolon}
 use Rattle.jsgen_model.specs.Tokens.{Tokens, done, piece, ◌⧺◌, Word, Sign}
-use Rattle.jsgen_model.specs.Items.{word, punctuator, soft_space, indentation, statement_begins, statement_end, due_semicolon}
+use Rattle.jsgen_model.specs.Items.{Items, ◌⊕◌, word, punctuator, soft_space, indentation, statement_begins, statement_end, due_semicolon}
 use Rattle.jsgen_model.specs.Layout.{Pen, layout, end_statement}
 use Rattle.jsgen_model.specs.Grammar.{Allowed, ReadsExpression, ReadsBinding, ReadsDeclarator, ReadsDeclarators, ReadsDeclaration, ReadsUnended, ReadsStatement, ReadsStatements, named, with_in}
 use Rattle.jsgen_model.specs.Grammar as grammar
 use Rattle.jsgen_model.specs.Normal.{normal, normal_maybe, normal_trees, bare}
 use Rattle.jsgen_model.specs.Valid.{is_free_name}
-use Rattle.jsgen_model.specs.Spell.{Place, spell, spell_list, spell_more, spell_statements, among_statements, whole_statement, in_front, behind}
+use Rattle.jsgen_model.specs.Spell.{Place, spell, spell_list, spell_statements, among_statements, whole_statement, in_front, behind}
 use Rattle.jsgen_lexing.proofs.Characters.{letters_spelled}
 use Rattle.jsgen_lexing.proofs.Last.{Last, Open, After, line_of, Operand, Ready, Knows}
 use Rattle.jsgen_lexing.proofs.Writes.{Writes, wrote_none, wrote_both, wrote_and_none, then_assoc, then_done}
@@ -25,6 +25,7 @@ use Rattle.jsgen_reading.proofs.Families.{IsExpression, IsBinding, IsValue, IsDe
 use Rattle.jsgen_reading.proofs.Families as family
 use Rattle.jsgen_reading.proofs.Names.{free_spelled}
 use Rattle.jsgen_reading.proofs.Good.{Good, Printed, operand_ready}
+use Rattle.jsgen_reading.proofs.Lists.{Element, Elements, ElementAt, ElementsAt, MoreAt, Joins, no_more, one_more, same_more, whole_list}
 use Rattle.jsgen_reading.proofs.Expressions.{printed_expression}
 
 -- ---- a statement without its end
@@ -67,32 +68,32 @@ pub record GoodStatement (p : Pen) (l : Last) (q : Pen) (c : Allowed) (t : Tree)
 abbrev pub Stated : Allowed → Tree → Type 0
 Stated c t = (p : Pen) (l : Last) → p.pending_semicolon ≡ false → Ready l → Knows p l → GoodStatement p l (layout (spell t among_statements) p) c t
 
-pub good_ended : {p q : Pen} {l : Last} {c : Allowed} {t : Tree} → GoodUnended p l q c t → GoodStatement p l (layout statement_end q) c t
-good_ended {p} {q} {l} {c} {t} g = go q.style.minified
-  where
-    go : (b : Bool) → GoodStatement p l (end_statement b q) c t
-    go true = record {
-      last = g.last;
-      tokens = g.tokens;
-      writes = wrote_and_none g.writes (end_left q g.last g.writes.knows);
-      ready = g.ready;
-      tree = g.tree;
-      reads = (grammar.ended_by_brace g.reads, λ line. grammar.ended line refl g.reads);
-      same = g.same;
-      dangling = refl;
-    }
-    go false = record {
-      last = Open true;
-      tokens = g.tokens ⧺ piece (line_of g.last) (Sign semicolon) done;
-      writes = wrote_both g.writes (end_written q g.last g.writes.knows);
-      ready = tt;
-      tree = g.tree;
-      reads = subst (λ b. Ends c b (g.tokens ⧺ piece (line_of g.last) (Sign semicolon) done) g.tree) (sym g.semicolon) (grammar.ended (line_of g.last) refl g.reads);
-      same = g.same;
-      dangling = refl;
-    }
+unfoldable pub ended_so : {p q : Pen} {l : Last} {c : Allowed} {t : Tree} (minified : Bool) → GoodUnended p l q c t → GoodStatement p l (end_statement minified q) c t
+ended_so {q = q} true g = record {
+  last = g.last;
+  tokens = g.tokens;
+  writes = wrote_and_none g.writes (end_left q g.last g.writes.knows);
+  ready = g.ready;
+  tree = g.tree;
+  reads = (grammar.ended_by_brace g.reads, λ line. grammar.ended line refl g.reads);
+  same = g.same;
+  dangling = refl;
+}
+ended_so {q = q} {c = c} false g = record {
+  last = Open true;
+  tokens = g.tokens ⧺ piece (line_of g.last) (Sign semicolon) done;
+  writes = wrote_both g.writes (end_written q g.last g.writes.knows);
+  ready = tt;
+  tree = g.tree;
+  reads = subst (λ b. Ends c b (g.tokens ⧺ piece (line_of g.last) (Sign semicolon) done) g.tree) (sym g.semicolon) (grammar.ended (line_of g.last) refl g.reads);
+  same = g.same;
+  dangling = refl;
+}
 
-pub soft_before : {p q r : Pen} {l : Last} {c : Allowed} {t : Tree} → (s : Soft p l q) → GoodStatement q s.last r c t → GoodStatement p l r c t
+abbrev pub good_ended : {p q : Pen} {l : Last} {c : Allowed} {t : Tree} → GoodUnended p l q c t → GoodStatement p l (layout statement_end q) c t
+good_ended {q = q} g = ended_so q.style.minified g
+
+abbrev pub soft_before : {p q r : Pen} {l : Last} {c : Allowed} {t : Tree} → (s : Soft p l q) → GoodStatement q s.last r c t → GoodStatement p l r c t
 soft_before s g = record { last = g.last; tokens = g.tokens; writes = wrote_both s.writes g.writes; ready = g.ready; tree = g.tree; reads = g.reads; same = g.same; dangling = g.dangling }
 
 -- ---- expression statements
@@ -109,14 +110,24 @@ unended_expression {p} {q} {l} {c} a e g = record {
   same = ap (λ x. tree.expression_statement (bare []) x) g.same;
 }
 
-pub good_expression_statement : (c : Allowed) (a : Atoms) (e : Tree) → Printed c e → Stated c (tree.expression_statement a e)
-good_expression_statement c a e f p l z y k =
+-- what items write, without the end of the statement
+abbrev pub UnendedAt : Allowed → Items → Tree → Type 0
+UnendedAt c items t = (p : Pen) (l : Last) → p.pending_semicolon ≡ false → Ready l → Knows p l → GoodUnended p l (layout items p) c t
+
+soft_unended : {p q r : Pen} {l : Last} {c : Allowed} {t : Tree} → (s : Soft p l q) → GoodUnended q s.last r c t → GoodUnended p l r c t
+soft_unended s g = record { last = g.last; tokens = g.tokens; writes = wrote_both s.writes g.writes; ready = g.ready; semicolon = g.semicolon; tree = g.tree; reads = g.reads; same = g.same }
+
+-- with indentation before it and its end behind it
+pub good_statement : (c : Allowed) (items : Items) (t : Tree) → UnendedAt c items t → (p : Pen) (l : Last) → p.pending_semicolon ≡ false → Ready l → Knows p l → GoodStatement p l (layout (indentation ⊕ (items ⊕ statement_end)) p) c t
+good_statement c items t f p l z y k =
     let i = indentation_written p l k in
-    let p1 : Pen = layout indentation p in
-    let b = begins_written p1 i.last i.writes.knows in
-    let p2 : Pen = layout statement_begins p1 in
-    let g = f whole_statement p2 b.last (b.semicolon ∙ (i.semicolon ∙ z)) (b.ready (i.ready y)) b.writes.knows in
-    soft_before i (soft_before b (good_ended (unended_expression a e g)))
+    soft_before i (good_ended (f (layout indentation p) i.last (i.semicolon ∙ z) (i.ready y) i.writes.knows))
+
+pub expression_unended : (c : Allowed) (a : Atoms) (e : Tree) → Printed c e → UnendedAt c (statement_begins ⊕ spell e whole_statement) (tree.expression_statement a e)
+expression_unended c a e f p l z y k =
+    let b = begins_written p l k in
+    let g = f whole_statement (layout statement_begins p) b.last (b.semicolon ∙ z) (b.ready y) b.writes.knows in
+    soft_unended b (unended_expression a e g)
 
 -- ---- bindings and declarators
 
@@ -146,24 +157,17 @@ good_bound_name c a h place p l z y k = record {
   same = refl;
 }
 
--- between two pens stands a declarator
-pub record GoodDeclarator (p : Pen) (l : Last) (q : Pen) (c : Allowed) (t : Tree) : Type 0 where
-  pub last : Last
-  pub tokens : Tokens
-  pub writes : Writes p l q last tokens
-  pub operand : Operand last
-  pub semicolon : q.pending_semicolon ≡ false
-  pub tree : Tree
-  pub reads : ReadsDeclarator c tokens tree
-  pub same : normal tree ≡ normal t
+-- printed at one place, and read as a declarator or as a list of them
+abbrev pub DeclaredAt : Allowed → Place → Tree → Type 0
+DeclaredAt c place t = ElementAt (ReadsDeclarator (under place c)) place t
 
-abbrev pub Declared : Allowed → Tree → Type 0
-Declared c t = (place : Place) (p : Pen) (l : Last) → p.pending_semicolon ≡ false → Ready l → Knows p l → GoodDeclarator p l (layout (spell t place) p) (under place c) t
+abbrev pub ListDeclaredAt : Allowed → Place → Trees → Type 0
+ListDeclaredAt c place ds = ElementsAt (ReadsDeclarators (under place c)) place ds
 
 same_declarator : (b u : Tree) (m n : Maybe) → normal b ≡ normal u → normal_maybe m ≡ normal_maybe n → normal (tree.variable_declarator (bare []) b m) ≡ tree.variable_declarator (bare []) (normal u) (normal_maybe n)
 same_declarator b u m n e f = λ i. tree.variable_declarator (bare []) (e i) (f i)
 
-pub good_without_value : (c : Allowed) (a : Atoms) (b : Tree) → Bound c b → Declared c (tree.variable_declarator a b absent)
+pub good_without_value : (c : Allowed) (a : Atoms) (b : Tree) → Bound c b → (place : Place) → DeclaredAt c place (tree.variable_declarator a b absent)
 good_without_value c a b f place p l z y k =
     let g = f (in_front levels.Lowest place) p l z y k in
     record {
@@ -178,7 +182,7 @@ good_without_value c a b f place p l z y k =
     }
 
 -- from the binding, a blank, the sign, a blank and the value
-value_parts : (c : Allowed) (a : Atoms) (b v : Tree) (p p1 p2 p3 p4 q : Pen) (l : Last) → (g : GoodBinding p l p1 c b) (x : Soft p1 g.last p2) → Writes p2 x.last p3 (After (Sign equal)) (piece (line_of x.last) (Sign equal) done) → (n : Soft p3 (After (Sign equal)) p4) → Good p4 n.last q c grammar.Assignment (behind levels.Comma among_statements).start v → GoodDeclarator p l q c (tree.variable_declarator a b (given v))
+value_parts : (c : Allowed) (a : Atoms) (b v : Tree) (p p1 p2 p3 p4 q : Pen) (l : Last) → (g : GoodBinding p l p1 c b) (x : Soft p1 g.last p2) → Writes p2 x.last p3 (After (Sign equal)) (piece (line_of x.last) (Sign equal) done) → (n : Soft p3 (After (Sign equal)) p4) → Good p4 n.last q c grammar.Assignment (behind levels.Comma among_statements).start v → Element (ReadsDeclarator c) p l q (tree.variable_declarator a b (given v))
 value_parts c a b v p p1 p2 p3 p4 q l g x o n e = record {
   last = e.last;
   tokens = g.tokens ⧺ piece (line_of x.last) (Sign equal) e.tokens;
@@ -190,7 +194,7 @@ value_parts c a b v p p1 p2 p3 p4 q l g x o n e = record {
   same = same_declarator g.tree b (given e.tree) (given v) g.same (ap (λ t. given t) e.same);
 }
 
-pub good_with_value : (c : Allowed) (a : Atoms) (b v : Tree) → Bound c b → Printed c v → Declared c (tree.variable_declarator a b (given v))
+pub good_with_value : (c : Allowed) (a : Atoms) (b v : Tree) → Bound c b → Printed c v → (place : Place) → DeclaredAt c place (tree.variable_declarator a b (given v))
 good_with_value c a b v f h place p l z y k =
     let p1 : Pen = layout (spell b (in_front levels.Lowest place)) p in
     let p2 : Pen = layout soft_space p1 in
@@ -203,89 +207,8 @@ good_with_value c a b v f h place p l z y k =
     let e = h (behind levels.Comma place) p4 n.last (n.semicolon ∙ (x.semicolon ∙ g.semicolon)) (n.ready tt) n.writes.knows in
     value_parts (under place c) a b v p p1 p2 p3 p4 (layout (spell v (behind levels.Comma place)) p4) l g x o n e
 
--- ---- lists of declarators
-
--- behind a declarator that is read stand more
-pub record GoodMore (p : Pen) (l : Last) (q : Pen) (c : Allowed) (ds : Trees) : Type 0 where
-  pub last : Last
-  pub tokens : Tokens
-  pub writes : Writes p l q last tokens
-  pub operand : Operand last
-  pub semicolon : q.pending_semicolon ≡ false
-  pub trees : Trees
-  pub reads : (a : Tokens) (d : Tree) → ReadsDeclarator c a d → ReadsDeclarators c (a ⧺ tokens) (more d trees)
-  pub same : normal_trees trees ≡ normal_trees ds
-
-abbrev pub MoreDeclared : Allowed → Trees → Type 0
-MoreDeclared c ds = (place : Place) (p : Pen) (l : Last) → p.pending_semicolon ≡ false → Operand l → Knows p l → GoodMore p l (layout (spell_more ds place) p) (under place c) ds
-
-pub no_more : (c : Allowed) → MoreDeclared c no_trees
-no_more c place p l z o k = record {
-  last = l;
-  tokens = done;
-  writes = wrote_none p p l refl k;
-  operand = o;
-  semicolon = z;
-  trees = no_trees;
-  reads = λ a d r. subst (λ ts. ReadsDeclarators (under place c) ts (more d no_trees)) (sym (then_done a)) (grammar.last_declarator r);
-  same = refl;
-}
-
-same_more : (t u : Tree) (ts us : Trees) → normal t ≡ normal u → normal_trees ts ≡ normal_trees us → more (normal t) (normal_trees ts) ≡ more (normal u) (normal_trees us)
-same_more t u ts us e f = λ i. more (e i) (f i)
-
-more_parts : (c : Allowed) (d : Tree) (ds : Trees) (p p1 p2 p3 q : Pen) (l : Last) → Writes p l p1 (After (Sign comma)) (piece (line_of l) (Sign comma) done) → (n : Soft p1 (After (Sign comma)) p2) (g : GoodDeclarator p2 n.last p3 c d) → GoodMore p3 g.last q c ds → GoodMore p l q c (more d ds)
-more_parts c d ds p p1 p2 p3 q l o n g m = record {
-  last = m.last;
-  tokens = piece (line_of l) (Sign comma) (g.tokens ⧺ m.tokens);
-  writes = wrote_both o (wrote_both n.writes (wrote_both g.writes m.writes));
-  operand = m.operand;
-  semicolon = m.semicolon;
-  trees = more g.tree m.trees;
-  reads = λ a b r. grammar.first_declarator (line_of l) refl r (m.reads g.tokens g.tree g.reads);
-  same = same_more g.tree d m.trees ds g.same m.same;
-}
-
-pub one_more : (c : Allowed) (d : Tree) (ds : Trees) → Declared c d → MoreDeclared c ds → MoreDeclared c (more d ds)
-one_more c d ds f h place p l z o k =
-    let p1 : Pen = layout (punctuator comma) p in
-    let p2 : Pen = layout soft_space p1 in
-    let p3 : Pen = layout (spell d place) p2 in
-    let w = wrote_punctuator comma p l tt tt o k in
-    let n = soft_space_written p1 (After (Sign comma)) w.knows in
-    let g = f place p2 n.last (n.semicolon ∙ z) (n.ready tt) n.writes.knows in
-    let m = h place p3 g.last g.semicolon g.operand g.writes.knows in
-    more_parts (under place c) d ds p p1 p2 p3 (layout (spell_more ds place) p3) l w n g m
-
--- between two pens stands a list of declarators
-pub record GoodList (p : Pen) (l : Last) (q : Pen) (c : Allowed) (ds : Trees) : Type 0 where
-  pub last : Last
-  pub tokens : Tokens
-  pub writes : Writes p l q last tokens
-  pub operand : Operand last
-  pub semicolon : q.pending_semicolon ≡ false
-  pub trees : Trees
-  pub reads : ReadsDeclarators c tokens trees
-  pub same : normal_trees trees ≡ normal_trees ds
-
-abbrev pub ListDeclared : Allowed → Trees → Type 0
-ListDeclared c ds = (place : Place) (p : Pen) (l : Last) → p.pending_semicolon ≡ false → Ready l → Knows p l → GoodList p l (layout (spell_list ds place) p) (under place c) ds
-
-pub good_list : (c : Allowed) (d : Tree) (ds : Trees) → Declared c d → MoreDeclared c ds → ListDeclared c (more d ds)
-good_list c d ds f h place p l z y k =
-    let p1 : Pen = layout (spell d place) p in
-    let g = f place p l z y k in
-    let m = h place p1 g.last g.semicolon g.operand g.writes.knows in
-    record {
-      last = m.last;
-      tokens = g.tokens ⧺ m.tokens;
-      writes = wrote_both g.writes m.writes;
-      operand = m.operand;
-      semicolon = m.semicolon;
-      trees = more g.tree m.trees;
-      reads = m.reads g.tokens g.tree g.reads;
-      same = same_more g.tree d m.trees ds g.same m.same;
-    }
+declarators_join : (c : Allowed) → Joins (ReadsDeclarator c) (ReadsDeclarators c)
+declarators_join c = record { one = λ ts d r. grammar.last_declarator r; first = λ mark a b d ds r s. grammar.first_declarator mark refl r s }
 
 -- ---- declarations
 
@@ -299,7 +222,7 @@ kind_spelled kinds.Const = letters_spelled 99 (codes "onst") refl
 kind_reads : (k : VariableDeclarationKind) (c : Allowed) (line : Bool) (ts : Tokens) (ds : Trees) → ReadsDeclarators c ts ds → ReadsDeclaration c (piece line (Word (declaration_word k)) ts) (tree.variable_declaration (bare (declaration_kind k ∷ [])) ds)
 kind_reads kinds.Const c line ts ds r = grammar.a_const r
 
-declaration_parts : (c : Allowed) (a : Atoms) (ds : Trees) (p p1 p2 q : Pen) (l : Last) (w : List ℕ) → declaration_word (declaration_kind_in a.values) ≡ w → Writes p l p1 (After (Word w)) (piece (line_of l) (Word w) done) → (n : Soft p1 (After (Word w)) p2) → GoodList p2 n.last q (with_in c) ds → GoodUnended p l q c (tree.variable_declaration a ds)
+declaration_parts : (c : Allowed) (a : Atoms) (ds : Trees) (p p1 p2 q : Pen) (l : Last) (w : List ℕ) → declaration_word (declaration_kind_in a.values) ≡ w → Writes p l p1 (After (Word w)) (piece (line_of l) (Word w) done) → (n : Soft p1 (After (Word w)) p2) → Elements (ReadsDeclarators (with_in c)) p2 n.last q ds → GoodUnended p l q c (tree.variable_declaration a ds)
 declaration_parts c a ds p p1 p2 q l w e o n g = record {
   last = g.last;
   tokens = piece (line_of l) (Word w) g.tokens;
@@ -311,38 +234,47 @@ declaration_parts c a ds p p1 p2 q l w e o n g = record {
   same = same_declaration (declaration_kind_in a.values) g.trees ds g.same;
 }
 
-pub good_declaration : (c : Allowed) (a : Atoms) (ds : Trees) → ListDeclared c ds → Stated c (tree.variable_declaration a ds)
-good_declaration c a ds f p l z y k =
+abbrev pub declaration_items : Atoms → Trees → Items
+declaration_items a ds = word (declaration_word (declaration_kind_in a.values)) ⊕ (soft_space ⊕ spell_list ds (behind levels.Lowest among_statements))
+
+pub declaration_unended : (c : Allowed) (a : Atoms) (ds : Trees) → ListDeclaredAt c (behind levels.Lowest among_statements) ds → UnendedAt c (declaration_items a ds) (tree.variable_declaration a ds)
+declaration_unended c a ds f p l z y k =
     let w : List ℕ = declaration_word (declaration_kind_in a.values) in
-    let p1 : Pen = layout indentation p in
-    let p2 : Pen = layout (word w) p1 in
-    let p3 : Pen = layout soft_space p2 in
-    let i = indentation_written p l k in
-    let o = wrote_word w p1 i.last (kind_spelled (declaration_kind_in a.values)) i.writes.knows in
-    let n = soft_space_written p2 (After (Word w)) o.knows in
-    let g = f (behind levels.Lowest among_statements) p3 n.last (n.semicolon ∙ (i.semicolon ∙ z)) (n.ready tt) n.writes.knows in
-    soft_before i (good_ended (declaration_parts c a ds p1 p2 p3 (layout (spell_list ds (behind levels.Lowest among_statements)) p3) i.last w refl o n g))
+    let p1 : Pen = layout (word w) p in
+    let p2 : Pen = layout soft_space p1 in
+    let o = wrote_word w p l (kind_spelled (declaration_kind_in a.values)) k in
+    let n = soft_space_written p1 (After (Word w)) o.knows in
+    let g = f p2 n.last (n.semicolon ∙ z) (n.ready tt) n.writes.knows in
+    declaration_parts c a ds p p1 p2 (layout (spell_list ds (behind levels.Lowest among_statements)) p2) l w refl o n g
 
 -- ---- the families of declarators and statements
 
 bound : {c : Allowed} {t : Tree} → IsBinding c t → Bound c t
 bound {c} (family.a_bound_name {a} h) = good_bound_name c a h
 
-valued : {c : Allowed} {m : Maybe} (a : Atoms) (b : Tree) → Bound c b → IsValue c m → Declared c (tree.variable_declarator a b m)
-valued {c} a b f family.no_value = good_without_value c a b f
-valued {c} a b f (family.a_value {t} v) = good_with_value c a b t f (printed_expression v)
+valued : {c : Allowed} {m : Maybe} (a : Atoms) (b : Tree) → Bound c b → IsValue c m → (place : Place) → DeclaredAt c place (tree.variable_declarator a b m)
+valued {c} a b f family.no_value place = good_without_value c a b f place
+valued {c} a b f (family.a_value {t} v) place = good_with_value c a b t f (printed_expression v) place
 
-declared : {c : Allowed} {t : Tree} → IsDeclarator c t → Declared c t
-declared (family.a_declarator {a} {b} v w) = valued a b (bound v) w
+declared : {c : Allowed} {t : Tree} → IsDeclarator c t → (place : Place) → DeclaredAt c place t
+declared (family.a_declarator {a} {b} v w) place = valued a b (bound v) w place
 
 -- as a list, and as more of one
-listed : {c : Allowed} {ds : Trees} → AreDeclarators c ds → ListDeclared c ds × MoreDeclared c ds
-listed {c} (family.last_declarator {d} v) = let f = declared v in let m = no_more c in (good_list c d no_trees f m, one_more c d no_trees f m)
-listed {c} (family.first_declarator {d} {e} {ds} v w) = let f = declared v in let m = (listed w).1 in (good_list c d (more e ds) f m, one_more c d (more e ds) f m)
+pub listed : {c : Allowed} {ds : Trees} → AreDeclarators c ds → (place : Place) → ListDeclaredAt c place ds × MoreAt (ReadsDeclarator (under place c)) (ReadsDeclarators (under place c)) place ds
+listed {c} (family.last_declarator {d} v) place =
+    let d1 : Allowed = under place c in
+    let f = declared v place in
+    let m = no_more (ReadsDeclarator d1) (ReadsDeclarators d1) (declarators_join d1) place in
+    (whole_list (ReadsDeclarator d1) (ReadsDeclarators d1) place d no_trees f m, one_more (ReadsDeclarator d1) (ReadsDeclarators d1) (declarators_join d1) place d no_trees f m)
+listed {c} (family.first_declarator {d} {e} {ds} v w) place =
+    let d1 : Allowed = under place c in
+    let f = declared v place in
+    let m = (listed w place).1 in
+    (whole_list (ReadsDeclarator d1) (ReadsDeclarators d1) place d (more e ds) f m, one_more (ReadsDeclarator d1) (ReadsDeclarators d1) (declarators_join d1) place d (more e ds) f m)
 
 stated : {c : Allowed} {t : Tree} → IsStatement c t → Stated c t
-stated {c} (family.a_declaration {a} {ds} v) = good_declaration c a ds (listed v).0
-stated {c} (family.an_expression {a} {e} v) = good_expression_statement c a e (printed_expression v)
+stated {c} (family.a_declaration {a} {ds} v) = good_statement c (declaration_items a ds) (tree.variable_declaration a ds) (declaration_unended c a ds (listed v (behind levels.Lowest among_statements)).0)
+stated {c} (family.an_expression {a} {e} v) = good_statement c (statement_begins ⊕ spell e whole_statement) (tree.expression_statement a e) (expression_unended c a e (printed_expression v))
 
 -- ---- rows of statements
 
@@ -429,7 +361,7 @@ RowStated c ss = (p : Pen) (l : Last) → p.pending_semicolon ≡ false → Read
 row_none : (c : Allowed) → RowStated c no_trees
 row_none c p l z y k = record { last = l; tokens = done; writes = wrote_none p p l refl k; ready = y; trees = no_trees; reads = subst (λ b. EndsAll c b done no_trees) (sym z) grammar.no_statement; same = refl }
 
-row_parts : (p p1 p2 q : Pen) (l : Last) (c : Allowed) (t : Tree) (ss : Trees) → (n : Soft p l p1) (g : GoodStatement p1 n.last p2 c t) → GoodRest p2 g.last q c g.tokens g.tree ss → GoodRow p l q c (more t ss)
+abbrev pub row_parts : (p p1 p2 q : Pen) (l : Last) (c : Allowed) (t : Tree) (ss : Trees) → (n : Soft p l p1) (g : GoodStatement p1 n.last p2 c t) → GoodRest p2 g.last q c g.tokens g.tree ss → GoodRow p l q c (more t ss)
 row_parts p p1 p2 q l c t ss n g r = record {
   last = r.last;
   tokens = g.tokens ⧺ r.tokens;

@@ -1,8 +1,11 @@
 pub mod Spans
 pub mod Signs
 pub mod Pieces
+pub mod Quoted
 pub mod Rows
 pub mod Groups
 pub mod Made
 pub mod Samples
 pub mod Refused
+pub mod Joined
+pub mod Forms

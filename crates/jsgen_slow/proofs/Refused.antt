@@ -6,13 +6,15 @@ use Rattle.std.proofs.lemmas.Bool.{both_ways, and_parts, and_from, or_left, or_r
 use lib.Utf8.{encode}
 use Rattle.unicode_ident.proofs.Computing.{unicode_ident}
 use Rattle.jsgen_syntax.specs.Name.{is_reserved, is_strict_reserved}
+use Rattle.jsgen_syntax.specs.Strings.{string_value}
+use Rattle.jsgen_syntax.specs.declared.quote.Quote.TheVariants.{Single, Double}
 use Rattle.jsgen_syntax.specs.declared.operator.BinaryOperator.{BinaryOperator}
 use Rattle.jsgen_syntax.specs.declared.operator.BinaryOperator.TheVariants as operators
 use Rattle.jsgen_tree.specs.Tree.{Tree, Trees}
-use Rattle.jsgen_model.specs.Punctuator.{plus, plus_plus, minus_minus, star_star, and_and, or_or, nullish, semicolon, Bracket, Round, Square, Brace, opening, closing}
-use Rattle.jsgen_model.specs.Tokens.{Tokens, done, piece, group, ◌⧺◌, Piece, Word, Number, Sign, piece_text, is_blank, longer_stands, AreTokensOf}
+use Rattle.jsgen_model.specs.Punctuator.{dot, plus, plus_plus, minus_minus, star_star, and_and, or_or, nullish, semicolon, Bracket, Round, Square, Brace, opening, closing}
+use Rattle.jsgen_model.specs.Tokens.{Tokens, done, piece, group, ◌⧺◌, Piece, Word, Number, Quoted, Sign, piece_text, is_blank, longer_stands, AreTokensOf}
 use Rattle.jsgen_model.specs.Valid.{is_free_name}
-use Rattle.jsgen_model.specs.Grammar.{Allowed, Level, operator_piece, ReadsExpression, ReadsBinding, ReadsDeclarator, ReadsDeclarators, ReadsDeclaration, ReadsUnended, ReadsStatement, ReadsStatements, ReadsModule, a_module}
+use Rattle.jsgen_model.specs.Grammar.{Allowed, Level, operator_piece, ReadsExpression, ReadsBinding, ReadsDeclarator, ReadsDeclarators, ReadsDeclaration, ReadsUnended, ReadsStatement, ReadsStatements, ReadsModule, a_module, starts_with_directive}
 use Rattle.jsgen_model.specs.Grammar as grammar
 use Rattle.jsgen_lexing.proofs.Characters.{any_append}
 use Rattle.jsgen_lexing.proofs.OneList.{one_token_list, one_span, piece_stops, piece_or_group, opening_char}
@@ -47,33 +49,39 @@ joins (Sign plus_plus) = false
 joins (Sign minus_minus) = false
 joins (Sign s) = true
 joins (Number w) = false
+joins (Quoted q w) = false
 joins (Word w) = bytes_eq w (codes "in") || bytes_eq w (codes "instanceof")
 
 abbrev goes_on : Tokens → Bool
 goes_on done = true
 goes_on (piece m p ts) = joins p
-goes_on ts = false
+goes_on (group m Brace inside ts) = false
+goes_on (group m b inside ts) = true
 
-abbrev begins_with_name : Tokens → Bool
+abbrev pub begins_with_name : Tokens → Bool
 begins_with_name (piece m (Word w) ts) = true
 begins_with_name ts = false
 
--- an operand that a sign or nothing follows, or `const` and a name
-abbrev starts_well : Tokens → Bool
+-- an operand that a sign, a bracket or nothing follows, or `const` and a name
+abbrev pub starts_well : Tokens → Bool
 starts_well (piece m (Word w) ts) = (is_free_name w && goes_on ts) || (bytes_eq w (codes "const") && begins_with_name ts)
 starts_well (piece m (Number w) ts) = goes_on ts
+starts_well (piece m (Quoted q w) ts) = goes_on ts
 starts_well (group m Round inside ts) = goes_on ts
 starts_well ts = false
 
-goes_further : (m : Bool) (p : Piece) (ts b : Tokens) → joins p ≡ true → goes_on ts ≡ true → goes_on (ts ⧺ piece m p b) ≡ true
-goes_further m p done b j h = j
-goes_further m p (piece n q ts) b j h = h
-goes_further m p (group n d inside ts) b j h = absurd (both_ways false refl h)
+goes_further : (ts b : Tokens) → goes_on b ≡ true → goes_on ts ≡ true → goes_on (ts ⧺ b) ≡ true
+goes_further done b j h = j
+goes_further (piece n q ts) b j h = h
+goes_further (group n Round inside ts) b j h = refl
+goes_further (group n Square inside ts) b j h = refl
+goes_further (group n Brace inside ts) b j h = absurd (both_ways false refl h)
 
-named_further : (ts b : Tokens) → begins_with_name ts ≡ true → begins_with_name (ts ⧺ b) ≡ true
+pub named_further : (ts b : Tokens) → begins_with_name ts ≡ true → begins_with_name (ts ⧺ b) ≡ true
 named_further done b h = absurd (both_ways false refl h)
 named_further (piece n (Word w) ts) b h = refl
 named_further (piece n (Number w) ts) b h = absurd (both_ways false refl h)
+named_further (piece n (Quoted q w) ts) b h = absurd (both_ways false refl h)
 named_further (piece n (Sign s) ts) b h = absurd (both_ways false refl h)
 named_further (group n d inside ts) b h = absurd (both_ways false refl h)
 
@@ -86,14 +94,15 @@ either true false false y u v p q h = absurd (both_ways false refl h)
 either false g true false u v p q h = absurd (both_ways false refl h)
 either false g false y u v p q h = absurd (both_ways false refl h)
 
-starts_further : (m : Bool) (p : Piece) (ts b : Tokens) → joins p ≡ true → starts_well ts ≡ true → starts_well (ts ⧺ piece m p b) ≡ true
-starts_further m p done b j h = absurd (both_ways false refl h)
-starts_further m p (piece n (Word w) ts) b j h = either (is_free_name w) (goes_on ts) (bytes_eq w (codes "const")) (begins_with_name ts) _ _ (goes_further m p ts b j) (named_further ts (piece m p b)) h
-starts_further m p (piece n (Number w) ts) b j h = goes_further m p ts b j h
-starts_further m p (piece n (Sign r) ts) b j h = absurd (both_ways false refl h)
-starts_further m p (group n Round inside ts) b j h = goes_further m p ts b j h
-starts_further m p (group n Square inside ts) b j h = absurd (both_ways false refl h)
-starts_further m p (group n Brace inside ts) b j h = absurd (both_ways false refl h)
+starts_further : (ts b : Tokens) → goes_on b ≡ true → starts_well ts ≡ true → starts_well (ts ⧺ b) ≡ true
+starts_further done b j h = absurd (both_ways false refl h)
+starts_further (piece n (Word w) ts) b j h = either (is_free_name w) (goes_on ts) (bytes_eq w (codes "const")) (begins_with_name ts) _ _ (goes_further ts b j) (named_further ts b) h
+starts_further (piece n (Number w) ts) b j h = goes_further ts b j h
+starts_further (piece n (Quoted q w) ts) b j h = goes_further ts b j h
+starts_further (piece n (Sign r) ts) b j h = absurd (both_ways false refl h)
+starts_further (group n Round inside ts) b j h = goes_further ts b j h
+starts_further (group n Square inside ts) b j h = absurd (both_ways false refl h)
+starts_further (group n Brace inside ts) b j h = absurd (both_ways false refl h)
 
 operator_joins : (o : BinaryOperator) → joins (operator_piece o) ≡ true
 operator_joins operators.BitwiseOR = refl
@@ -119,11 +128,11 @@ operator_joins operators.Division = refl
 operator_joins operators.Remainder = refl
 operator_joins operators.Exponential = refl
 
--- a sign behind an operand
-joined : (m : Bool) (p : Piece) (ts a b : Tokens) → joins p ≡ true → ts ≡ a ⧺ piece m p b → starts_well a ≡ true → starts_well ts ≡ true
-joined m p ts a b j e h = subst (λ x. starts_well x ≡ true) (sym e) (starts_further m p a b j h)
+-- what goes on behind an operand
+pub joined : (ts a b : Tokens) → goes_on b ≡ true → ts ≡ a ⧺ b → starts_well a ≡ true → starts_well ts ≡ true
+joined ts a b j e h = subst (λ x. starts_well x ≡ true) (sym e) (starts_further a b j h)
 
-expression_starts : {c : Allowed} {l : Level} {ts : Tokens} {t : Tree} → ReadsExpression c l ts t → starts_well ts ≡ true
+pub expression_starts : {c : Allowed} {l : Level} {ts : Tokens} {t : Tree} → ReadsExpression c l ts t → starts_well ts ≡ true
 expression_starts (grammar.an_assignment r) = expression_starts r
 expression_starts (grammar.a_conditional r) = expression_starts r
 expression_starts (grammar.a_short_circuit r) = expression_starts r
@@ -145,16 +154,24 @@ expression_starts (grammar.a_new r) = expression_starts r
 expression_starts (grammar.a_call r) = expression_starts r
 expression_starts (grammar.a_member r) = expression_starts r
 expression_starts (grammar.a_primary r) = expression_starts r
-expression_starts (grammar.an_operation o m p q e l r) = joined m (operator_piece o) _ _ _ (operator_joins o) e (expression_starts l)
-expression_starts (grammar.a_power m e l r) = joined m (Sign star_star) _ _ _ refl e (expression_starts l)
-expression_starts (grammar.a_conjunction m e l r) = joined m (Sign and_and) _ _ _ refl e (expression_starts l)
-expression_starts (grammar.a_disjunction m e l r) = joined m (Sign or_or) _ _ _ refl e (expression_starts l)
+expression_starts (grammar.a_called_member r) = expression_starts r
+expression_starts (grammar.a_called_call r) = expression_starts r
+expression_starts (grammar.a_named_member m n e r) = joined _ _ (piece m (Sign dot) _) refl e (expression_starts r)
+expression_starts (grammar.a_computed_member m e r s) = joined _ _ (group m Square _ done) refl e (expression_starts r)
+expression_starts (grammar.with_arguments m e r s) = joined _ _ (group m Round _ done) refl e (expression_starts r)
+expression_starts (grammar.a_named_member_of_call m n e r) = joined _ _ (piece m (Sign dot) _) refl e (expression_starts r)
+expression_starts (grammar.a_computed_member_of_call m e r s) = joined _ _ (group m Square _ done) refl e (expression_starts r)
+expression_starts (grammar.an_operation o m p q e l r) = joined _ _ (piece m (operator_piece o) _) (operator_joins o) e (expression_starts l)
+expression_starts (grammar.a_power m e l r) = joined _ _ (piece m (Sign star_star) _) refl e (expression_starts l)
+expression_starts (grammar.a_conjunction m e l r) = joined _ _ (piece m (Sign and_and) _) refl e (expression_starts l)
+expression_starts (grammar.a_disjunction m e l r) = joined _ _ (piece m (Sign or_or) _) refl e (expression_starts l)
 expression_starts (grammar.a_coalesce r) = expression_starts r
-expression_starts (grammar.a_coalescing m e l r) = joined m (Sign nullish) _ _ _ refl e (expression_starts l)
+expression_starts (grammar.a_coalescing m e l r) = joined _ _ (piece m (Sign nullish) _) refl e (expression_starts l)
 expression_starts (grammar.a_coalesced_head r) = expression_starts r
 expression_starts (grammar.a_bit_or_head r) = expression_starts r
 expression_starts (grammar.a_reference {w = w} h) = or_left _ _ (and_from (is_free_name w) true h refl)
 expression_starts grammar.a_number = refl
+expression_starts (grammar.a_string e) = refl
 expression_starts (grammar.in_parentheses r) = refl
 
 binding_starts : {c : Allowed} {ts : Tokens} {t : Tree} → ReadsBinding c ts t → begins_with_name ts ≡ true
@@ -192,7 +209,7 @@ sound_ends (piece m p ts) h = (and_parts _ _ h).1
 sound_ends (group m b inside ts) h = (and_parts _ _ h).1
 
 statement_sound : {c : Allowed} {a : Tokens} {s : Tree} → ReadsStatement c false a s → (b : Tokens) → ends_so true b ≡ true → is_sound (a ⧺ b) ≡ true
-statement_sound (grammar.ended {a = a} m e r) b h = subst (λ x. is_sound (x ⧺ b) ≡ true) (sym e) (subst (λ x. is_sound x ≡ true) (sym (one_more m (Sign semicolon) a b)) (sound_from (a ⧺ piece m (Sign semicolon) b) (starts_further m (Sign semicolon) a b refl (unended_starts r)) (ends_behind true m a b h)))
+statement_sound (grammar.ended {a = a} m e r) b h = subst (λ x. is_sound (x ⧺ b) ≡ true) (sym e) (subst (λ x. is_sound x ≡ true) (sym (one_more m (Sign semicolon) a b)) (sound_from (a ⧺ piece m (Sign semicolon) b) (starts_further a (piece m (Sign semicolon) b) refl (unended_starts r)) (ends_behind true m a b h)))
 
 end_nothing : (a : Tokens) → a ⧺ done ≡ a
 end_nothing done = refl
@@ -205,7 +222,7 @@ statements_sound (grammar.last_statement {ts = ts} r) = subst (λ x. is_sound x 
 statements_sound (grammar.first_statement {a = a} {b = b} e r s) = subst (λ x. is_sound x ≡ true) (sym e) (statement_sound r b (sound_ends b (statements_sound s)))
 
 module_sound : {ts : Tokens} {t : Tree} → ReadsModule ts t → is_sound ts ≡ true
-module_sound (a_module r) = statements_sound r
+module_sound (a_module h r) = statements_sound r
 
 refused : (source : List ℕ) (ts : Tokens) → AreTokensOf source ts → is_sound ts ≡ false → IsNotRead source
 refused source ts h f us t g r = both_ways (is_sound ts) f (subst (λ x. is_sound x ≡ true) (one_token_list source us ts g h) (module_sound r))
@@ -228,6 +245,10 @@ pub increment_between : IsNotRead (codes "a ++ b;")
 unfolding unicode_ident longer_stands is_reserved is_strict_reserved encode
 increment_between = refused (codes "a ++ b;") (word (codes "a") (sign plus_plus (word (codes "b") (sign semicolon done)))) ([], codes " ++ b;", refl, refl, refl, refl, refl, (codes " ", codes " b;", refl, refl, refl, refl, refl, (codes " ", codes ";", refl, refl, refl, refl, refl, ([], [], refl, refl, refl, refl, refl, refl)))) refl
 
+pub string_behind_name : IsNotRead (codes "a'b';")
+unfolding unicode_ident longer_stands is_reserved is_strict_reserved encode string_value
+string_behind_name = refused (codes "a'b';") (word (codes "a") (piece false (Quoted Single (codes "b")) (sign semicolon done))) ([], codes "'b';", refl, refl, refl, refl, refl, ([], codes ";", refl, refl, refl, refl, refl, ([], [], refl, refl, refl, refl, refl, refl))) refl
+
 pub no_binding : IsNotRead (codes "const;")
 unfolding unicode_ident longer_stands is_reserved is_strict_reserved encode
 no_binding = refused (codes "const;") (word (codes "const") (sign semicolon done)) ([], codes ";", refl, refl, refl, refl, refl, ([], [], refl, refl, refl, refl, refl, refl)) refl
@@ -243,6 +264,22 @@ unended_name = refused (codes "a") (word (codes "a") done) ([], [], refl, refl, 
 pub unended_declaration : IsNotRead (codes "const a")
 unfolding unicode_ident longer_stands is_reserved is_strict_reserved encode
 unended_declaration = refused (codes "const a") (word (codes "const") (word (codes "a") done)) ([], codes " a", refl, refl, refl, refl, refl, (codes " ", [], refl, refl, refl, refl, refl, refl)) refl
+
+-- ---- directives
+
+module_begins : {ts : Tokens} {t : Tree} → ReadsModule ts t → starts_with_directive ts ≡ false
+module_begins (a_module h r) = h
+
+no_directive : (source : List ℕ) (ts : Tokens) → AreTokensOf source ts → starts_with_directive ts ≡ true → IsNotRead source
+no_directive source ts h f us t g r = both_ways (starts_with_directive us) (module_begins r) (subst (λ x. starts_with_directive x ≡ true) (one_token_list source ts us h g) f)
+
+pub directive : IsNotRead (codes "\"a\";")
+unfolding unicode_ident longer_stands string_value
+directive = no_directive (codes "\"a\";") (piece false (Quoted Double (codes "a")) (sign semicolon done)) ([], codes ";", refl, refl, refl, refl, refl, ([], [], refl, refl, refl, refl, refl, refl)) refl
+
+pub use_strict : IsNotRead (codes "'use strict';a;")
+unfolding unicode_ident longer_stands string_value
+use_strict = no_directive (codes "'use strict';a;") (piece false (Quoted Single (codes "use strict")) (sign semicolon (word (codes "a") (sign semicolon done)))) ([], codes ";a;", refl, refl, refl, refl, refl, ([], codes "a;", refl, refl, refl, refl, refl, ([], codes ";", refl, refl, refl, refl, refl, ([], [], refl, refl, refl, refl, refl, refl)))) refl
 
 -- ---- a bracket that isn't closed
 

@@ -4,7 +4,8 @@ use Rattle.std.specs.List.{list_all, prefix_len}
 use Rattle.std.proofs.lemmas.Bool.{both_ways, or_cases, eqb-true}
 use Rattle.std.proofs.lemmas.List.{take-append-drop, append_cancel_left}
 use Rattle.jsgen_model.specs.Punctuator.{Bracket, Round, Square, Brace, opening, closing}
-use Rattle.jsgen_model.specs.Tokens.{Tokens, done, piece, group, Piece, Word, Number, Sign, piece_text, ends_before, is_blank, has_line_end, AreTokensAfter, AreTokensOf}
+use Rattle.jsgen_model.specs.Tokens.{Tokens, done, piece, group, Piece, Word, Number, Quoted, Sign, piece_text, ends_before, is_blank, has_line_end, AreTokensAfter, AreTokensOf}
+use Rattle.jsgen_lexing.proofs.Last.{clear_quoted}
 use Rattle.jsgen_lexing.proofs.Signs.{Shut, closing_char, sign_ends_same}
 use Rattle.jsgen_lexing.proofs.OneList.{Stops, one_span, one_list, piece_stops, opening_stops, shut_stops, opened, closed, ends_more}
 use Rattle.jsgen_slow.specs.Steps.{ends_row, behind_blanks, mark_at, IsRow, HasNoRow}
@@ -41,6 +42,7 @@ closing_shut b x = subst (λ t. Shut (t ++ x)) (sym (closed b)) (b, refl)
 -- a token that ends before a text and what a closing bracket begins does so before the text
 ends_less : (p : Piece) (r x : List ℕ) → ends_before p (r ++ x) ≡ true → Shut x → ends_before p r ≡ true
 ends_less (Sign q) r x h s = sym (sign_ends_same q r x s) ∙ h
+ends_less (Quoted q w) r x h s = clear_quoted q w r
 ends_less (Word w) [] x h s = refl
 ends_less (Word w) (c ∷ cs) x h s = h
 ends_less (Number w) [] x h s = refl

@@ -3,3 +3,5 @@ pub mod Plain
 pub mod Law
 pub mod Steps
 pub mod Samples
+pub mod Form
+pub mod Values

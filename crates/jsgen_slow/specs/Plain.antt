@@ -1,7 +1,7 @@
 -- The program's tokens as those of the model.
 use Rattle.std.specs.Prelude.{List, [], ◌∷◌, map}
 use Rattle.jsgen_model.specs.Punctuator.{Bracket, Round, Square, Brace}
-use Rattle.jsgen_model.specs.Tokens.{Tokens, done, piece, group, Piece, Word, Number, Sign}
+use Rattle.jsgen_model.specs.Tokens.{Tokens, done, piece, group, Piece, Word, Number, Quoted, Sign}
 use Rattle.jsgen_slow.specs.Signs.{punctuator_plain}
 use Rattle.jsgen_slow.specs.declared.token.Bracket as program_bracket
 use Rattle.jsgen_slow.specs.declared.token.Bracket.TheVariants as brackets
@@ -20,6 +20,7 @@ bracket_plain brackets.Brace = Brace
 abbrev pub piece_plain : program_piece.Piece → Piece
 piece_plain (pieces.Word w) = Word w.items
 piece_plain (pieces.Number w) = Number w.items
+piece_plain (pieces.Quoted q w) = Quoted q w.items
 piece_plain (pieces.Sign s) = Sign (punctuator_plain s)
 
 -- one token before the next

@@ -3,7 +3,7 @@ use Rattle.std.specs.Prelude.{◌≡◌, ℕ, List, [], ◌∷◌, codes}
 use Rattle.jsgen_syntax.specs.declared.operator.BinaryOperator.TheVariants.{Addition, Subtraction, Multiplication, Exponential}
 use Rattle.jsgen_syntax.specs.declared.operator.LogicalOperator.TheVariants.{Or, And}
 use Rattle.jsgen_tree.specs.declared.statements.VariableDeclarationKind.TheVariants.{Const}
-use Rattle.jsgen_tree.specs.Tree.{Tree, Maybe, absent, given, Trees, no_trees, more, text, digits, numeric_kind, Whole, declaration_kind, binary_operator, logical_operator}
+use Rattle.jsgen_tree.specs.Tree.{Tree, Maybe, absent, given, Trees, no_trees, more, text, units, digits, numeric_kind, Whole, declaration_kind, binary_operator, logical_operator}
 use Rattle.jsgen_tree.specs.Tree as tree
 use Rattle.jsgen_model.specs.Tokens.{Tokens, AreTokensOf}
 use Rattle.jsgen_model.specs.Normal.{bare, normal}
@@ -55,6 +55,18 @@ or_of left right = tree.logical (bare (logical_operator Or ∷ [])) left right
 abbrev pub in_parentheses : Tree → Tree
 in_parentheses inner = tree.parenthesized (bare []) inner
 
+abbrev pub string_of : List ℕ → Tree
+string_of value = tree.string_literal (bare (units value ∷ []))
+
+abbrev pub member_of : Tree → List ℕ → Tree
+member_of object name = tree.static_member (bare []) object (tree.identifier_name (named name))
+
+abbrev pub element_of : Tree → Tree → Tree
+element_of object expression = tree.computed_member (bare []) object expression
+
+abbrev pub call_of : Tree → Trees → Tree
+call_of callee arguments = tree.call (bare []) callee arguments
+
 abbrev pub statement_of : Tree → Tree
 statement_of expression = tree.expression_statement (bare []) expression
 
@@ -81,6 +93,11 @@ pub record GrammarSamples : Type 0 where
   pub without_value : IsRead (codes "const a;") (module_of (more (const_of (more (bound (codes "a") absent) no_trees)) no_trees))
   -- a line end before `+` ends no statement (12.10)
   pub over_lines : IsRead (codes "a\n+b;") (module_of (more (statement_of (sum_of a b)) no_trees))
+  -- members and calls group to the left (13.3)
+  pub members : IsRead (codes "a.b(c)[1];") (module_of (more (statement_of (element_of (call_of (member_of a (codes "b")) (more c no_trees)) one)) no_trees))
+  pub string : IsRead (codes "(\"a\");") (module_of (more (statement_of (in_parentheses (string_of (codes "a")))) no_trees))
+  -- a template may begin a program, since it is no directive (11.2.1), and an escape is read
+  pub template : IsRead (codes "`\\n`;") (module_of (more (statement_of (string_of (10 ∷ []))) no_trees))
   pub two_names : IsNotRead (codes "a b")
   pub two_numbers : IsNotRead (codes "1 2;")
   pub no_right_operand : IsNotRead (codes "a +")
@@ -88,6 +105,14 @@ pub record GrammarSamples : Type 0 where
   pub no_binding : IsNotRead (codes "const;")
   pub reserved_word : IsNotRead (codes "if;")
   pub open_bracket : IsNotRead (codes "(a")
+  -- a program that begins with a directive isn't read so far
+  pub directive : IsNotRead (codes "\"a\";")
+  pub use_strict : IsNotRead (codes "'use strict';a;")
+  pub member_by_string : IsNotRead (codes "a.\"b\";")
+  pub no_element : IsNotRead (codes "a[];")
+  pub no_name : IsNotRead (codes "a.;")
+  pub no_argument : IsNotRead (codes "a(,);")
+  pub string_behind_name : IsNotRead (codes "a'b';")
   -- at a module's end the definition adds no semicolon, though 12.10 does
   pub unended_name : IsNotRead (codes "a")
   pub unended_declaration : IsNotRead (codes "const a")

@@ -1,6 +1,9 @@
 -- What stands at a place of a text.
-use Rattle.std.specs.Prelude.{◌≡◌, ℕ, List, [], ◌∷◌, ◌++◌, Bool, true, false, ◌||◌, ◌==◌, Option, Some, None, if◌then◌else◌, take, drop}
+use Rattle.std.specs.Prelude.{◌≡◌, ℕ, ◌+◌, List, [], ◌∷◌, ◌++◌, Bool, true, false, ◌||◌, ◌==◌, Option, Some, None, option_map, if◌then◌else◌, take, drop}
 use Rattle.std.specs.List.{prefix_len}
+use Rattle.jsgen_syntax.specs.Strings.{quote_char}
+use Rattle.jsgen_syntax.specs.declared.quote.Quote.{Quote}
+use Rattle.jsgen_syntax.specs.declared.quote.Quote.TheVariants as quotes
 use Rattle.jsgen_model.specs.Punctuator.{Punctuator, Bracket, Round, Square, Brace, opening, closing}
 use Rattle.jsgen_model.specs.Tokens.{Tokens, done, piece, group, Piece, piece_text, is_spelled, ends_before, stands, longer_stands, is_blank, has_line_end}
 
@@ -24,6 +27,18 @@ HasNoSign text = (p : Punctuator) → stands p text ≡ false
 -- it is the longest there
 abbrev pub IsSignAt : List ℕ → Punctuator → Type 0
 IsSignAt text p = (stands p text ≡ true) × (longer_stands p text ≡ false)
+
+-- ---- strings
+
+abbrev pub quote_at : List ℕ → Option Quote
+quote_at [] = None
+quote_at (c ∷ cs) = if c == 39 then Some quotes.Single else (if c == 34 then Some quotes.Double else (if c == 96 then Some quotes.Backtick else None))
+
+-- how many characters stand before the first quote that isn't behind a backslash. The flag tells that one stands before the text
+abbrev pub count_before : Quote → Bool → List ℕ → Option ℕ
+count_before q behind [] = None
+count_before q true (c ∷ cs) = option_map (λ n. 1 + n) (count_before q false cs)
+count_before q false (c ∷ cs) = if c == 92 then option_map (λ n. 1 + n) (count_before q true cs) else (if c == quote_char q then Some 0 else option_map (λ n. 1 + n) (count_before q false cs))
 
 -- ---- brackets
 

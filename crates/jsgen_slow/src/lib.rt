@@ -3,22 +3,36 @@
 
 ghost use Rattle.std.specs.Prelude.{◌≡◌, IfOk, MatchOption};
 ghost use Rattle.std.specs.Str.{chars};
+ghost use Rattle.jsgen_tree.specs.Plain.{program_plain};
 ghost use Rattle.jsgen_model.specs.Tokens.{AreTokensOf};
+ghost use Rattle.jsgen_model.specs.Normal.{normal};
 ghost use Rattle.jsgen_slow.specs.Plain.{tokens_plain};
+ghost use Rattle.jsgen_slow.specs.Form.{form_plain};
 ghost use Rattle.jsgen_slow.specs.Law.{HasNoTokens};
 ghost use Rattle.jsgen_slow.specs.Samples.{GrammarSamples, NormalSamples};
 
 mod characters;
+mod form;
+mod normal;
+#[cfg(test)]
+mod normal_tests;
 mod punctuator;
 mod row;
+mod string;
+#[cfg(test)]
+mod string_tests;
 #[cfg(test)]
 mod tests;
 mod token;
 
+pub use form::Form;
 use jsgen_syntax::Memory;
+use jsgen_tree::Program;
+use normal::program_form;
 pub use punctuator::Punctuator;
 use row::take_row;
 use std::alloc::Global;
+pub use string::string_value_of;
 pub use token::{Bracket, Piece, Token};
 
 /// The tokens of a text (ECMA-262, clause 12), or none where it has no list of them. Reads the text from left to
@@ -42,6 +56,14 @@ fn characters_of(alloc: Global, text: &str) -> Result<Vec<char>, Memory>
     ensures { IfOk result (λ v. v.items ≡ chars text.now) }
 {
     Ok(text.chars().collect(alloc)?)
+}
+
+/// The normal form of a program (docs/DEFINITIONS.md): what it has in common with each program of the same meaning.
+/// Goes over the tree node by node, and copies each name.
+pub fn normal_form(alloc: Global, program: &Program) -> Result<Form, Memory>
+    ensures { IfOk result (λ f. form_plain f ≡ normal (program_plain program.now)) }
+{
+    program_form(alloc, program)
 }
 
 /// The grammar of the model reads a few texts as ECMA-262 does.

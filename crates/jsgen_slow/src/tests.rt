@@ -6,7 +6,7 @@ use std::rt::HostRuntime;
 use std::test::Fail;
 
 // A text, and its tokens with a space between each two and an arrow before each that a line end precedes.
-const READ: [(&str, &str); 62] = [
+const READ: [(&str, &str); 83] = [
     ("", ""),
     (" \t ", ""),
     ("\n\r\n", ""),
@@ -68,6 +68,28 @@ const READ: [(&str, &str); 62] = [
     ("a\u{2028}b", "a ↵b"),
     ("a\u{2029}\tb", "a ↵b"),
     ("\na b\n", "↵a b"),
+    // strings, and templates without substitutions
+    ("''", "''"),
+    ("'a'", "'a'"),
+    ("\"a\\\"b\"", "\"a\\\"b\""),
+    ("'\\u{1F600}'", "'\\u{1F600}'"),
+    ("'a\\\\'", "'a\\\\'"),
+    ("\"'\"", "\"'\""),
+    ("'a''b'", "'a' 'b'"),
+    ("'a'b", "'a' b"),
+    ("a'b'", "a 'b'"),
+    ("1'a'", "1 'a'"),
+    ("x\n'a'", "x ↵'a'"),
+    ("('(')", "( '(' )"),
+    ("'//'", "'//'"),
+    ("'${a}'", "'${a}'"),
+    ("'a\\\nb'", "'a\\\nb'"),
+    ("'a\u{2028}b'", "'a\u{2028}b'"),
+    ("`a`", "`a`"),
+    ("`a\nb`", "`a\nb`"),
+    ("`$a$`", "`$a$`"),
+    ("`\\${a}`", "`\\${a}`"),
+    ("'use strict';a;", "'use strict' ; a ;"),
     // groups
     ("(a)[b]{c}", "( a ) [ b ] { c }"),
     ("([{}])", "( [ { } ] )"),
@@ -75,8 +97,8 @@ const READ: [(&str, &str); 62] = [
     ("()=>{a;}", "( ) => { a ; }"),
 ];
 
-// What the standard reads as no tokens, or as brackets that don't match.
-const NOT_TOKENS: [&str; 14] = [
+// What the standard reads as no tokens in a module, or as brackets that don't match.
+const NOT_TOKENS: [&str; 26] = [
     "3in",
     "01",
     "00",
@@ -91,11 +113,23 @@ const NOT_TOKENS: [&str; 14] = [
     "]",
     "a\\",
     "\u{200D}a",
+    "'a",
+    "\"a'",
+    "`a",
+    "'a\\'",
+    "'a\nb'",
+    "'a\rb'",
+    "\"\\8\"",
+    "'\\01'",
+    "'\\x4'",
+    "'\\u{}'",
+    "`\\u{110000}`",
+    "`\\1`",
 ];
 
-// What the standard reads, in forms that the definition doesn't have: comments, other white space and numbers, texts
-// in quotes, private names.
-const NOT_YET: [&str; 22] = [
+// What the standard reads, in forms that the definition doesn't have: comments, other white space and numbers,
+// templates with substitutions, private names.
+const NOT_YET: [&str; 20] = [
     "a/**/b",
     "a//b",
     "/*",
@@ -113,9 +147,7 @@ const NOT_YET: [&str; 22] = [
     "0x1",
     "1n",
     "1_0",
-    "'a'",
-    "\"a\"",
-    "`a`",
+    "`a${b}`",
     "#a",
     "\\u0061",
 ];
@@ -196,6 +228,11 @@ fn push_piece(shown: &mut String, piece: &Piece) -> Result<(), Memory> {
     match piece {
         Piece::Word(word) => push_characters(shown, word),
         Piece::Number(number) => push_characters(shown, number),
+        Piece::Quoted { quote, text } => {
+            shown.push(quote.as_byte() as char)?;
+            push_characters(shown, text)?;
+            Ok(shown.push(quote.as_byte() as char)?)
+        }
         Piece::Sign(sign) => push_characters(shown, sign.text()),
     }
 }

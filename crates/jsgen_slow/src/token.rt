@@ -1,15 +1,17 @@
 // Tokens, and the one at the front of a text (ECMA-262, clause 12).
-ghost use Rattle.std.specs.Prelude.{◌≡◌, [], true, IfOk, MatchOption, option_map};
+ghost use Rattle.std.specs.Prelude.{◌≡◌, ◌<◌, ◌∷◌, [], true, length, IfOk, IfSome, MatchOption, option_map};
 ghost use Rattle.std.specs.Char.{is_ascii_digit};
 ghost use Rattle.jsgen_syntax.specs.Name.{starts_name};
+ghost use Rattle.jsgen_syntax.specs.Strings.{quote_char};
 ghost use Rattle.jsgen_model.specs.Punctuator.{closing};
 ghost use Rattle.jsgen_model.specs.Tokens.{spells_whole, ends_before, Number};
 ghost use Rattle.jsgen_slow.specs.Plain.{bracket_plain, piece_plain};
-ghost use Rattle.jsgen_slow.specs.Steps.{begins, StandsAt, HasNoPiece, HasNoSign, opening_at, ends_row};
+ghost use Rattle.jsgen_slow.specs.Steps.{begins, StandsAt, HasNoPiece, HasNoSign, quote_at, count_before, opening_at, ends_row};
 
 use crate::characters::{are_digits, count_digits, count_name, starts_name};
 use crate::punctuator::{Punctuator, sign_at};
-use jsgen_syntax::Memory;
+use crate::string::{mark, string_value_of};
+use jsgen_syntax::{Memory, Quote};
 use std::alloc::Global;
 
 #[derive(Clone, Copy, Debug, PartialEq, Eq)]
@@ -24,6 +26,8 @@ pub enum Bracket {
 pub enum Piece {
     Word(Vec<char>),
     Number(Vec<char>),
+    /// A string, or a template without substitutions: what stands between its quotes.
+    Quoted { quote: Quote, text: Vec<char> },
     Sign(Punctuator),
 }
 
@@ -93,7 +97,13 @@ pub(crate) fn take_piece<'a>(alloc: Global, text: &'a [char]) -> Result<Option<T
     } else if begins_number(text) {
         take_number(alloc, text)
     } else {
-        Ok(take_sign(text))
+        match quote_at(text) {
+            Some(quote) => {
+                let (_, inner) = text.split_at(1);
+                take_string(alloc, quote, inner)
+            }
+            None => Ok(take_sign(text)),
+        }
     }
 }
 
@@ -161,6 +171,57 @@ fn ends_number(rest: &[char]) -> bool
         Some(c) => !(starts_name(*c) || c.is_ascii_digit() || *c == '.'),
         None => true,
     }
+}
+
+fn quote_at(text: &[char]) -> Option<Quote>
+    ensures { result ≡ quote_at text.now }
+{
+    match text.first()? {
+        '\'' => Some(Quote::Single),
+        '"' => Some(Quote::Double),
+        '`' => Some(Quote::Backtick),
+        _ => None,
+    }
+}
+
+// The string whose first quote stands before the text.
+fn take_string<'a>(
+    alloc: Global,
+    quote: Quote,
+    text: &'a [char],
+) -> Result<Option<Taken<'a>>, Memory>
+    ensures { IfOk result (λ r. MatchOption r (HasNoPiece (quote_char quote ∷ text.now))
+        (λ t. StandsAt (quote_char quote ∷ text.now) (piece_plain t.piece) t.rest.now)) }
+{
+    let Some(count) = count_before(quote, false, text) else {
+        return Ok(None);
+    };
+    let (spelling, behind) = text.split_at(count);
+    let (_, rest) = behind.split_at(1);
+    if string_value_of(alloc, quote, spelling)?.is_none() {
+        return Ok(None);
+    }
+    Ok(Some(Taken {
+        piece: Piece::Quoted {
+            quote,
+            text: Vec::from_slice(alloc, spelling)?,
+        },
+        rest,
+    }))
+}
+
+// How many characters stand before the first quote that isn't behind a backslash. The flag tells that one stands
+// before the text.
+fn count_before(quote: Quote, behind: bool, text: &[char]) -> Option<usize>
+    ensures value { result ≡ count_before quote behind text.now }
+    ensures within { IfSome result (λ n. n < length text.now) }
+{
+    let (first, rest) = text.split_first()?;
+    if !behind && *first == mark(quote) {
+        return Some(0);
+    }
+    let count = count_before(quote, !behind && *first == '\\', rest)?;
+    Some(count + 1)
 }
 
 fn take_sign<'a>(text: &'a [char]) -> Option<Taken<'a>>

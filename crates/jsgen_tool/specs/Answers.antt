@@ -4,7 +4,7 @@ use Rattle.std.specs.declared.alloc.Global.{Global}
 use Rattle.std.specs.Io.KnownBytes.{Keeps, Appends}
 use Rattle.jsgen_tree.specs.Tree.{Tree}
 use Rattle.jsgen_model.specs.declared.fault.TreeFault.{TreeFault}
-use Rattle.jsgen.specs.declared.rows.InputFault.{InputFault}
+use Rattle.jsgen_rows.specs.declared.InputFault.{InputFault}
 use Rattle.jsgen_tool.specs.Device.{Rose, AppendsPart}
 use Rattle.jsgen_tool.specs.Transfer.{IsWithin, limit}
 use Rattle.jsgen_tool.specs.Job.{IsJobOf, Breaks, IsNoJob, text_of}

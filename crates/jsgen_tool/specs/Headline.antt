@@ -5,7 +5,7 @@ use Rattle.std.specs.Io.KnownBytes.{Appends}
 use Rattle.jsgen_tree.specs.Tree.{Tree}
 use Rattle.jsgen_model.specs.Reading.{IsReadAs}
 use Rattle.jsgen_model.specs.Valid.{IsValid}
-use Rattle.jsgen.specs.Job.{job_of}
+use Rattle.jsgen_rows.specs.Job.{job_of}
 use Rattle.jsgen_tool.specs.Transfer.{IsWithin}
 use Rattle.jsgen_tool.specs.declared.status.Status.{Status}
 use Rattle.jsgen_tool.specs.declared.status.Status.TheVariants.{Done, ReadFault, WriteFault, Memory}

@@ -6,9 +6,9 @@ use Rattle.jsgen_model.specs.Layout.{pretty}
 use Rattle.jsgen_model.specs.Spell.{text_bytes}
 use Rattle.jsgen_model.specs.Valid.{breaches, IsValid}
 use Rattle.jsgen_model.specs.declared.fault.TreeFault.{TreeFault}
-use Rattle.jsgen.specs.Job.{job_of}
-use Rattle.jsgen.specs.declared.rows.InputFault.{InputFault}
-use Rattle.jsgen.specs.declared.rows.InputFault.TheVariants as faults
+use Rattle.jsgen_rows.specs.Job.{job_of}
+use Rattle.jsgen_rows.specs.declared.InputFault.{InputFault}
+use Rattle.jsgen_rows.specs.declared.InputFault.TheVariants as faults
 use Rattle.jsgen_tool.specs.declared.job.Fault.{Fault}
 use Rattle.jsgen_tool.specs.declared.job.Fault.TheVariants.{NotJob, Refused, Memory}
 

@@ -2,9 +2,9 @@
 use Rattle.std.specs.Prelude.{ℕ, List, [], ◌++◌, codes, decimal, Option, Some, None}
 use Rattle.jsgen_model.specs.declared.fault.TreeFault.{TreeFault}
 use Rattle.jsgen_model.specs.declared.fault.TreeFault.TheVariants as rules
-use Rattle.jsgen.specs.declared.rows.At.{At}
-use Rattle.jsgen.specs.declared.rows.InputFault.{InputFault}
-use Rattle.jsgen.specs.declared.rows.InputFault.TheVariants as faults
+use Rattle.jsgen_rows.specs.declared.At.{At}
+use Rattle.jsgen_rows.specs.declared.InputFault.{InputFault}
+use Rattle.jsgen_rows.specs.declared.InputFault.TheVariants as faults
 use Rattle.jsgen_tool.specs.declared.status.Status.{Status}
 use Rattle.jsgen_tool.specs.declared.status.Status.TheVariants.{Done, Refused, Usage, NotJob, ReadFault, WriteFault, Memory, TooLong}
 use Rattle.jsgen_tool.specs.declared.status.Spot.{Spot}

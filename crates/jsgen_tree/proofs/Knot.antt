@@ -1,7 +1,8 @@
 -- The plain data of the recursive type is, set by set, that of what it holds.
-use Rattle.std.proofs.Common.{◌≡◌, refl, sym, ap, ◌∙◌, List, [], ◌∷◌, Some, None, map}
-use Rattle.jsgen_tree.specs.Tree.{Tree, span_of, declaration_kind, variable_declaration, trees}
-use Rattle.jsgen_tree.specs.Rows.{expression_plain, statement_plain, declaration_plain, binding_pattern_plain}
+use Rattle.std.specs.declared.alloc.Global.{Global}
+use Rattle.std.proofs.Common.{Box, ◌≡◌, refl, sym, ap, ◌∙◌, List, [], ◌∷◌, Some, None, map}
+use Rattle.jsgen_tree.specs.Tree.{Tree, span_of, declaration_kind, flag, variable_declaration, call, trees}
+use Rattle.jsgen_tree.specs.Rows.{in_expression, expression_plain, statement_plain, declaration_plain, binding_pattern_plain}
 use Rattle.jsgen_tree.specs.Plain.{node_plain, layer}
 use Rattle.jsgen_tree.specs.declared.nodes.Node.{Node, out-Node, map-Node, fold_out-Node}
 use Rattle.jsgen_tree.specs.declared.nodes.Node.TheVariants as nodes
@@ -9,6 +10,8 @@ use Rattle.jsgen_tree.specs.declared.nodes.Node.TheVariants.{outs-Expression, ou
 use Rattle.jsgen_tree.specs.declared.nodes.Node.TheOpen as opened
 use Rattle.jsgen_tree.specs.declared.sets.Expression.{Expression}
 use Rattle.jsgen_tree.specs.declared.sets.Expression.TheVariants as expressions
+use Rattle.jsgen_tree.specs.declared.sets.Argument.{Argument}
+use Rattle.jsgen_tree.specs.declared.sets.Argument.TheVariants as arguments
 use Rattle.jsgen_tree.specs.declared.sets.Statement.{Statement}
 use Rattle.jsgen_tree.specs.declared.sets.Statement.TheVariants as statements
 use Rattle.jsgen_tree.specs.declared.sets.Declaration.{Declaration}
@@ -28,13 +31,21 @@ map_after : {A B C : Type 0} (f : B → C) (g : A → B) (k : A → C) → ((x :
 map_after f g k e [] = refl
 map_after f g k e (x ∷ xs) = ap (λ y. y ∷ map f (map g xs)) (e x) ∙ ap (λ ys. k x ∷ ys) (map_after f g k e xs)
 
+-- an argument, by its set
+with_argument : (P : Argument Node → Type 0) → ((e : Box (ExpressionNode Node) Global) → P (arguments.Expression e)) → (a : Argument Node) → P a
+with_argument P one (arguments.Expression e) = one e
+
 -- a layer of each set over what its children give
 natural_expression : (h : Node → Tree) (e : Expression Node) → layer (map-Node Node Tree h (opened.Expression e)) ≡ expression_plain h e
 natural_expression h (expressions.IdentifierReference b) = refl
 natural_expression h (expressions.NumericLiteral b) = refl
+natural_expression h (expressions.StringLiteral b) = refl
 natural_expression h (expressions.BinaryExpression b) = refl
 natural_expression h (expressions.LogicalExpression b) = refl
 natural_expression h (expressions.ParenthesizedExpression b) = refl
+natural_expression h (expressions.StaticMemberExpression b) = refl
+natural_expression h (expressions.ComputedMemberExpression b) = refl
+natural_expression h (expressions.CallExpression b) = ap (λ ts. call (record { span = b.value.span; values = flag b.value.pure ∷ [] }) (in_expression h b.value.callee) (trees ts)) (map_after _ _ _ (with_argument _ (λ e. refl)) b.value.arguments.items)
 
 natural_statement : (h : Node → Tree) (s : Statement Node) → layer (map-Node Node Tree h (opened.Statement s)) ≡ statement_plain h s
 natural_statement h (statements.Declaration b) = refl
@@ -64,9 +75,13 @@ plain_binding_pattern b = plain_out (nodes.BindingPattern b) ∙ ap (λ o. layer
 row_spans : (h : Node → Tree) (e : Expression Node) → expression_span e ≡ span_of (expression_plain h e)
 row_spans h (expressions.IdentifierReference b) = refl
 row_spans h (expressions.NumericLiteral b) = refl
+row_spans h (expressions.StringLiteral b) = refl
 row_spans h (expressions.BinaryExpression b) = refl
 row_spans h (expressions.LogicalExpression b) = refl
 row_spans h (expressions.ParenthesizedExpression b) = refl
+row_spans h (expressions.StaticMemberExpression b) = refl
+row_spans h (expressions.ComputedMemberExpression b) = refl
+row_spans h (expressions.CallExpression b) = refl
 
 pub expression_spans : (e : Expression Node) → expression_span e ≡ span_of (node_plain (nodes.Expression e))
 expression_spans e = row_spans node_plain e ∙ ap span_of (sym (plain_expression e))

@@ -17,9 +17,13 @@ use Rattle.jsgen_tree.specs.declared.sets.BindingPattern.TheVariants as binding_
 of_expression : (h : Node → Tree) (e : Expression Node) → is_expression (type_of (expression_plain h e)) ≡ true
 of_expression h (expressions.IdentifierReference b) = refl
 of_expression h (expressions.NumericLiteral b) = refl
+of_expression h (expressions.StringLiteral b) = refl
 of_expression h (expressions.BinaryExpression b) = refl
 of_expression h (expressions.LogicalExpression b) = refl
 of_expression h (expressions.ParenthesizedExpression b) = refl
+of_expression h (expressions.StaticMemberExpression b) = refl
+of_expression h (expressions.ComputedMemberExpression b) = refl
+of_expression h (expressions.CallExpression b) = refl
 
 pub expression_is_one : (e : Expression Node) → is_expression (type_of (node_plain (nodes.Expression e))) ≡ true
 expression_is_one e = ap (λ t. is_expression (type_of t)) (plain_expression e) ∙ of_expression node_plain e

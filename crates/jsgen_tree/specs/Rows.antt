@@ -2,7 +2,8 @@
 use Rattle.std.specs.Prelude.{ℕ, List, [], ◌∷◌, map, option_map, String, string_bytes}
 use Rattle.std.specs.Str.{chars}
 use Rattle.std.specs.declared.alloc.Global.{Global}
-use Rattle.jsgen_tree.specs.Tree.{Tree, Atom, text, digits, source_kind, declaration_kind, numeric_kind, Whole, binary_operator, logical_operator, optional, trees, program, expression_statement, variable_declaration, variable_declarator, binding_identifier, identifier_reference, numeric_literal, parenthesized, binary, logical}
+use Rattle.jsgen_syntax.specs.Units.{js_units}
+use Rattle.jsgen_tree.specs.Tree.{Tree, Atom, text, units, digits, source_kind, declaration_kind, numeric_kind, Whole, binary_operator, logical_operator, flag, optional, trees, program, expression_statement, variable_declaration, variable_declarator, binding_identifier, identifier_reference, numeric_literal, string_literal, parenthesized, binary, logical, identifier_name, static_member, computed_member, call}
 use Rattle.jsgen_tree.specs.declared.nodes.ExpressionNode.{ExpressionNode}
 use Rattle.jsgen_tree.specs.declared.nodes.StatementNode.{StatementNode}
 use Rattle.jsgen_tree.specs.declared.nodes.DeclarationNode.{DeclarationNode}
@@ -16,9 +17,16 @@ use Rattle.jsgen_tree.specs.declared.expressions.IdentifierReference.{Identifier
 use Rattle.jsgen_tree.specs.declared.expressions.NumericLiteral.{NumericLiteral}
 use Rattle.jsgen_tree.specs.declared.expressions.NumericValue.{NumericValue}
 use Rattle.jsgen_tree.specs.declared.expressions.NumericValue.TheVariants as numeric
+use Rattle.jsgen_tree.specs.declared.expressions.StringLiteral.{StringLiteral}
 use Rattle.jsgen_tree.specs.declared.expressions.ParenthesizedExpression.{ParenthesizedExpression}
 use Rattle.jsgen_tree.specs.declared.expressions.BinaryExpression.{BinaryExpression}
 use Rattle.jsgen_tree.specs.declared.expressions.LogicalExpression.{LogicalExpression}
+use Rattle.jsgen_tree.specs.declared.expressions.IdentifierName.{IdentifierName}
+use Rattle.jsgen_tree.specs.declared.expressions.StaticMemberExpression.{StaticMemberExpression}
+use Rattle.jsgen_tree.specs.declared.expressions.ComputedMemberExpression.{ComputedMemberExpression}
+use Rattle.jsgen_tree.specs.declared.expressions.CallExpression.{CallExpression}
+use Rattle.jsgen_tree.specs.declared.sets.Argument.{Argument}
+use Rattle.jsgen_tree.specs.declared.sets.Argument.TheVariants as argument
 use Rattle.jsgen_tree.specs.declared.sets.Expression.{Expression}
 use Rattle.jsgen_tree.specs.declared.sets.Expression.TheVariants as expression
 use Rattle.jsgen_tree.specs.declared.sets.Statement.{Statement}
@@ -46,6 +54,9 @@ in_declaration plain n = plain n.node
 abbrev pub in_binding_pattern : {N : Type 0} → (N → Tree) → BindingPatternNode N → Tree
 in_binding_pattern plain n = plain n.node
 
+abbrev pub in_argument : {N : Type 0} → (N → Tree) → Argument N → Tree
+in_argument plain (argument.Expression b) = in_expression plain b.value
+
 -- ---- structs
 
 abbrev pub identifier_reference_row : IdentifierReference → Tree
@@ -57,6 +68,9 @@ numeric_values (numeric.Whole n) = numeric_kind Whole ∷ digits n ∷ []
 abbrev pub numeric_literal_row : NumericLiteral → Tree
 numeric_literal_row n = numeric_literal (record { span = n.span; values = numeric_values n.value })
 
+abbrev pub string_literal_row : StringLiteral → Tree
+string_literal_row n = string_literal (record { span = n.span; values = units (js_units n.value) ∷ [] })
+
 abbrev pub parenthesized_expression_row : {N : Type 0} → (N → Tree) → ParenthesizedExpression N → Tree
 parenthesized_expression_row plain n = parenthesized (record { span = n.span; values = [] }) (in_expression plain n.expression)
 
@@ -65,6 +79,18 @@ binary_expression_row plain n = binary (record { span = n.span; values = binary_
 
 abbrev pub logical_expression_row : {N : Type 0} → (N → Tree) → LogicalExpression N → Tree
 logical_expression_row plain n = logical (record { span = n.span; values = logical_operator n.operator ∷ [] }) (in_expression plain n.left) (in_expression plain n.right)
+
+abbrev pub identifier_name_row : IdentifierName → Tree
+identifier_name_row n = identifier_name (record { span = n.span; values = text (characters n.name) ∷ [] })
+
+abbrev pub static_member_expression_row : {N : Type 0} → (N → Tree) → StaticMemberExpression N → Tree
+static_member_expression_row plain n = static_member (record { span = n.span; values = [] }) (in_expression plain n.object) (identifier_name_row n.property.value)
+
+abbrev pub computed_member_expression_row : {N : Type 0} → (N → Tree) → ComputedMemberExpression N → Tree
+computed_member_expression_row plain n = computed_member (record { span = n.span; values = [] }) (in_expression plain n.object) (in_expression plain n.expression)
+
+abbrev pub call_expression_row : {N : Type 0} → (N → Tree) → CallExpression N → Tree
+call_expression_row plain n = call (record { span = n.span; values = flag n.pure ∷ [] }) (in_expression plain n.callee) (trees (map (in_argument plain) n.arguments.items))
 
 abbrev pub binding_identifier_row : BindingIdentifier → Tree
 binding_identifier_row n = binding_identifier (record { span = n.span; values = text (characters n.name) ∷ [] })
@@ -86,9 +112,13 @@ program_row plain n = program (record { span = n.span; values = text (characters
 abbrev pub expression_plain : {N : Type 0} → (N → Tree) → Expression N → Tree
 expression_plain plain (expression.IdentifierReference b) = identifier_reference_row b.value
 expression_plain plain (expression.NumericLiteral b) = numeric_literal_row b.value
+expression_plain plain (expression.StringLiteral b) = string_literal_row b.value
 expression_plain plain (expression.BinaryExpression b) = binary_expression_row plain b.value
 expression_plain plain (expression.LogicalExpression b) = logical_expression_row plain b.value
 expression_plain plain (expression.ParenthesizedExpression b) = parenthesized_expression_row plain b.value
+expression_plain plain (expression.StaticMemberExpression b) = static_member_expression_row plain b.value
+expression_plain plain (expression.ComputedMemberExpression b) = computed_member_expression_row plain b.value
+expression_plain plain (expression.CallExpression b) = call_expression_row plain b.value
 
 abbrev pub declaration_plain : {N : Type 0} → (N → Tree) → Declaration N → Tree
 declaration_plain plain (declaration.VariableDeclaration b) = variable_declaration_row plain b.value

@@ -2,6 +2,8 @@
 use Rattle.jsgen_syntax.specs.declared.span.Span.{Span}
 use Rattle.jsgen_tree.specs.declared.sets.Expression.{Expression}
 use Rattle.jsgen_tree.specs.declared.sets.Expression.TheVariants as expression
+use Rattle.jsgen_tree.specs.declared.sets.Argument.{Argument}
+use Rattle.jsgen_tree.specs.declared.sets.Argument.TheVariants as argument
 use Rattle.jsgen_tree.specs.declared.sets.Statement.{Statement}
 use Rattle.jsgen_tree.specs.declared.sets.Statement.TheVariants as statement
 use Rattle.jsgen_tree.specs.declared.sets.Declaration.{Declaration}
@@ -12,9 +14,16 @@ use Rattle.jsgen_tree.specs.declared.sets.BindingPattern.TheVariants as binding_
 abbrev pub expression_span : {N : Type 0} → Expression N → Span
 expression_span (expression.IdentifierReference b) = b.value.span
 expression_span (expression.NumericLiteral b) = b.value.span
+expression_span (expression.StringLiteral b) = b.value.span
 expression_span (expression.BinaryExpression b) = b.value.span
 expression_span (expression.LogicalExpression b) = b.value.span
 expression_span (expression.ParenthesizedExpression b) = b.value.span
+expression_span (expression.StaticMemberExpression b) = b.value.span
+expression_span (expression.ComputedMemberExpression b) = b.value.span
+expression_span (expression.CallExpression b) = b.value.span
+
+abbrev pub argument_span : {N : Type 0} → (N → Span) → Argument N → Span
+argument_span own (argument.Expression b) = own b.value.node
 
 abbrev pub declaration_span : {N : Type 0} → Declaration N → Span
 declaration_span (declaration.VariableDeclaration b) = b.value.span

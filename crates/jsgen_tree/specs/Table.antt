@@ -21,7 +21,9 @@ means s a = record { spelling = s; meaning = a }
 -- what the value of a field is
 pub data Sort : Type 0 where
   text : Sort
+  units : Sort
   digits : Sort
+  flag : Sort
   word : List Word → Sort
   child : NodeSet → Sort
   children : NodeSet → Sort
@@ -82,6 +84,9 @@ identifier_reference_fields = needs (codes "name") text ∷ not_yet (codes "refe
 abbrev pub numeric_literal_fields : List Field
 numeric_literal_fields = needs (codes "kind") (word numeric_kind_words) ∷ not_yet (codes "negative") ∷ needs (codes "digits") digits ∷ not_yet (codes "text") ∷ []
 
+abbrev pub string_literal_fields : List Field
+string_literal_fields = needs (codes "value") units ∷ []
+
 abbrev pub parenthesized_expression_fields : List Field
 parenthesized_expression_fields = needs (codes "expression") (child sets.Expression) ∷ []
 
@@ -90,6 +95,18 @@ binary_expression_fields = needs (codes "operator") (word binary_operator_words)
 
 abbrev pub logical_expression_fields : List Field
 logical_expression_fields = needs (codes "operator") (word logical_operator_words) ∷ needs (codes "left") (child sets.Expression) ∷ needs (codes "right") (child sets.Expression) ∷ []
+
+abbrev pub identifier_name_fields : List Field
+identifier_name_fields = needs (codes "name") text ∷ []
+
+abbrev pub static_member_expression_fields : List Field
+static_member_expression_fields = needs (codes "object") (child sets.Expression) ∷ not_yet (codes "optional") ∷ needs (codes "property") (child sets.IdentifierName) ∷ []
+
+abbrev pub computed_member_expression_fields : List Field
+computed_member_expression_fields = needs (codes "object") (child sets.Expression) ∷ not_yet (codes "optional") ∷ needs (codes "expression") (child sets.Expression) ∷ []
+
+abbrev pub call_expression_fields : List Field
+call_expression_fields = needs (codes "callee") (child sets.Expression) ∷ not_yet (codes "type_arguments") ∷ may_have (codes "arguments") (children sets.Argument) ∷ not_yet (codes "optional") ∷ may_have (codes "pure") flag ∷ []
 
 abbrev pub fields : NodeType → List Field
 fields types.Program = program_fields
@@ -102,15 +119,24 @@ fields types.NumericLiteral = numeric_literal_fields
 fields types.ParenthesizedExpression = parenthesized_expression_fields
 fields types.BinaryExpression = binary_expression_fields
 fields types.LogicalExpression = logical_expression_fields
+fields types.StringLiteral = string_literal_fields
+fields types.IdentifierName = identifier_name_fields
+fields types.StaticMemberExpression = static_member_expression_fields
+fields types.ComputedMemberExpression = computed_member_expression_fields
+fields types.CallExpression = call_expression_fields
 
 -- ---- sets
 
 abbrev pub is_expression : NodeType → Bool
 is_expression types.IdentifierReference = true
 is_expression types.NumericLiteral = true
+is_expression types.StringLiteral = true
 is_expression types.ParenthesizedExpression = true
 is_expression types.BinaryExpression = true
 is_expression types.LogicalExpression = true
+is_expression types.StaticMemberExpression = true
+is_expression types.ComputedMemberExpression = true
+is_expression types.CallExpression = true
 is_expression other = false
 
 abbrev pub is_statement : NodeType → Bool
@@ -126,11 +152,17 @@ abbrev pub is_variable_declarator : NodeType → Bool
 is_variable_declarator types.VariableDeclarator = true
 is_variable_declarator other = false
 
+abbrev pub is_identifier_name : NodeType → Bool
+is_identifier_name types.IdentifierName = true
+is_identifier_name other = false
+
 abbrev pub in_set : NodeSet → NodeType → Bool
 in_set sets.Expression t = is_expression t
 in_set sets.Statement t = is_statement t
 in_set sets.BindingPattern t = is_binding_pattern t
 in_set sets.VariableDeclarator t = is_variable_declarator t
+in_set sets.IdentifierName t = is_identifier_name t
+in_set sets.Argument t = is_expression t
 
 -- the sets of the fields that hold children, in their order
 abbrev pub child_sets : List Field → List NodeSet

@@ -1,5 +1,5 @@
 -- A tree as plain data: no box, no capacity, no allocator. Texts are lists of characters.
-use Rattle.std.specs.Prelude.{ℕ, List, [], ◌∷◌, Option, Some, None}
+use Rattle.std.specs.Prelude.{ℕ, List, [], ◌∷◌, Bool, Option, Some, None}
 use Rattle.jsgen_syntax.specs.declared.span.Span.{Span}
 use Rattle.jsgen_syntax.specs.declared.span.SourceKind.{SourceKind}
 use Rattle.jsgen_syntax.specs.declared.operator.BinaryOperator.{BinaryOperator}
@@ -18,12 +18,15 @@ pub data NumericKind : Type 0 where
 -- a value that a node holds itself
 pub data Atom : Type 0 where
   text : List ℕ → Atom
+  -- a string's value, by its units of UTF-16
+  units : List ℕ → Atom
   digits : ℕ → Atom
   source_kind : SourceKind → Atom
   declaration_kind : VariableDeclarationKind → Atom
   numeric_kind : NumericKind → Atom
   binary_operator : BinaryOperator → Atom
   logical_operator : LogicalOperator → Atom
+  flag : Bool → Atom
 
 -- what a node holds beside its children: its span, and its values in the order of its fields
 pub record Atoms : Type 0 where
@@ -76,6 +79,11 @@ text_in [] = []
 text_in (text t ∷ values) = t
 text_in (a ∷ values) = text_in values
 
+abbrev pub units_in : List Atom → List ℕ
+units_in [] = []
+units_in (units us ∷ values) = us
+units_in (a ∷ values) = units_in values
+
 abbrev pub digits_in : List Atom → ℕ
 digits_in [] = 0
 digits_in (digits n ∷ values) = n
@@ -119,6 +127,9 @@ identifier_reference a = node types.IdentifierReference a no_slots
 pattern abbrev pub numeric_literal : Atoms → Tree
 numeric_literal a = node types.NumericLiteral a no_slots
 
+pattern abbrev pub string_literal : Atoms → Tree
+string_literal a = node types.StringLiteral a no_slots
+
 pattern abbrev pub parenthesized : Atoms → Tree → Tree
 parenthesized a expression = node types.ParenthesizedExpression a (one expression no_slots)
 
@@ -127,3 +138,15 @@ binary a left right = node types.BinaryExpression a (one left (one right no_slot
 
 pattern abbrev pub logical : Atoms → Tree → Tree → Tree
 logical a left right = node types.LogicalExpression a (one left (one right no_slots))
+
+pattern abbrev pub identifier_name : Atoms → Tree
+identifier_name a = node types.IdentifierName a no_slots
+
+pattern abbrev pub static_member : Atoms → Tree → Tree → Tree
+static_member a object property = node types.StaticMemberExpression a (one object (one property no_slots))
+
+pattern abbrev pub computed_member : Atoms → Tree → Tree → Tree
+computed_member a object expression = node types.ComputedMemberExpression a (one object (one expression no_slots))
+
+pattern abbrev pub call : Atoms → Tree → Trees → Tree
+call a callee arguments = node types.CallExpression a (one callee (many arguments no_slots))

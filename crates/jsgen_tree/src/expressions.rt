@@ -1,6 +1,7 @@
 // Expressions (ECMA-262, clause 13).
 use crate::nodes::{ExpressionNode, Node};
-use jsgen_syntax::{BinaryOperator, LogicalOperator, Span};
+use crate::sets::Argument;
+use jsgen_syntax::{BinaryOperator, JsStr, LogicalOperator, Span};
 
 /// A name that is looked up.
 #[derive(Drop)]
@@ -20,6 +21,13 @@ pub enum NumericValue {
 pub struct NumericLiteral {
     pub span: Span,
     pub value: NumericValue,
+}
+
+/// A string by its value.
+#[derive(Drop)]
+pub struct StringLiteral {
+    pub span: Span,
+    pub value: JsStr,
 }
 
 /// An expression in parentheses. They aren't kept: the printer sets its own.
@@ -43,4 +51,36 @@ pub struct LogicalExpression<N = Node> {
     pub operator: LogicalOperator,
     pub left: ExpressionNode<N>,
     pub right: ExpressionNode<N>,
+}
+
+/// A name as it is written: of a member, a label or an export. No renaming changes it.
+#[derive(Drop)]
+pub struct IdentifierName {
+    pub span: Span,
+    pub name: String,
+}
+
+/// A member by its name.
+#[derive(Drop)]
+pub struct StaticMemberExpression<N = Node> {
+    pub span: Span,
+    pub object: ExpressionNode<N>,
+    pub property: Box<IdentifierName>,
+}
+
+/// A member by the value of an expression.
+#[derive(Drop)]
+pub struct ComputedMemberExpression<N = Node> {
+    pub span: Span,
+    pub object: ExpressionNode<N>,
+    pub expression: ExpressionNode<N>,
+}
+
+#[derive(Drop)]
+pub struct CallExpression<N = Node> {
+    pub span: Span,
+    pub callee: ExpressionNode<N>,
+    pub arguments: Vec<Argument<N>>,
+    /// The call has no effect but its result. Nothing is printed for it.
+    pub pure: bool,
 }

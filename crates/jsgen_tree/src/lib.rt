@@ -12,11 +12,12 @@ mod statements;
 mod types;
 
 pub use expressions::{
-    BinaryExpression, IdentifierReference, LogicalExpression, NumericLiteral, NumericValue,
-    ParenthesizedExpression,
+    BinaryExpression, CallExpression, ComputedMemberExpression, IdentifierName,
+    IdentifierReference, LogicalExpression, NumericLiteral, NumericValue, ParenthesizedExpression,
+    StaticMemberExpression, StringLiteral,
 };
 pub use nodes::{BindingPatternNode, DeclarationNode, ExpressionNode, Node, StatementNode};
-pub use sets::{BindingPattern, Declaration, Expression, Statement};
+pub use sets::{Argument, BindingPattern, Declaration, Expression, Statement};
 pub use span::GetSpan;
 pub use statements::{
     BindingIdentifier, ExpressionStatement, Program, VariableDeclaration, VariableDeclarationKind,

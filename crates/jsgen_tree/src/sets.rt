@@ -6,19 +6,30 @@ ghost use Rattle.jsgen_tree.specs.Rows.{expression_plain, statement_plain};
 ghost use Rattle.jsgen_tree.specs.Plain.{node_plain};
 
 use crate::expressions::{
-    BinaryExpression, IdentifierReference, LogicalExpression, NumericLiteral,
-    ParenthesizedExpression,
+    BinaryExpression, CallExpression, ComputedMemberExpression, IdentifierReference,
+    LogicalExpression, NumericLiteral, ParenthesizedExpression, StaticMemberExpression,
+    StringLiteral,
 };
-use crate::nodes::{DeclarationNode, Node};
+use crate::nodes::{DeclarationNode, ExpressionNode, Node};
 use crate::statements::{BindingIdentifier, ExpressionStatement, VariableDeclaration};
 
 #[derive(Drop)]
 pub enum Expression<N = Node> {
     IdentifierReference(Box<IdentifierReference>),
     NumericLiteral(Box<NumericLiteral>),
+    StringLiteral(Box<StringLiteral>),
     BinaryExpression(Box<BinaryExpression<N>>),
     LogicalExpression(Box<LogicalExpression<N>>),
     ParenthesizedExpression(Box<ParenthesizedExpression<N>>),
+    StaticMemberExpression(Box<StaticMemberExpression<N>>),
+    ComputedMemberExpression(Box<ComputedMemberExpression<N>>),
+    CallExpression(Box<CallExpression<N>>),
+}
+
+/// What a call is given.
+#[derive(Drop)]
+pub enum Argument<N = Node> {
+    Expression(Box<ExpressionNode<N>>),
 }
 
 #[derive(Drop)]
@@ -53,8 +64,12 @@ impl Expression {
             }
             Expression::IdentifierReference(_) => self,
             Expression::NumericLiteral(_) => self,
+            Expression::StringLiteral(_) => self,
             Expression::BinaryExpression(_) => self,
             Expression::LogicalExpression(_) => self,
+            Expression::StaticMemberExpression(_) => self,
+            Expression::ComputedMemberExpression(_) => self,
+            Expression::CallExpression(_) => self,
         }
     }
 }

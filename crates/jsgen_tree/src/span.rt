@@ -2,14 +2,15 @@
 ghost use Rattle.std.specs.Prelude.{◌≡◌};
 ghost use Rattle.jsgen_tree.specs.Tree.{span_of};
 ghost use Rattle.jsgen_tree.specs.Plain.{node_plain};
-ghost use Rattle.jsgen_tree.specs.Spans.{expression_span, statement_span, declaration_span, binding_pattern_span};
+ghost use Rattle.jsgen_tree.specs.Spans.{expression_span, argument_span, statement_span, declaration_span, binding_pattern_span};
 
 use crate::expressions::{
-    BinaryExpression, IdentifierReference, LogicalExpression, NumericLiteral,
-    ParenthesizedExpression,
+    BinaryExpression, CallExpression, ComputedMemberExpression, IdentifierName,
+    IdentifierReference, LogicalExpression, NumericLiteral, ParenthesizedExpression,
+    StaticMemberExpression, StringLiteral,
 };
 use crate::nodes::Node;
-use crate::sets::{BindingPattern, Declaration, Expression, Statement};
+use crate::sets::{Argument, BindingPattern, Declaration, Expression, Statement};
 use crate::statements::{
     BindingIdentifier, ExpressionStatement, Program, VariableDeclaration, VariableDeclarator,
 };
@@ -81,6 +82,14 @@ impl GetSpan for NumericLiteral {
     }
 }
 
+impl GetSpan for StringLiteral {
+    ghost own_span = { λ n. n.span };
+
+    fn span(&self) -> Span {
+        self.span
+    }
+}
+
 impl<N> GetSpan for ParenthesizedExpression<N> {
     ghost own_span = { λ n. n.span };
 
@@ -105,6 +114,38 @@ impl<N> GetSpan for LogicalExpression<N> {
     }
 }
 
+impl GetSpan for IdentifierName {
+    ghost own_span = { λ n. n.span };
+
+    fn span(&self) -> Span {
+        self.span
+    }
+}
+
+impl<N> GetSpan for StaticMemberExpression<N> {
+    ghost own_span = { λ n. n.span };
+
+    fn span(&self) -> Span {
+        self.span
+    }
+}
+
+impl<N> GetSpan for ComputedMemberExpression<N> {
+    ghost own_span = { λ n. n.span };
+
+    fn span(&self) -> Span {
+        self.span
+    }
+}
+
+impl<N> GetSpan for CallExpression<N> {
+    ghost own_span = { λ n. n.span };
+
+    fn span(&self) -> Span {
+        self.span
+    }
+}
+
 impl<N> GetSpan for Expression<N> {
     ghost own_span = { λ e. expression_span e };
 
@@ -112,9 +153,23 @@ impl<N> GetSpan for Expression<N> {
         match self {
             Expression::IdentifierReference(node) => node.span,
             Expression::NumericLiteral(node) => node.span,
+            Expression::StringLiteral(node) => node.span,
             Expression::BinaryExpression(node) => node.span,
             Expression::LogicalExpression(node) => node.span,
             Expression::ParenthesizedExpression(node) => node.span,
+            Expression::StaticMemberExpression(node) => node.span,
+            Expression::ComputedMemberExpression(node) => node.span,
+            Expression::CallExpression(node) => node.span,
+        }
+    }
+}
+
+impl<N: GetSpan> GetSpan for Argument<N> {
+    ghost own_span = { λ a. argument_span N.own_span a };
+
+    fn span(&self) -> Span {
+        match self {
+            Argument::Expression(expression) => expression.get().span(),
         }
     }
 }

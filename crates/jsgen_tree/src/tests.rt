@@ -108,11 +108,19 @@ fn types_are_in_their_sets(rt: HostRuntime) {
         (NodeType::ParenthesizedExpression, true, false, false),
         (NodeType::BinaryExpression, true, false, false),
         (NodeType::LogicalExpression, true, false, false),
+        (NodeType::StringLiteral, true, false, false),
+        (NodeType::IdentifierName, false, false, false),
+        (NodeType::StaticMemberExpression, true, false, false),
+        (NodeType::ComputedMemberExpression, true, false, false),
+        (NodeType::CallExpression, true, false, false),
     ] {
         assert_eq!(rt; node_type.is_in(NodeSet::Expression), expression);
         assert_eq!(rt; node_type.is_in(NodeSet::Statement), statement);
         assert_eq!(rt; node_type.is_in(NodeSet::BindingPattern), pattern);
         let declarator = node_type == NodeType::VariableDeclarator;
         assert_eq!(rt; node_type.is_in(NodeSet::VariableDeclarator), declarator);
+        assert_eq!(rt; node_type.is_in(NodeSet::Argument), expression);
+        let name = node_type == NodeType::IdentifierName;
+        assert_eq!(rt; node_type.is_in(NodeSet::IdentifierName), name);
     }
 }

@@ -15,6 +15,11 @@ pub enum NodeType {
     ParenthesizedExpression,
     BinaryExpression,
     LogicalExpression,
+    StringLiteral,
+    IdentifierName,
+    StaticMemberExpression,
+    ComputedMemberExpression,
+    CallExpression,
 }
 
 /// What the child of a field may be: a member of a set, or a node of one type.
@@ -24,6 +29,8 @@ pub enum NodeSet {
     Statement,
     BindingPattern,
     VariableDeclarator,
+    IdentifierName,
+    Argument,
 }
 
 impl NodeType {
@@ -36,6 +43,8 @@ impl NodeType {
             NodeSet::Statement => self.is_statement(),
             NodeSet::BindingPattern => matches!(&self, NodeType::BindingIdentifier),
             NodeSet::VariableDeclarator => matches!(&self, NodeType::VariableDeclarator),
+            NodeSet::IdentifierName => matches!(&self, NodeType::IdentifierName),
+            NodeSet::Argument => self.is_expression(),
         }
     }
 
@@ -50,6 +59,10 @@ impl NodeType {
                 | NodeType::ParenthesizedExpression
                 | NodeType::BinaryExpression
                 | NodeType::LogicalExpression
+                | NodeType::StringLiteral
+                | NodeType::StaticMemberExpression
+                | NodeType::ComputedMemberExpression
+                | NodeType::CallExpression
         )
     }
 

@@ -1,9 +1,0 @@
-use Rattle.std.proofs.Common.{◌≡◌, [], map, drop}
-use Rattle.serde_json.specs.View.{view}
-use Rattle.jsgen.specs.Reads.{read_rows}
-use Rattle.jsgen.specs.Kept.{entries}
-use Rattle.jsgen.proofs.rows.steps.read_rows.Given as goal
-
--- the rows left, after those that are kept, give the whole
-abbrev pub invariant-loop-row : goal.invariant-loop-row
-invariant-loop-row l = read_rows (map view (drop l.row-index l.rows)) (entries l.kept.items) ≡ read_rows (map view l.rows) []

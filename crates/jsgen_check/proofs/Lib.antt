@@ -1,0 +1,3 @@
+pub mod Declarators
+pub mod Heights
+pub mod Validity

@@ -1,0 +1,147 @@
+// Expressions (ECMA-262, clause 13), one function for each row.
+ghost use Rattle.std.specs.Prelude.{◌≡◌, OnOk};
+ghost use Rattle.jsgen_syntax.specs.Operator.{logical_level, logical_lower_level};
+ghost use Rattle.jsgen_tree.specs.Rows.{identifier_reference_row, numeric_literal_row, string_literal_row, parenthesized_expression_row, binary_expression_row, logical_expression_row, in_expression};
+ghost use Rattle.jsgen_model.specs.Items.{◌⊕◌, soft_space};
+ghost use Rattle.jsgen_model.specs.Layout.{layout};
+ghost use Rattle.jsgen_model.specs.Spell.{spell, left_of, behind, left_level, right_level, unmixed, operator_item, logical_item};
+ghost use Rattle.jsgen_printer.specs.Printer.{pen_of};
+ghost use Rattle.jsgen_nodes.specs.Place.{pen_after, place_of};
+
+use crate::operands::{left_level, right_level, unmixed};
+use crate::{Place, PrintNode};
+use jsgen_printer::Printer;
+use jsgen_syntax::{GetPrecedence, Memory};
+use jsgen_tree::{
+    BinaryExpression, IdentifierReference, LogicalExpression, NumericLiteral, NumericValue,
+    ParenthesizedExpression, StringLiteral,
+};
+
+#[tactic(auto, unfolding(crate::specs::Place::pen_after))]
+pub fn print_identifier_reference(
+    node: &IdentifierReference,
+    p: &mut Printer,
+    place: Place,
+) -> Result<(), Memory>
+    ensures { OnOk result (pen_of p.new ≡ pen_after (identifier_reference_row node.now) place p.old) }
+{
+    let _ = place;
+    p.print_name(node.name.as_str())
+}
+
+#[tactic(auto, unfolding(crate::specs::Place::pen_after))]
+pub fn print_numeric_literal(
+    node: &NumericLiteral,
+    p: &mut Printer,
+    place: Place,
+) -> Result<(), Memory>
+    ensures { OnOk result (pen_of p.new ≡ pen_after (numeric_literal_row node.now) place p.old) }
+{
+    let _ = place;
+    match node.value {
+        NumericValue::Whole { digits } => p.print_whole_number(digits),
+    }
+}
+
+#[tactic(auto, unfolding(crate::specs::Place::pen_after))]
+pub fn print_string_literal(
+    node: &StringLiteral,
+    p: &mut Printer,
+    place: Place,
+) -> Result<(), Memory>
+    ensures { OnOk result (pen_of p.new ≡ pen_after (string_literal_row node.now) place p.old) }
+{
+    let _ = place;
+    p.print_string(&node.value, true)
+}
+
+/// The printer sets parentheses by levels alone, and prints none for this node.
+#[tactic(auto, unfolding(crate::specs::Place::pen_after))]
+pub fn print_parenthesized_expression<N: PrintNode>(
+    node: &ParenthesizedExpression<N>,
+    p: &mut Printer,
+    place: Place,
+) -> Result<(), Memory>
+    ensures { OnOk result (pen_of p.new
+        ≡ pen_after (parenthesized_expression_row N.plain node.now) place p.old) }
+{
+    node.expression.get().print(p, place)
+}
+
+#[tactic(auto, unfolding(crate::specs::Place::pen_after))]
+pub fn print_binary_expression<N: PrintNode>(
+    node: &BinaryExpression<N>,
+    p: &mut Printer,
+    place: Place,
+) -> Result<(), Memory>
+    ensures { OnOk result (pen_of p.new ≡ pen_after (binary_expression_row N.plain node.now) place p.old) }
+{
+    let wrap = place.wraps_binary(node.operator);
+    p.print_opening_if(wrap)?;
+    print_binary_operation(node, p, place.within(wrap))?;
+    p.print_closing_if(wrap)
+}
+
+// Both operands and the operator between them, within the parentheses.
+#[tactic(auto, unfolding(crate::specs::Place::pen_after))]
+fn print_binary_operation<N: PrintNode>(
+    node: &BinaryExpression<N>,
+    p: &mut Printer,
+    place: Place,
+) -> Result<(), Memory>
+    ensures { OnOk result (pen_of p.new
+        ≡ layout (spell (in_expression N.plain node.now.left)
+        (left_of (left_level node.now.operator (in_expression N.plain node.now.left)) (place_of place (pen_of p.old)))
+        ⊕ (soft_space ⊕ (operator_item node.now.operator ⊕ (soft_space
+        ⊕ spell (in_expression N.plain node.now.right)
+        (behind (right_level node.now.operator) (place_of place (pen_of p.old))))))) (pen_of p.old)) }
+{
+    let left = node.left.get();
+    left.print(p, place.left_operand(left_level(node.operator, left)))?;
+    p.print_soft_space()?;
+    p.print_operator(node.operator)?;
+    p.print_soft_space()?;
+    let right = node.right.get();
+    right.print(p, place.child(right_level(node.operator)))
+}
+
+#[tactic(auto, unfolding(crate::specs::Place::pen_after))]
+pub fn print_logical_expression<N: PrintNode>(
+    node: &LogicalExpression<N>,
+    p: &mut Printer,
+    place: Place,
+) -> Result<(), Memory>
+    ensures { OnOk result (pen_of p.new ≡ pen_after (logical_expression_row N.plain node.now) place p.old) }
+{
+    let wrap = place.wraps_logical(node.operator);
+    p.print_opening_if(wrap)?;
+    print_logical_operation(node, p, place.within(wrap))?;
+    p.print_closing_if(wrap)
+}
+
+// Both operands and the operator between them, within the parentheses.
+#[tactic(auto, unfolding(crate::specs::Place::pen_after))]
+fn print_logical_operation<N: PrintNode>(
+    node: &LogicalExpression<N>,
+    p: &mut Printer,
+    place: Place,
+) -> Result<(), Memory>
+    ensures { OnOk result (pen_of p.new
+        ≡ layout (spell (in_expression N.plain node.now.left)
+        (left_of (unmixed node.now.operator (in_expression N.plain node.now.left) (logical_lower_level node.now.operator))
+        (place_of place (pen_of p.old)))
+        ⊕ (soft_space ⊕ (logical_item node.now.operator ⊕ (soft_space
+        ⊕ spell (in_expression N.plain node.now.right)
+        (behind (unmixed node.now.operator (in_expression N.plain node.now.right) (logical_level node.now.operator))
+        (place_of place (pen_of p.old))))))) (pen_of p.old)) }
+{
+    let left = node.left.get();
+    let level = unmixed(node.operator, left, node.operator.lower_precedence());
+    left.print(p, place.left_operand(level))?;
+    p.print_soft_space()?;
+    p.print_logical_sign(node.operator)?;
+    p.print_soft_space()?;
+    let right = node.right.get();
+    let level = unmixed(node.operator, right, node.operator.precedence());
+    right.print(p, place.child(level))
+}

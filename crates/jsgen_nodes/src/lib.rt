@@ -1,0 +1,104 @@
+//! Print functions: one for each row, generic in the tree's recursive type, and one impl that ties the knot.
+#![tactic(auto)]
+
+mod expressions;
+mod links;
+#[cfg(test)]
+mod links_tests;
+mod operands;
+mod place;
+mod sets;
+mod statements;
+mod strings;
+#[cfg(test)]
+mod tests;
+
+ghost use Rattle.std.specs.Prelude.{◌≡◌, OnOk, option_map};
+ghost use Rattle.jsgen_syntax.specs.Units.{js_units};
+ghost use Rattle.jsgen_tree.specs.Tree.{Tree};
+ghost use Rattle.jsgen_tree.specs.Table.{without_parentheses};
+ghost use Rattle.jsgen_tree.specs.Plain.{node_plain};
+ghost use Rattle.jsgen_model.specs.Spell.{string_in, string_statement};
+ghost use Rattle.jsgen_printer.specs.Printer.{pen_of};
+ghost use Rattle.jsgen_nodes.specs.Place.{pen_after, operand_of};
+
+use jsgen_printer::Printer;
+use jsgen_syntax::{JsStr, Memory};
+use jsgen_tree::Node;
+pub use operands::Operand;
+use operands::{
+    binding_pattern_operand, declaration_operand, expression_operand, statement_operand,
+};
+pub use place::{Context, Place};
+use sets::{print_binding_pattern, print_declaration, print_expression, print_statement};
+pub use statements::print_program;
+use strings::{
+    binding_pattern_as_statement, binding_pattern_string, declaration_as_statement,
+    declaration_string, expression_as_statement, expression_string, statement_as_string,
+    statement_string,
+};
+
+/// Where trees nest: what the print functions ask of a child. Only `Node` implements it.
+pub trait PrintNode {
+    ghost plain: { Self → Tree };
+
+    fn print(&self, p: &mut Printer, place: Place) -> Result<(), Memory>
+        ensures { OnOk result (pen_of p.new ≡ pen_after (plain self.now) place p.old) };
+
+    /// What matters of it as an operand.
+    fn operand(&self) -> Operand
+        ensures { result ≡ operand_of (without_parentheses (plain self.now)) };
+
+    /// The string that it is, without the parentheses that it may have round it.
+    fn string(&self) -> Option<&JsStr>
+        ensures { option_map (λ v. js_units v.now) result ≡ string_in (without_parentheses (plain self.now)) };
+
+    /// The string that is the whole of it as a statement.
+    fn string_statement(&self) -> Option<&JsStr>
+        ensures { option_map (λ v. js_units v.now) result ≡ string_statement (plain self.now) };
+}
+
+/// The knot: the one recursion.
+impl PrintNode for Node {
+    ghost plain = { λ n. node_plain n };
+
+    #[cycle(node)]
+    fn print(&self, p: &mut Printer, place: Place) -> Result<(), Memory> {
+        match self {
+            Node::Expression(node) => print_expression(node, p, place),
+            Node::Statement(node) => print_statement(node, p, place),
+            Node::Declaration(node) => print_declaration(node, p, place),
+            Node::BindingPattern(node) => print_binding_pattern(node, p, place),
+        }
+    }
+
+    #[cycle(node)]
+    fn operand(&self) -> Operand {
+        match self {
+            Node::Expression(node) => expression_operand(node),
+            Node::Statement(node) => statement_operand(node),
+            Node::Declaration(node) => declaration_operand(node),
+            Node::BindingPattern(node) => binding_pattern_operand(node),
+        }
+    }
+
+    #[cycle(node)]
+    fn string(&self) -> Option<&JsStr> {
+        match self {
+            Node::Expression(node) => expression_string(node),
+            Node::Statement(node) => statement_string(node),
+            Node::Declaration(node) => declaration_string(node),
+            Node::BindingPattern(node) => binding_pattern_string(node),
+        }
+    }
+
+    #[cycle(node)]
+    fn string_statement(&self) -> Option<&JsStr> {
+        match self {
+            Node::Expression(node) => expression_as_statement(node),
+            Node::Statement(node) => statement_as_string(node),
+            Node::Declaration(node) => declaration_as_statement(node),
+            Node::BindingPattern(node) => binding_pattern_as_statement(node),
+        }
+    }
+}

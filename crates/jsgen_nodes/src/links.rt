@@ -1,0 +1,135 @@
+// Members and calls (ECMA-262, 13.3), one function for each row.
+ghost use Rattle.std.specs.Prelude.{◌≡◌, OnOk, map};
+ghost use Rattle.jsgen_syntax.specs.declared.precedence.Precedence.TheVariants.{Comma};
+ghost use Rattle.jsgen_tree.specs.Tree.{trees};
+ghost use Rattle.jsgen_tree.specs.Rows.{identifier_name_row, static_member_expression_row, computed_member_expression_row, call_expression_row, in_argument, in_expression};
+ghost use Rattle.jsgen_model.specs.Punctuator.{Round};
+ghost use Rattle.jsgen_model.specs.Items.{◌⊕◌, brackets};
+ghost use Rattle.jsgen_model.specs.Layout.{layout};
+ghost use Rattle.jsgen_model.specs.Spell.{spell, spell_list, spell_more, called, in_brackets};
+ghost use Rattle.jsgen_printer.specs.Printer.{pen_of};
+ghost use Rattle.jsgen_nodes.specs.Place.{pen_after, place_of};
+
+use crate::{Place, PrintNode};
+use jsgen_printer::{Bracket, Printer};
+use jsgen_syntax::{Memory, Precedence};
+use jsgen_tree::{
+    Argument, CallExpression, ComputedMemberExpression, IdentifierName, StaticMemberExpression,
+};
+
+#[tactic(auto, unfolding(crate::specs::Place::pen_after))]
+fn print_identifier_name(node: &IdentifierName, p: &mut Printer, place: Place) -> Result<(), Memory>
+    ensures { OnOk result (pen_of p.new ≡ pen_after (identifier_name_row node.now) place p.old) }
+{
+    let _ = place;
+    p.print_name(node.name.as_str())
+}
+
+#[tactic(auto, unfolding(crate::specs::Place::pen_after))]
+pub fn print_static_member_expression<N: PrintNode>(
+    node: &StaticMemberExpression<N>,
+    p: &mut Printer,
+    place: Place,
+) -> Result<(), Memory>
+    ensures { OnOk result (pen_of p.new
+        ≡ pen_after (static_member_expression_row N.plain node.now) place p.old) }
+{
+    node.object
+        .get()
+        .print(p, place.child(Precedence::Postfix))?;
+    p.print_member_dot()?;
+    print_identifier_name(&node.property, p, place.child(Precedence::Lowest))
+}
+
+#[tactic(auto, unfolding(crate::specs::Place::pen_after))]
+pub fn print_computed_member_expression<N: PrintNode>(
+    node: &ComputedMemberExpression<N>,
+    p: &mut Printer,
+    place: Place,
+) -> Result<(), Memory>
+    ensures { OnOk result (pen_of p.new
+        ≡ pen_after (computed_member_expression_row N.plain node.now) place p.old) }
+{
+    node.object
+        .get()
+        .print(p, place.child(Precedence::Postfix))?;
+    p.print_opening(Bracket::Square)?;
+    node.expression
+        .get()
+        .print(p, Place::in_brackets(Precedence::Lowest))?;
+    p.print_closing(Bracket::Square)
+}
+
+#[tactic(auto, unfolding(crate::specs::Place::pen_after))]
+pub fn print_call_expression<N: PrintNode>(
+    node: &CallExpression<N>,
+    p: &mut Printer,
+    place: Place,
+) -> Result<(), Memory>
+    ensures { OnOk result (pen_of p.new ≡ pen_after (call_expression_row N.plain node.now) place p.old) }
+{
+    let wrap = place.wraps_call();
+    p.print_opening_if(wrap)?;
+    print_call(node, p, place.within(wrap))?;
+    p.print_closing_if(wrap)
+}
+
+// What is called and what it is given, within the parentheses.
+#[tactic(auto, unfolding(crate::specs::Place::pen_after))]
+fn print_call<N: PrintNode>(
+    node: &CallExpression<N>,
+    p: &mut Printer,
+    place: Place,
+) -> Result<(), Memory>
+    ensures { OnOk result (pen_of p.new
+        ≡ layout (spell (in_expression N.plain node.now.callee) (called (place_of place (pen_of p.old)))
+        ⊕ brackets Round (spell_list (trees (map (in_argument N.plain) node.now.arguments.items)) (in_brackets Comma)))
+        (pen_of p.old)) }
+{
+    node.callee.get().print(p, place.called())?;
+    print_arguments(&node.arguments, p)
+}
+
+#[tactic(auto, unfolding(crate::specs::Place::pen_after))]
+fn print_arguments<N: PrintNode>(arguments: &[Argument<N>], p: &mut Printer) -> Result<(), Memory>
+    ensures { OnOk result (pen_of p.new
+        ≡ layout (brackets Round (spell_list (trees (map (in_argument N.plain) arguments.now)) (in_brackets Comma)))
+        (pen_of p.old)) }
+{
+    p.print_opening(Bracket::Round)?;
+    if let Some((first, others)) = arguments.split_first() {
+        print_argument(first, p, Place::in_brackets(Precedence::Comma))?;
+        print_more_arguments(others, p)?;
+    }
+    p.print_closing(Bracket::Round)
+}
+
+#[tactic(auto, unfolding(crate::specs::Place::pen_after))]
+fn print_argument<N: PrintNode>(
+    argument: &Argument<N>,
+    p: &mut Printer,
+    place: Place,
+) -> Result<(), Memory>
+    ensures { OnOk result (pen_of p.new ≡ pen_after (in_argument N.plain argument.now) place p.old) }
+{
+    match argument {
+        Argument::Expression(expression) => expression.get().print(p, place),
+    }
+}
+
+// Each with a comma before it.
+#[tactic(auto, unfolding(crate::specs::Place::pen_after))]
+fn print_more_arguments<N: PrintNode>(
+    arguments: &[Argument<N>],
+    p: &mut Printer,
+) -> Result<(), Memory>
+    ensures { OnOk result (pen_of p.new
+        ≡ layout (spell_more (trees (map (in_argument N.plain) arguments.now)) (in_brackets Comma)) (pen_of p.old)) }
+{
+    for argument in arguments {
+        p.print_comma()?;
+        p.print_soft_space()?;
+        print_argument(argument, p, Place::in_brackets(Precedence::Comma))?;
+    }
+    Ok(())
+}

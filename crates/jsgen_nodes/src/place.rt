@@ -1,0 +1,162 @@
+// Where a node is printed.
+ghost use Rattle.std.specs.Prelude.{◌≡◌, nat_le, false, true};
+ghost use Rattle.jsgen_syntax.specs.Precedence.{rank};
+ghost use Rattle.jsgen_model.specs.Layout.{Pen};
+ghost use Rattle.jsgen_model.specs.Spell.{is_forbidden, binary_wraps, goes_on, logical_wraps, called, call_wraps};
+ghost use Rattle.jsgen_nodes.specs.Place.{place_of, place_within};
+
+use jsgen_syntax::{BinaryOperator, GetPrecedence, LogicalOperator, Precedence};
+
+/// What an expression's surroundings forbid.
+#[derive(Clone, Copy)]
+pub struct Context {
+    pub forbids_in: bool,
+    pub forbids_call: bool,
+}
+
+impl Context {
+    pub const FREE: Context = Context {
+        forbids_in: false,
+        forbids_call: false,
+    };
+}
+
+/// Where a node stands. What begins with it is what begins at the end of the code so far.
+#[derive(Clone, Copy)]
+pub struct Place {
+    /// At or above its own level an expression needs parentheses.
+    pub level: Precedence,
+    pub context: Context,
+    /// Among statements, where a declaration is one.
+    pub in_list: bool,
+    /// The left operand of an operation, whose own operator goes on with no chain.
+    pub left_operand: bool,
+}
+
+impl Place {
+    pub const AMONG_STATEMENTS: Place = Place {
+        level: Precedence::Lowest,
+        context: Context::FREE,
+        in_list: true,
+        left_operand: false,
+    };
+
+    /// The expression of an expression statement.
+    pub const WHOLE_STATEMENT: Place = Place {
+        level: Precedence::Lowest,
+        context: Context::FREE,
+        in_list: false,
+        left_operand: false,
+    };
+
+    /// A child's place, under the same context.
+    pub fn child(self, level: Precedence) -> Place
+        ensures { result ≡ record { level = level; context = self.context; in_list = false; left_operand = false } }
+    {
+        Place {
+            level,
+            context: self.context,
+            in_list: false,
+            left_operand: false,
+        }
+    }
+
+    /// A left operand's place, under the same context.
+    pub fn left_operand(self, level: Precedence) -> Place
+        ensures { result ≡ record { level = level; context = self.context; in_list = false; left_operand = true } }
+    {
+        Place {
+            level,
+            context: self.context,
+            in_list: false,
+            left_operand: true,
+        }
+    }
+
+    /// A child's place in brackets, where nothing is forbidden.
+    pub fn in_brackets(level: Precedence) -> Place
+        ensures { result ≡ record { level = level; context = record { forbids_in = false; forbids_call = false }; in_list = false; left_operand = false } }
+    {
+        Place {
+            level,
+            context: Context::FREE,
+            in_list: false,
+            left_operand: false,
+        }
+    }
+
+    /// The place of what is called: calls may stand in it.
+    pub fn called(self) -> Place
+        ensures { (pen : Pen) → place_of result pen ≡ called (place_of self pen) }
+    {
+        Place {
+            level: Precedence::Postfix,
+            context: Context {
+                forbids_call: false,
+                ..self.context
+            },
+            in_list: false,
+            left_operand: false,
+        }
+    }
+
+    /// The place within parentheses, where the test holds.
+    pub fn within(self, test: bool) -> Place
+        ensures { result ≡ place_within test self }
+    {
+        if test {
+            Place {
+                context: Context {
+                    forbids_in: false,
+                    ..self.context
+                },
+                ..self
+            }
+        } else {
+            self
+        }
+    }
+
+    /// Whether an expression of this level stands in parentheses here.
+    pub fn wraps(self, own: Precedence) -> bool
+        ensures { result ≡ nat_le (rank own) (rank self.level) }
+    {
+        self.level >= own
+    }
+
+    fn is_forbidden(self, operator: BinaryOperator) -> bool
+        ensures { (pen : Pen) → result ≡ is_forbidden operator (place_of self pen) }
+    {
+        match operator {
+            BinaryOperator::In => self.context.forbids_in,
+            _ => false,
+        }
+    }
+
+    /// Whether an operation by this operator stands in parentheses here.
+    pub fn wraps_binary(self, operator: BinaryOperator) -> bool
+        ensures { (pen : Pen) → result ≡ binary_wraps operator (place_of self pen) }
+    {
+        self.wraps(operator.precedence()) || self.is_forbidden(operator)
+    }
+
+    /// Whether a call stands in parentheses here.
+    pub fn wraps_call(self) -> bool
+        ensures { (pen : Pen) → result ≡ call_wraps (place_of self pen) }
+    {
+        self.wraps(Precedence::New) || self.context.forbids_call
+    }
+
+    fn goes_on(self, operator: LogicalOperator) -> bool
+        ensures { (pen : Pen) → result ≡ goes_on operator (place_of self pen) }
+    {
+        !self.left_operand && operator.precedence() == self.level
+    }
+
+    /// Whether an operation by this operator stands in parentheses here.
+    pub fn wraps_logical(self, operator: LogicalOperator) -> bool
+        ensures { (pen : Pen) → result ≡ logical_wraps operator (place_of self pen) }
+    {
+        self.wraps(operator.precedence()) && !self.goes_on(operator)
+    }
+}

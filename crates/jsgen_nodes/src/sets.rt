@@ -1,0 +1,79 @@
+// A set is a match over its members.
+ghost use Rattle.std.specs.Prelude.{◌≡◌, OnOk};
+ghost use Rattle.jsgen_tree.specs.Rows.{expression_plain, statement_plain, declaration_plain, binding_pattern_plain};
+ghost use Rattle.jsgen_printer.specs.Printer.{pen_of};
+ghost use Rattle.jsgen_nodes.specs.Place.{pen_after};
+
+use crate::expressions::{
+    print_binary_expression, print_identifier_reference, print_logical_expression,
+    print_numeric_literal, print_parenthesized_expression, print_string_literal,
+};
+use crate::links::{
+    print_call_expression, print_computed_member_expression, print_static_member_expression,
+};
+use crate::statements::{
+    print_binding_identifier, print_expression_statement, print_variable_declaration,
+};
+use crate::{Place, PrintNode};
+use jsgen_printer::Printer;
+use jsgen_syntax::Memory;
+use jsgen_tree::{BindingPattern, Declaration, Expression, Statement};
+
+pub fn print_expression<N: PrintNode>(
+    node: &Expression<N>,
+    p: &mut Printer,
+    place: Place,
+) -> Result<(), Memory>
+    ensures { OnOk result (pen_of p.new ≡ pen_after (expression_plain N.plain node.now) place p.old) }
+{
+    match node {
+        Expression::IdentifierReference(node) => print_identifier_reference(node, p, place),
+        Expression::NumericLiteral(node) => print_numeric_literal(node, p, place),
+        Expression::StringLiteral(node) => print_string_literal(node, p, place),
+        Expression::BinaryExpression(node) => print_binary_expression(node, p, place),
+        Expression::LogicalExpression(node) => print_logical_expression(node, p, place),
+        Expression::ParenthesizedExpression(node) => print_parenthesized_expression(node, p, place),
+        Expression::StaticMemberExpression(node) => print_static_member_expression(node, p, place),
+        Expression::ComputedMemberExpression(node) => print_computed_member_expression(
+            node, p, place,
+        ),
+        Expression::CallExpression(node) => print_call_expression(node, p, place),
+    }
+}
+
+pub fn print_statement<N: PrintNode>(
+    node: &Statement<N>,
+    p: &mut Printer,
+    place: Place,
+) -> Result<(), Memory>
+    ensures { OnOk result (pen_of p.new ≡ pen_after (statement_plain N.plain node.now) place p.old) }
+{
+    match node {
+        Statement::Declaration(node) => node.get().print(p, place),
+        Statement::ExpressionStatement(node) => print_expression_statement(node, p, place),
+    }
+}
+
+pub fn print_declaration<N: PrintNode>(
+    node: &Declaration<N>,
+    p: &mut Printer,
+    place: Place,
+) -> Result<(), Memory>
+    ensures { OnOk result (pen_of p.new ≡ pen_after (declaration_plain N.plain node.now) place p.old) }
+{
+    match node {
+        Declaration::VariableDeclaration(node) => print_variable_declaration(node, p, place),
+    }
+}
+
+pub fn print_binding_pattern(
+    node: &BindingPattern,
+    p: &mut Printer,
+    place: Place,
+) -> Result<(), Memory>
+    ensures { OnOk result (pen_of p.new ≡ pen_after (binding_pattern_plain node.now) place p.old) }
+{
+    match node {
+        BindingPattern::BindingIdentifier(node) => print_binding_identifier(node, p, place),
+    }
+}

@@ -1,0 +1,22 @@
+-- Operators as items of the layout.
+use Rattle.std.proofs.Common.{◌≡◌, ◌++◌, true, refl}
+use Rattle.std.specs.Str.{chars}
+use Rattle.jsgen_syntax.specs.Operator.{binary_text}
+use Rattle.jsgen_syntax.specs.declared.operator.BinaryOperator.{BinaryOperator}
+use Rattle.jsgen_syntax.specs.declared.operator.BinaryOperator.TheVariants as operators
+use Rattle.jsgen_model.specs.Layout.{Pen, layout, written, space_if}
+use Rattle.jsgen_model.specs.Spell.{operator_item}
+use Rattle.jsgen_printer.specs.Printer.{stands_apart, end_of, is_ascii}
+use Rattle.jsgen_printer.proofs.Texts.{ascii_chars}
+
+operator_ascii : (o : BinaryOperator) → is_ascii (binary_text o) ≡ true
+operator_ascii operators.In = refl
+operator_ascii o = refl
+
+-- an operator is its text, apart where it has to be
+pub operator_written : (o : BinaryOperator) (pen : Pen) → layout (operator_item o) pen ≡ written (space_if (stands_apart (operator_item o) pen) ++ binary_text o) (end_of (operator_item o)) pen
+operator_written operators.In pen = refl
+operator_written o pen = refl
+
+pub operator_chars : (o : BinaryOperator) → chars (binary_text o) ≡ binary_text o
+operator_chars o = ascii_chars (binary_text o) (operator_ascii o)

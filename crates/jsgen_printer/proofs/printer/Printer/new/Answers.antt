@@ -1,0 +1,12 @@
+use Rattle.std.proofs.Common.{◌≡◌, [], ap, ◌∙◌}
+use Rattle.std.specs.Str.{chars}
+use Rattle.std.proofs.lemmas.Str.{chars-nil}
+use Rattle.jsgen_syntax.specs.Buffer.{buffer_bytes}
+use Rattle.jsgen_printer.specs.Printer.{pen_of}
+use Rattle.jsgen_printer.proofs.printer.Printer.new.Goals as goal
+
+pub returns : goal.returns
+unfolding pen_of
+returns c =
+    let empty : chars (buffer_bytes c.with_indent.result) ≡ [] = ap chars c.with_indent.ensures.empty ∙ chars-nil in
+    cc

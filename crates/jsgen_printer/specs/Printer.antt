@@ -1,0 +1,57 @@
+-- What a printer stands for: a pen of the layout.
+use Rattle.std.specs.Prelude.{ℕ, List, Bool, false, nat_lt}
+use Rattle.std.specs.List.{list_all}
+use Rattle.std.specs.Str.{chars}
+use Rattle.jsgen_syntax.specs.Buffer.{buffer_bytes, indent_byte, indent_width}
+use Rattle.jsgen_model.specs.Punctuator as punctuators
+use Rattle.jsgen_model.specs.Layout as layouts
+use Rattle.jsgen_model.specs.Layout.{Pen, ends_in_word, joins}
+use Rattle.jsgen_model.specs.Items.{Items, word, operator}
+use Rattle.jsgen_model.specs.Spell.{operator_item}
+use Rattle.jsgen_printer.specs.declared.printer.Printer.{Printer}
+use Rattle.jsgen_printer.specs.declared.printer.Bracket.{Bracket}
+use Rattle.jsgen_printer.specs.declared.printer.Bracket.TheVariants as brackets
+use Rattle.jsgen_printer.specs.declared.printer.Ending.{Ending}
+use Rattle.jsgen_printer.specs.declared.printer.Ending.TheVariants as endings
+use Rattle.jsgen_printer.specs.declared.printer.Start.{Start}
+use Rattle.jsgen_printer.specs.declared.printer.Start.TheVariants as starts
+
+-- what the code ends in after an item: a sign may join the next one
+abbrev pub end_of : Items → layouts.Ending
+end_of (operator sign) = layouts.operator_end sign
+end_of item = layouts.other_end
+
+-- a space stands before the item: a word apart from a word, a sign from one that it would join
+abbrev pub stands_apart : Items → Pen → Bool
+stands_apart (word w) pen = ends_in_word pen.code
+stands_apart (operator sign) pen = joins pen.ending pen.code sign
+stands_apart item pen = false
+
+abbrev pub bracket_of : Bracket → punctuators.Bracket
+bracket_of brackets.Round = punctuators.Round
+bracket_of brackets.Square = punctuators.Square
+
+abbrev pub ending_of : Ending → layouts.Ending
+ending_of endings.Other = layouts.other_end
+ending_of (endings.Operator o) = end_of (operator_item o)
+ending_of endings.Number = layouts.number_end
+
+abbrev pub start_of : Start → layouts.Start
+start_of starts.Nowhere = layouts.nowhere
+start_of starts.Statement = layouts.statement
+
+-- the pen, whose code is the characters of the buffer's bytes
+unfoldable pub pen_of : Printer → Pen
+pen_of p = record {
+  style = record { minified = p.minify; quote = p.quote; indent = indent_byte p.code; width = indent_width p.code };
+  code = chars (buffer_bytes p.code);
+  depth = p.depth;
+  pending_space = p.pending_space;
+  pending_semicolon = p.pending_semicolon;
+  ending = ending_of p.ending;
+  start = start_of p.start;
+}
+
+-- each byte of the text is ASCII
+abbrev pub is_ascii : List ℕ → Bool
+is_ascii bytes = list_all (λ b. nat_lt b 128) bytes

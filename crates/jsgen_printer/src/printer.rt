@@ -1,0 +1,366 @@
+// What has been printed so far, and the steps by which it goes on. Each step is an item of the layout.
+ghost use Rattle.std.specs.Prelude.{◌≡◌, ◌^◌, ◌<◌, ◌*◌};
+ghost use Rattle.jsgen_syntax.specs.Buffer.{indent_width};
+ghost use Rattle.jsgen_syntax.specs.Name.{goes_in_word};
+
+use jsgen_syntax::{BinaryOperator, CodeBuffer, IndentChar, JsStr, LogicalOperator, Memory, Quote};
+use jsgen_text::{cheapest_quote, print_string_text};
+use std::alloc::Global;
+
+/// What the code so far ends in, as far as it matters to what follows.
+#[derive(Clone, Copy)]
+pub enum Ending {
+    Other,
+    /// An operator, behind whose sign another may have to stand apart.
+    Operator(BinaryOperator),
+    /// A number, behind which a dot would be its own.
+    Number,
+}
+
+/// What begins at the end of the code so far.
+#[derive(Clone, Copy)]
+pub enum Start {
+    Nowhere,
+    Statement,
+}
+
+/// Brackets that stand round what is printed.
+#[derive(Clone, Copy)]
+pub enum Bracket {
+    Round,
+    Square,
+}
+
+/// A text that is being printed.
+#[derive(Drop)]
+pub struct Printer {
+    code: CodeBuffer,
+    minify: bool,
+    quote: Quote,
+    depth: u32,
+    pending_space: bool,
+    pending_semicolon: bool,
+    ending: Ending,
+    start: Start,
+    ghost indents: { depth * indent_width code < 2 ^ 64 },
+}
+
+#[tactic(auto, using(crate::proofs::Texts::ascii_chars), unfolding(crate::specs::Printer::pen_of))]
+impl Printer {
+    ghost use Rattle.std.specs.Prelude.{OnOk, ◌++◌, decimal, replicate, string_bytes, true, IsTrue};
+    ghost use Rattle.std.specs.Str.{chars, encode_utf8_all};
+    ghost use Rattle.jsgen_model.specs.Punctuator.{Round, opening, closing, comma, equal, plus, minus};
+    ghost use Rattle.jsgen_model.specs.Items.{word, name, number, string, first_string, member_dot, punctuator, soft_space, indentation, statement_end, due_semicolon, statement_begins};
+    ghost use Rattle.jsgen_model.specs.Layout.{layout, written, written_if, other_end, space_if, ends_in_word, joins, dot_joins, indented, chosen_quote, string_text, pretty, empty_pen};
+    ghost use Rattle.jsgen_syntax.specs.Buffer.{indent_byte};
+    ghost use Rattle.jsgen_syntax.specs.Units.{js_units};
+    ghost use Rattle.jsgen_syntax.specs.Strings.{quoted, is_plain_string};
+    ghost use Rattle.jsgen_model.specs.Spell.{operator_item, logical_item};
+    ghost use Rattle.jsgen_printer.specs.Printer.{bracket_of, pen_of, ending_of, stands_apart, is_ascii};
+
+    /// A printer of pretty text that has printed nothing.
+    pub fn new(alloc: Global) -> Printer
+        ensures { pen_of result ≡ empty_pen pretty 0 }
+    {
+        Printer {
+            code: CodeBuffer::with_indent(alloc, IndentChar::Tab, 1),
+            minify: false,
+            quote: Quote::Double,
+            depth: 0,
+            pending_space: false,
+            pending_semicolon: false,
+            ending: Ending::Other,
+            start: Start::Statement,
+        }
+    }
+
+    // The code goes on with a text, which ends so.
+    fn print_str(&mut self, text: &str, ending: Ending) -> Result<(), Memory>
+        ensures { OnOk result (pen_of self.new ≡ written (chars text.now) (ending_of ending) (pen_of self.old)) }
+    {
+        let _ = self.code.as_str();
+        self.code.print_str(text)?;
+        self.ending = ending;
+        self.start = Start::Nowhere;
+        Ok(())
+    }
+
+    // A text stands apart from what is before it, by a space where the test holds.
+    fn print_apart(&mut self, test: bool, text: &str, ending: Ending) -> Result<(), Memory>
+        ensures { OnOk result (pen_of self.new
+            ≡ written (space_if test ++ chars text.now) (ending_of ending) (pen_of self.old)) }
+    {
+        self.print_if(test, " ")?;
+        self.print_str(text, ending)
+    }
+
+    // The code goes on with a text where the test holds.
+    fn print_if(&mut self, test: bool, text: &str) -> Result<(), Memory>
+        ensures { OnOk result (pen_of self.new ≡ written_if test (chars text.now) (pen_of self.old)) }
+    {
+        if test {
+            self.print_str(text, Ending::Other)
+        } else {
+            Ok(())
+        }
+    }
+
+    fn ends_in_word(&self) -> bool
+        ensures { result ≡ ends_in_word (pen_of self.now).code }
+    {
+        let _ = self.code.as_str();
+        match self.code.last_byte() {
+            Some(byte) => goes_in_word(byte),
+            None => false,
+        }
+    }
+
+    // Whether the operator stands apart from what the code ends in: a word from a word, a sign from one that it would join.
+    fn stands_apart(&self, operator: BinaryOperator) -> bool
+        ensures { result ≡ stands_apart (operator_item operator) (pen_of self.now) }
+    {
+        match operator {
+            BinaryOperator::In | BinaryOperator::Instanceof => self.ends_in_word(),
+            BinaryOperator::Addition => self.ends_in_plus(),
+            BinaryOperator::Subtraction => self.ends_in_minus(),
+            _ => false,
+        }
+    }
+
+    fn ends_in_plus(&self) -> bool
+        ensures { result ≡ joins (pen_of self.now).ending (pen_of self.now).code plus }
+    {
+        matches!(&self.ending, Ending::Operator(BinaryOperator::Addition))
+    }
+
+    fn ends_in_minus(&self) -> bool
+        ensures { result ≡ joins (pen_of self.now).ending (pen_of self.now).code minus }
+    {
+        matches!(&self.ending, Ending::Operator(BinaryOperator::Subtraction))
+    }
+
+    pub fn print_word(&mut self, text: &str) -> Result<(), Memory>
+        requires { IsTrue (is_ascii text.now) }
+        ensures { OnOk result (pen_of self.new ≡ layout (word text.now) (pen_of self.old)) }
+    {
+        let apart = self.ends_in_word();
+        self.print_apart(apart, text, Ending::Other)
+    }
+
+    pub fn print_name(&mut self, text: &str) -> Result<(), Memory>
+        ensures { OnOk result (pen_of self.new ≡ layout (name (chars text.now)) (pen_of self.old)) }
+    {
+        let apart = self.ends_in_word();
+        self.print_apart(apart, text, Ending::Other)
+    }
+
+    pub fn print_whole_number(&mut self, digits: u128) -> Result<(), Memory>
+        ensures { OnOk result (pen_of self.new ≡ layout (number true (decimal digits)) (pen_of self.old)) }
+    {
+        let apart = self.ends_in_word();
+        let mut buffer = itoa::Buffer::new();
+        let text = buffer.format(digits);
+        self.print_apart(apart, text, Ending::Number)
+    }
+
+    fn string_quote(&self, value: &JsStr, backticks: bool) -> Quote
+        ensures { result ≡ chosen_quote (pen_of self.now).style backticks (js_units value.now) }
+    {
+        if self.minify {
+            cheapest_quote(value, backticks)
+        } else {
+            self.quote
+        }
+    }
+
+    // The code goes on with a string in this quote.
+    fn print_quoted(&mut self, value: &JsStr, quote: Quote) -> Result<(), Memory>
+        ensures { OnOk result (pen_of self.new
+            ≡ written (string_text quote (js_units value.now)) other_end (pen_of self.old)) }
+    {
+        if value.is_plain() {
+            self.print_plain(value, quote)
+        } else {
+            self.print_str("", Ending::Other)
+        }
+    }
+
+    fn print_plain(&mut self, value: &JsStr, quote: Quote) -> Result<(), Memory>
+        requires { is_plain_string (js_units value.now) ≡ true }
+        ensures { OnOk result (pen_of self.new
+            ≡ written (quoted quote (js_units value.now)) other_end (pen_of self.old)) }
+    {
+        let _ = self.code.as_str();
+        print_string_text(&mut self.code, value, quote, false)?;
+        self.ending = Ending::Other;
+        self.start = Start::Nowhere;
+        Ok(())
+    }
+
+    /// A string, which may stand in backticks or not.
+    pub fn print_string(&mut self, value: &JsStr, backticks: bool) -> Result<(), Memory>
+        ensures { OnOk result (pen_of self.new ≡ layout (string backticks (js_units value.now)) (pen_of self.old)) }
+    {
+        let quote = self.string_quote(value, backticks);
+        self.print_quoted(value, quote)
+    }
+
+    /// A string that is a whole first statement, without its end.
+    pub fn print_first_string(&mut self, value: &JsStr) -> Result<(), Memory>
+        ensures { OnOk result (pen_of self.new ≡ layout (first_string (js_units value.now)) (pen_of self.old)) }
+    {
+        if self.minify {
+            self.print_quoted(value, Quote::Backtick)
+        } else {
+            self.print_opening(Bracket::Round)?;
+            self.print_quoted(value, self.quote)?;
+            self.print_closing(Bracket::Round)
+        }
+    }
+
+    pub fn print_opening(&mut self, bracket: Bracket) -> Result<(), Memory>
+        ensures { OnOk result (pen_of self.new ≡ written (opening (bracket_of bracket)) other_end (pen_of self.old)) }
+    {
+        match bracket {
+            Bracket::Round => self.print_str("(", Ending::Other),
+            Bracket::Square => self.print_str("[", Ending::Other),
+        }
+    }
+
+    pub fn print_closing(&mut self, bracket: Bracket) -> Result<(), Memory>
+        ensures { OnOk result (pen_of self.new ≡ written (closing (bracket_of bracket)) other_end (pen_of self.old)) }
+    {
+        match bracket {
+            Bracket::Round => self.print_str(")", Ending::Other),
+            Bracket::Square => self.print_str("]", Ending::Other),
+        }
+    }
+
+    fn ends_in_number(&self) -> bool
+        ensures { result ≡ dot_joins (pen_of self.now).ending }
+    {
+        matches!(&self.ending, Ending::Number)
+    }
+
+    pub fn print_member_dot(&mut self) -> Result<(), Memory>
+        ensures { OnOk result (pen_of self.new ≡ layout member_dot (pen_of self.old)) }
+    {
+        let apart = self.ends_in_number();
+        self.print_apart(apart, ".", Ending::Other)
+    }
+
+    pub fn print_comma(&mut self) -> Result<(), Memory>
+        ensures { OnOk result (pen_of self.new ≡ layout (punctuator comma) (pen_of self.old)) }
+    {
+        self.print_str(",", Ending::Other)
+    }
+
+    pub fn print_equal(&mut self) -> Result<(), Memory>
+        ensures { OnOk result (pen_of self.new ≡ layout (punctuator equal) (pen_of self.old)) }
+    {
+        self.print_str("=", Ending::Other)
+    }
+
+    pub fn print_operator(&mut self, operator: BinaryOperator) -> Result<(), Memory>
+        ensures { OnOk result (pen_of self.new ≡ layout (operator_item operator) (pen_of self.old)) }
+    {
+        let apart = self.stands_apart(operator);
+        self.print_apart(apart, operator.as_str(), Ending::Operator(operator))
+    }
+
+    pub fn print_logical_sign(&mut self, operator: LogicalOperator) -> Result<(), Memory>
+        ensures { OnOk result (pen_of self.new ≡ layout (logical_item operator) (pen_of self.old)) }
+    {
+        self.print_str(operator.as_str(), Ending::Other)
+    }
+
+    pub fn print_soft_space(&mut self) -> Result<(), Memory>
+        ensures { OnOk result (pen_of self.new ≡ layout soft_space (pen_of self.old)) }
+    {
+        self.print_if(!self.minify, " ")
+    }
+
+    pub fn print_indentation(&mut self) -> Result<(), Memory>
+        ensures { OnOk result (pen_of self.new ≡ layout indentation (pen_of self.old)) }
+    {
+        if self.minify {
+            Ok(())
+        } else if self.pending_space {
+            self.print_str(" ", Ending::Other)?;
+            self.pending_space = false;
+            Ok(())
+        } else {
+            self.print_levels()
+        }
+    }
+
+    // The levels' own indentation.
+    fn print_levels(&mut self) -> Result<(), Memory>
+        ensures { OnOk result (pen_of self.new
+            ≡ indented (replicate (self.old.depth * indent_width self.old.code) (indent_byte self.old.code))
+            (pen_of self.old)) }
+    {
+        let _ = self.code.as_str();
+        let before = self.code.len();
+        self.code.print_indent(self.depth as usize)?;
+        if self.code.len() == before {
+            return Ok(());
+        }
+        self.ending = Ending::Other;
+        self.start = Start::Nowhere;
+        Ok(())
+    }
+
+    pub fn print_statement_end(&mut self) -> Result<(), Memory>
+        ensures { OnOk result (pen_of self.new ≡ layout statement_end (pen_of self.old)) }
+    {
+        if self.minify {
+            self.pending_semicolon = true;
+            Ok(())
+        } else {
+            self.print_str(";\n", Ending::Other)
+        }
+    }
+
+    pub fn print_due_semicolon(&mut self) -> Result<(), Memory>
+        ensures { OnOk result (pen_of self.new ≡ layout due_semicolon (pen_of self.old)) }
+    {
+        self.print_if(self.pending_semicolon, ";")?;
+        self.pending_semicolon = false;
+        self.start = Start::Nowhere;
+        Ok(())
+    }
+
+    pub fn begin_statement(&mut self)
+        ensures { pen_of self.new ≡ layout statement_begins (pen_of self.old) }
+    {
+        self.start = Start::Statement;
+    }
+
+    pub fn print_opening_if(&mut self, test: bool) -> Result<(), Memory>
+        ensures { OnOk result (pen_of self.new ≡ written_if test (opening Round) (pen_of self.old)) }
+    {
+        self.print_if(test, "(")
+    }
+
+    pub fn print_closing_if(&mut self, test: bool) -> Result<(), Memory>
+        ensures { OnOk result (pen_of self.new ≡ written_if test (closing Round) (pen_of self.old)) }
+    {
+        self.print_if(test, ")")
+    }
+
+    /// The text, and nothing is copied.
+    pub fn into_string(self) -> String
+        ensures { string_bytes result ≡ encode_utf8_all (pen_of self).code }
+    {
+        let _ = self.code.as_str();
+        self.code.into_string()
+    }
+}
+
+// What can stand in a word, seen from its last byte.
+fn goes_in_word(byte: u8) -> bool
+    ensures { result ≡ goes_in_word byte }
+{
+    byte.is_ascii_alphanumeric() || byte == b'_' || byte == b'$' || byte >= 128
+}

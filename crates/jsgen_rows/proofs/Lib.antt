@@ -1,0 +1,11 @@
+pub mod Digits
+pub mod JobLaw
+pub mod Json
+pub mod LastRow
+pub mod Listed
+pub mod Pool
+pub mod Program
+pub mod RowSteps
+pub mod Taking
+pub mod Told
+pub mod WordLengths

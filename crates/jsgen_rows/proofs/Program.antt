@@ -1,0 +1,62 @@
+-- The tree of a job is a program.
+use Rattle.std.proofs.Common.{◌≡◌, ℕ, List, [], ◌∷◌, ◌++◌, length, Bool, true, false, Option, Some, None, unwrap_or, Result, Ok, Err, if◌then◌else◌, refl, sym, ap, ◌∙◌}
+use Rattle.serde_json.specs.Data.{Data}
+use Rattle.jsgen_tree.specs.Tree.{Tree}
+use Rattle.jsgen_tree.specs.Tree as tree
+use Rattle.jsgen_tree.specs.declared.types.NodeType.{NodeType}
+use Rattle.jsgen_tree.specs.declared.types.NodeType.TheVariants as types
+use Rattle.jsgen_rows.specs.declared.At.{At}
+use Rattle.jsgen_rows.specs.declared.InputFault.{InputFault}
+use Rattle.jsgen_rows.specs.declared.InputFault.TheVariants.{Wrong}
+use Rattle.jsgen_rows.specs.Values.{after, rows_in}
+use Rattle.jsgen_rows.specs.Meaning.{is_program, root_tree, root_faults, no_tree, trees_after, faults_after, faults_in, row_marks, row_tree, with_marks, unless, rows_meaning, value_meaning}
+use Rattle.jsgen_rows.specs.Job.{json_of, job_of}
+
+program_type : (t : NodeType) → is_program t ≡ true → t ≡ types.Program
+program_type types.Program h = refl
+program_type types.ExpressionStatement h = cc
+program_type types.VariableDeclaration h = cc
+program_type types.VariableDeclarator h = cc
+program_type types.BindingIdentifier h = cc
+program_type types.IdentifierReference h = cc
+program_type types.NumericLiteral h = cc
+program_type types.ParenthesizedExpression h = cc
+program_type types.BinaryExpression h = cc
+program_type types.LogicalExpression h = cc
+program_type types.StringLiteral h = cc
+program_type types.IdentifierName h = cc
+program_type types.StaticMemberExpression h = cc
+program_type types.ComputedMemberExpression h = cc
+program_type types.CallExpression h = cc
+
+told : (b : Bool) (a : At) → (if b then [] else Wrong a ∷ []) ≡ [] → b ≡ true
+told true a h = refl
+told false a h = cc
+
+root_is_program : (a : At) (o : Option Tree) (t : Tree) → root_faults a o ≡ [] → unwrap_or o no_tree ≡ t → tree.type_of t ≡ types.Program
+root_is_program a None t h e = cc
+root_is_program a (Some x) t h e = ap tree.type_of (sym e) ∙ program_type (tree.type_of x) (told (is_program (tree.type_of x)) a h)
+
+right_empty : {A : Type 0} (xs ys : List A) → xs ++ ys ≡ [] → ys ≡ []
+right_empty [] ys h = h
+right_empty (x ∷ xs) ys h = cc
+
+rows_give_program : (e : List Tree) (u : List ℕ) (ds : List Data) (t : Tree) → faults_after e u ds ≡ [] → unwrap_or (root_tree (trees_after e ds)) no_tree ≡ t → tree.type_of t ≡ types.Program
+rows_give_program e u [] t h g = root_is_program _ (root_tree e) t h g
+rows_give_program e u (d ∷ ds) t h g = rows_give_program (e ++ row_tree e d ∷ []) (with_marks u (row_marks (length e) d)) ds t (right_empty (faults_in e u (row_marks (length e) d)) _ h) g
+
+no_fault : {A : Type 0} (fs : List InputFault) (a x : A) → unless fs a ≡ Ok x → (fs ≡ []) × (a ≡ x)
+no_fault [] a x h = (refl, cc)
+no_fault (f ∷ fs) a x h = absurd (cc)
+
+of_rows : (r : Result (List Data) InputFault) (t : Tree) → after r rows_meaning ≡ Ok t → tree.type_of t ≡ types.Program
+of_rows (Ok ds) t h = let p = no_fault (faults_after [] [] ds) _ t h in rows_give_program [] [] ds t p.0 p.1
+of_rows (Err e) t h = cc
+
+of_json : (r : Result Data InputFault) (t : Tree) → after r value_meaning ≡ Ok t → tree.type_of t ≡ types.Program
+of_json (Ok d) t h = of_rows (rows_in d) t h
+of_json (Err e) t h = cc
+
+pub job_is_program : (bytes : List ℕ) (t : Tree) → job_of bytes ≡ Ok t → tree.type_of t ≡ types.Program
+unfolding job_of
+job_is_program bytes t h = of_json (json_of bytes) t h

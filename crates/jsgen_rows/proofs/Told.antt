@@ -1,0 +1,252 @@
+-- Want of memory is no fault of a job.
+use Rattle.std.proofs.Common.{◌≡◌, ℕ, suc, List, [], ◌∷◌, ◌++◌, length, Bool, true, false, Option, Some, None, Result, Ok, Err, slice_get, if◌then◌else◌}
+use Rattle.std.specs.Prelude.{⊤, codes}
+use Rattle.std.specs.Str.{is_utf8}
+use Rattle.serde_json.specs.Data.{Data, Num, unsigned, negative, float}
+use Rattle.serde_json.specs.Find.{as_bool, as_number, as_object, as_str}
+use Rattle.serde_json.specs.Read.{read}
+use Rattle.serde_json.specs.Written.{has_float}
+use Rattle.jsgen_syntax.specs.declared.span.Span.{Span}
+use Rattle.jsgen_syntax.specs.Strings.{is_plain_string}
+use Rattle.jsgen_tree.specs.declared.types.NodeSet.{NodeSet}
+use Rattle.jsgen_tree.specs.declared.types.NodeType.{NodeType}
+use Rattle.jsgen_tree.specs.Tree.{Tree, type_of as tree_type}
+use Rattle.jsgen_tree.specs.Table.{Sort, Word, Field, fields, in_set}
+use Rattle.jsgen_tree.specs.Table as sorts
+use Rattle.jsgen_rows.specs.declared.At.{At}
+use Rattle.jsgen_rows.specs.declared.InputFault.{InputFault}
+use Rattle.jsgen_rows.specs.declared.InputFault.TheVariants.{Json, Float, Wrong, Child, Shared, Memory}
+use Rattle.jsgen_rows.specs.Values.{after, or_fault, at, head, field, field_in, not_given, text_in, items_in, digits_in, unit_in, units_listed, text_or_listed, units_in, plain_units, value_in, given_values, values_in, type_named, type_given, type_of, offsets, span_given, span_of, unread_head, some_rows, rows_listed, rows_given, rows_in}
+use Rattle.jsgen_rows.specs.Meaning.{Mark, fault, use_of, number_marks, child_marks, each, marks_of, given_marks, list_marks, sort_marks, fields_marks, typed_marks, row_marks, row_tree, is_used, is_program, found_faults, mark_faults, with_mark, with_marks, faults_in, root_tree, root_faults, faults_after, unless, rows_meaning, value_meaning}
+use Rattle.jsgen_rows.specs.Job.{json_of, job_of}
+
+-- ---- what is told is not Memory
+
+abbrev Told : InputFault → Type 0
+Told f = f ≡ Memory → ⊥
+
+abbrev ResultTold : {A : Type 0} → Result A InputFault → Type 0
+ResultTold (Ok x) = ⊤
+ResultTold (Err f) = Told f
+
+abbrev FaultsTold : List InputFault → Type 0
+FaultsTold [] = ⊤
+FaultsTold (f ∷ fs) = Told f × FaultsTold fs
+
+abbrev MarkTold : Mark → Type 0
+MarkTold (fault f) = Told f
+MarkTold (use_of a s c) = ⊤
+
+abbrev MarksTold : List Mark → Type 0
+MarksTold [] = ⊤
+MarksTold (m ∷ ms) = MarkTold m × MarksTold ms
+
+after_told : {A B : Type 0} (r : Result A InputFault) (f : A → Result B InputFault) → ResultTold r → ((x : A) → ResultTold (f x)) → ResultTold (after r f)
+after_told (Ok x) f h g = g x
+after_told (Err e) f h g = h
+
+or_told : {A : Type 0} (e : InputFault) (o : Option A) → Told e → ResultTold (or_fault e o)
+or_told e None h = h
+or_told e (Some x) h = tt
+
+choice_told : {A : Type 0} (b : Bool) (r s : Result A InputFault) → ResultTold r → ResultTold s → ResultTold (if b then r else s)
+choice_told true r s h g = h
+choice_told false r s h g = g
+
+wrong_told : (a : At) → Told (Wrong a)
+wrong_told a = λ e. cc
+
+-- ---- values
+
+field_told : (a : At) (required : Bool) (o : Option Data) → ResultTold (field_in a required o)
+field_told a true None = λ e. cc
+field_told a false None = tt
+field_told a true (Some d) = choice_told (has_float d) (Err (Float a)) (Ok (Some d)) (λ e. cc) tt
+field_told a false (Some d) = choice_told (has_float d) (Err (Float a)) (Ok (Some d)) (λ e. cc) tt
+
+not_given_told : (a : At) (o : Option Data) → ResultTold (not_given a o)
+not_given_told a None = tt
+not_given_told a (Some d) = wrong_told a
+
+text_told : (a : At) (d : Data) → ResultTold (text_in a d)
+text_told a d = or_told (Wrong a) (as_str d) (wrong_told a)
+
+items_told : (a : At) (d : Data) → ResultTold (items_in a d)
+items_told a d = or_told (Wrong a) _ (wrong_told a)
+
+units_listed_told : (a : At) (ds : List Data) → ResultTold (units_listed a ds)
+units_listed_told a [] = tt
+units_listed_told a (d ∷ ds) = after_told (or_fault (Wrong a) (unit_in d)) _ (or_told (Wrong a) (unit_in d) (wrong_told a)) (λ u. after_told (units_listed a ds) _ (units_listed_told a ds) (λ us. tt))
+
+text_or_listed_told : (a : At) (d : Data) (o : Option (List ℕ)) → ResultTold (text_or_listed a d o)
+text_or_listed_told a d None = after_told (items_in a d) (units_listed a) (items_told a d) (units_listed_told a)
+text_or_listed_told a d (Some s) = tt
+
+value_told : (a : At) (s : Sort) (d : Data) → ResultTold (value_in a s d)
+value_told a sorts.text d = after_told (text_in a d) _ (text_told a d) (λ s. tt)
+value_told a sorts.units d = after_told (units_in a d) (plain_units a) (text_or_listed_told a d (as_str d)) (λ us. choice_told (is_plain_string us) _ (Err (Wrong a)) tt (wrong_told a))
+value_told a sorts.digits d = after_told (digits_in a d) _ (or_told (Wrong a) _ (wrong_told a)) (λ n. tt)
+value_told a sorts.flag d = after_told (or_fault (Wrong a) (as_bool d)) _ (or_told (Wrong a) (as_bool d) (wrong_told a)) (λ b. tt)
+value_told a (sorts.word ws) d = after_told (text_in a d) _ (text_told a d) (λ s. or_told (Wrong a) _ (wrong_told a))
+value_told a (sorts.child s) d = wrong_told a
+value_told a (sorts.children s) d = wrong_told a
+value_told a sorts.unread d = wrong_told a
+
+given_told : (a : At) (s : Sort) (o : Option Data) → ResultTold (given_values a s o)
+given_told a s None = tt
+given_told a s (Some d) = after_told (value_in a s d) _ (value_told a s d) (λ v. tt)
+
+values_told : (a : At) (required : Bool) (s : Sort) (o : Option Data) → ResultTold (values_in a required s o)
+unfolding values_in
+values_told a required sorts.unread o = after_told (not_given a o) _ (not_given_told a o) (λ u. tt)
+values_told a required sorts.text o = after_told (field_in a required o) (given_values a sorts.text) (field_told a required o) (given_told a sorts.text)
+values_told a required sorts.units o = after_told (field_in a required o) (given_values a sorts.units) (field_told a required o) (given_told a sorts.units)
+values_told a required sorts.flag o = after_told (field_in a required o) (given_values a sorts.flag) (field_told a required o) (given_told a sorts.flag)
+values_told a required sorts.digits o = after_told (field_in a required o) (given_values a sorts.digits) (field_told a required o) (given_told a sorts.digits)
+values_told a required (sorts.word ws) o = after_told (field_in a required o) (given_values a (sorts.word ws)) (field_told a required o) (given_told a (sorts.word ws))
+values_told a required (sorts.child s) o = after_told (field_in a required o) (given_values a (sorts.child s)) (field_told a required o) (given_told a (sorts.child s))
+values_told a required (sorts.children s) o = after_told (field_in a required o) (given_values a (sorts.children s)) (field_told a required o) (given_told a (sorts.children s))
+
+type_given_told : (a : At) (o : Option Data) → ResultTold (type_given a o)
+type_given_told a None = λ e. cc
+type_given_told a (Some d) = after_told (text_in a d) _ (text_told a d) (λ s. or_told (Wrong a) (type_named s) (wrong_told a))
+
+type_told : (k : ℕ) (d : Data) → ResultTold (type_of k d)
+type_told k d =
+    after_told (or_fault (Wrong (at k 0)) (as_object d)) _ (or_told (Wrong (at k 0)) (as_object d) (wrong_told _))
+    (λ members. after_told (field_in (at k 0) true (field (codes "type") d)) (type_given (at k 0)) (field_told (at k 0) true (field (codes "type") d)) (type_given_told (at k 0)))
+
+span_given_told : (a : At) (o : Option Data) → ResultTold (span_given a o)
+span_given_told a None = tt
+span_given_told a (Some d) = after_told (items_in a d) _ (items_told a d) (λ ds. or_told (Wrong a) (offsets ds) (wrong_told a))
+
+span_told : (k : ℕ) (d : Data) → ResultTold (span_of k d)
+span_told k d = after_told (field_in (at k 1) false (field (codes "span") d)) (span_given (at k 1)) (field_told (at k 1) false (field (codes "span") d)) (span_given_told (at k 1))
+
+-- ---- marks
+
+append_told : (ms ns : List Mark) → MarksTold ms → MarksTold ns → MarksTold (ms ++ ns)
+append_told [] ns h g = g
+append_told (m ∷ ms) ns h g = (h.0, append_told ms ns h.1 g)
+
+marks_told : {A : Type 0} (f : A → List Mark) (r : Result A InputFault) → ResultTold r → ((x : A) → MarksTold (f x)) → MarksTold (marks_of f r)
+marks_told f (Err e) h g = (h, tt)
+marks_told f (Ok x) h g = g x
+
+number_told : (a : At) (s : NodeSet) (o : Option Num) → MarksTold (number_marks a s o)
+number_told a s None = (wrong_told a, tt)
+number_told a s (Some (unsigned c)) = (tt, tt)
+number_told a s (Some (negative z)) = ((λ e. cc), tt)
+number_told a s (Some (float x)) = (wrong_told a, tt)
+
+each_told : (a : At) (s : NodeSet) (ds : List Data) → MarksTold (each (child_marks a s) ds)
+each_told a s [] = tt
+each_told a s (d ∷ ds) = append_told (child_marks a s d) (each (child_marks a s) ds) (number_told a s (as_number d)) (each_told a s ds)
+
+given_marks_told : (a : At) (s : NodeSet) (o : Option Data) → MarksTold (given_marks a s o)
+given_marks_told a s None = tt
+given_marks_told a s (Some d) = number_told a s (as_number d)
+
+list_told : (a : At) (s : NodeSet) (o : Option Data) → MarksTold (list_marks a s o)
+list_told a s None = tt
+list_told a s (Some d) = marks_told (each (child_marks a s)) (items_in a d) (items_told a d) (each_told a s)
+
+sort_told : (a : At) (required : Bool) (s : Sort) (o : Option Data) → MarksTold (sort_marks a required s o)
+sort_told a required (sorts.child s) o = marks_told (given_marks a s) (field_in a required o) (field_told a required o) (given_marks_told a s)
+sort_told a required (sorts.children s) o = marks_told (list_marks a s) (field_in a required o) (field_told a required o) (list_told a s)
+sort_told a required sorts.text o = marks_told _ (values_in a required sorts.text o) (values_told a required sorts.text o) (λ vs. tt)
+sort_told a required sorts.units o = marks_told _ (values_in a required sorts.units o) (values_told a required sorts.units o) (λ vs. tt)
+sort_told a required sorts.flag o = marks_told _ (values_in a required sorts.flag o) (values_told a required sorts.flag o) (λ vs. tt)
+sort_told a required sorts.digits o = marks_told _ (values_in a required sorts.digits o) (values_told a required sorts.digits o) (λ vs. tt)
+sort_told a required (sorts.word ws) o = marks_told _ (values_in a required (sorts.word ws) o) (values_told a required (sorts.word ws) o) (λ vs. tt)
+sort_told a required sorts.unread o = marks_told _ (values_in a required sorts.unread o) (values_told a required sorts.unread o) (λ vs. tt)
+
+fields_told : (k i : ℕ) (fs : List Field) (d : Data) → MarksTold (fields_marks k i fs d)
+fields_told k i [] d = tt
+fields_told k i (f ∷ fs) d = append_told (sort_marks (at k i) f.required f.sort (field f.name d)) (fields_marks k (suc i) fs d) (sort_told (at k i) f.required f.sort (field f.name d)) (fields_told k (suc i) fs d)
+
+typed_told : (k : ℕ) (d : Data) (t : Result NodeType InputFault) (s : Result Span InputFault) → ResultTold t → ResultTold s → MarksTold (typed_marks k d t s)
+typed_told k d (Err e) s h g = (h, tt)
+typed_told k d (Ok type) s h g = append_told (marks_of (λ span. []) s) (fields_marks k 2 (fields type) d) (marks_told _ s g (λ span. tt)) (fields_told k 2 (fields type) d)
+
+row_told : (k : ℕ) (d : Data) → MarksTold (row_marks k d)
+row_told k d = typed_told k d (type_of k d) (span_of k d) (type_told k d) (span_told k d)
+
+-- ---- faults
+
+join_told : (fs gs : List InputFault) → FaultsTold fs → FaultsTold gs → FaultsTold (fs ++ gs)
+join_told [] gs h g = g
+join_told (f ∷ fs) gs h g = (h.0, join_told fs gs h.1 g)
+
+pick_told : (b : Bool) (fs gs : List InputFault) → FaultsTold fs → FaultsTold gs → FaultsTold (if b then fs else gs)
+pick_told true fs gs h g = h
+pick_told false fs gs h g = g
+
+found_told : (a : At) (s : NodeSet) (c : ℕ) (o : Option Tree) (used : Bool) → FaultsTold (found_faults a s c o used)
+found_told a s c None used = ((λ e. cc), tt)
+found_told a s c (Some t) used = pick_told (in_set s (tree_type t)) (if used then Shared c ∷ [] else []) (Child a ∷ []) (pick_told used (Shared c ∷ []) [] ((λ e. cc), tt) tt) ((λ e. cc), tt)
+
+mark_told : (e : List Tree) (u : List ℕ) (m : Mark) → MarkTold m → FaultsTold (mark_faults e u m)
+mark_told e u (fault f) h = (h, tt)
+mark_told e u (use_of a s c) h = found_told a s c (slice_get e c) (is_used u c)
+
+faults_told : (e : List Tree) (u : List ℕ) (ms : List Mark) → MarksTold ms → FaultsTold (faults_in e u ms)
+faults_told e u [] h = tt
+faults_told e u (m ∷ ms) h = join_told (mark_faults e u m) (faults_in e (with_mark u m) ms) (mark_told e u m h.0) (faults_told e (with_mark u m) ms h.1)
+
+root_told : (a : At) (o : Option Tree) → FaultsTold (root_faults a o)
+root_told a None = (wrong_told a, tt)
+root_told a (Some t) = pick_told (is_program (tree_type t)) [] (Wrong a ∷ []) tt (wrong_told a, tt)
+
+rows_told : (e : List Tree) (u : List ℕ) (ds : List Data) → FaultsTold (faults_after e u ds)
+rows_told e u [] = root_told _ (root_tree e)
+rows_told e u (d ∷ ds) =
+    join_told (faults_in e u (row_marks (length e) d)) (faults_after (e ++ row_tree e d ∷ []) (with_marks u (row_marks (length e) d)) ds)
+    (faults_told e u (row_marks (length e) d) (row_told (length e) d)) (rows_told (e ++ row_tree e d ∷ []) (with_marks u (row_marks (length e) d)) ds)
+
+unless_told : {A : Type 0} (fs : List InputFault) (x : A) → FaultsTold fs → ResultTold (unless fs x)
+unless_told [] x h = tt
+unless_told (f ∷ fs) x h = h.0
+
+-- ---- the whole
+
+head_told : (d : Data) → ResultTold (unread_head d)
+head_told d =
+    after_told (not_given (head 0) (field (codes "options") d)) _ (not_given_told _ _)
+    (λ u. after_told (not_given (head 1) (field (codes "symbols") d)) _ (not_given_told _ _)
+    (λ v. after_told (not_given (head 2) (field (codes "references") d)) _ (not_given_told _ _)
+    (λ w. not_given_told (head 3) (field (codes "private") d))))
+
+float_or_wrong_told : (b : Bool) (a : At) → Told (if b then Float a else Wrong a)
+float_or_wrong_told true a = λ e. cc
+float_or_wrong_told false a = wrong_told a
+
+some_told : (ds : List Data) → ResultTold (some_rows ds)
+some_told [] = wrong_told (head 4)
+some_told (d ∷ ds) = tt
+
+rows_given_told : (o : Option Data) → ResultTold (rows_given o)
+rows_given_told None = λ e. cc
+rows_given_told (Some d) = after_told (rows_listed (head 4) d) some_rows (or_told _ _ (float_or_wrong_told (has_float d) (head 4))) some_told
+
+rows_in_told : (d : Data) → ResultTold (rows_in d)
+rows_in_told d =
+    after_told (or_fault Json (as_object d)) _ (or_told Json (as_object d) (λ e. cc))
+    (λ members. after_told (unread_head d) _ (head_told d) (λ u. rows_given_told (field (codes "rows") d)))
+
+value_meaning_told : (d : Data) → ResultTold (value_meaning d)
+value_meaning_told d = after_told (rows_in d) rows_meaning (rows_in_told d) (λ ds. unless_told (faults_after [] [] ds) _ (rows_told [] [] ds))
+
+json_told : (bytes : List ℕ) → ResultTold (json_of bytes)
+json_told bytes = choice_told (is_utf8 bytes) (or_fault Json (read bytes)) (Err Json) (or_told Json (read bytes) (λ e. cc)) (λ e. cc)
+
+job_told : (bytes : List ℕ) → ResultTold (job_of bytes)
+unfolding job_of
+job_told bytes = after_told (json_of bytes) value_meaning (json_told bytes) value_meaning_told
+
+never : {A : Type 0} (r : Result A InputFault) → ResultTold r → r ≡ Err Memory → ⊥
+never (Ok x) h e = cc
+never (Err f) h e = h cc
+
+pub told : (bytes : List ℕ) → job_of bytes ≡ Err Memory → ⊥
+told bytes e = never (job_of bytes) (job_told bytes) e

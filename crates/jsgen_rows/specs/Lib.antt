@@ -1,0 +1,5 @@
+pub mod Job
+pub mod Kept
+pub mod Meaning
+pub mod Reads
+pub mod Values

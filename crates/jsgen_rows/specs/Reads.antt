@@ -1,0 +1,115 @@
+-- A job read row by row, over the rows that are kept: each still there, or a child of an earlier place already.
+-- The reader's functions are proved against it; that it gives what a job means is a law of its own.
+use Rattle.std.specs.Prelude.{◌-◌, ◌≡◌, ℕ, suc, List, [], ◌∷◌, ◌++◌, length, Bool, Option, Some, None, Result, Ok, Err, slice_get, slice_set, if◌then◌else◌}
+use Rattle.serde_json.specs.Data.{Data, Num, unsigned, negative, float}
+use Rattle.serde_json.specs.Find.{as_number}
+use Rattle.jsgen_syntax.specs.declared.span.Span.{Span}
+use Rattle.jsgen_tree.specs.declared.types.NodeType.{NodeType}
+use Rattle.jsgen_tree.specs.declared.types.NodeSet.{NodeSet}
+use Rattle.jsgen_tree.specs.Tree.{Tree, node, no_slots, absent, no_trees, trees}
+use Rattle.jsgen_tree.specs.Tree as tree
+use Rattle.jsgen_tree.specs.Table.{Sort, Field, fields, in_set}
+use Rattle.jsgen_tree.specs.Table as sorts
+use Rattle.jsgen_rows.specs.declared.At.{At}
+use Rattle.jsgen_rows.specs.declared.InputFault.{InputFault}
+use Rattle.jsgen_rows.specs.declared.InputFault.TheVariants.{Wrong, Child, Shared, Memory}
+use Rattle.jsgen_rows.specs.Values.{after, at, field, field_in, items_in, values_in, type_of, span_of, rows_in}
+use Rattle.jsgen_rows.specs.Meaning.{Held, a_value, a_maybe, a_list, Parts, put_in, child_held, is_program}
+
+-- an earlier row: its tree, or its type alone where it is a child already
+pub data Entry : Type 0 where
+  there : Tree → Entry
+  taken : NodeType → Entry
+
+abbrev pub Read : Type 0 → Type 0
+Read V = Result (V × List Entry) InputFault
+
+-- a result of code and the rows that it kept, beside what the definition gives; want of memory may come in its place
+abbrev pub Gives : {T V : Type 0} → (T → V) → Result T InputFault → List Entry → Read V → Type 0
+Gives plain (Ok x) kept read = read ≡ Ok (plain x, kept)
+Gives plain (Err e) kept read = (e ≡ Memory → ⊥) → read ≡ Err e
+
+-- ---- children
+
+abbrev pub entry_type : Entry → NodeType
+entry_type (there t) = tree.type_of t
+entry_type (taken type) = type
+
+abbrev pub take_entry : ℕ → Entry → List Entry → Read Tree
+take_entry c (there t) kept = Ok (t, slice_set kept c (taken (tree.type_of t)))
+take_entry c (taken type) kept = Err (Shared c)
+
+abbrev pub take_found : At → NodeSet → ℕ → Option Entry → List Entry → Read Tree
+take_found a s c None kept = Err (Child a)
+take_found a s c (Some e) kept = if in_set s (entry_type e) then take_entry c e kept else Err (Child a)
+
+abbrev pub take_numbered : At → NodeSet → Option Num → List Entry → Read Tree
+take_numbered a s None kept = Err (Wrong a)
+take_numbered a s (Some (unsigned c)) kept = take_found a s c (slice_get kept c) kept
+take_numbered a s (Some (negative z)) kept = Err (Child a)
+take_numbered a s (Some (float x)) kept = Err (Wrong a)
+
+abbrev pub take_child : At → NodeSet → Data → List Entry → Read Tree
+take_child a s d kept = take_numbered a s (as_number d) kept
+
+abbrev pub take_all : At → NodeSet → List Tree → List Data → List Entry → Read (List Tree)
+take_all a s done [] kept = Ok (done, kept)
+take_all a s done (d ∷ ds) kept = after (take_child a s d kept) (λ t. take_all a s (done ++ t.0 ∷ []) ds t.1)
+
+-- ---- fields
+
+abbrev pub take_given : At → Bool → NodeSet → Option Data → List Entry → Read Held
+take_given a required s None kept = Ok (a_maybe absent, kept)
+take_given a required s (Some d) kept = after (take_child a s d kept) (λ t. Ok (child_held required t.0, t.1))
+
+abbrev pub take_list : At → NodeSet → Option Data → List Entry → Read Held
+take_list a s None kept = Ok (a_list no_trees, kept)
+take_list a s (Some d) kept = after (items_in a d) (λ ds. after (take_all a s [] ds kept) (λ ts. Ok (a_list (trees ts.0), ts.1)))
+
+unfoldable pub read_child : At → Bool → NodeSet → Option Data → List Entry → Read Held
+read_child a required s o kept = after (field_in a required o) (λ d. take_given a required s d kept)
+
+unfoldable pub read_children : At → Bool → NodeSet → Option Data → List Entry → Read Held
+read_children a required s o kept = after (field_in a required o) (λ d. take_list a s d kept)
+
+abbrev pub read_sort : At → Bool → Sort → Option Data → List Entry → Read Held
+read_sort a required (sorts.child s) o kept = read_child a required s o kept
+read_sort a required (sorts.children s) o kept = read_children a required s o kept
+read_sort a required s o kept = after (values_in a required s o) (λ vs. Ok (a_value vs, kept))
+
+abbrev pub read_field : At → Field → Data → List Entry → Read Held
+read_field a f d kept = read_sort a f.required f.sort (field f.name d) kept
+
+-- the fields from number i on
+abbrev pub read_fields : ℕ → ℕ → List Field → Data → List Entry → Read Parts
+read_fields k i [] d kept = Ok (record { values = []; slots = no_slots }, kept)
+read_fields k i (f ∷ fs) d kept = after (read_field (at k i) f d kept) (λ h. after (read_fields k (suc i) fs d h.1) (λ p. Ok (put_in h.0 p.0, p.1)))
+
+-- ---- rows
+
+unfoldable pub read_node : ℕ → NodeType → List Field → Span → Data → List Entry → Read Tree
+read_node k type fs span d kept = after (read_fields k 2 fs d kept) (λ p. Ok (node type (record { span = span; values = p.0.values }) p.0.slots, p.1))
+
+abbrev pub read_typed : ℕ → NodeType → Span → Data → List Entry → Read Tree
+read_typed k type span d kept = read_node k type (fields type) span d kept
+
+abbrev pub read_row : ℕ → Data → List Entry → Read Tree
+read_row k d kept = after (type_of k d) (λ type. after (span_of k d) (λ span. read_typed k type span d kept))
+
+-- the rows after those that are kept
+abbrev pub read_rows : List Data → List Entry → Result (List Entry) InputFault
+read_rows [] kept = Ok kept
+read_rows (d ∷ ds) kept = after (read_row (length kept) d kept) (λ t. read_rows ds (t.1 ++ there t.0 ∷ []))
+
+-- ---- the whole
+
+abbrev pub root_found : At → Option Entry → Result Tree InputFault
+root_found a None = Err (Wrong a)
+root_found a (Some (taken type)) = Err (Wrong a)
+root_found a (Some (there t)) = if is_program (tree.type_of t) then Ok t else Err (Wrong a)
+
+abbrev pub root_of : List Entry → Result Tree InputFault
+root_of kept = root_found (at (length kept - 1) 0) (slice_get kept (length kept - 1))
+
+abbrev pub read_job : Data → Result Tree InputFault
+read_job d = after (rows_in d) (λ ds. after (read_rows ds []) root_of)

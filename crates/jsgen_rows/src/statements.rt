@@ -1,0 +1,130 @@
+// Rows of programs, statements and declarations: one function for each type.
+ghost use Rattle.std.specs.Prelude.{◌≡◌};
+ghost use Rattle.serde_json.specs.View.{view};
+ghost use Rattle.jsgen_tree.specs.declared.types.NodeType.TheVariants as types;
+ghost use Rattle.jsgen_tree.specs.Plain.{node_plain};
+ghost use Rattle.jsgen_tree.specs.Rows.{program_row, expression_statement_row, variable_declaration_row, variable_declarator_row, binding_identifier_row};
+ghost use Rattle.jsgen_tree.specs.Table.{program_fields, expression_statement_fields, variable_declaration_fields, variable_declarator_fields, binding_identifier_fields};
+ghost use Rattle.jsgen_rows.specs.Reads.{Gives, read_node};
+ghost use Rattle.jsgen_rows.specs.Kept.{entries};
+
+use crate::fields::{
+    needed_binding_pattern, needed_expression, optional_expression, statements,
+    variable_declarators,
+};
+use crate::kept::Kept;
+use crate::values::{needed_text, optional_text, unread};
+use crate::words::{needed_declaration_kind, needed_source_kind};
+use crate::{At, InputFault};
+use jsgen_syntax::Span;
+use jsgen_tree::{
+    BindingIdentifier, ExpressionStatement, Program, VariableDeclaration, VariableDeclarator,
+};
+use serde_json::Value;
+use std::alloc::Global;
+
+#[tactic(auto, unfolding(crate::specs::Reads::read_node))]
+pub fn read_program(
+    alloc: Global,
+    kept: &mut Vec<Kept>,
+    number: usize,
+    span: Span,
+    row: &Value,
+) -> Result<Box<Program>, InputFault>
+    ensures { Gives (λ b. program_row node_plain b.value) result (entries kept.new.items)
+        (read_node number types.Program program_fields span (view row.now) (entries kept.old.items)) }
+{
+    let source = optional_text(alloc, At::of_row(number, 2), row, "source")?;
+    let kind = needed_source_kind(At::of_row(number, 3), row, "kind")?;
+    unread(At::of_row(number, 4), row, "jsx")?;
+    unread(At::of_row(number, 5), row, "typescript")?;
+    unread(At::of_row(number, 6), row, "comments")?;
+    unread(At::of_row(number, 7), row, "hashbang")?;
+    unread(At::of_row(number, 8), row, "directives")?;
+    let body = statements(alloc, kept, At::of_row(number, 9), row, "body")?;
+    let node = Program {
+        span,
+        source,
+        kind,
+        body,
+    };
+    Ok(Box::new(alloc, node)?)
+}
+
+#[tactic(auto, unfolding(crate::specs::Reads::read_node))]
+pub fn read_expression_statement(
+    alloc: Global,
+    kept: &mut Vec<Kept>,
+    number: usize,
+    span: Span,
+    row: &Value,
+) -> Result<Box<ExpressionStatement>, InputFault>
+    ensures { Gives (λ b. expression_statement_row node_plain b.value) result (entries kept.new.items)
+        (read_node number types.ExpressionStatement expression_statement_fields span (view row.now) (entries kept.old.items)) }
+{
+    let expression = needed_expression(kept, At::of_row(number, 2), row, "expression")?;
+    Ok(Box::new(alloc, ExpressionStatement { span, expression })?)
+}
+
+#[tactic(auto, unfolding(crate::specs::Reads::read_node))]
+pub fn read_variable_declaration(
+    alloc: Global,
+    kept: &mut Vec<Kept>,
+    number: usize,
+    span: Span,
+    row: &Value,
+) -> Result<Box<VariableDeclaration>, InputFault>
+    ensures { Gives (λ b. variable_declaration_row node_plain b.value) result (entries kept.new.items)
+        (read_node number types.VariableDeclaration variable_declaration_fields span (view row.now) (entries kept.old.items)) }
+{
+    let kind = needed_declaration_kind(At::of_row(number, 2), row, "kind")?;
+    unread(At::of_row(number, 3), row, "declare")?;
+    let declarations = variable_declarators(
+        alloc,
+        kept,
+        At::of_row(number, 4),
+        row,
+        "declarations",
+    )?;
+    let node = VariableDeclaration {
+        span,
+        kind,
+        declarations,
+    };
+    Ok(Box::new(alloc, node)?)
+}
+
+#[tactic(auto, unfolding(crate::specs::Reads::read_node))]
+pub fn read_variable_declarator(
+    alloc: Global,
+    kept: &mut Vec<Kept>,
+    number: usize,
+    span: Span,
+    row: &Value,
+) -> Result<Box<VariableDeclarator>, InputFault>
+    ensures { Gives (λ b. variable_declarator_row node_plain b.value) result (entries kept.new.items)
+        (read_node number types.VariableDeclarator variable_declarator_fields span (view row.now) (entries kept.old.items)) }
+{
+    let id = needed_binding_pattern(kept, At::of_row(number, 2), row, "id")?;
+    unread(At::of_row(number, 3), row, "definite")?;
+    unread(At::of_row(number, 4), row, "type_annotation")?;
+    let init = optional_expression(kept, At::of_row(number, 5), row, "init")?;
+    Ok(Box::new(alloc, VariableDeclarator { span, id, init })?)
+}
+
+#[tactic(auto, unfolding(crate::specs::Reads::read_node))]
+pub fn read_binding_identifier(
+    alloc: Global,
+    kept: &mut Vec<Kept>,
+    number: usize,
+    span: Span,
+    row: &Value,
+) -> Result<Box<BindingIdentifier>, InputFault>
+    ensures { Gives (λ b. binding_identifier_row b.value) result (entries kept.new.items)
+        (read_node number types.BindingIdentifier binding_identifier_fields span (view row.now) (entries kept.old.items)) }
+{
+    let _ = kept;
+    let name = needed_text(alloc, At::of_row(number, 2), row, "name")?;
+    unread(At::of_row(number, 3), row, "symbol")?;
+    Ok(Box::new(alloc, BindingIdentifier { span, name })?)
+}

@@ -1,0 +1,3 @@
+("use strict");
+console.log("it's", a.b[0], 1 .x);
+f(x)("say \"hi\"").y;
