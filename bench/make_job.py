@@ -1,49 +1,135 @@
-"""Writes a job of about N megabytes: declarations and statements of sums of names and whole numbers."""
+"""Writes a job: `make_job.py SIZE [nested] [minify]`.
+
+SIZE is in megabytes. Without `nested`, it holds declarations and statements, blocks and `if` of mixed expressions. With
+it, it holds blocks and `if` a thousand deep and sums nested a thousand to the left and to the right, as often as fill it.
+"""
 import random
 import sys
+
+NAMES = ["a", "total", "index", "lengthOfList", "$", "_private", "größe", "x1"]
+TEXTS = ["", "use strict", "it's", 'say \\"so\\"', "`a` and 'b'", "a\\\\b", "${a}", "</script>"]
+BINARY = ["+", "-", "*", "/", "%", "**", "==", "!==", "<", ">=", "<<", ">>>", "&", "|", "^", "in", "instanceof"]
+LOGICAL = ["&&", "||"]
+DEPTH = 1000
+
+
+class Rows:
+    def __init__(self):
+        self.rows = []
+        self.size = 0
+
+    def add(self, text):
+        self.rows.append(text)
+        self.size += len(text) + 2
+        return len(self.rows) - 1
+
+    def name(self, name):
+        start = len(self.rows)
+        return self.add('{"type":"IdentifierReference","span":[%d,%d],"name":"%s"}' % (start, start + 3, name))
+
+    def binary(self, operator, left, right):
+        return self.add('{"type":"BinaryExpression","operator":"%s","left":%d,"right":%d}' % (operator, left, right))
+
+    def statement(self, expression):
+        return self.add('{"type":"ExpressionStatement","expression":%d}' % expression)
+
+    def block(self, body):
+        return self.add('{"type":"BlockStatement","body":[%s]}' % ",".join(map(str, body)))
+
+    def choice(self, test, consequent, alternate=None):
+        last = "" if alternate is None else ',"alternate":%d' % alternate
+        return self.add('{"type":"IfStatement","test":%d,"consequent":%d%s}' % (test, consequent, last))
+
+
+def leaf(rows, draw):
+    kind = draw.random()
+    if kind < 0.5:
+        return rows.name(draw.choice(NAMES))
+    if kind < 0.75:
+        return rows.add('{"type":"NumericLiteral","kind":"whole","digits":%d}' % draw.randrange(10 ** draw.randrange(1, 12)))
+    return rows.add('{"type":"StringLiteral","value":"%s"}' % draw.choice(TEXTS))
 
 
 def expression(rows, depth, draw):
     if depth == 0 or draw.random() < 0.2:
-        if draw.random() < 0.5:
-            rows.append('{"type":"IdentifierReference","span":[%d,%d],"name":"%s"}' % (len(rows), len(rows) + 3, draw.choice(NAMES)))
-        else:
-            rows.append('{"type":"NumericLiteral","kind":"whole","digits":%d}' % draw.randrange(10 ** draw.randrange(1, 12)))
-        return len(rows) - 1
-    if draw.random() < 0.1:
-        inside = expression(rows, depth - 1, draw)
-        rows.append('{"type":"ParenthesizedExpression","expression":%d}' % inside)
-        return len(rows) - 1
-    left = expression(rows, depth - 1, draw)
-    right = expression(rows, depth - 1, draw)
-    rows.append('{"type":"BinaryExpression","operator":"%s","left":%d,"right":%d}' % (draw.choice("+-"), left, right))
-    return len(rows) - 1
+        return leaf(rows, draw)
+    kind = draw.random()
+    first = expression(rows, depth - 1, draw)
+    if kind < 0.1:
+        return rows.add('{"type":"ParenthesizedExpression","expression":%d}' % first)
+    if kind < 0.2:
+        name = rows.add('{"type":"IdentifierName","name":"%s"}' % draw.choice(NAMES))
+        return rows.add('{"type":"StaticMemberExpression","object":%d,"property":%d}' % (first, name))
+    second = expression(rows, depth - 1, draw)
+    if kind < 0.25:
+        return rows.add('{"type":"ComputedMemberExpression","object":%d,"expression":%d}' % (first, second))
+    if kind < 0.35:
+        return rows.add('{"type":"CallExpression","callee":%d,"arguments":[%d]}' % (first, second))
+    if kind < 0.5:
+        operator = draw.choice(LOGICAL)
+        return rows.add('{"type":"LogicalExpression","operator":"%s","left":%d,"right":%d}' % (operator, first, second))
+    return rows.binary(draw.choice(BINARY), first, second)
 
 
-def statement(rows, number, draw):
+def simple(rows, draw):
+    return rows.statement(expression(rows, 4, draw))
+
+
+def declaration(rows, draw):
     value = expression(rows, 4, draw)
-    if draw.random() < 0.5:
-        rows.append('{"type":"ExpressionStatement","expression":%d}' % value)
-        return len(rows) - 1
-    rows.append('{"type":"BindingIdentifier","name":"value%d"}' % number)
-    rows.append('{"type":"VariableDeclarator","id":%d,"init":%d}' % (len(rows) - 1, value))
-    rows.append('{"type":"VariableDeclaration","kind":"const","declarations":[%d]}' % (len(rows) - 1))
-    return len(rows) - 1
+    name = rows.add('{"type":"BindingIdentifier","name":"value%d"}' % len(rows.rows))
+    declarator = rows.add('{"type":"VariableDeclarator","id":%d,"init":%d}' % (name, value))
+    return rows.add('{"type":"VariableDeclaration","kind":"const","declarations":[%d]}' % declarator)
 
 
-NAMES = ["a", "total", "index", "lengthOfList", "$", "_private", "größe", "x1"]
+def nested_statement(rows, depth, draw):
+    kind = draw.random()
+    if depth == 0 or kind < 0.4:
+        return simple(rows, draw)
+    if kind < 0.45:
+        return rows.add('{"type":"EmptyStatement"}')
+    if kind < 0.7:
+        return rows.block([statement(rows, depth - 1, draw) for _ in range(draw.randrange(4))])
+    test = expression(rows, 2, draw)
+    consequent = nested_statement(rows, depth - 1, draw)
+    if kind < 0.85:
+        return rows.choice(test, consequent)
+    return rows.choice(test, consequent, nested_statement(rows, depth - 1, draw))
+
+
+def statement(rows, depth, draw):
+    if draw.random() < 0.3:
+        return declaration(rows, draw)
+    return nested_statement(rows, depth, draw)
+
+
+def deep_blocks(rows):
+    inner = rows.statement(rows.name("a"))
+    for _ in range(DEPTH // 2):
+        inner = rows.choice(rows.name("a"), rows.block([inner]))
+    return inner
+
+
+def deep_sum(rows, to_the_left):
+    inner = rows.name("a")
+    for _ in range(DEPTH):
+        other = rows.name("b")
+        inner = rows.binary("+", inner, other) if to_the_left else rows.binary("+", other, inner)
+    return rows.statement(inner)
 
 
 def main():
     wanted = int(sys.argv[1]) * 1000000
     draw = random.Random(1)
-    rows, body, size, counted = [], [], 0, 0
-    while size < wanted:
-        body.append(statement(rows, len(body), draw))
-        size += sum(len(row) + 1 for row in rows[counted:])
-        counted = len(rows)
-    rows.append('{"type":"Program","kind":"module","body":[%s]}' % ",".join(map(str, body)))
-    sys.stdout.write('{"rows":[' + ",\n".join(rows) + "]}\n")
+    rows, body = Rows(), []
+    while rows.size < wanted:
+        if "nested" in sys.argv[2:]:
+            body += [deep_blocks(rows), deep_sum(rows, True), deep_sum(rows, False)]
+        else:
+            body.append(statement(rows, 4, draw))
+    rows.add('{"type":"Program","kind":"module","body":[%s]}' % ",".join(map(str, body)))
+    options = '"options":{"minify":true},' if "minify" in sys.argv[2:] else ""
+    sys.stdout.write("{%s\"rows\":[" % options + ",\n".join(rows.rows) + "]}\n")
 
 
 main()

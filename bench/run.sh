@@ -1,35 +1,54 @@
 #!/usr/bin/env bash
-# Times jsgen on jobs of about 1, 4 and 16 megabytes, beside node's JSON.parse of the same file: the best of five runs.
+# Times jsgen, pretty and minified, on jobs of about 1, 4 and 16 megabytes and on deeply nested ones, beside node's
+# JSON.parse of the same file: the best of five runs. Minified text is never longer than pretty text.
 set -eu
 top=$(cd "$(dirname "$0")/.." && pwd)
 work=$(mktemp -d)
 trap 'rm -rf "$work"' EXIT
 "$top/jsgen" print <"$top/examples/empty.json" >/dev/null
 for size in 1 4 16; do
-  python3 "$top/bench/make_job.py" "$size" >"$work/$size.json"
+  for kind in mixed nested; do
+    python3 "$top/bench/make_job.py" "$size" "$kind" >"$work/$kind-$size-pretty.json"
+    python3 "$top/bench/make_job.py" "$size" "$kind" minify >"$work/$kind-$size-minified.json"
+  done
 done
 python3 - "$top/crates/jsgen_tool/out/jsgen_tool" "$work" <<'PY'
-import os, resource, subprocess, sys, time
+import os, subprocess, sys, time
 
 program, work = sys.argv[1:]
 parse = "const s=require('fs').readFileSync(process.argv[1],'utf8');const t=process.hrtime.bigint();JSON.parse(s);console.log(Number(process.hrtime.bigint()-t)/1e9)"
-first = None
-print("%8s %10s %12s %8s %12s %14s" % ("bytes", "jsgen s", "JSON.parse s", "ratio", "ns a byte", "peak B a byte"))
-for size in (1, 4, 16):
-    path = os.path.join(work, "%d.json" % size)
-    length = os.path.getsize(path)
+
+
+def measured(path):
     best, peak = None, 0
+    printed = os.path.join(work, "printed")
     for _ in range(5):
-        with open(path, "rb") as job:
+        with open(path, "rb") as job, open(printed, "wb") as out:
             start = time.perf_counter()
-            child = subprocess.Popen([program, "print"], stdin=job, stdout=subprocess.DEVNULL)
+            child = subprocess.Popen([program, "print"], stdin=job, stdout=out)
             _, status, usage = os.wait4(child.pid, 0)
             taken = time.perf_counter() - start
         assert status == 0, status
         best = taken if best is None else min(best, taken)
         peak = max(peak, usage.ru_maxrss * 1024)
-    node = min(float(subprocess.check_output(["node", "-e", parse, path])) for _ in range(5))
-    first = first or best / length
-    print("%8d %10.3f %12.3f %8.2f %12.1f %14.1f" % (length, best, node, best / node, best / length * 1e9, peak / length))
-print("time a byte at the largest, over that at the smallest: %.2f" % (best / length / first))
+    return best, peak, os.path.getsize(printed)
+
+
+print("%-16s %9s %9s %9s %12s %7s %10s %14s" % ("job", "bytes", "printed", "jsgen s", "JSON.parse s", "ratio", "ns a byte", "peak B a byte"))
+for kind in ("mixed", "nested"):
+    lengths = {}
+    for style in ("pretty", "minified"):
+        first = None
+        for size in (1, 4, 16):
+            path = os.path.join(work, "%s-%d-%s.json" % (kind, size, style))
+            length = os.path.getsize(path)
+            best, peak, printed = measured(path)
+            node = min(float(subprocess.check_output(["node", "-e", parse, path])) for _ in range(5))
+            first = first or best / length
+            lengths[style, size] = printed
+            print("%-16s %9d %9d %9.3f %12.3f %7.2f %10.1f %14.1f" % ("%s %s" % (kind, style), length, printed, best, node, best / node, best / length * 1e9, peak / length))
+        print("time a byte at the largest, over that at the smallest: %.2f" % (best / length / first))
+    for size in (1, 4, 16):
+        assert lengths["minified", size] <= lengths["pretty", size], (kind, size)
+print("minified text is never longer than pretty text")
 PY

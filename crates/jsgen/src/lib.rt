@@ -6,3 +6,4 @@ mod codegen;
 pub use codegen::{Codegen, CodegenError, CodegenReturn};
 pub use jsgen_model::TreeFault;
 pub use jsgen_rows::{At, InputFault, Job, job_faults_are_told, read_job};
+pub use jsgen_tree::{CodegenOptions, CommentOptions, LegalComment};

@@ -6,7 +6,7 @@ ghost use Rattle.jsgen_syntax.specs.Name.{spells_name};
 ghost use Rattle.std.specs.Str.{chars};
 ghost use Rattle.jsgen_tree.specs.Tree.{Tree, type_of, trees};
 ghost use Rattle.jsgen_tree.specs.Rows.{identifier_reference_row, numeric_literal_row, string_literal_row, parenthesized_expression_row, binary_expression_row, logical_expression_row, identifier_name_row, static_member_expression_row, computed_member_expression_row, call_expression_row, in_argument, expression_plain};
-ghost use Rattle.jsgen_model.specs.Valid.{breaches, place_faults, fault_if, not, in_trees, Judges};
+ghost use Rattle.jsgen_model.specs.Valid.{breaches, place_faults, fault_if, not, in_trees, is_lexical, Judges};
 ghost use Rattle.jsgen_model.specs.declared.fault.TreeFault.TheVariants as faults;
 ghost use Rattle.jsgen_tree.specs.declared.types.NodeSet.TheVariants as sets;
 
@@ -163,5 +163,21 @@ pub fn expression_type<N>(node: &Expression<N>) -> NodeType
         Expression::StaticMemberExpression(_) => NodeType::StaticMemberExpression,
         Expression::ComputedMemberExpression(_) => NodeType::ComputedMemberExpression,
         Expression::CallExpression(_) => NodeType::CallExpression,
+    }
+}
+
+pub fn is_expression_lexical<N>(node: &Expression<N>) -> bool
+    ensures { (plain : N → Tree) → result ≡ is_lexical (expression_plain plain node.now) }
+{
+    match node {
+        Expression::IdentifierReference(_) => false,
+        Expression::NumericLiteral(_) => false,
+        Expression::StringLiteral(_) => false,
+        Expression::BinaryExpression(_) => false,
+        Expression::LogicalExpression(_) => false,
+        Expression::ParenthesizedExpression(_) => false,
+        Expression::StaticMemberExpression(_) => false,
+        Expression::ComputedMemberExpression(_) => false,
+        Expression::CallExpression(_) => false,
     }
 }

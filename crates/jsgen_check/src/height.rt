@@ -1,15 +1,15 @@
 // Heights: whether the longest way down from a node holds more nodes than a number. Each node is looked at once at most.
-ghost use Rattle.std.specs.Prelude.{◌≡◌, map, nat_lt};
-ghost use Rattle.jsgen_tree.specs.Tree.{Tree, trees};
-ghost use Rattle.jsgen_tree.specs.Rows.{program_row, expression_statement_row, variable_declaration_row, variable_declarator_row, binding_identifier_row, parenthesized_expression_row, binary_expression_row, logical_expression_row, static_member_expression_row, computed_member_expression_row, call_expression_row, in_argument, in_statement, expression_plain, statement_plain, declaration_plain, binding_pattern_plain};
-ghost use Rattle.jsgen_model.specs.Valid.{height, greatest_height};
+ghost use Rattle.std.specs.Prelude.{◌≡◌, map, nat_lt, option_map};
+ghost use Rattle.jsgen_tree.specs.Tree.{Tree, optional, trees};
+ghost use Rattle.jsgen_tree.specs.Rows.{program_row, expression_statement_row, block_statement_row, if_statement_row, variable_declaration_row, variable_declarator_row, binding_identifier_row, parenthesized_expression_row, binary_expression_row, logical_expression_row, static_member_expression_row, computed_member_expression_row, call_expression_row, in_argument, in_statement, expression_plain, statement_plain, declaration_plain, binding_pattern_plain};
+ghost use Rattle.jsgen_model.specs.Valid.{height, height_if_given, greatest_height};
 
 use crate::CheckNode;
 use jsgen_tree::{
-    Argument, BinaryExpression, BindingPattern, CallExpression, ComputedMemberExpression,
-    Declaration, Expression, ExpressionStatement, LogicalExpression, ParenthesizedExpression,
-    Program, Statement, StatementNode, StaticMemberExpression, VariableDeclaration,
-    VariableDeclarator,
+    Argument, BinaryExpression, BindingPattern, BlockStatement, CallExpression,
+    ComputedMemberExpression, Declaration, Expression, ExpressionStatement, IfStatement,
+    LogicalExpression, ParenthesizedExpression, Program, Statement, StatementNode,
+    StaticMemberExpression, VariableDeclaration, VariableDeclarator,
 };
 
 #[tactic(auto, using(crate::proofs::Heights::heights))]
@@ -179,12 +179,42 @@ pub fn is_declaration_higher<N: CheckNode>(node: &Declaration<N>, levels: u32) -
     }
 }
 
+#[tactic(auto, using(crate::proofs::Heights::heights))]
+fn is_block_statement_higher<N: CheckNode>(node: &BlockStatement<N>, levels: u32) -> bool
+    ensures { result ≡ nat_lt levels (height (block_statement_row N.plain node.now)) }
+{
+    levels == 0 || are_statements_higher(&node.body, levels - 1)
+}
+
+fn is_alternate_higher<N: CheckNode>(alternate: &Option<StatementNode<N>>, levels: u32) -> bool
+    ensures { result ≡ nat_lt levels (height_if_given (optional (option_map (in_statement N.plain) alternate.now))) }
+{
+    match alternate {
+        Some(alternate) => alternate.get().is_higher_than(levels),
+        None => false,
+    }
+}
+
+#[tactic(auto, using(crate::proofs::Heights::heights))]
+fn is_if_statement_higher<N: CheckNode>(node: &IfStatement<N>, levels: u32) -> bool
+    ensures { result ≡ nat_lt levels (height (if_statement_row N.plain node.now)) }
+{
+    levels == 0
+        || node.test.get().is_higher_than(levels - 1)
+        || node.consequent.get().is_higher_than(levels - 1)
+        || is_alternate_higher(&node.alternate, levels - 1)
+}
+
+#[tactic(auto, using(crate::proofs::Heights::heights))]
 pub fn is_statement_higher<N: CheckNode>(node: &Statement<N>, levels: u32) -> bool
     ensures { result ≡ nat_lt levels (height (statement_plain N.plain node.now)) }
 {
     match node {
         Statement::Declaration(declaration) => declaration.get().is_higher_than(levels),
         Statement::ExpressionStatement(node) => is_expression_statement_higher(node, levels),
+        Statement::BlockStatement(node) => is_block_statement_higher(node, levels),
+        Statement::IfStatement(node) => is_if_statement_higher(node, levels),
+        Statement::EmptyStatement(_) => levels == 0,
     }
 }
 

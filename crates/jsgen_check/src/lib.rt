@@ -4,25 +4,29 @@
 ghost use Rattle.std.specs.Prelude.{◌≡◌, ◌++◌, List, [], ◌∷◌, map, nat_lt};
 ghost use Rattle.std.specs.Str.{chars};
 ghost use Rattle.jsgen_tree.specs.Tree.{Tree, type_of, span_of, trees};
-ghost use Rattle.jsgen_tree.specs.Rows.{program_row, expression_statement_row, variable_declaration_row, variable_declarator_row, binding_identifier_row, statement_plain, declaration_plain, binding_pattern_plain};
+ghost use Rattle.jsgen_tree.specs.Rows.{program_row, variable_declaration_row, variable_declarator_row, binding_identifier_row, declaration_plain, binding_pattern_plain};
 ghost use Rattle.jsgen_tree.specs.Plain.{node_plain};
-ghost use Rattle.jsgen_model.specs.Valid.{breaches, place_faults, span_faults, indent_faults, height, fault_if, not, is_free_name, is_too_long, declaration_faults, in_trees, Judges};
+ghost use Rattle.jsgen_model.specs.Valid.{breaches, place_faults, span_faults, indent_faults, height, fault_if, not, is_free_name, is_too_long, declaration_faults, in_trees, is_lexical, Judges, program_breaches};
 ghost use Rattle.jsgen_model.specs.declared.fault.TreeFault.TheVariants as faults;
 ghost use Rattle.jsgen_tree.specs.declared.types.NodeSet.TheVariants as sets;
 
 mod expressions;
 mod height;
+mod statements;
 
-use crate::expressions::{check_expression_set, expression_type};
+use crate::expressions::{check_expression_set, expression_type, is_expression_lexical};
 use crate::height::{
     is_binding_pattern_higher, is_declaration_higher, is_expression_higher, is_program_higher,
     is_statement_higher,
 };
+use crate::statements::{
+    check_statement_set, is_declaration_lexical, is_statement_lexical, statement_type,
+};
 use jsgen_model::TreeFault;
 use jsgen_syntax::{Span, is_name, is_reserved, is_strict_reserved};
 use jsgen_tree::{
-    BindingIdentifier, BindingPattern, Declaration, ExpressionStatement, GetSpan, Node, NodeSet,
-    NodeType, Program, Statement, VariableDeclaration, VariableDeclarator,
+    BindingIdentifier, BindingPattern, Declaration, GetSpan, Node, NodeSet, NodeType, Program,
+    VariableDeclaration, VariableDeclarator,
 };
 
 /// What the checks ask of a child. Only `Node` implements it.
@@ -36,6 +40,10 @@ pub trait CheckNode {
 
     fn start(&self) -> u32
         ensures { result ≡ (span_of (plain self.now)).start };
+
+    /// Whether it is a lexical declaration, which stands in a list of statements only.
+    fn is_lexical(&self) -> bool
+        ensures { result ≡ is_lexical (plain self.now) };
 
     fn check(&self) -> Result<(), TreeFault>
         ensures { Judges (breaches (plain self.now)) result };
@@ -86,13 +94,6 @@ fn check_binding_identifier(node: &BindingIdentifier) -> Result<(), TreeFault>
 {
     check_span(node.span)?;
     check_name(&node.name, node.span.start)
-}
-
-fn check_expression_statement<N: CheckNode>(node: &ExpressionStatement<N>) -> Result<(), TreeFault>
-    ensures { Judges (breaches (expression_statement_row N.plain node.now)) result }
-{
-    check_span(node.span)?;
-    check_child(node.expression.get(), NodeSet::Expression)
 }
 
 fn check_variable_declarator<N: CheckNode>(node: &VariableDeclarator<N>) -> Result<(), TreeFault>
@@ -146,10 +147,10 @@ fn check_source(source: &str, start: u32) -> Result<(), TreeFault>
     Ok(())
 }
 
-fn check_height<N: CheckNode>(node: &Program<N>) -> Result<(), TreeFault>
-    ensures { Judges (indent_faults (program_row N.plain node.now)) result }
+fn check_height<N: CheckNode>(minified: bool, node: &Program<N>) -> Result<(), TreeFault>
+    ensures { Judges (indent_faults minified (program_row N.plain node.now)) result }
 {
-    if is_program_higher(node, 4_294_967_295) {
+    if !minified && is_program_higher(node, 4_294_967_295) {
         return Err(TreeFault::Indent {
             start: node.span.start,
         });
@@ -157,12 +158,20 @@ fn check_height<N: CheckNode>(node: &Program<N>) -> Result<(), TreeFault>
     Ok(())
 }
 
-pub fn check_program<N: CheckNode>(node: &Program<N>) -> Result<(), TreeFault>
+/// Says Ok exactly where a program that is printed minified or not keeps each rule, and otherwise a rule that it breaks.
+pub fn check_program<N: CheckNode>(minified: bool, node: &Program<N>) -> Result<(), TreeFault>
+    ensures { Judges (program_breaches minified (program_row N.plain node.now)) result }
+{
+    check_rules(node)?;
+    check_height(minified, node)
+}
+
+// What is asked of every text.
+fn check_rules<N: CheckNode>(node: &Program<N>) -> Result<(), TreeFault>
     ensures { Judges (breaches (program_row N.plain node.now)) result }
 {
     check_span(node.span)?;
     check_source(&node.source, node.span.start)?;
-    check_height(node)?;
     for statement in &node.body {
         check_child(statement.get(), NodeSet::Statement)?;
     }
@@ -177,29 +186,11 @@ fn check_declaration_set<N: CheckNode>(node: &Declaration<N>) -> Result<(), Tree
     }
 }
 
-fn check_statement_set<N: CheckNode>(node: &Statement<N>) -> Result<(), TreeFault>
-    ensures { Judges (breaches (statement_plain N.plain node.now)) result }
-{
-    match node {
-        Statement::Declaration(declaration) => declaration.get().check(),
-        Statement::ExpressionStatement(node) => check_expression_statement(node),
-    }
-}
-
 fn check_binding_pattern_set(node: &BindingPattern) -> Result<(), TreeFault>
     ensures { Judges (breaches (binding_pattern_plain node.now)) result }
 {
     match node {
         BindingPattern::BindingIdentifier(node) => check_binding_identifier(node),
-    }
-}
-
-fn statement_type<N: CheckNode>(node: &Statement<N>) -> NodeType
-    ensures { result ≡ type_of (statement_plain N.plain node.now) }
-{
-    match node {
-        Statement::Declaration(declaration) => declaration.get().node_type(),
-        Statement::ExpressionStatement(_) => NodeType::ExpressionStatement,
     }
 }
 
@@ -219,6 +210,14 @@ fn binding_pattern_type(node: &BindingPattern) -> NodeType
     }
 }
 
+fn is_binding_pattern_lexical(node: &BindingPattern) -> bool
+    ensures { result ≡ is_lexical (binding_pattern_plain node.now) }
+{
+    match node {
+        BindingPattern::BindingIdentifier(_) => false,
+    }
+}
+
 /// The knot: the one recursion.
 impl CheckNode for Node {
     ghost plain = { λ n. node_plain n };
@@ -235,6 +234,16 @@ impl CheckNode for Node {
 
     fn start(&self) -> u32 {
         self.span().start
+    }
+
+    #[cycle(node)]
+    fn is_lexical(&self) -> bool {
+        match self {
+            Node::Expression(expression) => is_expression_lexical(expression),
+            Node::Statement(statement) => is_statement_lexical(statement),
+            Node::Declaration(declaration) => is_declaration_lexical(declaration),
+            Node::BindingPattern(pattern) => is_binding_pattern_lexical(pattern),
+        }
     }
 
     #[cycle(node)]

@@ -9,7 +9,7 @@ use Rattle.jsgen_syntax.specs.declared.quote.Quote.{Quote}
 use Rattle.jsgen_syntax.proofs.Strings.{escaped_value}
 use Rattle.jsgen_model.specs.Punctuator.{Punctuator, Bracket, punctuator_text, plus, minus, dot, semicolon, Round, opening, closing}
 use Rattle.jsgen_model.specs.Tokens.{longer_stands, Tokens, done, piece, group, Word, Number, Quoted, Sign, is_blank, is_line_terminator, has_line_end, spells_whole}
-use Rattle.jsgen_model.specs.Items.{member_dot, word, number, punctuator, operator, soft_space, indentation, due_semicolon, statement_begins}
+use Rattle.jsgen_model.specs.Items.{member_dot, word, number, punctuator, operator, soft_space, soft_line, hard_space, body_space, indentation, due_semicolon, statement_begins}
 use Rattle.jsgen_model.specs.Layout.{Pen, Ending, other_end, operator_end, layout, written, written_if, text_if, ending_unless, ends_in_word, space_if, joins, dot_joins, indented, indent_or_space, at_indentation, end_statement}
 use Rattle.jsgen_lexing.proofs.Characters.{no_word_no_name, ends_in_word_behind, all_goes, whole_digits, digit_goes, all_follow}
 use Rattle.jsgen_lexing.proofs.Last.{Last, Open, After, line_of, Clear, Operand, Ready, Remembers, Ended, is_indent, Knows, NoDot, clear_apart, clear_quote, clear_quoted, clear_space, clear_operator, clear_word, clear_digit}
@@ -161,6 +161,38 @@ indentation_written p l k = by_style p.style.minified
 
 pub begins_written : (p : Pen) (l : Last) → Knows p l → Soft p l (layout statement_begins p)
 begins_written p l k = no_soft p (layout statement_begins p) l refl refl refl refl k
+
+pub hard_space_written : (p : Pen) (l : Last) → Knows p l → Soft p l (layout hard_space p)
+hard_space_written p l k = soft_blank p (layout hard_space p) l (codes " ") refl (λ r. clear_space l r) refl refl refl k
+
+pub body_space_written : (p : Pen) (l : Last) → Knows p l → Soft p l (layout body_space p)
+body_space_written p l k = no_soft p (layout body_space p) l refl refl refl refl k
+
+-- blanks that may end a line, or nothing
+pub record Gap (p : Pen) (l : Last) (q : Pen) : Type 0 where
+  pub last : Last
+  pub writes : Writes p l q last done
+  pub ready : Ready l → Ready last
+  pub semicolon : q.pending_semicolon ≡ p.pending_semicolon
+
+abbrev pub gap : {p q : Pen} {l : Last} → Soft p l q → Gap p l q
+gap s = record { last = s.last; writes = s.writes; ready = s.ready; semicolon = s.semicolon }
+
+pub soft_line_written : (p : Pen) (l : Last) → Knows p l → Gap p l (layout soft_line p)
+soft_line_written p l k = go p.style.minified
+  where
+    go : (b : Bool) → Gap p l (written_if (not b) (codes "\n") p)
+    go true = gap (no_soft p (written_if false (codes "\n") p) l (append-nil p.code) refl refl refl k)
+    go false = record {
+      last = Open (line_of l || has_line_end (codes "\n"));
+      writes = wrote_blank p (written_if true (codes "\n") p) l (codes "\n") refl (λ r. clear_apart l 10 r refl refl) refl (record { indent = k.indent; ending = tt });
+      ready = λ y. tt;
+      semicolon = refl;
+    }
+
+-- the pen goes on with the same code
+pub no_gap : (p q : Pen) (l : Last) → q.code ≡ p.code → q.ending ≡ p.ending → q.style ≡ p.style → q.pending_semicolon ≡ p.pending_semicolon → Knows p l → Gap p l q
+no_gap p q l e f g h k = gap (no_soft p q l e f g h k)
 
 -- ---- semicolons
 

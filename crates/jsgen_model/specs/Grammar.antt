@@ -8,10 +8,11 @@ use Rattle.jsgen_syntax.specs.declared.operator.BinaryOperator.TheVariants as op
 use Rattle.jsgen_syntax.specs.declared.operator.LogicalOperator.TheVariants.{Or, And, Coalesce}
 use Rattle.jsgen_tree.specs.declared.statements.VariableDeclarationKind.TheVariants.{Const}
 use Rattle.jsgen_tree.specs.Tree.{Tree, Maybe, absent, given, Trees, no_trees, more, Atoms, text, units, declaration_kind, binary_operator, logical_operator}
+use Rattle.jsgen_tree.specs.Table.{ends_open}
 use Rattle.jsgen_tree.specs.Tree as tree
 use Rattle.jsgen_model.specs.Punctuator.{plus, minus, star, slash, percent, star_star, equal_equal, not_equal, equal_equal_equal, not_equal_equal, less, less_equal, greater, greater_equal, shift_left, shift_right, shift_right_zero, bit_and, bit_or, bit_xor, and_and, or_or, nullish, dot, comma, semicolon, equal, Round, Square, Brace}
 use Rattle.jsgen_model.specs.Tokens.{Piece, Tokens, done, piece, group, ◌⧺◌, Word, Number, Quoted, Sign}
-use Rattle.jsgen_model.specs.Valid.{is_free_name}
+use Rattle.jsgen_model.specs.Valid.{is_free_name, is_lexical}
 use Rattle.jsgen_model.specs.Normal.{bare}
 
 -- what may stand: the operator `in`, and the operand or statement of each other word (5.1.5, grammatical parameters)
@@ -220,6 +221,12 @@ mutual
   -- The flag tells that the tokens are the last of a brace group: there alone may the semicolon lack (12.10).
   pub data ReadsStatement : Allowed → Bool → Tokens → Tree → Type 0 where
     ended : {c : Allowed} {last : Bool} {ts a : Tokens} {s : Tree} (mark : Bool) → ts ≡ a ⧺ piece mark (Sign semicolon) done → ReadsUnended c a s → ReadsStatement c last ts s
+    an_empty_statement : {c : Allowed} {last mark : Bool} → ReadsStatement c last (piece mark (Sign semicolon) done) (tree.empty_statement (bare []))
+    a_block : {c : Allowed} {last mark : Bool} {inside : Tokens} {body : Trees} → ReadsStatements c true inside body → ReadsStatement c last (group mark Brace inside done) (tree.block (bare []) body)
+    -- what follows is a statement, and no lexical declaration (14.6)
+    an_if : {c : Allowed} {last mark next : Bool} {test ts : Tokens} {t s : Tree} → ReadsExpression (with_in c) Expression test t → ReadsStatement c last ts s → is_lexical s ≡ false → ReadsStatement c last (piece mark (Word (codes "if")) (group next Round test ts)) (tree.if_statement (bare []) t s absent)
+    -- `else` goes with the last `if` that has none (14.6)
+    an_if_with_else : {c : Allowed} {last mark next : Bool} {test ts a b : Tokens} {t s u : Tree} (k : Bool) → ts ≡ a ⧺ piece k (Word (codes "else")) b → ReadsExpression (with_in c) Expression test t → ReadsStatement c false a s → is_lexical s ≡ false → ends_open s ≡ false → ReadsStatement c last b u → is_lexical u ≡ false → ReadsStatement c last (piece mark (Word (codes "if")) (group next Round test ts)) (tree.if_statement (bare []) t s (given u))
     ended_by_brace : {c : Allowed} {ts : Tokens} {s : Tree} → ReadsUnended c ts s → ReadsStatement c true ts s
 
   pub data ReadsStatements : Allowed → Bool → Tokens → Trees → Type 0 where

@@ -6,6 +6,7 @@ use Rattle.jsgen_syntax.specs.Name.{goes_in_word}
 use Rattle.jsgen_syntax.specs.Strings.{quoted, cheapest, is_plain_string}
 use Rattle.jsgen_syntax.specs.declared.quote.Quote.{Quote}
 use Rattle.jsgen_syntax.specs.declared.quote.Quote.TheVariants.{Double, Backtick}
+use Rattle.jsgen_tree.specs.Options.{Options}
 use Rattle.jsgen_model.specs.Punctuator.{Punctuator, plus, plus_plus, minus, minus_minus, bang, equal_equal, equal_equal_equal, punctuator_text, Round, opening, closing}
 use Rattle.jsgen_model.specs.Items.{Items, nothing, ◌⊕◌, word, name, number, literal, string, first_string, punctuator, operator, member_dot, soft_space, soft_line, hard_space, indentation, body_space, deeper, brackets, wrapped, statement_end, due_semicolon, drop_semicolon, statement_begins, arrow_body_begins, default_export_begins}
 
@@ -187,3 +188,7 @@ empty_pen style depth = record { style = style; code = []; depth = depth; pendin
 -- pretty text, with double quotes and indented by tabs
 abbrev pub pretty : Style
 pretty = record { minified = false; quote = Double; indent = 9; width = 1 }
+
+-- the style of these options: so far they say whether the text is minified, and nothing else of it
+abbrev pub style_of : Options → Style
+style_of options = record pretty { minified = options.minify }

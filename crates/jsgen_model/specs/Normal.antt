@@ -4,6 +4,7 @@ use Rattle.jsgen_tree.specs.Tree.{Tree, node, Slots, no_slots, one, maybe, many,
 use Rattle.jsgen_tree.specs.declared.types.NodeType.TheVariants as types
 use Rattle.jsgen_syntax.specs.declared.operator.LogicalOperator.{LogicalOperator}
 use Rattle.jsgen_syntax.specs.declared.operator.LogicalOperator.TheVariants.{Or, And, Coalesce}
+use Rattle.jsgen_tree.specs.Table.{ends_open}
 use Rattle.jsgen_tree.specs.Tree as tree
 
 -- values that stand nowhere in a source
@@ -39,8 +40,14 @@ abbrev pub links : LogicalOperator → Tree → Trees
 links o (chain a operands) = if same_operator o (logical_operator_in a.values) then operands else more (chain a operands) no_trees
 links o t = more t no_trees
 
+-- a block round one statement that ends in an `if` without `else`, where such a statement couldn't stand by itself
+abbrev pub unbraced : Tree → Tree
+unbraced (tree.block a (more s no_trees)) = if ends_open s then s else tree.block a (more s no_trees)
+unbraced t = t
+
 -- Parentheses, spans, the source and the kind of a program are away, and whether a call is pure; a whole number is its
--- digits; a chain of one logical operator is one list, however it was grouped.
+-- digits; a chain of one logical operator is one list, however it was grouped; braces round a consequent that ends in
+-- an `if` without `else` are away.
 abbrev mutual
   pub normal : Tree → Tree
   normal (tree.program a body) = tree.program (bare []) (normal_trees body)
@@ -54,6 +61,9 @@ abbrev mutual
   normal (tree.parenthesized a expression) = normal expression
   normal (tree.binary a left right) = tree.binary (bare (binary_operator (operator_in a.values) ∷ [])) (normal left) (normal right)
   normal (tree.logical a left right) = chain (bare (logical_operator (logical_operator_in a.values) ∷ [])) (joined (links (logical_operator_in a.values) (normal left)) (links (logical_operator_in a.values) (normal right)))
+  normal (tree.block a body) = tree.block (bare []) (normal_trees body)
+  normal (tree.if_statement a test consequent alternate) = tree.if_statement (bare []) (normal test) (unbraced (normal consequent)) (normal_maybe alternate)
+  normal (tree.empty_statement a) = tree.empty_statement (bare [])
   normal (tree.identifier_name a) = tree.identifier_name (bare (text (text_in a.values) ∷ []))
   normal (tree.static_member a object property) = tree.static_member (bare []) (normal object) (normal property)
   normal (tree.computed_member a object expression) = tree.computed_member (bare []) (normal object) (normal expression)

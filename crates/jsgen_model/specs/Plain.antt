@@ -29,6 +29,9 @@ abbrev mutual
   IsPlain (tree.parenthesized a expression) = IsPlain expression
   IsPlain (tree.binary a left right) = IsPlain left × IsPlain right
   IsPlain (tree.logical a left right) = IsPlain left × IsPlain right
+  IsPlain (tree.block a body) = ArePlain body
+  IsPlain (tree.if_statement a test consequent alternate) = IsPlain test × IsPlain consequent × IsPlainIfGiven alternate
+  IsPlain (tree.empty_statement a) = ⊤
   IsPlain (tree.identifier_name a) = ⊤
   IsPlain (tree.static_member a object property) = IsPlain object × IsPlain property
   IsPlain (tree.computed_member a object expression) = IsPlain object × IsPlain expression

@@ -9,12 +9,12 @@ use Rattle.jsgen_syntax.specs.declared.operator.BinaryOperator.{BinaryOperator}
 use Rattle.jsgen_syntax.specs.declared.operator.BinaryOperator.TheVariants as operators
 use Rattle.jsgen_syntax.specs.declared.operator.LogicalOperator.{LogicalOperator}
 use Rattle.jsgen_syntax.specs.declared.operator.LogicalOperator.TheVariants as logical_operators
-use Rattle.jsgen_tree.specs.Table.{without_parentheses}
+use Rattle.jsgen_tree.specs.Table.{without_parentheses, ends_open}
 use Rattle.jsgen_tree.specs.Words.{declaration_word}
 use Rattle.jsgen_tree.specs.Tree.{Tree, Maybe, absent, given, Trees, no_trees, more, hole, text_in, units_in, digits_in, declaration_kind_in, operator_in, logical_operator_in}
 use Rattle.jsgen_tree.specs.Tree as tree
-use Rattle.jsgen_model.specs.Punctuator.{comma, equal, plus, minus, star, slash, percent, star_star, equal_equal, not_equal, equal_equal_equal, not_equal_equal, less, less_equal, greater, greater_equal, shift_left, shift_right, shift_right_zero, bit_and, bit_or, bit_xor, and_and, or_or, nullish, Round, Square}
-use Rattle.jsgen_model.specs.Items.{Items, nothing, ◌⊕◌, word, name, number, string, first_string, punctuator, operator, member_dot, brackets, soft_space, indentation, wrapped, statement_end, due_semicolon, statement_begins}
+use Rattle.jsgen_model.specs.Punctuator.{comma, semicolon, equal, plus, minus, star, slash, percent, star_star, equal_equal, not_equal, equal_equal_equal, not_equal_equal, less, less_equal, greater, greater_equal, shift_left, shift_right, shift_right_zero, bit_and, bit_or, bit_xor, and_and, or_or, nullish, Round, Square, Brace}
+use Rattle.jsgen_model.specs.Items.{Items, nothing, ◌⊕◌, word, name, number, string, first_string, punctuator, operator, member_dot, brackets, soft_space, soft_line, hard_space, body_space, deeper, indentation, wrapped, statement_end, due_semicolon, drop_semicolon, statement_begins}
 use Rattle.jsgen_model.specs.Layout.{Start, nowhere, statement, unless_printed, Style, layout, empty_pen}
 
 -- what an expression's surroundings forbid
@@ -40,6 +40,10 @@ free = record { forbids_in = false; forbids_call = false }
 -- a statement's place
 abbrev pub among_statements : Place
 among_statements = record { level = Lowest; context = free; start = nowhere; in_list = true; left_operand = false }
+
+-- the place of a block or an `if` that goes on with a line
+abbrev pub within_statement : Place
+within_statement = record among_statements { in_list = false }
 
 -- the expression of an expression statement
 abbrev pub whole_statement : Place
@@ -188,6 +192,62 @@ unless_string None items = items
 abbrev pub first_statement : Tree → Items → Items
 first_statement t items = unless_string (string_statement t) items
 
+-- ---- blocks and bodies
+
+abbrev pub among_or_within : Bool → Items → Items
+among_or_within true items = indentation ⊕ items
+among_or_within false items = items
+
+-- braces round statements, one level deeper; in empty ones stands nothing. A semicolon that is left is dropped
+abbrev pub filled_braces : Items → Items
+filled_braces items = brackets Brace (soft_line ⊕ (deeper items ⊕ indentation)) ⊕ drop_semicolon
+
+abbrev pub braces : Trees → Items → Items
+braces no_trees items = brackets Brace nothing ⊕ drop_semicolon
+braces ts items = filled_braces items
+
+-- a block among statements is a line of its own
+abbrev pub block_items : Bool → Items → Items
+block_items true items = indentation ⊕ (items ⊕ soft_line)
+block_items false items = items
+
+pub data Shape : Type 0 where
+  a_block an_if an_empty other : Shape
+
+abbrev pub shape : Tree → Shape
+shape (tree.block a body) = a_block
+shape (tree.if_statement a test consequent alternate) = an_if
+shape (tree.empty_statement a) = an_empty
+shape t = other
+
+-- behind braces, and behind another body: whether `else` follows
+abbrev pub braces_end : Bool → Items
+braces_end true = soft_space
+braces_end false = soft_line
+
+abbrev pub body_end : Bool → Items
+body_end true = indentation
+body_end false = nothing
+
+-- What `if` is followed by: within what is around it, or as it stands among statements. Where it ends in an `if` without
+-- `else`, it stands in braces
+abbrev pub consequent_items : Shape → Bool → Items → Items → Bool → Items
+consequent_items a_block false inner whole else_follows = soft_space ⊕ (inner ⊕ braces_end else_follows)
+consequent_items an_empty false inner whole else_follows = punctuator semicolon ⊕ (soft_line ⊕ body_end else_follows)
+consequent_items s false inner whole else_follows = body_space ⊕ (whole ⊕ body_end else_follows)
+consequent_items s true inner whole else_follows = soft_space ⊕ (filled_braces whole ⊕ braces_end else_follows)
+
+-- what `else` is followed by
+abbrev pub alternate_items : Shape → Items → Items → Items
+alternate_items a_block inner whole = soft_space ⊕ (inner ⊕ soft_line)
+alternate_items an_if inner whole = hard_space ⊕ inner
+alternate_items an_empty inner whole = punctuator semicolon ⊕ soft_line
+alternate_items other inner whole = body_space ⊕ whole
+
+abbrev pub is_given : Maybe → Bool
+is_given absent = false
+is_given (given t) = true
+
 -- ---- the whole
 
 abbrev mutual
@@ -209,6 +269,12 @@ abbrev mutual
       operation (logical_wraps (logical_operator_in a.values) place) (logical_item (logical_operator_in a.values))
       (spell left (left_of (unmixed (logical_operator_in a.values) left (logical_lower_level (logical_operator_in a.values))) (within (logical_wraps (logical_operator_in a.values) place) place)))
       (spell right (behind (unmixed (logical_operator_in a.values) right (logical_level (logical_operator_in a.values))) (within (logical_wraps (logical_operator_in a.values) place) place)))
+  spell (tree.block a body) place = block_items place.in_list (braces body (spell_statements body))
+  spell (tree.if_statement a test consequent alternate) place =
+      among_or_within place.in_list (word (codes "if") ⊕ (soft_space ⊕ (brackets Round (spell test (in_brackets Lowest))
+      ⊕ (consequent_items (shape consequent) (ends_open consequent) (spell consequent within_statement) (spell consequent among_statements) (is_given alternate)
+      ⊕ spell_alternate alternate))))
+  spell (tree.empty_statement a) place = indentation ⊕ (punctuator semicolon ⊕ soft_line)
   spell (tree.identifier_name a) place = name (text_in a.values)
   spell (tree.static_member a object property) place = spell object (linked place) ⊕ (member_dot ⊕ spell property (behind Lowest place))
   spell (tree.computed_member a object expression) place = spell object (linked place) ⊕ brackets Square (spell expression (in_brackets Lowest))
@@ -238,6 +304,11 @@ abbrev mutual
   spell_more no_trees place = nothing
   spell_more (more t ts) place = punctuator comma ⊕ (soft_space ⊕ (spell t place ⊕ spell_more ts place))
   spell_more (hole ts) place = spell_more ts place
+
+  -- `else`, behind the semicolon that the consequent may have left
+  pub spell_alternate : Maybe → Items
+  spell_alternate absent = nothing
+  spell_alternate (given t) = due_semicolon ⊕ (word (codes "else") ⊕ alternate_items (shape t) (spell t within_statement) (spell t among_statements))
 
   -- the value of a declarator
   pub spell_value : Maybe → Place → Items

@@ -45,6 +45,18 @@ abbrev pub declaration_faults : Span → Trees → List TreeFault
 declaration_faults s no_trees = faults.Place s.start ∷ []
 declaration_faults s ts = []
 
+-- what `if` and `else` are followed by is no lexical declaration (ECMA-262, 14.6)
+abbrev pub is_lexical : Tree → Bool
+is_lexical (tree.variable_declaration a declarations) = true
+is_lexical t = false
+
+abbrev pub body_faults : Tree → List TreeFault
+body_faults t = fault_if (is_lexical t) (faults.Place (span_of t).start)
+
+abbrev pub alternate_faults : Maybe → List TreeFault
+alternate_faults absent = []
+alternate_faults (given t) = body_faults t
+
 -- offsets of the source don't fit 32 bits
 abbrev pub is_too_long : List ℕ → Bool
 is_too_long source = nat_lt 4294967295 (length (encode_utf8_all source))
@@ -72,16 +84,17 @@ abbrev mutual
   greatest_height (more t ts) = max (height t) (greatest_height ts)
   greatest_height (hole ts) = greatest_height ts
 
--- the level of indentation of pretty text, from 0 on, could pass 32 bits
-abbrev pub indent_faults : Tree → List TreeFault
-indent_faults t = fault_if (nat_lt 4294967295 (height t)) (faults.Indent (span_of t).start)
+-- the level of indentation, from 0 on, could pass 32 bits; minified text has none
+abbrev pub indent_faults : Bool → Tree → List TreeFault
+indent_faults minified t = fault_if (if minified then false else nat_lt 4294967295 (height t)) (faults.Indent (span_of t).start)
 
 -- a row's rules of its own
 abbrev pub own_faults : Tree → List TreeFault
-own_faults (tree.program a body) = source_faults a ++ indent_faults (tree.program a body)
+own_faults (tree.program a body) = source_faults a
 own_faults (tree.variable_declaration a declarations) = declaration_faults a.span declarations
 own_faults (tree.binding_identifier a) = name_faults a
 own_faults (tree.identifier_reference a) = name_faults a
+own_faults (tree.if_statement a test consequent alternate) = body_faults consequent ++ alternate_faults alternate
 own_faults (tree.string_literal a) = string_faults a
 own_faults (tree.identifier_name a) = written_name_faults a
 own_faults t = []
@@ -101,7 +114,7 @@ other_sets (s ∷ ss) = ss
 -- ---- the whole
 
 abbrev mutual
-  -- its span, its own rules, and its children, each of the set of its field
+  -- what is asked of every text: its span, its own rules, and its children, each of the set of its field
   pub breaches : Tree → List TreeFault
   breaches (node type a slots) = span_faults a.span ++ own_faults (node type a slots) ++ in_slots (child_sets (fields type)) slots
 
@@ -120,9 +133,13 @@ abbrev mutual
   in_trees sets (more t ts) = head_set_faults sets t ++ breaches t ++ in_trees sets ts
   in_trees sets (hole ts) = in_trees sets ts
 
+-- all that a program breaks whose text is minified or not
+abbrev pub program_breaches : Bool → Tree → List TreeFault
+program_breaches minified t = breaches t ++ indent_faults minified t
+
 -- no rule is broken
-abbrev pub IsValid : Tree → Type 0
-IsValid t = breaches t ≡ []
+abbrev pub IsValid : Bool → Tree → Type 0
+IsValid minified t = program_breaches minified t ≡ []
 
 -- Ok where no rule is broken, else one that is
 abbrev pub Judges : List TreeFault → Result (Unit {0}) TreeFault → Type 0

@@ -1,26 +1,25 @@
 //! Print functions: one for each row, generic in the tree's recursive type, and one impl that ties the knot.
 #![tactic(auto)]
 
+mod blocks;
 mod expressions;
 mod links;
-#[cfg(test)]
-mod links_tests;
 mod operands;
 mod place;
 mod sets;
+mod shapes;
 mod statements;
 mod strings;
-#[cfg(test)]
-mod tests;
 
 ghost use Rattle.std.specs.Prelude.{◌≡◌, OnOk, option_map};
 ghost use Rattle.jsgen_syntax.specs.Units.{js_units};
 ghost use Rattle.jsgen_tree.specs.Tree.{Tree};
-ghost use Rattle.jsgen_tree.specs.Table.{without_parentheses};
+ghost use Rattle.jsgen_tree.specs.Table.{without_parentheses, ends_open};
 ghost use Rattle.jsgen_tree.specs.Plain.{node_plain};
-ghost use Rattle.jsgen_model.specs.Spell.{string_in, string_statement};
+ghost use Rattle.jsgen_model.specs.Spell.{string_in, string_statement, shape};
 ghost use Rattle.jsgen_printer.specs.Printer.{pen_of};
 ghost use Rattle.jsgen_nodes.specs.Place.{pen_after, operand_of};
+ghost use Rattle.jsgen_nodes.specs.Blocks.{shape_of};
 
 use jsgen_printer::Printer;
 use jsgen_syntax::{JsStr, Memory};
@@ -31,6 +30,11 @@ use operands::{
 };
 pub use place::{Context, Place};
 use sets::{print_binding_pattern, print_declaration, print_expression, print_statement};
+pub use shapes::Shape;
+use shapes::{
+    binding_pattern_ends_open, binding_pattern_shape, declaration_ends_open, declaration_shape,
+    expression_ends_open, expression_shape, statement_ends_open, statement_shape,
+};
 pub use statements::print_program;
 use strings::{
     binding_pattern_as_statement, binding_pattern_string, declaration_as_statement,
@@ -56,6 +60,14 @@ pub trait PrintNode {
     /// The string that is the whole of it as a statement.
     fn string_statement(&self) -> Option<&JsStr>
         ensures { option_map (λ v. js_units v.now) result ≡ string_statement (plain self.now) };
+
+    /// What it is as what `if` or `else` is followed by.
+    fn shape(&self) -> Shape
+        ensures { shape_of result ≡ shape (plain self.now) };
+
+    /// Whether it ends in an `if` without `else`.
+    fn ends_open(&self) -> bool
+        ensures { result ≡ ends_open (plain self.now) };
 }
 
 /// The knot: the one recursion.
@@ -99,6 +111,26 @@ impl PrintNode for Node {
             Node::Statement(node) => statement_as_string(node),
             Node::Declaration(node) => declaration_as_statement(node),
             Node::BindingPattern(node) => binding_pattern_as_statement(node),
+        }
+    }
+
+    #[cycle(node)]
+    fn shape(&self) -> Shape {
+        match self {
+            Node::Expression(node) => expression_shape(node),
+            Node::Statement(node) => statement_shape(node),
+            Node::Declaration(node) => declaration_shape(node),
+            Node::BindingPattern(node) => binding_pattern_shape(node),
+        }
+    }
+
+    #[cycle(node)]
+    fn ends_open(&self) -> bool {
+        match self {
+            Node::Expression(node) => expression_ends_open(node),
+            Node::Statement(node) => statement_ends_open(node),
+            Node::Declaration(node) => declaration_ends_open(node),
+            Node::BindingPattern(node) => binding_pattern_ends_open(node),
         }
     }
 }

@@ -76,6 +76,9 @@ pub fn statement_operand<N: PrintNode>(node: &Statement<N>) -> Operand
     match node {
         Statement::Declaration(node) => node.get().operand(),
         Statement::ExpressionStatement(_) => Operand::OTHER,
+        Statement::BlockStatement(_) => Operand::OTHER,
+        Statement::IfStatement(_) => Operand::OTHER,
+        Statement::EmptyStatement(_) => Operand::OTHER,
     }
 }
 

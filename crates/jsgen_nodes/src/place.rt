@@ -41,6 +41,14 @@ impl Place {
         left_operand: false,
     };
 
+    /// A block or an `if` that goes on with a line.
+    pub const WITHIN_STATEMENT: Place = Place {
+        level: Precedence::Lowest,
+        context: Context::FREE,
+        in_list: false,
+        left_operand: false,
+    };
+
     /// The expression of an expression statement.
     pub const WHOLE_STATEMENT: Place = Place {
         level: Precedence::Lowest,

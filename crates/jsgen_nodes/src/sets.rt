@@ -4,6 +4,7 @@ ghost use Rattle.jsgen_tree.specs.Rows.{expression_plain, statement_plain, decla
 ghost use Rattle.jsgen_printer.specs.Printer.{pen_of};
 ghost use Rattle.jsgen_nodes.specs.Place.{pen_after};
 
+use crate::blocks::{print_block_statement, print_empty_statement, print_if_statement};
 use crate::expressions::{
     print_binary_expression, print_identifier_reference, print_logical_expression,
     print_numeric_literal, print_parenthesized_expression, print_string_literal,
@@ -51,6 +52,9 @@ pub fn print_statement<N: PrintNode>(
     match node {
         Statement::Declaration(node) => node.get().print(p, place),
         Statement::ExpressionStatement(node) => print_expression_statement(node, p, place),
+        Statement::BlockStatement(node) => print_block_statement(node, p, place),
+        Statement::IfStatement(node) => print_if_statement(node, p, place),
+        Statement::EmptyStatement(node) => print_empty_statement(node, p, place),
     }
 }
 

@@ -60,7 +60,7 @@ fn print_first_statement<N: PrintNode>(statement: &N, p: &mut Printer) -> Result
 }
 
 #[tactic(auto, unfolding(crate::specs::Place::pen_after))]
-fn print_statements<N: PrintNode>(
+pub fn print_statements<N: PrintNode>(
     statements: &[StatementNode<N>],
     p: &mut Printer,
 ) -> Result<(), Memory>

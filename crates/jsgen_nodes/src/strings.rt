@@ -32,6 +32,9 @@ pub fn statement_string<N: PrintNode>(node: &Statement<N>) -> Option<&JsStr>
     match node {
         Statement::Declaration(node) => node.get().string(),
         Statement::ExpressionStatement(_) => None,
+        Statement::BlockStatement(_) => None,
+        Statement::IfStatement(_) => None,
+        Statement::EmptyStatement(_) => None,
     }
 }
 
@@ -92,5 +95,8 @@ pub fn statement_as_string<N: PrintNode>(node: &Statement<N>) -> Option<&JsStr>
     match node {
         Statement::Declaration(node) => node.get().string_statement(),
         Statement::ExpressionStatement(node) => node.expression.get().string(),
+        Statement::BlockStatement(_) => None,
+        Statement::IfStatement(_) => None,
+        Statement::EmptyStatement(_) => None,
     }
 }

@@ -5,7 +5,7 @@ use Rattle.std.specs.Str.{chars}
 use Rattle.jsgen_syntax.specs.Buffer.{buffer_bytes, indent_byte, indent_width}
 use Rattle.jsgen_model.specs.Punctuator as punctuators
 use Rattle.jsgen_model.specs.Layout as layouts
-use Rattle.jsgen_model.specs.Layout.{Pen, ends_in_word, joins}
+use Rattle.jsgen_model.specs.Layout.{Pen, ends_in_word, joins, deeper_level}
 use Rattle.jsgen_model.specs.Items.{Items, word, operator}
 use Rattle.jsgen_model.specs.Spell.{operator_item}
 use Rattle.jsgen_printer.specs.declared.printer.Printer.{Printer}
@@ -30,6 +30,7 @@ stands_apart item pen = false
 abbrev pub bracket_of : Bracket → punctuators.Bracket
 bracket_of brackets.Round = punctuators.Round
 bracket_of brackets.Square = punctuators.Square
+bracket_of brackets.Brace = punctuators.Brace
 
 abbrev pub ending_of : Ending → layouts.Ending
 ending_of endings.Other = layouts.other_end
@@ -51,6 +52,13 @@ pen_of p = record {
   ending = ending_of p.ending;
   start = start_of p.start;
 }
+
+-- the pen one level deeper, and at a level
+abbrev pub deepened : Pen → Pen
+deepened pen = record pen { depth = deeper_level pen.style.minified pen.depth }
+
+abbrev pub at_depth : ℕ → Pen → Pen
+at_depth depth pen = record pen { depth = depth }
 
 -- each byte of the text is ASCII
 abbrev pub is_ascii : List ℕ → Bool

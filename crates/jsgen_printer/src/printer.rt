@@ -1,10 +1,11 @@
 // What has been printed so far, and the steps by which it goes on. Each step is an item of the layout.
-ghost use Rattle.std.specs.Prelude.{◌≡◌, ◌^◌, ◌<◌, ◌*◌};
+ghost use Rattle.std.specs.Prelude.{◌≡◌, ◌^◌, ◌≤◌, ◌*◌};
 ghost use Rattle.jsgen_syntax.specs.Buffer.{indent_width};
 ghost use Rattle.jsgen_syntax.specs.Name.{goes_in_word};
 
 use jsgen_syntax::{BinaryOperator, CodeBuffer, IndentChar, JsStr, LogicalOperator, Memory, Quote};
 use jsgen_text::{cheapest_quote, print_string_text};
+use jsgen_tree::CodegenOptions;
 use std::alloc::Global;
 
 /// What the code so far ends in, as far as it matters to what follows.
@@ -29,6 +30,7 @@ pub enum Start {
 pub enum Bracket {
     Round,
     Square,
+    Brace,
 }
 
 /// A text that is being printed.
@@ -42,29 +44,30 @@ pub struct Printer {
     pending_semicolon: bool,
     ending: Ending,
     start: Start,
-    ghost indents: { depth * indent_width code < 2 ^ 64 },
+    ghost indents: { indent_width code ≤ 2 ^ 32 },
 }
 
 #[tactic(auto, using(crate::proofs::Texts::ascii_chars), unfolding(crate::specs::Printer::pen_of))]
 impl Printer {
-    ghost use Rattle.std.specs.Prelude.{OnOk, ◌++◌, decimal, replicate, string_bytes, true, IsTrue};
+    ghost use Rattle.std.specs.Prelude.{OnOk, IfOk, ◌++◌, decimal, replicate, string_bytes, true, IsTrue};
     ghost use Rattle.std.specs.Str.{chars, encode_utf8_all};
-    ghost use Rattle.jsgen_model.specs.Punctuator.{Round, opening, closing, comma, equal, plus, minus};
-    ghost use Rattle.jsgen_model.specs.Items.{word, name, number, string, first_string, member_dot, punctuator, soft_space, indentation, statement_end, due_semicolon, statement_begins};
-    ghost use Rattle.jsgen_model.specs.Layout.{layout, written, written_if, other_end, space_if, ends_in_word, joins, dot_joins, indented, chosen_quote, string_text, pretty, empty_pen};
+    ghost use Rattle.jsgen_model.specs.Punctuator.{Round, opening, closing, comma, semicolon, equal, plus, minus};
+    ghost use Rattle.jsgen_model.specs.Items.{word, name, number, string, first_string, member_dot, punctuator, soft_space, soft_line, hard_space, indentation, body_space, statement_end, due_semicolon, drop_semicolon, statement_begins};
+    ghost use Rattle.jsgen_model.specs.Layout.{layout, written, written_if, other_end, space_if, ends_in_word, joins, dot_joins, indented, chosen_quote, string_text, deeper_level, empty_pen, style_of};
     ghost use Rattle.jsgen_syntax.specs.Buffer.{indent_byte};
+    ghost use Rattle.jsgen_tree.specs.Options.{options_plain};
     ghost use Rattle.jsgen_syntax.specs.Units.{js_units};
     ghost use Rattle.jsgen_syntax.specs.Strings.{quoted, is_plain_string};
     ghost use Rattle.jsgen_model.specs.Spell.{operator_item, logical_item};
-    ghost use Rattle.jsgen_printer.specs.Printer.{bracket_of, pen_of, ending_of, stands_apart, is_ascii};
+    ghost use Rattle.jsgen_printer.specs.Printer.{bracket_of, pen_of, ending_of, stands_apart, is_ascii, deepened, at_depth};
 
-    /// A printer of pretty text that has printed nothing.
-    pub fn new(alloc: Global) -> Printer
-        ensures { pen_of result ≡ empty_pen pretty 0 }
+    /// A printer that has printed nothing.
+    pub fn new(alloc: Global, options: &CodegenOptions) -> Printer
+        ensures { pen_of result ≡ empty_pen (style_of (options_plain options.now)) 0 }
     {
         Printer {
             code: CodeBuffer::with_indent(alloc, IndentChar::Tab, 1),
-            minify: false,
+            minify: options.minify,
             quote: Quote::Double,
             depth: 0,
             pending_space: false,
@@ -224,6 +227,7 @@ impl Printer {
         match bracket {
             Bracket::Round => self.print_str("(", Ending::Other),
             Bracket::Square => self.print_str("[", Ending::Other),
+            Bracket::Brace => self.print_str("{", Ending::Other),
         }
     }
 
@@ -233,6 +237,7 @@ impl Printer {
         match bracket {
             Bracket::Round => self.print_str(")", Ending::Other),
             Bracket::Square => self.print_str("]", Ending::Other),
+            Bracket::Brace => self.print_str("}", Ending::Other),
         }
     }
 
@@ -253,6 +258,12 @@ impl Printer {
         ensures { OnOk result (pen_of self.new ≡ layout (punctuator comma) (pen_of self.old)) }
     {
         self.print_str(",", Ending::Other)
+    }
+
+    pub fn print_semicolon(&mut self) -> Result<(), Memory>
+        ensures { OnOk result (pen_of self.new ≡ layout (punctuator semicolon) (pen_of self.old)) }
+    {
+        self.print_str(";", Ending::Other)
     }
 
     pub fn print_equal(&mut self) -> Result<(), Memory>
@@ -278,6 +289,18 @@ impl Printer {
         ensures { OnOk result (pen_of self.new ≡ layout soft_space (pen_of self.old)) }
     {
         self.print_if(!self.minify, " ")
+    }
+
+    pub fn print_soft_line(&mut self) -> Result<(), Memory>
+        ensures { OnOk result (pen_of self.new ≡ layout soft_line (pen_of self.old)) }
+    {
+        self.print_if(!self.minify, "\n")
+    }
+
+    pub fn print_hard_space(&mut self) -> Result<(), Memory>
+        ensures { OnOk result (pen_of self.new ≡ layout hard_space (pen_of self.old)) }
+    {
+        self.print_str(" ", Ending::Other)
     }
 
     pub fn print_indentation(&mut self) -> Result<(), Memory>
@@ -311,6 +334,44 @@ impl Printer {
         Ok(())
     }
 
+    /// One space is to stand in place of the next indentation.
+    pub fn begin_body(&mut self)
+        ensures { pen_of self.new ≡ layout body_space (pen_of self.old) }
+    {
+        self.pending_space = true;
+    }
+
+    // The level below the present one; minified text has no levels.
+    fn deeper_level(&self) -> Result<u32, Memory>
+        ensures { IfOk result (λ depth. depth ≡ deeper_level (pen_of self.now).style.minified (pen_of self.now).depth) }
+    {
+        if self.minify {
+            Ok(self.depth)
+        } else if self.depth < u32::MAX {
+            Ok(self.depth + 1)
+        } else {
+            Err(Memory)
+        }
+    }
+
+    /// What follows stands one level deeper; gives the level before. Behind the last level of 32 bits this is want of
+    /// memory: no tree that keeps the rules is so deep.
+    pub fn deepen(&mut self) -> Result<u32, Memory>
+        ensures level { IfOk result (λ depth. depth ≡ (pen_of self.old).depth) }
+        ensures pen { OnOk result (pen_of self.new ≡ deepened (pen_of self.old)) }
+    {
+        let depth = self.depth;
+        self.depth = self.deeper_level()?;
+        Ok(depth)
+    }
+
+    /// What follows stands at this level.
+    pub fn set_depth(&mut self, depth: u32)
+        ensures { pen_of self.new ≡ at_depth depth (pen_of self.old) }
+    {
+        self.depth = depth;
+    }
+
     pub fn print_statement_end(&mut self) -> Result<(), Memory>
         ensures { OnOk result (pen_of self.new ≡ layout statement_end (pen_of self.old)) }
     {
@@ -329,6 +390,13 @@ impl Printer {
         self.pending_semicolon = false;
         self.start = Start::Nowhere;
         Ok(())
+    }
+
+    /// A semicolon that is due is never printed.
+    pub fn drop_semicolon(&mut self)
+        ensures { pen_of self.new ≡ layout drop_semicolon (pen_of self.old) }
+    {
+        self.pending_semicolon = false;
     }
 
     pub fn begin_statement(&mut self)

@@ -7,28 +7,27 @@ use Rattle.jsgen_syntax.specs.declared.quote.Quote.{Quote}
 use Rattle.jsgen_syntax.specs.declared.quote.Quote.TheVariants.{Backtick}
 use Rattle.jsgen_syntax.specs.declared.operator.BinaryOperator.{BinaryOperator}
 use Rattle.jsgen_syntax.specs.declared.operator.BinaryOperator.TheVariants as operators
-use Rattle.jsgen_syntax.specs.declared.precedence.Precedence.TheVariants as levels
 use Rattle.jsgen_syntax.proofs.Strings.{escaped_value}
 use Rattle.jsgen_tree.specs.Table.{without_parentheses}
-use Rattle.jsgen_tree.specs.Tree.{Tree, Trees, more, Atoms, atoms_of, units, units_in}
+use Rattle.jsgen_tree.specs.Tree.{Tree, Trees, absent, given, more, Atoms, atoms_of, units, units_in}
 use Rattle.jsgen_tree.specs.Tree as tree
 use Rattle.jsgen_model.specs.Punctuator.{dot, star_star, and_and, or_or, nullish, semicolon, Round, Square, opening, closing}
 use Rattle.jsgen_model.specs.Tokens.{Tokens, done, piece, group, ◌⧺◌, Quoted, Sign}
-use Rattle.jsgen_model.specs.Items.{Items, ◌⊕◌, first_string, indentation, statement_begins, statement_end, due_semicolon}
+use Rattle.jsgen_model.specs.Items.{Items, ◌⊕◌, first_string, indentation, statement_end, due_semicolon}
 use Rattle.jsgen_model.specs.Layout.{Pen, layout, written, other_end, string_text}
-use Rattle.jsgen_model.specs.Grammar.{Allowed, Level, ReadsExpression, ReadsUnended, operator_piece, starts_with_directive}
+use Rattle.jsgen_model.specs.Grammar.{Allowed, Level, ReadsExpression, ReadsUnended, ReadsStatement, operator_piece, starts_with_directive}
 use Rattle.jsgen_model.specs.Grammar as grammar
 use Rattle.jsgen_model.specs.Normal.{normal, bare}
-use Rattle.jsgen_model.specs.Spell.{spell, spell_statements, string_in, unless_string, first_statement, among_statements, whole_statement, behind}
+use Rattle.jsgen_model.specs.Spell.{spell, spell_statements, string_in, unless_string, first_statement, among_statements, whole_statement}
 use Rattle.jsgen_lexing.proofs.Last.{Last, Open, After, line_of, Ready, Knows}
 use Rattle.jsgen_lexing.proofs.Writes.{wrote_brackets, then_assoc}
-use Rattle.jsgen_lexing.proofs.Steps.{indentation_written, none_due, wrote_quoted, within_brackets}
+use Rattle.jsgen_lexing.proofs.Steps.{gap, indentation_written, none_due, wrote_quoted, within_brackets}
 use Rattle.jsgen_reading.proofs.Levels.{from_primary}
 use Rattle.jsgen_reading.proofs.Families.{IsExpression, IsStatement, AreStatements}
 use Rattle.jsgen_reading.proofs.Families as family
 use Rattle.jsgen_reading.proofs.Chains.{an_expression}
-use Rattle.jsgen_reading.proofs.Expressions.{printed_expression}
-use Rattle.jsgen_reading.proofs.Statements.{GoodUnended, GoodStatement, GoodRow, UnendedAt, RestStated, ended_so, good_ended, soft_before, expression_unended, declaration_unended, declaration_items, listed, row_parts}
+use Rattle.jsgen_reading.proofs.Statements.{Ends, GoodUnended, GoodStatement, GoodRow, UnendedAt, RestStated, Stated, ended_so, good_ended, soft_before, row_parts}
+use Rattle.jsgen_reading.proofs.Blocks.{stated}
 
 abbrev is_string : Tree → Bool
 is_string (tree.string_literal a) = true
@@ -149,10 +148,25 @@ first_from c items t f h p l z y k =
     let p1 : Pen = layout indentation p in
     let q : Pen = layout items p1 in
     let g = f p1 i.last (i.semicolon ∙ z) (i.ready y) i.writes.knows in
-    record { statement = soft_before i (good_ended g); apart = ended_apart q.style.minified g (h p1 i.last (i.semicolon ∙ z) (i.ready y) i.writes.knows) }
+    record { statement = soft_before (gap i) (good_ended g); apart = ended_apart q.style.minified g (h p1 i.last (i.semicolon ∙ z) (i.ready y) i.writes.knows) }
 
-no_string_first : (c : Allowed) (items : Items) (t : Tree) (f : UnendedAt c items t) → is_string_statement (normal t) ≡ false → FirstAt c (indentation ⊕ (items ⊕ statement_end)) t
-no_string_first c items t f n = first_from c items t f (λ p l z y k. let g = f p l z y k in unended_apart g.reads (ap is_string_statement g.same ∙ n))
+statement_apart : {c : Allowed} {last : Bool} {ts : Tokens} {u : Tree} → ReadsStatement c last ts u → is_string_statement (normal u) ≡ false → Apart ts
+statement_apart (grammar.ended {a = a} m e r) n x = subst (λ ts. starts_with_directive (ts ⧺ x) ≡ false) (sym e) (subst (λ ts. starts_with_directive ts ≡ false) (sym (then_assoc a (piece m (Sign semicolon) done) x)) (unended_apart r n (piece m (Sign semicolon) x)))
+statement_apart grammar.an_empty_statement n x = refl
+statement_apart (grammar.a_block r) n x = refl
+statement_apart (grammar.an_if r s y) n x = refl
+statement_apart (grammar.an_if_with_else k e r s y o u z) n x = refl
+statement_apart (grammar.ended_by_brace r) n x = unended_apart r n x
+
+ends_apart : (c : Allowed) (b : Bool) (ts : Tokens) (u : Tree) → Ends c b ts u → is_string_statement (normal u) ≡ false → Apart ts
+ends_apart c true ts u r n = statement_apart r.0 n
+ends_apart c false ts u r n = statement_apart r n
+
+no_string_first : (c : Allowed) (t : Tree) → Stated c t → is_string_statement (normal t) ≡ false → FirstAt c (spell t among_statements) t
+no_string_first c t f n p l z y k =
+    let g = f p l z y k in
+    let q : Pen = layout (spell t among_statements) p in
+    record { statement = g; apart = ends_apart c q.pending_semicolon g.tokens g.tree g.reads (ap is_string_statement g.same ∙ n) }
 
 -- ---- a string alone
 
@@ -210,6 +224,8 @@ string_written c a e us h s p l z k = go p.style.minified
         tree = tree.expression_statement (bare []) (tree.string_literal (bare (units us ∷ [])));
         reads = grammar.an_expression refl (from_primary whole_statement (grammar.a_string (escaped_value Backtick us h)));
         same = ap (λ x. tree.expression_statement (bare []) x) (sym s);
+        dangling = refl;
+        lexical = refl;
       };
       apart = λ r. in_backticks r;
     }
@@ -234,6 +250,8 @@ string_written c a e us h s p l z k = go p.style.minified
             tree = tree.expression_statement (bare []) (tree.parenthesized (bare []) (tree.string_literal (bare (units us ∷ []))));
             reads = grammar.an_expression refl (from_primary whole_statement (grammar.in_parentheses (from_primary whole_statement (grammar.a_string (escaped_value q us h)))));
             same = ap (λ x. tree.expression_statement (bare []) x) (sym s);
+            dangling = refl;
+            lexical = refl;
           };
           apart = λ x. refl;
         }
@@ -247,12 +265,16 @@ first_string_at c a e us h s = first_from c (first_string us) (tree.expression_s
 -- ---- the first statement of a body
 
 first_stated : {c : Allowed} {t : Tree} → IsStatement c t → FirstAt c (first_statement t (spell t among_statements)) t
-first_stated {c} (family.a_declaration {a} {ds} v) = no_string_first c (declaration_items a ds) (tree.variable_declaration a ds) (declaration_unended c a ds (listed v (behind levels.Lowest among_statements)).0) refl
 first_stated {c} (family.an_expression {a} {e} v) = go (string_in (without_parentheses e)) refl
   where
     go : (o : Option (List ℕ)) → string_in (without_parentheses e) ≡ o → FirstAt c (unless_string o (spell (tree.expression_statement a e) among_statements)) (tree.expression_statement a e)
     go (Some us) s = let k = string_inside v us s in first_string_at c a e us k.0 k.1
-    go None s = no_string_first c (statement_begins ⊕ spell e whole_statement) (tree.expression_statement a e) (expression_unended c a e (printed_expression v)) (strings_so v ∙ ap is_some s)
+    go None s = no_string_first c (tree.expression_statement a e) (stated (family.an_expression v)) (strings_so v ∙ ap is_some s)
+first_stated {c} (family.a_declaration {a} {ds} v) = no_string_first c (tree.variable_declaration a ds) (stated (family.a_declaration v)) refl
+first_stated {c} (family.an_empty_statement {a}) = no_string_first c (tree.empty_statement a) (stated (family.an_empty_statement {a = a})) refl
+first_stated {c} (family.a_block {a} {ss} v) = no_string_first c (tree.block a ss) (stated (family.a_block v)) refl
+first_stated {c} (family.an_if {a} {t} {s} v w x) = no_string_first c (tree.if_statement a t s absent) (stated (family.an_if v w x)) refl
+first_stated {c} (family.an_if_with_else {a} {t} {s} {u} v w x y z) = no_string_first c (tree.if_statement a t s (given u)) (stated (family.an_if_with_else v w x y z)) refl
 
 -- a body that has a first statement
 pub record FirstRow (p : Pen) (l : Last) (q : Pen) (c : Allowed) (ss : Trees) : Type 0 where

@@ -17,7 +17,7 @@ use Rattle.jsgen_model.specs.Grammar.{Allowed, in_module}
 use Rattle.jsgen_model.specs.Plain.{IsPlain, IsPlainIfGiven, ArePlain, is_whole}
 use Rattle.jsgen_model.specs.Normal.{number_text}
 use Rattle.jsgen_model.specs.Valid as valid
-use Rattle.jsgen_model.specs.Valid.{breaches, in_slots, in_maybe, in_trees, fault_if, is_free_name, place_faults, head_set_faults, span_faults, own_faults, name_faults, string_faults, written_name_faults, declaration_faults, source_faults, indent_faults}
+use Rattle.jsgen_model.specs.Valid.{breaches, in_slots, in_maybe, in_trees, fault_if, is_free_name, place_faults, head_set_faults, span_faults, own_faults, is_lexical, body_faults, alternate_faults, name_faults, string_faults, written_name_faults, declaration_faults, source_faults, indent_faults, IsValid}
 use Rattle.jsgen_reading.proofs.Numbers.{decimal_whole}
 
 mutual
@@ -53,6 +53,10 @@ mutual
   pub data IsStatement : Allowed → Tree → Type 0 where
     a_declaration : {c : Allowed} {a : Atoms} {ds : Trees} → AreDeclarators c ds → IsStatement c (tree.variable_declaration a ds)
     an_expression : {c : Allowed} {a : Atoms} {e : Tree} → IsExpression c e → IsStatement c (tree.expression_statement a e)
+    an_empty_statement : {c : Allowed} {a : Atoms} → IsStatement c (tree.empty_statement a)
+    a_block : {c : Allowed} {a : Atoms} {ss : Trees} → AreStatements c ss → IsStatement c (tree.block a ss)
+    an_if : {c : Allowed} {a : Atoms} {t s : Tree} → IsExpression c t → IsStatement c s → is_lexical s ≡ false → IsStatement c (tree.if_statement a t s absent)
+    an_if_with_else : {c : Allowed} {a : Atoms} {t s u : Tree} → IsExpression c t → IsStatement c s → is_lexical s ≡ false → IsStatement c u → is_lexical u ≡ false → IsStatement c (tree.if_statement a t s (given u))
 
   pub data AreStatements : Allowed → Trees → Type 0 where
     no_statement : {c : Allowed} → AreStatements c no_trees
@@ -173,25 +177,52 @@ declaration_valid c a no_trees p f e = absurd (cc)
 declaration_valid c a (more d ds) p f e = declarators_valid c d ds p e
 declaration_valid c a (hole ds) p f e = absurd p
 
-statement_valid : (c : Allowed) (t : Tree) → IsPlain t → is_statement (type_of t) ≡ true → breaches t ≡ [] → IsStatement c t
-statement_valid c (tree.variable_declaration a ds) p s e =
-    let h = parts (span_faults a.span) (declaration_faults a.span ds) _ e in
-    let k = none_both (in_trees (sets.VariableDeclarator ∷ []) ds) [] h.1 in
-    a_declaration (declaration_valid c a ds p h.0 k.0)
-statement_valid c (tree.expression_statement a t) p s e =
-    let h = parts (span_faults a.span) [] _ e in
-    let k = in_its_set sets.Expression t [] h.1 in
-    an_expression (expression_valid c t p k.0 k.1)
-statement_valid c t p s e = absurd (first_of (assumption p, search no_truth))
+none_if_not : (b : Bool) (f : TreeFault) → fault_if b f ≡ [] → b ≡ false
+none_if_not true f e = absurd (cc)
+none_if_not false f e = refl
 
-statements_valid : (c : Allowed) (ss : Trees) → ArePlain ss → in_trees (sets.Statement ∷ []) ss ≡ [] → AreStatements c ss
-statements_valid c no_trees p e = no_statement
-statements_valid c (more s ss) p e = let k = in_its_set sets.Statement s (in_trees (sets.Statement ∷ []) ss) e in first_statement (statement_valid c s p.0 k.0 k.1) (statements_valid c ss p.1 k.2)
-statements_valid c (hole ss) p e = absurd p
+mutual
+  statement_valid : (c : Allowed) (t : Tree) → IsPlain t → is_statement (type_of t) ≡ true → breaches t ≡ [] → IsStatement c t
+  statement_valid c (tree.variable_declaration a ds) p s e =
+      let h = parts (span_faults a.span) (declaration_faults a.span ds) _ e in
+      let k = none_both (in_trees (sets.VariableDeclarator ∷ []) ds) [] h.1 in
+      a_declaration (declaration_valid c a ds p h.0 k.0)
+  statement_valid c (tree.expression_statement a t) p s e =
+      let h = parts (span_faults a.span) [] _ e in
+      let k = in_its_set sets.Expression t [] h.1 in
+      an_expression (expression_valid c t p k.0 k.1)
+  statement_valid c (tree.empty_statement a) p s e = an_empty_statement
+  statement_valid c (tree.block a ss) p s e =
+      let h = parts (span_faults a.span) [] _ e in
+      let k = none_both (in_trees (sets.Statement ∷ []) ss) [] h.1 in
+      a_block (statements_valid c ss p k.0)
+  statement_valid c (tree.if_statement a t u absent) p s e =
+      let h = parts (span_faults a.span) (body_faults u ++ []) _ e in
+      let b = none_both (body_faults u) [] h.0 in
+      let k = in_its_set sets.Expression t ((place_faults sets.Statement u ++ breaches u) ++ []) h.1 in
+      let j = in_its_set sets.Statement u [] k.2 in
+      an_if (expression_valid c t p.0 k.0 k.1) (statement_valid c u p.1 j.0 j.1) (none_if_not (is_lexical u) (faults.Place (span_of u).start) b.0)
+  statement_valid c (tree.if_statement a t u (given v)) p s e =
+      let h = parts (span_faults a.span) (body_faults u ++ body_faults v) _ e in
+      let b = none_both (body_faults u) (body_faults v) h.0 in
+      let k = in_its_set sets.Expression t ((place_faults sets.Statement u ++ breaches u) ++ ((place_faults sets.Statement v ++ breaches v) ++ [])) h.1 in
+      let j = in_its_set sets.Statement u ((place_faults sets.Statement v ++ breaches v) ++ []) k.2 in
+      let i = in_its_set sets.Statement v [] j.2 in
+      an_if_with_else (expression_valid c t p.0 k.0 k.1) (statement_valid c u p.1 j.0 j.1) (none_if_not (is_lexical u) (faults.Place (span_of u).start) b.0) (statement_valid c v p.2 i.0 i.1) (none_if_not (is_lexical v) (faults.Place (span_of v).start) b.1)
+  statement_valid c t p s e = absurd (first_of (assumption p, search no_truth))
+
+  statements_valid : (c : Allowed) (ss : Trees) → ArePlain ss → in_trees (sets.Statement ∷ []) ss ≡ [] → AreStatements c ss
+  statements_valid c no_trees p e = no_statement
+  statements_valid c (more s ss) p e = let k = in_its_set sets.Statement s (in_trees (sets.Statement ∷ []) ss) e in first_statement (statement_valid c s p.0 k.0 k.1) (statements_valid c ss p.1 k.2)
+  statements_valid c (hole ss) p e = absurd p
 
 pub program_valid : (t : Tree) → IsPlain t → is_program (type_of t) ≡ true → breaches t ≡ [] → IsProgram t
 program_valid (tree.program a body) p s e =
-    let h = parts (span_faults a.span) (source_faults a ++ indent_faults (tree.program a body)) _ e in
+    let h = parts (span_faults a.span) (source_faults a) _ e in
     let k = none_both (in_trees (sets.Statement ∷ []) body) [] h.1 in
     a_program (statements_valid in_module body p.1 k.0)
 program_valid t p s e = absurd (first_of (assumption p, search no_truth))
+
+-- what is asked of every text
+pub rules_kept : (minified : Bool) (t : Tree) → IsValid minified t → breaches t ≡ []
+rules_kept minified t v = (none_both (breaches t) (indent_faults minified t) v).0

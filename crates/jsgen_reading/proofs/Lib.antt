@@ -9,6 +9,7 @@ pub mod Chains
 pub mod Links
 pub mod Expressions
 pub mod Statements
+pub mod Blocks
 pub mod Directives
 pub mod Reading
 pub mod Normals

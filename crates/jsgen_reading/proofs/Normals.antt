@@ -2,8 +2,10 @@
 use Rattle.std.proofs.Common.{◌≡◌, Bool, true, false, cond, [], ◌∷◌, refl, ap, ◌∙◌}
 use Rattle.jsgen_syntax.specs.declared.operator.LogicalOperator.{LogicalOperator}
 use Rattle.jsgen_tree.specs.Tree.{Tree, node, Slots, no_slots, one, maybe, many, Maybe, absent, given, Trees, no_trees, more, hole, declaration_kind, declaration_kind_in, binary_operator, operator_in, logical_operator, logical_operator_in}
+use Rattle.jsgen_tree.specs.Table.{ends_open}
 use Rattle.jsgen_tree.specs.Tree as tree
-use Rattle.jsgen_model.specs.Normal.{normal, normal_slots, normal_maybe, normal_trees, bare, chain, same_operator, joined, links}
+use Rattle.std.proofs.lemmas.Bool.{both_ways}
+use Rattle.jsgen_model.specs.Normal.{normal, normal_slots, normal_maybe, normal_trees, unbraced, bare, chain, same_operator, joined, links}
 
 -- ---- chains
 
@@ -32,6 +34,26 @@ normal_chain_again o t u e f =
     let h = links_again o u f in
     ap (λ ts. chain (bare (logical_operator o ∷ [])) ts) (joined_normal (links o t) (links o u) ∙ (λ i. joined (g i) (h i)))
 
+-- ---- consequents
+
+-- the one statement of a block
+abbrev only_statement : Tree → Tree
+only_statement (tree.block a (more s no_trees)) = s
+only_statement t = t
+
+unbraced_open : (t : Tree) → ends_open t ≡ true → unbraced t ≡ t
+unbraced_open (tree.block a (more s no_trees)) h = absurd (both_ways false refl h)
+unbraced_open t h = refl
+
+-- of a normal form, what is left of the braces is one too
+unbraced_again : (t : Tree) → normal t ≡ t → unbraced (normal (unbraced t)) ≡ unbraced t
+unbraced_again (tree.block a (more s no_trees)) e = go (ends_open s) refl
+  where
+    go : (b : Bool) → ends_open s ≡ b → unbraced (normal (cond b s (tree.block a (more s no_trees)))) ≡ cond b s (tree.block a (more s no_trees))
+    go true o = ap unbraced (ap only_statement e) ∙ unbraced_open s o
+    go false o = ap unbraced e ∙ ap (λ b. cond b s (tree.block a (more s no_trees))) o
+unbraced_again t e = ap unbraced e
+
 -- ---- the whole
 
 mutual
@@ -47,6 +69,9 @@ mutual
   normal_again (tree.parenthesized a expression) = normal_again expression
   normal_again (tree.binary a left right) = let e = normal_again left in let f = normal_again right in λ i. tree.binary (bare (binary_operator (operator_in a.values) ∷ [])) (e i) (f i)
   normal_again (tree.logical a left right) = normal_chain_again (logical_operator_in a.values) (normal left) (normal right) (normal_again left) (normal_again right)
+  normal_again (tree.block a body) = ap (λ ts. tree.block (bare []) ts) (normal_trees_again body)
+  normal_again (tree.if_statement a test consequent alternate) = let e = normal_again test in let f = unbraced_again (normal consequent) (normal_again consequent) in let g = normal_maybe_again alternate in λ i. tree.if_statement (bare []) (e i) (f i) (g i)
+  normal_again (tree.empty_statement a) = refl
   normal_again (tree.identifier_name a) = refl
   normal_again (tree.static_member a object property) = let e = normal_again object in let f = normal_again property in λ i. tree.static_member (bare []) (e i) (f i)
   normal_again (tree.computed_member a object expression) = let e = normal_again object in let f = normal_again expression in λ i. tree.computed_member (bare []) (e i) (f i)

@@ -19,9 +19,10 @@ use Rattle.jsgen_lexing.proofs.Last.{Open, Knows, is_indent}
 use Rattle.jsgen_lexing.proofs.Writes.{wrote_both, all_tokens}
 use Rattle.jsgen_lexing.proofs.Scalars.{tokens_scalars}
 use Rattle.jsgen_reading.specs.Law.{IsIndented}
-use Rattle.jsgen_reading.proofs.Families.{IsProgram, AreStatements, is_program, program_valid}
+use Rattle.jsgen_reading.proofs.Families.{IsProgram, AreStatements, is_program, program_valid, rules_kept}
 use Rattle.jsgen_reading.proofs.Families as family
-use Rattle.jsgen_reading.proofs.Statements.{GoodRow, SemiAll, rows, all_due}
+use Rattle.jsgen_reading.proofs.Statements.{GoodRow, SemiAll, all_due}
+use Rattle.jsgen_reading.proofs.Blocks.{rows}
 use Rattle.jsgen_reading.proofs.Directives.{first_row}
 
 -- from the rows of its statements, and the last semicolon
@@ -52,20 +53,20 @@ indents : (style : Style) → IsIndented style → is_indent style.indent ≡ tr
 indents style (inl e) = ap is_indent e
 indents style (inr e) = ap is_indent e
 
-pub printed_is_read : (style : Style) (t : Tree) → IsIndented style → type_of t ≡ types.Program → IsValid t → IsPlain t → IsQuiet t → IsReadAs (printed style t) t
-printed_is_read style t i s v p q = read_as style t (indents style i) (program_valid t p (ap is_program s) v)
+pub printed_is_read : (style : Style) (t : Tree) → IsIndented style → type_of t ≡ types.Program → IsValid style.minified t → IsPlain t → IsQuiet t → IsReadAs (printed style t) t
+printed_is_read style t i s v p q = read_as style t (indents style i) (program_valid t p (ap is_program s) (rules_kept style.minified t v))
 
 -- the bytes spell the characters that they were made of
 on_bytes : (text : List ℕ) (t : Tree) → IsReadAs text t → IsReadAs (chars (encode_utf8_all text)) t
 on_bytes text t r = subst (λ x. IsReadAs x t) (sym (chars-encodes text (tokens_scalars text r.tokens r.are_tokens))) r
 
-pub bytes_are_read : (style : Style) (t : Tree) → IsIndented style → type_of t ≡ types.Program → IsValid t → IsPlain t → IsQuiet t → IsReadAs (chars (text_bytes style t)) t
+pub bytes_are_read : (style : Style) (t : Tree) → IsIndented style → type_of t ≡ types.Program → IsValid style.minified t → IsPlain t → IsQuiet t → IsReadAs (chars (text_bytes style t)) t
 bytes_are_read style t i s v p q = on_bytes (printed style t) t (printed_is_read style t i s v p q)
 
 -- for bytes that are known to be the text's
-pub read_back : (style : Style) (t : Tree) (bytes : List ℕ) → bytes ≡ text_bytes style t → IsIndented style → type_of t ≡ types.Program → IsValid t → IsPlain t → IsQuiet t → IsReadAs (chars bytes) t
+pub read_back : (style : Style) (t : Tree) (bytes : List ℕ) → bytes ≡ text_bytes style t → IsIndented style → type_of t ≡ types.Program → IsValid style.minified t → IsPlain t → IsQuiet t → IsReadAs (chars bytes) t
 read_back style t bytes e i s v p q = subst (λ b. IsReadAs (chars b) t) (sym e) (bytes_are_read style t i s v p q)
 
 -- the bytes are a text in UTF-8
-pub text_is_utf8 : (style : Style) (t : Tree) → IsIndented style → type_of t ≡ types.Program → IsValid t → IsPlain t → IsQuiet t → IsUtf8 (text_bytes style t)
+pub text_is_utf8 : (style : Style) (t : Tree) → IsIndented style → type_of t ≡ types.Program → IsValid style.minified t → IsPlain t → IsQuiet t → IsUtf8 (text_bytes style t)
 text_is_utf8 style t i s v p q = let r = printed_is_read style t i s v p q in (printed style t, (tokens_scalars (printed style t) r.tokens r.are_tokens, refl))

@@ -4,6 +4,7 @@ use Rattle.jsgen_syntax.specs.declared.precedence.Precedence.TheVariants as leve
 use Rattle.jsgen_syntax.specs.Name.{spells_name}
 use Rattle.jsgen_tree.specs.declared.statements.VariableDeclarationKind.{VariableDeclarationKind}
 use Rattle.jsgen_tree.specs.declared.statements.VariableDeclarationKind.TheVariants as kinds
+use Rattle.jsgen_tree.specs.Table.{ends_open}
 use Rattle.jsgen_tree.specs.Words.{declaration_word}
 use Rattle.jsgen_tree.specs.Tree.{Tree, Maybe, absent, given, Trees, no_trees, more, Atoms, text_in, declaration_kind_in, declaration_kind}
 use Rattle.jsgen_tree.specs.Tree as tree
@@ -14,12 +15,12 @@ use Rattle.jsgen_model.specs.Layout.{Pen, layout, end_statement}
 use Rattle.jsgen_model.specs.Grammar.{Allowed, ReadsExpression, ReadsBinding, ReadsDeclarator, ReadsDeclarators, ReadsDeclaration, ReadsUnended, ReadsStatement, ReadsStatements, named, with_in}
 use Rattle.jsgen_model.specs.Grammar as grammar
 use Rattle.jsgen_model.specs.Normal.{normal, normal_maybe, normal_trees, bare}
-use Rattle.jsgen_model.specs.Valid.{is_free_name}
+use Rattle.jsgen_model.specs.Valid.{is_free_name, is_lexical}
 use Rattle.jsgen_model.specs.Spell.{Place, spell, spell_list, spell_statements, among_statements, whole_statement, in_front, behind}
 use Rattle.jsgen_lexing.proofs.Characters.{letters_spelled}
 use Rattle.jsgen_lexing.proofs.Last.{Last, Open, After, line_of, Operand, Ready, Knows}
 use Rattle.jsgen_lexing.proofs.Writes.{Writes, wrote_none, wrote_both, wrote_and_none, then_assoc, then_done}
-use Rattle.jsgen_lexing.proofs.Steps.{Soft, wrote_word, wrote_punctuator, soft_space_written, indentation_written, begins_written, end_written, end_left, due_written, none_due}
+use Rattle.jsgen_lexing.proofs.Steps.{Soft, Gap, gap, wrote_word, wrote_punctuator, soft_space_written, indentation_written, begins_written, end_written, end_left, due_written, none_due}
 use Rattle.jsgen_reading.proofs.Levels.{under}
 use Rattle.jsgen_reading.proofs.Families.{IsExpression, IsBinding, IsValue, IsDeclarator, AreDeclarators, IsStatement, AreStatements}
 use Rattle.jsgen_reading.proofs.Families as family
@@ -29,10 +30,6 @@ use Rattle.jsgen_reading.proofs.Lists.{Element, Elements, ElementAt, ElementsAt,
 use Rattle.jsgen_reading.proofs.Expressions.{printed_expression}
 
 -- ---- a statement without its end
-
--- the tree ends in an `if` without `else`: so far no type of statement does
-abbrev pub ends_open : Tree → Bool
-ends_open t = false
 
 -- between two pens stands what a semicolon makes a statement
 pub record GoodUnended (p : Pen) (l : Last) (q : Pen) (c : Allowed) (t : Tree) : Type 0 where
@@ -44,6 +41,8 @@ pub record GoodUnended (p : Pen) (l : Last) (q : Pen) (c : Allowed) (t : Tree) :
   pub tree : Tree
   pub reads : ReadsUnended c tokens tree
   pub same : normal tree ≡ normal t
+  pub dangling : ends_open tree ≡ ends_open t
+  pub lexical : is_lexical tree ≡ is_lexical t
 
 -- a statement that is read whatever follows it, or one whose semicolon is left: with it, or as the last of a brace group
 abbrev pub Ends : Allowed → Bool → Tokens → Tree → Type 0
@@ -64,6 +63,7 @@ pub record GoodStatement (p : Pen) (l : Last) (q : Pen) (c : Allowed) (t : Tree)
   pub reads : Ends c q.pending_semicolon tokens tree
   pub same : normal tree ≡ normal t
   pub dangling : ends_open tree ≡ ends_open t
+  pub lexical : is_lexical tree ≡ is_lexical t
 
 abbrev pub Stated : Allowed → Tree → Type 0
 Stated c t = (p : Pen) (l : Last) → p.pending_semicolon ≡ false → Ready l → Knows p l → GoodStatement p l (layout (spell t among_statements) p) c t
@@ -77,7 +77,8 @@ ended_so {q = q} true g = record {
   tree = g.tree;
   reads = (grammar.ended_by_brace g.reads, λ line. grammar.ended line refl g.reads);
   same = g.same;
-  dangling = refl;
+  dangling = g.dangling;
+  lexical = g.lexical;
 }
 ended_so {q = q} {c = c} false g = record {
   last = Open true;
@@ -87,14 +88,15 @@ ended_so {q = q} {c = c} false g = record {
   tree = g.tree;
   reads = subst (λ b. Ends c b (g.tokens ⧺ piece (line_of g.last) (Sign semicolon) done) g.tree) (sym g.semicolon) (grammar.ended (line_of g.last) refl g.reads);
   same = g.same;
-  dangling = refl;
+  dangling = g.dangling;
+  lexical = g.lexical;
 }
 
 abbrev pub good_ended : {p q : Pen} {l : Last} {c : Allowed} {t : Tree} → GoodUnended p l q c t → GoodStatement p l (layout statement_end q) c t
 good_ended {q = q} g = ended_so q.style.minified g
 
-abbrev pub soft_before : {p q r : Pen} {l : Last} {c : Allowed} {t : Tree} → (s : Soft p l q) → GoodStatement q s.last r c t → GoodStatement p l r c t
-soft_before s g = record { last = g.last; tokens = g.tokens; writes = wrote_both s.writes g.writes; ready = g.ready; tree = g.tree; reads = g.reads; same = g.same; dangling = g.dangling }
+abbrev pub soft_before : {p q r : Pen} {l : Last} {c : Allowed} {t : Tree} → (s : Gap p l q) → GoodStatement q s.last r c t → GoodStatement p l r c t
+soft_before s g = record { last = g.last; tokens = g.tokens; writes = wrote_both s.writes g.writes; ready = g.ready; tree = g.tree; reads = g.reads; same = g.same; dangling = g.dangling; lexical = g.lexical }
 
 -- ---- expression statements
 
@@ -108,6 +110,8 @@ unended_expression {p} {q} {l} {c} a e g = record {
   tree = tree.expression_statement (bare []) g.tree;
   reads = grammar.an_expression (subst (λ ts. grammar.starts_statement ts ≡ true) (then_done g.tokens) (g.begins done refl)) g.reads;
   same = ap (λ x. tree.expression_statement (bare []) x) g.same;
+  dangling = refl;
+  lexical = refl;
 }
 
 -- what items write, without the end of the statement
@@ -115,13 +119,13 @@ abbrev pub UnendedAt : Allowed → Items → Tree → Type 0
 UnendedAt c items t = (p : Pen) (l : Last) → p.pending_semicolon ≡ false → Ready l → Knows p l → GoodUnended p l (layout items p) c t
 
 soft_unended : {p q r : Pen} {l : Last} {c : Allowed} {t : Tree} → (s : Soft p l q) → GoodUnended q s.last r c t → GoodUnended p l r c t
-soft_unended s g = record { last = g.last; tokens = g.tokens; writes = wrote_both s.writes g.writes; ready = g.ready; semicolon = g.semicolon; tree = g.tree; reads = g.reads; same = g.same }
+soft_unended s g = record { last = g.last; tokens = g.tokens; writes = wrote_both s.writes g.writes; ready = g.ready; semicolon = g.semicolon; tree = g.tree; reads = g.reads; same = g.same; dangling = g.dangling; lexical = g.lexical }
 
 -- with indentation before it and its end behind it
 pub good_statement : (c : Allowed) (items : Items) (t : Tree) → UnendedAt c items t → (p : Pen) (l : Last) → p.pending_semicolon ≡ false → Ready l → Knows p l → GoodStatement p l (layout (indentation ⊕ (items ⊕ statement_end)) p) c t
 good_statement c items t f p l z y k =
     let i = indentation_written p l k in
-    soft_before i (good_ended (f (layout indentation p) i.last (i.semicolon ∙ z) (i.ready y) i.writes.knows))
+    soft_before (gap i) (good_ended (f (layout indentation p) i.last (i.semicolon ∙ z) (i.ready y) i.writes.knows))
 
 pub expression_unended : (c : Allowed) (a : Atoms) (e : Tree) → Printed c e → UnendedAt c (statement_begins ⊕ spell e whole_statement) (tree.expression_statement a e)
 expression_unended c a e f p l z y k =
@@ -232,6 +236,8 @@ declaration_parts c a ds p p1 p2 q l w e o n g = record {
   tree = tree.variable_declaration (bare (declaration_kind (declaration_kind_in a.values) ∷ [])) g.trees;
   reads = grammar.a_declaration (subst (λ x. ReadsDeclaration (with_in c) (piece (line_of l) (Word x) g.tokens) (tree.variable_declaration (bare (declaration_kind (declaration_kind_in a.values) ∷ [])) g.trees)) e (kind_reads (declaration_kind_in a.values) (with_in c) (line_of l) g.tokens g.trees g.reads));
   same = same_declaration (declaration_kind_in a.values) g.trees ds g.same;
+  dangling = refl;
+  lexical = refl;
 }
 
 abbrev pub declaration_items : Atoms → Trees → Items
@@ -272,10 +278,6 @@ listed {c} (family.first_declarator {d} {e} {ds} v w) place =
     let m = (listed w place).1 in
     (whole_list (ReadsDeclarator d1) (ReadsDeclarators d1) place d (more e ds) f m, one_more (ReadsDeclarator d1) (ReadsDeclarators d1) (declarators_join d1) place d (more e ds) f m)
 
-stated : {c : Allowed} {t : Tree} → IsStatement c t → Stated c t
-stated {c} (family.a_declaration {a} {ds} v) = good_statement c (declaration_items a ds) (tree.variable_declaration a ds) (declaration_unended c a ds (listed v (behind levels.Lowest among_statements)).0)
-stated {c} (family.an_expression {a} {e} v) = good_statement c (statement_begins ⊕ spell e whole_statement) (tree.expression_statement a e) (expression_unended c a e (printed_expression v))
-
 -- ---- rows of statements
 
 -- the semicolon that is due, behind the statement that it ends
@@ -287,7 +289,7 @@ pub record Semi (p : Pen) (l : Last) (q : Pen) (c : Allowed) (a : Tokens) (s : T
   pub semicolon : q.pending_semicolon ≡ false
   pub reads : ReadsStatement c false (a ⧺ semi) s
 
-semi_written : (b : Bool) (p : Pen) (l : Last) (c : Allowed) (a : Tokens) (s : Tree) → p.pending_semicolon ≡ b → Ready l → Knows p l → Ends c b a s → Semi p l (layout due_semicolon p) c a s
+pub semi_written : (b : Bool) (p : Pen) (l : Last) (c : Allowed) (a : Tokens) (s : Tree) → p.pending_semicolon ≡ b → Ready l → Knows p l → Ends c b a s → Semi p l (layout due_semicolon p) c a s
 semi_written true p l c a s e y k r = record { last = After (Sign semicolon); semi = piece (line_of l) (Sign semicolon) done; writes = due_written p l e k; ready = tt; semicolon = refl; reads = r.1 (line_of l) }
 semi_written false p l c a s e y k r =
     let n = none_due p l e k in
@@ -311,7 +313,7 @@ first_ends : (c : Allowed) (b : Bool) (a d : Tokens) (s : Tree) (ss : Trees) →
 first_ends c true a d s ss r e = (grammar.first_statement refl r e.0, λ line. grammar.first_statement (then_assoc a d (piece line (Sign semicolon) done)) r (e.1 line))
 first_ends c false a d s ss r e = grammar.first_statement refl r e
 
-rest_none : (p : Pen) (l : Last) (c : Allowed) (a : Tokens) (s : Tree) → Ready l → Knows p l → Ends c p.pending_semicolon a s → GoodRest p l p c a s no_trees
+pub rest_none : (p : Pen) (l : Last) (c : Allowed) (a : Tokens) (s : Tree) → Ready l → Knows p l → Ends c p.pending_semicolon a s → GoodRest p l p c a s no_trees
 rest_none p l c a s y k e = record {
   last = l;
   tokens = done;
@@ -336,7 +338,7 @@ rest_parts p p1 p2 q l c a s t ss d g r = record {
 abbrev pub RestStated : Allowed → Trees → Type 0
 RestStated c ss = (p : Pen) (l : Last) (a : Tokens) (s : Tree) → Ready l → Knows p l → Ends c p.pending_semicolon a s → GoodRest p l (layout (spell_statements ss) p) c a s ss
 
-rest_more : (c : Allowed) (t : Tree) (ss : Trees) → Stated c t → RestStated c ss → RestStated c (more t ss)
+pub rest_more : (c : Allowed) (t : Tree) (ss : Trees) → Stated c t → RestStated c ss → RestStated c (more t ss)
 rest_more c t ss f h p l a s y k e =
     let p1 : Pen = layout due_semicolon p in
     let p2 : Pen = layout (spell t among_statements) p1 in
@@ -358,7 +360,7 @@ pub record GoodRow (p : Pen) (l : Last) (q : Pen) (c : Allowed) (ss : Trees) : T
 abbrev pub RowStated : Allowed → Trees → Type 0
 RowStated c ss = (p : Pen) (l : Last) → p.pending_semicolon ≡ false → Ready l → Knows p l → GoodRow p l (layout (spell_statements ss) p) c ss
 
-row_none : (c : Allowed) → RowStated c no_trees
+pub row_none : (c : Allowed) → RowStated c no_trees
 row_none c p l z y k = record { last = l; tokens = done; writes = wrote_none p p l refl k; ready = y; trees = no_trees; reads = subst (λ b. EndsAll c b done no_trees) (sym z) grammar.no_statement; same = refl }
 
 abbrev pub row_parts : (p p1 p2 q : Pen) (l : Last) (c : Allowed) (t : Tree) (ss : Trees) → (n : Soft p l p1) (g : GoodStatement p1 n.last p2 c t) → GoodRest p2 g.last q c g.tokens g.tree ss → GoodRow p l q c (more t ss)
@@ -372,7 +374,7 @@ row_parts p p1 p2 q l c t ss n g r = record {
   same = same_more g.tree t r.trees ss g.same r.same;
 }
 
-row_more : (c : Allowed) (t : Tree) (ss : Trees) → Stated c t → RestStated c ss → RowStated c (more t ss)
+pub row_more : (c : Allowed) (t : Tree) (ss : Trees) → Stated c t → RestStated c ss → RowStated c (more t ss)
 row_more c t ss f h p l z y k =
     let p1 : Pen = layout due_semicolon p in
     let p2 : Pen = layout (spell t among_statements) p1 in
@@ -380,10 +382,6 @@ row_more c t ss f h p l z y k =
     let g = f p1 n.last (n.semicolon ∙ z) (n.ready y) n.writes.knows in
     let r = h p2 g.last g.tokens g.tree g.ready g.writes.knows g.reads in
     row_parts p p1 p2 (layout (spell_statements ss) p2) l c t ss n g r
-
-pub rows : {c : Allowed} {ss : Trees} → AreStatements c ss → RowStated c ss × RestStated c ss
-rows {c} family.no_statement = (row_none c, λ p l a s y k e. rest_none p l c a s y k e)
-rows {c} (family.first_statement {s} {ss} v w) = let f = stated v in let r = (rows w).1 in (row_more c s ss f r, rest_more c s ss f r)
 
 -- ---- the last semicolon
 

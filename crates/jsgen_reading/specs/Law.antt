@@ -14,13 +14,13 @@ use Rattle.jsgen_model.specs.Reading.{IsReadAs}
 abbrev pub IsIndented : Style → Type 0
 IsIndented style = (style.indent ≡ 9) ⊎ (style.indent ≡ 32)
 
--- the characters of a valid, plain and quiet program's text are read as that program, pretty and minified
+-- the characters of a plain and quiet program's text, for whose style it is valid, are read as that program, pretty and minified
 abbrev pub PrintedIsRead : Type 0
-PrintedIsRead = (style : Style) (program : Tree) → IsIndented style → type_of program ≡ types.Program → IsValid program → IsPlain program → IsQuiet program → IsReadAs (printed style program) program
+PrintedIsRead = (style : Style) (program : Tree) → IsIndented style → type_of program ≡ types.Program → IsValid style.minified program → IsPlain program → IsQuiet program → IsReadAs (printed style program) program
 
 -- and so are the characters of its bytes
 abbrev pub BytesAreRead : Type 0
-BytesAreRead = (style : Style) (program : Tree) → IsIndented style → type_of program ≡ types.Program → IsValid program → IsPlain program → IsQuiet program → IsReadAs (chars (text_bytes style program)) program
+BytesAreRead = (style : Style) (program : Tree) → IsIndented style → type_of program ≡ types.Program → IsValid style.minified program → IsPlain program → IsQuiet program → IsReadAs (chars (text_bytes style program)) program
 
 -- a normal form is its own normal form
 abbrev pub NormalIsNormal : Type 0

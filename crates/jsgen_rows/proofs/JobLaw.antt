@@ -7,8 +7,8 @@ use Rattle.jsgen_rows.specs.declared.At.{At}
 use Rattle.jsgen_rows.specs.declared.InputFault.{InputFault}
 use Rattle.jsgen_rows.specs.declared.InputFault.TheVariants.{Wrong}
 use Rattle.jsgen_rows.specs.Values.{after, at, rows_in}
-use Rattle.jsgen_rows.specs.Reads.{Entry, there, read_row, read_rows, root_of, root_found, read_job}
-use Rattle.jsgen_rows.specs.Meaning.{Mark, fault, use_of, is_used, is_program, found_faults, mark_faults, with_mark, with_marks, faults_in, row_marks, row_tree, root_tree, root_faults, trees_after, faults_after, unless, no_tree, rows_meaning, value_meaning}
+use Rattle.jsgen_rows.specs.Reads.{Entry, there, read_row, read_rows, root_of, root_found, read_program}
+use Rattle.jsgen_rows.specs.Meaning.{Mark, fault, use_of, is_used, is_program, found_faults, mark_faults, with_mark, with_marks, faults_in, row_marks, row_tree, root_tree, root_faults, trees_after, faults_after, unless, no_tree, rows_meaning, program_meaning}
 use Rattle.jsgen_rows.proofs.Listed.{length-last}
 use Rattle.jsgen_rows.proofs.Pool.{pool, seen, pool-length, pool-get, pool-push, other_eq}
 use Rattle.jsgen_rows.proofs.RowSteps.{row_read}
@@ -97,6 +97,6 @@ given_law : (r : Result (List Data) InputFault) → after r (λ ds. after (read_
 given_law (Ok ds) = rows_law ds
 given_law (Err e) = refl
 
--- what is read step by step is the job's meaning
-pub job_law : (d : Data) → read_job d ≡ value_meaning d
-job_law d = given_law (rows_in d)
+-- what is read step by step is the program that is meant
+pub program_law : (d : Data) → read_program d ≡ program_meaning d
+program_law d = given_law (rows_in d)

@@ -1,6 +1,7 @@
 -- The tree of a job is a program.
 use Rattle.std.proofs.Common.{◌≡◌, ℕ, List, [], ◌∷◌, ◌++◌, length, Bool, true, false, Option, Some, None, unwrap_or, Result, Ok, Err, if◌then◌else◌, refl, sym, ap, ◌∙◌}
 use Rattle.serde_json.specs.Data.{Data}
+use Rattle.jsgen_tree.specs.Options.{Options}
 use Rattle.jsgen_tree.specs.Tree.{Tree}
 use Rattle.jsgen_tree.specs.Tree as tree
 use Rattle.jsgen_tree.specs.declared.types.NodeType.{NodeType}
@@ -8,8 +9,8 @@ use Rattle.jsgen_tree.specs.declared.types.NodeType.TheVariants as types
 use Rattle.jsgen_rows.specs.declared.At.{At}
 use Rattle.jsgen_rows.specs.declared.InputFault.{InputFault}
 use Rattle.jsgen_rows.specs.declared.InputFault.TheVariants.{Wrong}
-use Rattle.jsgen_rows.specs.Values.{after, rows_in}
-use Rattle.jsgen_rows.specs.Meaning.{is_program, root_tree, root_faults, no_tree, trees_after, faults_after, faults_in, row_marks, row_tree, with_marks, unless, rows_meaning, value_meaning}
+use Rattle.jsgen_rows.specs.Values.{after, options_in, rows_in}
+use Rattle.jsgen_rows.specs.Meaning.{is_program, root_tree, root_faults, no_tree, trees_after, faults_after, faults_in, row_marks, row_tree, with_marks, unless, rows_meaning, program_meaning, JobData, value_meaning}
 use Rattle.jsgen_rows.specs.Job.{json_of, job_of}
 
 program_type : (t : NodeType) → is_program t ≡ true → t ≡ types.Program
@@ -28,6 +29,9 @@ program_type types.IdentifierName h = cc
 program_type types.StaticMemberExpression h = cc
 program_type types.ComputedMemberExpression h = cc
 program_type types.CallExpression h = cc
+program_type types.BlockStatement h = cc
+program_type types.IfStatement h = cc
+program_type types.EmptyStatement h = cc
 
 told : (b : Bool) (a : At) → (if b then [] else Wrong a ∷ []) ≡ [] → b ≡ true
 told true a h = refl
@@ -53,10 +57,19 @@ of_rows : (r : Result (List Data) InputFault) (t : Tree) → after r rows_meanin
 of_rows (Ok ds) t h = let p = no_fault (faults_after [] [] ds) _ t h in rows_give_program [] [] ds t p.0 p.1
 of_rows (Err e) t h = cc
 
-of_json : (r : Result Data InputFault) (t : Tree) → after r value_meaning ≡ Ok t → tree.type_of t ≡ types.Program
-of_json (Ok d) t h = of_rows (rows_in d) t h
-of_json (Err e) t h = cc
+abbrev program_or : Result JobData InputFault → Tree
+program_or (Ok job) = job.program
+program_or (Err e) = no_tree
 
-pub job_is_program : (bytes : List ℕ) (t : Tree) → job_of bytes ≡ Ok t → tree.type_of t ≡ types.Program
+of_both : (o : Result Options InputFault) (r : Result Tree InputFault) (job : JobData) → ((t : Tree) → r ≡ Ok t → tree.type_of t ≡ types.Program) → after o (λ options. after r (λ program. Ok (record { options = options; program = program }))) ≡ Ok job → tree.type_of job.program ≡ types.Program
+of_both (Ok o) (Ok t) job f h = let same : t ≡ job.program = ap program_or h in sym (ap tree.type_of same) ∙ f t refl
+of_both (Ok o) (Err e) job f h = cc
+of_both (Err e) r job f h = cc
+
+of_json : (r : Result Data InputFault) (job : JobData) → after r value_meaning ≡ Ok job → tree.type_of job.program ≡ types.Program
+of_json (Ok d) job h = of_both (options_in d) (program_meaning d) job (of_rows (rows_in d)) h
+of_json (Err e) job h = cc
+
+pub job_is_program : (bytes : List ℕ) (job : JobData) → job_of bytes ≡ Ok job → tree.type_of job.program ≡ types.Program
 unfolding job_of
-job_is_program bytes t h = of_json (json_of bytes) t h
+job_is_program bytes job h = of_json (json_of bytes) job h

@@ -16,8 +16,8 @@ use Rattle.jsgen_tree.specs.Table as sorts
 use Rattle.jsgen_rows.specs.declared.At.{At}
 use Rattle.jsgen_rows.specs.declared.InputFault.{InputFault}
 use Rattle.jsgen_rows.specs.declared.InputFault.TheVariants.{Json, Float, Wrong, Child, Shared, Memory}
-use Rattle.jsgen_rows.specs.Values.{after, or_fault, at, head, field, field_in, not_given, text_in, items_in, digits_in, unit_in, units_listed, text_or_listed, units_in, plain_units, value_in, given_values, values_in, type_named, type_given, type_of, offsets, span_given, span_of, unread_head, some_rows, rows_listed, rows_given, rows_in}
-use Rattle.jsgen_rows.specs.Meaning.{Mark, fault, use_of, number_marks, child_marks, each, marks_of, given_marks, list_marks, sort_marks, fields_marks, typed_marks, row_marks, row_tree, is_used, is_program, found_faults, mark_faults, with_mark, with_marks, faults_in, root_tree, root_faults, faults_after, unless, rows_meaning, value_meaning}
+use Rattle.jsgen_rows.specs.Values.{after, or_fault, at, head, field, field_in, not_given, text_in, items_in, digits_in, unit_in, units_listed, text_or_listed, units_in, plain_units, value_in, given_values, values_in, type_named, type_given, type_of, offsets, span_given, span_of, none_given, text_options, comment_options, unread_options, minify_given, options_given, options_in, unread_head, some_rows, rows_listed, rows_given, rows_in}
+use Rattle.jsgen_rows.specs.Meaning.{Mark, fault, use_of, number_marks, child_marks, each, marks_of, given_marks, list_marks, sort_marks, fields_marks, typed_marks, row_marks, row_tree, is_used, is_program, found_faults, mark_faults, with_mark, with_marks, faults_in, root_tree, root_faults, faults_after, unless, rows_meaning, program_meaning, value_meaning}
 use Rattle.jsgen_rows.specs.Job.{json_of, job_of}
 
 -- ---- what is told is not Memory
@@ -210,12 +210,34 @@ unless_told (f ∷ fs) x h = h.0
 
 -- ---- the whole
 
+none_given_told : (a : At) (names : List (List ℕ)) (d : Data) → ResultTold (none_given a names d)
+none_given_told a [] d = tt
+none_given_told a (name ∷ names) d = after_told (not_given a (field name d)) _ (not_given_told a _) (λ u. none_given_told a names d)
+
+minify_told : (o : Option Data) → ResultTold (minify_given o)
+minify_told None = tt
+minify_told (Some d) = or_told (Wrong (head 0)) (as_bool d) (wrong_told _)
+
+unread_options_told : (d : Data) → ResultTold (unread_options d)
+unread_options_told d = after_told (none_given (head 0) text_options d) _ (none_given_told _ text_options d) (λ u. none_given_told (head 0) comment_options d)
+
+options_given_told : (o : Option Data) → ResultTold (options_given o)
+options_given_told None = tt
+options_given_told (Some d) =
+    after_told (or_fault (Wrong (head 0)) (as_object d)) _ (or_told (Wrong (head 0)) (as_object d) (wrong_told _))
+    (λ members. after_told (unread_options d) _ (unread_options_told d)
+    (λ u. after_told (minify_given (field (codes "minify") d)) _ (minify_told _) (λ minify. tt)))
+
+options_told : (d : Data) → ResultTold (options_in d)
+options_told d =
+    after_told (or_fault Json (as_object d)) _ (or_told Json (as_object d) (λ e. cc))
+    (λ members. after_told (field_in (head 0) false (field (codes "options") d)) options_given (field_told (head 0) false (field (codes "options") d)) options_given_told)
+
 head_told : (d : Data) → ResultTold (unread_head d)
 head_told d =
-    after_told (not_given (head 0) (field (codes "options") d)) _ (not_given_told _ _)
-    (λ u. after_told (not_given (head 1) (field (codes "symbols") d)) _ (not_given_told _ _)
+    after_told (not_given (head 1) (field (codes "symbols") d)) _ (not_given_told _ _)
     (λ v. after_told (not_given (head 2) (field (codes "references") d)) _ (not_given_told _ _)
-    (λ w. not_given_told (head 3) (field (codes "private") d))))
+    (λ w. not_given_told (head 3) (field (codes "private") d)))
 
 float_or_wrong_told : (b : Bool) (a : At) → Told (if b then Float a else Wrong a)
 float_or_wrong_told true a = λ e. cc
@@ -230,12 +252,13 @@ rows_given_told None = λ e. cc
 rows_given_told (Some d) = after_told (rows_listed (head 4) d) some_rows (or_told _ _ (float_or_wrong_told (has_float d) (head 4))) some_told
 
 rows_in_told : (d : Data) → ResultTold (rows_in d)
-rows_in_told d =
-    after_told (or_fault Json (as_object d)) _ (or_told Json (as_object d) (λ e. cc))
-    (λ members. after_told (unread_head d) _ (head_told d) (λ u. rows_given_told (field (codes "rows") d)))
+rows_in_told d = after_told (unread_head d) _ (head_told d) (λ u. rows_given_told (field (codes "rows") d))
+
+program_told : (d : Data) → ResultTold (program_meaning d)
+program_told d = after_told (rows_in d) rows_meaning (rows_in_told d) (λ ds. unless_told (faults_after [] [] ds) _ (rows_told [] [] ds))
 
 value_meaning_told : (d : Data) → ResultTold (value_meaning d)
-value_meaning_told d = after_told (rows_in d) rows_meaning (rows_in_told d) (λ ds. unless_told (faults_after [] [] ds) _ (rows_told [] [] ds))
+value_meaning_told d = after_told (options_in d) _ (options_told d) (λ options. after_told (program_meaning d) _ (program_told d) (λ program. tt))
 
 json_told : (bytes : List ℕ) → ResultTold (json_of bytes)
 json_told bytes = choice_told (is_utf8 bytes) (or_fault Json (read bytes)) (Err Json) (or_told Json (read bytes) (λ e. cc)) (λ e. cc)

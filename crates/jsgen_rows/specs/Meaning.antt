@@ -6,6 +6,7 @@ use Rattle.jsgen_syntax.specs.declared.span.Span.{Span}
 use Rattle.jsgen_tree.specs.declared.types.NodeType.{NodeType}
 use Rattle.jsgen_tree.specs.declared.types.NodeType.TheVariants as types
 use Rattle.jsgen_tree.specs.declared.types.NodeSet.{NodeSet}
+use Rattle.jsgen_tree.specs.Options.{Options}
 use Rattle.jsgen_tree.specs.Tree.{Atom, Tree, Slots, Maybe, Trees, node, no_slots, one, maybe, many, absent, given, no_trees, trees}
 use Rattle.jsgen_tree.specs.Tree as tree
 use Rattle.jsgen_tree.specs.Table.{Sort, Field, fields, in_set}
@@ -13,7 +14,7 @@ use Rattle.jsgen_tree.specs.Table as sorts
 use Rattle.jsgen_rows.specs.declared.At.{At}
 use Rattle.jsgen_rows.specs.declared.InputFault.{InputFault}
 use Rattle.jsgen_rows.specs.declared.InputFault.TheVariants.{Wrong, Child, Shared}
-use Rattle.jsgen_rows.specs.Values.{after, at, field, field_in, items_in, values_in, type_of, span_of, rows_in}
+use Rattle.jsgen_rows.specs.Values.{after, at, field, field_in, items_in, values_in, type_of, span_of, options_in, rows_in}
 
 -- ---- the marks of a row, which it has by itself: a fault, or the number of a row that is to be a child
 
@@ -186,6 +187,15 @@ unless (f ∷ fs) a = Err f
 abbrev pub rows_meaning : List Data → Result Tree InputFault
 rows_meaning ds = unless (faults_after [] [] ds) (unwrap_or (root_tree (trees_after [] ds)) no_tree)
 
--- the program of a job that was read as JSON, or its first fault
-abbrev pub value_meaning : Data → Result Tree InputFault
-value_meaning d = after (rows_in d) rows_meaning
+-- the program of a job that was read as JSON
+abbrev pub program_meaning : Data → Result Tree InputFault
+program_meaning d = after (rows_in d) rows_meaning
+
+-- what a job asks for
+pub record JobData : Type 0 where
+  pub options : Options
+  pub program : Tree
+
+-- the job that was read as JSON, or its first fault
+abbrev pub value_meaning : Data → Result JobData InputFault
+value_meaning d = after (options_in d) (λ options. after (program_meaning d) (λ program. Ok (record { options = options; program = program })))

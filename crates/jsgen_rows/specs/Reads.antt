@@ -111,5 +111,5 @@ root_found a (Some (there t)) = if is_program (tree.type_of t) then Ok t else Er
 abbrev pub root_of : List Entry → Result Tree InputFault
 root_of kept = root_found (at (length kept - 1) 0) (slice_get kept (length kept - 1))
 
-abbrev pub read_job : Data → Result Tree InputFault
-read_job d = after (rows_in d) (λ ds. after (read_rows ds []) root_of)
+abbrev pub read_program : Data → Result Tree InputFault
+read_program d = after (rows_in d) (λ ds. after (read_rows ds []) root_of)

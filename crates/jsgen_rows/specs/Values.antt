@@ -10,6 +10,7 @@ use Rattle.jsgen_syntax.specs.declared.span.Span.{Span}
 use Rattle.jsgen_syntax.specs.Strings.{is_plain_string}
 use Rattle.jsgen_tree.specs.declared.types.NodeType.{NodeType}
 use Rattle.jsgen_tree.specs.declared.types.NodeType.TheVariants as types
+use Rattle.jsgen_tree.specs.Options.{Options, default_options}
 use Rattle.jsgen_tree.specs.Tree.{Atom}
 use Rattle.jsgen_tree.specs.Tree as atoms
 use Rattle.jsgen_tree.specs.Table.{Sort, Word}
@@ -164,7 +165,10 @@ statement_named s =
     else (if bytes_eq s (codes "VariableDeclaration") then Some types.VariableDeclaration
     else (if bytes_eq s (codes "VariableDeclarator") then Some types.VariableDeclarator
     else (if bytes_eq s (codes "BindingIdentifier") then Some types.BindingIdentifier
-    else None))))
+    else (if bytes_eq s (codes "BlockStatement") then Some types.BlockStatement
+    else (if bytes_eq s (codes "IfStatement") then Some types.IfStatement
+    else (if bytes_eq s (codes "EmptyStatement") then Some types.EmptyStatement
+    else None)))))))
 
 unfoldable pub expression_named : List ℕ → Option NodeType
 expression_named s =
@@ -217,15 +221,51 @@ span_given a (Some d) = after (items_in a d) (λ ds. or_fault (Wrong a) (offsets
 abbrev pub span_of : ℕ → Data → Result Span InputFault
 span_of k d = after (field_in (at k 1) false (field (codes "span") d)) (span_given (at k 1))
 
--- ---- the head
+-- ---- the head: its options, field 0
 
--- the fields 0 to 3, which aren't read yet
+-- none of these names is given
+abbrev pub none_given : At → List (List ℕ) → Data → Result ⊤ InputFault
+none_given a [] d = Ok tt
+none_given a (name ∷ names) d = after (not_given a (field name d)) (λ _. none_given a names d)
+
+-- the options that aren't read yet
+abbrev pub text_options : List (List ℕ)
+text_options = codes "single_quote" ∷ codes "ascii_only" ∷ codes "source_map_path" ∷ codes "indent_char" ∷ codes "indent_width" ∷ codes "initial_indent" ∷ []
+
+abbrev pub comment_options : List (List ℕ)
+comment_options = codes "normal" ∷ codes "jsdoc" ∷ codes "annotation" ∷ codes "legal" ∷ codes "legal_path" ∷ []
+
+abbrev pub unread_options : Data → Result ⊤ InputFault
+unread_options d = after (none_given (head 0) text_options d) (λ _. none_given (head 0) comment_options d)
+
+abbrev pub minify_given : Option Data → Result Bool InputFault
+minify_given None = Ok false
+minify_given (Some d) = or_fault (Wrong (head 0)) (as_bool d)
+
+-- an object
+abbrev pub options_read : Data → Result Options InputFault
+options_read d =
+    after (or_fault (Wrong (head 0)) (as_object d))
+    (λ members. after (unread_options d)
+    (λ _. after (minify_given (field (codes "minify") d))
+    (λ minify. Ok (record default_options { minify = minify }))))
+
+abbrev pub options_given : Option Data → Result Options InputFault
+options_given None = Ok default_options
+options_given (Some d) = options_read d
+
+-- the options of a job, which is an object
+abbrev pub options_in : Data → Result Options InputFault
+options_in d = after (or_fault Json (as_object d)) (λ members. after (field_in (head 0) false (field (codes "options") d)) options_given)
+
+-- ---- the rows, field 4, behind three fields
+
+-- the fields 1 to 3, which aren't read yet
 abbrev pub unread_head : Data → Result ⊤ InputFault
 unread_head d =
-    after (not_given (head 0) (field (codes "options") d))
-    (λ _. after (not_given (head 1) (field (codes "symbols") d))
+    after (not_given (head 1) (field (codes "symbols") d))
     (λ _. after (not_given (head 2) (field (codes "references") d))
-    (λ _. not_given (head 3) (field (codes "private") d))))
+    (λ _. not_given (head 3) (field (codes "private") d)))
 
 abbrev pub some_rows : List Data → Result (List Data) InputFault
 some_rows [] = Err (Wrong (head 4))
@@ -235,11 +275,10 @@ some_rows (d ∷ ds) = Ok (d ∷ ds)
 abbrev pub rows_listed : At → Data → Result (List Data) InputFault
 rows_listed a d = or_fault (if has_float d then Float a else Wrong a) (option_map listed (as_array d))
 
--- field 4, the rows: a list of one or more. What floats stand in the list is for the rows to tell.
+-- a list of one or more. What floats stand in the list is for the rows to tell.
 abbrev pub rows_given : Option Data → Result (List Data) InputFault
 rows_given None = Err (Missing (head 4))
 rows_given (Some d) = after (rows_listed (head 4) d) some_rows
 
--- the rows of a job, which is an object
 abbrev pub rows_in : Data → Result (List Data) InputFault
-rows_in d = after (or_fault Json (as_object d)) (λ members. after (unread_head d) (λ _. rows_given (field (codes "rows") d)))
+rows_in d = after (unread_head d) (λ _. rows_given (field (codes "rows") d))

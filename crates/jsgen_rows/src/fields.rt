@@ -11,8 +11,8 @@ ghost use Rattle.jsgen_rows.specs.Reads.{Gives, read_field};
 ghost use Rattle.jsgen_rows.specs.Kept.{entries};
 
 use crate::children::{
-    take_arguments, take_binding_pattern, take_expression, take_identifier_name, take_statements,
-    take_variable_declarators,
+    take_arguments, take_binding_pattern, take_expression, take_identifier_name, take_statement,
+    take_statements, take_variable_declarators,
 };
 use crate::kept::Kept;
 use crate::values::{items_in, needed_value, optional_value};
@@ -52,6 +52,39 @@ pub fn optional_expression(
     };
     let expression = take_expression(kept, at, value)?;
     Ok(Some(expression))
+}
+
+#[tactic(auto, unfolding(crate::specs::Reads::read_child))]
+pub fn needed_statement(
+    alloc: Global,
+    kept: &mut Vec<Kept>,
+    at: At,
+    row: &Value,
+    name: &str,
+) -> Result<StatementNode, InputFault>
+    ensures { Gives (λ n. a_child (in_statement node_plain n)) result (entries kept.new.items)
+        (read_field at (needs name.now (child sets.Statement)) (view row.now) (entries kept.old.items)) }
+{
+    let value = needed_value(at, row, name)?;
+    take_statement(alloc, kept, at, value)
+}
+
+#[tactic(auto, unfolding(crate::specs::Reads::read_child))]
+pub fn optional_statement(
+    alloc: Global,
+    kept: &mut Vec<Kept>,
+    at: At,
+    row: &Value,
+    name: &str,
+) -> Result<Option<StatementNode>, InputFault>
+    ensures { Gives (λ o. a_maybe (optional (option_map (in_statement node_plain) o))) result (entries kept.new.items)
+        (read_field at (may_have name.now (child sets.Statement)) (view row.now) (entries kept.old.items)) }
+{
+    let Some(value) = optional_value(at, row, name)? else {
+        return Ok(None);
+    };
+    let statement = take_statement(alloc, kept, at, value)?;
+    Ok(Some(statement))
 }
 
 #[tactic(auto, unfolding(crate::specs::Reads::read_child))]

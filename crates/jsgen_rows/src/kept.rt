@@ -9,11 +9,12 @@ ghost use Rattle.jsgen_rows.specs.Reads.{entry_type};
 ghost use Rattle.jsgen_rows.specs.Kept.{row_plain, entry};
 
 use jsgen_tree::{
-    BinaryExpression, BindingIdentifier, BindingPattern, BindingPatternNode, CallExpression,
-    ComputedMemberExpression, Declaration, DeclarationNode, Expression, ExpressionNode,
-    ExpressionStatement, IdentifierName, IdentifierReference, LogicalExpression, NodeType,
-    NumericLiteral, ParenthesizedExpression, Program, Statement, StatementNode,
-    StaticMemberExpression, StringLiteral, VariableDeclaration, VariableDeclarator,
+    BinaryExpression, BindingIdentifier, BindingPattern, BindingPatternNode, BlockStatement,
+    CallExpression, ComputedMemberExpression, Declaration, DeclarationNode, EmptyStatement,
+    Expression, ExpressionNode, ExpressionStatement, IdentifierName, IdentifierReference,
+    IfStatement, LogicalExpression, NodeType, NumericLiteral, ParenthesizedExpression, Program,
+    Statement, StatementNode, StaticMemberExpression, StringLiteral, VariableDeclaration,
+    VariableDeclarator,
 };
 use std::alloc::{AllocError, Global};
 
@@ -35,6 +36,9 @@ pub enum Row {
     StaticMemberExpression(Box<StaticMemberExpression>),
     ComputedMemberExpression(Box<ComputedMemberExpression>),
     CallExpression(Box<CallExpression>),
+    BlockStatement(Box<BlockStatement>),
+    IfStatement(Box<IfStatement>),
+    EmptyStatement(Box<EmptyStatement>),
 }
 
 /// A row that was read, or its type where it is a child already.
@@ -64,6 +68,9 @@ impl Row {
             Row::StaticMemberExpression(_) => NodeType::StaticMemberExpression,
             Row::ComputedMemberExpression(_) => NodeType::ComputedMemberExpression,
             Row::CallExpression(_) => NodeType::CallExpression,
+            Row::BlockStatement(_) => NodeType::BlockStatement,
+            Row::IfStatement(_) => NodeType::IfStatement,
+            Row::EmptyStatement(_) => NodeType::EmptyStatement,
         }
     }
 
@@ -106,6 +113,9 @@ impl Row {
                 let declaration = declaration_node(Declaration::VariableDeclaration(row));
                 Ok(Some(Statement::Declaration(Box::new(alloc, declaration)?)))
             }
+            Row::BlockStatement(row) => Ok(Some(Statement::BlockStatement(row))),
+            Row::IfStatement(row) => Ok(Some(Statement::IfStatement(row))),
+            Row::EmptyStatement(row) => Ok(Some(Statement::EmptyStatement(row))),
             _ => Ok(None),
         }
     }

@@ -4,10 +4,10 @@
 ghost use Rattle.std.specs.Prelude.{◌≡◌};
 ghost use Rattle.serde_json.specs.View.{view};
 ghost use Rattle.jsgen_tree.specs.Plain.{program_plain};
-ghost use Rattle.jsgen_rows.specs.Job.{Same, FaultsAreTold, json_of, job_of};
+ghost use Rattle.jsgen_rows.specs.Job.{Same, FaultsAreTold, job_plain, json_of, job_of};
 ghost use Rattle.jsgen_rows.specs.Values.{at, head};
-ghost use Rattle.jsgen_rows.specs.Meaning.{value_meaning};
-ghost use Rattle.jsgen_rows.specs.Reads.{read_job};
+ghost use Rattle.jsgen_rows.specs.Meaning.{program_meaning, value_meaning};
+ghost use Rattle.jsgen_rows.specs.Reads.{read_program};
 ghost use Rattle.jsgen_rows.specs.declared.InputFault.TheVariants as faults;
 
 mod children;
@@ -17,6 +17,7 @@ mod floats;
 mod kept;
 mod links;
 mod names;
+mod options;
 mod statements;
 mod steps;
 mod strings;
@@ -25,9 +26,10 @@ mod tests;
 mod values;
 mod words;
 
+use crate::options::options_in;
 use crate::steps::{read_rows, root_of, rows_in};
 use jsgen_syntax::Memory;
-use jsgen_tree::Program;
+use jsgen_tree::{CodegenOptions, Program};
 use serde_json::Value;
 use std::alloc::{AllocError, AllocFailed, Global};
 
@@ -103,17 +105,17 @@ impl From<Memory> for InputFault {
 /// What a job asks for.
 #[derive(Drop)]
 pub struct Job {
+    pub options: CodegenOptions,
     pub program: Program,
 }
 
 /// Reads a job from its bytes (docs/FORMAT.md), or says its first fault.
 #[tactic(auto, unfolding(crate::specs::Job::job_of))]
 pub fn read_job(alloc: Global, bytes: &[u8]) -> Result<Job, InputFault>
-    ensures { Same (λ job. program_plain job.program) result (job_of bytes.now) }
+    ensures { Same job_plain result (job_of bytes.now) }
 {
     let value = read_json(alloc, bytes)?;
-    let program = read_value(alloc, &value)?;
-    Ok(Job { program })
+    read_value(alloc, &value)
 }
 
 fn read_json(alloc: Global, bytes: &[u8]) -> Result<Value, InputFault>
@@ -131,15 +133,23 @@ fn read_json(alloc: Global, bytes: &[u8]) -> Result<Value, InputFault>
     }
 }
 
-/// The program of a job that was read as JSON.
-fn read_value(alloc: Global, value: &Value) -> Result<Program, InputFault>
-    ensures { Same program_plain result (value_meaning (view value.now)) }
+/// The job that was read as JSON.
+fn read_value(alloc: Global, value: &Value) -> Result<Job, InputFault>
+    ensures { Same job_plain result (value_meaning (view value.now)) }
+{
+    let options = options_in(value)?;
+    let program = read_program(alloc, value)?;
+    Ok(Job { options, program })
+}
+
+fn read_program(alloc: Global, value: &Value) -> Result<Program, InputFault>
+    ensures { Same program_plain result (program_meaning (view value.now)) }
 {
     read_steps(alloc, value)
 }
 
 fn read_steps(alloc: Global, value: &Value) -> Result<Program, InputFault>
-    ensures { Same program_plain result (read_job (view value.now)) }
+    ensures { Same program_plain result (read_program (view value.now)) }
 {
     let rows = rows_in(value)?;
     let kept = read_rows(alloc, rows)?;

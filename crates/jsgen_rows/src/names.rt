@@ -18,6 +18,12 @@ fn statement_by_name(name: &str) -> Option<NodeType>
         Some(NodeType::VariableDeclarator)
     } else if name == "BindingIdentifier" {
         Some(NodeType::BindingIdentifier)
+    } else if name == "BlockStatement" {
+        Some(NodeType::BlockStatement)
+    } else if name == "IfStatement" {
+        Some(NodeType::IfStatement)
+    } else if name == "EmptyStatement" {
+        Some(NodeType::EmptyStatement)
     } else {
         None
     }

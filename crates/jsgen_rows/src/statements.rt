@@ -3,14 +3,14 @@ ghost use Rattle.std.specs.Prelude.{◌≡◌};
 ghost use Rattle.serde_json.specs.View.{view};
 ghost use Rattle.jsgen_tree.specs.declared.types.NodeType.TheVariants as types;
 ghost use Rattle.jsgen_tree.specs.Plain.{node_plain};
-ghost use Rattle.jsgen_tree.specs.Rows.{program_row, expression_statement_row, variable_declaration_row, variable_declarator_row, binding_identifier_row};
-ghost use Rattle.jsgen_tree.specs.Table.{program_fields, expression_statement_fields, variable_declaration_fields, variable_declarator_fields, binding_identifier_fields};
+ghost use Rattle.jsgen_tree.specs.Rows.{program_row, expression_statement_row, block_statement_row, if_statement_row, empty_statement_row, variable_declaration_row, variable_declarator_row, binding_identifier_row};
+ghost use Rattle.jsgen_tree.specs.Table.{program_fields, expression_statement_fields, block_statement_fields, if_statement_fields, empty_statement_fields, variable_declaration_fields, variable_declarator_fields, binding_identifier_fields};
 ghost use Rattle.jsgen_rows.specs.Reads.{Gives, read_node};
 ghost use Rattle.jsgen_rows.specs.Kept.{entries};
 
 use crate::fields::{
-    needed_binding_pattern, needed_expression, optional_expression, statements,
-    variable_declarators,
+    needed_binding_pattern, needed_expression, needed_statement, optional_expression,
+    optional_statement, statements, variable_declarators,
 };
 use crate::kept::Kept;
 use crate::values::{needed_text, optional_text, unread};
@@ -18,7 +18,8 @@ use crate::words::{needed_declaration_kind, needed_source_kind};
 use crate::{At, InputFault};
 use jsgen_syntax::Span;
 use jsgen_tree::{
-    BindingIdentifier, ExpressionStatement, Program, VariableDeclaration, VariableDeclarator,
+    BindingIdentifier, BlockStatement, EmptyStatement, ExpressionStatement, IfStatement, Program,
+    VariableDeclaration, VariableDeclarator,
 };
 use serde_json::Value;
 use std::alloc::Global;
@@ -64,6 +65,61 @@ pub fn read_expression_statement(
 {
     let expression = needed_expression(kept, At::of_row(number, 2), row, "expression")?;
     Ok(Box::new(alloc, ExpressionStatement { span, expression })?)
+}
+
+#[tactic(auto, unfolding(crate::specs::Reads::read_node))]
+pub fn read_block_statement(
+    alloc: Global,
+    kept: &mut Vec<Kept>,
+    number: usize,
+    span: Span,
+    row: &Value,
+) -> Result<Box<BlockStatement>, InputFault>
+    ensures { Gives (λ b. block_statement_row node_plain b.value) result (entries kept.new.items)
+        (read_node number types.BlockStatement block_statement_fields span (view row.now) (entries kept.old.items)) }
+{
+    let body = statements(alloc, kept, At::of_row(number, 2), row, "body")?;
+    Ok(Box::new(alloc, BlockStatement { span, body })?)
+}
+
+#[tactic(auto, unfolding(crate::specs::Reads::read_node))]
+pub fn read_if_statement(
+    alloc: Global,
+    kept: &mut Vec<Kept>,
+    number: usize,
+    span: Span,
+    row: &Value,
+) -> Result<Box<IfStatement>, InputFault>
+    ensures { Gives (λ b. if_statement_row node_plain b.value) result (entries kept.new.items)
+        (read_node number types.IfStatement if_statement_fields span (view row.now) (entries kept.old.items)) }
+{
+    let test = needed_expression(kept, At::of_row(number, 2), row, "test")?;
+    let consequent = needed_statement(alloc, kept, At::of_row(number, 3), row, "consequent")?;
+    let alternate = optional_statement(alloc, kept, At::of_row(number, 4), row, "alternate")?;
+    let node = IfStatement {
+        span,
+        test,
+        consequent,
+        alternate,
+    };
+    Ok(Box::new(alloc, node)?)
+}
+
+#[tactic(auto, unfolding(crate::specs::Reads::read_node))]
+pub fn read_empty_statement(
+    alloc: Global,
+    kept: &mut Vec<Kept>,
+    number: usize,
+    span: Span,
+    row: &Value,
+) -> Result<Box<EmptyStatement>, InputFault>
+    ensures { Gives (λ b. empty_statement_row b.value) result (entries kept.new.items)
+        (read_node number types.EmptyStatement empty_statement_fields span (view row.now) (entries kept.old.items)) }
+{
+    let _ = kept;
+    let _ = number;
+    let _ = row;
+    Ok(Box::new(alloc, EmptyStatement { span })?)
 }
 
 #[tactic(auto, unfolding(crate::specs::Reads::read_node))]

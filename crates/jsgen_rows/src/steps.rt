@@ -1,4 +1,4 @@
-// The whole: the head, a row after the other, and the last row is the program.
+// The program: the head behind its options, a row after the other, and the last row is the program.
 ghost use Rattle.std.specs.Prelude.{◌≡◌, [], Some, None, MatchOption, map, ⊤};
 ghost use Rattle.serde_json.specs.View.{view};
 ghost use Rattle.jsgen_tree.specs.Plain.{program_plain};
@@ -18,8 +18,8 @@ use crate::links::{
     read_static_member_expression, read_string_literal,
 };
 use crate::statements::{
-    read_binding_identifier, read_expression_statement, read_program, read_variable_declaration,
-    read_variable_declarator,
+    read_binding_identifier, read_block_statement, read_empty_statement, read_expression_statement,
+    read_if_statement, read_program, read_variable_declaration, read_variable_declarator,
 };
 use crate::values::{not_given, present, span_of, type_of};
 use crate::{At, InputFault};
@@ -81,6 +81,15 @@ fn read_typed(
             read_computed_member_expression(alloc, kept, number, span, row)?,
         )),
         NodeType::CallExpression => Ok(Row::CallExpression(read_call_expression(
+            alloc, kept, number, span, row,
+        )?)),
+        NodeType::BlockStatement => Ok(Row::BlockStatement(read_block_statement(
+            alloc, kept, number, span, row,
+        )?)),
+        NodeType::IfStatement => Ok(Row::IfStatement(read_if_statement(
+            alloc, kept, number, span, row,
+        )?)),
+        NodeType::EmptyStatement => Ok(Row::EmptyStatement(read_empty_statement(
             alloc, kept, number, span, row,
         )?)),
     }
@@ -148,7 +157,6 @@ pub fn root_of(mut kept: Vec<Kept>) -> Result<Program, InputFault>
 fn unread_head(value: &Value) -> Result<(), InputFault>
     ensures { Same (λ u. u) result (unread_head (view value.now)) }
 {
-    not_given(At::of_head(0), value, "options")?;
     not_given(At::of_head(1), value, "symbols")?;
     not_given(At::of_head(2), value, "references")?;
     not_given(At::of_head(3), value, "private")
@@ -173,9 +181,6 @@ fn rows_listed(at: At, given: &Value) -> Result<&Vec<Value>, InputFault>
 pub fn rows_in(value: &Value) -> Result<&Vec<Value>, InputFault>
     ensures { Same (λ v. map view v.now.items) result (rows_in (view value.now)) }
 {
-    if value.as_object().is_none() {
-        return Err(InputFault::Json);
-    }
     unread_head(value)?;
     let Some(given) = present(value, "rows") else {
         return Err(InputFault::Missing(At::of_head(4)));

@@ -38,7 +38,7 @@ fn heads(rt: HostRuntime) {
         ("", Some(InputFault::Json)),
         (
             r#"{"options":{},"rows":[]}"#,
-            Some(InputFault::Wrong(head(0))),
+            Some(InputFault::Wrong(head(4))),
         ),
         (
             r#"{"private":0.5,"symbols":[],"rows":7}"#,
@@ -61,6 +61,49 @@ fn heads(rt: HostRuntime) {
         read_job(alloc, b"{\"rows\":\"\xff\"}").err() == Some(InputFault::Json),
         "UTF-8"
     );
+}
+
+// Whether the text is minified that options ask for, or their fault.
+fn asked(alloc: Global, options: &str) -> Result<bool, InputFault> {
+    let mut text = String::from_str(alloc, "{\"options\":")?;
+    text.push_str(options)?;
+    text.push_str(",\"rows\":[{\"type\":\"Program\",\"kind\":\"module\"}]}")?;
+    let job = read_job(alloc, text.as_bytes())?;
+    Ok(job.options.minify)
+}
+
+#[test]
+fn options(rt: HostRuntime) {
+    let alloc = rt.alloc();
+    let float = InputFault::Float(head(0));
+    let wrong = InputFault::Wrong(head(0));
+    for (options, wanted) in [
+        ("null", Ok(false)),
+        ("{}", Ok(false)),
+        (r#"{"minify":null}"#, Ok(false)),
+        (r#"{"minify":false}"#, Ok(false)),
+        (r#"{"minify":true}"#, Ok(true)),
+        (r#"{"minify":true,"other":[1],"legal":null}"#, Ok(true)),
+        (r#"{"minify":1}"#, Err(wrong)),
+        (r#"{"minify":"true"}"#, Err(wrong)),
+        (r#"{"minify":1,"other":[{"a":0.5}]}"#, Err(float)),
+        (r#"[0.5]"#, Err(float)),
+        ("[]", Err(wrong)),
+        ("true", Err(wrong)),
+        (r#"{"single_quote":false}"#, Err(wrong)),
+        (r#"{"ascii_only":false}"#, Err(wrong)),
+        (r#"{"normal":true}"#, Err(wrong)),
+        (r#"{"jsdoc":true}"#, Err(wrong)),
+        (r#"{"annotation":true}"#, Err(wrong)),
+        (r#"{"legal":"inline"}"#, Err(wrong)),
+        (r#"{"legal_path":""}"#, Err(wrong)),
+        (r#"{"source_map_path":""}"#, Err(wrong)),
+        (r#"{"indent_char":"tab"}"#, Err(wrong)),
+        (r#"{"indent_width":1}"#, Err(wrong)),
+        (r#"{"initial_indent":0}"#, Err(wrong)),
+    ] {
+        assert!(rt; asked(alloc, options) == wanted);
+    }
 }
 
 #[test]
@@ -343,6 +386,89 @@ fn links(rt: HostRuntime) {
         );
         match text {
             Ok(text) => assert!(rt; fault_of(alloc, text.as_str()) == wanted, "{row}"),
+            Err(_) => assert!(rt; false, "memory"),
+        }
+    }
+}
+
+#[test]
+fn bodies(rt: HostRuntime) {
+    let alloc = rt.alloc();
+    for (row, wanted) in [
+        (r#""BlockStatement""#, None),
+        (r#""BlockStatement","body":[3,2]"#, None),
+        (r#""IfStatement","test":0,"consequent":2"#, None),
+        (
+            r#""IfStatement","test":0,"consequent":2,"alternate":null"#,
+            None,
+        ),
+        (
+            r#""IfStatement","test":0,"consequent":2,"alternate":3"#,
+            None,
+        ),
+        (r#""EmptyStatement","body":0.5"#, None),
+        (
+            r#""BlockStatement","body":2"#,
+            Some(InputFault::Wrong(at(4, 2))),
+        ),
+        (
+            r#""BlockStatement","body":[2,0]"#,
+            Some(InputFault::Child(at(4, 2))),
+        ),
+        (
+            r#""BlockStatement","body":[2,3,2]"#,
+            Some(InputFault::Shared(2)),
+        ),
+        (
+            r#""IfStatement","consequent":2"#,
+            Some(InputFault::Missing(at(4, 2))),
+        ),
+        (
+            r#""IfStatement","test":2,"consequent":2"#,
+            Some(InputFault::Child(at(4, 2))),
+        ),
+        (
+            r#""IfStatement","test":0"#,
+            Some(InputFault::Missing(at(4, 3))),
+        ),
+        (
+            r#""IfStatement","test":0,"consequent":null"#,
+            Some(InputFault::Missing(at(4, 3))),
+        ),
+        (
+            r#""IfStatement","test":0,"consequent":0"#,
+            Some(InputFault::Child(at(4, 3))),
+        ),
+        (
+            r#""IfStatement","test":0,"consequent":[2]"#,
+            Some(InputFault::Wrong(at(4, 3))),
+        ),
+        (
+            r#""IfStatement","test":0,"consequent":2,"alternate":false"#,
+            Some(InputFault::Wrong(at(4, 4))),
+        ),
+        (
+            r#""IfStatement","test":0,"consequent":2,"alternate":4"#,
+            Some(InputFault::Child(at(4, 4))),
+        ),
+        (
+            r#""IfStatement","test":0,"consequent":2,"alternate":2"#,
+            Some(InputFault::Shared(2)),
+        ),
+        (
+            r#""IfStatement","test":1,"consequent":2"#,
+            Some(InputFault::Shared(1)),
+        ),
+        (
+            r#""EmptyStatement","span":[0]"#,
+            Some(InputFault::Wrong(at(4, 1))),
+        ),
+    ] {
+        let text = format!(in alloc;
+            r#"{{"rows":[{{"type":"IdentifierReference","name":"a"}},{{"type":"IdentifierReference","name":"b"}},{{"type":"ExpressionStatement","expression":1}},{{"type":"EmptyStatement"}},{{"type":{row}}},{{"type":"Program","kind":"module","body":[4]}}]}}"#
+        );
+        match text {
+            Ok(text) => assert!(rt; fault_of(alloc, text.as_str()) == wanted),
             Err(_) => assert!(rt; false, "memory"),
         }
     }

@@ -1,5 +1,5 @@
 -- The tree of each kind of form, and of a list of forms.
-use Rattle.std.proofs.Common.{◌≡◌, ℕ, List, [], ◌∷◌, ◌++◌, ◌≤◌, length, map, take, Option, Some, None, decimal, refl, sym, ap, subst, ◌∙◌}
+use Rattle.std.proofs.Common.{◌≡◌, ℕ, false, List, [], ◌∷◌, ◌++◌, ◌≤◌, length, get_or, map, take, Option, Some, None, decimal, refl, sym, ap, subst, ◌∙◌}
 use Rattle.std.proofs.lemmas.List.{take_all}
 use Rattle.std.specs.declared.vec.Vec.{Vec}
 use Rattle.std.specs.declared.boxed.Box.{Box}
@@ -12,14 +12,15 @@ use Rattle.jsgen_syntax.specs.declared.operator.LogicalOperator.{LogicalOperator
 use Rattle.jsgen_tree.specs.declared.statements.VariableDeclarationKind.{VariableDeclarationKind}
 use Rattle.jsgen_tree.specs.Tree.{Tree, text, units, declaration_kind, binary_operator, logical_operator, no_trees, more, trees}
 use Rattle.jsgen_tree.specs.Tree as tree
+use Rattle.jsgen_tree.specs.Table.{ends_open}
 use Rattle.jsgen_tree.specs.Rows.{characters}
-use Rattle.jsgen_model.specs.Normal.{bare, chain, normal, normal_trees, joined, links}
-use Rattle.jsgen_slow.specs.Form.{form_layer, form_plain, forms_plain, init_plain}
+use Rattle.jsgen_model.specs.Normal.{bare, chain, normal, normal_trees, joined, links, unbraced}
+use Rattle.jsgen_slow.specs.Form.{form_layer, form_plain, forms_plain, optional_plain}
 use Rattle.jsgen_slow.specs.declared.form.Form.{Form}
 use Rattle.jsgen_slow.specs.declared.form.Form.TheViews.{out-Form, roll-Form, roll-out-Form}
 use Rattle.jsgen_slow.specs.declared.form.Form.TheOpen.{Form-F}
 use Rattle.jsgen_slow.specs.declared.form.Form.TheOpen as opened
-use Rattle.jsgen_slow.specs.declared.form.Form.TheVariants.{Program, ExpressionStatement, VariableDeclaration, VariableDeclarator, BindingIdentifier, IdentifierReference, NumericLiteral, StringLiteral, BinaryExpression, Chain, IdentifierName, StaticMemberExpression, ComputedMemberExpression, CallExpression, rolls-Program, rolls-ExpressionStatement, rolls-VariableDeclaration, rolls-VariableDeclarator, rolls-BindingIdentifier, rolls-IdentifierReference, rolls-NumericLiteral, rolls-StringLiteral, rolls-BinaryExpression, rolls-Chain, rolls-IdentifierName, rolls-StaticMemberExpression, rolls-ComputedMemberExpression, rolls-CallExpression}
+use Rattle.jsgen_slow.specs.declared.form.Form.TheVariants.{Program, ExpressionStatement, VariableDeclaration, VariableDeclarator, BindingIdentifier, IdentifierReference, NumericLiteral, StringLiteral, BinaryExpression, Chain, IdentifierName, StaticMemberExpression, ComputedMemberExpression, CallExpression, BlockStatement, IfStatement, EmptyStatement, rolls-Program, rolls-ExpressionStatement, rolls-VariableDeclaration, rolls-VariableDeclarator, rolls-BindingIdentifier, rolls-IdentifierReference, rolls-NumericLiteral, rolls-StringLiteral, rolls-BinaryExpression, rolls-Chain, rolls-IdentifierName, rolls-StaticMemberExpression, rolls-ComputedMemberExpression, rolls-CallExpression, rolls-BlockStatement, rolls-IfStatement, rolls-EmptyStatement}
 use Rattle.jsgen_slow.specs.declared.form.Form.TheFolds.{map-Form, fold-roll-Form, fold_out-Form}
 
 pub program : (body : Vec Form Global) → form_plain (Program body) ≡ tree.program (bare []) (forms_plain body.items)
@@ -34,7 +35,7 @@ pub variable_declaration : (kind : VariableDeclarationKind) (declarations : Vec 
 unfolding form_plain
 variable_declaration kind declarations = ap form_plain (sym (rolls-VariableDeclaration kind declarations)) ∙ fold-roll-Form Tree form_layer (opened.VariableDeclaration kind declarations)
 
-pub variable_declarator : (id : Box Form Global) (init : Option (Box Form Global)) → form_plain (VariableDeclarator id init) ≡ tree.variable_declarator (bare []) (form_plain id.value) (init_plain init)
+pub variable_declarator : (id : Box Form Global) (init : Option (Box Form Global)) → form_plain (VariableDeclarator id init) ≡ tree.variable_declarator (bare []) (form_plain id.value) (optional_plain init)
 unfolding form_plain
 variable_declarator id None = ap form_plain (sym (rolls-VariableDeclarator id None)) ∙ fold-roll-Form Tree form_layer (opened.VariableDeclarator id None)
 variable_declarator id (Some init) = ap form_plain (sym (rolls-VariableDeclarator id (Some init))) ∙ fold-roll-Form Tree form_layer (opened.VariableDeclarator id (Some init))
@@ -79,7 +80,20 @@ pub call : (callee : Box Form Global) (arguments : Vec Form Global) → form_pla
 unfolding form_plain
 call callee arguments = ap form_plain (sym (rolls-CallExpression callee arguments)) ∙ fold-roll-Form Tree form_layer (opened.CallExpression callee arguments)
 
-pub ruleset leaves = (binding_identifier, identifier_reference, numeric_literal, string_literal, identifier_name)
+pub block_statement : (body : Vec Form Global) → form_plain (BlockStatement body) ≡ tree.block (bare []) (forms_plain body.items)
+unfolding form_plain
+block_statement body = ap form_plain (sym (rolls-BlockStatement body)) ∙ fold-roll-Form Tree form_layer (opened.BlockStatement body)
+
+pub if_statement : (test consequent : Box Form Global) (alternate : Option (Box Form Global)) → form_plain (IfStatement test consequent alternate) ≡ tree.if_statement (bare []) (form_plain test.value) (form_plain consequent.value) (optional_plain alternate)
+unfolding form_plain
+if_statement test consequent None = ap form_plain (sym (rolls-IfStatement test consequent None)) ∙ fold-roll-Form Tree form_layer (opened.IfStatement test consequent None)
+if_statement test consequent (Some alternate) = ap form_plain (sym (rolls-IfStatement test consequent (Some alternate))) ∙ fold-roll-Form Tree form_layer (opened.IfStatement test consequent (Some alternate))
+
+pub empty_statement : form_plain EmptyStatement ≡ tree.empty_statement (bare [])
+unfolding form_plain
+empty_statement = ap form_plain (sym rolls-EmptyStatement) ∙ fold-roll-Form Tree form_layer opened.EmptyStatement
+
+pub ruleset leaves = (binding_identifier, identifier_reference, numeric_literal, string_literal, identifier_name, empty_statement)
 
 -- ---- lists
 
@@ -111,6 +125,9 @@ layer_links o (opened.IdentifierName name) not = refl
 layer_links o (opened.StaticMemberExpression object property) not = refl
 layer_links o (opened.ComputedMemberExpression object expression) not = refl
 layer_links o (opened.CallExpression callee arguments) not = refl
+layer_links o (opened.BlockStatement body) not = refl
+layer_links o (opened.IfStatement test consequent alternate) not = refl
+layer_links o opened.EmptyStatement not = refl
 layer_links o (opened.Chain operator operands) not = absurd (not operator operands refl)
 
 pub other_links : (o : LogicalOperator) (f : Form) → ((p : LogicalOperator) (v : Vec Form Global) → f ≡ Chain p v → ⊥) → links o (form_plain f) ≡ more (form_plain f) no_trees
@@ -118,3 +135,67 @@ unfolding form_plain
 other_links o f not =
     let layer : form_plain f ≡ form_layer (map-Form Form Tree form_plain (out-Form f)) = fold_out-Form Tree form_layer f in
     subst (λ t. links o t ≡ more t no_trees) (sym layer) (layer_links o (out-Form f) (λ p v is. not p v (sym (roll-out-Form f) ∙ (ap roll-Form is ∙ rolls-Chain p v))))
+
+-- ---- what is no block, and what is no `if`
+
+layer_unbraced : (d : Form-F Form) → ((v : Vec Form Global) → d ≡ opened.BlockStatement v → ⊥) → unbraced (form_layer (map-Form Form Tree form_plain d)) ≡ form_layer (map-Form Form Tree form_plain d)
+layer_unbraced (opened.Program body) not = refl
+layer_unbraced (opened.ExpressionStatement expression) not = refl
+layer_unbraced (opened.VariableDeclaration kind declarations) not = refl
+layer_unbraced (opened.VariableDeclarator id init) not = refl
+layer_unbraced (opened.BindingIdentifier name) not = refl
+layer_unbraced (opened.IdentifierReference name) not = refl
+layer_unbraced (opened.NumericLiteral n) not = refl
+layer_unbraced (opened.StringLiteral value) not = refl
+layer_unbraced (opened.BinaryExpression operator left right) not = refl
+layer_unbraced (opened.Chain operator operands) not = refl
+layer_unbraced (opened.IdentifierName name) not = refl
+layer_unbraced (opened.StaticMemberExpression object property) not = refl
+layer_unbraced (opened.ComputedMemberExpression object expression) not = refl
+layer_unbraced (opened.CallExpression callee arguments) not = refl
+layer_unbraced (opened.IfStatement test consequent alternate) not = refl
+layer_unbraced opened.EmptyStatement not = refl
+layer_unbraced (opened.BlockStatement body) not = absurd (not body refl)
+
+pub other_unbraced : (f : Form) → ((v : Vec Form Global) → f ≡ BlockStatement v → ⊥) → unbraced (form_plain f) ≡ form_plain f
+unfolding form_plain
+other_unbraced f not =
+    let layer : form_plain f ≡ form_layer (map-Form Form Tree form_plain (out-Form f)) = fold_out-Form Tree form_layer f in
+    subst (λ t. unbraced t ≡ t) (sym layer) (layer_unbraced (out-Form f) (λ v is. not v (sym (roll-out-Form f) ∙ (ap roll-Form is ∙ rolls-BlockStatement v))))
+
+layer_ends : (d : Form-F Form) → ((t s : Box Form Global) (o : Option (Box Form Global)) → d ≡ opened.IfStatement t s o → ⊥) → ends_open (form_layer (map-Form Form Tree form_plain d)) ≡ false
+layer_ends (opened.Program body) not = refl
+layer_ends (opened.ExpressionStatement expression) not = refl
+layer_ends (opened.VariableDeclaration kind declarations) not = refl
+layer_ends (opened.VariableDeclarator id init) not = refl
+layer_ends (opened.BindingIdentifier name) not = refl
+layer_ends (opened.IdentifierReference name) not = refl
+layer_ends (opened.NumericLiteral n) not = refl
+layer_ends (opened.StringLiteral value) not = refl
+layer_ends (opened.BinaryExpression operator left right) not = refl
+layer_ends (opened.Chain operator operands) not = refl
+layer_ends (opened.IdentifierName name) not = refl
+layer_ends (opened.StaticMemberExpression object property) not = refl
+layer_ends (opened.ComputedMemberExpression object expression) not = refl
+layer_ends (opened.CallExpression callee arguments) not = refl
+layer_ends (opened.BlockStatement body) not = refl
+layer_ends opened.EmptyStatement not = refl
+layer_ends (opened.IfStatement test consequent alternate) not = absurd (not test consequent alternate refl)
+
+pub other_ends : (f : Form) → ((t s : Box Form Global) (o : Option (Box Form Global)) → f ≡ IfStatement t s o → ⊥) → ends_open (form_plain f) ≡ false
+unfolding form_plain
+other_ends f not =
+    let layer : form_plain f ≡ form_layer (map-Form Form Tree form_plain (out-Form f)) = fold_out-Form Tree form_layer f in
+    subst (λ t. ends_open t ≡ false) (sym layer) (layer_ends (out-Form f) (λ t s o is. not t s o (sym (roll-out-Form f) ∙ (ap roll-Form is ∙ rolls-IfStatement t s o))))
+
+-- ---- a block as a consequent
+
+pub stays_around : (fs : List Form) → (length fs ≡ 1 → ⊥) → unbraced (tree.block (bare []) (forms_plain fs)) ≡ tree.block (bare []) (forms_plain fs)
+stays_around [] several = refl
+stays_around (f ∷ []) several = absurd (several refl)
+stays_around (f ∷ g ∷ fs) several = refl
+
+pub stays_around_one : (fs : List Form) (f : Form) → length fs ≡ 1 → f ≡ get_or fs 0 f → ends_open (form_plain f) ≡ false → unbraced (tree.block (bare []) (forms_plain fs)) ≡ tree.block (bare []) (forms_plain fs)
+stays_around_one [] f one is ends = refl
+stays_around_one (g ∷ []) f one is ends = rw (sym is, ends) refl
+stays_around_one (g ∷ h ∷ fs) f one is ends = refl

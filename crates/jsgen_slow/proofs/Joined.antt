@@ -123,6 +123,10 @@ unended_joined (grammar.an_expression h r) = expression_joined r
 statement_joined : {c : Allowed} {last : Bool} {ts : Tokens} {s : Tree} → ReadsStatement c last ts s → is_joined ts ≡ true
 statement_joined (grammar.ended m e r) = made _ _ (piece m (Sign semicolon) done) e (unended_joined r) refl
 statement_joined (grammar.ended_by_brace r) = unended_joined r
+statement_joined grammar.an_empty_statement = refl
+statement_joined (grammar.a_block r) = refl
+statement_joined (grammar.an_if {test = i} r s n) = and_from (may_be_given i) _ (given_from i (expression_starts r)) (statement_joined s)
+statement_joined (grammar.an_if_with_else {test = i} k e r s n o u p) = and_from (may_be_given i) _ (given_from i (expression_starts r)) (made _ _ (piece k (Word (codes "else")) _) e (statement_joined s) (statement_joined u))
 
 statements_joined : {c : Allowed} {last : Bool} {ts : Tokens} {ss : Trees} → ReadsStatements c last ts ss → is_joined ts ≡ true
 statements_joined grammar.no_statement = refl

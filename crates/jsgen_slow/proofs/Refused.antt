@@ -1,7 +1,9 @@
 -- What every program that the grammar reads has in common, and texts that haven't.
 use Rattle.std.proofs.Common.{◌≡◌, ℕ, Bool, true, false, ◌&&◌, ◌||◌, ◌==◌, List, [], ◌++◌, codes, refl, sym, ap, ◌∙◌, subst}
+use Rattle.std.specs.Prelude.{not}
 use Rattle.std.specs.List.{list_any}
 use Rattle.std.specs.Str.{bytes_eq}
+use Rattle.std.proofs.lemmas.Slice.Eq.{bytes_eq-Decides}
 use Rattle.std.proofs.lemmas.Bool.{both_ways, and_parts, and_from, or_left, or_right}
 use lib.Utf8.{encode}
 use Rattle.unicode_ident.proofs.Computing.{unicode_ident}
@@ -13,7 +15,7 @@ use Rattle.jsgen_syntax.specs.declared.operator.BinaryOperator.TheVariants as op
 use Rattle.jsgen_tree.specs.Tree.{Tree, Trees}
 use Rattle.jsgen_model.specs.Punctuator.{dot, plus, plus_plus, minus_minus, star_star, and_and, or_or, nullish, semicolon, Bracket, Round, Square, Brace, opening, closing}
 use Rattle.jsgen_model.specs.Tokens.{Tokens, done, piece, group, ◌⧺◌, Piece, Word, Number, Quoted, Sign, piece_text, is_blank, longer_stands, AreTokensOf}
-use Rattle.jsgen_model.specs.Valid.{is_free_name}
+use Rattle.jsgen_model.specs.Valid.{is_free_name, is_lexical}
 use Rattle.jsgen_model.specs.Grammar.{Allowed, Level, operator_piece, ReadsExpression, ReadsBinding, ReadsDeclarator, ReadsDeclarators, ReadsDeclaration, ReadsUnended, ReadsStatement, ReadsStatements, ReadsModule, a_module, starts_with_directive}
 use Rattle.jsgen_model.specs.Grammar as grammar
 use Rattle.jsgen_lexing.proofs.Characters.{any_append}
@@ -23,23 +25,37 @@ use Rattle.jsgen_slow.proofs.Samples.{word, sign}
 
 -- ---- a program's last token
 
--- a semicolon stands at the end; of no tokens, as the flag says
+-- a semicolon or a brace group stands at the end; of no tokens, as the flag says
 abbrev ends_so : Bool → Tokens → Bool
 ends_so last done = last
 ends_so last (piece m (Sign semicolon) ts) = ends_so true ts
 ends_so last (piece m p ts) = ends_so false ts
+ends_so last (group m Brace inside ts) = ends_so true ts
 ends_so last (group m b inside ts) = ends_so false ts
 
 ends_behind : (v m : Bool) (a b : Tokens) → ends_so true b ≡ true → ends_so v (a ⧺ piece m (Sign semicolon) b) ≡ true
 ends_behind v m done b h = h
 ends_behind v m (piece n (Sign semicolon) a) b h = ends_behind true m a b h
 ends_behind v m (piece n p a) b h = ends_behind false m a b h
+ends_behind v m (group n Brace inside a) b h = ends_behind true m a b h
 ends_behind v m (group n d inside a) b h = ends_behind false m a b h
+
+ends_past : (k : Bool) (w : List ℕ) (a b : Tokens) → ends_so false b ≡ true → (v : Bool) → ends_so v (a ⧺ piece k (Word w) b) ≡ true
+ends_past k w done b h v = h
+ends_past k w (piece n (Sign semicolon) a) b h v = ends_past k w a b h true
+ends_past k w (piece n p a) b h v = ends_past k w a b h false
+ends_past k w (group n Brace inside a) b h v = ends_past k w a b h true
+ends_past k w (group n d inside a) b h v = ends_past k w a b h false
 
 one_more : (m : Bool) (p : Piece) (a b : Tokens) → (a ⧺ piece m p done) ⧺ b ≡ a ⧺ piece m p b
 one_more m p done b = refl
 one_more m p (piece n q a) b = ap (piece n q) (one_more m p a b)
 one_more m p (group n d inside a) b = ap (group n d inside) (one_more m p a b)
+
+in_a_row : (a b d : Tokens) → (a ⧺ b) ⧺ d ≡ a ⧺ (b ⧺ d)
+in_a_row done b d = refl
+in_a_row (piece n q a) b d = ap (piece n q) (in_a_row a b d)
+in_a_row (group n e inside a) b d = ap (group n e inside) (in_a_row a b d)
 
 -- ---- its first two tokens
 
@@ -62,13 +78,34 @@ abbrev pub begins_with_name : Tokens → Bool
 begins_with_name (piece m (Word w) ts) = true
 begins_with_name ts = false
 
--- an operand that a sign, a bracket or nothing follows, or `const` and a name
+-- an operand that a sign, a bracket or nothing follows
 abbrev pub starts_well : Tokens → Bool
-starts_well (piece m (Word w) ts) = (is_free_name w && goes_on ts) || (bytes_eq w (codes "const") && begins_with_name ts)
+starts_well (piece m (Word w) ts) = is_free_name w && goes_on ts
 starts_well (piece m (Number w) ts) = goes_on ts
 starts_well (piece m (Quoted q w) ts) = goes_on ts
 starts_well (group m Round inside ts) = goes_on ts
 starts_well ts = false
+
+abbrev begins_with_const : Tokens → Bool
+begins_with_const (piece m (Word w) ts) = bytes_eq w (codes "const")
+begins_with_const ts = false
+
+-- a group in parentheses, and something behind it that begins with no `const`
+abbrev goes_to_body : Tokens → Bool
+goes_to_body (group m Round inside done) = false
+goes_to_body (group m Round inside ts) = not (begins_with_const ts)
+goes_to_body ts = false
+
+-- a word before an operand's end, `const` and a name, or `if` and what it needs
+abbrev word_begins_well : List ℕ → Tokens → Bool
+word_begins_well w ts = (is_free_name w && goes_on ts) || ((bytes_eq w (codes "const") && begins_with_name ts) || (bytes_eq w (codes "if") && goes_to_body ts))
+
+-- a statement begins so: with an operand, a declaration, `if`, a semicolon or a brace group
+abbrev begins_well : Tokens → Bool
+begins_well (piece m (Word w) ts) = word_begins_well w ts
+begins_well (piece m (Sign semicolon) ts) = true
+begins_well (group m Brace inside ts) = true
+begins_well ts = starts_well ts
 
 goes_further : (ts b : Tokens) → goes_on b ≡ true → goes_on ts ≡ true → goes_on (ts ⧺ b) ≡ true
 goes_further done b j h = j
@@ -85,18 +122,9 @@ named_further (piece n (Quoted q w) ts) b h = absurd (both_ways false refl h)
 named_further (piece n (Sign s) ts) b h = absurd (both_ways false refl h)
 named_further (group n d inside ts) b h = absurd (both_ways false refl h)
 
-either : (f g x y u v : Bool) → (g ≡ true → u ≡ true) → (y ≡ true → v ≡ true) → ((f && g) || (x && y)) ≡ true → ((f && u) || (x && v)) ≡ true
-either true true x y u v p q h = or_left _ _ (p refl)
-either true false true true u v p q h = or_right _ _ (q refl)
-either false g true true u v p q h = q refl
-either true false true false u v p q h = absurd (both_ways false refl h)
-either true false false y u v p q h = absurd (both_ways false refl h)
-either false g true false u v p q h = absurd (both_ways false refl h)
-either false g false y u v p q h = absurd (both_ways false refl h)
-
 starts_further : (ts b : Tokens) → goes_on b ≡ true → starts_well ts ≡ true → starts_well (ts ⧺ b) ≡ true
 starts_further done b j h = absurd (both_ways false refl h)
-starts_further (piece n (Word w) ts) b j h = either (is_free_name w) (goes_on ts) (bytes_eq w (codes "const")) (begins_with_name ts) _ _ (goes_further ts b j) (named_further ts b) h
+starts_further (piece n (Word w) ts) b j h = let k = and_parts (is_free_name w) (goes_on ts) h in and_from _ _ k.0 (goes_further ts b j k.1)
 starts_further (piece n (Number w) ts) b j h = goes_further ts b j h
 starts_further (piece n (Quoted q w) ts) b j h = goes_further ts b j h
 starts_further (piece n (Sign r) ts) b j h = absurd (both_ways false refl h)
@@ -169,7 +197,7 @@ expression_starts (grammar.a_coalesce r) = expression_starts r
 expression_starts (grammar.a_coalescing m e l r) = joined _ _ (piece m (Sign nullish) _) refl e (expression_starts l)
 expression_starts (grammar.a_coalesced_head r) = expression_starts r
 expression_starts (grammar.a_bit_or_head r) = expression_starts r
-expression_starts (grammar.a_reference {w = w} h) = or_left _ _ (and_from (is_free_name w) true h refl)
+expression_starts (grammar.a_reference {w = w} h) = and_from (is_free_name w) true h refl
 expression_starts grammar.a_number = refl
 expression_starts (grammar.a_string e) = refl
 expression_starts (grammar.in_parentheses r) = refl
@@ -185,20 +213,65 @@ declarators_start : {c : Allowed} {ts : Tokens} {ds : Trees} → ReadsDeclarator
 declarators_start (grammar.last_declarator r) = declarator_starts r
 declarators_start (grammar.first_declarator {a = a} m e r s) = subst (λ x. begins_with_name x ≡ true) (sym e) (named_further a _ (declarator_starts r))
 
-declaration_starts : {c : Allowed} {ts : Tokens} {t : Tree} → ReadsDeclaration c ts t → starts_well ts ≡ true
-declaration_starts (grammar.a_const r) = or_right _ _ (declarators_start r)
+-- ---- a statement's first tokens
 
-unended_starts : {c : Allowed} {ts : Tokens} {t : Tree} → ReadsUnended c ts t → starts_well ts ≡ true
-unended_starts (grammar.a_declaration r) = declaration_starts r
-unended_starts (grammar.an_expression h r) = expression_starts r
+operand_begins : (ts : Tokens) → starts_well ts ≡ true → begins_well ts ≡ true
+operand_begins done h = absurd (both_ways false refl h)
+operand_begins (piece m (Word w) ts) h = or_left _ _ h
+operand_begins (piece m (Number w) ts) h = h
+operand_begins (piece m (Quoted q w) ts) h = h
+operand_begins (piece m (Sign r) ts) h = absurd (both_ways false refl h)
+operand_begins (group m Round inside ts) h = h
+operand_begins (group m Square inside ts) h = absurd (both_ways false refl h)
+operand_begins (group m Brace inside ts) h = absurd (both_ways false refl h)
+
+declaration_begins : {c : Allowed} {ts : Tokens} {t : Tree} → ReadsDeclaration c ts t → (b : Tokens) → begins_well (ts ⧺ b) ≡ true
+declaration_begins (grammar.a_const {ts = ts} r) b = or_right _ _ (or_left _ _ (named_further ts b (declarators_start r)))
+
+unended_begins : {c : Allowed} {ts : Tokens} {t : Tree} → ReadsUnended c ts t → (b : Tokens) → goes_on b ≡ true → begins_well (ts ⧺ b) ≡ true
+unended_begins (grammar.a_declaration r) b j = declaration_begins r b
+unended_begins (grammar.an_expression {ts = ts} h r) b j = operand_begins (ts ⧺ b) (starts_further ts b j (expression_starts r))
+
+-- what is no declaration begins with no `const`
+
+const_is_reserved : is_free_name (codes "const") ≡ false
+unfolding unicode_ident is_reserved is_strict_reserved encode
+const_is_reserved = refl
+
+no_free_name : (w : List ℕ) (x : Bool) → bytes_eq w (codes "const") ≡ x → is_free_name w ≡ true → x ≡ false
+no_free_name w true e h = absurd (both_ways (is_free_name (codes "const")) const_is_reserved (subst (λ v. is_free_name v ≡ true) ((bytes_eq-Decides w (codes "const")).0 e) h))
+no_free_name w false e h = refl
+
+operand_no_const : (ts b : Tokens) → starts_well ts ≡ true → begins_with_const (ts ⧺ b) ≡ false
+operand_no_const done b h = absurd (both_ways false refl h)
+operand_no_const (piece m (Word w) ts) b h = no_free_name w (bytes_eq w (codes "const")) refl (and_parts (is_free_name w) (goes_on ts) h).0
+operand_no_const (piece m (Number w) ts) b h = refl
+operand_no_const (piece m (Quoted q w) ts) b h = refl
+operand_no_const (piece m (Sign r) ts) b h = refl
+operand_no_const (group m d inside ts) b h = refl
+
+declaration_lexical : {c : Allowed} {ts : Tokens} {t : Tree} → ReadsDeclaration c ts t → is_lexical t ≡ true
+declaration_lexical (grammar.a_const r) = refl
+
+unended_no_const : {c : Allowed} {ts : Tokens} {t : Tree} → ReadsUnended c ts t → is_lexical t ≡ false → (b : Tokens) → begins_with_const (ts ⧺ b) ≡ false
+unended_no_const (grammar.a_declaration {d = d} r) n b = absurd (both_ways (is_lexical d) n (declaration_lexical r))
+unended_no_const (grammar.an_expression {ts = ts} h r) n b = operand_no_const ts b (expression_starts r)
+
+statement_no_const : {c : Allowed} {last : Bool} {ts : Tokens} {s : Tree} → ReadsStatement c last ts s → is_lexical s ≡ false → (b : Tokens) → begins_with_const (ts ⧺ b) ≡ false
+statement_no_const (grammar.ended {a = a} m e r) n b = subst (λ x. begins_with_const (x ⧺ b) ≡ false) (sym e) (subst (λ x. begins_with_const x ≡ false) (sym (one_more m (Sign semicolon) a b)) (unended_no_const r n (piece m (Sign semicolon) b)))
+statement_no_const (grammar.ended_by_brace r) n b = unended_no_const r n b
+statement_no_const grammar.an_empty_statement n b = refl
+statement_no_const (grammar.a_block r) n b = refl
+statement_no_const (grammar.an_if r s o) n b = refl
+statement_no_const (grammar.an_if_with_else k e r s o p u q) n b = refl
 
 -- ---- a program
 
 abbrev is_sound : Tokens → Bool
 is_sound done = true
-is_sound ts = starts_well ts && ends_so true ts
+is_sound ts = begins_well ts && ends_so true ts
 
-sound_from : (ts : Tokens) → starts_well ts ≡ true → ends_so true ts ≡ true → is_sound ts ≡ true
+sound_from : (ts : Tokens) → begins_well ts ≡ true → ends_so true ts ≡ true → is_sound ts ≡ true
 sound_from done h g = refl
 sound_from (piece m p ts) h g = and_from _ _ h g
 sound_from (group m b inside ts) h g = and_from _ _ h g
@@ -208,8 +281,33 @@ sound_ends done h = refl
 sound_ends (piece m p ts) h = (and_parts _ _ h).1
 sound_ends (group m b inside ts) h = (and_parts _ _ h).1
 
-statement_sound : {c : Allowed} {a : Tokens} {s : Tree} → ReadsStatement c false a s → (b : Tokens) → ends_so true b ≡ true → is_sound (a ⧺ b) ≡ true
-statement_sound (grammar.ended {a = a} m e r) b h = subst (λ x. is_sound (x ⧺ b) ≡ true) (sym e) (subst (λ x. is_sound x ≡ true) (sym (one_more m (Sign semicolon) a b)) (sound_from (a ⧺ piece m (Sign semicolon) b) (starts_further a (piece m (Sign semicolon) b) refl (unended_starts r)) (ends_behind true m a b h)))
+-- a statement that stands before others, or at the end of a module
+statement_ends : {c : Allowed} {a : Tokens} {s : Tree} → ReadsStatement c false a s → (v : Bool) (b : Tokens) → ends_so true b ≡ true → ends_so v (a ⧺ b) ≡ true
+statement_ends (grammar.ended {a = a} m e r) v b h = subst (λ x. ends_so v (x ⧺ b) ≡ true) (sym e) (subst (λ x. ends_so v x ≡ true) (sym (one_more m (Sign semicolon) a b)) (ends_behind v m a b h))
+statement_ends grammar.an_empty_statement v b h = h
+statement_ends (grammar.a_block r) v b h = h
+statement_ends (grammar.an_if r s n) v b h = statement_ends s false b h
+statement_ends (grammar.an_if_with_else {a = a} {b = d} k e r s n o u p) v b h =
+    let w : List ℕ = codes "else" in
+    subst (λ x. ends_so false (x ⧺ b) ≡ true) (sym e) (subst (λ x. ends_so false x ≡ true) (sym (in_a_row a (piece k (Word w) d) b)) (ends_past k w a (d ⧺ b) (statement_ends u false b h) false))
+
+-- what stands behind `if` and its test
+body_begins : (next : Bool) (test ts : Tokens) → begins_with_const ts ≡ false → ends_so false ts ≡ true → goes_to_body (group next Round test ts) ≡ true
+body_begins next test done n h = absurd (both_ways false refl h)
+body_begins next test (piece m p ts) n h = ap not n
+body_begins next test (group m d inside ts) n h = ap not n
+
+statement_begins : {c : Allowed} {a : Tokens} {s : Tree} → ReadsStatement c false a s → (b : Tokens) → ends_so true b ≡ true → begins_well (a ⧺ b) ≡ true
+statement_begins (grammar.ended {a = a} m e r) b h = subst (λ x. begins_well (x ⧺ b) ≡ true) (sym e) (subst (λ x. begins_well x ≡ true) (sym (one_more m (Sign semicolon) a b)) (unended_begins r (piece m (Sign semicolon) b) refl))
+statement_begins grammar.an_empty_statement b h = refl
+statement_begins (grammar.a_block r) b h = refl
+statement_begins (grammar.an_if {next = next} {test = test} {ts = ts} r s n) b h = or_right _ _ (body_begins next test (ts ⧺ b) (statement_no_const s n b) (statement_ends s false b h))
+statement_begins (grammar.an_if_with_else {next = next} {test = test} {ts = ts} {a = a} {b = d} k e r s n o u p) b h =
+    let w : List ℕ = codes "else" in
+    or_right _ _ (body_begins next test (ts ⧺ b) (subst (λ x. begins_with_const (x ⧺ b) ≡ false) (sym e) (subst (λ x. begins_with_const x ≡ false) (sym (in_a_row a (piece k (Word w) d) b)) (statement_no_const s n (piece k (Word w) (d ⧺ b))))) (subst (λ x. ends_so false (x ⧺ b) ≡ true) (sym e) (subst (λ x. ends_so false x ≡ true) (sym (in_a_row a (piece k (Word w) d) b)) (ends_past k w a (d ⧺ b) (statement_ends u false b h) false))))
+
+statement_sound : {c : Allowed} (a : Tokens) {s : Tree} → ReadsStatement c false a s → (b : Tokens) → ends_so true b ≡ true → is_sound (a ⧺ b) ≡ true
+statement_sound a r b h = sound_from (a ⧺ b) (statement_begins r b h) (statement_ends r true b h)
 
 end_nothing : (a : Tokens) → a ⧺ done ≡ a
 end_nothing done = refl
@@ -218,8 +316,8 @@ end_nothing (group m b inside a) = ap (group m b inside) (end_nothing a)
 
 statements_sound : {c : Allowed} {ts : Tokens} {ss : Trees} → ReadsStatements c false ts ss → is_sound ts ≡ true
 statements_sound grammar.no_statement = refl
-statements_sound (grammar.last_statement {ts = ts} r) = subst (λ x. is_sound x ≡ true) (end_nothing ts) (statement_sound r done refl)
-statements_sound (grammar.first_statement {a = a} {b = b} e r s) = subst (λ x. is_sound x ≡ true) (sym e) (statement_sound r b (sound_ends b (statements_sound s)))
+statements_sound (grammar.last_statement {ts = ts} r) = subst (λ x. is_sound x ≡ true) (end_nothing ts) (statement_sound ts r done refl)
+statements_sound (grammar.first_statement {a = a} {b = b} e r s) = subst (λ x. is_sound x ≡ true) (sym e) (statement_sound a r b (sound_ends b (statements_sound s)))
 
 module_sound : {ts : Tokens} {t : Tree} → ReadsModule ts t → is_sound ts ≡ true
 module_sound (a_module h r) = statements_sound r
@@ -264,6 +362,18 @@ unended_name = refused (codes "a") (word (codes "a") done) ([], [], refl, refl, 
 pub unended_declaration : IsNotRead (codes "const a")
 unfolding unicode_ident longer_stands is_reserved is_strict_reserved encode
 unended_declaration = refused (codes "const a") (word (codes "const") (word (codes "a") done)) ([], codes " a", refl, refl, refl, refl, refl, (codes " ", [], refl, refl, refl, refl, refl, refl)) refl
+
+pub declaration_behind_if : IsNotRead (codes "if(a)const b;")
+unfolding unicode_ident longer_stands is_reserved is_strict_reserved encode
+declaration_behind_if = refused (codes "if(a)const b;") (word (codes "if") (group false Round (word (codes "a") done) (word (codes "const") (word (codes "b") (sign semicolon done))))) ([], codes "(a)const b;", refl, refl, refl, refl, refl, ([], codes "a", codes "const b;", refl, refl, refl, ([], [], refl, refl, refl, refl, refl, refl), ([], codes " b;", refl, refl, refl, refl, refl, (codes " ", codes ";", refl, refl, refl, refl, refl, ([], [], refl, refl, refl, refl, refl, refl))))) refl
+
+pub else_alone : IsNotRead (codes "else;")
+unfolding unicode_ident longer_stands is_reserved is_strict_reserved encode
+else_alone = refused (codes "else;") (word (codes "else") (sign semicolon done)) ([], codes ";", refl, refl, refl, refl, refl, ([], [], refl, refl, refl, refl, refl, refl)) refl
+
+pub no_consequent : IsNotRead (codes "if(a)")
+unfolding unicode_ident longer_stands is_reserved is_strict_reserved encode
+no_consequent = refused (codes "if(a)") (word (codes "if") (group false Round (word (codes "a") done) done)) ([], codes "(a)", refl, refl, refl, refl, refl, ([], codes "a", [], refl, refl, refl, ([], [], refl, refl, refl, refl, refl, refl), refl)) refl
 
 -- ---- directives
 

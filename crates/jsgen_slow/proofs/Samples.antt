@@ -7,7 +7,7 @@ use Rattle.jsgen_syntax.specs.Strings.{string_value}
 use Rattle.jsgen_syntax.specs.declared.quote.Quote.TheVariants.{Double, Backtick}
 use Rattle.jsgen_syntax.specs.declared.operator.BinaryOperator.TheVariants.{Addition, Subtraction, Multiplication}
 use Rattle.jsgen_tree.specs.Tree.{Tree, absent, given, no_trees, more}
-use Rattle.jsgen_model.specs.Punctuator.{Punctuator, plus, minus, star, star_star, comma, semicolon, dot, equal, Round, Square}
+use Rattle.jsgen_model.specs.Punctuator.{Punctuator, plus, minus, star, star_star, comma, semicolon, dot, equal, Round, Square, Brace}
 use Rattle.jsgen_model.specs.Tokens.{Tokens, done, piece, group, ◌⧺◌, Word, Number, Quoted, Sign, longer_stands}
 use Rattle.jsgen_model.specs.Valid.{is_free_name}
 use Rattle.jsgen_model.specs.Grammar.{Allowed, Level, Expression, Assignment, Multiplicative, Additive, Exponent, Update, Primary, in_module, with_in, ReadsExpression, ReadsBinding, ReadsDeclarator, ReadsDeclarators, ReadsDeclaration, ReadsUnended, ReadsStatement, ReadsStatements, ReadsModule, a_module}
@@ -171,4 +171,54 @@ template = (
   piece false (Quoted Backtick (codes "\\n")) (sign semicolon done),
   ([], codes ";", refl, refl, refl, refl, refl, ([], [], refl, refl, refl, refl, refl, refl)),
   a_module refl (grammar.last_statement (grammar.ended {a = piece false (Quoted Backtick (codes "\\n")) done} false refl (grammar.an_expression refl (whole (first_of_sum (grammar.a_string {q = Backtick} {w = codes "\\n"} {us = 10 ∷ []} refl)))))),
+)
+
+-- ---- blocks, `if` and a semicolon alone
+
+pub semicolon_alone : IsRead (codes ";") (samples.module_of (more samples.empty no_trees))
+unfolding unicode_ident longer_stands
+semicolon_alone = (
+  sign semicolon done,
+  ([], [], refl, refl, refl, refl, refl, refl),
+  a_module refl (grammar.last_statement grammar.an_empty_statement),
+)
+
+pub block : IsRead (codes "{a;b}") (samples.module_of (more (samples.block_of (more (samples.statement_of samples.a) (more (samples.statement_of samples.b) no_trees))) no_trees))
+unfolding unicode_ident longer_stands
+block = (
+  group false Brace (word (codes "a") (sign semicolon (word (codes "b") done))) done,
+  ([], codes "a;b", [], refl, refl, refl, ([], codes ";b", refl, refl, refl, refl, refl, ([], codes "b", refl, refl, refl, refl, refl, ([], [], refl, refl, refl, refl, refl, refl))), refl),
+  a_module refl (grammar.last_statement (grammar.a_block (grammar.first_statement {a = word (codes "a") (sign semicolon done)} {b = word (codes "b") done} refl (grammar.ended {a = word (codes "a") done} false refl (grammar.an_expression refl (whole (first_of_sum read_a)))) (grammar.last_statement (grammar.ended_by_brace (grammar.an_expression refl (whole (first_of_sum read_b)))))))),
+)
+
+pub empty_in_block : IsRead (codes "{;}") (samples.module_of (more (samples.block_of (more samples.empty no_trees)) no_trees))
+unfolding unicode_ident longer_stands
+empty_in_block = (
+  group false Brace (sign semicolon done) done,
+  ([], codes ";", [], refl, refl, refl, ([], [], refl, refl, refl, refl, refl, refl), refl),
+  a_module refl (grammar.last_statement (grammar.a_block (grammar.last_statement grammar.an_empty_statement))),
+)
+
+pub without_else : IsRead (codes "if(a)b;") (samples.module_of (more (samples.if_of samples.a (samples.statement_of samples.b) absent) no_trees))
+unfolding unicode_ident longer_stands
+without_else = (
+  word (codes "if") (group false Round (word (codes "a") done) (word (codes "b") (sign semicolon done))),
+  ([], codes "(a)b;", refl, refl, refl, refl, refl, ([], codes "a", codes "b;", refl, refl, refl, ([], [], refl, refl, refl, refl, refl, refl), ([], codes ";", refl, refl, refl, refl, refl, ([], [], refl, refl, refl, refl, refl, refl)))),
+  a_module refl (grammar.last_statement (grammar.an_if (whole (first_of_sum read_a)) (grammar.ended {a = word (codes "b") done} false refl (grammar.an_expression refl (whole (first_of_sum read_b)))) refl)),
+)
+
+pub with_else : IsRead (codes "if(a)b;else c;") (samples.module_of (more (samples.if_of samples.a (samples.statement_of samples.b) (given (samples.statement_of samples.c))) no_trees))
+unfolding unicode_ident longer_stands
+with_else = (
+  word (codes "if") (group false Round (word (codes "a") done) (word (codes "b") (sign semicolon (word (codes "else") (word (codes "c") (sign semicolon done)))))),
+  ([], codes "(a)b;else c;", refl, refl, refl, refl, refl, ([], codes "a", codes "b;else c;", refl, refl, refl, ([], [], refl, refl, refl, refl, refl, refl), ([], codes ";else c;", refl, refl, refl, refl, refl, ([], codes "else c;", refl, refl, refl, refl, refl, ([], codes " c;", refl, refl, refl, refl, refl, (codes " ", codes ";", refl, refl, refl, refl, refl, ([], [], refl, refl, refl, refl, refl, refl))))))),
+  a_module refl (grammar.last_statement (grammar.an_if_with_else {a = word (codes "b") (sign semicolon done)} {b = word (codes "c") (sign semicolon done)} false refl (whole (first_of_sum read_a)) (grammar.ended {a = word (codes "b") done} false refl (grammar.an_expression refl (whole (first_of_sum read_b)))) refl refl (grammar.ended {a = word (codes "c") done} false refl (grammar.an_expression refl (whole (first_of_sum read_c)))) refl)),
+)
+
+pub last_if : IsRead (codes "if(a)if(b)c;else;") (samples.module_of (more (samples.if_of samples.a (samples.if_of samples.b (samples.statement_of samples.c) (given samples.empty)) absent) no_trees))
+unfolding unicode_ident longer_stands
+last_if = (
+  word (codes "if") (group false Round (word (codes "a") done) (word (codes "if") (group false Round (word (codes "b") done) (word (codes "c") (sign semicolon (word (codes "else") (sign semicolon done))))))),
+  ([], codes "(a)if(b)c;else;", refl, refl, refl, refl, refl, ([], codes "a", codes "if(b)c;else;", refl, refl, refl, ([], [], refl, refl, refl, refl, refl, refl), ([], codes "(b)c;else;", refl, refl, refl, refl, refl, ([], codes "b", codes "c;else;", refl, refl, refl, ([], [], refl, refl, refl, refl, refl, refl), ([], codes ";else;", refl, refl, refl, refl, refl, ([], codes "else;", refl, refl, refl, refl, refl, ([], codes ";", refl, refl, refl, refl, refl, ([], [], refl, refl, refl, refl, refl, refl)))))))),
+  a_module refl (grammar.last_statement (grammar.an_if (whole (first_of_sum read_a)) (grammar.an_if_with_else {a = word (codes "c") (sign semicolon done)} {b = sign semicolon done} false refl (whole (first_of_sum read_b)) (grammar.ended {a = word (codes "c") done} false refl (grammar.an_expression refl (whole (first_of_sum read_c)))) refl refl grammar.an_empty_statement refl) refl)),
 )

@@ -28,6 +28,9 @@ form_layer (forms.IdentifierName name) = tree.identifier_name (bare (text (chara
 form_layer (forms.StaticMemberExpression object property) = tree.static_member (bare []) object.value property.value
 form_layer (forms.ComputedMemberExpression object expression) = tree.computed_member (bare []) object.value expression.value
 form_layer (forms.CallExpression callee arguments) = tree.call (bare []) callee.value (trees arguments.items)
+form_layer (forms.BlockStatement body) = tree.block (bare []) (trees body.items)
+form_layer (forms.IfStatement test consequent alternate) = tree.if_statement (bare []) test.value consequent.value (optional (option_map (λ b. b.value) alternate))
+form_layer forms.EmptyStatement = tree.empty_statement (bare [])
 
 unfoldable pub form_plain : Form → Tree
 form_plain = fold-Form Tree form_layer
@@ -35,5 +38,5 @@ form_plain = fold-Form Tree form_layer
 abbrev pub forms_plain : List Form → Trees
 forms_plain fs = trees (map form_plain fs)
 
-abbrev pub init_plain : Option (Box Form Global) → Maybe
-init_plain init = optional (option_map (λ b. form_plain b.value) init)
+abbrev pub optional_plain : Option (Box Form Global) → Maybe
+optional_plain form = optional (option_map (λ b. form_plain b.value) form)

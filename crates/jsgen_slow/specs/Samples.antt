@@ -76,6 +76,15 @@ bound name value = tree.variable_declarator (bare []) (tree.binding_identifier (
 abbrev pub const_of : Trees → Tree
 const_of bounds = tree.variable_declaration (bare (declaration_kind Const ∷ [])) bounds
 
+abbrev pub block_of : Trees → Tree
+block_of statements = tree.block (bare []) statements
+
+abbrev pub if_of : Tree → Tree → Maybe → Tree
+if_of test consequent alternate = tree.if_statement (bare []) test consequent alternate
+
+abbrev pub empty : Tree
+empty = tree.empty_statement (bare [])
+
 -- ---- the samples
 
 pub record GrammarSamples : Type 0 where
@@ -98,6 +107,14 @@ pub record GrammarSamples : Type 0 where
   pub string : IsRead (codes "(\"a\");") (module_of (more (statement_of (in_parentheses (string_of (codes "a")))) no_trees))
   -- a template may begin a program, since it is no directive (11.2.1), and an escape is read
   pub template : IsRead (codes "`\\n`;") (module_of (more (statement_of (string_of (10 ∷ []))) no_trees))
+  pub semicolon_alone : IsRead (codes ";") (module_of (more empty no_trees))
+  -- before a closing brace the semicolon may lack (12.10)
+  pub block : IsRead (codes "{a;b}") (module_of (more (block_of (more (statement_of a) (more (statement_of b) no_trees))) no_trees))
+  pub empty_in_block : IsRead (codes "{;}") (module_of (more (block_of (more empty no_trees)) no_trees))
+  pub without_else : IsRead (codes "if(a)b;") (module_of (more (if_of a (statement_of b) absent) no_trees))
+  pub with_else : IsRead (codes "if(a)b;else c;") (module_of (more (if_of a (statement_of b) (given (statement_of c))) no_trees))
+  -- `else` goes with the last `if` that has none (14.6)
+  pub last_if : IsRead (codes "if(a)if(b)c;else;") (module_of (more (if_of a (if_of b (statement_of c) (given empty)) absent) no_trees))
   pub two_names : IsNotRead (codes "a b")
   pub two_numbers : IsNotRead (codes "1 2;")
   pub no_right_operand : IsNotRead (codes "a +")
@@ -116,6 +133,10 @@ pub record GrammarSamples : Type 0 where
   -- at a module's end the definition adds no semicolon, though 12.10 does
   pub unended_name : IsNotRead (codes "a")
   pub unended_declaration : IsNotRead (codes "const a")
+  -- no declaration is what `if` is followed by (14.6)
+  pub declaration_behind_if : IsNotRead (codes "if(a)const b;")
+  pub else_alone : IsNotRead (codes "else;")
+  pub no_consequent : IsNotRead (codes "if(a)")
 
 -- ---- normal forms
 
@@ -145,3 +166,9 @@ pub record NormalSamples : Type 0 where
   pub value_or_none : AreTwo (const_of (more (bound (codes "a") absent) no_trees)) (const_of (more (bound (codes "a") (given one)) no_trees))
   -- `a;b;` and `b;a;`
   pub order : AreTwo (module_of (more (statement_of a) (more (statement_of b) no_trees))) (module_of (more (statement_of b) (more (statement_of a) no_trees)))
+  -- `if(a){if(b)c;}else b;` and the same without braces, which no text is read as
+  pub braces_of_a_consequent : AreOne (if_of a (block_of (more (if_of b (statement_of c) absent) no_trees)) (given (statement_of b))) (if_of a (if_of b (statement_of c) absent) (given (statement_of b)))
+  -- `if(a){b;}` and `if(a)b;`
+  pub block_or_statement : AreTwo (if_of a (block_of (more (statement_of b) no_trees)) absent) (if_of a (statement_of b) absent)
+  -- `if(a)b;else;` and `if(a)b;`
+  pub alternate_or_none : AreTwo (if_of a (statement_of b) (given empty)) (if_of a (statement_of b) absent)

@@ -56,4 +56,14 @@ pub enum Form {
         callee: Box<Form>,
         arguments: Vec<Form>,
     },
+    BlockStatement {
+        body: Vec<Form>,
+    },
+    /// A consequent that ends in an `if` without `else` has no braces round it.
+    IfStatement {
+        test: Box<Form>,
+        consequent: Box<Form>,
+        alternate: Option<Box<Form>>,
+    },
+    EmptyStatement,
 }

@@ -1,19 +1,20 @@
 // The normal form of each type of node.
 ghost use Rattle.std.specs.Prelude.{◌≡◌, ◌∷◌, [], map, option_map, IfOk};
-ghost use Rattle.jsgen_tree.specs.Tree.{trees, optional};
-ghost use Rattle.jsgen_tree.specs.Rows.{program_row, expression_statement_row, variable_declaration_row, variable_declarator_row, binding_identifier_row, identifier_reference_row, numeric_literal_row, string_literal_row, parenthesized_expression_row, binary_expression_row, logical_expression_row, identifier_name_row, static_member_expression_row, computed_member_expression_row, call_expression_row, expression_plain, statement_plain, declaration_plain, binding_pattern_plain, in_expression, in_statement, in_argument};
+ghost use Rattle.jsgen_tree.specs.Tree.{trees, optional, block};
+ghost use Rattle.jsgen_tree.specs.Rows.{program_row, expression_statement_row, block_statement_row, if_statement_row, empty_statement_row, variable_declaration_row, variable_declarator_row, binding_identifier_row, identifier_reference_row, numeric_literal_row, string_literal_row, parenthesized_expression_row, binary_expression_row, logical_expression_row, identifier_name_row, static_member_expression_row, computed_member_expression_row, call_expression_row, expression_plain, statement_plain, declaration_plain, binding_pattern_plain, in_expression, in_statement, in_argument};
 ghost use Rattle.jsgen_tree.specs.Plain.{node_plain};
-ghost use Rattle.jsgen_model.specs.Normal.{normal, normal_maybe, normal_trees, joined, links, same_operator};
-ghost use Rattle.jsgen_slow.specs.Form.{form_plain, forms_plain, init_plain};
+ghost use Rattle.jsgen_tree.specs.Table.{ends_open};
+ghost use Rattle.jsgen_model.specs.Normal.{bare, normal, normal_maybe, normal_trees, joined, links, same_operator, unbraced};
+ghost use Rattle.jsgen_slow.specs.Form.{form_plain, forms_plain, optional_plain};
 
 use crate::form::Form;
 use jsgen_syntax::{LogicalOperator, Memory};
 use jsgen_tree::{
-    Argument, BinaryExpression, BindingIdentifier, BindingPattern, CallExpression,
-    ComputedMemberExpression, Declaration, Expression, ExpressionNode, ExpressionStatement,
-    IdentifierName, IdentifierReference, LogicalExpression, Node, NumericLiteral, NumericValue,
-    ParenthesizedExpression, Program, Statement, StatementNode, StaticMemberExpression,
-    StringLiteral, VariableDeclaration, VariableDeclarator,
+    Argument, BinaryExpression, BindingIdentifier, BindingPattern, BlockStatement, CallExpression,
+    ComputedMemberExpression, Declaration, EmptyStatement, Expression, ExpressionNode,
+    ExpressionStatement, IdentifierName, IdentifierReference, IfStatement, LogicalExpression, Node,
+    NumericLiteral, NumericValue, ParenthesizedExpression, Program, Statement, StatementNode,
+    StaticMemberExpression, StringLiteral, VariableDeclaration, VariableDeclarator,
 };
 use std::alloc::Global;
 
@@ -59,6 +60,100 @@ fn expression_statement_form<N: NormalNode>(
     })
 }
 
+fn block_statement_form<N: NormalNode>(
+    alloc: Global,
+    node: &BlockStatement<N>,
+) -> Result<Form, Memory>
+    ensures { IfOk result (λ f. form_plain f ≡ normal (block_statement_row N.plain node.now)) }
+{
+    Ok(Form::BlockStatement {
+        body: statement_forms(alloc, &node.body)?,
+    })
+}
+
+fn if_statement_form<N: NormalNode>(alloc: Global, node: &IfStatement<N>) -> Result<Form, Memory>
+    ensures { IfOk result (λ f. form_plain f ≡ normal (if_statement_row N.plain node.now)) }
+{
+    let test = Box::new(alloc, node.test.get().normal_form(alloc)?)?;
+    let consequent = consequent_form(alloc, &node.consequent)?;
+    let alternate = alternate_form(alloc, &node.alternate)?;
+    Ok(Form::IfStatement {
+        test,
+        consequent,
+        alternate,
+    })
+}
+
+fn consequent_form<N: NormalNode>(
+    alloc: Global,
+    consequent: &StatementNode<N>,
+) -> Result<Box<Form>, Memory>
+    ensures { IfOk result (λ b. form_plain b.value ≡ unbraced (normal (in_statement N.plain consequent.now))) }
+{
+    let form = consequent.get().normal_form(alloc)?;
+    Ok(Box::new(alloc, unbraced(form))?)
+}
+
+fn alternate_form<N: NormalNode>(
+    alloc: Global,
+    alternate: &Option<StatementNode<N>>,
+) -> Result<Option<Box<Form>>, Memory>
+    ensures { IfOk result (λ o. optional_plain o ≡ normal_maybe (optional (option_map (in_statement N.plain) alternate.now))) }
+{
+    match alternate {
+        Some(alternate) => {
+            let form = alternate.get().normal_form(alloc)?;
+            Ok(Some(Box::new(alloc, form)?))
+        }
+        None => Ok(None),
+    }
+}
+
+// A block round one statement that ends in an `if` without `else` is that statement.
+fn unbraced(form: Form) -> Form
+    ensures { form_plain result ≡ unbraced (form_plain form) }
+{
+    match form {
+        Form::BlockStatement { body } => unbraced_block(body),
+        other => other,
+    }
+}
+
+fn unbraced_block(mut body: Vec<Form>) -> Form
+    ensures { form_plain result ≡ unbraced (block (bare []) (forms_plain body.items)) }
+{
+    if body.len() != 1 {
+        return Form::BlockStatement { body };
+    }
+    if ends_open(&body[0]) {
+        body.remove(0)
+    } else {
+        Form::BlockStatement { body }
+    }
+}
+
+// Whether the statement ends in an `if` without `else`.
+fn ends_open(form: &Form) -> bool
+    ensures { result ≡ ends_open (form_plain form.now) }
+{
+    match form {
+        Form::IfStatement { alternate, .. } => {
+            match alternate {
+                Some(alternate) => ends_open(alternate),
+                None => true,
+            }
+        }
+        _ => false,
+    }
+}
+
+#[tactic(auto, using(crate::proofs::Forms::leaves))]
+fn empty_statement_form(_node: &EmptyStatement) -> Form
+    ensures { form_plain result ≡ normal (empty_statement_row _node.now) }
+{
+    Form::EmptyStatement
+}
+
 fn variable_declaration_form<N: NormalNode>(
     alloc: Global,
     node: &VariableDeclaration<N>,
@@ -99,7 +194,7 @@ fn init_form<N: NormalNode>(
     alloc: Global,
     init: &Option<ExpressionNode<N>>,
 ) -> Result<Option<Box<Form>>, Memory>
-    ensures { IfOk result (λ o. init_plain o ≡ normal_maybe (optional (option_map (in_expression N.plain) init.now))) }
+    ensures { IfOk result (λ o. optional_plain o ≡ normal_maybe (optional (option_map (in_expression N.plain) init.now))) }
 {
     match init {
         Some(init) => {
@@ -331,6 +426,9 @@ fn statement_form<N: NormalNode>(alloc: Global, node: &Statement<N>) -> Result<F
     match node {
         Statement::Declaration(declaration) => declaration.get().normal_form(alloc),
         Statement::ExpressionStatement(node) => expression_statement_form(alloc, node),
+        Statement::BlockStatement(node) => block_statement_form(alloc, node),
+        Statement::IfStatement(node) => if_statement_form(alloc, node),
+        Statement::EmptyStatement(node) => Ok(empty_statement_form(node)),
     }
 }
 

@@ -2,11 +2,11 @@
 use crate::normal_form;
 use jsgen_syntax::{BinaryOperator, JsStr, LogicalOperator, Memory, SourceKind, Span};
 use jsgen_tree::{
-    Argument, BinaryExpression, BindingIdentifier, BindingPattern, CallExpression,
-    ComputedMemberExpression, Declaration, Expression, ExpressionStatement, IdentifierName,
-    IdentifierReference, LogicalExpression, NumericLiteral, NumericValue, ParenthesizedExpression,
-    Program, Statement, StatementNode, StaticMemberExpression, StringLiteral, VariableDeclaration,
-    VariableDeclarationKind, VariableDeclarator,
+    Argument, BinaryExpression, BindingIdentifier, BindingPattern, BlockStatement, CallExpression,
+    ComputedMemberExpression, Declaration, EmptyStatement, Expression, ExpressionStatement,
+    IdentifierName, IdentifierReference, IfStatement, LogicalExpression, NumericLiteral,
+    NumericValue, ParenthesizedExpression, Program, Statement, StaticMemberExpression,
+    StringLiteral, VariableDeclaration, VariableDeclarationKind, VariableDeclarator,
 };
 use std::alloc::Global;
 use std::rt::HostRuntime;
@@ -16,8 +16,9 @@ use std::test::Fail;
 // capital letter a string, a digit a number, `(` puts what stands before it in parentheses, and `&`, `|` and `?` are
 // `&&`, `||` and `??`. `.` and `,` are the members `.m` and `.n`, and `[` is a computed member. `!` is a call without
 // arguments, `~` one that is pure, and `#` adds an argument to a call. `;` ends an expression statement, `=` is
-// `const x=` what stands before it, and `:` is `const x`.
-const PAIRS: [(&str, &str, bool); 49] = [
+// `const x=` what stands before it, and `:` is `const x`. `_` is a semicolon alone and `{` an empty block, `>` is an `if`
+// by the statement and the operand before it, and `}` puts a statement into the block or behind the `else` before it.
+const PAIRS: [(&str, &str, bool); 72] = [
     ("", "", true),
     ("", "a;", false),
     ("a;", "a;", true),
@@ -85,6 +86,42 @@ const PAIRS: [(&str, &str, bool); 49] = [
     // `a;b;` and `b;a;`
     ("a;b;", "b;a;", false),
     ("a;b;", "a(;b(;", true),
+    // statements that hold others
+    ("_", "_", true),
+    ("_", "", false),
+    ("{", "{", true),
+    ("{", "_", false),
+    ("{_}", "{", false),
+    ("{a(;}b;}", "{a;}b(;}", true),
+    ("{a;}b;}", "{b;}a;}", false),
+    // `{a}` and `a`
+    ("{a;}", "a;", false),
+    // `if((a))b` and `if(a)b`
+    ("b;a(>", "b;a>", true),
+    ("b;a>", "b;c>", false),
+    ("b;a>", "c;a>", false),
+    // `if(a){b}` and `if(a)b`
+    ("{b;}a>", "b;a>", false),
+    // `if(a)b;else c` and `if(a)b`
+    ("b;a>c;}", "b;a>", false),
+    ("b;a>c(;}", "b;a>c;}", true),
+    ("b;a>c;}", "c;a>b;}", false),
+    // `if(a){if(b)c}` and `if(a)if(b)c`
+    ("{c;b>}a>", "c;b>a>", true),
+    // `if(a){if(b)c}else d`, and the same without braces
+    ("{c;b>}a>d;}", "c;b>a>d;}", true),
+    // `if(a){if(b)c;else d}` and `if(a)if(b)c;else d`
+    ("{c;b>d;}}a>", "c;b>d;}a>", false),
+    // `if(a){if(b)c;else if(d)e}` and `if(a)if(b)c;else if(d)e`
+    ("{c;b>e;d>}}a>", "c;b>e;d>}a>", true),
+    // `if(a){{if(b)c}}` and `if(a){if(b)c}`
+    ("{{c;b>}}a>", "{c;b>}a>", false),
+    // `if(a){if(b)c;d}` and `if(a){if(b)c}`
+    ("{c;b>}d;}a>", "{c;b>}a>", false),
+    // `if(a)b;else{if(c)d}` and `if(a)b;else if(c)d`
+    ("b;a>{d;c>}}", "b;a>d;c>}", false),
+    // `if(a){if(b){if(c)d}}` and `if(a)if(b)if(c)d`
+    ("{{d;c>}b>}a>", "d;c>b>a>", true),
 ];
 
 #[test]
@@ -117,13 +154,17 @@ fn have_one_form(alloc: Global, left: &str, right: &str) -> Result<Option<bool>,
 
 fn read_program(alloc: Global, text: &str) -> Result<Option<Program>, Memory> {
     let mut operands = Vec::new(alloc);
-    let mut body = Vec::new(alloc);
+    let mut statements = Vec::new(alloc);
     let mut span = Span { start: 0, end: 0 };
     for sign in text.chars() {
         span.end = span.end.wrapping_add(1);
-        if !take_sign(alloc, span, sign, &mut operands, &mut body)? {
+        if !take_sign(alloc, span, sign, &mut operands, &mut statements)? {
             return Ok(None);
         }
+    }
+    let mut body = Vec::new(alloc);
+    for statement in statements {
+        body.push(statement.into())?;
     }
     Ok(Some(Program {
         span,
@@ -139,10 +180,12 @@ fn take_sign(
     span: Span,
     sign: char,
     operands: &mut Vec<Expression>,
-    body: &mut Vec<StatementNode>,
+    statements: &mut Vec<Statement>,
 ) -> Result<bool, Memory> {
     let statement = match sign {
         ':' => constant(alloc, span, None)?,
+        '_' => Statement::EmptyStatement(Box::new(alloc, EmptyStatement { span })?),
+        '{' => empty_block(alloc, span)?,
         '=' | ';' => {
             let Some(operand) = operands.pop() else {
                 return Ok(false);
@@ -153,9 +196,35 @@ fn take_sign(
                 expression_statement(alloc, span, operand)?
             }
         }
+        '>' | '}' => return take_statement(alloc, span, sign, operands, statements),
         _ => return take_operand(alloc, span, sign, operands),
     };
-    body.push(statement.into())?;
+    statements.push(statement)?;
+    Ok(true)
+}
+
+fn take_statement(
+    alloc: Global,
+    span: Span,
+    sign: char,
+    operands: &mut Vec<Expression>,
+    statements: &mut Vec<Statement>,
+) -> Result<bool, Memory> {
+    let Some(inner) = statements.pop() else {
+        return Ok(false);
+    };
+    let statement = if sign == '>' {
+        let Some(test) = operands.pop() else {
+            return Ok(false);
+        };
+        branch(alloc, span, test, inner)?
+    } else {
+        let Some(outer) = statements.pop() else {
+            return Ok(false);
+        };
+        with_statement(outer, inner)?
+    };
+    statements.push(statement)?;
     Ok(true)
 }
 
@@ -334,6 +403,42 @@ fn expression_statement(
     let expression = expression.into();
     let node = Box::new(alloc, ExpressionStatement { span, expression })?;
     Ok(Statement::ExpressionStatement(node))
+}
+
+fn empty_block(alloc: Global, span: Span) -> Result<Statement, Memory> {
+    let body = Vec::new(alloc);
+    let node = Box::new(alloc, BlockStatement { span, body })?;
+    Ok(Statement::BlockStatement(node))
+}
+
+fn branch(
+    alloc: Global,
+    span: Span,
+    test: Expression,
+    consequent: Statement,
+) -> Result<Statement, Memory> {
+    let node = IfStatement {
+        span,
+        test: test.into(),
+        consequent: consequent.into(),
+        alternate: None,
+    };
+    Ok(Statement::IfStatement(Box::new(alloc, node)?))
+}
+
+// The block with one statement more, or the `if` with this alternate; what is neither stays.
+fn with_statement(outer: Statement, inner: Statement) -> Result<Statement, Memory> {
+    match outer {
+        Statement::BlockStatement(mut node) => {
+            node.body.push(inner.into())?;
+            Ok(Statement::BlockStatement(node))
+        }
+        Statement::IfStatement(mut node) => {
+            node.alternate = Some(inner.into());
+            Ok(Statement::IfStatement(node))
+        }
+        other => Ok(other),
+    }
 }
 
 fn constant(alloc: Global, span: Span, value: Option<Expression>) -> Result<Statement, Memory> {

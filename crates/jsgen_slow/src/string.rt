@@ -1,5 +1,5 @@
 // What the spelling of a string stands for (ECMA-262, 12.9.4.2 and 12.9.6.1).
-ghost use Rattle.std.specs.Prelude.{◌≡◌, ◌<◌, ◌∷◌, [], true, IfOk};
+ghost use Rattle.std.specs.Prelude.{◌≡◌, ◌<◌, true, IfOk};
 ghost use Rattle.std.specs.Char.{is_ascii_digit, is_ascii_hexdigit, digit_value};
 ghost use Rattle.std.specs.Char.Escape.{encode_utf16};
 ghost use Rattle.jsgen_syntax.specs.Strings.{quote_char, begins, begins_with, and_then, stands_bare, bare_units, escape_units, string_value, escape_value, hex_value, code_point_value, digits_value};

@@ -97,7 +97,7 @@ const READ: [(&str, &str); 83] = [
     ("()=>{a;}", "( ) => { a ; }"),
 ];
 
-// What the standard reads as no tokens in a module, or as brackets that don't match.
+// What the standard refuses in a module: what is no token, escapes that are errors, and brackets that don't match.
 const NOT_TOKENS: [&str; 26] = [
     "3in",
     "01",

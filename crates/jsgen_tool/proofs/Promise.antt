@@ -3,12 +3,13 @@ use Rattle.std.proofs.Common.{◌≡◌, ℕ, List, [], ◌∷◌, Option, Some,
 use Rattle.std.specs.Prelude.{Contains}
 use Rattle.std.specs.Io.KnownBytes.{Appends}
 use Rattle.jsgen_tree.specs.Tree.{Tree}
-use Rattle.jsgen_model.specs.Layout.{pretty}
-use Rattle.jsgen_model.specs.Valid.{breaches}
+use Rattle.jsgen_model.specs.Layout.{style_of}
+use Rattle.jsgen_model.specs.Valid.{program_breaches, IsValid}
 use Rattle.jsgen_model.specs.Plain.{IsPlain, IsQuiet}
 use Rattle.jsgen_model.specs.declared.fault.TreeFault.{TreeFault}
 use Rattle.jsgen_reading.proofs.Reading.{bytes_are_read, text_is_utf8}
 use Rattle.jsgen_rows.specs.Job.{job_of}
+use Rattle.jsgen_rows.specs.Meaning.{JobData}
 use Rattle.jsgen_rows.proofs.Program.{job_is_program}
 use Rattle.jsgen_tool.specs.Device.{Rose}
 use Rattle.jsgen_tool.specs.Answers.{InputRow, OutputRow, SourceCount, OutCount}
@@ -17,36 +18,37 @@ use Rattle.jsgen_tool.specs.Job.{text_of}
 use Rattle.jsgen_tool.specs.declared.status.Status.{Status}
 use Rattle.jsgen_tool.specs.declared.status.Status.TheVariants.{Done, Refused, Usage, NotJob, ReadFault, WriteFault, Memory, TooLong}
 
--- a job has one tree
-one_tree : (bytes : List ℕ) (t u : Tree) → job_of bytes ≡ Ok t → job_of bytes ≡ Ok u → t ≡ u
-one_tree bytes t u h i = cc
+-- bytes are one job
+one_job : (bytes : List ℕ) (t u : JobData) → job_of bytes ≡ Ok t → job_of bytes ≡ Ok u → t ≡ u
+one_job bytes t u h i = cc
 
 no_breach : (fs : List TreeFault) (f : TreeFault) → fs ≡ [] → Contains fs f → ⊥
 no_breach [] f h (i, within, is) = omega arith
 no_breach (g ∷ gs) f h c = cc
 
-took : (bytes : List ℕ) (program tree : Tree) (old new : Option (List ℕ)) → job_of bytes ≡ Ok program → breaches program ≡ [] → IsPlain program → IsQuiet program → job_of bytes ≡ Ok tree → Appends old new (text_of tree) → TookText program old new
-took bytes program tree old new job valid plain quiet same appends =
-    let P : Tree → Type 0 = λ t. Appends old new (text_of t) in
-    let typed = job_is_program bytes program job in (
-      text_of program,
-      subst P (one_tree bytes tree program same job) appends,
-      text_is_utf8 pretty program (inl refl) typed valid plain quiet,
-      bytes_are_read pretty program (inl refl) typed valid plain quiet,
+took : (bytes : List ℕ) (wanted job : JobData) (old new : Option (List ℕ)) → job_of bytes ≡ Ok wanted → IsValid wanted.options.minify wanted.program → IsPlain wanted.program → IsQuiet wanted.program → job_of bytes ≡ Ok job → Appends old new (text_of job) → TookText wanted.program old new
+took bytes wanted job old new is valid plain quiet same appends =
+    let P : JobData → Type 0 = λ j. Appends old new (text_of j) in
+    let style = style_of wanted.options in
+    let typed = job_is_program bytes wanted is in (
+      text_of wanted,
+      subst P (one_job bytes job wanted same is) appends,
+      text_is_utf8 style wanted.program (inl refl) typed valid plain quiet,
+      bytes_are_read style wanted.program (inl refl) typed valid plain quiet,
     )
 
 pub prints : (s : Status) (held : Option (List ℕ)) (before now sink_before sink_now : ℕ) (old new : Option (List ℕ)) (program : Tree) → (s ≡ Usage → ⊥) → SourceCount s before now → OutCount s sink_before sink_now → IfSome held (InputRow s) → OutputRow s held old new → HoldsProgram held program → IsPlain program → IsQuiet program → Prints (Rose before now) (Rose sink_before sink_now) program old new s
 prints s None before now sink_before sink_now old new program u r w i o holds plain quiet = absurd holds
-prints Done (Some bytes) before now sink_before sink_now old new program u r w i (tree, (held, same, within, job), appends) holds plain quiet = record {
+prints Done (Some bytes) before now sink_before sink_now old new program u r w i (job, (held, same, within, is), appends) (fits, (options, wanted, valid)) plain quiet = record {
   answer = tt;
-  text = λ done. took bytes program tree old new holds.1 holds.2 plain quiet (ap job_of same ∙ job.0) appends;
+  text = λ done. took bytes (record { options = options; program = program }) job old new wanted valid plain quiet (ap job_of same ∙ is.0) appends;
 }
 prints Memory (Some bytes) before now sink_before sink_now old new program u r w i o holds plain quiet = record { answer = tt; text = λ done. absurd (cc) }
 prints ReadFault (Some bytes) before now sink_before sink_now old new program u r w i o holds plain quiet = record { answer = r.1; text = λ done. absurd (cc) }
 prints WriteFault (Some bytes) before now sink_before sink_now old new program u r w i o holds plain quiet = record { answer = w.1; text = λ done. absurd (cc) }
 prints Usage (Some bytes) before now sink_before sink_now old new program u r w i o holds plain quiet = absurd (u refl)
 prints TooLong (Some bytes) before now sink_before sink_now old new program u r w i o holds plain quiet = absurd (omega (arith, i, holds.0))
-prints (NotJob fault) (Some bytes) before now sink_before sink_now old new program u r w i o holds plain quiet = absurd (let a = i.1 in let b = holds.1 in cc)
-prints (Refused fault) (Some bytes) before now sink_before sink_now old new program u r w (within, (tree, job, broken)) o holds plain quiet =
-    let P : Tree → Type 0 = λ t. Contains (breaches t) fault in
-    absurd (no_breach (breaches program) fault holds.2 (subst P (one_tree bytes tree program job holds.1) broken))
+prints (NotJob fault) (Some bytes) before now sink_before sink_now old new program u r w i o (fits, (options, wanted, valid)) plain quiet = absurd (let a = i.1 in cc)
+prints (Refused fault) (Some bytes) before now sink_before sink_now old new program u r w (within, (job, is, broken)) o (fits, (options, wanted, valid)) plain quiet =
+    let P : JobData → Type 0 = λ j. Contains (program_breaches j.options.minify j.program) fault in
+    absurd (no_breach (program_breaches options.minify program) fault valid (subst P (one_job bytes job (record { options = options; program = program }) is wanted) broken))

@@ -2,8 +2,8 @@
 use Rattle.std.specs.Prelude.{◌≡◌, ◌⊎◌, ⊤, ℕ, ◌<◌, ◌≤◌, List, [], ◌∷◌, map, length, codes, String, string_bytes, IfSome, Option}
 use Rattle.std.specs.declared.alloc.Global.{Global}
 use Rattle.std.specs.Io.KnownBytes.{Keeps, Appends}
-use Rattle.jsgen_tree.specs.Tree.{Tree}
 use Rattle.jsgen_model.specs.declared.fault.TreeFault.{TreeFault}
+use Rattle.jsgen_rows.specs.Meaning.{JobData}
 use Rattle.jsgen_rows.specs.declared.InputFault.{InputFault}
 use Rattle.jsgen_tool.specs.Device.{Rose, AppendsPart}
 use Rattle.jsgen_tool.specs.Transfer.{IsWithin, limit}
@@ -17,7 +17,7 @@ IsPrint words = map string_bytes words ≡ codes "print" ∷ []
 
 -- the bytes are a job that keeps the rules
 abbrev pub HoldsJob : List ℕ → Type 0
-HoldsJob bytes = (tree : Tree) × IsJobOf tree bytes
+HoldsJob bytes = (job : JobData) × IsJobOf job bytes
 
 -- what each answer says of the bytes that the source held
 abbrev pub InputRow : Status → List ℕ → Type 0
@@ -29,14 +29,14 @@ InputRow Done bytes = IsWithin bytes × HoldsJob bytes
 InputRow other bytes = ⊤
 
 -- what a source that tells its bytes held is a job within the limit, whose tree keeps the rules
-abbrev pub HeldJob : Option (List ℕ) → Tree → Type 0
-HeldJob held tree = (bytes : List ℕ) × IfSome held (λ told. told ≡ bytes) × IsWithin bytes × IsJobOf tree bytes
+abbrev pub HeldJob : Option (List ℕ) → JobData → Type 0
+HeldJob held job = (bytes : List ℕ) × IfSome held (λ told. told ≡ bytes) × IsWithin bytes × IsJobOf job bytes
 
 -- What each answer says of the bytes that the sink took. They are the text of the job that was read, also
 -- where the source doesn't tell its bytes; every answer but Done and WriteFault leaves the sink as it was.
 abbrev pub OutputRow : Status → Option (List ℕ) → Option (List ℕ) → Option (List ℕ) → Type 0
-OutputRow Done held old new = (tree : Tree) × HeldJob held tree × Appends old new (text_of tree)
-OutputRow WriteFault held old new = (tree : Tree) × HeldJob held tree × AppendsPart old new (text_of tree)
+OutputRow Done held old new = (job : JobData) × HeldJob held job × Appends old new (text_of job)
+OutputRow WriteFault held old new = (job : JobData) × HeldJob held job × AppendsPart old new (text_of job)
 OutputRow other held old new = Keeps old new
 
 -- ReadFault comes only where the source's count rose, and under every other answer it is as it was

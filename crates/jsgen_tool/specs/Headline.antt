@@ -2,6 +2,7 @@
 use Rattle.std.specs.Prelude.{◌≡◌, ⊤, ℕ, List, IsSomeAnd, Option, Ok}
 use Rattle.std.specs.Str.{chars, IsUtf8}
 use Rattle.std.specs.Io.KnownBytes.{Appends}
+use Rattle.jsgen_tree.specs.Options.{Options}
 use Rattle.jsgen_tree.specs.Tree.{Tree}
 use Rattle.jsgen_model.specs.Reading.{IsReadAs}
 use Rattle.jsgen_model.specs.Valid.{IsValid}
@@ -10,9 +11,13 @@ use Rattle.jsgen_tool.specs.Transfer.{IsWithin}
 use Rattle.jsgen_tool.specs.declared.status.Status.{Status}
 use Rattle.jsgen_tool.specs.declared.status.Status.TheVariants.{Done, ReadFault, WriteFault, Memory}
 
--- the source tells what it holds, within the limit, and it is the job of this program, which keeps the rules
+-- the bytes are a job of this program under some choice of options, under which it keeps the rules
+abbrev pub IsJobFor : Tree → List ℕ → Type 0
+IsJobFor program bytes = (options : Options) × (job_of bytes ≡ Ok (record { options = options; program = program })) × IsValid options.minify program
+
+-- the source tells what it holds, within the limit, and it is a job of this program
 abbrev pub HoldsProgram : Option (List ℕ) → Tree → Type 0
-HoldsProgram held program = IsSomeAnd held (λ bytes. IsWithin bytes × (job_of bytes ≡ Ok program) × IsValid program)
+HoldsProgram held program = IsSomeAnd held (λ bytes. IsWithin bytes × IsJobFor program bytes)
 
 -- done, or want of memory, or a fault whose device failed in this call
 abbrev pub IsDoneOrExcused : Type 0 → Type 0 → Status → Type 0

@@ -8,6 +8,10 @@ mod memory;
 mod standard;
 mod status;
 #[cfg(test)]
+mod table;
+#[cfg(test)]
+mod table_tests;
+#[cfg(test)]
 mod tests;
 mod top;
 mod transfer;

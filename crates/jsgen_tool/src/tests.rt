@@ -38,6 +38,21 @@ const DIFFERENCE: &str = "{\"rows\":[\
     {\"type\":\"ExpressionStatement\",\"expression\":4},\
     {\"type\":\"Program\",\"kind\":\"module\",\"body\":[5]}]}";
 
+const DECLARATIONS: &str = "{\"rows\":[\
+{\"type\":\"BindingIdentifier\",\"name\":\"a\"},\
+{\"type\":\"NumericLiteral\",\"kind\":\"whole\",\"digits\":1},\
+{\"type\":\"VariableDeclarator\",\"id\":0,\"init\":1},\
+{\"type\":\"BindingIdentifier\",\"name\":\"b\"},\
+{\"type\":\"IdentifierReference\",\"name\":\"é\"},\
+{\"type\":\"VariableDeclarator\",\"id\":3,\"init\":4},\
+{\"type\":\"VariableDeclaration\",\"kind\":\"const\",\"declarations\":[2,5]},\
+{\"type\":\"BindingIdentifier\",\"name\":\"c\"},\
+{\"type\":\"VariableDeclarator\",\"id\":7},\
+{\"type\":\"VariableDeclaration\",\"kind\":\"const\",\"declarations\":[8]},\
+{\"type\":\"NumericLiteral\",\"kind\":\"whole\",\"digits\":\"340282366920938463463374607431768211455\"},\
+{\"type\":\"ExpressionStatement\",\"expression\":10},\
+{\"type\":\"Program\",\"kind\":\"module\",\"body\":[6,9,11]}]}";
+
 #[derive(Drop)]
 struct Seen {
     status: Status,
@@ -84,12 +99,59 @@ fn jobs_are_printed(rt: HostRuntime) -> Result<(), Fail> {
         (JOB, "const a = 1 + 2;\n"),
         (EMPTY, ""),
         (DIFFERENCE, "a - (b - c);\n"),
+        (
+            DECLARATIONS,
+            "const a = 1, b = é;\nconst c;\n340282366920938463463374607431768211455;\n",
+        ),
     ] {
         let seen = printed(alloc, job)?;
         assert_eq!(rt; seen.status, Status::Done, "{job}");
         assert_eq!(rt; seen.status.code(), 0);
         assert_eq!(rt; seen.out.as_slice(), text.as_bytes());
         assert_eq!(rt; seen.err.as_slice(), b"".as_slice());
+    }
+    Ok(())
+}
+
+// The job with options in its head.
+fn asking(alloc: Global, options: &str) -> Result<String, Memory> {
+    let mut head = String::from_str(alloc, "{\"options\":")?;
+    head.push_str(options)?;
+    head.push_str(",\"rows\"")?;
+    Ok(JOB.replace(alloc, "{\"rows\"", &head)?)
+}
+
+#[test]
+fn jobs_are_printed_by_their_options(rt: HostRuntime) -> Result<(), Fail> {
+    let alloc = rt.alloc();
+    for (options, text) in [
+        ("null", "const a = 1 + 2;\n"),
+        ("{\"minify\":false}", "const a = 1 + 2;\n"),
+        ("{\"minify\":true}", "const a=1+2;"),
+    ] {
+        let seen = printed(alloc, &asking(alloc, options)?)?;
+        assert_eq!(rt; seen.status, Status::Done);
+        assert_eq!(rt; seen.out.as_slice(), text.as_bytes());
+        assert_eq!(rt; seen.err.as_slice(), b"".as_slice());
+    }
+    Ok(())
+}
+
+#[test]
+fn other_options_are_no_job(rt: HostRuntime) -> Result<(), Fail> {
+    let alloc = rt.alloc();
+    let wrong = "not a job: Wrong head field 0\n";
+    let float = "not a job: Float head field 0\n";
+    for (options, line) in [
+        ("{\"minify\":1}", wrong),
+        ("{\"single_quote\":true}", wrong),
+        ("[]", wrong),
+        ("{\"minify\":0.5}", float),
+    ] {
+        let seen = printed(alloc, &asking(alloc, options)?)?;
+        assert_eq!(rt; seen.status.code(), 3);
+        assert_eq!(rt; seen.out.as_slice(), b"".as_slice());
+        assert_eq!(rt; seen.err.as_slice(), line.as_bytes());
     }
     Ok(())
 }

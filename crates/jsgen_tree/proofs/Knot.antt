@@ -1,7 +1,7 @@
 -- The plain data of the recursive type is, set by set, that of what it holds.
 use Rattle.std.specs.declared.alloc.Global.{Global}
 use Rattle.std.proofs.Common.{Box, ◌≡◌, refl, sym, ap, ◌∙◌, List, [], ◌∷◌, Some, None, map}
-use Rattle.jsgen_tree.specs.Tree.{Tree, span_of, declaration_kind, flag, variable_declaration, call, trees}
+use Rattle.jsgen_tree.specs.Tree.{Tree, span_of, declaration_kind, flag, variable_declaration, call, block, trees}
 use Rattle.jsgen_tree.specs.Rows.{in_expression, expression_plain, statement_plain, declaration_plain, binding_pattern_plain}
 use Rattle.jsgen_tree.specs.Plain.{node_plain, layer}
 use Rattle.jsgen_tree.specs.declared.nodes.Node.{Node, out-Node, map-Node, fold_out-Node}
@@ -20,6 +20,8 @@ use Rattle.jsgen_tree.specs.declared.sets.BindingPattern.{BindingPattern}
 use Rattle.jsgen_tree.specs.declared.sets.BindingPattern.TheVariants as binding_patterns
 use Rattle.jsgen_tree.specs.Spans.{expression_span, statement_span, declaration_span, binding_pattern_span}
 use Rattle.jsgen_tree.specs.declared.statements.VariableDeclarator.{VariableDeclarator}
+use Rattle.jsgen_tree.specs.declared.statements.IfStatement.{IfStatement}
+use Rattle.jsgen_tree.specs.declared.nodes.StatementNode.{StatementNode}
 use Rattle.jsgen_tree.specs.declared.nodes.ExpressionNode.{ExpressionNode}
 
 pub plain_out : (n : Node) → node_plain n ≡ layer (map-Node Node Tree node_plain (out-Node n))
@@ -47,9 +49,16 @@ natural_expression h (expressions.StaticMemberExpression b) = refl
 natural_expression h (expressions.ComputedMemberExpression b) = refl
 natural_expression h (expressions.CallExpression b) = ap (λ ts. call (record { span = b.value.span; values = flag b.value.pure ∷ [] }) (in_expression h b.value.callee) (trees ts)) (map_after _ _ _ (with_argument _ (λ e. refl)) b.value.arguments.items)
 
+-- an `if` with an alternate, and one without
+with_alternate : (P : IfStatement Node → Type 0) → ((n : IfStatement Node) → P (record n { alternate = None })) → ((n : IfStatement Node) (s : StatementNode Node) → P (record n { alternate = Some s })) → (n : IfStatement Node) → P n
+with_alternate P none some n = elim n.alternate as (λ o. P (record n { alternate = o })) [ None ↦ none n | Some s ↦ some n s ]
+
 natural_statement : (h : Node → Tree) (s : Statement Node) → layer (map-Node Node Tree h (opened.Statement s)) ≡ statement_plain h s
 natural_statement h (statements.Declaration b) = refl
 natural_statement h (statements.ExpressionStatement b) = refl
+natural_statement h (statements.BlockStatement b) = ap (λ ts. block (record { span = b.value.span; values = [] }) (trees ts)) (map_after _ _ _ (λ s. refl) b.value.body.items)
+natural_statement h (statements.IfStatement b) = with_alternate (λ n. layer (map-Node Node Tree h (opened.Statement (statements.IfStatement (record b { value = n })))) ≡ statement_plain h (statements.IfStatement (record b { value = n }))) (λ n. refl) (λ n s. refl) b.value
+natural_statement h (statements.EmptyStatement b) = refl
 
 -- a declarator with a value, and one without
 with_init : (P : VariableDeclarator Node → Type 0) → ((n : VariableDeclarator Node) → P (record n { init = None })) → ((n : VariableDeclarator Node) (e : ExpressionNode Node) → P (record n { init = Some e })) → (n : VariableDeclarator Node) → P n
@@ -89,6 +98,9 @@ expression_spans e = row_spans node_plain e ∙ ap span_of (sym (plain_expressio
 of_statement : (h : Node → Tree) (s : Statement Node) → statement_span (λ n. span_of (h n)) s ≡ span_of (statement_plain h s)
 of_statement h (statements.Declaration b) = refl
 of_statement h (statements.ExpressionStatement b) = refl
+of_statement h (statements.BlockStatement b) = refl
+of_statement h (statements.IfStatement b) = refl
+of_statement h (statements.EmptyStatement b) = refl
 
 pub statement_spans : (s : Statement Node) → statement_span (λ n. span_of (node_plain n)) s ≡ span_of (node_plain (nodes.Statement s))
 statement_spans s = of_statement node_plain s ∙ ap span_of (sym (plain_statement s))

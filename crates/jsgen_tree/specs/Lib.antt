@@ -4,3 +4,4 @@ pub mod Table
 pub mod Rows
 pub mod Plain
 pub mod Spans
+pub mod Options

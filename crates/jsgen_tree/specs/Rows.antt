@@ -3,7 +3,7 @@ use Rattle.std.specs.Prelude.{ℕ, List, [], ◌∷◌, map, option_map, String,
 use Rattle.std.specs.Str.{chars}
 use Rattle.std.specs.declared.alloc.Global.{Global}
 use Rattle.jsgen_syntax.specs.Units.{js_units}
-use Rattle.jsgen_tree.specs.Tree.{Tree, Atom, text, units, digits, source_kind, declaration_kind, numeric_kind, Whole, binary_operator, logical_operator, flag, optional, trees, program, expression_statement, variable_declaration, variable_declarator, binding_identifier, identifier_reference, numeric_literal, string_literal, parenthesized, binary, logical, identifier_name, static_member, computed_member, call}
+use Rattle.jsgen_tree.specs.Tree.{Tree, Atom, text, units, digits, source_kind, declaration_kind, numeric_kind, Whole, binary_operator, logical_operator, flag, optional, trees, program, expression_statement, variable_declaration, variable_declarator, binding_identifier, identifier_reference, numeric_literal, string_literal, parenthesized, binary, logical, identifier_name, static_member, computed_member, call, block, if_statement, empty_statement}
 use Rattle.jsgen_tree.specs.declared.nodes.ExpressionNode.{ExpressionNode}
 use Rattle.jsgen_tree.specs.declared.nodes.StatementNode.{StatementNode}
 use Rattle.jsgen_tree.specs.declared.nodes.DeclarationNode.{DeclarationNode}
@@ -13,6 +13,9 @@ use Rattle.jsgen_tree.specs.declared.statements.ExpressionStatement.{ExpressionS
 use Rattle.jsgen_tree.specs.declared.statements.VariableDeclaration.{VariableDeclaration}
 use Rattle.jsgen_tree.specs.declared.statements.VariableDeclarator.{VariableDeclarator}
 use Rattle.jsgen_tree.specs.declared.statements.BindingIdentifier.{BindingIdentifier}
+use Rattle.jsgen_tree.specs.declared.statements.BlockStatement.{BlockStatement}
+use Rattle.jsgen_tree.specs.declared.statements.IfStatement.{IfStatement}
+use Rattle.jsgen_tree.specs.declared.statements.EmptyStatement.{EmptyStatement}
 use Rattle.jsgen_tree.specs.declared.expressions.IdentifierReference.{IdentifierReference}
 use Rattle.jsgen_tree.specs.declared.expressions.NumericLiteral.{NumericLiteral}
 use Rattle.jsgen_tree.specs.declared.expressions.NumericValue.{NumericValue}
@@ -104,6 +107,15 @@ variable_declaration_row plain n = variable_declaration (record { span = n.span;
 abbrev pub expression_statement_row : {N : Type 0} → (N → Tree) → ExpressionStatement N → Tree
 expression_statement_row plain n = expression_statement (record { span = n.span; values = [] }) (in_expression plain n.expression)
 
+abbrev pub block_statement_row : {N : Type 0} → (N → Tree) → BlockStatement N → Tree
+block_statement_row plain n = block (record { span = n.span; values = [] }) (trees (map (in_statement plain) n.body.items))
+
+abbrev pub if_statement_row : {N : Type 0} → (N → Tree) → IfStatement N → Tree
+if_statement_row plain n = if_statement (record { span = n.span; values = [] }) (in_expression plain n.test) (in_statement plain n.consequent) (optional (option_map (in_statement plain) n.alternate))
+
+abbrev pub empty_statement_row : EmptyStatement → Tree
+empty_statement_row n = empty_statement (record { span = n.span; values = [] })
+
 abbrev pub program_row : {N : Type 0} → (N → Tree) → Program N → Tree
 program_row plain n = program (record { span = n.span; values = text (characters n.source) ∷ source_kind n.kind ∷ [] }) (trees (map (in_statement plain) n.body.items))
 
@@ -126,6 +138,9 @@ declaration_plain plain (declaration.VariableDeclaration b) = variable_declarati
 abbrev pub statement_plain : {N : Type 0} → (N → Tree) → Statement N → Tree
 statement_plain plain (statement.Declaration b) = in_declaration plain b.value
 statement_plain plain (statement.ExpressionStatement b) = expression_statement_row plain b.value
+statement_plain plain (statement.BlockStatement b) = block_statement_row plain b.value
+statement_plain plain (statement.IfStatement b) = if_statement_row plain b.value
+statement_plain plain (statement.EmptyStatement b) = empty_statement_row b.value
 
 abbrev pub binding_pattern_plain : BindingPattern → Tree
 binding_pattern_plain (binding_pattern.BindingIdentifier b) = binding_identifier_row b.value

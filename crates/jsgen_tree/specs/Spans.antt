@@ -31,6 +31,9 @@ declaration_span (declaration.VariableDeclaration b) = b.value.span
 abbrev pub statement_span : {N : Type 0} → (N → Span) → Statement N → Span
 statement_span own (statement.Declaration b) = own b.value.node
 statement_span own (statement.ExpressionStatement b) = b.value.span
+statement_span own (statement.BlockStatement b) = b.value.span
+statement_span own (statement.IfStatement b) = b.value.span
+statement_span own (statement.EmptyStatement b) = b.value.span
 
 abbrev pub binding_pattern_span : BindingPattern → Span
 binding_pattern_span (binding_pattern.BindingIdentifier b) = b.value.span

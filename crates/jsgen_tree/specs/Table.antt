@@ -8,7 +8,7 @@ use Rattle.jsgen_tree.specs.declared.types.NodeType.TheVariants as types
 use Rattle.jsgen_tree.specs.declared.types.NodeSet.{NodeSet}
 use Rattle.jsgen_tree.specs.declared.types.NodeSet.TheVariants as sets
 use Rattle.jsgen_tree.specs.declared.statements.VariableDeclarationKind.TheVariants as declaration_kinds
-use Rattle.jsgen_tree.specs.Tree.{Atom, Tree, type_of, parenthesized, source_kind, declaration_kind, numeric_kind, Whole, binary_operator, logical_operator}
+use Rattle.jsgen_tree.specs.Tree.{Atom, Tree, absent, given, type_of, parenthesized, if_statement, source_kind, declaration_kind, numeric_kind, Whole, binary_operator, logical_operator}
 
 -- a word, and what it stands for
 pub record Word : Type 0 where
@@ -108,6 +108,15 @@ computed_member_expression_fields = needs (codes "object") (child sets.Expressio
 abbrev pub call_expression_fields : List Field
 call_expression_fields = needs (codes "callee") (child sets.Expression) ∷ not_yet (codes "type_arguments") ∷ may_have (codes "arguments") (children sets.Argument) ∷ not_yet (codes "optional") ∷ may_have (codes "pure") flag ∷ []
 
+abbrev pub block_statement_fields : List Field
+block_statement_fields = may_have (codes "body") (children sets.Statement) ∷ []
+
+abbrev pub if_statement_fields : List Field
+if_statement_fields = needs (codes "test") (child sets.Expression) ∷ needs (codes "consequent") (child sets.Statement) ∷ may_have (codes "alternate") (child sets.Statement) ∷ []
+
+abbrev pub empty_statement_fields : List Field
+empty_statement_fields = []
+
 abbrev pub fields : NodeType → List Field
 fields types.Program = program_fields
 fields types.ExpressionStatement = expression_statement_fields
@@ -124,6 +133,9 @@ fields types.IdentifierName = identifier_name_fields
 fields types.StaticMemberExpression = static_member_expression_fields
 fields types.ComputedMemberExpression = computed_member_expression_fields
 fields types.CallExpression = call_expression_fields
+fields types.BlockStatement = block_statement_fields
+fields types.IfStatement = if_statement_fields
+fields types.EmptyStatement = empty_statement_fields
 
 -- ---- sets
 
@@ -142,6 +154,9 @@ is_expression other = false
 abbrev pub is_statement : NodeType → Bool
 is_statement types.ExpressionStatement = true
 is_statement types.VariableDeclaration = true
+is_statement types.BlockStatement = true
+is_statement types.IfStatement = true
+is_statement types.EmptyStatement = true
 is_statement other = false
 
 abbrev pub is_binding_pattern : NodeType → Bool
@@ -173,6 +188,12 @@ child_sets (f ∷ fs) = with_set f.sort (child_sets fs)
     with_set (child s) ss = s ∷ ss
     with_set (children s) ss = s ∷ ss
     with_set other ss = ss
+
+-- a statement ends in an `if` without `else`
+abbrev pub ends_open : Tree → Bool
+ends_open (if_statement a test consequent absent) = true
+ends_open (if_statement a test consequent (given alternate)) = ends_open alternate
+ends_open t = false
 
 -- what stands within the parentheses that an expression may have round it
 abbrev pub without_parentheses : Tree → Tree

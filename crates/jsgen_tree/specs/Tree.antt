@@ -150,3 +150,12 @@ computed_member a object expression = node types.ComputedMemberExpression a (one
 
 pattern abbrev pub call : Atoms → Tree → Trees → Tree
 call a callee arguments = node types.CallExpression a (one callee (many arguments no_slots))
+
+pattern abbrev pub block : Atoms → Trees → Tree
+block a body = node types.BlockStatement a (many body no_slots)
+
+pattern abbrev pub if_statement : Atoms → Tree → Tree → Maybe → Tree
+if_statement a test consequent alternate = node types.IfStatement a (one test (one consequent (maybe alternate no_slots)))
+
+pattern abbrev pub empty_statement : Atoms → Tree
+empty_statement a = node types.EmptyStatement a no_slots

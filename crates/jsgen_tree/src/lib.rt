@@ -1,4 +1,5 @@
-//! The tree of a program, owned by boxes and lists. A field bears the name that a job gives it.
+//! The tree of a program, owned by boxes and lists, and the options of printing it. A field bears the name that
+//! a job gives it.
 //!
 //! `Node` is the one type that leads back to itself. A child that nests stands in a wrapper that says its
 //! set, as `ExpressionNode`, and is made by `into()` from a member of that set.
@@ -6,6 +7,7 @@
 
 mod expressions;
 mod nodes;
+mod options;
 mod sets;
 mod span;
 mod statements;
@@ -17,11 +19,12 @@ pub use expressions::{
     StaticMemberExpression, StringLiteral,
 };
 pub use nodes::{BindingPatternNode, DeclarationNode, ExpressionNode, Node, StatementNode};
+pub use options::{CodegenOptions, CommentOptions, LegalComment};
 pub use sets::{Argument, BindingPattern, Declaration, Expression, Statement};
 pub use span::GetSpan;
 pub use statements::{
-    BindingIdentifier, ExpressionStatement, Program, VariableDeclaration, VariableDeclarationKind,
-    VariableDeclarator,
+    BindingIdentifier, BlockStatement, EmptyStatement, ExpressionStatement, IfStatement, Program,
+    VariableDeclaration, VariableDeclarationKind, VariableDeclarator,
 };
 pub use types::{NodeSet, NodeType};
 

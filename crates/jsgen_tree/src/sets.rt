@@ -11,7 +11,10 @@ use crate::expressions::{
     StringLiteral,
 };
 use crate::nodes::{DeclarationNode, ExpressionNode, Node};
-use crate::statements::{BindingIdentifier, ExpressionStatement, VariableDeclaration};
+use crate::statements::{
+    BindingIdentifier, BlockStatement, EmptyStatement, ExpressionStatement, IfStatement,
+    VariableDeclaration,
+};
 
 #[derive(Drop)]
 pub enum Expression<N = Node> {
@@ -41,6 +44,9 @@ pub enum Declaration<N = Node> {
 pub enum Statement<N = Node> {
     Declaration(Box<DeclarationNode<N>>),
     ExpressionStatement(Box<ExpressionStatement<N>>),
+    BlockStatement(Box<BlockStatement<N>>),
+    IfStatement(Box<IfStatement<N>>),
+    EmptyStatement(Box<EmptyStatement>),
 }
 
 #[derive(Drop)]
@@ -84,6 +90,9 @@ impl Statement {
         match self {
             Statement::Declaration(declaration) => declaration.get().inner_expression(),
             Statement::ExpressionStatement(_) => None,
+            Statement::BlockStatement(_) => None,
+            Statement::IfStatement(_) => None,
+            Statement::EmptyStatement(_) => None,
         }
     }
 }

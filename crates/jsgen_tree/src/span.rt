@@ -12,7 +12,8 @@ use crate::expressions::{
 use crate::nodes::Node;
 use crate::sets::{Argument, BindingPattern, Declaration, Expression, Statement};
 use crate::statements::{
-    BindingIdentifier, ExpressionStatement, Program, VariableDeclaration, VariableDeclarator,
+    BindingIdentifier, BlockStatement, EmptyStatement, ExpressionStatement, IfStatement, Program,
+    VariableDeclaration, VariableDeclarator,
 };
 use jsgen_syntax::Span;
 
@@ -35,6 +36,30 @@ impl<N> GetSpan for Program<N> {
 }
 
 impl<N> GetSpan for ExpressionStatement<N> {
+    ghost own_span = { λ n. n.span };
+
+    fn span(&self) -> Span {
+        self.span
+    }
+}
+
+impl<N> GetSpan for BlockStatement<N> {
+    ghost own_span = { λ n. n.span };
+
+    fn span(&self) -> Span {
+        self.span
+    }
+}
+
+impl<N> GetSpan for IfStatement<N> {
+    ghost own_span = { λ n. n.span };
+
+    fn span(&self) -> Span {
+        self.span
+    }
+}
+
+impl GetSpan for EmptyStatement {
     ghost own_span = { λ n. n.span };
 
     fn span(&self) -> Span {
@@ -201,6 +226,9 @@ impl<N: GetSpan> GetSpan for Statement<N> {
         match self {
             Statement::Declaration(declaration) => declaration.get().span(),
             Statement::ExpressionStatement(node) => node.span,
+            Statement::BlockStatement(node) => node.span,
+            Statement::IfStatement(node) => node.span,
+            Statement::EmptyStatement(node) => node.span,
         }
     }
 }

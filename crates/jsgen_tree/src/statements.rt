@@ -57,3 +57,23 @@ pub struct ExpressionStatement<N = Node> {
     pub span: Span,
     pub expression: ExpressionNode<N>,
 }
+
+#[derive(Drop)]
+pub struct BlockStatement<N = Node> {
+    pub span: Span,
+    pub body: Vec<StatementNode<N>>,
+}
+
+#[derive(Drop)]
+pub struct IfStatement<N = Node> {
+    pub span: Span,
+    pub test: ExpressionNode<N>,
+    pub consequent: StatementNode<N>,
+    pub alternate: Option<StatementNode<N>>,
+}
+
+/// A semicolon alone.
+#[derive(Drop)]
+pub struct EmptyStatement {
+    pub span: Span,
+}

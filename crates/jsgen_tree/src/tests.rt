@@ -1,8 +1,8 @@
 use crate::{
-    BinaryExpression, BindingIdentifier, BindingPattern, Declaration, Expression,
-    ExpressionStatement, GetSpan, IdentifierReference, Node, NodeSet, NodeType, NumericLiteral,
-    NumericValue, ParenthesizedExpression, Statement, VariableDeclaration, VariableDeclarationKind,
-    VariableDeclarator,
+    BinaryExpression, BindingIdentifier, BindingPattern, CodegenOptions, CommentOptions,
+    Declaration, Expression, ExpressionStatement, GetSpan, IdentifierReference, LegalComment, Node,
+    NodeSet, NodeType, NumericLiteral, NumericValue, ParenthesizedExpression, Statement,
+    VariableDeclaration, VariableDeclarationKind, VariableDeclarator,
 };
 use jsgen_syntax::{BinaryOperator, Span};
 use std::alloc::{AllocError, Global};
@@ -108,6 +108,9 @@ fn types_are_in_their_sets(rt: HostRuntime) {
         (NodeType::ParenthesizedExpression, true, false, false),
         (NodeType::BinaryExpression, true, false, false),
         (NodeType::LogicalExpression, true, false, false),
+        (NodeType::BlockStatement, false, true, false),
+        (NodeType::IfStatement, false, true, false),
+        (NodeType::EmptyStatement, false, true, false),
         (NodeType::StringLiteral, true, false, false),
         (NodeType::IdentifierName, false, false, false),
         (NodeType::StaticMemberExpression, true, false, false),
@@ -123,4 +126,41 @@ fn types_are_in_their_sets(rt: HostRuntime) {
         let name = node_type == NodeType::IdentifierName;
         assert_eq!(rt; node_type.is_in(NodeSet::IdentifierName), name);
     }
+}
+
+#[test]
+fn options_are_cloned(rt: HostRuntime) -> Result<(), Fail> {
+    let alloc = rt.alloc();
+    let options = CodegenOptions::default();
+    assert!(rt; options.clone(alloc)? == options);
+    let small = CodegenOptions::minify();
+    assert!(rt; small.minify && small != options);
+    assert!(rt; small.comments == CommentOptions::disabled());
+    let linked = CodegenOptions {
+        comments: CommentOptions {
+            legal: LegalComment::Linked("a.txt".to_string(alloc)?),
+            ..CommentOptions::default()
+        },
+        source_map_path: Some("a.map".to_string(alloc)?),
+        ..CodegenOptions::default()
+    };
+    assert!(rt; linked.clone(alloc)? == linked);
+    Ok(())
+}
+
+#[test]
+fn legal_comments_are_told_apart(rt: HostRuntime) -> Result<(), Fail> {
+    let linked = LegalComment::Linked("a.txt".to_string(rt.alloc())?);
+    for (legal, none, inline, eof) in [
+        (&LegalComment::None, true, false, false),
+        (&LegalComment::Inline, false, true, false),
+        (&LegalComment::Eof, false, false, true),
+        (&linked, false, false, false),
+        (&LegalComment::External, false, false, false),
+    ] {
+        assert_eq!(rt; legal.is_none(), none);
+        assert_eq!(rt; legal.is_inline(), inline);
+        assert_eq!(rt; legal.is_eof(), eof);
+    }
+    Ok(())
 }

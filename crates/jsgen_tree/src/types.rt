@@ -20,6 +20,9 @@ pub enum NodeType {
     StaticMemberExpression,
     ComputedMemberExpression,
     CallExpression,
+    BlockStatement,
+    IfStatement,
+    EmptyStatement,
 }
 
 /// What the child of a field may be: a member of a set, or a node of one type.
@@ -72,7 +75,11 @@ impl NodeType {
     {
         matches!(
             &self,
-            NodeType::ExpressionStatement | NodeType::VariableDeclaration
+            NodeType::ExpressionStatement
+                | NodeType::VariableDeclaration
+                | NodeType::BlockStatement
+                | NodeType::IfStatement
+                | NodeType::EmptyStatement
         )
     }
 }

@@ -7,7 +7,7 @@ use Rattle.jsgen_syntax.specs.declared.operator.BinaryOperator.TheVariants as op
 use Rattle.jsgen_syntax.specs.declared.operator.LogicalOperator.{LogicalOperator}
 use Rattle.jsgen_syntax.specs.declared.operator.LogicalOperator.TheVariants.{And}
 use Rattle.jsgen_tree.specs.declared.types.NodeType.TheVariants as types
-use Rattle.jsgen_tree.specs.Tree.{Tree, node, logical_operator_in, absent, no_trees, more, text_in, operator_in}
+use Rattle.jsgen_tree.specs.Tree.{Tree, node, logical_operator_in, absent, given, no_trees, more, text_in, operator_in}
 use Rattle.jsgen_tree.specs.Tree as tree
 use Rattle.jsgen_slow.proofs.normal_samples.Goals as goal
 
@@ -49,6 +49,14 @@ abbrev has_no_value : Tree → Bool
 has_no_value (tree.variable_declaration a (more (tree.variable_declarator b id absent) ts)) = true
 has_no_value t = false
 
+abbrev has_block : Tree → Bool
+has_block (tree.if_statement a test (tree.block b body) alternate) = true
+has_block t = false
+
+abbrev has_alternate : Tree → Bool
+has_alternate (tree.if_statement a test consequent (given alternate)) = true
+has_alternate t = false
+
 pub returns : goal.returns
 unfolding digits
 returns c = record {
@@ -63,4 +71,7 @@ returns c = record {
   number = refl;
   value_or_none = λ e. both_ways true (ap has_no_value e) refl;
   order = λ e. both_ways true (ap begins_with_a e) refl;
+  braces_of_a_consequent = refl;
+  block_or_statement = λ e. both_ways true (ap has_block e) refl;
+  alternate_or_none = λ e. both_ways true (ap has_alternate e) refl;
 }

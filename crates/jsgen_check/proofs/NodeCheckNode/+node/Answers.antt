@@ -37,3 +37,15 @@ is_higher_than-returns-in-Declaration t c = search (rules, plain_declaration)
 
 pub is_higher_than-returns-in-BindingPattern : goal.is_higher_than-returns-in-BindingPattern
 is_higher_than-returns-in-BindingPattern t c = search (rules, plain_binding_pattern)
+
+pub is_lexical-returns-in-Expression : goal.is_lexical-returns-in-Expression
+is_lexical-returns-in-Expression t c = search (rules, plain_expression)
+
+pub is_lexical-returns-in-Statement : goal.is_lexical-returns-in-Statement
+is_lexical-returns-in-Statement t c = search (rules, plain_statement)
+
+pub is_lexical-returns-in-Declaration : goal.is_lexical-returns-in-Declaration
+is_lexical-returns-in-Declaration t c = search (rules, plain_declaration)
+
+pub is_lexical-returns-in-BindingPattern : goal.is_lexical-returns-in-BindingPattern
+is_lexical-returns-in-BindingPattern t c = search (rules, plain_binding_pattern)

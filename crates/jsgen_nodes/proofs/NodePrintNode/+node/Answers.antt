@@ -49,3 +49,27 @@ string_statement-returns-in-Declaration t c = search (rules, plain_declaration)
 
 pub string_statement-returns-in-BindingPattern : goal.string_statement-returns-in-BindingPattern
 string_statement-returns-in-BindingPattern t c = search (rules, plain_binding_pattern)
+
+pub shape-returns-in-Expression : goal.shape-returns-in-Expression
+shape-returns-in-Expression t c = search (rules, plain_expression)
+
+pub shape-returns-in-Statement : goal.shape-returns-in-Statement
+shape-returns-in-Statement t c = search (rules, plain_statement)
+
+pub shape-returns-in-Declaration : goal.shape-returns-in-Declaration
+shape-returns-in-Declaration t c = search (rules, plain_declaration)
+
+pub shape-returns-in-BindingPattern : goal.shape-returns-in-BindingPattern
+shape-returns-in-BindingPattern t c = search (rules, plain_binding_pattern)
+
+pub ends_open-returns-in-Expression : goal.ends_open-returns-in-Expression
+ends_open-returns-in-Expression t c = search (rules, plain_expression)
+
+pub ends_open-returns-in-Statement : goal.ends_open-returns-in-Statement
+ends_open-returns-in-Statement t c = search (rules, plain_statement)
+
+pub ends_open-returns-in-Declaration : goal.ends_open-returns-in-Declaration
+ends_open-returns-in-Declaration t c = search (rules, plain_declaration)
+
+pub ends_open-returns-in-BindingPattern : goal.ends_open-returns-in-BindingPattern
+ends_open-returns-in-BindingPattern t c = search (rules, plain_binding_pattern)

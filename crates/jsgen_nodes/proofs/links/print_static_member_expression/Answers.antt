@@ -1,8 +1,8 @@
-use Rattle.std.proofs.Common.{false, ap, ◌∙◌}
+use Rattle.std.proofs.Common.{ap, ◌∙◌}
 use Rattle.jsgen_tree.specs.Rows.{characters}
 use Rattle.jsgen_model.specs.Items.{member_dot, name}
 use Rattle.jsgen_model.specs.Layout.{layout}
-use Rattle.jsgen_model.specs.Spell.{spell, linked}
+use Rattle.jsgen_model.specs.Spell.{spell}
 use Rattle.jsgen_printer.specs.Printer.{pen_of}
 use Rattle.jsgen_printer.proofs.Texts.{same_pen}
 use Rattle.jsgen_nodes.specs.Place.{pen_after, place_of}

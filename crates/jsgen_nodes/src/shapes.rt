@@ -1,0 +1,117 @@
+// What a statement is as what `if` or `else` is followed by.
+ghost use Rattle.std.specs.Prelude.{◌≡◌};
+ghost use Rattle.jsgen_tree.specs.Table.{ends_open};
+ghost use Rattle.jsgen_tree.specs.Rows.{if_statement_row, expression_plain, statement_plain, declaration_plain, binding_pattern_plain};
+ghost use Rattle.jsgen_model.specs.Spell.{shape};
+ghost use Rattle.jsgen_nodes.specs.Blocks.{shape_of};
+
+use crate::PrintNode;
+use jsgen_tree::{BindingPattern, Declaration, Expression, IfStatement, Statement};
+
+/// What stands on the line of its `if` or `else`, and what is a line of its own.
+#[derive(Clone, Copy)]
+pub enum Shape {
+    Block,
+    If,
+    Empty,
+    Other,
+}
+
+pub fn expression_shape<N: PrintNode>(node: &Expression<N>) -> Shape
+    ensures { shape_of result ≡ shape (expression_plain N.plain node.now) }
+{
+    match node {
+        Expression::IdentifierReference(_) => Shape::Other,
+        Expression::NumericLiteral(_) => Shape::Other,
+        Expression::StringLiteral(_) => Shape::Other,
+        Expression::BinaryExpression(_) => Shape::Other,
+        Expression::LogicalExpression(_) => Shape::Other,
+        Expression::ParenthesizedExpression(_) => Shape::Other,
+        Expression::StaticMemberExpression(_) => Shape::Other,
+        Expression::ComputedMemberExpression(_) => Shape::Other,
+        Expression::CallExpression(_) => Shape::Other,
+    }
+}
+
+pub fn statement_shape<N: PrintNode>(node: &Statement<N>) -> Shape
+    ensures { shape_of result ≡ shape (statement_plain N.plain node.now) }
+{
+    match node {
+        Statement::Declaration(node) => node.get().shape(),
+        Statement::ExpressionStatement(_) => Shape::Other,
+        Statement::BlockStatement(_) => Shape::Block,
+        Statement::IfStatement(_) => Shape::If,
+        Statement::EmptyStatement(_) => Shape::Empty,
+    }
+}
+
+pub fn declaration_shape<N: PrintNode>(node: &Declaration<N>) -> Shape
+    ensures { shape_of result ≡ shape (declaration_plain N.plain node.now) }
+{
+    match node {
+        Declaration::VariableDeclaration(_) => Shape::Other,
+    }
+}
+
+pub fn binding_pattern_shape(node: &BindingPattern) -> Shape
+    ensures { shape_of result ≡ shape (binding_pattern_plain node.now) }
+{
+    match node {
+        BindingPattern::BindingIdentifier(_) => Shape::Other,
+    }
+}
+
+// ---- an `if` without `else` at the end
+
+fn if_ends_open<N: PrintNode>(node: &IfStatement<N>) -> bool
+    ensures { result ≡ ends_open (if_statement_row N.plain node.now) }
+{
+    match &node.alternate {
+        Some(alternate) => alternate.get().ends_open(),
+        None => true,
+    }
+}
+
+pub fn expression_ends_open<N: PrintNode>(node: &Expression<N>) -> bool
+    ensures { result ≡ ends_open (expression_plain N.plain node.now) }
+{
+    match node {
+        Expression::IdentifierReference(_) => false,
+        Expression::NumericLiteral(_) => false,
+        Expression::StringLiteral(_) => false,
+        Expression::BinaryExpression(_) => false,
+        Expression::LogicalExpression(_) => false,
+        Expression::ParenthesizedExpression(_) => false,
+        Expression::StaticMemberExpression(_) => false,
+        Expression::ComputedMemberExpression(_) => false,
+        Expression::CallExpression(_) => false,
+    }
+}
+
+pub fn statement_ends_open<N: PrintNode>(node: &Statement<N>) -> bool
+    ensures { result ≡ ends_open (statement_plain N.plain node.now) }
+{
+    match node {
+        Statement::Declaration(node) => node.get().ends_open(),
+        Statement::ExpressionStatement(_) => false,
+        Statement::BlockStatement(_) => false,
+        Statement::IfStatement(node) => if_ends_open(node),
+        Statement::EmptyStatement(_) => false,
+    }
+}
+
+pub fn declaration_ends_open<N: PrintNode>(node: &Declaration<N>) -> bool
+    ensures { result ≡ ends_open (declaration_plain N.plain node.now) }
+{
+    match node {
+        Declaration::VariableDeclaration(_) => false,
+    }
+}
+
+pub fn binding_pattern_ends_open(node: &BindingPattern) -> bool
+    ensures { result ≡ ends_open (binding_pattern_plain node.now) }
+{
+    match node {
+        BindingPattern::BindingIdentifier(_) => false,
+    }
+}

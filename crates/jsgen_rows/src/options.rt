@@ -1,0 +1,77 @@
+// The options of a job, field 0 of its head.
+ghost use Rattle.std.specs.Prelude.{◌≡◌, codes};
+ghost use Rattle.serde_json.specs.View.{view};
+ghost use Rattle.jsgen_tree.specs.Options.{options_plain};
+ghost use Rattle.jsgen_rows.specs.Job.{Same};
+ghost use Rattle.jsgen_rows.specs.Values.{head, field, none_given, text_options, comment_options, minify_given, options_read, options_in};
+
+use crate::values::{not_given, optional_value, present};
+use crate::{At, InputFault};
+use jsgen_tree::CodegenOptions;
+use serde_json::Value;
+
+/// Options of the text that aren't read yet.
+fn text_options(options: &Value) -> Result<(), InputFault>
+    ensures { Same (λ u. u) result (none_given (head 0) text_options (view options.now)) }
+{
+    let at = At::of_head(0);
+    not_given(at, options, "single_quote")?;
+    not_given(at, options, "ascii_only")?;
+    not_given(at, options, "source_map_path")?;
+    not_given(at, options, "indent_char")?;
+    not_given(at, options, "indent_width")?;
+    not_given(at, options, "initial_indent")?;
+    Ok(())
+}
+
+/// Options of the comments that aren't read yet.
+fn comment_options(options: &Value) -> Result<(), InputFault>
+    ensures { Same (λ u. u) result (none_given (head 0) comment_options (view options.now)) }
+{
+    let at = At::of_head(0);
+    not_given(at, options, "normal")?;
+    not_given(at, options, "jsdoc")?;
+    not_given(at, options, "annotation")?;
+    not_given(at, options, "legal")?;
+    not_given(at, options, "legal_path")?;
+    Ok(())
+}
+
+fn minify_in(options: &Value) -> Result<bool, InputFault>
+    ensures { Same (λ b. b) result (minify_given (field (codes "minify") (view options.now))) }
+{
+    let Some(value) = present(options, "minify") else {
+        return Ok(false);
+    };
+    match value.as_bool() {
+        Some(given) => Ok(given),
+        None => Err(InputFault::Wrong(At::of_head(0))),
+    }
+}
+
+fn options_read(options: &Value) -> Result<CodegenOptions, InputFault>
+    ensures { Same options_plain result (options_read (view options.now)) }
+{
+    if options.as_object().is_none() {
+        return Err(InputFault::Wrong(At::of_head(0)));
+    }
+    text_options(options)?;
+    comment_options(options)?;
+    let minify = minify_in(options)?;
+    Ok(CodegenOptions {
+        minify,
+        ..CodegenOptions::default()
+    })
+}
+
+pub fn options_in(job: &Value) -> Result<CodegenOptions, InputFault>
+    ensures { Same options_plain result (options_in (view job.now)) }
+{
+    if job.as_object().is_none() {
+        return Err(InputFault::Json);
+    }
+    let Some(options) = optional_value(At::of_head(0), job, "options")? else {
+        return Ok(CodegenOptions::default());
+    };
+    options_read(options)
+}
