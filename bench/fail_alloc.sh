@@ -3,7 +3,7 @@
 set -u
 top=$(cd "$(dirname "$0")/.." && pwd)
 job=${1:-$top/examples/first.json}
-cd "$top/crates/jsgen_tool"
+cd "$top/crates/jsgen_cli"
 for number in $(seq 1 "${2:-1000}"); do
   out=$(rt try --fail-alloc "$number" -- print <"$job" 2>/tmp/fail_alloc.err)
   status=$(sed -n 's/.*status=\([0-9]*\).*/\1/p' <<<"$out" | tail -n 1)

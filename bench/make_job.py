@@ -1,7 +1,9 @@
-"""Writes a job: `make_job.py SIZE [nested] [minify]`.
+"""Writes a job: `make_job.py SIZE [nested|ascii|wide|escapes] [minify]`.
 
-SIZE is in megabytes. Without `nested`, it holds declarations and statements, blocks and `if` of mixed expressions. With
-it, it holds blocks and `if` a thousand deep and sums nested a thousand to the left and to the right, as often as fill it.
+SIZE is in megabytes. By itself the job holds declarations and statements, blocks and `if` of mixed expressions; with
+`nested`, blocks and `if` a thousand deep and sums nested a thousand to the left and to the right, as often as fill it.
+With `ascii`, `wide` and `escapes` it is one string as long as the job: of ASCII, of characters of one to four bytes, and
+with a quote or another character that needs an escape at every tenth place.
 """
 import random
 import sys
@@ -11,6 +13,11 @@ TEXTS = ["", "use strict", "it's", 'say \\"so\\"', "`a` and 'b'", "a\\\\b", "${a
 BINARY = ["+", "-", "*", "/", "%", "**", "==", "!==", "<", ">=", "<<", ">>>", "&", "|", "^", "in", "instanceof"]
 LOGICAL = ["&&", "||"]
 DEPTH = 1000
+STRINGS = {
+    "ascii": ("abcdefghij klmnop,.", None),
+    "wide": ("abcde é日本ß\U0001F600xyz", None),
+    "escapes": ("abcdefgh ", ['\\"', "'", "`", "\\n", "\\\\", "\\t", "\\u0000", "</script"]),
+}
 
 
 class Rows:
@@ -118,11 +125,23 @@ def deep_sum(rows, to_the_left):
     return rows.statement(inner)
 
 
+def long_string(kind, wanted, draw):
+    letters, escapes = STRINGS[kind]
+    part = "".join(draw.choice(escapes) if escapes and i % 10 == 9 else draw.choice(letters) for i in range(1000))
+    return part * (wanted // len(part.encode()))
+
+
 def main():
     wanted = int(sys.argv[1]) * 1000000
     draw = random.Random(1)
     rows, body = Rows(), []
-    while rows.size < wanted:
+    body_is_string = any(kind in sys.argv[2:] for kind in STRINGS)
+    for kind in STRINGS:
+        if kind in sys.argv[2:]:
+            callee = rows.name("f")
+            string = rows.add('{"type":"StringLiteral","value":"%s"}' % long_string(kind, wanted, draw))
+            body.append(rows.statement(rows.add('{"type":"CallExpression","callee":%d,"arguments":[%d]}' % (callee, string))))
+    while not body_is_string and rows.size < wanted:
         if "nested" in sys.argv[2:]:
             body += [deep_blocks(rows), deep_sum(rows, True), deep_sum(rows, False)]
         else:

@@ -21,12 +21,12 @@ declaration_faults-count s f (x ∷ xs) = ap (λ b. if b then faults.Place s.sta
 pub ruleset counted = (declaration_faults-count)
 
 -- what the next child breaks is broken
-pub next_breaks : {A : Type 0} (s : NodeSet) (f : A → Tree) (xs : List A) (i : ℕ) (x : A) (e : TreeFault) → i < length xs → x ≡ get_or xs i x → Contains (breaches (f x)) e → Contains (in_trees (s ∷ []) (trees (map f (drop i xs)))) e
-next_breaks s f [] i x e within is h = absurd (omega arith)
-next_breaks s f (y ∷ ys) zero x e within is h =
+pub next_breaks : {A : Type 0} (s : NodeSet) (ss : List NodeSet) (f : A → Tree) (xs : List A) (i : ℕ) (x : A) (e : TreeFault) → i < length xs → x ≡ get_or xs i x → Contains (breaches (f x)) e → Contains (in_trees (s ∷ ss) (trees (map f (drop i xs)))) e
+next_breaks s ss f [] i x e within is h = absurd (omega arith)
+next_breaks s ss f (y ∷ ys) zero x e within is h =
     let P : _ → Type 0 = λ z. Contains (breaches (f z)) e in
-    Contains-append_left (place_faults s (f y) ++ breaches (f y)) (in_trees (s ∷ []) (trees (map f ys))) e (Contains-append_right (place_faults s (f y)) (breaches (f y)) e (subst P is h))
-next_breaks s f (y ∷ ys) (suc i) x e within is h = next_breaks s f ys i x e (omega arith) is h
+    Contains-append_left (place_faults s (f y) ++ breaches (f y)) (in_trees (s ∷ ss) (trees (map f ys))) e (Contains-append_right (place_faults s (f y)) (breaches (f y)) e (subst P is h))
+next_breaks s ss f (y ∷ ys) (suc i) x e within is h = next_breaks s ss f ys i x e (omega arith) is h
 
 -- two lists without a fault before a third one change nothing
 pub judges_last : (a b d e : List TreeFault) (r : Result (Unit {0}) TreeFault) → a ≡ [] → b ≡ [] → d ≡ e → Judges d r → Judges (a ++ b ++ (e ++ [])) r

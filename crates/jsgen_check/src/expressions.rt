@@ -1,7 +1,5 @@
 // Expressions (ECMA-262, clause 13), one function for each row.
 ghost use Rattle.std.specs.Prelude.{◌≡◌, ◌++◌, [], ◌∷◌, map};
-ghost use Rattle.jsgen_syntax.specs.Units.{js_units};
-ghost use Rattle.jsgen_syntax.specs.Strings.{is_plain_string};
 ghost use Rattle.jsgen_syntax.specs.Name.{spells_name};
 ghost use Rattle.std.specs.Str.{chars};
 ghost use Rattle.jsgen_tree.specs.Tree.{Tree, type_of, trees};
@@ -12,7 +10,7 @@ ghost use Rattle.jsgen_tree.specs.declared.types.NodeSet.TheVariants as sets;
 
 use crate::{CheckNode, check_child, check_name, check_span};
 use jsgen_model::TreeFault;
-use jsgen_syntax::{JsStr, is_name};
+use jsgen_syntax::is_name;
 use jsgen_tree::{
     Argument, BinaryExpression, CallExpression, ComputedMemberExpression, Expression,
     IdentifierName, IdentifierReference, LogicalExpression, NodeSet, NodeType, NumericLiteral,
@@ -32,20 +30,10 @@ fn check_numeric_literal(node: &NumericLiteral) -> Result<(), TreeFault>
     check_span(node.span)
 }
 
-fn check_string(value: &JsStr, start: u32) -> Result<(), TreeFault>
-    ensures { Judges (fault_if (not (is_plain_string (js_units value.now))) (faults.Literal start)) result }
-{
-    if !value.is_plain() {
-        return Err(TreeFault::Literal { start });
-    }
-    Ok(())
-}
-
 fn check_string_literal(node: &StringLiteral) -> Result<(), TreeFault>
     ensures { Judges (breaches (string_literal_row node.now)) result }
 {
-    check_span(node.span)?;
-    check_string(&node.value, node.span.start)
+    check_span(node.span)
 }
 
 fn check_parenthesized_expression<N: CheckNode>(

@@ -1,13 +1,13 @@
 // Heights: whether the longest way down from a node holds more nodes than a number. Each node is looked at once at most.
 ghost use Rattle.std.specs.Prelude.{◌≡◌, map, nat_lt, option_map};
 ghost use Rattle.jsgen_tree.specs.Tree.{Tree, optional, trees};
-ghost use Rattle.jsgen_tree.specs.Rows.{program_row, expression_statement_row, block_statement_row, if_statement_row, variable_declaration_row, variable_declarator_row, binding_identifier_row, parenthesized_expression_row, binary_expression_row, logical_expression_row, static_member_expression_row, computed_member_expression_row, call_expression_row, in_argument, in_statement, expression_plain, statement_plain, declaration_plain, binding_pattern_plain};
+ghost use Rattle.jsgen_tree.specs.Rows.{program_row, directive_row, expression_statement_row, block_statement_row, if_statement_row, variable_declaration_row, variable_declarator_row, binding_identifier_row, parenthesized_expression_row, binary_expression_row, logical_expression_row, static_member_expression_row, computed_member_expression_row, call_expression_row, in_argument, in_statement, expression_plain, statement_plain, declaration_plain, binding_pattern_plain};
 ghost use Rattle.jsgen_model.specs.Valid.{height, height_if_given, greatest_height};
 
 use crate::CheckNode;
 use jsgen_tree::{
     Argument, BinaryExpression, BindingPattern, BlockStatement, CallExpression,
-    ComputedMemberExpression, Declaration, Expression, ExpressionStatement, IfStatement,
+    ComputedMemberExpression, Declaration, Directive, Expression, ExpressionStatement, IfStatement,
     LogicalExpression, ParenthesizedExpression, Program, Statement, StatementNode,
     StaticMemberExpression, VariableDeclaration, VariableDeclarator,
 };
@@ -139,11 +139,21 @@ fn are_statements_higher<N: CheckNode>(statements: &[StatementNode<N>], levels: 
     false
 }
 
+// Nothing stands below a directive.
+#[tactic(auto, using(crate::proofs::Heights::of_directives))]
+fn are_directives_higher(directives: &[Directive], levels: u32) -> bool
+    ensures { result ≡ nat_lt levels (greatest_height (trees (map directive_row directives.now))) }
+{
+    levels == 0 && !directives.is_empty()
+}
+
 #[tactic(auto, using(crate::proofs::Heights::heights))]
 pub fn is_program_higher<N: CheckNode>(node: &Program<N>, levels: u32) -> bool
     ensures { result ≡ nat_lt levels (height (program_row N.plain node.now)) }
 {
-    levels == 0 || are_statements_higher(&node.body, levels - 1)
+    levels == 0
+        || are_directives_higher(&node.directives, levels - 1)
+        || are_statements_higher(&node.body, levels - 1)
 }
 
 // ---- sets

@@ -1,10 +1,11 @@
 //! Validity: Ok exactly where no rule is broken, else a rule that is. It takes no memory.
 #![tactic(auto)]
 
-ghost use Rattle.std.specs.Prelude.{◌≡◌, ◌++◌, List, [], ◌∷◌, map, nat_lt};
+ghost use Rattle.std.specs.Prelude.{◌≡◌, ◌++◌, List, [], ◌∷◌, map, is_some, nat_lt};
 ghost use Rattle.std.specs.Str.{chars};
+ghost use Rattle.jsgen_syntax.specs.Raw.{directive_value};
 ghost use Rattle.jsgen_tree.specs.Tree.{Tree, type_of, span_of, trees};
-ghost use Rattle.jsgen_tree.specs.Rows.{program_row, variable_declaration_row, variable_declarator_row, binding_identifier_row, declaration_plain, binding_pattern_plain};
+ghost use Rattle.jsgen_tree.specs.Rows.{program_row, directive_row, variable_declaration_row, variable_declarator_row, binding_identifier_row, declaration_plain, binding_pattern_plain};
 ghost use Rattle.jsgen_tree.specs.Plain.{node_plain};
 ghost use Rattle.jsgen_model.specs.Valid.{breaches, place_faults, span_faults, indent_faults, height, fault_if, not, is_free_name, is_too_long, declaration_faults, in_trees, is_lexical, Judges, program_breaches};
 ghost use Rattle.jsgen_model.specs.declared.fault.TreeFault.TheVariants as faults;
@@ -23,10 +24,11 @@ use crate::statements::{
     check_statement_set, is_declaration_lexical, is_statement_lexical, statement_type,
 };
 use jsgen_model::TreeFault;
-use jsgen_syntax::{Span, is_name, is_reserved, is_strict_reserved};
+use jsgen_syntax::{Quote, Span, is_name, is_reserved, is_strict_reserved};
+use jsgen_text::{directive_quote, spells_string};
 use jsgen_tree::{
-    BindingIdentifier, BindingPattern, Declaration, GetSpan, Node, NodeSet, NodeType, Program,
-    VariableDeclaration, VariableDeclarator,
+    BindingIdentifier, BindingPattern, Declaration, Directive, GetSpan, Node, NodeSet, NodeType,
+    Program, VariableDeclaration, VariableDeclarator,
 };
 
 /// What the checks ask of a child. Only `Node` implements it.
@@ -147,6 +149,32 @@ fn check_source(source: &str, start: u32) -> Result<(), TreeFault>
     Ok(())
 }
 
+fn check_raw(raw: &str, start: u32) -> Result<(), TreeFault>
+    ensures { Judges (fault_if (not (is_some (directive_value (chars raw.now)))) (faults.Literal start)) result }
+{
+    if !spells_string(directive_quote(Quote::Double, raw), raw) {
+        return Err(TreeFault::Literal { start });
+    }
+    Ok(())
+}
+
+fn check_directive(node: &Directive) -> Result<(), TreeFault>
+    ensures { Judges (breaches (directive_row node.now)) result }
+{
+    check_span(node.span)?;
+    check_raw(&node.directive, node.span.start)
+}
+
+// The directives of a program, whose statements stand in its next field.
+fn check_directives(directives: &[Directive]) -> Result<(), TreeFault>
+    ensures { Judges (in_trees (sets.Directive ∷ sets.Statement ∷ []) (trees (map directive_row directives.now))) result }
+{
+    for directive in directives {
+        check_directive(directive)?;
+    }
+    Ok(())
+}
+
 fn check_height<N: CheckNode>(minified: bool, node: &Program<N>) -> Result<(), TreeFault>
     ensures { Judges (indent_faults minified (program_row N.plain node.now)) result }
 {
@@ -172,6 +200,7 @@ fn check_rules<N: CheckNode>(node: &Program<N>) -> Result<(), TreeFault>
 {
     check_span(node.span)?;
     check_source(&node.source, node.span.start)?;
+    check_directives(&node.directives)?;
     for statement in &node.body {
         check_child(statement.get(), NodeSet::Statement)?;
     }

@@ -1,16 +1,17 @@
 -- What the code so far ends in, and what may stand behind it.
-use Rattle.std.proofs.Common.{◌≡◌, ℕ, Bool, true, false, not, ◌||◌, ◌==◌, List, [], ◌∷◌, ◌++◌, refl, ap, ◌∙◌}
+use Rattle.std.proofs.Common.{◌≡◌, ℕ, Bool, true, false, not, ◌||◌, ◌==◌, ◌⊎◌, inl, inr, List, [], ◌∷◌, ◌++◌, refl, sym, ap, ◌∙◌, subst}
 use Rattle.std.specs.Char.{is_ascii_digit}
 use Rattle.std.specs.Option.{option_map_or}
-use Rattle.std.proofs.lemmas.Bool.{both_ways, and_from, or_from}
-use Rattle.jsgen_syntax.specs.Name.{starts_name, goes_in_word}
+use Rattle.std.proofs.lemmas.Bool.{both_ways, and_from, or_from, or_cases, eqb-true}
+use Rattle.jsgen_syntax.specs.Name.{starts_name, continues_name, goes_in_word}
 use Rattle.jsgen_syntax.specs.Strings.{quote_char}
 use Rattle.jsgen_syntax.specs.declared.quote.Quote.{Quote}
 use Rattle.jsgen_syntax.specs.declared.quote.Quote.TheVariants as quotes
 use Rattle.jsgen_model.specs.Punctuator.{Punctuator, punctuator_text, dot, ellipsis, question_dot, slash, plus, minus, Bracket, Round, Square, Brace, opening, closing}
 use Rattle.jsgen_model.specs.Tokens.{Piece, Word, Number, Quoted, Sign, ends_before, may_precede, stands, longer_stands}
-use Rattle.jsgen_model.specs.Layout.{Pen, Ending, operator_end, number_end, ends_in_word, space_if}
+use Rattle.jsgen_model.specs.Layout.{Pen, Ending, operator_end, number_end, is_apart, space_if}
 use Rattle.jsgen_lexing.proofs.Characters.{goes_on_in_sign, none_longer, behind_itself, no_word_no_name, no_word_no_start, no_word_no_digit, word_no_sign, not_that, continues_goes, starts_continues, starts_no_digit, digit_goes}
+use Rattle.jsgen_lexing.proofs.Words.{begins_word}
 
 -- blanks or a bracket, behind a line end or not; or a token
 pub data Last : Type 0 where
@@ -46,8 +47,8 @@ Remembers s e = Unit {0}
 -- of what the code ends in the pen knows what matters to what follows
 abbrev pub Ended : List ℕ → Ending → Last → Type 0
 Ended code e (Open line) = Unit {0}
-Ended code e (After (Word w)) = ends_in_word code ≡ true
-Ended code e (After (Number w)) = (ends_in_word code ≡ true) × (e ≡ number_end)
+Ended code e (After (Word w)) = is_apart e code ≡ true
+Ended code e (After (Number w)) = (is_apart e code ≡ true) × (e ≡ number_end)
 Ended code e (After (Quoted q w)) = Unit {0}
 Ended code e (After (Sign s)) = Remembers s e
 
@@ -75,12 +76,20 @@ precedes_apart dot c r g h = ap not h
 precedes_apart question_dot c r g h = ap not h
 precedes_apart s c r g h = refl
 
-pub clear_apart : (l : Last) (c : ℕ) (r : List ℕ) → goes_in_word c ≡ false → goes_on_in_sign c ≡ false → Clear l (c ∷ r)
-clear_apart (Open line) c r h g = tt
-clear_apart (After (Word w)) c r h g = ap not (no_word_no_name c h)
-clear_apart (After (Number w)) c r h g = ap not (or_from _ (c == 46) (or_from (starts_name c) (is_ascii_digit c) (no_word_no_start c h) (no_word_no_digit c h)) (not_that c 46 g refl))
-clear_apart (After (Quoted q w)) c r h g = refl
-clear_apart (After (Sign s)) c r h g = clear_sign s c r g (precedes_apart s c r g (no_word_no_digit c h))
+-- in no word, and no backslash
+pub word_ends : (w : List ℕ) (c : ℕ) (r : List ℕ) → goes_in_word c ≡ false → (c == 92) ≡ false → Clear (After (Word w)) (c ∷ r)
+word_ends w c r h b = ap not (or_from (continues_name c) (c == 92) (no_word_no_name c h) b)
+
+-- and no dot either
+number_ends : (w : List ℕ) (c : ℕ) (r : List ℕ) → goes_in_word c ≡ false → (c == 46) ≡ false → (c == 92) ≡ false → Clear (After (Number w)) (c ∷ r)
+number_ends w c r h d b = ap not (or_from _ (c == 92) (or_from _ (c == 46) (or_from (starts_name c) (is_ascii_digit c) (no_word_no_start c h) (no_word_no_digit c h)) d) b)
+
+pub clear_apart : (l : Last) (c : ℕ) (r : List ℕ) → goes_in_word c ≡ false → goes_on_in_sign c ≡ false → (c == 92) ≡ false → Clear l (c ∷ r)
+clear_apart (Open line) c r h g b = tt
+clear_apart (After (Word w)) c r h g b = word_ends w c r h b
+clear_apart (After (Number w)) c r h g b = number_ends w c r h (not_that c 46 g refl) b
+clear_apart (After (Quoted q w)) c r h g b = refl
+clear_apart (After (Sign s)) c r h g b = clear_sign s c r g (precedes_apart s c r g (no_word_no_digit c h))
 
 pub clear_end : (l : Last) → Clear l []
 unfolding longer_stands
@@ -95,26 +104,26 @@ clear_end (After (Sign s)) = sign_end s
     sign_end s = refl
 
 pub clear_space : (l : Last) (r : List ℕ) → Clear l (32 ∷ r)
-clear_space l r = clear_apart l 32 r refl refl
+clear_space l r = clear_apart l 32 r refl refl refl
 
 pub clear_opening : (b : Bracket) (l : Last) (r : List ℕ) → Clear l (opening b ++ r)
-clear_opening Round l r = clear_apart l 40 r refl refl
-clear_opening Square l r = clear_apart l 91 r refl refl
-clear_opening Brace l r = clear_apart l 123 r refl refl
+clear_opening Round l r = clear_apart l 40 r refl refl refl
+clear_opening Square l r = clear_apart l 91 r refl refl refl
+clear_opening Brace l r = clear_apart l 123 r refl refl refl
 
 pub clear_closing : (b : Bracket) (l : Last) (r : List ℕ) → Clear l (closing b ++ r)
-clear_closing Round l r = clear_apart l 41 r refl refl
-clear_closing Square l r = clear_apart l 93 r refl refl
-clear_closing Brace l r = clear_apart l 125 r refl refl
+clear_closing Round l r = clear_apart l 41 r refl refl refl
+clear_closing Square l r = clear_apart l 93 r refl refl refl
+clear_closing Brace l r = clear_apart l 125 r refl refl refl
 
 -- ---- what may stand behind an operand
 
-clear_operand : (l : Last) (c : ℕ) (r : List ℕ) → Operand l → goes_in_word c ≡ false → (c == 46) ≡ false → Clear l (c ∷ r)
-clear_operand (Open line) c r o h e = tt
-clear_operand (After (Word w)) c r o h e = ap not (no_word_no_name c h)
-clear_operand (After (Number w)) c r o h e = ap not (or_from _ (c == 46) (or_from (starts_name c) (is_ascii_digit c) (no_word_no_start c h) (no_word_no_digit c h)) e)
-clear_operand (After (Quoted q w)) c r o h e = refl
-clear_operand (After (Sign s)) c r o h e = absurd o
+clear_operand : (l : Last) (c : ℕ) (r : List ℕ) → Operand l → goes_in_word c ≡ false → (c == 46) ≡ false → (c == 92) ≡ false → Clear l (c ∷ r)
+clear_operand (Open line) c r o h e b = tt
+clear_operand (After (Word w)) c r o h e b = word_ends w c r h b
+clear_operand (After (Number w)) c r o h e b = number_ends w c r h e b
+clear_operand (After (Quoted q w)) c r o h e b = refl
+clear_operand (After (Sign s)) c r o h e b = absurd o
 
 -- a sign that doesn't begin with a dot
 abbrev pub NoDot : Punctuator → Type 0
@@ -125,13 +134,13 @@ NoDot s = Unit {0}
 pub clear_operator : (s : Punctuator) (l : Last) (r : List ℕ) → NoDot s → Operand l → Clear l (punctuator_text s ++ r)
 clear_operator dot l r i o = absurd i
 clear_operator ellipsis l r i o = absurd i
-clear_operator s l r i o = clear_operand l _ _ o refl refl
+clear_operator s l r i o = clear_operand l _ _ o refl refl refl
 
 -- a quote is in no word and in no sign
 pub clear_quote : (q : Quote) (l : Last) (r : List ℕ) → Clear l (quote_char q ∷ r)
-clear_quote quotes.Single l r = clear_apart l 39 r refl refl
-clear_quote quotes.Double l r = clear_apart l 34 r refl refl
-clear_quote quotes.Backtick l r = clear_apart l 96 r refl refl
+clear_quote quotes.Single l r = clear_apart l 39 r refl refl refl
+clear_quote quotes.Double l r = clear_apart l 34 r refl refl refl
+clear_quote quotes.Backtick l r = clear_apart l 96 r refl refl refl
 
 -- ---- words and numbers, behind a space where the code ends in a word
 
@@ -150,14 +159,22 @@ spaced_sign : (s : Punctuator) (b : Bool) (c : ℕ) (r : List ℕ) → Clear (Af
 spaced_sign s true c r h = clear_space (After (Sign s)) (c ∷ r)
 spaced_sign s false c r h = h
 
-pub clear_word : (code : List ℕ) (e : Ending) (l : Last) (c : ℕ) (r : List ℕ) → Ended code e l → starts_name c ≡ true → Clear l (space_if (ends_in_word code) ++ (c ∷ r))
+-- what a word begins with is no digit, and no sign goes on with it
+begins_apart : (c : ℕ) → begins_word c ≡ true → (goes_on_in_sign c ≡ false) × (is_ascii_digit c ≡ false)
+begins_apart c h = by (or_cases (starts_name c) (c == 92) h)
+  where
+    by : (starts_name c ≡ true) ⊎ ((c == 92) ≡ true) → (goes_on_in_sign c ≡ false) × (is_ascii_digit c ≡ false)
+    by (inl e) = (word_no_sign c (continues_goes c (starts_continues c e)), starts_no_digit c e)
+    by (inr e) = subst (λ d. (goes_on_in_sign d ≡ false) × (is_ascii_digit d ≡ false)) (sym (eqb-true c 92 e)) (refl, refl)
+
+pub clear_word : (code : List ℕ) (e : Ending) (l : Last) (c : ℕ) (r : List ℕ) → Ended code e l → begins_word c ≡ true → Clear l (space_if (is_apart e code) ++ (c ∷ r))
 clear_word code e (Open line) c r k h = tt
-clear_word code e (After (Word w)) c r k h = spaced (Word w) (ends_in_word code) (c ∷ r) k
-clear_word code e (After (Number w)) c r k h = spaced (Number w) (ends_in_word code) (c ∷ r) k.0
-clear_word code e (After (Quoted q w)) c r k h = clear_quoted q w (space_if (ends_in_word code) ++ (c ∷ r))
+clear_word code e (After (Word w)) c r k h = spaced (Word w) (is_apart e code) (c ∷ r) k
+clear_word code e (After (Number w)) c r k h = spaced (Number w) (is_apart e code) (c ∷ r) k.0
+clear_word code e (After (Quoted q w)) c r k h = clear_quoted q w (space_if (is_apart e code) ++ (c ∷ r))
 clear_word code e (After (Sign s)) c r k h =
-    let g : goes_on_in_sign c ≡ false = word_no_sign c (continues_goes c (starts_continues c h)) in
-    spaced_sign s (ends_in_word code) c r (clear_sign s c r g (precedes_apart s c r g (starts_no_digit c h)))
+    let g = begins_apart c h in
+    spaced_sign s (is_apart e code) c r (clear_sign s c r g.0 (precedes_apart s c r g.0 g.1))
 
 -- a digit may stand behind a sign that isn't a dot
 precedes_digit : (s : Punctuator) (c : ℕ) (r : List ℕ) → Ready (After (Sign s)) → goes_on_in_sign c ≡ false → may_precede s (c ∷ r) ≡ true
@@ -166,11 +183,11 @@ precedes_digit dot c r y g = absurd y
 precedes_digit question_dot c r y g = absurd y
 precedes_digit s c r y g = refl
 
-pub clear_digit : (code : List ℕ) (e : Ending) (l : Last) (c : ℕ) (r : List ℕ) → Ended code e l → Ready l → is_ascii_digit c ≡ true → Clear l (space_if (ends_in_word code) ++ (c ∷ r))
+pub clear_digit : (code : List ℕ) (e : Ending) (l : Last) (c : ℕ) (r : List ℕ) → Ended code e l → Ready l → is_ascii_digit c ≡ true → Clear l (space_if (is_apart e code) ++ (c ∷ r))
 clear_digit code e (Open line) c r k y h = tt
-clear_digit code e (After (Word w)) c r k y h = spaced (Word w) (ends_in_word code) (c ∷ r) k
-clear_digit code e (After (Number w)) c r k y h = spaced (Number w) (ends_in_word code) (c ∷ r) k.0
-clear_digit code e (After (Quoted q w)) c r k y h = clear_quoted q w (space_if (ends_in_word code) ++ (c ∷ r))
+clear_digit code e (After (Word w)) c r k y h = spaced (Word w) (is_apart e code) (c ∷ r) k
+clear_digit code e (After (Number w)) c r k y h = spaced (Number w) (is_apart e code) (c ∷ r) k.0
+clear_digit code e (After (Quoted q w)) c r k y h = clear_quoted q w (space_if (is_apart e code) ++ (c ∷ r))
 clear_digit code e (After (Sign s)) c r k y h =
     let g : goes_on_in_sign c ≡ false = word_no_sign c (digit_goes c h) in
-    spaced_sign s (ends_in_word code) c r (clear_sign s c r g (precedes_digit s c r y g))
+    spaced_sign s (is_apart e code) c r (clear_sign s c r g (precedes_digit s c r y g))

@@ -1,4 +1,5 @@
 pub mod Characters
+pub mod Words
 pub mod Last
 pub mod Writes
 pub mod Steps

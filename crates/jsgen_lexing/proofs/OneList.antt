@@ -2,10 +2,10 @@
 use Rattle.std.proofs.Common.{◌≡◌, ℕ, Bool, true, false, not, ◌||◌, ◌==◌, ◌⊎◌, inl, inr, codes, Option, Some, None, is_some, List, [], ◌∷◌, ◌++◌, refl, sym, ap, ◌∙◌, subst, append_assoc, arith}
 use Rattle.std.specs.Char.{is_ascii_digit}
 use Rattle.std.specs.List.{list_all, list_any}
-use Rattle.std.proofs.lemmas.Bool.{both_ways, and_parts, and_from, or_parts, or_cases, eqb-true, not-true, false_from_ne_true}
+use Rattle.std.proofs.lemmas.Bool.{both_ways, and_parts, or_parts, or_cases, or_from, eqb-true, not-true, false_from_ne_true}
 use Rattle.std.proofs.lemmas.List.{append_cancel_left}
 use Rattle.unicode_ident.proofs.Computing.{unicode_ident}
-use Rattle.jsgen_syntax.specs.Name.{starts_name, continues_name, goes_in_word, spells_name}
+use Rattle.jsgen_syntax.specs.Name.{starts_name, goes_in_word}
 use Rattle.jsgen_syntax.specs.Strings.{quote_char, string_value}
 use Rattle.jsgen_syntax.specs.declared.quote.Quote.{Quote}
 use Rattle.jsgen_syntax.specs.declared.quote.Quote.TheVariants as quotes
@@ -13,13 +13,10 @@ use Rattle.jsgen_syntax.proofs.Strings.{closed as is_closed, valued_closed, one_
 use Rattle.jsgen_model.specs.Punctuator.{Punctuator, dot, Bracket, Round, Square, Brace, opening, closing}
 use Rattle.jsgen_model.specs.Tokens.{Tokens, done, piece, group, Piece, Word, Number, Quoted, Sign, piece_text, is_spelled, is_blank, is_line_terminator, has_line_end, ends_before, AreTokensAfter, AreTokensOf}
 use Rattle.jsgen_lexing.proofs.Characters.{starts_continues, continues_goes, digit_goes, whole_digits, found_passes, no_word_no_start, no_word_no_digit, starts_no_digit}
+pub use Rattle.jsgen_lexing.proofs.Words.{Stops}
+use Rattle.jsgen_lexing.proofs.Words.{between, goes_on_in_word, begins_word, word_begins, word_shaped, one_word}
 use Rattle.jsgen_lexing.proofs.Last.{After, clear_closing, clear_quoted}
 use Rattle.jsgen_lexing.proofs.Signs.{one_sign, closing_char, Shut, sign_ends_shut}
-
--- the text doesn't begin with what passes
-abbrev pub Stops : (ℕ → Bool) → List ℕ → Type 0
-Stops f [] = Unit {0}
-Stops f (c ∷ cs) = f c ≡ false
 
 -- the longest front of characters that pass is one
 pub one_span : (f : ℕ → Bool) (a b x y : List ℕ) → list_all f a ≡ true → list_all f b ≡ true → Stops f x → Stops f y → a ++ x ≡ b ++ y → (a ≡ b) × (x ≡ y)
@@ -42,7 +39,7 @@ abbrev pub is_quote : ℕ → Bool
 is_quote c = list_any (λ d. c == d) (codes "'\"`")
 
 unfoldable pub starts_piece : Piece → ℕ → Bool
-starts_piece (Word w) c = starts_name c
+starts_piece (Word w) c = begins_word c
 starts_piece (Number w) c = is_ascii_digit c
 starts_piece (Quoted q w) c = is_quote c
 starts_piece (Sign s) c = begins_sign c
@@ -65,8 +62,7 @@ sign_begins s = record { head = _; tail = _; text = refl; starts = refl }
 
 pub begins : (p : Piece) → is_spelled p ≡ true → Begins p
 unfolding starts_piece
-begins (Word []) h = absurd (both_ways false refl h)
-begins (Word (c ∷ cs)) h = record { head = c; tail = cs; text = refl; starts = (and_parts (starts_name c) (list_all continues_name cs) h).0 }
+begins (Word w) h = let b = word_begins w h in record { head = b.head; tail = b.tail; text = b.text; starts = b.starts }
 begins (Number []) h = absurd (both_ways false refl h)
 begins (Number (c ∷ cs)) h = record { head = c; tail = cs; text = refl; starts = (and_parts (is_ascii_digit c) (list_all is_ascii_digit cs) (whole_digits (c ∷ cs) h)).0 }
 begins (Quoted q w) h = record { head = quote_char q; tail = w ++ quote_char q ∷ []; text = refl; starts = quote_is_one q }
@@ -83,9 +79,12 @@ quote_no_sign c h = not-true (begins_sign c) (found_passes (λ d. not (begins_si
 
 -- ---- no token begins with a blank or a bracket
 
-line_separators : (starts_name 8232 ≡ false) × (starts_name 8233 ≡ false)
+line_separators : (begins_word 8232 ≡ false) × (begins_word 8233 ≡ false)
 unfolding unicode_ident
 line_separators = (refl, refl)
+
+no_word_begins : (c : ℕ) → goes_in_word c ≡ false → (c == 92) ≡ false → begins_word c ≡ false
+no_word_begins c h b = or_from (starts_name c) (c == 92) (no_word_no_start c h) b
 
 -- a blank is one of six characters
 blank_passes : (f : ℕ → Bool) (c : ℕ) → f 32 ≡ false → f 9 ≡ false → f 10 ≡ false → f 13 ≡ false → f 8232 ≡ false → f 8233 ≡ false → is_blank c ≡ true → f c ≡ false
@@ -112,23 +111,23 @@ blank_passes f c a b d e g h i = outer (or_cases ((c == 32) || (c == 9)) (is_lin
 
 pub starts_no_blank : (p : Piece) (c : ℕ) → starts_piece p c ≡ true → is_blank c ≡ false
 unfolding starts_piece
-starts_no_blank (Word w) c h = false_from_ne_true (is_blank c) (λ e. both_ways (starts_name c) (blank_passes starts_name c (no_word_no_start 32 refl) (no_word_no_start 9 refl) (no_word_no_start 10 refl) (no_word_no_start 13 refl) line_separators.0 line_separators.1 e) h)
+starts_no_blank (Word w) c h = false_from_ne_true (is_blank c) (λ e. both_ways (begins_word c) (blank_passes begins_word c (no_word_begins 32 refl refl) (no_word_begins 9 refl refl) (no_word_begins 10 refl refl) (no_word_begins 13 refl refl) line_separators.0 line_separators.1 e) h)
 starts_no_blank (Number w) c h = false_from_ne_true (is_blank c) (λ e. both_ways (is_ascii_digit c) (blank_passes is_ascii_digit c refl refl refl refl refl refl e) h)
 starts_no_blank (Quoted q w) c h = false_from_ne_true (is_blank c) (λ e. both_ways (is_quote c) (blank_passes is_quote c refl refl refl refl refl refl e) h)
 starts_no_blank (Sign s) c h = false_from_ne_true (is_blank c) (λ e. both_ways (begins_sign c) (blank_passes begins_sign c refl refl refl refl refl refl e) h)
 
-starts_none : (d : ℕ) → goes_in_word d ≡ false → begins_sign d ≡ false → is_quote d ≡ false → (p : Piece) → starts_piece p d ≡ false
+starts_none : (d : ℕ) → goes_in_word d ≡ false → (d == 92) ≡ false → begins_sign d ≡ false → is_quote d ≡ false → (p : Piece) → starts_piece p d ≡ false
 unfolding starts_piece
-starts_none d h g i (Word w) = no_word_no_start d h
-starts_none d h g i (Number w) = no_word_no_digit d h
-starts_none d h g i (Quoted q w) = i
-starts_none d h g i (Sign s) = g
+starts_none d h b g i (Word w) = no_word_begins d h b
+starts_none d h b g i (Number w) = no_word_no_digit d h
+starts_none d h b g i (Quoted q w) = i
+starts_none d h b g i (Sign s) = g
 
 pub starts_no_closing : (p : Piece) (b : Bracket) → starts_piece p (closing_char b) ≡ false
 unfolding closing_char
-starts_no_closing p Round = starts_none 41 refl refl refl p
-starts_no_closing p Square = starts_none 93 refl refl refl p
-starts_no_closing p Brace = starts_none 125 refl refl refl p
+starts_no_closing p Round = starts_none 41 refl refl refl refl p
+starts_no_closing p Square = starts_none 93 refl refl refl refl p
+starts_no_closing p Brace = starts_none 125 refl refl refl refl p
 
 unfoldable pub opening_char : Bracket → ℕ
 opening_char Round = 40
@@ -137,23 +136,22 @@ opening_char Brace = 123
 
 pub starts_no_opening : (p : Piece) (b : Bracket) → starts_piece p (opening_char b) ≡ false
 unfolding opening_char
-starts_no_opening p Round = starts_none 40 refl refl refl p
-starts_no_opening p Square = starts_none 91 refl refl refl p
-starts_no_opening p Brace = starts_none 123 refl refl refl p
+starts_no_opening p Round = starts_none 40 refl refl refl refl p
+starts_no_opening p Square = starts_none 91 refl refl refl refl p
+starts_no_opening p Brace = starts_none 123 refl refl refl refl p
 
 -- ---- one token stands at the front
 
-word_all : (w : List ℕ) → spells_name w ≡ true → list_all continues_name w ≡ true
-word_all [] h = refl
-word_all (c ∷ cs) h = let k = and_parts (starts_name c) (list_all continues_name cs) h in and_from (continues_name c) (list_all continues_name cs) (starts_continues c k.0) k.1
-
-pub word_stops : (w x : List ℕ) → ends_before (Word w) x ≡ true → Stops continues_name x
+pub word_stops : (w x : List ℕ) → ends_before (Word w) x ≡ true → Stops goes_on_in_word x
 word_stops w [] h = tt
-word_stops w (c ∷ cs) h = not-true (continues_name c) h
+word_stops w (c ∷ cs) h = not-true (goes_on_in_word c) h
 
 pub number_stops : (w x : List ℕ) → ends_before (Number w) x ≡ true → Stops is_ascii_digit x
 number_stops w [] h = tt
-number_stops w (c ∷ cs) h = let k = or_parts (starts_name c || is_ascii_digit c) (c == 46) (not-true _ h) in (or_parts (starts_name c) (is_ascii_digit c) k.0).1
+number_stops w (c ∷ cs) h =
+    let j = or_parts (starts_name c || is_ascii_digit c || (c == 46)) (c == 92) (not-true _ h) in
+    let k = or_parts (starts_name c || is_ascii_digit c) (c == 46) j.0 in
+    (or_parts (starts_name c) (is_ascii_digit c) k.0).1
 
 apart : (p q : Piece) (x y : List ℕ) → is_spelled p ≡ true → is_spelled q ≡ true → ((c : ℕ) → starts_piece p c ≡ true → starts_piece q c ≡ true → ⊥) → piece_text p ++ x ≡ piece_text q ++ y → ⊥
 apart p q x y g h clash e =
@@ -163,14 +161,28 @@ apart p q x y g h clash e =
     let f : d.head ≡ b.head = cc in
     clash b.head b.starts (subst (λ c. starts_piece q c ≡ true) f d.starts)
 
-pub name_or_digit : (c : ℕ) → starts_name c ≡ true → is_ascii_digit c ≡ true → ⊥
-name_or_digit c g h = both_ways (is_ascii_digit c) (starts_no_digit c g) h
+-- what a word begins with is a backslash, or a character of names
+word_or : (f : ℕ → Bool) (c : ℕ) → f 92 ≡ false → (starts_name c ≡ true → f c ≡ true → ⊥) → begins_word c ≡ true → f c ≡ true → ⊥
+word_or f c b n g h = by (or_cases (starts_name c) (c == 92) g)
+  where
+    by : (starts_name c ≡ true) ⊎ ((c == 92) ≡ true) → ⊥
+    by (inl e) = n e h
+    by (inr e) = both_ways (f 92) b (subst (λ d. f d ≡ true) (eqb-true c 92 e) h)
+
+pub word_or_digit : (c : ℕ) → begins_word c ≡ true → is_ascii_digit c ≡ true → ⊥
+word_or_digit c g h = word_or is_ascii_digit c refl (λ e. both_ways (is_ascii_digit c) (starts_no_digit c e)) g h
 
 pub sign_or : (c : ℕ) → begins_sign c ≡ true → goes_in_word c ≡ true → ⊥
 sign_or c g h = both_ways (goes_in_word c) (sign_no_word c g) h
 
 quote_or_word : (c : ℕ) → is_quote c ≡ true → goes_in_word c ≡ true → ⊥
 quote_or_word c g h = both_ways (goes_in_word c) (quote_no_word c g) h
+
+word_or_sign : (c : ℕ) → begins_word c ≡ true → begins_sign c ≡ true → ⊥
+word_or_sign c g h = word_or begins_sign c refl (λ e k. sign_or c k (continues_goes c (starts_continues c e))) g h
+
+word_or_quote : (c : ℕ) → begins_word c ≡ true → is_quote c ≡ true → ⊥
+word_or_quote c g h = word_or is_quote c refl (λ e k. quote_or_word c k (continues_goes c (starts_continues c e))) g h
 
 quote_or_sign : (c : ℕ) → is_quote c ≡ true → begins_sign c ≡ true → ⊥
 quote_or_sign c g h = both_ways (begins_sign c) (quote_no_sign c g) h
@@ -205,18 +217,18 @@ one_quoted q r v w x y g h e =
 
 pub one_piece : (p q : Piece) (x y : List ℕ) → is_spelled p ≡ true → is_spelled q ≡ true → ends_before p x ≡ true → ends_before q y ≡ true → piece_text p ++ x ≡ piece_text q ++ y → (p ≡ q) × (x ≡ y)
 unfolding starts_piece
-one_piece (Word v) (Word w) x y g h s t e = let k = one_span continues_name v w x y (word_all v g) (word_all w h) (word_stops v x s) (word_stops w y t) e in (ap Word k.0, k.1)
+one_piece (Word v) (Word w) x y g h s t e = let k = one_word (Some between) v w x y (word_shaped v g) (word_shaped w h) (word_stops v x s) (word_stops w y t) e in (ap Word k.0, k.1)
 one_piece (Number v) (Number w) x y g h s t e = let k = one_span is_ascii_digit v w x y (whole_digits v g) (whole_digits w h) (number_stops v x s) (number_stops w y t) e in (ap Number k.0, k.1)
 one_piece (Quoted q v) (Quoted r w) x y g h s t e = one_quoted q r v w x y g h e
 one_piece (Sign v) (Sign w) x y g h s t e = let k = one_sign v w x y s t e in (ap Sign k.0, k.1)
-one_piece (Word v) (Number w) x y g h s t e = absurd (apart (Word v) (Number w) x y g h name_or_digit e)
-one_piece (Number v) (Word w) x y g h s t e = absurd (apart (Number v) (Word w) x y g h (λ c a b. name_or_digit c b a) e)
-one_piece (Sign v) (Word w) x y g h s t e = absurd (apart (Sign v) (Word w) x y g h (λ c a b. sign_or c a (continues_goes c (starts_continues c b))) e)
-one_piece (Word v) (Sign w) x y g h s t e = absurd (apart (Word v) (Sign w) x y g h (λ c a b. sign_or c b (continues_goes c (starts_continues c a))) e)
+one_piece (Word v) (Number w) x y g h s t e = absurd (apart (Word v) (Number w) x y g h word_or_digit e)
+one_piece (Number v) (Word w) x y g h s t e = absurd (apart (Number v) (Word w) x y g h (λ c a b. word_or_digit c b a) e)
+one_piece (Sign v) (Word w) x y g h s t e = absurd (apart (Sign v) (Word w) x y g h (λ c a b. word_or_sign c b a) e)
+one_piece (Word v) (Sign w) x y g h s t e = absurd (apart (Word v) (Sign w) x y g h word_or_sign e)
 one_piece (Sign v) (Number w) x y g h s t e = absurd (apart (Sign v) (Number w) x y g h (λ c a b. sign_or c a (digit_goes c b)) e)
 one_piece (Number v) (Sign w) x y g h s t e = absurd (apart (Number v) (Sign w) x y g h (λ c a b. sign_or c b (digit_goes c a)) e)
-one_piece (Quoted q v) (Word w) x y g h s t e = absurd (apart (Quoted q v) (Word w) x y g h (λ c a b. quote_or_word c a (continues_goes c (starts_continues c b))) e)
-one_piece (Word v) (Quoted q w) x y g h s t e = absurd (apart (Word v) (Quoted q w) x y g h (λ c a b. quote_or_word c b (continues_goes c (starts_continues c a))) e)
+one_piece (Quoted q v) (Word w) x y g h s t e = absurd (apart (Quoted q v) (Word w) x y g h (λ c a b. word_or_quote c b a) e)
+one_piece (Word v) (Quoted q w) x y g h s t e = absurd (apart (Word v) (Quoted q w) x y g h word_or_quote e)
 one_piece (Quoted q v) (Number w) x y g h s t e = absurd (apart (Quoted q v) (Number w) x y g h (λ c a b. quote_or_word c a (digit_goes c b)) e)
 one_piece (Number v) (Quoted q w) x y g h s t e = absurd (apart (Number v) (Quoted q w) x y g h (λ c a b. quote_or_word c b (digit_goes c a)) e)
 one_piece (Quoted q v) (Sign w) x y g h s t e = absurd (apart (Quoted q v) (Sign w) x y g h (λ c a b. quote_or_sign c a b) e)

@@ -1,6 +1,7 @@
 -- The characters of a text that has tokens are Unicode scalar values.
-use Rattle.std.proofs.Common.{◌≡◌, ℕ, ◌<◌, ◌≤◌, Bool, true, false, not, cond, nat_lt, ◌||◌, ◌==◌, ◌⊎◌, inl, inr, Option, Some, None, is_some, List, [], ◌∷◌, ◌++◌, refl, sym, ap, subst, arith}
-use Rattle.std.specs.Char.{is_ascii_digit}
+use Rattle.std.proofs.Common.{◌≡◌, ℕ, ◌-◌, ◌<◌, ◌≤◌, Bool, true, false, not, cond, nat_lt, ◌||◌, ◌==◌, ◌⊎◌, inl, inr, Option, Some, None, is_some, List, [], ◌∷◌, ◌++◌, refl, sym, ap, if◌then◌else◌, subst, arith}
+use Rattle.std.specs.Char.{is_ascii_digit, is_ascii_hexdigit}
+use Rattle.std.specs.Int.{is_in_range}
 use Rattle.std.specs.List.{list_all}
 use Rattle.std.specs.Str.{all_scalars}
 use lib.Utf8.{scalar, low_scalar}
@@ -11,14 +12,15 @@ use Rattle.ucd_table.proofs.Facts.{Stepped-everywhere}
 use Rattle.ucd_derived.proofs.BinaryLemmas.{is_xid_continue_stepped}
 use Rattle.unicode_ident.specs.Ident.{is_xid_continue}
 use Rattle.unicode_ident.proofs.Computing.{unicode_ident}
-use Rattle.jsgen_syntax.specs.Name.{starts_name, continues_name, spells_name}
+use Rattle.jsgen_syntax.specs.Name.{continues_name}
 use Rattle.jsgen_syntax.specs.Strings.{quote_char, string_value}
 use Rattle.jsgen_syntax.specs.declared.quote.Quote.{Quote}
 use Rattle.jsgen_syntax.specs.declared.quote.Quote.TheVariants as quotes
 use Rattle.jsgen_syntax.proofs.Strings.{valued_scalars}
 use Rattle.jsgen_model.specs.Punctuator.{Punctuator, punctuator_text, dot, Bracket, Round, opening, closing}
 use Rattle.jsgen_model.specs.Tokens.{Tokens, done, piece, group, Piece, Word, Number, Quoted, Sign, piece_text, is_spelled, is_blank, is_line_terminator, AreTokensAfter, AreTokensOf}
-use Rattle.jsgen_lexing.proofs.Characters.{starts_continues, whole_digits, ranged}
+use Rattle.jsgen_lexing.proofs.Characters.{whole_digits, ranged}
+use Rattle.jsgen_lexing.proofs.Words.{Spot, between, behind_backslash, behind_u, in_braces, in_hex, step, shaped, none_shaped, word_shaped}
 
 pub scalars_append : (a b : List ℕ) → all_scalars a ≡ true → all_scalars b ≡ true → all_scalars (a ++ b) ≡ true
 scalars_append [] b g h = h
@@ -48,7 +50,7 @@ xid_scalar c e =
     let both = zip_stepped (λ a b. not a || b) is_xid_continue scalar is_xid_continue_stepped scalar_stepped in
     subst (λ a. (not a || scalar c) ≡ true) e (Stepped-everywhere (λ x. not (is_xid_continue x) || scalar x) both refl c)
 
-continues_scalar : (c : ℕ) → continues_name c ≡ true → scalar c ≡ true
+pub continues_scalar : (c : ℕ) → continues_name c ≡ true → scalar c ≡ true
 continues_scalar c h = outer (or_cases (is_xid_continue c || (c == 36) || (c == 8204)) (c == 8205) h)
   where
     that : (d : ℕ) → d < 55296 → (c == d) ≡ true → scalar c ≡ true
@@ -66,9 +68,47 @@ continues_scalar c h = outer (or_cases (is_xid_continue c || (c == 36) || (c == 
     outer (inl e) = middle (or_cases (is_xid_continue c || (c == 36)) (c == 8204) e)
     outer (inr e) = that 8205 (omega arith) e
 
-name_scalars : (w : List ℕ) → spells_name w ≡ true → all_scalars w ≡ true
-name_scalars [] h = refl
-name_scalars (c ∷ w) h = let k = and_parts (starts_name c) (list_all continues_name w) h in and_from (scalar c) (all_scalars w) (continues_scalar c (starts_continues c k.0)) (scalars_follow continues_name continues_scalar w k.1)
+hex_scalar : (c : ℕ) → is_ascii_hexdigit c ≡ true → scalar c ≡ true
+hex_scalar c h = outer (or_cases (is_in_range 48 57 c || is_in_range 65 70 c) (is_in_range 97 102 c) h)
+  where
+    inside : (is_in_range 48 57 c ≡ true) ⊎ (is_in_range 65 70 c ≡ true) → scalar c ≡ true
+    inside (inl e) = let b = ranged 48 57 c e in low_scalar c (omega arith)
+    inside (inr e) = let b = ranged 65 70 c e in low_scalar c (omega arith)
+
+    outer : ((is_in_range 48 57 c || is_in_range 65 70 c) ≡ true) ⊎ (is_in_range 97 102 c ≡ true) → scalar c ≡ true
+    outer (inl e) = inside (or_cases (is_in_range 48 57 c) (is_in_range 65 70 c) e)
+    outer (inr e) = let b = ranged 97 102 c e in low_scalar c (omega arith)
+
+-- a character that passes one of two tests is a scalar
+either : (c d : ℕ) (b : Bool) (x y : Option Spot) → d < 55296 → (b ≡ true → scalar c ≡ true) → is_some (cond (c == d) x (cond b y None)) ≡ true → scalar c ≡ true
+either c d b x y l h k = go (c == d) b refl refl k
+  where
+    go : (e f : Bool) → (c == d) ≡ e → b ≡ f → is_some (cond e x (cond f y None)) ≡ true → scalar c ≡ true
+    go true f i j k = subst (λ x. scalar x ≡ true) (sym (eqb-true c d i)) (low_scalar d l)
+    go false true i j k = h j
+    go false false i j k = absurd (both_ways false refl k)
+
+step_scalar : (spot : Spot) (c : ℕ) → is_some (step spot c) ≡ true → scalar c ≡ true
+unfolding step
+step_scalar between c h = either c 92 (continues_name c) (Some behind_backslash) (Some between) (omega arith) (continues_scalar c) h
+step_scalar behind_backslash c h = either c 117 false (Some behind_u) None (omega arith) (λ e. absurd (both_ways false refl e)) h
+step_scalar behind_u c h = either c 123 (is_ascii_hexdigit c) (Some in_braces) (Some (in_hex 3)) (omega arith) (hex_scalar c) h
+step_scalar in_braces c h = either c 125 (is_ascii_hexdigit c) (Some between) (Some in_braces) (omega arith) (hex_scalar c) h
+step_scalar (in_hex count) c h = go (is_ascii_hexdigit c) refl h
+  where
+    go : (b : Bool) → is_ascii_hexdigit c ≡ b → is_some (cond b (if count == 1 then Some between else Some (in_hex (count - 1))) None) ≡ true → scalar c ≡ true
+    go true e k = hex_scalar c e
+    go false e k = absurd (both_ways false refl k)
+
+shaped_scalars : (spot : Option Spot) (w : List ℕ) → shaped spot w ≡ true → all_scalars w ≡ true
+unfolding shaped
+shaped_scalars spot [] h = refl
+shaped_scalars None (c ∷ w) h = absurd (none_shaped w h)
+shaped_scalars (Some spot) (c ∷ w) h = and_from (scalar c) (all_scalars w) (step_scalar spot c (some (step spot c) h)) (shaped_scalars (step spot c) w h)
+  where
+    some : (o : Option Spot) → shaped o w ≡ true → is_some o ≡ true
+    some None k = absurd (none_shaped w k)
+    some (Some s) k = refl
 
 -- ---- the other tokens and blanks
 
@@ -114,7 +154,7 @@ spelling_scalars q w h = go (string_value q w) refl h
     go None e k = absurd (both_ways false refl k)
 
 piece_scalars : (p : Piece) → is_spelled p ≡ true → all_scalars (piece_text p) ≡ true
-piece_scalars (Word w) h = name_scalars w h
+piece_scalars (Word w) h = shaped_scalars (Some between) w (word_shaped w h)
 piece_scalars (Number w) h = scalars_follow is_ascii_digit digit_scalar w (whole_digits w h)
 piece_scalars (Quoted q w) h = and_from (scalar (quote_char q)) _ (quote_scalar q) (scalars_append w (quote_char q ∷ []) (spelling_scalars q w h) (and_from (scalar (quote_char q)) true (quote_scalar q) refl))
 piece_scalars (Sign p) h = sign_scalars p

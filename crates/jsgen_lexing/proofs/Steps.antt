@@ -1,18 +1,19 @@
 -- What each item of a layout writes.
-use Rattle.std.proofs.Common.{◌≡◌, ℕ, zero, suc, ◌*◌, Bool, true, false, not, ◌||◌, ◌==◌, ◌⊎◌, inl, inr, is_some, List, [], ◌∷◌, ◌++◌, codes, replicate, refl, sym, ap, ◌∙◌, subst, subst₂, append_assoc, append-nil}
+use Rattle.std.proofs.Common.{◌≡◌, ℕ, zero, suc, ◌*◌, Bool, true, false, not, ◌||◌, ◌==◌, ◌⊎◌, inl, inr, Some, is_some, List, [], ◌∷◌, ◌++◌, codes, replicate, refl, sym, ap, ◌∙◌, subst, subst₂, append_assoc, append-nil}
 use Rattle.std.specs.Char.{is_ascii_digit}
 use Rattle.std.specs.List.{list_all}
-use Rattle.std.proofs.lemmas.Bool.{both_ways, and_parts, and_from, or_from, or_cases, or_left, eqb-true}
-use Rattle.jsgen_syntax.specs.Name.{starts_name, continues_name, spells_name, goes_in_word}
-use Rattle.jsgen_syntax.specs.Strings.{escaped, quoted, is_plain_string}
+use Rattle.std.proofs.lemmas.Bool.{both_ways, and_parts, and_from, or_from, or_cases, or_left, or_right, eqb-true}
+use Rattle.jsgen_syntax.specs.Name.{spells_name, goes_in_word}
+use Rattle.jsgen_syntax.specs.Strings.{quote_char, string_value}
+use Rattle.jsgen_syntax.specs.Escapes.{name_text, has_escapes}
 use Rattle.jsgen_syntax.specs.declared.quote.Quote.{Quote}
-use Rattle.jsgen_syntax.proofs.Strings.{escaped_value}
 use Rattle.jsgen_model.specs.Punctuator.{Punctuator, Bracket, punctuator_text, plus, minus, dot, semicolon, Round, opening, closing}
-use Rattle.jsgen_model.specs.Tokens.{longer_stands, Tokens, done, piece, group, Word, Number, Quoted, Sign, is_blank, is_line_terminator, has_line_end, spells_whole}
-use Rattle.jsgen_model.specs.Items.{member_dot, word, number, punctuator, operator, soft_space, soft_line, hard_space, body_space, indentation, due_semicolon, statement_begins}
-use Rattle.jsgen_model.specs.Layout.{Pen, Ending, other_end, operator_end, layout, written, written_if, text_if, ending_unless, ends_in_word, space_if, joins, dot_joins, indented, indent_or_space, at_indentation, end_statement}
-use Rattle.jsgen_lexing.proofs.Characters.{no_word_no_name, ends_in_word_behind, all_goes, whole_digits, digit_goes, all_follow}
-use Rattle.jsgen_lexing.proofs.Last.{Last, Open, After, line_of, Clear, Operand, Ready, Remembers, Ended, is_indent, Knows, NoDot, clear_apart, clear_quote, clear_quoted, clear_space, clear_operator, clear_word, clear_digit}
+use Rattle.jsgen_model.specs.Tokens.{longer_stands, Tokens, done, piece, group, Word, Number, Quoted, Sign, is_spelled, is_blank, is_line_terminator, has_line_end, spells_whole}
+use Rattle.jsgen_model.specs.Items.{member_dot, word, name, number, punctuator, operator, soft_space, soft_line, hard_space, body_space, indentation, due_semicolon, statement_begins}
+use Rattle.jsgen_model.specs.Layout.{Pen, Ending, other_end, operator_end, layout, written, written_if, text_if, ending_unless, is_apart, ends_in_escapes, name_ending, space_if, joins, dot_joins, indented, indent_or_space, at_indentation, end_statement}
+use Rattle.jsgen_lexing.proofs.Characters.{ends_in_word_behind, all_goes, whole_digits, digit_goes, all_follow}
+use Rattle.jsgen_lexing.proofs.Words.{word_begins, unescaped, name_spelled, spelled_name}
+use Rattle.jsgen_lexing.proofs.Last.{Last, Open, After, line_of, Clear, Operand, Ready, Remembers, Ended, is_indent, Knows, NoDot, word_ends, clear_apart, clear_quote, clear_quoted, clear_space, clear_operator, clear_word, clear_digit}
 use Rattle.jsgen_lexing.proofs.Writes.{Writes, wrote_none, wrote_and_none, wrote_blank, wrote_piece, wrote_brackets}
 
 -- ---- gaps
@@ -30,26 +31,45 @@ space_mark false false = refl
 
 -- ---- words and numbers
 
+-- a word of this spelling, behind which the code is so
+written_word : (w : List ℕ) (p q : Pen) (l : Last) → is_spelled (Word w) ≡ true → q.code ≡ p.code ++ (space_if (is_apart p.ending p.code) ++ w) → Knows p l → Knows q (After (Word w)) → Writes p l q (After (Word w)) (piece (line_of l) (Word w) done)
+written_word w p q l h e k m =
+    let b : Bool = is_apart p.ending p.code in
+    let i = word_begins w h in
+    wrote_piece p q l (space_if b) (Word w) (line_of l) (space_blank b) (space_mark b (line_of l)) h
+    (λ r. subst (λ t. Clear l (space_if b ++ (t ++ r))) (sym i.text) (clear_word p.code p.ending l i.head (i.tail ++ r) k.ending i.starts)) e m
+
+-- what ends in a name is apart from a word
+ends_apart : (e : Ending) (code gap w : List ℕ) → spells_name w ≡ true → is_apart e (code ++ (gap ++ w)) ≡ true
+ends_apart e code gap [] h = absurd (both_ways false refl h)
+ends_apart e code gap (c ∷ w) h = or_right (ends_in_escapes e) _ (ends_in_word_behind code gap c w (all_goes (c ∷ w) h))
+
 pub wrote_word : (w : List ℕ) (p : Pen) (l : Last) → spells_name w ≡ true → Knows p l → Writes p l (layout (word w) p) (After (Word w)) (piece (line_of l) (Word w) done)
-wrote_word [] p l h k = absurd (both_ways false refl h)
-wrote_word (c ∷ w) p l h k =
-    wrote_piece p (layout (word (c ∷ w)) p) l (space_if (ends_in_word p.code)) (Word (c ∷ w)) (line_of l) (space_blank (ends_in_word p.code)) (space_mark (ends_in_word p.code) (line_of l)) h
-    (λ r. clear_word p.code p.ending l c (w ++ r) k.ending (and_parts (starts_name c) (list_all continues_name w) h).0) refl
-    (record { indent = k.indent; ending = ends_in_word_behind p.code (space_if (ends_in_word p.code)) c w (all_goes (c ∷ w) h) })
+wrote_word w p l h k = written_word w p (layout (word w) p) l (spelled_name w h) refl k (record { indent = k.indent; ending = ends_apart other_end p.code (space_if (is_apart p.ending p.code)) w h })
+
+-- a name may be printed with escapes
+name_apart : (ascii : Bool) (code gap w : List ℕ) → spells_name w ≡ true → (b : Bool) → has_escapes ascii w ≡ b → is_apart (name_ending b) (code ++ (gap ++ name_text ascii w)) ≡ true
+name_apart ascii code gap w h true e = refl
+name_apart ascii code gap w h false e = subst (λ t. is_apart other_end (code ++ (gap ++ t)) ≡ true) (sym (unescaped ascii w e)) (ends_apart other_end code gap w h)
+
+pub wrote_name : (w : List ℕ) (p : Pen) (l : Last) → spells_name w ≡ true → Knows p l → Writes p l (layout (name w) p) (After (Word (name_text p.style.ascii w))) (piece (line_of l) (Word (name_text p.style.ascii w)) done)
+wrote_name w p l h k = written_word (name_text p.style.ascii w) p (layout (name w) p) l (name_spelled p.style.ascii w h) refl k (record { indent = k.indent; ending = name_apart p.style.ascii p.code (space_if (is_apart p.ending p.code)) w h (has_escapes p.style.ascii w) refl })
 
 pub wrote_number : (w : List ℕ) (p : Pen) (l : Last) → spells_whole w ≡ true → Ready l → Knows p l → Writes p l (layout (number true w) p) (After (Number w)) (piece (line_of l) (Number w) done)
 wrote_number [] p l h y k = absurd (both_ways false refl h)
 wrote_number (c ∷ w) p l h y k =
+    let b : Bool = is_apart p.ending p.code in
     let d = whole_digits (c ∷ w) h in
-    wrote_piece p (layout (number true (c ∷ w)) p) l (space_if (ends_in_word p.code)) (Number (c ∷ w)) (line_of l) (space_blank (ends_in_word p.code)) (space_mark (ends_in_word p.code) (line_of l)) h
+    wrote_piece p (layout (number true (c ∷ w)) p) l (space_if b) (Number (c ∷ w)) (line_of l) (space_blank b) (space_mark b (line_of l)) h
     (λ r. clear_digit p.code p.ending l c (w ++ r) k.ending y (and_parts (is_ascii_digit c) (list_all is_ascii_digit w) d).0) refl
-    (record { indent = k.indent; ending = (ends_in_word_behind p.code (space_if (ends_in_word p.code)) c w (all_follow is_ascii_digit goes_in_word digit_goes (c ∷ w) d), refl) })
+    (record { indent = k.indent; ending = (ends_in_word_behind p.code (space_if b) c w (all_follow is_ascii_digit goes_in_word digit_goes (c ∷ w) d), refl) })
 
 -- ---- strings, behind anything
 
-pub wrote_quoted : (q : Quote) (us : List ℕ) (p r : Pen) (l : Last) → is_plain_string us ≡ true → r.code ≡ p.code ++ quoted q us → r.style ≡ p.style → Knows p l → Writes p l r (After (Quoted q (escaped q us))) (piece (line_of l) (Quoted q (escaped q us)) done)
-wrote_quoted q us p r l h e f k =
-    wrote_piece p r l [] (Quoted q (escaped q us)) (line_of l) refl (space_mark false (line_of l)) (ap is_some (escaped_value q us h)) (λ x. clear_quote q l _) e
+-- any spelling of a string
+pub wrote_quoted : (q : Quote) (w us : List ℕ) (p r : Pen) (l : Last) → string_value q w ≡ Some us → r.code ≡ p.code ++ (quote_char q ∷ (w ++ quote_char q ∷ [])) → r.style ≡ p.style → Knows p l → Writes p l r (After (Quoted q w)) (piece (line_of l) (Quoted q w) done)
+wrote_quoted q w us p r l h e f k =
+    wrote_piece p r l [] (Quoted q w) (line_of l) refl (space_mark false (line_of l)) (ap is_some h) (λ x. clear_quote q l _) e
     (record { indent = subst (λ s. is_indent s.indent ≡ true) (sym f) k.indent; ending = tt })
 
 -- ---- punctuators behind an operand
@@ -73,7 +93,7 @@ wrote_operator s p l i o k =
 
 -- a semicolon may stand behind anything
 pub wrote_semicolon : (p q : Pen) (l : Last) → q.code ≡ p.code ++ codes ";" → q.style ≡ p.style → Knows p l → Writes p l q (After (Sign semicolon)) (piece (line_of l) (Sign semicolon) done)
-wrote_semicolon p q l e f k = wrote_piece p q l [] (Sign semicolon) (line_of l) refl (space_mark false (line_of l)) refl (λ r. clear_apart l 59 r refl refl) e (record { indent = subst (λ s. is_indent s.indent ≡ true) (sym f) k.indent; ending = tt })
+wrote_semicolon p q l e f k = wrote_piece p q l [] (Sign semicolon) (line_of l) refl (space_mark false (line_of l)) refl (λ r. clear_apart l 59 r refl refl refl) e (record { indent = subst (λ s. is_indent s.indent ≡ true) (sym f) k.indent; ending = tt })
 
 -- ---- blanks
 
@@ -119,8 +139,8 @@ clear_indent : (l : Last) (c : ℕ) (r : List ℕ) → is_indent c ≡ true → 
 clear_indent l c r h = go (indent_cases c h)
   where
     go : (c ≡ 32) ⊎ (c ≡ 9) → Clear l (c ∷ r)
-    go (inl e) = subst (λ x. Clear l (x ∷ r)) (sym e) (clear_apart l 32 r refl refl)
-    go (inr e) = subst (λ x. Clear l (x ∷ r)) (sym e) (clear_apart l 9 r refl refl)
+    go (inl e) = subst (λ x. Clear l (x ∷ r)) (sym e) (clear_apart l 32 r refl refl refl)
+    go (inr e) = subst (λ x. Clear l (x ∷ r)) (sym e) (clear_apart l 9 r refl refl refl)
 
 indents : (n c : ℕ) → is_indent c ≡ true → list_all is_indent (replicate n c) ≡ true
 indents zero c h = refl
@@ -185,7 +205,7 @@ soft_line_written p l k = go p.style.minified
     go true = gap (no_soft p (written_if false (codes "\n") p) l (append-nil p.code) refl refl refl k)
     go false = record {
       last = Open (line_of l || has_line_end (codes "\n"));
-      writes = wrote_blank p (written_if true (codes "\n") p) l (codes "\n") refl (λ r. clear_apart l 10 r refl refl) refl (record { indent = k.indent; ending = tt });
+      writes = wrote_blank p (written_if true (codes "\n") p) l (codes "\n") refl (λ r. clear_apart l 10 r refl refl refl) refl (record { indent = k.indent; ending = tt });
       ready = λ y. tt;
       semicolon = refl;
     }
@@ -202,7 +222,7 @@ end_written p l k =
     let q : Pen = written (codes ";") other_end p in
     let s : Pen = end_statement false p in
     let a = wrote_semicolon p q l refl refl k in
-    let b = wrote_blank q s (After (Sign semicolon)) (codes "\n") refl (λ r. clear_apart (After (Sign semicolon)) 10 r refl refl) (sym (append_assoc p.code (codes ";") (codes "\n"))) (record { indent = k.indent; ending = tt }) in
+    let b = wrote_blank q s (After (Sign semicolon)) (codes "\n") refl (λ r. clear_apart (After (Sign semicolon)) 10 r refl refl refl) (sym (append_assoc p.code (codes ";") (codes "\n"))) (record { indent = k.indent; ending = tt }) in
     wrote_and_none a b
 
 -- minified, it is left
@@ -292,7 +312,7 @@ wrote_minus p l k =
 
 dot_apart : (l : Last) (e : Ending) (code : List ℕ) (r : List ℕ) → Operand l → Ended code e l → Clear l (space_if (dot_joins e) ++ (46 ∷ r))
 dot_apart (Open line) e code r o k = tt
-dot_apart (After (Word w)) e code r o k = spaced_or (After (Word w)) (dot_joins e) (46 ∷ r) (ap not (no_word_no_name 46 refl))
+dot_apart (After (Word w)) e code r o k = spaced_or (After (Word w)) (dot_joins e) (46 ∷ r) (word_ends w 46 r refl refl)
 dot_apart (After (Number w)) e code r o k = spaced_since (After (Number w)) (dot_joins e) (46 ∷ r) (ap dot_joins k.1)
 dot_apart (After (Quoted q w)) e code r o k = clear_quoted q w (space_if (dot_joins e) ++ (46 ∷ r))
 dot_apart (After (Sign s)) e code r o k = absurd o

@@ -1,6 +1,7 @@
 -- The grammar (ECMA-262, clauses 13 to 16): which rows of tokens are read as which tree, one production a line.
 use Rattle.std.specs.Prelude.{◌≡◌, ℕ, List, [], ◌∷◌, Bool, true, false, not, ◌&&◌, ◌||◌, Some, codes}
 use Rattle.std.specs.Str.{bytes_eq}
+use Rattle.jsgen_syntax.specs.Escapes.{word_value}
 use Rattle.jsgen_syntax.specs.Strings.{is_backtick, string_value}
 use Rattle.jsgen_syntax.specs.declared.quote.Quote.{Quote}
 use Rattle.jsgen_syntax.specs.declared.operator.BinaryOperator.{BinaryOperator}
@@ -167,10 +168,10 @@ mutual
     a_primary : {c : Allowed} {ts : Tokens} {t : Tree} → ReadsExpression c Primary ts t → ReadsExpression c Member ts t
     a_called_member : {c : Allowed} {ts : Tokens} {t : Tree} → ReadsExpression c Member ts t → ReadsExpression c Callee ts t
     a_called_call : {c : Allowed} {ts : Tokens} {t : Tree} → ReadsExpression c Call ts t → ReadsExpression c Callee ts t
-    a_named_member : {c : Allowed} {ts a : Tokens} {o : Tree} {w : List ℕ} (mark next : Bool) → ts ≡ a ⧺ piece mark (Sign dot) (piece next (Word w) done) → ReadsExpression c Member a o → ReadsExpression c Member ts (tree.static_member (bare []) o (tree.identifier_name (named w)))
+    a_named_member : {c : Allowed} {ts a : Tokens} {o : Tree} {v : List ℕ} (w : List ℕ) (mark next : Bool) → ts ≡ a ⧺ piece mark (Sign dot) (piece next (Word w) done) → word_value w ≡ Some v → ReadsExpression c Member a o → ReadsExpression c Member ts (tree.static_member (bare []) o (tree.identifier_name (named v)))
     a_computed_member : {c : Allowed} {ts a inside : Tokens} {o e : Tree} (mark : Bool) → ts ≡ a ⧺ group mark Square inside done → ReadsExpression c Member a o → ReadsExpression (with_in c) Expression inside e → ReadsExpression c Member ts (tree.computed_member (bare []) o e)
     with_arguments : {c : Allowed} {ts a inside : Tokens} {f : Tree} {es : Trees} (mark : Bool) → ts ≡ a ⧺ group mark Round inside done → ReadsExpression c Callee a f → ReadsArguments (with_in c) inside es → ReadsExpression c Call ts (tree.call (bare []) f es)
-    a_named_member_of_call : {c : Allowed} {ts a : Tokens} {o : Tree} {w : List ℕ} (mark next : Bool) → ts ≡ a ⧺ piece mark (Sign dot) (piece next (Word w) done) → ReadsExpression c Call a o → ReadsExpression c Call ts (tree.static_member (bare []) o (tree.identifier_name (named w)))
+    a_named_member_of_call : {c : Allowed} {ts a : Tokens} {o : Tree} {v : List ℕ} (w : List ℕ) (mark next : Bool) → ts ≡ a ⧺ piece mark (Sign dot) (piece next (Word w) done) → word_value w ≡ Some v → ReadsExpression c Call a o → ReadsExpression c Call ts (tree.static_member (bare []) o (tree.identifier_name (named v)))
     a_computed_member_of_call : {c : Allowed} {ts a inside : Tokens} {o e : Tree} (mark : Bool) → ts ≡ a ⧺ group mark Square inside done → ReadsExpression c Call a o → ReadsExpression (with_in c) Expression inside e → ReadsExpression c Call ts (tree.computed_member (bare []) o e)
     an_operation : {c : Allowed} {ts a b : Tokens} {l r : Tree} (o : BinaryOperator) (mark : Bool) → is_power o ≡ false → may_stand c o ≡ true → ts ≡ a ⧺ piece mark (operator_piece o) b → ReadsExpression c (operation_level o) a l → ReadsExpression c (next_level (operation_level o)) b r → ReadsExpression c (operation_level o) ts (tree.binary (bare (binary_operator o ∷ [])) l r)
     a_power : {c : Allowed} {ts a b : Tokens} {l r : Tree} (mark : Bool) → ts ≡ a ⧺ piece mark (Sign star_star) b → ReadsExpression c Update a l → ReadsExpression c Exponent b r → ReadsExpression c Exponent ts (tree.binary (bare (binary_operator operators.Exponential ∷ [])) l r)
@@ -180,7 +181,7 @@ mutual
     a_coalescing : {c : Allowed} {ts a b : Tokens} {l r : Tree} (mark : Bool) → ts ≡ a ⧺ piece mark (Sign nullish) b → ReadsExpression c CoalesceHead a l → ReadsExpression c BitOr b r → ReadsExpression c Coalesced ts (tree.logical (bare (logical_operator Coalesce ∷ [])) l r)
     a_coalesced_head : {c : Allowed} {ts : Tokens} {t : Tree} → ReadsExpression c Coalesced ts t → ReadsExpression c CoalesceHead ts t
     a_bit_or_head : {c : Allowed} {ts : Tokens} {t : Tree} → ReadsExpression c BitOr ts t → ReadsExpression c CoalesceHead ts t
-    a_reference : {c : Allowed} {mark : Bool} {w : List ℕ} → is_free_name w ≡ true → ReadsExpression c Primary (piece mark (Word w) done) (tree.identifier_reference (named w))
+    a_reference : {c : Allowed} {mark : Bool} {w v : List ℕ} → word_value w ≡ Some v → is_free_name v ≡ true → ReadsExpression c Primary (piece mark (Word w) done) (tree.identifier_reference (named v))
     a_number : {c : Allowed} {mark : Bool} {w : List ℕ} → ReadsExpression c Primary (piece mark (Number w) done) (tree.numeric_literal (bare (text w ∷ [])))
     a_string : {c : Allowed} {mark : Bool} {q : Quote} {w us : List ℕ} → string_value q w ≡ Some us → ReadsExpression c Primary (piece mark (Quoted q w) done) (tree.string_literal (bare (units us ∷ [])))
     in_parentheses : {c : Allowed} {mark : Bool} {ts : Tokens} {t : Tree} → ReadsExpression (with_in c) Expression ts t → ReadsExpression c Primary (group mark Round ts done) (tree.parenthesized (bare []) t)
@@ -198,7 +199,7 @@ mutual
   -- ---- bindings and declarations (14.3)
 
   pub data ReadsBinding : Allowed → Tokens → Tree → Type 0 where
-    a_bound_name : {c : Allowed} {mark : Bool} {w : List ℕ} → is_free_name w ≡ true → ReadsBinding c (piece mark (Word w) done) (tree.binding_identifier (named w))
+    a_bound_name : {c : Allowed} {mark : Bool} {w v : List ℕ} → word_value w ≡ Some v → is_free_name v ≡ true → ReadsBinding c (piece mark (Word w) done) (tree.binding_identifier (named v))
 
   pub data ReadsDeclarator : Allowed → Tokens → Tree → Type 0 where
     without_value : {c : Allowed} {ts : Tokens} {b : Tree} → ReadsBinding c ts b → ReadsDeclarator c ts (tree.variable_declarator (bare []) b absent)
@@ -236,11 +237,16 @@ mutual
 
 -- ---- modules (16.2)
 
--- The first statement is one string in `'` or `"`: a directive (11.2.1). None is read so far.
+-- The first statement is one string in `'` or `"`: a directive (11.2.1)
 abbrev pub starts_with_directive : Tokens → Bool
 starts_with_directive (piece mark (Quoted q w) done) = not (is_backtick q)
 starts_with_directive (piece mark (Quoted q w) (piece next (Sign semicolon) ts)) = not (is_backtick q)
 starts_with_directive ts = false
 
+pub data ReadsDirectives : Tokens → Trees → Type 0 where
+  no_directive : ReadsDirectives done no_trees
+  a_directive : {mark next : Bool} {q : Quote} {w us : List ℕ} {ts : Tokens} {ds : Trees} → is_backtick q ≡ false → string_value q w ≡ Some us → ReadsDirectives ts ds → ReadsDirectives (piece mark (Quoted q w) (piece next (Sign semicolon) ts)) (more (tree.directive (bare (units us ∷ []))) ds)
+
+-- as many directives as stand there, and statements
 pub data ReadsModule : Tokens → Tree → Type 0 where
-  a_module : {ts : Tokens} {body : Trees} → starts_with_directive ts ≡ false → ReadsStatements in_module false ts body → ReadsModule ts (tree.program (bare []) body)
+  a_module : {ts a b : Tokens} {directives body : Trees} → ts ≡ a ⧺ b → ReadsDirectives a directives → starts_with_directive b ≡ false → ReadsStatements in_module false b body → ReadsModule ts (tree.program (bare []) directives body)

@@ -18,6 +18,8 @@ pub data Items : Type 0 where
   string : Bool → List ℕ → Items
   -- a string that is a whole first statement, and mustn't be read as a directive
   first_string : List ℕ → Items
+  -- a directive, by the raw text between its quotes
+  directive : List ℕ → Items
   punctuator : Punctuator → Items
   -- an operator's sign, apart from a sign before it that it would join
   operator : Punctuator → Items

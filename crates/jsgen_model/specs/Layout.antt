@@ -1,18 +1,21 @@
 -- The text that items give, from a pen.
-use Rattle.std.specs.Prelude.{ℕ, suc, ◌*◌, List, [], ◌∷◌, ◌++◌, Bool, true, false, None, ◌==◌, codes, replicate, if◌then◌else◌}
+use Rattle.std.specs.Prelude.{ℕ, suc, ◌*◌, List, [], ◌∷◌, ◌++◌, Bool, true, false, None, ◌||◌, ◌==◌, codes, replicate, if◌then◌else◌}
 use Rattle.std.specs.List.{last_or}
 use Rattle.std.specs.Option.{option_map_or}
 use Rattle.jsgen_syntax.specs.Name.{goes_in_word}
-use Rattle.jsgen_syntax.specs.Strings.{quoted, cheapest, is_plain_string}
+use Rattle.jsgen_syntax.specs.Escapes.{name_text, has_escapes}
+use Rattle.jsgen_syntax.specs.Strings.{quote_char, quoted, cheapest}
+use Rattle.jsgen_syntax.specs.Raw.{directive_text, directive_quote}
 use Rattle.jsgen_syntax.specs.declared.quote.Quote.{Quote}
-use Rattle.jsgen_syntax.specs.declared.quote.Quote.TheVariants.{Double, Backtick}
+use Rattle.jsgen_syntax.specs.declared.quote.Quote.TheVariants.{Single, Double, Backtick}
 use Rattle.jsgen_tree.specs.Options.{Options}
 use Rattle.jsgen_model.specs.Punctuator.{Punctuator, plus, plus_plus, minus, minus_minus, bang, equal_equal, equal_equal_equal, punctuator_text, Round, opening, closing}
-use Rattle.jsgen_model.specs.Items.{Items, nothing, ◌⊕◌, word, name, number, literal, string, first_string, punctuator, operator, member_dot, soft_space, soft_line, hard_space, indentation, body_space, deeper, brackets, wrapped, statement_end, due_semicolon, drop_semicolon, statement_begins, arrow_body_begins, default_export_begins}
+use Rattle.jsgen_model.specs.Items.{Items, nothing, ◌⊕◌, word, name, number, literal, string, first_string, directive, punctuator, operator, member_dot, soft_space, soft_line, hard_space, indentation, body_space, deeper, brackets, wrapped, statement_end, due_semicolon, drop_semicolon, statement_begins, arrow_body_begins, default_export_begins}
 
--- what never changes: whether the text is minified, the quote of pretty text, and what a level of indentation is made of
+-- what never changes: whether the text is minified and whether it is ASCII, the quote of pretty text and of directives, and what a level of indentation is made of
 pub record Style : Type 0 where
   pub minified : Bool
+  pub ascii : Bool
   pub quote : Quote
   pub indent : ℕ
   pub width : ℕ
@@ -22,6 +25,7 @@ pub data Ending : Type 0 where
   other_end : Ending
   operator_end : Punctuator → Ending
   number_end : Ending
+  escaped_name_end : Ending
 
 -- what begins at the end of the code so far
 pub data Start : Type 0 where
@@ -83,6 +87,18 @@ abbrev pub number_ending : Bool → Ending
 number_ending true = number_end
 number_ending false = other_end
 
+abbrev pub ends_in_escapes : Ending → Bool
+ends_in_escapes escaped_name_end = true
+ends_in_escapes ending = false
+
+-- a word would go on with what the code ends in: its last character goes in a word, or it ends in a name with escapes, maybe in `}`
+abbrev pub is_apart : Ending → List ℕ → Bool
+is_apart ending code = ends_in_escapes ending || ends_in_word code
+
+abbrev pub name_ending : Bool → Ending
+name_ending true = escaped_name_end
+name_ending false = other_end
+
 -- ---- steps that depend on a flag
 
 -- a text that may be left out leaves what begins here as it is
@@ -143,13 +159,13 @@ deeper_level false depth = suc depth
 abbrev pub chosen_quote : Style → Bool → List ℕ → Quote
 chosen_quote style backticks units = if style.minified then cheapest backticks units else style.quote
 
--- so far a string of other characters than those from a space to `~` is spelled by nothing: no valid tree has one
-abbrev pub string_text : Quote → List ℕ → List ℕ
-string_text quote units = if is_plain_string units then quoted quote units else []
-
 -- a first statement: minified in backticks, and else in parentheses
 abbrev pub first_text : Style → List ℕ → List ℕ
-first_text style units = if style.minified then string_text Backtick units else opening Round ++ (string_text style.quote units ++ closing Round)
+first_text style units = if style.minified then quoted Backtick style.ascii units else opening Round ++ (quoted style.quote style.ascii units ++ closing Round)
+
+-- a directive: the raw text between its quotes
+abbrev pub directive_quoted : Style → List ℕ → List ℕ
+directive_quoted style raw = quote_char (directive_quote style.quote raw) ∷ (directive_text style.ascii raw ++ quote_char (directive_quote style.quote raw) ∷ [])
 
 -- ---- the whole
 
@@ -157,12 +173,13 @@ first_text style units = if style.minified then string_text Backtick units else 
 abbrev pub layout : Items → Pen → Pen
 layout nothing pen = pen
 layout (a ⊕ b) pen = layout b (layout a pen)
-layout (word w) pen = written (space_if (ends_in_word pen.code) ++ w) other_end pen
-layout (name w) pen = written (space_if (ends_in_word pen.code) ++ w) other_end pen
-layout (number dot_is_its_own w) pen = written (space_if (ends_in_word pen.code) ++ w) (number_ending dot_is_its_own) pen
+layout (word w) pen = written (space_if (is_apart pen.ending pen.code) ++ w) other_end pen
+layout (name w) pen = written (space_if (is_apart pen.ending pen.code) ++ name_text pen.style.ascii w) (name_ending (has_escapes pen.style.ascii w)) pen
+layout (number dot_is_its_own w) pen = written (space_if (is_apart pen.ending pen.code) ++ w) (number_ending dot_is_its_own) pen
 layout (literal w) pen = written w other_end pen
-layout (string backticks units) pen = written (string_text (chosen_quote pen.style backticks units) units) other_end pen
+layout (string backticks units) pen = written (quoted (chosen_quote pen.style backticks units) pen.style.ascii units) other_end pen
 layout (first_string units) pen = written (first_text pen.style units) other_end pen
+layout (directive raw) pen = written (directive_quoted pen.style raw) other_end pen
 layout (punctuator p) pen = written (punctuator_text p) other_end pen
 layout (operator p) pen = written (space_if (joins pen.ending pen.code p) ++ punctuator_text p) (operator_end p) pen
 layout member_dot pen = written (space_if (dot_joins pen.ending) ++ codes ".") other_end pen
@@ -187,8 +204,8 @@ empty_pen style depth = record { style = style; code = []; depth = depth; pendin
 
 -- pretty text, with double quotes and indented by tabs
 abbrev pub pretty : Style
-pretty = record { minified = false; quote = Double; indent = 9; width = 1 }
+pretty = record { minified = false; ascii = false; quote = Double; indent = 9; width = 1 }
 
--- the style of these options: so far they say whether the text is minified, and nothing else of it
+-- the style of these options: so far they say nothing of indentation
 abbrev pub style_of : Options → Style
-style_of options = record pretty { minified = options.minify }
+style_of options = record pretty { minified = options.minify; ascii = options.ascii_only; quote = if options.single_quote then Single else Double }

@@ -1,7 +1,8 @@
 -- What two trees of one meaning have in common.
-use Rattle.std.specs.Prelude.{ℕ, List, [], ◌∷◌, Bool, true, false, decimal, if◌then◌else◌}
+use Rattle.std.specs.Prelude.{ℕ, List, [], ◌∷◌, Bool, true, false, Option, Some, None, decimal, if◌then◌else◌}
 use Rattle.jsgen_tree.specs.Tree.{Tree, node, Slots, no_slots, one, maybe, many, Maybe, absent, given, Trees, no_trees, more, hole, Atom, Atoms, text, units, digits, declaration_kind, binary_operator, logical_operator, text_in, units_in, declaration_kind_in, operator_in, logical_operator_in}
 use Rattle.jsgen_tree.specs.declared.types.NodeType.TheVariants as types
+use Rattle.jsgen_syntax.specs.Raw.{directive_value}
 use Rattle.jsgen_syntax.specs.declared.operator.LogicalOperator.{LogicalOperator}
 use Rattle.jsgen_syntax.specs.declared.operator.LogicalOperator.TheVariants.{Or, And, Coalesce}
 use Rattle.jsgen_tree.specs.Table.{ends_open}
@@ -17,6 +18,17 @@ number_text [] = []
 number_text (text t ∷ values) = t
 number_text (digits n ∷ values) = decimal n
 number_text (a ∷ values) = number_text values
+
+abbrev pub or_none : Option (List ℕ) → List ℕ
+or_none None = []
+or_none (Some us) = us
+
+-- a directive by its value, which raw text stands for
+abbrev pub directive_units : List Atom → List ℕ
+directive_units [] = []
+directive_units (units us ∷ values) = us
+directive_units (text raw ∷ values) = or_none (directive_value raw)
+directive_units (a ∷ values) = directive_units values
 
 -- ---- chains of one logical operator
 
@@ -45,12 +57,13 @@ abbrev pub unbraced : Tree → Tree
 unbraced (tree.block a (more s no_trees)) = if ends_open s then s else tree.block a (more s no_trees)
 unbraced t = t
 
--- Parentheses, spans, the source and the kind of a program are away, and whether a call is pure; a whole number is its
+-- Parentheses, spans, the source and the kind of a program are away, a directive is its value, and whether a call is pure; a whole number is its
 -- digits; a chain of one logical operator is one list, however it was grouped; braces round a consequent that ends in
 -- an `if` without `else` are away.
 abbrev mutual
   pub normal : Tree → Tree
-  normal (tree.program a body) = tree.program (bare []) (normal_trees body)
+  normal (tree.program a directives body) = tree.program (bare []) (normal_trees directives) (normal_trees body)
+  normal (tree.directive a) = tree.directive (bare (units (directive_units a.values) ∷ []))
   normal (tree.expression_statement a expression) = tree.expression_statement (bare []) (normal expression)
   normal (tree.variable_declaration a declarations) = tree.variable_declaration (bare (declaration_kind (declaration_kind_in a.values) ∷ [])) (normal_trees declarations)
   normal (tree.variable_declarator a id init) = tree.variable_declarator (bare []) (normal id) (normal_maybe init)

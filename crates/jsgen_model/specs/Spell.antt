@@ -14,7 +14,7 @@ use Rattle.jsgen_tree.specs.Words.{declaration_word}
 use Rattle.jsgen_tree.specs.Tree.{Tree, Maybe, absent, given, Trees, no_trees, more, hole, text_in, units_in, digits_in, declaration_kind_in, operator_in, logical_operator_in}
 use Rattle.jsgen_tree.specs.Tree as tree
 use Rattle.jsgen_model.specs.Punctuator.{comma, semicolon, equal, plus, minus, star, slash, percent, star_star, equal_equal, not_equal, equal_equal_equal, not_equal_equal, less, less_equal, greater, greater_equal, shift_left, shift_right, shift_right_zero, bit_and, bit_or, bit_xor, and_and, or_or, nullish, Round, Square, Brace}
-use Rattle.jsgen_model.specs.Items.{Items, nothing, ◌⊕◌, word, name, number, string, first_string, punctuator, operator, member_dot, brackets, soft_space, soft_line, hard_space, body_space, deeper, indentation, wrapped, statement_end, due_semicolon, drop_semicolon, statement_begins}
+use Rattle.jsgen_model.specs.Items.{Items, nothing, ◌⊕◌, word, name, number, string, first_string, directive, punctuator, operator, member_dot, brackets, soft_space, soft_line, hard_space, body_space, deeper, indentation, wrapped, statement_end, due_semicolon, drop_semicolon, statement_begins}
 use Rattle.jsgen_model.specs.Layout.{Start, nowhere, statement, unless_printed, Style, layout, empty_pen}
 
 -- what an expression's surroundings forbid
@@ -252,7 +252,8 @@ is_given (given t) = true
 
 abbrev mutual
   pub spell : Tree → Place → Items
-  spell (tree.program a body) place = spell_body body ⊕ due_semicolon
+  spell (tree.program a directives body) place = spell_directives directives ⊕ (spell_body body ⊕ due_semicolon)
+  spell (tree.directive a) place = indentation ⊕ (directive (text_in a.values) ⊕ (punctuator semicolon ⊕ soft_line))
   spell (tree.expression_statement a expression) place = indentation ⊕ (statement_begins ⊕ (spell expression whole_statement ⊕ statement_end))
   spell (tree.variable_declaration a declarations) place = as_statement place.in_list (word (declaration_word (declaration_kind_in a.values)) ⊕ (soft_space ⊕ spell_list declarations (behind Lowest place)))
   spell (tree.variable_declarator a id init) place = spell id (in_front Lowest place) ⊕ spell_value init (behind Comma place)
@@ -281,6 +282,12 @@ abbrev mutual
   spell (tree.call a callee arguments) place =
       wrapped (call_wraps place) (spell callee (called (within (call_wraps place) place)) ⊕ brackets Round (spell_list arguments (in_brackets Comma)))
   spell t place = nothing
+
+  -- the directives of a body, each with a semicolon of its own
+  pub spell_directives : Trees → Items
+  spell_directives no_trees = nothing
+  spell_directives (more t ts) = spell t among_statements ⊕ spell_directives ts
+  spell_directives (hole ts) = spell_directives ts
 
   -- the statements of a body
   pub spell_body : Trees → Items

@@ -3,6 +3,7 @@ use Rattle.std.specs.Prelude.{◌≡◌, ℕ, List, [], ◌∷◌, ◌++◌, len
 use Rattle.std.specs.Char.{is_ascii_digit}
 use Rattle.std.specs.List.{list_all, list_any}
 use Rattle.std.specs.Option.{option_map_or}
+use Rattle.jsgen_syntax.specs.Escapes.{word_value}
 use Rattle.jsgen_syntax.specs.Name.{starts_name, continues_name, spells_name}
 use Rattle.jsgen_syntax.specs.Strings.{quote_char, string_value}
 use Rattle.jsgen_syntax.specs.declared.quote.Quote.{Quote}
@@ -10,6 +11,7 @@ use Rattle.jsgen_model.specs.Punctuator.{Punctuator, punctuator_text, dot, ellip
 
 -- A token that is no bracket. Private names, regular expressions and the parts of templates come with the nodes that print them.
 pub data Piece : Type 0 where
+  -- a name or a keyword, by its spelling: a keyword has no escapes (12.7)
   Word : List ℕ → Piece
   Number : List ℕ → Piece
   -- a string, or a template without substitutions that a string spells: what stands between the quotes
@@ -86,15 +88,15 @@ piece_text (Quoted q w) = quote_char q ∷ (w ++ quote_char q ∷ [])
 piece_text (Sign p) = punctuator_text p
 
 abbrev pub is_spelled : Piece → Bool
-is_spelled (Word w) = spells_name w
+is_spelled (Word w) = option_map_or spells_name (word_value w) false
 is_spelled (Number w) = spells_whole w
 is_spelled (Quoted q w) = is_some (string_value q w)
 is_spelled (Sign p) = true
 
--- with this character behind it, a word is longer, and a number another one or none (12.9.3); a string has its end
+-- with this character behind it, a word is longer, and a number another one or none (12.9.3); a string has its end. A backslash begins an escape of a name
 abbrev pub goes_on_with : Piece → ℕ → Bool
-goes_on_with (Word w) c = continues_name c
-goes_on_with (Number w) c = starts_name c || is_ascii_digit c || (c == 46)
+goes_on_with (Word w) c = continues_name c || (c == 92)
+goes_on_with (Number w) c = starts_name c || is_ascii_digit c || (c == 46) || (c == 92)
 goes_on_with (Quoted q w) c = false
 goes_on_with (Sign p) c = false
 

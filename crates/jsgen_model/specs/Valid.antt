@@ -1,12 +1,12 @@
 -- Validity: the rules that a tree breaks, each with the start of the node at which it is broken.
-use Rattle.std.specs.Prelude.{◌≡◌, ℕ, suc, max, List, [], ◌∷◌, ◌++◌, length, Bool, true, false, nat_lt, Contains, Result, Ok, Err, if◌then◌else◌}
+use Rattle.std.specs.Prelude.{◌≡◌, ℕ, suc, max, List, [], ◌∷◌, ◌++◌, length, Bool, true, false, nat_lt, Contains, is_some, Result, Ok, Err, if◌then◌else◌}
 use Rattle.std.specs.Str.{encode_utf8_all}
 use Rattle.jsgen_syntax.specs.Name.{spells_name, is_reserved, is_strict_reserved}
-use Rattle.jsgen_syntax.specs.Strings.{is_plain_string}
+use Rattle.jsgen_syntax.specs.Raw.{directive_value}
 use Rattle.jsgen_syntax.specs.declared.span.Span.{Span}
 use Rattle.jsgen_tree.specs.declared.types.NodeSet.{NodeSet}
 use Rattle.jsgen_tree.specs.Table.{fields, child_sets, in_set}
-use Rattle.jsgen_tree.specs.Tree.{Tree, node, Slots, no_slots, one, maybe, many, Maybe, absent, given, Trees, no_trees, more, hole, Atoms, type_of, span_of, text_in, units_in}
+use Rattle.jsgen_tree.specs.Tree.{Tree, node, Slots, no_slots, one, maybe, many, Maybe, absent, given, Trees, no_trees, more, hole, Atoms, type_of, span_of, text_in}
 use Rattle.jsgen_tree.specs.Tree as tree
 use Rattle.jsgen_model.specs.declared.fault.TreeFault.{TreeFault}
 use Rattle.jsgen_model.specs.declared.fault.TreeFault.TheVariants as faults
@@ -32,9 +32,9 @@ is_free_name w = if spells_name w then (if is_reserved (encode_utf8_all w) then 
 abbrev pub name_faults : Atoms → List TreeFault
 name_faults a = fault_if (not (is_free_name (text_in a.values))) (faults.Name a.span.start)
 
--- so far a string has the characters from a space to `~`
-abbrev pub string_faults : Atoms → List TreeFault
-string_faults a = fault_if (not (is_plain_string (units_in a.values))) (faults.Literal a.span.start)
+-- a directive's raw text spells a string (ECMA-262, 12.9.4)
+abbrev pub directive_faults : Atoms → List TreeFault
+directive_faults a = fault_if (not (is_some (directive_value (text_in a.values)))) (faults.Literal a.span.start)
 
 -- a member's name is a name, be it reserved or not
 abbrev pub written_name_faults : Atoms → List TreeFault
@@ -90,12 +90,12 @@ indent_faults minified t = fault_if (if minified then false else nat_lt 42949672
 
 -- a row's rules of its own
 abbrev pub own_faults : Tree → List TreeFault
-own_faults (tree.program a body) = source_faults a
+own_faults (tree.program a directives body) = source_faults a
+own_faults (tree.directive a) = directive_faults a
 own_faults (tree.variable_declaration a declarations) = declaration_faults a.span declarations
 own_faults (tree.binding_identifier a) = name_faults a
 own_faults (tree.identifier_reference a) = name_faults a
 own_faults (tree.if_statement a test consequent alternate) = body_faults consequent ++ alternate_faults alternate
-own_faults (tree.string_literal a) = string_faults a
 own_faults (tree.identifier_name a) = written_name_faults a
 own_faults t = []
 

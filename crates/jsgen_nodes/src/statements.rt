@@ -3,10 +3,10 @@ ghost use Rattle.std.specs.Prelude.{◌≡◌, OnOk, map, option_map};
 ghost use Rattle.jsgen_syntax.specs.declared.precedence.Precedence.TheVariants.{Lowest, Comma};
 ghost use Rattle.jsgen_tree.specs.Tree.{trees, optional};
 ghost use Rattle.jsgen_tree.specs.Words.{declaration_word};
-ghost use Rattle.jsgen_tree.specs.Rows.{binding_identifier_row, variable_declarator_row, variable_declaration_row, expression_statement_row, program_row, in_expression, in_statement};
+ghost use Rattle.jsgen_tree.specs.Rows.{binding_identifier_row, variable_declarator_row, variable_declaration_row, expression_statement_row, program_row, directive_row, in_expression, in_statement};
 ghost use Rattle.jsgen_model.specs.Items.{◌⊕◌, word, soft_space, due_semicolon};
 ghost use Rattle.jsgen_model.specs.Layout.{layout};
-ghost use Rattle.jsgen_model.specs.Spell.{spell, spell_list, spell_more, spell_value, spell_body, spell_statements, first_statement, behind, among_statements};
+ghost use Rattle.jsgen_model.specs.Spell.{spell, spell_list, spell_more, spell_value, spell_directives, spell_body, spell_statements, first_statement, behind, among_statements};
 ghost use Rattle.jsgen_printer.specs.Printer.{pen_of};
 ghost use Rattle.jsgen_nodes.specs.Place.{pen_after, place_of};
 
@@ -14,7 +14,7 @@ use crate::{Place, PrintNode};
 use jsgen_printer::Printer;
 use jsgen_syntax::{Memory, Precedence};
 use jsgen_tree::{
-    BindingIdentifier, ExpressionNode, ExpressionStatement, Program, StatementNode,
+    BindingIdentifier, Directive, ExpressionNode, ExpressionStatement, Program, StatementNode,
     VariableDeclaration, VariableDeclarator,
 };
 
@@ -23,8 +23,31 @@ pub fn print_program<N: PrintNode>(node: &Program<N>, p: &mut Printer) -> Result
     ensures { OnOk result (pen_of p.new
         ≡ layout (spell (program_row N.plain node.now) among_statements) (pen_of p.old)) }
 {
+    print_directives(&node.directives, p)?;
     print_body(&node.body, p)?;
     p.print_due_semicolon()
+}
+
+#[tactic(auto, unfolding(crate::specs::Place::pen_after))]
+fn print_directives(directives: &[Directive], p: &mut Printer) -> Result<(), Memory>
+    ensures { OnOk result (pen_of p.new
+        ≡ layout (spell_directives (trees (map directive_row directives.now))) (pen_of p.old)) }
+{
+    for directive in directives {
+        print_directive(directive, p, Place::AMONG_STATEMENTS)?;
+    }
+    Ok(())
+}
+
+#[tactic(auto, unfolding(crate::specs::Place::pen_after))]
+pub fn print_directive(node: &Directive, p: &mut Printer, place: Place) -> Result<(), Memory>
+    ensures { OnOk result (pen_of p.new ≡ pen_after (directive_row node.now) place p.old) }
+{
+    let _ = place;
+    p.print_indentation()?;
+    p.print_directive(node.directive.as_str())?;
+    p.print_semicolon()?;
+    p.print_soft_line()
 }
 
 // The statements of a body, of which the first may not become a directive.

@@ -1,24 +1,26 @@
 -- Texts in bytes and in characters.
-use Rattle.std.proofs.Common.{◌≡◌, ℕ, zero, suc, codes, Result, Ok, Err, OnOk, ◌<◌, ◌-◌, Bool, true, false, cond, nat_lt, nat_le, ◌==◌, Option, Some, None, List, [], ◌∷◌, ◌++◌, length, replicate, refl, ap, ◌∙◌, append_assoc, append-nil, arith}
+use Rattle.std.proofs.Common.{◌≡◌, ℕ, zero, suc, codes, Result, Ok, Err, OnOk, ◌<◌, ◌≤◌, ◌-◌, Bool, true, false, nat_lt, Option, Some, None, List, [], ◌∷◌, ◌++◌, length, replicate, take, drop, refl, sym, ap, subst, ◌∙◌, append_assoc, append-nil, length-append, arith}
 use Rattle.std.specs.List.{slice_get}
 use Rattle.std.specs.Option.{option_map, option_map_or}
-use Rattle.std.specs.Str.{chars, IsAscii, IsUtf8}
-use Rattle.std.proofs.lemmas.Bool.{and_parts, and_from, leb-true, lt-ltb}
+use Rattle.std.specs.Str.{chars, encode_utf8_all, IsAscii, IsUtf8}
+use Rattle.std.proofs.Math.Seq.{take-append_seam, drop-append_seam}
+use Rattle.std.proofs.lemmas.Bool.{and_parts, and_from}
 use Rattle.std.proofs.lemmas.Bool.Decides.{nat_tests}
-use Rattle.std.proofs.lemmas.Str.{chars-IsAscii}
+use Rattle.std.proofs.lemmas.Str.{chars-IsAscii, chars-append, chars_from_encodes, IsUtf8-drop, IsUtf8-string_bytes, IsCharBoundary-from_take}
 use Rattle.std.proofs.lemmas.Str.Ascii.{IsAscii-nil, IsAscii-cons}
 use Rattle.jsgen_syntax.proofs.Last.{last_goes_in_word}
-use Rattle.jsgen_syntax.specs.Buffer.{indent_byte, indent_code}
+use Rattle.jsgen_syntax.specs.Buffer.{buffer_bytes, indent_byte, indent_code}
 use Rattle.jsgen_syntax.specs.declared.buffer.CodeBuffer.{CodeBuffer}
 use Rattle.jsgen_syntax.specs.declared.buffer.IndentChar.{IndentChar}
 use Rattle.jsgen_syntax.specs.declared.buffer.IndentChar.TheVariants as indents
 use Rattle.jsgen_syntax.specs.Name.{goes_in_word}
-use Rattle.jsgen_syntax.specs.Strings.{quote_char, needs_backslash, unit_text, escaped_after, escaped, quoted, is_plain_unit, is_plain_string}
+use Rattle.jsgen_syntax.specs.Escapes.{name_text, has_escapes}
+use Rattle.jsgen_syntax.specs.Strings.{quote_char}
 use Rattle.jsgen_syntax.specs.declared.quote.Quote.{Quote}
 use Rattle.jsgen_syntax.specs.declared.quote.Quote.TheVariants as quotes
 use Rattle.jsgen_model.specs.Punctuator.{Round, opening, closing}
-use Rattle.jsgen_model.specs.Layout.{Pen, Ending, other_end, nowhere, written, written_if, indented, space_if, ends_in_word}
-use Rattle.jsgen_printer.specs.Printer.{is_ascii}
+use Rattle.jsgen_model.specs.Layout.{Pen, Ending, other_end, nowhere, written, written_if, indented, space_if, ends_in_word, name_ending}
+use Rattle.jsgen_printer.specs.Printer.{is_ascii, name_written}
 
 below : (b : ℕ) → nat_lt b 128 ≡ true → b < 128
 below b h = grind (arith, nat_tests)
@@ -65,39 +67,57 @@ pub indented_by : (xs : List ℕ) (pen : Pen) → (length xs ≡ 0 → ⊥) → 
 indented_by [] pen some = absurd (some refl)
 indented_by (x ∷ xs) pen some = refl
 
--- ---- strings
+-- ---- the code's characters
 
-plain_ascii : (u : ℕ) → is_plain_unit u ≡ true → nat_lt u 128 ≡ true
-plain_ascii u h = let k = leb-true u 126 (and_parts (nat_le 32 u) (nat_le u 126) h).1 in lt-ltb u 128 (omega arith)
+-- what is UTF-8 behind a text, where the whole is
+behind_text : (before text : List ℕ) → IsUtf8 before → IsUtf8 (before ++ text) → IsUtf8 text
+behind_text before text u v =
+    let first : take (length before) (before ++ text) ≡ before = take-append_seam before text in
+    let rest : drop (length before) (before ++ text) ≡ text = drop-append_seam before text in
+    let fits : length before ≤ length (before ++ text) = omega (arith, length-append before text) in
+    let cut = IsCharBoundary-from_take (before ++ text) (length before) v fits (subst IsUtf8 (sym first) u) in
+    subst IsUtf8 rest (IsUtf8-drop (before ++ text) (length before) v cut)
+
+-- the characters of what UTF-8 has for them
+encoded_chars : (text : List ℕ) → IsUtf8 (encode_utf8_all text) → chars (encode_utf8_all text) ≡ text
+encoded_chars text u = sym (chars_from_encodes text (encode_utf8_all text) u refl)
+
+-- the code's bytes are a text
+pub code_is_text : (b : CodeBuffer) → IsUtf8 (buffer_bytes b)
+code_is_text b = IsUtf8-string_bytes b.text
+
+-- bytes were appended that are a text
+pub appended_text : (old new : CodeBuffer) (text : List ℕ) → buffer_bytes new ≡ buffer_bytes old ++ text → chars (buffer_bytes new) ≡ chars (buffer_bytes old) ++ chars text
+appended_text old new text e = ap chars e ∙ chars-append (buffer_bytes old) text (code_is_text old)
+
+-- characters were appended
+pub appended_chars : (old new : CodeBuffer) (text : List ℕ) → buffer_bytes new ≡ buffer_bytes old ++ encode_utf8_all text → chars (buffer_bytes new) ≡ chars (buffer_bytes old) ++ text
+appended_chars old new text e =
+    let u = behind_text (buffer_bytes old) (encode_utf8_all text) (code_is_text old) (subst IsUtf8 e (code_is_text new)) in
+    appended_text old new (encode_utf8_all text) e ∙ ap (λ t. chars (buffer_bytes old) ++ t) (encoded_chars text u)
 
 quote_ascii : (q : Quote) → nat_lt (quote_char q) 128 ≡ true
 quote_ascii quotes.Single = refl
 quote_ascii quotes.Double = refl
 quote_ascii quotes.Backtick = refl
 
-ascii_both : (a b : List ℕ) → is_ascii a ≡ true → is_ascii b ≡ true → is_ascii (a ++ b) ≡ true
-ascii_both [] b h g = g
-ascii_both (x ∷ a) b h g = let k = and_parts (nat_lt x 128) (is_ascii a) h in and_from (nat_lt x 128) (is_ascii (a ++ b)) k.0 (ascii_both a b k.1 g)
+pub quote_chars : (q : Quote) → chars (quote_char q ∷ []) ≡ quote_char q ∷ []
+quote_chars q = ascii_chars (quote_char q ∷ []) (and_from (nat_lt (quote_char q) 128) true (quote_ascii q) refl)
 
-unit_ascii : (u : ℕ) (b : Bool) → nat_lt u 128 ≡ true → is_ascii (cond b (92 ∷ u ∷ []) (u ∷ [])) ≡ true
-unit_ascii u true h = and_from (nat_lt u 128) true h refl
-unit_ascii u false h = and_from (nat_lt u 128) true h refl
+-- ---- steps in a row
 
-escaped_ascii : (q : Quote) (less : Bool) (us : List ℕ) → is_plain_string us ≡ true → is_ascii (escaped_after q less us) ≡ true
-unfolding escaped_after
-escaped_ascii q less [] h = refl
-escaped_ascii q less (u ∷ us) h =
-    let k = and_parts (is_plain_unit u) (is_plain_string us) h in
-    ascii_both (unit_text q less u us) (escaped_after q (u == 60) us) (unit_ascii u (needs_backslash q less u us) (plain_ascii u k.0)) (escaped_ascii q (u == 60) us k.1)
+-- a space where the test holds, and a name
+pub name_apart : (test : Bool) (w : List ℕ) (pen : Pen) → name_written w (written_if test (chars (codes " ")) pen) ≡ written (space_if test ++ name_text pen.style.ascii w) (name_ending (has_escapes pen.style.ascii w)) pen
+name_apart true w pen = written_apart true (name_text pen.style.ascii w) (name_ending (has_escapes pen.style.ascii w)) pen
+name_apart false w pen = written_apart false (name_text pen.style.ascii w) (name_ending (has_escapes pen.style.ascii w)) pen
 
--- a plain string's text is ASCII
-pub quoted_chars : (q : Quote) (us : List ℕ) → is_plain_string us ≡ true → chars (quoted q us) ≡ quoted q us
-quoted_chars q us h =
-    ascii_chars (quoted q us) (and_from (nat_lt (quote_char q) 128) _ (quote_ascii q) (ascii_both (escaped q us) (quote_char q ∷ []) (escaped_ascii q false us h) (and_from (nat_lt (quote_char q) 128) true (quote_ascii q) refl)))
+-- three texts
+pub between : (a text b : List ℕ) (pen : Pen) → written b other_end (written text other_end (written a other_end pen)) ≡ written (a ++ (text ++ b)) other_end pen
+between a text b pen = ap (λ code. record pen { code = code; ending = other_end; start = nowhere }) (append_assoc (pen.code ++ a) text b ∙ append_assoc pen.code a (text ++ b))
 
 -- in parentheses
 pub in_parentheses : (text : List ℕ) (pen : Pen) → written (closing Round) other_end (written text other_end (written (opening Round) other_end pen)) ≡ written (opening Round ++ (text ++ closing Round)) other_end pen
-in_parentheses text pen = ap (λ code. record pen { code = code; ending = other_end; start = nowhere }) (append_assoc (pen.code ++ opening Round) text (closing Round) ∙ append_assoc pen.code (opening Round) (text ++ closing Round))
+in_parentheses text pen = between (opening Round) text (closing Round) pen
 
 -- ---- steps
 

@@ -3,9 +3,10 @@ use Rattle.std.specs.Prelude.{ℕ, List, Bool, false, nat_lt}
 use Rattle.std.specs.List.{list_all}
 use Rattle.std.specs.Str.{chars}
 use Rattle.jsgen_syntax.specs.Buffer.{buffer_bytes, indent_byte, indent_width}
+use Rattle.jsgen_syntax.specs.Escapes.{name_text, has_escapes}
 use Rattle.jsgen_model.specs.Punctuator as punctuators
 use Rattle.jsgen_model.specs.Layout as layouts
-use Rattle.jsgen_model.specs.Layout.{Pen, ends_in_word, joins, deeper_level}
+use Rattle.jsgen_model.specs.Layout.{Pen, written, is_apart, joins, name_ending, deeper_level}
 use Rattle.jsgen_model.specs.Items.{Items, word, operator}
 use Rattle.jsgen_model.specs.Spell.{operator_item}
 use Rattle.jsgen_printer.specs.declared.printer.Printer.{Printer}
@@ -21,9 +22,9 @@ abbrev pub end_of : Items → layouts.Ending
 end_of (operator sign) = layouts.operator_end sign
 end_of item = layouts.other_end
 
--- a space stands before the item: a word apart from a word, a sign from one that it would join
+-- a space stands before the item: a word apart from what it would go on with, a sign from one that it would join
 abbrev pub stands_apart : Items → Pen → Bool
-stands_apart (word w) pen = ends_in_word pen.code
+stands_apart (word w) pen = is_apart pen.ending pen.code
 stands_apart (operator sign) pen = joins pen.ending pen.code sign
 stands_apart item pen = false
 
@@ -36,6 +37,7 @@ abbrev pub ending_of : Ending → layouts.Ending
 ending_of endings.Other = layouts.other_end
 ending_of (endings.Operator o) = end_of (operator_item o)
 ending_of endings.Number = layouts.number_end
+ending_of endings.EscapedName = layouts.escaped_name_end
 
 abbrev pub start_of : Start → layouts.Start
 start_of starts.Nowhere = layouts.nowhere
@@ -44,7 +46,7 @@ start_of starts.Statement = layouts.statement
 -- the pen, whose code is the characters of the buffer's bytes
 unfoldable pub pen_of : Printer → Pen
 pen_of p = record {
-  style = record { minified = p.minify; quote = p.quote; indent = indent_byte p.code; width = indent_width p.code };
+  style = record { minified = p.minify; ascii = p.ascii_only; quote = p.quote; indent = indent_byte p.code; width = indent_width p.code };
   code = chars (buffer_bytes p.code);
   depth = p.depth;
   pending_space = p.pending_space;
@@ -52,6 +54,10 @@ pen_of p = record {
   ending = ending_of p.ending;
   start = start_of p.start;
 }
+
+-- the pen behind a name that no space stands before
+abbrev pub name_written : List ℕ → Pen → Pen
+name_written w pen = written (name_text pen.style.ascii w) (name_ending (has_escapes pen.style.ascii w)) pen
 
 -- the pen one level deeper, and at a level
 abbrev pub deepened : Pen → Pen

@@ -1,10 +1,13 @@
 // What has been printed so far, and the steps by which it goes on. Each step is an item of the layout.
-ghost use Rattle.std.specs.Prelude.{◌≡◌, ◌^◌, ◌≤◌, ◌*◌};
+ghost use Rattle.std.specs.Prelude.{◌≡◌, ◌^◌, ◌≤◌, ◌*◌, if◌then◌else◌};
 ghost use Rattle.jsgen_syntax.specs.Buffer.{indent_width};
 ghost use Rattle.jsgen_syntax.specs.Name.{goes_in_word};
+ghost use Rattle.jsgen_syntax.specs.declared.quote.Quote.TheVariants.{Single, Double};
 
 use jsgen_syntax::{BinaryOperator, CodeBuffer, IndentChar, JsStr, LogicalOperator, Memory, Quote};
-use jsgen_text::{cheapest_quote, print_string_text};
+use jsgen_text::{
+    cheapest_quote, directive_quote, print_directive_raw, print_name_text, print_string_text,
+};
 use jsgen_tree::CodegenOptions;
 use std::alloc::Global;
 
@@ -16,6 +19,8 @@ pub enum Ending {
     Operator(BinaryOperator),
     /// A number, behind which a dot would be its own.
     Number,
+    /// A name with escapes, maybe in `}`, which a letter behind it would go on with all the same.
+    EscapedName,
 }
 
 /// What begins at the end of the code so far.
@@ -38,6 +43,7 @@ pub enum Bracket {
 pub struct Printer {
     code: CodeBuffer,
     minify: bool,
+    ascii_only: bool,
     quote: Quote,
     depth: u32,
     pending_space: bool,
@@ -49,17 +55,18 @@ pub struct Printer {
 
 #[tactic(auto, using(crate::proofs::Texts::ascii_chars), unfolding(crate::specs::Printer::pen_of))]
 impl Printer {
-    ghost use Rattle.std.specs.Prelude.{OnOk, IfOk, ◌++◌, decimal, replicate, string_bytes, true, IsTrue};
+    ghost use Rattle.std.specs.Prelude.{OnOk, IfOk, [], ◌∷◌, ◌++◌, decimal, replicate, string_bytes, true, IsTrue};
     ghost use Rattle.std.specs.Str.{chars, encode_utf8_all};
     ghost use Rattle.jsgen_model.specs.Punctuator.{Round, opening, closing, comma, semicolon, equal, plus, minus};
-    ghost use Rattle.jsgen_model.specs.Items.{word, name, number, string, first_string, member_dot, punctuator, soft_space, soft_line, hard_space, indentation, body_space, statement_end, due_semicolon, drop_semicolon, statement_begins};
-    ghost use Rattle.jsgen_model.specs.Layout.{layout, written, written_if, other_end, space_if, ends_in_word, joins, dot_joins, indented, chosen_quote, string_text, deeper_level, empty_pen, style_of};
+    ghost use Rattle.jsgen_model.specs.Items.{word, name, number, string, first_string, directive, member_dot, punctuator, soft_space, soft_line, hard_space, indentation, body_space, statement_end, due_semicolon, drop_semicolon, statement_begins};
+    ghost use Rattle.jsgen_model.specs.Layout.{layout, written, written_if, other_end, space_if, ends_in_word, ends_in_escapes, is_apart, name_ending, joins, dot_joins, indented, chosen_quote, deeper_level, empty_pen, style_of};
     ghost use Rattle.jsgen_syntax.specs.Buffer.{indent_byte};
     ghost use Rattle.jsgen_tree.specs.Options.{options_plain};
     ghost use Rattle.jsgen_syntax.specs.Units.{js_units};
-    ghost use Rattle.jsgen_syntax.specs.Strings.{quoted, is_plain_string};
+    ghost use Rattle.jsgen_syntax.specs.Strings.{quote_char, quoted};
+    ghost use Rattle.jsgen_syntax.specs.Raw.{directive_text};
     ghost use Rattle.jsgen_model.specs.Spell.{operator_item, logical_item};
-    ghost use Rattle.jsgen_printer.specs.Printer.{bracket_of, pen_of, ending_of, stands_apart, is_ascii, deepened, at_depth};
+    ghost use Rattle.jsgen_printer.specs.Printer.{bracket_of, pen_of, ending_of, stands_apart, name_written, is_ascii, deepened, at_depth};
 
     /// A printer that has printed nothing.
     pub fn new(alloc: Global, options: &CodegenOptions) -> Printer
@@ -68,7 +75,8 @@ impl Printer {
         Printer {
             code: CodeBuffer::with_indent(alloc, IndentChar::Tab, 1),
             minify: options.minify,
-            quote: Quote::Double,
+            ascii_only: options.ascii_only,
+            quote: wanted_quote(options.single_quote),
             depth: 0,
             pending_space: false,
             pending_semicolon: false,
@@ -81,7 +89,6 @@ impl Printer {
     fn print_str(&mut self, text: &str, ending: Ending) -> Result<(), Memory>
         ensures { OnOk result (pen_of self.new ≡ written (chars text.now) (ending_of ending) (pen_of self.old)) }
     {
-        let _ = self.code.as_str();
         self.code.print_str(text)?;
         self.ending = ending;
         self.start = Start::Nowhere;
@@ -111,11 +118,23 @@ impl Printer {
     fn ends_in_word(&self) -> bool
         ensures { result ≡ ends_in_word (pen_of self.now).code }
     {
-        let _ = self.code.as_str();
         match self.code.last_byte() {
             Some(byte) => goes_in_word(byte),
             None => false,
         }
+    }
+
+    // Whether a word would go on with what the code ends in.
+    fn is_apart(&self) -> bool
+        ensures { result ≡ is_apart (pen_of self.now).ending (pen_of self.now).code }
+    {
+        self.ends_in_escapes() || self.ends_in_word()
+    }
+
+    fn ends_in_escapes(&self) -> bool
+        ensures { result ≡ ends_in_escapes (pen_of self.now).ending }
+    {
+        matches!(&self.ending, Ending::EscapedName)
     }
 
     // Whether the operator stands apart from what the code ends in: a word from a word, a sign from one that it would join.
@@ -123,7 +142,7 @@ impl Printer {
         ensures { result ≡ stands_apart (operator_item operator) (pen_of self.now) }
     {
         match operator {
-            BinaryOperator::In | BinaryOperator::Instanceof => self.ends_in_word(),
+            BinaryOperator::In | BinaryOperator::Instanceof => self.is_apart(),
             BinaryOperator::Addition => self.ends_in_plus(),
             BinaryOperator::Subtraction => self.ends_in_minus(),
             _ => false,
@@ -146,21 +165,43 @@ impl Printer {
         requires { IsTrue (is_ascii text.now) }
         ensures { OnOk result (pen_of self.new ≡ layout (word text.now) (pen_of self.old)) }
     {
-        let apart = self.ends_in_word();
+        let apart = self.is_apart();
         self.print_apart(apart, text, Ending::Other)
     }
 
     pub fn print_name(&mut self, text: &str) -> Result<(), Memory>
         ensures { OnOk result (pen_of self.new ≡ layout (name (chars text.now)) (pen_of self.old)) }
     {
-        let apart = self.ends_in_word();
-        self.print_apart(apart, text, Ending::Other)
+        let apart = self.is_apart();
+        self.print_if(apart, " ")?;
+        self.print_bare_name(text)
+    }
+
+    // The code goes on with a name, which needs no space before it.
+    fn print_bare_name(&mut self, text: &str) -> Result<(), Memory>
+        ensures { OnOk result (pen_of self.new ≡ name_written (chars text.now) (pen_of self.old)) }
+    {
+        let has_escapes = print_name_text(&mut self.code, text, self.ascii_only)?;
+        self.ending = Printer::name_ending(has_escapes);
+        self.start = Start::Nowhere;
+        Ok(())
+    }
+
+    // What the code ends in behind a name.
+    fn name_ending(has_escapes: bool) -> Ending
+        ensures { ending_of result ≡ name_ending has_escapes }
+    {
+        if has_escapes {
+            Ending::EscapedName
+        } else {
+            Ending::Other
+        }
     }
 
     pub fn print_whole_number(&mut self, digits: u128) -> Result<(), Memory>
         ensures { OnOk result (pen_of self.new ≡ layout (number true (decimal digits)) (pen_of self.old)) }
     {
-        let apart = self.ends_in_word();
+        let apart = self.is_apart();
         let mut buffer = itoa::Buffer::new();
         let text = buffer.format(digits);
         self.print_apart(apart, text, Ending::Number)
@@ -179,22 +220,9 @@ impl Printer {
     // The code goes on with a string in this quote.
     fn print_quoted(&mut self, value: &JsStr, quote: Quote) -> Result<(), Memory>
         ensures { OnOk result (pen_of self.new
-            ≡ written (string_text quote (js_units value.now)) other_end (pen_of self.old)) }
+            ≡ written (quoted quote (pen_of self.old).style.ascii (js_units value.now)) other_end (pen_of self.old)) }
     {
-        if value.is_plain() {
-            self.print_plain(value, quote)
-        } else {
-            self.print_str("", Ending::Other)
-        }
-    }
-
-    fn print_plain(&mut self, value: &JsStr, quote: Quote) -> Result<(), Memory>
-        requires { is_plain_string (js_units value.now) ≡ true }
-        ensures { OnOk result (pen_of self.new
-            ≡ written (quoted quote (js_units value.now)) other_end (pen_of self.old)) }
-    {
-        let _ = self.code.as_str();
-        print_string_text(&mut self.code, value, quote, false)?;
+        print_string_text(&mut self.code, value, quote, self.ascii_only)?;
         self.ending = Ending::Other;
         self.start = Start::Nowhere;
         Ok(())
@@ -219,6 +247,35 @@ impl Printer {
             self.print_quoted(value, self.quote)?;
             self.print_closing(Bracket::Round)
         }
+    }
+
+    /// A directive's raw text in its quotes, without its end.
+    pub fn print_directive(&mut self, raw: &str) -> Result<(), Memory>
+        ensures { OnOk result (pen_of self.new ≡ layout (directive (chars raw.now)) (pen_of self.old)) }
+    {
+        let quote = directive_quote(self.quote, raw);
+        self.print_quote(quote)?;
+        self.print_raw(raw)?;
+        self.print_quote(quote)
+    }
+
+    fn print_quote(&mut self, quote: Quote) -> Result<(), Memory>
+        ensures { OnOk result (pen_of self.new ≡ written (quote_char quote ∷ []) other_end (pen_of self.old)) }
+    {
+        quote.print(&mut self.code)?;
+        self.ending = Ending::Other;
+        self.start = Start::Nowhere;
+        Ok(())
+    }
+
+    fn print_raw(&mut self, raw: &str) -> Result<(), Memory>
+        ensures { OnOk result (pen_of self.new
+            ≡ written (directive_text (pen_of self.old).style.ascii (chars raw.now)) other_end (pen_of self.old)) }
+    {
+        print_directive_raw(&mut self.code, raw, self.ascii_only)?;
+        self.ending = Ending::Other;
+        self.start = Start::Nowhere;
+        Ok(())
     }
 
     pub fn print_opening(&mut self, bracket: Bracket) -> Result<(), Memory>
@@ -323,7 +380,6 @@ impl Printer {
             ≡ indented (replicate (self.old.depth * indent_width self.old.code) (indent_byte self.old.code))
             (pen_of self.old)) }
     {
-        let _ = self.code.as_str();
         let before = self.code.len();
         self.code.print_indent(self.depth as usize)?;
         if self.code.len() == before {
@@ -421,9 +477,15 @@ impl Printer {
     pub fn into_string(self) -> String
         ensures { string_bytes result ≡ encode_utf8_all (pen_of self).code }
     {
-        let _ = self.code.as_str();
         self.code.into_string()
     }
+}
+
+// The quote of pretty text and of directives.
+fn wanted_quote(single: bool) -> Quote
+    ensures { result ≡ if single then Single else Double }
+{
+    if single { Quote::Single } else { Quote::Double }
 }
 
 // What can stand in a word, seen from its last byte.

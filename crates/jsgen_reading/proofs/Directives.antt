@@ -2,7 +2,8 @@
 use Rattle.std.proofs.Common.{◌≡◌, ℕ, Bool, true, false, cond, Option, Some, None, is_some, List, [], ◌∷◌, ◌++◌, refl, sym, ap, ◌∙◌, subst, append_assoc}
 use Rattle.std.proofs.lemmas.Bool.{both_ways}
 use Rattle.std.proofs.lemmas.Option.{same_Some}
-use Rattle.jsgen_syntax.specs.Strings.{quoted, escaped, is_plain_string}
+use Rattle.jsgen_syntax.specs.Strings.{quoted, escaped, string_value}
+use Rattle.jsgen_syntax.specs.Wtf8.{are_units}
 use Rattle.jsgen_syntax.specs.declared.quote.Quote.{Quote}
 use Rattle.jsgen_syntax.specs.declared.quote.Quote.TheVariants.{Backtick}
 use Rattle.jsgen_syntax.specs.declared.operator.BinaryOperator.{BinaryOperator}
@@ -14,7 +15,7 @@ use Rattle.jsgen_tree.specs.Tree as tree
 use Rattle.jsgen_model.specs.Punctuator.{dot, star_star, and_and, or_or, nullish, semicolon, Round, Square, opening, closing}
 use Rattle.jsgen_model.specs.Tokens.{Tokens, done, piece, group, ◌⧺◌, Quoted, Sign}
 use Rattle.jsgen_model.specs.Items.{Items, ◌⊕◌, first_string, indentation, statement_end, due_semicolon}
-use Rattle.jsgen_model.specs.Layout.{Pen, layout, written, other_end, string_text}
+use Rattle.jsgen_model.specs.Layout.{Pen, layout, written, other_end}
 use Rattle.jsgen_model.specs.Grammar.{Allowed, Level, ReadsExpression, ReadsUnended, ReadsStatement, operator_piece, starts_with_directive}
 use Rattle.jsgen_model.specs.Grammar as grammar
 use Rattle.jsgen_model.specs.Normal.{normal, bare}
@@ -98,12 +99,12 @@ opens (grammar.a_power {a = a} {l = l} m e r s) = opens_behind _ a (piece m (Sig
 opens (grammar.a_conjunction {a = a} {l = l} m e r s) = opens_behind _ a (piece m (Sign and_and) _) l _ e (opens r) tt
 opens (grammar.a_disjunction {a = a} {l = l} m e r s) = opens_behind _ a (piece m (Sign or_or) _) l _ e (opens r) tt
 opens (grammar.a_coalescing {a = a} {l = l} m e r s) = opens_behind _ a (piece m (Sign nullish) _) l _ e (opens r) tt
-opens (grammar.a_named_member {a = a} {o = o} m n e r) = opens_behind _ a (piece m (Sign dot) _) o _ e (opens r) tt
+opens (grammar.a_named_member {a = a} {o = o} w m n e v r) = opens_behind _ a (piece m (Sign dot) _) o _ e (opens r) tt
 opens (grammar.a_computed_member {a = a} {o = o} m e r s) = opens_behind _ a (group m Square _ done) o _ e (opens r) tt
 opens (grammar.with_arguments {a = a} {f = f} m e r s) = opens_behind _ a (group m Round _ done) f _ e (opens r) tt
-opens (grammar.a_named_member_of_call {a = a} {o = o} m n e r) = opens_behind _ a (piece m (Sign dot) _) o _ e (opens r) tt
+opens (grammar.a_named_member_of_call {a = a} {o = o} w m n e v r) = opens_behind _ a (piece m (Sign dot) _) o _ e (opens r) tt
 opens (grammar.a_computed_member_of_call {a = a} {o = o} m e r s) = opens_behind _ a (group m Square _ done) o _ e (opens r) tt
-opens (grammar.a_reference h) = tt
+opens (grammar.a_reference e h) = tt
 opens grammar.a_number = tt
 opens (grammar.a_string e) = refl
 opens (grammar.in_parentheses r) = tt
@@ -182,7 +183,7 @@ strings_so (family.a_computed_member v w) = refl
 strings_so (family.a_call v w) = refl
 
 abbrev IsStringOf : Tree → List ℕ → Type 0
-IsStringOf t us = (is_plain_string us ≡ true) × (normal t ≡ tree.string_literal (bare (units us ∷ [])))
+IsStringOf t us = (are_units us ≡ true) × (normal t ≡ tree.string_literal (bare (units us ∷ [])))
 
 none_is_some : (us : List ℕ) → None ≡ Some us → ⊥
 none_is_some us e = both_ways false refl (ap is_some e)
@@ -190,7 +191,7 @@ none_is_some us e = both_ways false refl (ap is_some e)
 string_inside : {c : Allowed} {t : Tree} → IsExpression c t → (us : List ℕ) → string_in (without_parentheses t) ≡ Some us → IsStringOf t us
 string_inside (family.a_reference h) us s = absurd (none_is_some us s)
 string_inside (family.a_number h e) us s = absurd (none_is_some us s)
-string_inside (family.a_string {a} h) us s = let e = same_Some (units_in a.values) us s in (subst (λ x. is_plain_string x ≡ true) e h, ap (λ x. tree.string_literal (bare (units x ∷ []))) e)
+string_inside (family.a_string {a} h) us s = let e = same_Some (units_in a.values) us s in (subst (λ x. are_units x ≡ true) e h, ap (λ x. tree.string_literal (bare (units x ∷ []))) e)
 string_inside (family.in_parentheses {a} {t} v) us s =
     subst (λ b. string_in (cond b (without_parentheses t) (tree.parenthesized a t)) ≡ Some us → IsStringOf t us) (sym (an_expression v)) (string_inside v us) s
 string_inside (family.an_operation v w) us s = absurd (none_is_some us s)
@@ -204,25 +205,28 @@ record FirstString (p : Pen) (l : Last) (q : Pen) (c : Allowed) (a : Atoms) (e :
   unended : GoodUnended p l q c (tree.expression_statement a e)
   apart : Apart unended.tokens
 
-string_written : (c : Allowed) (a : Atoms) (e : Tree) (us : List ℕ) → is_plain_string us ≡ true → normal e ≡ tree.string_literal (bare (units us ∷ [])) → (p : Pen) (l : Last) → p.pending_semicolon ≡ false → Knows p l → FirstString p l (layout (first_string us) p) c a e
+string_written : (c : Allowed) (a : Atoms) (e : Tree) (us : List ℕ) → are_units us ≡ true → normal e ≡ tree.string_literal (bare (units us ∷ [])) → (p : Pen) (l : Last) → p.pending_semicolon ≡ false → Knows p l → FirstString p l (layout (first_string us) p) c a e
 string_written c a e us h s p l z k = go p.style.minified
   where
-    of_text : Quote → List ℕ
-    of_text q = string_text q us
+    text_of : Quote → List ℕ
+    text_of q = escaped q p.style.ascii us
 
-    spelled : (q : Quote) → of_text q ≡ quoted q us
-    spelled q = ap (λ b. cond b (quoted q us) []) h
+    valued : (q : Quote) → string_value q (text_of q) ≡ Some us
+    valued q = escaped_value q p.style.ascii us h
+
+    of_text : Quote → List ℕ
+    of_text q = quoted q p.style.ascii us
 
     go : (b : Bool) → FirstString p l (written (cond b (of_text Backtick) (opening Round ++ (of_text p.style.quote ++ closing Round))) other_end p) c a e
     go true = record {
       unended = record {
-        last = After (Quoted Backtick (escaped Backtick us));
-        tokens = piece (line_of l) (Quoted Backtick (escaped Backtick us)) done;
-        writes = wrote_quoted Backtick us p (written (of_text Backtick) other_end p) l h (ap (λ t. p.code ++ t) (spelled Backtick)) refl k;
+        last = After (Quoted Backtick (text_of Backtick));
+        tokens = piece (line_of l) (Quoted Backtick (text_of Backtick)) done;
+        writes = wrote_quoted Backtick (text_of Backtick) us p (written (of_text Backtick) other_end p) l (valued Backtick) refl refl k;
         ready = tt;
         semicolon = z;
         tree = tree.expression_statement (bare []) (tree.string_literal (bare (units us ∷ [])));
-        reads = grammar.an_expression refl (from_primary whole_statement (grammar.a_string (escaped_value Backtick us h)));
+        reads = grammar.an_expression refl (from_primary whole_statement (grammar.a_string (valued Backtick)));
         same = ap (λ x. tree.expression_statement (bare []) x) (sym s);
         dangling = refl;
         lexical = refl;
@@ -230,7 +234,7 @@ string_written c a e us h s p l z k = go p.style.minified
       apart = λ r. in_backticks r;
     }
       where
-        in_backticks : (r : Tokens) → starts_with_directive (piece (line_of l) (Quoted Backtick (escaped Backtick us)) r) ≡ false
+        in_backticks : (r : Tokens) → starts_with_directive (piece (line_of l) (Quoted Backtick (text_of Backtick)) r) ≡ false
         in_backticks done = refl
         in_backticks (piece n (Sign semicolon) ts) = refl
         in_backticks r = refl
@@ -239,16 +243,16 @@ string_written c a e us h s p l z k = go p.style.minified
         let p1 : Pen = written (opening Round) other_end p in
         let p2 : Pen = written (of_text q) other_end p1 in
         let r : Pen = written (opening Round ++ (of_text q ++ closing Round)) other_end p in
-        let w = wrote_quoted q us p1 p2 (Open false) h (ap (λ t. p1.code ++ t) (spelled q)) refl (within_brackets Round p l k) in
+        let w = wrote_quoted q (text_of q) us p1 p2 (Open false) (valued q) refl refl (within_brackets Round p l k) in
         record {
           unended = record {
             last = Open false;
-            tokens = group (line_of l) Round (piece false (Quoted q (escaped q us)) done) done;
-            writes = wrote_brackets Round p p1 p2 r l (After (Quoted q (escaped q us))) (piece false (Quoted q (escaped q us)) done) refl (in_order p.code (opening Round) (of_text q) (closing Round)) (record { indent = k.indent; ending = tt }) w;
+            tokens = group (line_of l) Round (piece false (Quoted q (text_of q)) done) done;
+            writes = wrote_brackets Round p p1 p2 r l (After (Quoted q (text_of q))) (piece false (Quoted q (text_of q)) done) refl (in_order p.code (opening Round) (of_text q) (closing Round)) (record { indent = k.indent; ending = tt }) w;
             ready = tt;
             semicolon = z;
             tree = tree.expression_statement (bare []) (tree.parenthesized (bare []) (tree.string_literal (bare (units us ∷ []))));
-            reads = grammar.an_expression refl (from_primary whole_statement (grammar.in_parentheses (from_primary whole_statement (grammar.a_string (escaped_value q us h)))));
+            reads = grammar.an_expression refl (from_primary whole_statement (grammar.in_parentheses (from_primary whole_statement (grammar.a_string (valued q)))));
             same = ap (λ x. tree.expression_statement (bare []) x) (sym s);
             dangling = refl;
             lexical = refl;
@@ -259,7 +263,7 @@ string_written c a e us h s p l z k = go p.style.minified
         in_order : (a b d e : List ℕ) → a ++ (b ++ (d ++ e)) ≡ ((a ++ b) ++ d) ++ e
         in_order a b d e = sym (append_assoc (a ++ b) d e ∙ append_assoc a b (d ++ e))
 
-first_string_at : (c : Allowed) (a : Atoms) (e : Tree) (us : List ℕ) → is_plain_string us ≡ true → normal e ≡ tree.string_literal (bare (units us ∷ [])) → FirstAt c (indentation ⊕ (first_string us ⊕ statement_end)) (tree.expression_statement a e)
+first_string_at : (c : Allowed) (a : Atoms) (e : Tree) (us : List ℕ) → are_units us ≡ true → normal e ≡ tree.string_literal (bare (units us ∷ [])) → FirstAt c (indentation ⊕ (first_string us ⊕ statement_end)) (tree.expression_statement a e)
 first_string_at c a e us h s = first_from c (first_string us) (tree.expression_statement a e) (λ p l z y k. (string_written c a e us h s p l z k).unended) (λ p l z y k. (string_written c a e us h s p l z k).apart)
 
 -- ---- the first statement of a body

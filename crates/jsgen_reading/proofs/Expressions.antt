@@ -1,7 +1,10 @@
 -- One lemma for each type of expression.
-use Rattle.std.proofs.Common.{◌≡◌, ℕ, Bool, true, false, not, cond, decimal, codes, List, [], ◌∷◌, ◌++◌, refl, ap}
-use Rattle.jsgen_syntax.specs.Strings.{escaped, quoted, is_plain_string}
+use Rattle.std.proofs.Common.{◌≡◌, ℕ, Bool, true, false, not, decimal, codes, Some, List, [], ◌∷◌, refl, ap}
+use Rattle.jsgen_syntax.specs.Escapes.{name_text, word_value}
+use Rattle.jsgen_syntax.specs.Strings.{escaped, string_value}
+use Rattle.jsgen_syntax.specs.Wtf8.{are_units}
 use Rattle.jsgen_syntax.specs.declared.quote.Quote.{Quote}
+use Rattle.jsgen_syntax.proofs.Escapes.{word_text_value}
 use Rattle.jsgen_syntax.proofs.Strings.{escaped_value}
 use Rattle.jsgen_model.specs.Items.{string}
 use Rattle.jsgen_tree.specs.Tree.{Tree, Trees, Atoms, text, units, text_in, units_in, digits_in}
@@ -13,7 +16,7 @@ use Rattle.jsgen_model.specs.Grammar as grammar
 use Rattle.jsgen_model.specs.Normal.{bare, number_text}
 use Rattle.jsgen_model.specs.Valid.{is_free_name}
 use Rattle.jsgen_lexing.proofs.Last.{After, line_of}
-use Rattle.jsgen_lexing.proofs.Steps.{wrote_word, wrote_number, wrote_quoted}
+use Rattle.jsgen_lexing.proofs.Steps.{wrote_name, wrote_number, wrote_quoted}
 use Rattle.jsgen_reading.proofs.Levels.{from_primary}
 use Rattle.jsgen_reading.proofs.Families.{IsExpression, AreArguments}
 use Rattle.jsgen_reading.proofs.Families as family
@@ -25,25 +28,29 @@ use Rattle.jsgen_reading.proofs.Links.{ArgumentsAt, MoreArgumentsAt, good_named_
 
 -- ---- names and numbers
 
-name_begins : (start : Start) (line : Bool) (w : List ℕ) (b : Tokens) → is_free_name w ≡ true → is_word (codes "function") b ≡ false → may_begin start (piece line (Word w) b) ≡ true
-name_begins nowhere line w b h n = refl
-name_begins statement line w b h n = ap not (free_starts_none w b h n)
-name_begins arrow_body line w b h n = refl
-name_begins default_export line w b h n = ap not (free_starts_none w b h n)
+name_begins : (start : Start) (line : Bool) (w v : List ℕ) (b : Tokens) → word_value w ≡ Some v → is_free_name v ≡ true → is_word (codes "function") b ≡ false → may_begin start (piece line (Word w) b) ≡ true
+name_begins nowhere line w v b e h n = refl
+name_begins statement line w v b e h n = ap not (free_starts_none w v b e h n)
+name_begins arrow_body line w v b e h n = refl
+name_begins default_export line w v b e h n = ap not (free_starts_none w v b e h n)
 
 pub good_reference : (c : Allowed) (a : Atoms) → is_free_name (text_in a.values) ≡ true → Printed c (tree.identifier_reference a)
-good_reference c a h place p l z y k = record {
-  last = _;
-  tokens = piece (line_of l) (Word (text_in a.values)) done;
-  writes = wrote_word (text_in a.values) p l (free_spelled (text_in a.values) h) k;
-  operand = tt;
-  semicolon = z;
-  begins = λ b n. name_begins place.start (line_of l) (text_in a.values) b h n;
-  line = λ e. ap not e;
-  tree = tree.identifier_reference (named (text_in a.values));
-  reads = from_primary place (grammar.a_reference h);
-  same = refl;
-}
+good_reference c a h place p l z y k =
+    let v : List ℕ = text_in a.values in
+    let w : List ℕ = name_text p.style.ascii v in
+    let e : word_value w ≡ Some v = word_text_value p.style.ascii v (free_spelled v h) in
+    record {
+      last = _;
+      tokens = piece (line_of l) (Word w) done;
+      writes = wrote_name v p l (free_spelled v h) k;
+      operand = tt;
+      semicolon = z;
+      begins = λ b n. name_begins place.start (line_of l) w v b e h n;
+      line = λ g. ap not g;
+      tree = tree.identifier_reference (named v);
+      reads = from_primary place (grammar.a_reference e h);
+      same = refl;
+    }
 
 number_begins : (start : Start) (line : Bool) (w : List ℕ) (b : Tokens) → may_begin start (piece line (Number w) b) ≡ true
 number_begins nowhere line w b = refl
@@ -73,20 +80,22 @@ quoted_begins statement line q w b = refl
 quoted_begins arrow_body line q w b = refl
 quoted_begins default_export line q w b = refl
 
-pub good_string : (c : Allowed) (a : Atoms) → is_plain_string (units_in a.values) ≡ true → Printed c (tree.string_literal a)
+pub good_string : (c : Allowed) (a : Atoms) → are_units (units_in a.values) ≡ true → Printed c (tree.string_literal a)
 good_string c a h place p l z y k =
     let us : List ℕ = units_in a.values in
     let q : Quote = chosen_quote p.style true us in
+    let w : List ℕ = escaped q p.style.ascii us in
+    let e : string_value q w ≡ Some us = escaped_value q p.style.ascii us h in
     record {
-      last = After (Quoted q (escaped q us));
-      tokens = piece (line_of l) (Quoted q (escaped q us)) done;
-      writes = wrote_quoted q us p (layout (string true us) p) l h (ap (λ b. p.code ++ cond b (quoted q us) []) h) refl k;
+      last = After (Quoted q w);
+      tokens = piece (line_of l) (Quoted q w) done;
+      writes = wrote_quoted q w us p (layout (string true us) p) l e refl refl k;
       operand = tt;
       semicolon = z;
-      begins = λ b n. quoted_begins place.start (line_of l) q (escaped q us) b;
+      begins = λ b n. quoted_begins place.start (line_of l) q w b;
       line = λ g. ap not g;
       tree = tree.string_literal (bare (units us ∷ []));
-      reads = from_primary place (grammar.a_string (escaped_value q us h));
+      reads = from_primary place (grammar.a_string e);
       same = refl;
     }
 

@@ -1,30 +1,31 @@
 -- The trees over which the induction goes. They follow from the rules, one lemma a row.
-use Rattle.std.proofs.Common.{◌≡◌, Bool, true, false, ◌++◌, List, [], ◌∷◌, decimal, refl}
+use Rattle.std.proofs.Common.{◌≡◌, ℕ, Bool, true, false, ◌++◌, List, [], ◌∷◌, Option, Some, None, is_some, decimal, refl, ap}
 use Rattle.std.proofs.lemmas.Bool.{both_ways, ltb-true}
-use Rattle.jsgen_tree.specs.Tree.{Tree, Maybe, absent, given, Trees, no_trees, more, hole, Atom, Atoms, type_of, span_of, text_in, units_in, digits_in, digits, numeric_kind, Whole}
+use Rattle.jsgen_tree.specs.Tree.{Tree, Maybe, absent, given, Trees, no_trees, more, hole, Atom, Atoms, type_of, span_of, text, text_in, units_in, digits_in, digits, numeric_kind, Whole}
 use Rattle.jsgen_tree.specs.Tree as tree
-use Rattle.jsgen_tree.specs.Table.{in_set, is_expression, is_statement, is_binding_pattern, is_variable_declarator, is_identifier_name}
+use Rattle.jsgen_tree.specs.Table.{in_set, is_expression, is_statement, is_binding_pattern, is_variable_declarator, is_identifier_name, is_directive}
 use Rattle.jsgen_tree.specs.declared.types.NodeType.{NodeType}
 use Rattle.jsgen_tree.specs.declared.types.NodeType.TheVariants as types
 use Rattle.jsgen_tree.specs.declared.types.NodeSet.{NodeSet}
 use Rattle.jsgen_tree.specs.declared.types.NodeSet.TheVariants as sets
 use Rattle.jsgen_syntax.specs.Name.{spells_name}
-use Rattle.jsgen_syntax.specs.Strings.{is_plain_string}
+use Rattle.jsgen_syntax.specs.Raw.{directive_value}
+use Rattle.jsgen_syntax.specs.Wtf8.{are_units}
 use Rattle.jsgen_model.specs.declared.fault.TreeFault.{TreeFault}
 use Rattle.jsgen_model.specs.declared.fault.TreeFault.TheVariants as faults
 use Rattle.jsgen_model.specs.Tokens.{spells_whole}
 use Rattle.jsgen_model.specs.Grammar.{Allowed, in_module}
-use Rattle.jsgen_model.specs.Plain.{IsPlain, IsPlainIfGiven, ArePlain, is_whole}
-use Rattle.jsgen_model.specs.Normal.{number_text}
+use Rattle.jsgen_model.specs.Plain.{IsPlain, IsPlainIfGiven, ArePlain, is_whole, is_raw}
+use Rattle.jsgen_model.specs.Normal.{number_text, or_none, directive_units}
 use Rattle.jsgen_model.specs.Valid as valid
-use Rattle.jsgen_model.specs.Valid.{breaches, in_slots, in_maybe, in_trees, fault_if, is_free_name, place_faults, head_set_faults, span_faults, own_faults, is_lexical, body_faults, alternate_faults, name_faults, string_faults, written_name_faults, declaration_faults, source_faults, indent_faults, IsValid}
+use Rattle.jsgen_model.specs.Valid.{breaches, in_slots, in_maybe, in_trees, fault_if, is_free_name, place_faults, head_set_faults, span_faults, own_faults, is_lexical, body_faults, alternate_faults, name_faults, directive_faults, written_name_faults, declaration_faults, source_faults, indent_faults, IsValid}
 use Rattle.jsgen_reading.proofs.Numbers.{decimal_whole}
 
 mutual
   pub data IsExpression : Allowed → Tree → Type 0 where
     a_reference : {c : Allowed} {a : Atoms} → is_free_name (text_in a.values) ≡ true → IsExpression c (tree.identifier_reference a)
     a_number : {c : Allowed} {a : Atoms} → spells_whole (decimal (digits_in a.values)) ≡ true → decimal (digits_in a.values) ≡ number_text a.values → IsExpression c (tree.numeric_literal a)
-    a_string : {c : Allowed} {a : Atoms} → is_plain_string (units_in a.values) ≡ true → IsExpression c (tree.string_literal a)
+    a_string : {c : Allowed} {a : Atoms} → are_units (units_in a.values) ≡ true → IsExpression c (tree.string_literal a)
     in_parentheses : {c : Allowed} {a : Atoms} {t : Tree} → IsExpression c t → IsExpression c (tree.parenthesized a t)
     a_named_member : {c : Allowed} {a b : Atoms} {o : Tree} → IsExpression c o → spells_name (text_in b.values) ≡ true → IsExpression c (tree.static_member a o (tree.identifier_name b))
     a_computed_member : {c : Allowed} {a : Atoms} {o e : Tree} → IsExpression c o → IsExpression c e → IsExpression c (tree.computed_member a o e)
@@ -62,8 +63,13 @@ mutual
     no_statement : {c : Allowed} → AreStatements c no_trees
     first_statement : {c : Allowed} {s : Tree} {ss : Trees} → IsStatement c s → AreStatements c ss → AreStatements c (more s ss)
 
+-- a raw text with its value
+pub data AreDirectives : Trees → Type 0 where
+  no_directive : AreDirectives no_trees
+  first_directive : {a : Atoms} {ds : Trees} (us : List ℕ) → directive_value (text_in a.values) ≡ Some us → directive_units a.values ≡ us → AreDirectives ds → AreDirectives (more (tree.directive a) ds)
+
 pub data IsProgram : Tree → Type 0 where
-  a_program : {a : Atoms} {body : Trees} → AreStatements in_module body → IsProgram (tree.program a body)
+  a_program : {a : Atoms} {directives body : Trees} → AreDirectives directives → AreStatements in_module body → IsProgram (tree.program a directives body)
 
 -- ---- no fault
 
@@ -111,7 +117,7 @@ mutual
   pub expression_valid : (c : Allowed) (t : Tree) → IsPlain t → is_expression (type_of t) ≡ true → breaches t ≡ [] → IsExpression c t
   expression_valid c (tree.identifier_reference a) p s e = a_reference (none_if (is_free_name (text_in a.values)) (faults.Name a.span.start) (parts (span_faults a.span) (name_faults a) [] e).0)
   expression_valid c (tree.numeric_literal a) p s e = let k = plain_digits a.values p in a_number k.0 k.1
-  expression_valid c (tree.string_literal a) p s e = a_string (none_if (is_plain_string (units_in a.values)) (faults.Literal a.span.start) (parts (span_faults a.span) (string_faults a) [] e).0)
+  expression_valid c (tree.string_literal a) p s e = a_string p
   expression_valid c (tree.parenthesized a t) p s e =
       let h = parts (span_faults a.span) [] _ e in
       let k = in_its_set sets.Expression t [] h.1 in
@@ -216,11 +222,33 @@ mutual
   statements_valid c (more s ss) p e = let k = in_its_set sets.Statement s (in_trees (sets.Statement ∷ []) ss) e in first_statement (statement_valid c s p.0 k.0 k.1) (statements_valid c ss p.1 k.2)
   statements_valid c (hole ss) p e = absurd p
 
+-- a directive stands for what its raw text spells
+raw_directive : (values : List Atom) → is_raw values ≡ true → is_some (directive_value (text_in values)) ≡ true → (us : List ℕ) × (directive_value (text_in values) ≡ Some us) × (directive_units values ≡ us)
+raw_directive (text raw ∷ []) p h = by (directive_value raw) refl h
+  where
+    by : (o : Option (List ℕ)) → directive_value raw ≡ o → is_some o ≡ true → (us : List ℕ) × (directive_value raw ≡ Some us) × (or_none (directive_value raw) ≡ us)
+    by (Some us) e k = (us, e, ap or_none e)
+    by None e k = absurd (no_truth k)
+raw_directive values p h = absurd (no_truth p)
+
+directive_valid : (t : Tree) (ds : Trees) → IsPlain t → is_directive (type_of t) ≡ true → breaches t ≡ [] → AreDirectives ds → AreDirectives (more t ds)
+directive_valid (tree.directive a) ds p s e v =
+    let k = raw_directive a.values p (none_if (is_some (directive_value (text_in a.values))) (faults.Literal a.span.start) (parts (span_faults a.span) (directive_faults a) [] e).0) in
+    first_directive k.0 k.1 k.2 v
+directive_valid t ds p s e v = absurd (first_of (assumption p, search no_truth))
+
+-- behind their field stand others
+directives_valid : (others : List NodeSet) (ds : Trees) → ArePlain ds → in_trees (sets.Directive ∷ others) ds ≡ [] → AreDirectives ds
+directives_valid others no_trees p e = no_directive
+directives_valid others (more t ts) p e = let k = in_its_set sets.Directive t (in_trees (sets.Directive ∷ others) ts) e in directive_valid t ts p.0 k.0 k.1 (directives_valid others ts p.1 k.2)
+directives_valid others (hole ts) p e = absurd p
+
 pub program_valid : (t : Tree) → IsPlain t → is_program (type_of t) ≡ true → breaches t ≡ [] → IsProgram t
-program_valid (tree.program a body) p s e =
+program_valid (tree.program a directives body) p s e =
     let h = parts (span_faults a.span) (source_faults a) _ e in
-    let k = none_both (in_trees (sets.Statement ∷ []) body) [] h.1 in
-    a_program (statements_valid in_module body p.1 k.0)
+    let d = none_both (in_trees (sets.Directive ∷ sets.Statement ∷ []) directives) (in_trees (sets.Statement ∷ []) body ++ []) h.1 in
+    let k = none_both (in_trees (sets.Statement ∷ []) body) [] d.1 in
+    a_program (directives_valid (sets.Statement ∷ []) directives p.1 d.0) (statements_valid in_module body p.2 k.0)
 program_valid t p s e = absurd (first_of (assumption p, search no_truth))
 
 -- what is asked of every text

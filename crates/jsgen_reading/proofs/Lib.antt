@@ -11,5 +11,6 @@ pub mod Expressions
 pub mod Statements
 pub mod Blocks
 pub mod Directives
+pub mod Prologue
 pub mod Reading
 pub mod Normals

@@ -1,7 +1,9 @@
 -- Members and calls.
-use Rattle.std.proofs.Common.{◌≡◌, ℕ, Bool, true, false, List, [], ◌∷◌, refl, sym, ap, subst, arith}
+use Rattle.std.proofs.Common.{◌≡◌, ℕ, Bool, true, false, Some, List, [], ◌∷◌, refl, sym, ap, subst, arith}
 use Rattle.std.proofs.lemmas.Bool.{or_parts}
+use Rattle.jsgen_syntax.specs.Escapes.{name_text, word_value}
 use Rattle.jsgen_syntax.specs.Name.{spells_name}
+use Rattle.jsgen_syntax.proofs.Escapes.{word_text_value}
 use Rattle.jsgen_syntax.specs.declared.precedence.Precedence.TheVariants as levels
 use Rattle.jsgen_tree.specs.Tree.{Tree, Trees, no_trees, more, Atoms, text, text_in}
 use Rattle.jsgen_tree.specs.Tree as tree
@@ -15,7 +17,7 @@ use Rattle.jsgen_model.specs.Normal.{normal, normal_trees, bare}
 use Rattle.jsgen_model.specs.Spell.{Place, spell, spell_list, within, linked, called, in_brackets, wraps, call_wraps}
 use Rattle.jsgen_lexing.proofs.Last.{Last, Open, After, line_of, Ready, Knows}
 use Rattle.jsgen_lexing.proofs.Writes.{wrote_none, wrote_both}
-use Rattle.jsgen_lexing.proofs.Steps.{wrote_word, wrote_dot, within_brackets, brackets_written}
+use Rattle.jsgen_lexing.proofs.Steps.{wrote_name, wrote_dot, within_brackets, brackets_written}
 use Rattle.jsgen_reading.proofs.Levels.{number_of, operation_number, left_hand_side, level_of, under, lifted, unwrapped, from_left}
 use Rattle.jsgen_reading.proofs.Good.{Good, Printed, begins_then, line_then, good_wrapped}
 use Rattle.jsgen_reading.proofs.Lists.{Elements, ElementAt, MoreAt, Joins, no_more, one_more, whole_list}
@@ -36,12 +38,14 @@ linked_read false f h r = behind_callee refl f h r
 
 pub good_named_member : (c : Allowed) (a b : Atoms) (o : Tree) → spells_name (text_in b.values) ≡ true → Printed c o → Printed c (tree.static_member a o (tree.identifier_name b))
 good_named_member c a b o h f place p l z y k =
-    let w : List ℕ = text_in b.values in
+    let v : List ℕ = text_in b.values in
     let p1 : Pen = layout (spell o (linked place)) p in
     let p2 : Pen = layout member_dot p1 in
+    let w : List ℕ = name_text p2.style.ascii v in
+    let x : word_value w ≡ Some v = word_text_value p2.style.ascii v h in
     let g = f (linked place) p l z y k in
     let d = wrote_dot p1 g.last g.operand g.writes.knows in
-    let n = wrote_word w p2 (After (Sign dot)) h d.knows in
+    let n = wrote_name v p2 (After (Sign dot)) h d.knows in
     record {
       last = After (Word w);
       tokens = g.tokens ⧺ piece (line_of g.last) (Sign dot) (piece false (Word w) done);
@@ -50,9 +54,9 @@ good_named_member c a b o h f place p l z y k =
       semicolon = g.semicolon;
       begins = λ ts i. begins_then place.start g.tokens (piece (line_of g.last) (Sign dot) (piece false (Word w) done)) ts g.begins refl;
       line = λ e. line_then g.tokens (piece (line_of g.last) (Sign dot) (piece false (Word w) done)) (g.line e);
-      tree = tree.static_member (bare []) g.tree (tree.identifier_name (named w));
-      reads = from_left place (linked_read place.context.forbids_call (λ r. grammar.a_named_member (line_of g.last) false refl r) (λ r. grammar.a_named_member_of_call (line_of g.last) false refl r) g.reads);
-      same = ap (λ x. tree.static_member (bare []) x (tree.identifier_name (bare (text w ∷ [])))) g.same;
+      tree = tree.static_member (bare []) g.tree (tree.identifier_name (named v));
+      reads = from_left place (linked_read place.context.forbids_call (λ r. grammar.a_named_member w (line_of g.last) false refl x r) (λ r. grammar.a_named_member_of_call w (line_of g.last) false refl x r) g.reads);
+      same = ap (λ u. tree.static_member (bare []) u (tree.identifier_name (bare (text v ∷ [])))) g.same;
     }
 
 same_member : (u v x y : Tree) → normal u ≡ normal x → normal v ≡ normal y → tree.computed_member (bare []) (normal u) (normal v) ≡ tree.computed_member (bare []) (normal x) (normal y)

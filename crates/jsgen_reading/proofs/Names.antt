@@ -1,8 +1,10 @@
 -- What a name that a module may use isn't.
-use Rattle.std.proofs.Common.{◌≡◌, ℕ, Bool, true, false, codes, List, refl, subst, cond, encode_utf8_all, bytes_eq}
+use Rattle.std.proofs.Common.{◌≡◌, ℕ, Bool, true, false, codes, Some, List, refl, sym, ap, ◌∙◌, subst, cond, encode_utf8_all, bytes_eq}
 use Rattle.std.proofs.Math.Utf8.{encode}
 use Rattle.std.proofs.lemmas.Bool.{both_ways, false_from_ne_true, or_from, and_right, and_left}
 use Rattle.std.proofs.lemmas.Slice.Eq.{bytes_eq-Decides}
+use Rattle.std.proofs.lemmas.Option.{same_Some}
+use Rattle.jsgen_syntax.specs.Escapes.{word_value}
 use Rattle.jsgen_syntax.specs.Name.{spells_name, is_reserved, is_strict_reserved}
 use Rattle.jsgen_model.specs.Tokens.{Tokens}
 use Rattle.jsgen_model.specs.Grammar.{is_word, on_same_line, starts_in_square, starts_declaration}
@@ -34,11 +36,15 @@ no_reserved w x f r = false_from_ne_true (bytes_eq w x) (λ e. both_ways (is_res
 no_strict : (w x : List ℕ) → is_strict_reserved (encode_utf8_all w) ≡ false → is_strict_reserved (encode_utf8_all x) ≡ true → bytes_eq w x ≡ false
 no_strict w x f r = false_from_ne_true (bytes_eq w x) (λ e. both_ways (is_strict_reserved (encode_utf8_all x)) (subst (λ y. is_strict_reserved (encode_utf8_all y) ≡ false) ((bytes_eq-Decides w x).0 e) f) r)
 
--- and no declaration begins with it, where no `function` follows
-pub free_starts_none : (w : List ℕ) (ts : Tokens) → is_free_name w ≡ true → is_word (codes "function") ts ≡ false → starts_declaration w ts ≡ false
-unfolding is_reserved is_strict_reserved encode
-free_starts_none w ts h n =
-    let k = free w h in
-    or_from _ _ (or_from _ _ (or_from _ _ (no_reserved w (codes "function") k.unreserved refl) (no_reserved w (codes "class") k.unreserved refl))
+-- no keyword is printed for it, since a keyword stands for itself
+no_keyword : (w v k : List ℕ) → word_value w ≡ Some v → word_value k ≡ Some k → (bytes_eq v k ≡ false) → bytes_eq w k ≡ false
+no_keyword w v k e f n = false_from_ne_true (bytes_eq w k) (λ h. both_ways (bytes_eq v k) n ((bytes_eq-Decides v k).1 (same_Some v k (sym e ∙ (ap word_value ((bytes_eq-Decides w k).0 h) ∙ f)))))
+
+-- and no declaration begins with its word, where no `function` follows
+pub free_starts_none : (w v : List ℕ) (ts : Tokens) → word_value w ≡ Some v → is_free_name v ≡ true → is_word (codes "function") ts ≡ false → starts_declaration w ts ≡ false
+unfolding is_reserved is_strict_reserved encode word_value
+free_starts_none w v ts e h n =
+    let k = free v h in
+    or_from _ _ (or_from _ _ (or_from _ _ (no_keyword w v (codes "function") e refl (no_reserved v (codes "function") k.unreserved refl)) (no_keyword w v (codes "class") e refl (no_reserved v (codes "class") k.unreserved refl)))
     (and_left _ (on_same_line ts) (and_right (bytes_eq w (codes "async")) (is_word (codes "function") ts) n)))
-    (and_left (bytes_eq w (codes "let")) (starts_in_square ts) (no_strict w (codes "let") k.unreserved_in_strict refl))
+    (and_left (bytes_eq w (codes "let")) (starts_in_square ts) (no_keyword w v (codes "let") e refl (no_strict v (codes "let") k.unreserved_in_strict refl)))

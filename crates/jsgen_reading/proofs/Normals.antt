@@ -58,7 +58,8 @@ unbraced_again t e = ap unbraced e
 
 mutual
   pub normal_again : (t : Tree) → normal (normal t) ≡ normal t
-  normal_again (tree.program a body) = ap (λ ts. tree.program (bare []) ts) (normal_trees_again body)
+  normal_again (tree.program a directives body) = let e = normal_trees_again directives in let f = normal_trees_again body in λ i. tree.program (bare []) (e i) (f i)
+  normal_again (tree.directive a) = refl
   normal_again (tree.expression_statement a expression) = ap (λ e. tree.expression_statement (bare []) e) (normal_again expression)
   normal_again (tree.variable_declaration a declarations) = ap (λ ts. tree.variable_declaration (bare (declaration_kind (declaration_kind_in a.values) ∷ [])) ts) (normal_trees_again declarations)
   normal_again (tree.variable_declarator a id init) = let e = normal_again id in let f = normal_maybe_again init in λ i. tree.variable_declarator (bare []) (e i) (f i)

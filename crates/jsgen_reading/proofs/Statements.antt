@@ -1,7 +1,9 @@
 -- What is carried through the induction for declarations and statements.
 use Rattle.std.proofs.Common.{◌≡◌, ℕ, Bool, true, false, codes, List, [], ◌∷◌, refl, sym, ap, ◌∙◌, subst}
 use Rattle.jsgen_syntax.specs.declared.precedence.Precedence.TheVariants as levels
+use Rattle.jsgen_syntax.specs.Escapes.{name_text}
 use Rattle.jsgen_syntax.specs.Name.{spells_name}
+use Rattle.jsgen_syntax.proofs.Escapes.{word_text_value}
 use Rattle.jsgen_tree.specs.declared.statements.VariableDeclarationKind.{VariableDeclarationKind}
 use Rattle.jsgen_tree.specs.declared.statements.VariableDeclarationKind.TheVariants as kinds
 use Rattle.jsgen_tree.specs.Table.{ends_open}
@@ -20,7 +22,7 @@ use Rattle.jsgen_model.specs.Spell.{Place, spell, spell_list, spell_statements, 
 use Rattle.jsgen_lexing.proofs.Characters.{letters_spelled}
 use Rattle.jsgen_lexing.proofs.Last.{Last, Open, After, line_of, Operand, Ready, Knows}
 use Rattle.jsgen_lexing.proofs.Writes.{Writes, wrote_none, wrote_both, wrote_and_none, then_assoc, then_done}
-use Rattle.jsgen_lexing.proofs.Steps.{Soft, Gap, gap, wrote_word, wrote_punctuator, soft_space_written, indentation_written, begins_written, end_written, end_left, due_written, none_due}
+use Rattle.jsgen_lexing.proofs.Steps.{Soft, Gap, gap, wrote_word, wrote_name, wrote_punctuator, soft_space_written, indentation_written, begins_written, end_written, end_left, due_written, none_due}
 use Rattle.jsgen_reading.proofs.Levels.{under}
 use Rattle.jsgen_reading.proofs.Families.{IsExpression, IsBinding, IsValue, IsDeclarator, AreDeclarators, IsStatement, AreStatements}
 use Rattle.jsgen_reading.proofs.Families as family
@@ -150,16 +152,18 @@ abbrev pub Bound : Allowed → Tree → Type 0
 Bound c t = (place : Place) (p : Pen) (l : Last) → p.pending_semicolon ≡ false → Ready l → Knows p l → GoodBinding p l (layout (spell t place) p) (under place c) t
 
 pub good_bound_name : (c : Allowed) (a : Atoms) → is_free_name (text_in a.values) ≡ true → Bound c (tree.binding_identifier a)
-good_bound_name c a h place p l z y k = record {
-  last = _;
-  tokens = piece (line_of l) (Word (text_in a.values)) done;
-  writes = wrote_word (text_in a.values) p l (free_spelled (text_in a.values) h) k;
-  operand = tt;
-  semicolon = z;
-  tree = tree.binding_identifier (named (text_in a.values));
-  reads = grammar.a_bound_name h;
-  same = refl;
-}
+good_bound_name c a h place p l z y k =
+    let v : List ℕ = text_in a.values in
+    record {
+      last = _;
+      tokens = piece (line_of l) (Word (name_text p.style.ascii v)) done;
+      writes = wrote_name v p l (free_spelled v h) k;
+      operand = tt;
+      semicolon = z;
+      tree = tree.binding_identifier (named v);
+      reads = grammar.a_bound_name (word_text_value p.style.ascii v (free_spelled v h)) h;
+      same = refl;
+    }
 
 -- printed at one place, and read as a declarator or as a list of them
 abbrev pub DeclaredAt : Allowed → Place → Tree → Type 0

@@ -15,6 +15,7 @@ use Rattle.jsgen_rows.specs.Job.{json_of, job_of}
 
 program_type : (t : NodeType) → is_program t ≡ true → t ≡ types.Program
 program_type types.Program h = refl
+program_type types.Directive h = cc
 program_type types.ExpressionStatement h = cc
 program_type types.VariableDeclaration h = cc
 program_type types.VariableDeclarator h = cc

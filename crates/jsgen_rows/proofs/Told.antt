@@ -7,7 +7,6 @@ use Rattle.serde_json.specs.Find.{as_bool, as_number, as_object, as_str}
 use Rattle.serde_json.specs.Read.{read}
 use Rattle.serde_json.specs.Written.{has_float}
 use Rattle.jsgen_syntax.specs.declared.span.Span.{Span}
-use Rattle.jsgen_syntax.specs.Strings.{is_plain_string}
 use Rattle.jsgen_tree.specs.declared.types.NodeSet.{NodeSet}
 use Rattle.jsgen_tree.specs.declared.types.NodeType.{NodeType}
 use Rattle.jsgen_tree.specs.Tree.{Tree, type_of as tree_type}
@@ -16,7 +15,7 @@ use Rattle.jsgen_tree.specs.Table as sorts
 use Rattle.jsgen_rows.specs.declared.At.{At}
 use Rattle.jsgen_rows.specs.declared.InputFault.{InputFault}
 use Rattle.jsgen_rows.specs.declared.InputFault.TheVariants.{Json, Float, Wrong, Child, Shared, Memory}
-use Rattle.jsgen_rows.specs.Values.{after, or_fault, at, head, field, field_in, not_given, text_in, items_in, digits_in, unit_in, units_listed, text_or_listed, units_in, plain_units, value_in, given_values, values_in, type_named, type_given, type_of, offsets, span_given, span_of, none_given, text_options, comment_options, unread_options, minify_given, options_given, options_in, unread_head, some_rows, rows_listed, rows_given, rows_in}
+use Rattle.jsgen_rows.specs.Values.{after, or_fault, at, head, field, field_in, not_given, text_in, items_in, digits_in, unit_in, units_listed, text_or_listed, units_in, value_in, given_values, values_in, type_named, type_given, type_of, offsets, span_given, span_of, none_given, text_options, comment_options, unread_options, choice_given, options_given, options_in, unread_head, some_rows, rows_listed, rows_given, rows_in}
 use Rattle.jsgen_rows.specs.Meaning.{Mark, fault, use_of, number_marks, child_marks, each, marks_of, given_marks, list_marks, sort_marks, fields_marks, typed_marks, row_marks, row_tree, is_used, is_program, found_faults, mark_faults, with_mark, with_marks, faults_in, root_tree, root_faults, faults_after, unless, rows_meaning, program_meaning, value_meaning}
 use Rattle.jsgen_rows.specs.Job.{json_of, job_of}
 
@@ -84,7 +83,7 @@ text_or_listed_told a d (Some s) = tt
 
 value_told : (a : At) (s : Sort) (d : Data) → ResultTold (value_in a s d)
 value_told a sorts.text d = after_told (text_in a d) _ (text_told a d) (λ s. tt)
-value_told a sorts.units d = after_told (units_in a d) (plain_units a) (text_or_listed_told a d (as_str d)) (λ us. choice_told (is_plain_string us) _ (Err (Wrong a)) tt (wrong_told a))
+value_told a sorts.units d = after_told (units_in a d) _ (text_or_listed_told a d (as_str d)) (λ us. tt)
 value_told a sorts.digits d = after_told (digits_in a d) _ (or_told (Wrong a) _ (wrong_told a)) (λ n. tt)
 value_told a sorts.flag d = after_told (or_fault (Wrong a) (as_bool d)) _ (or_told (Wrong a) (as_bool d) (wrong_told a)) (λ b. tt)
 value_told a (sorts.word ws) d = after_told (text_in a d) _ (text_told a d) (λ s. or_told (Wrong a) _ (wrong_told a))
@@ -214,9 +213,9 @@ none_given_told : (a : At) (names : List (List ℕ)) (d : Data) → ResultTold (
 none_given_told a [] d = tt
 none_given_told a (name ∷ names) d = after_told (not_given a (field name d)) _ (not_given_told a _) (λ u. none_given_told a names d)
 
-minify_told : (o : Option Data) → ResultTold (minify_given o)
-minify_told None = tt
-minify_told (Some d) = or_told (Wrong (head 0)) (as_bool d) (wrong_told _)
+choice_given_told : (o : Option Data) → ResultTold (choice_given o)
+choice_given_told None = tt
+choice_given_told (Some d) = or_told (Wrong (head 0)) (as_bool d) (wrong_told _)
 
 unread_options_told : (d : Data) → ResultTold (unread_options d)
 unread_options_told d = after_told (none_given (head 0) text_options d) _ (none_given_told _ text_options d) (λ u. none_given_told (head 0) comment_options d)
@@ -226,7 +225,9 @@ options_given_told None = tt
 options_given_told (Some d) =
     after_told (or_fault (Wrong (head 0)) (as_object d)) _ (or_told (Wrong (head 0)) (as_object d) (wrong_told _))
     (λ members. after_told (unread_options d) _ (unread_options_told d)
-    (λ u. after_told (minify_given (field (codes "minify") d)) _ (minify_told _) (λ minify. tt)))
+    (λ u. after_told (choice_given (field (codes "single_quote") d)) _ (choice_given_told _)
+    (λ single_quote. after_told (choice_given (field (codes "minify") d)) _ (choice_given_told _)
+    (λ minify. after_told (choice_given (field (codes "ascii_only") d)) _ (choice_given_told _) (λ ascii_only. tt)))))
 
 options_told : (d : Data) → ResultTold (options_in d)
 options_told d =

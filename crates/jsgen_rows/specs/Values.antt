@@ -7,7 +7,6 @@ use Rattle.serde_json.specs.Data.{Data, null, Items, no_items, item}
 use Rattle.serde_json.specs.Find.{get, as_bool, as_str, as_array, as_number, as_object, as_u64}
 use Rattle.serde_json.specs.Written.{has_float}
 use Rattle.jsgen_syntax.specs.declared.span.Span.{Span}
-use Rattle.jsgen_syntax.specs.Strings.{is_plain_string}
 use Rattle.jsgen_tree.specs.declared.types.NodeType.{NodeType}
 use Rattle.jsgen_tree.specs.declared.types.NodeType.TheVariants as types
 use Rattle.jsgen_tree.specs.Options.{Options, default_options}
@@ -127,15 +126,11 @@ text_or_listed a d (Some s) = Ok (flat_map encode_utf16 (chars s))
 abbrev pub units_in : At → Data → Result (List ℕ) InputFault
 units_in a d = text_or_listed a d (as_str d)
 
--- so far a string holds the units from a space to `~` alone
-abbrev pub plain_units : At → List ℕ → Result Atom InputFault
-plain_units a us = if is_plain_string us then Ok (atoms.units us) else Err (Wrong a)
-
 -- ---- the fields that have no children
 
 abbrev pub value_in : At → Sort → Data → Result Atom InputFault
 value_in a sorts.text d = after (text_in a d) (λ s. Ok (atoms.text (chars s)))
-value_in a sorts.units d = after (units_in a d) (plain_units a)
+value_in a sorts.units d = after (units_in a d) (λ us. Ok (atoms.units us))
 value_in a sorts.digits d = after (digits_in a d) (λ n. Ok (atoms.digits n))
 value_in a sorts.flag d = after (or_fault (Wrong a) (as_bool d)) (λ b. Ok (atoms.flag b))
 value_in a (sorts.word ws) d = word_in a ws d
@@ -161,6 +156,7 @@ values_in a required s o = after (field_in a required o) (given_values a s)
 unfoldable pub statement_named : List ℕ → Option NodeType
 statement_named s =
     if bytes_eq s (codes "Program") then Some types.Program
+    else (if bytes_eq s (codes "Directive") then Some types.Directive
     else (if bytes_eq s (codes "ExpressionStatement") then Some types.ExpressionStatement
     else (if bytes_eq s (codes "VariableDeclaration") then Some types.VariableDeclaration
     else (if bytes_eq s (codes "VariableDeclarator") then Some types.VariableDeclarator
@@ -168,7 +164,7 @@ statement_named s =
     else (if bytes_eq s (codes "BlockStatement") then Some types.BlockStatement
     else (if bytes_eq s (codes "IfStatement") then Some types.IfStatement
     else (if bytes_eq s (codes "EmptyStatement") then Some types.EmptyStatement
-    else None)))))))
+    else None))))))))
 
 unfoldable pub expression_named : List ℕ → Option NodeType
 expression_named s =
@@ -230,7 +226,7 @@ none_given a (name ∷ names) d = after (not_given a (field name d)) (λ _. none
 
 -- the options that aren't read yet
 abbrev pub text_options : List (List ℕ)
-text_options = codes "single_quote" ∷ codes "ascii_only" ∷ codes "source_map_path" ∷ codes "indent_char" ∷ codes "indent_width" ∷ codes "initial_indent" ∷ []
+text_options = codes "source_map_path" ∷ codes "indent_char" ∷ codes "indent_width" ∷ codes "initial_indent" ∷ []
 
 abbrev pub comment_options : List (List ℕ)
 comment_options = codes "normal" ∷ codes "jsdoc" ∷ codes "annotation" ∷ codes "legal" ∷ codes "legal_path" ∷ []
@@ -238,17 +234,20 @@ comment_options = codes "normal" ∷ codes "jsdoc" ∷ codes "annotation" ∷ co
 abbrev pub unread_options : Data → Result ⊤ InputFault
 unread_options d = after (none_given (head 0) text_options d) (λ _. none_given (head 0) comment_options d)
 
-abbrev pub minify_given : Option Data → Result Bool InputFault
-minify_given None = Ok false
-minify_given (Some d) = or_fault (Wrong (head 0)) (as_bool d)
+-- an option that is true or false, which stands for an absent one too
+abbrev pub choice_given : Option Data → Result Bool InputFault
+choice_given None = Ok false
+choice_given (Some d) = or_fault (Wrong (head 0)) (as_bool d)
 
 -- an object
 abbrev pub options_read : Data → Result Options InputFault
 options_read d =
     after (or_fault (Wrong (head 0)) (as_object d))
     (λ members. after (unread_options d)
-    (λ _. after (minify_given (field (codes "minify") d))
-    (λ minify. Ok (record default_options { minify = minify }))))
+    (λ _. after (choice_given (field (codes "single_quote") d))
+    (λ single_quote. after (choice_given (field (codes "minify") d))
+    (λ minify. after (choice_given (field (codes "ascii_only") d))
+    (λ ascii_only. Ok (record default_options { single_quote = single_quote; minify = minify; ascii_only = ascii_only }))))))
 
 abbrev pub options_given : Option Data → Result Options InputFault
 options_given None = Ok default_options

@@ -4,7 +4,7 @@ ghost use Rattle.serde_json.specs.View.{view};
 ghost use Rattle.jsgen_tree.specs.Tree.{type_of};
 ghost use Rattle.jsgen_tree.specs.Table.{in_set};
 ghost use Rattle.jsgen_tree.specs.Plain.{node_plain};
-ghost use Rattle.jsgen_tree.specs.Rows.{in_expression, in_statement, in_binding_pattern, in_argument, variable_declarator_row, identifier_name_row};
+ghost use Rattle.jsgen_tree.specs.Rows.{in_expression, in_statement, in_binding_pattern, in_argument, variable_declarator_row, identifier_name_row, directive_row};
 ghost use Rattle.jsgen_tree.specs.declared.types.NodeSet.TheVariants as sets;
 ghost use Rattle.jsgen_rows.specs.Reads.{Gives, take_child, take_all};
 ghost use Rattle.jsgen_rows.specs.Kept.{row_plain, entries};
@@ -12,8 +12,8 @@ ghost use Rattle.jsgen_rows.specs.Kept.{row_plain, entries};
 use crate::kept::{Kept, Row, binding_pattern_node, expression_node, statement_node};
 use crate::{At, InputFault};
 use jsgen_tree::{
-    Argument, BindingPatternNode, ExpressionNode, IdentifierName, NodeSet, StatementNode,
-    VariableDeclarator,
+    Argument, BindingPatternNode, Directive, ExpressionNode, IdentifierName, NodeSet,
+    StatementNode, VariableDeclarator,
 };
 use serde_json::Value;
 use std::alloc::Global;
@@ -120,6 +120,16 @@ pub fn take_identifier_name(
     }
 }
 
+pub fn take_directive(kept: &mut Vec<Kept>, at: At, value: &Value) -> Result<Directive, InputFault>
+    ensures { Gives directive_row result (entries kept.new.items)
+        (take_child at sets.Directive (view value.now) (entries kept.old.items)) }
+{
+    match take_child(kept, at, NodeSet::Directive, value)?.into_directive() {
+        Some(directive) => Ok(directive),
+        None => Err(InputFault::Wrong(at)),
+    }
+}
+
 pub fn take_argument(
     alloc: Global,
     kept: &mut Vec<Kept>,
@@ -172,6 +182,23 @@ pub fn take_variable_declarators(
         declarators.push(declarator)?;
     }
     Ok(declarators)
+}
+
+pub fn take_directives(
+    alloc: Global,
+    kept: &mut Vec<Kept>,
+    at: At,
+    values: &[Value],
+) -> Result<Vec<Directive>, InputFault>
+    ensures { Gives (λ v. map directive_row v.items) result (entries kept.new.items)
+        (take_all at sets.Directive [] (map view values.now) (entries kept.old.items)) }
+{
+    let mut directives = Vec::with_capacity(alloc, values.len())?;
+    for value in values {
+        let directive = take_directive(kept, at, value)?;
+        directives.push(directive)?;
+    }
+    Ok(directives)
 }
 
 pub fn take_arguments(

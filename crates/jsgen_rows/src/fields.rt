@@ -4,21 +4,22 @@ ghost use Rattle.serde_json.specs.View.{view};
 ghost use Rattle.jsgen_tree.specs.Tree.{optional, trees};
 ghost use Rattle.jsgen_tree.specs.Table.{needs, may_have, child, children};
 ghost use Rattle.jsgen_tree.specs.Plain.{node_plain};
-ghost use Rattle.jsgen_tree.specs.Rows.{in_expression, in_statement, in_binding_pattern, in_argument, variable_declarator_row, identifier_name_row};
+ghost use Rattle.jsgen_tree.specs.Rows.{in_expression, in_statement, in_binding_pattern, in_argument, variable_declarator_row, identifier_name_row, directive_row};
 ghost use Rattle.jsgen_tree.specs.declared.types.NodeSet.TheVariants as sets;
 ghost use Rattle.jsgen_rows.specs.Meaning.{a_child, a_maybe, a_list};
 ghost use Rattle.jsgen_rows.specs.Reads.{Gives, read_field};
 ghost use Rattle.jsgen_rows.specs.Kept.{entries};
 
 use crate::children::{
-    take_arguments, take_binding_pattern, take_expression, take_identifier_name, take_statement,
-    take_statements, take_variable_declarators,
+    take_arguments, take_binding_pattern, take_directives, take_expression, take_identifier_name,
+    take_statement, take_statements, take_variable_declarators,
 };
 use crate::kept::Kept;
 use crate::values::{items_in, needed_value, optional_value};
 use crate::{At, InputFault};
 use jsgen_tree::{
-    Argument, BindingPatternNode, ExpressionNode, IdentifierName, StatementNode, VariableDeclarator,
+    Argument, BindingPatternNode, Directive, ExpressionNode, IdentifierName, StatementNode,
+    VariableDeclarator,
 };
 use serde_json::Value;
 use std::alloc::Global;
@@ -149,6 +150,24 @@ pub fn variable_declarators(
     };
     let items = items_in(at, value)?;
     take_variable_declarators(alloc, kept, at, items)
+}
+
+#[tactic(auto, unfolding(crate::specs::Reads::read_children))]
+pub fn directives(
+    alloc: Global,
+    kept: &mut Vec<Kept>,
+    at: At,
+    row: &Value,
+    name: &str,
+) -> Result<Vec<Directive>, InputFault>
+    ensures { Gives (λ v. a_list (trees (map directive_row v.items))) result (entries kept.new.items)
+        (read_field at (may_have name.now (children sets.Directive)) (view row.now) (entries kept.old.items)) }
+{
+    let Some(value) = optional_value(at, row, name)? else {
+        return Ok(Vec::new(alloc));
+    };
+    let items = items_in(at, value)?;
+    take_directives(alloc, kept, at, items)
 }
 
 #[tactic(auto, unfolding(crate::specs::Reads::read_children))]

@@ -1,20 +1,20 @@
 // The rows that were read, and what becomes of them: a child of a set.
 ghost use Rattle.std.specs.Prelude.{◌≡◌, Some, None, IfOk, option_map, if◌then◌else◌};
 ghost use Rattle.jsgen_tree.specs.Tree.{type_of};
-ghost use Rattle.jsgen_tree.specs.Table.{is_expression, is_statement, is_binding_pattern, is_variable_declarator, is_identifier_name};
+ghost use Rattle.jsgen_tree.specs.Table.{is_expression, is_statement, is_binding_pattern, is_variable_declarator, is_identifier_name, is_directive};
 ghost use Rattle.jsgen_tree.specs.Plain.{node_plain, program_plain};
-ghost use Rattle.jsgen_tree.specs.Rows.{in_expression, in_statement, in_binding_pattern, in_declaration, expression_plain, statement_plain, declaration_plain, binding_pattern_plain, variable_declarator_row, identifier_name_row};
+ghost use Rattle.jsgen_tree.specs.Rows.{in_expression, in_statement, in_binding_pattern, in_declaration, expression_plain, statement_plain, declaration_plain, binding_pattern_plain, variable_declarator_row, identifier_name_row, directive_row};
 ghost use Rattle.jsgen_rows.specs.Meaning.{is_program};
 ghost use Rattle.jsgen_rows.specs.Reads.{entry_type};
 ghost use Rattle.jsgen_rows.specs.Kept.{row_plain, entry};
 
 use jsgen_tree::{
     BinaryExpression, BindingIdentifier, BindingPattern, BindingPatternNode, BlockStatement,
-    CallExpression, ComputedMemberExpression, Declaration, DeclarationNode, EmptyStatement,
-    Expression, ExpressionNode, ExpressionStatement, IdentifierName, IdentifierReference,
-    IfStatement, LogicalExpression, NodeType, NumericLiteral, ParenthesizedExpression, Program,
-    Statement, StatementNode, StaticMemberExpression, StringLiteral, VariableDeclaration,
-    VariableDeclarator,
+    CallExpression, ComputedMemberExpression, Declaration, DeclarationNode, Directive,
+    EmptyStatement, Expression, ExpressionNode, ExpressionStatement, IdentifierName,
+    IdentifierReference, IfStatement, LogicalExpression, NodeType, NumericLiteral,
+    ParenthesizedExpression, Program, Statement, StatementNode, StaticMemberExpression,
+    StringLiteral, VariableDeclaration, VariableDeclarator,
 };
 use std::alloc::{AllocError, Global};
 
@@ -22,6 +22,7 @@ use std::alloc::{AllocError, Global};
 #[derive(Drop)]
 pub enum Row {
     Program(Box<Program>),
+    Directive(Box<Directive>),
     ExpressionStatement(Box<ExpressionStatement>),
     VariableDeclaration(Box<VariableDeclaration>),
     VariableDeclarator(Box<VariableDeclarator>),
@@ -54,6 +55,7 @@ impl Row {
     {
         match self {
             Row::Program(_) => NodeType::Program,
+            Row::Directive(_) => NodeType::Directive,
             Row::ExpressionStatement(_) => NodeType::ExpressionStatement,
             Row::VariableDeclaration(_) => NodeType::VariableDeclaration,
             Row::VariableDeclarator(_) => NodeType::VariableDeclarator,
@@ -146,6 +148,16 @@ impl Row {
     {
         match self {
             Row::IdentifierName(row) => Some(row),
+            _ => None,
+        }
+    }
+
+    pub fn into_directive(self) -> Option<Directive>
+        ensures { option_map directive_row result
+            ≡ (if is_directive (type_of (row_plain self)) then Some (row_plain self) else None) }
+    {
+        match self {
+            Row::Directive(row) => Some(Box::into_inner(row)),
             _ => None,
         }
     }

@@ -21,8 +21,6 @@ mod options;
 mod statements;
 mod steps;
 mod strings;
-#[cfg(test)]
-mod tests;
 mod values;
 mod words;
 

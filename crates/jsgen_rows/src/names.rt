@@ -10,6 +10,8 @@ fn statement_by_name(name: &str) -> Option<NodeType>
 {
     if name == "Program" {
         Some(NodeType::Program)
+    } else if name == "Directive" {
+        Some(NodeType::Directive)
     } else if name == "ExpressionStatement" {
         Some(NodeType::ExpressionStatement)
     } else if name == "VariableDeclaration" {

@@ -1,9 +1,9 @@
 // The options of a job, field 0 of its head.
-ghost use Rattle.std.specs.Prelude.{◌≡◌, codes};
+ghost use Rattle.std.specs.Prelude.{◌≡◌};
 ghost use Rattle.serde_json.specs.View.{view};
 ghost use Rattle.jsgen_tree.specs.Options.{options_plain};
 ghost use Rattle.jsgen_rows.specs.Job.{Same};
-ghost use Rattle.jsgen_rows.specs.Values.{head, field, none_given, text_options, comment_options, minify_given, options_read, options_in};
+ghost use Rattle.jsgen_rows.specs.Values.{head, field, none_given, text_options, comment_options, choice_given, options_read, options_in};
 
 use crate::values::{not_given, optional_value, present};
 use crate::{At, InputFault};
@@ -15,8 +15,6 @@ fn text_options(options: &Value) -> Result<(), InputFault>
     ensures { Same (λ u. u) result (none_given (head 0) text_options (view options.now)) }
 {
     let at = At::of_head(0);
-    not_given(at, options, "single_quote")?;
-    not_given(at, options, "ascii_only")?;
     not_given(at, options, "source_map_path")?;
     not_given(at, options, "indent_char")?;
     not_given(at, options, "indent_width")?;
@@ -37,10 +35,11 @@ fn comment_options(options: &Value) -> Result<(), InputFault>
     Ok(())
 }
 
-fn minify_in(options: &Value) -> Result<bool, InputFault>
-    ensures { Same (λ b. b) result (minify_given (field (codes "minify") (view options.now))) }
+/// An option that is true or false, which stands for an absent one too.
+fn choice_in(options: &Value, name: &str) -> Result<bool, InputFault>
+    ensures { Same (λ b. b) result (choice_given (field name.now (view options.now))) }
 {
-    let Some(value) = present(options, "minify") else {
+    let Some(value) = present(options, name) else {
         return Ok(false);
     };
     match value.as_bool() {
@@ -57,9 +56,13 @@ fn options_read(options: &Value) -> Result<CodegenOptions, InputFault>
     }
     text_options(options)?;
     comment_options(options)?;
-    let minify = minify_in(options)?;
+    let single_quote = choice_in(options, "single_quote")?;
+    let minify = choice_in(options, "minify")?;
+    let ascii_only = choice_in(options, "ascii_only")?;
     Ok(CodegenOptions {
+        single_quote,
         minify,
+        ascii_only,
         ..CodegenOptions::default()
     })
 }

@@ -3,13 +3,13 @@ ghost use Rattle.std.specs.Prelude.{◌≡◌};
 ghost use Rattle.serde_json.specs.View.{view};
 ghost use Rattle.jsgen_tree.specs.declared.types.NodeType.TheVariants as types;
 ghost use Rattle.jsgen_tree.specs.Plain.{node_plain};
-ghost use Rattle.jsgen_tree.specs.Rows.{program_row, expression_statement_row, block_statement_row, if_statement_row, empty_statement_row, variable_declaration_row, variable_declarator_row, binding_identifier_row};
-ghost use Rattle.jsgen_tree.specs.Table.{program_fields, expression_statement_fields, block_statement_fields, if_statement_fields, empty_statement_fields, variable_declaration_fields, variable_declarator_fields, binding_identifier_fields};
+ghost use Rattle.jsgen_tree.specs.Rows.{program_row, directive_row, expression_statement_row, block_statement_row, if_statement_row, empty_statement_row, variable_declaration_row, variable_declarator_row, binding_identifier_row};
+ghost use Rattle.jsgen_tree.specs.Table.{program_fields, directive_fields, expression_statement_fields, block_statement_fields, if_statement_fields, empty_statement_fields, variable_declaration_fields, variable_declarator_fields, binding_identifier_fields};
 ghost use Rattle.jsgen_rows.specs.Reads.{Gives, read_node};
 ghost use Rattle.jsgen_rows.specs.Kept.{entries};
 
 use crate::fields::{
-    needed_binding_pattern, needed_expression, needed_statement, optional_expression,
+    directives, needed_binding_pattern, needed_expression, needed_statement, optional_expression,
     optional_statement, statements, variable_declarators,
 };
 use crate::kept::Kept;
@@ -18,8 +18,8 @@ use crate::words::{needed_declaration_kind, needed_source_kind};
 use crate::{At, InputFault};
 use jsgen_syntax::Span;
 use jsgen_tree::{
-    BindingIdentifier, BlockStatement, EmptyStatement, ExpressionStatement, IfStatement, Program,
-    VariableDeclaration, VariableDeclarator,
+    BindingIdentifier, BlockStatement, Directive, EmptyStatement, ExpressionStatement, IfStatement,
+    Program, VariableDeclaration, VariableDeclarator,
 };
 use serde_json::Value;
 use std::alloc::Global;
@@ -41,15 +41,32 @@ pub fn read_program(
     unread(At::of_row(number, 5), row, "typescript")?;
     unread(At::of_row(number, 6), row, "comments")?;
     unread(At::of_row(number, 7), row, "hashbang")?;
-    unread(At::of_row(number, 8), row, "directives")?;
+    let directives = directives(alloc, kept, At::of_row(number, 8), row, "directives")?;
     let body = statements(alloc, kept, At::of_row(number, 9), row, "body")?;
     let node = Program {
         span,
         source,
         kind,
+        directives,
         body,
     };
     Ok(Box::new(alloc, node)?)
+}
+
+#[tactic(auto, unfolding(crate::specs::Reads::read_node))]
+pub fn read_directive(
+    alloc: Global,
+    kept: &mut Vec<Kept>,
+    number: usize,
+    span: Span,
+    row: &Value,
+) -> Result<Box<Directive>, InputFault>
+    ensures { Gives (λ b. directive_row b.value) result (entries kept.new.items)
+        (read_node number types.Directive directive_fields span (view row.now) (entries kept.old.items)) }
+{
+    let _ = kept;
+    let directive = needed_text(alloc, At::of_row(number, 2), row, "directive")?;
+    Ok(Box::new(alloc, Directive { span, directive })?)
 }
 
 #[tactic(auto, unfolding(crate::specs::Reads::read_node))]

@@ -18,8 +18,9 @@ use crate::links::{
     read_static_member_expression, read_string_literal,
 };
 use crate::statements::{
-    read_binding_identifier, read_block_statement, read_empty_statement, read_expression_statement,
-    read_if_statement, read_program, read_variable_declaration, read_variable_declarator,
+    read_binding_identifier, read_block_statement, read_directive, read_empty_statement,
+    read_expression_statement, read_if_statement, read_program, read_variable_declaration,
+    read_variable_declarator,
 };
 use crate::values::{not_given, present, span_of, type_of};
 use crate::{At, InputFault};
@@ -41,6 +42,7 @@ fn read_typed(
 {
     match node_type {
         NodeType::Program => Ok(Row::Program(read_program(alloc, kept, number, span, row)?)),
+        NodeType::Directive => Ok(Row::Directive(read_directive(alloc, kept, number, span, row)?)),
         NodeType::ExpressionStatement => Ok(Row::ExpressionStatement(read_expression_statement(
             alloc, kept, number, span, row,
         )?)),

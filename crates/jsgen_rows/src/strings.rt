@@ -50,16 +50,10 @@ fn units_in(alloc: Global, at: At, value: &Value) -> Result<JsStr, InputFault>
     Ok(JsStr::from_units(alloc, units.as_slice())?)
 }
 
-/// So far a string holds the units from a space to `~` alone.
 #[tactic(auto, unfolding(crate::specs::Values::values_in))]
 pub fn needed_units(alloc: Global, at: At, row: &Value, name: &str) -> Result<JsStr, InputFault>
     ensures { Same (λ s. units_atom (js_units s) ∷ []) result (values_in at true units (field name.now (view row.now))) }
 {
     let value = needed_value(at, row, name)?;
-    let string = units_in(alloc, at, value)?;
-    if string.is_plain() {
-        Ok(string)
-    } else {
-        Err(InputFault::Wrong(at))
-    }
+    units_in(alloc, at, value)
 }

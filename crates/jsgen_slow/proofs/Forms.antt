@@ -20,12 +20,16 @@ use Rattle.jsgen_slow.specs.declared.form.Form.{Form}
 use Rattle.jsgen_slow.specs.declared.form.Form.TheViews.{out-Form, roll-Form, roll-out-Form}
 use Rattle.jsgen_slow.specs.declared.form.Form.TheOpen.{Form-F}
 use Rattle.jsgen_slow.specs.declared.form.Form.TheOpen as opened
-use Rattle.jsgen_slow.specs.declared.form.Form.TheVariants.{Program, ExpressionStatement, VariableDeclaration, VariableDeclarator, BindingIdentifier, IdentifierReference, NumericLiteral, StringLiteral, BinaryExpression, Chain, IdentifierName, StaticMemberExpression, ComputedMemberExpression, CallExpression, BlockStatement, IfStatement, EmptyStatement, rolls-Program, rolls-ExpressionStatement, rolls-VariableDeclaration, rolls-VariableDeclarator, rolls-BindingIdentifier, rolls-IdentifierReference, rolls-NumericLiteral, rolls-StringLiteral, rolls-BinaryExpression, rolls-Chain, rolls-IdentifierName, rolls-StaticMemberExpression, rolls-ComputedMemberExpression, rolls-CallExpression, rolls-BlockStatement, rolls-IfStatement, rolls-EmptyStatement}
+use Rattle.jsgen_slow.specs.declared.form.Form.TheVariants.{Program, Directive, ExpressionStatement, VariableDeclaration, VariableDeclarator, BindingIdentifier, IdentifierReference, NumericLiteral, StringLiteral, BinaryExpression, Chain, IdentifierName, StaticMemberExpression, ComputedMemberExpression, CallExpression, BlockStatement, IfStatement, EmptyStatement, rolls-Program, rolls-Directive, rolls-ExpressionStatement, rolls-VariableDeclaration, rolls-VariableDeclarator, rolls-BindingIdentifier, rolls-IdentifierReference, rolls-NumericLiteral, rolls-StringLiteral, rolls-BinaryExpression, rolls-Chain, rolls-IdentifierName, rolls-StaticMemberExpression, rolls-ComputedMemberExpression, rolls-CallExpression, rolls-BlockStatement, rolls-IfStatement, rolls-EmptyStatement}
 use Rattle.jsgen_slow.specs.declared.form.Form.TheFolds.{map-Form, fold-roll-Form, fold_out-Form}
 
-pub program : (body : Vec Form Global) → form_plain (Program body) ≡ tree.program (bare []) (forms_plain body.items)
+pub program : (directives body : Vec Form Global) → form_plain (Program directives body) ≡ tree.program (bare []) (forms_plain directives.items) (forms_plain body.items)
 unfolding form_plain
-program body = ap form_plain (sym (rolls-Program body)) ∙ fold-roll-Form Tree form_layer (opened.Program body)
+program directives body = ap form_plain (sym (rolls-Program directives body)) ∙ fold-roll-Form Tree form_layer (opened.Program directives body)
+
+pub directive : (value : JsStr) → form_plain (Directive value) ≡ tree.directive (bare (units (js_units value) ∷ []))
+unfolding form_plain
+directive value = ap form_plain (sym (rolls-Directive value)) ∙ fold-roll-Form Tree form_layer (opened.Directive value)
 
 pub expression_statement : (expression : Box Form Global) → form_plain (ExpressionStatement expression) ≡ tree.expression_statement (bare []) (form_plain expression.value)
 unfolding form_plain
@@ -93,7 +97,7 @@ pub empty_statement : form_plain EmptyStatement ≡ tree.empty_statement (bare [
 unfolding form_plain
 empty_statement = ap form_plain (sym rolls-EmptyStatement) ∙ fold-roll-Form Tree form_layer opened.EmptyStatement
 
-pub ruleset leaves = (binding_identifier, identifier_reference, numeric_literal, string_literal, identifier_name, empty_statement)
+pub ruleset leaves = (directive, binding_identifier, identifier_reference, numeric_literal, string_literal, identifier_name, empty_statement)
 
 -- ---- lists
 
@@ -112,7 +116,8 @@ joined_lists (f ∷ fs) gs = ap (more (form_plain f)) (joined_lists fs gs)
 -- ---- what is no chain
 
 layer_links : (o : LogicalOperator) (d : Form-F Form) → ((p : LogicalOperator) (v : Vec Form Global) → d ≡ opened.Chain p v → ⊥) → links o (form_layer (map-Form Form Tree form_plain d)) ≡ more (form_layer (map-Form Form Tree form_plain d)) no_trees
-layer_links o (opened.Program body) not = refl
+layer_links o (opened.Program directives body) not = refl
+layer_links o (opened.Directive value) not = refl
 layer_links o (opened.ExpressionStatement expression) not = refl
 layer_links o (opened.VariableDeclaration kind declarations) not = refl
 layer_links o (opened.VariableDeclarator id init) not = refl
@@ -139,7 +144,8 @@ other_links o f not =
 -- ---- what is no block, and what is no `if`
 
 layer_unbraced : (d : Form-F Form) → ((v : Vec Form Global) → d ≡ opened.BlockStatement v → ⊥) → unbraced (form_layer (map-Form Form Tree form_plain d)) ≡ form_layer (map-Form Form Tree form_plain d)
-layer_unbraced (opened.Program body) not = refl
+layer_unbraced (opened.Program directives body) not = refl
+layer_unbraced (opened.Directive value) not = refl
 layer_unbraced (opened.ExpressionStatement expression) not = refl
 layer_unbraced (opened.VariableDeclaration kind declarations) not = refl
 layer_unbraced (opened.VariableDeclarator id init) not = refl
@@ -164,7 +170,8 @@ other_unbraced f not =
     subst (λ t. unbraced t ≡ t) (sym layer) (layer_unbraced (out-Form f) (λ v is. not v (sym (roll-out-Form f) ∙ (ap roll-Form is ∙ rolls-BlockStatement v))))
 
 layer_ends : (d : Form-F Form) → ((t s : Box Form Global) (o : Option (Box Form Global)) → d ≡ opened.IfStatement t s o → ⊥) → ends_open (form_layer (map-Form Form Tree form_plain d)) ≡ false
-layer_ends (opened.Program body) not = refl
+layer_ends (opened.Program directives body) not = refl
+layer_ends (opened.Directive value) not = refl
 layer_ends (opened.ExpressionStatement expression) not = refl
 layer_ends (opened.VariableDeclaration kind declarations) not = refl
 layer_ends (opened.VariableDeclarator id init) not = refl

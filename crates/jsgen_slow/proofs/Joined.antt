@@ -3,6 +3,7 @@ use Rattle.std.proofs.Common.{◌≡◌, ℕ, Bool, true, false, ◌&&◌, List,
 use Rattle.std.proofs.lemmas.Bool.{both_ways, and_parts, and_from}
 use lib.Utf8.{encode}
 use Rattle.unicode_ident.proofs.Computing.{unicode_ident}
+use Rattle.jsgen_syntax.specs.Escapes.{word_value}
 use Rattle.jsgen_syntax.specs.Name.{is_reserved, is_strict_reserved}
 use Rattle.jsgen_syntax.specs.Strings.{string_value}
 use Rattle.jsgen_syntax.specs.declared.quote.Quote.TheVariants.{Double}
@@ -11,7 +12,7 @@ use Rattle.jsgen_syntax.specs.declared.operator.BinaryOperator.TheVariants as op
 use Rattle.jsgen_tree.specs.Tree.{Tree, Trees}
 use Rattle.jsgen_model.specs.Punctuator.{dot, comma, equal, star_star, and_and, or_or, nullish, semicolon, Round, Square, Brace}
 use Rattle.jsgen_model.specs.Tokens.{Tokens, done, piece, group, ◌⧺◌, Word, Quoted, Sign, longer_stands, AreTokensOf}
-use Rattle.jsgen_model.specs.Grammar.{Allowed, Level, operator_piece, ReadsExpression, ReadsArguments, ReadsArgumentList, ReadsBinding, ReadsDeclarator, ReadsDeclarators, ReadsDeclaration, ReadsUnended, ReadsStatement, ReadsStatements, ReadsModule, a_module}
+use Rattle.jsgen_model.specs.Grammar.{Allowed, Level, operator_piece, ReadsExpression, ReadsArguments, ReadsArgumentList, ReadsBinding, ReadsDeclarator, ReadsDeclarators, ReadsDeclaration, ReadsUnended, ReadsStatement, ReadsStatements, ReadsDirectives, ReadsModule, a_module}
 use Rattle.jsgen_model.specs.Grammar as grammar
 use Rattle.jsgen_lexing.proofs.OneList.{one_token_list}
 use Rattle.jsgen_slow.specs.Samples.{IsNotRead}
@@ -87,8 +88,8 @@ expression_joined (grammar.a_called_call r) = expression_joined r
 expression_joined (grammar.a_coalesce r) = expression_joined r
 expression_joined (grammar.a_coalesced_head r) = expression_joined r
 expression_joined (grammar.a_bit_or_head r) = expression_joined r
-expression_joined (grammar.a_named_member m n e r) = made _ _ (piece m (Sign dot) (piece n (Word _) done)) e (expression_joined r) refl
-expression_joined (grammar.a_named_member_of_call m n e r) = made _ _ (piece m (Sign dot) (piece n (Word _) done)) e (expression_joined r) refl
+expression_joined (grammar.a_named_member w m n e v r) = made _ _ (piece m (Sign dot) (piece n (Word _) done)) e (expression_joined r) refl
+expression_joined (grammar.a_named_member_of_call w m n e v r) = made _ _ (piece m (Sign dot) (piece n (Word _) done)) e (expression_joined r) refl
 expression_joined (grammar.a_computed_member {inside = i} m e r s) = made _ _ (group m Square i done) e (expression_joined r) (and_from (starts_well i) true (expression_starts s) refl)
 expression_joined (grammar.a_computed_member_of_call {inside = i} m e r s) = made _ _ (group m Square i done) e (expression_joined r) (and_from (starts_well i) true (expression_starts s) refl)
 expression_joined (grammar.with_arguments {inside = i} m e r s) = made _ _ (group m Round i done) e (expression_joined r) (and_from (may_be_given i) true (arguments_start s) refl)
@@ -97,13 +98,13 @@ expression_joined (grammar.a_power m e l r) = made _ _ (piece m (Sign star_star)
 expression_joined (grammar.a_conjunction m e l r) = made _ _ (piece m (Sign and_and) _) e (expression_joined l) (expression_joined r)
 expression_joined (grammar.a_disjunction m e l r) = made _ _ (piece m (Sign or_or) _) e (expression_joined l) (expression_joined r)
 expression_joined (grammar.a_coalescing m e l r) = made _ _ (piece m (Sign nullish) _) e (expression_joined l) (expression_joined r)
-expression_joined (grammar.a_reference h) = refl
+expression_joined (grammar.a_reference e h) = refl
 expression_joined grammar.a_number = refl
 expression_joined (grammar.a_string e) = refl
 expression_joined (grammar.in_parentheses {ts = ts} r) = and_from (may_be_given ts) true (given_from ts (expression_starts r)) refl
 
 binding_joined : {c : Allowed} {ts : Tokens} {t : Tree} → ReadsBinding c ts t → is_joined ts ≡ true
-binding_joined (grammar.a_bound_name h) = refl
+binding_joined (grammar.a_bound_name e h) = refl
 
 declarator_joined : {c : Allowed} {ts : Tokens} {t : Tree} → ReadsDeclarator c ts t → is_joined ts ≡ true
 declarator_joined (grammar.without_value r) = binding_joined r
@@ -133,8 +134,12 @@ statements_joined grammar.no_statement = refl
 statements_joined (grammar.last_statement r) = statement_joined r
 statements_joined (grammar.first_statement {ts = ts} {a = a} {b = b} e r s) = made ts a b e (statement_joined r) (statements_joined s)
 
+directives_joined : {ts : Tokens} {ds : Trees} → ReadsDirectives ts ds → is_joined ts ≡ true
+directives_joined grammar.no_directive = refl
+directives_joined (grammar.a_directive q e d) = directives_joined d
+
 module_joined : {ts : Tokens} {t : Tree} → ReadsModule ts t → is_joined ts ≡ true
-module_joined (a_module h r) = statements_joined r
+module_joined (a_module {a = a} {b = b} e d h r) = made _ a b e (directives_joined d) (statements_joined r)
 
 refused : (source : List ℕ) (ts : Tokens) → AreTokensOf source ts → is_joined ts ≡ false → IsNotRead source
 refused source ts h f us t g r = both_ways (is_joined ts) f (subst (λ x. is_joined x ≡ true) (one_token_list source us ts g h) (module_joined r))
@@ -142,17 +147,17 @@ refused source ts h f us t g r = both_ways (is_joined ts) f (subst (λ x. is_joi
 -- ---- texts
 
 pub member_by_string : IsNotRead (codes "a.\"b\";")
-unfolding unicode_ident longer_stands is_reserved is_strict_reserved encode string_value
+unfolding unicode_ident longer_stands word_value is_reserved is_strict_reserved encode string_value
 member_by_string = refused (codes "a.\"b\";") (word (codes "a") (sign dot (piece false (Quoted Double (codes "b")) (sign semicolon done)))) ([], codes ".\"b\";", refl, refl, refl, refl, refl, ([], codes "\"b\";", refl, refl, refl, refl, refl, ([], codes ";", refl, refl, refl, refl, refl, ([], [], refl, refl, refl, refl, refl, refl)))) refl
 
 pub no_element : IsNotRead (codes "a[];")
-unfolding unicode_ident longer_stands is_reserved is_strict_reserved encode
+unfolding unicode_ident longer_stands word_value is_reserved is_strict_reserved encode
 no_element = refused (codes "a[];") (word (codes "a") (group false Square done (sign semicolon done))) ([], codes "[];", refl, refl, refl, refl, refl, ([], [], codes ";", refl, refl, refl, refl, ([], [], refl, refl, refl, refl, refl, refl))) refl
 
 pub no_name : IsNotRead (codes "a.;")
-unfolding unicode_ident longer_stands is_reserved is_strict_reserved encode
+unfolding unicode_ident longer_stands word_value is_reserved is_strict_reserved encode
 no_name = refused (codes "a.;") (word (codes "a") (sign dot (sign semicolon done))) ([], codes ".;", refl, refl, refl, refl, refl, ([], codes ";", refl, refl, refl, refl, refl, ([], [], refl, refl, refl, refl, refl, refl))) refl
 
 pub no_argument : IsNotRead (codes "a(,);")
-unfolding unicode_ident longer_stands is_reserved is_strict_reserved encode
+unfolding unicode_ident longer_stands word_value is_reserved is_strict_reserved encode
 no_argument = refused (codes "a(,);") (word (codes "a") (group false Round (sign comma done) (sign semicolon done))) ([], codes "(,);", refl, refl, refl, refl, refl, ([], codes ",", codes ";", refl, refl, refl, ([], [], refl, refl, refl, refl, refl, refl), ([], [], refl, refl, refl, refl, refl, refl))) refl

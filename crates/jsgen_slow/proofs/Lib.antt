@@ -1,3 +1,4 @@
+pub mod Words
 pub mod Spans
 pub mod Signs
 pub mod Pieces

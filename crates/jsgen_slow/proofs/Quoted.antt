@@ -3,18 +3,18 @@ use Rattle.std.proofs.Common.{◌≡◌, ℕ, suc, ◌+◌, Bool, true, false, n
 use Rattle.std.proofs.Math.Numerals.{one-add}
 use Rattle.std.proofs.lemmas.Bool.{both_ways, and_parts, eqb-true}
 use Rattle.std.specs.Char.{is_ascii_digit}
-use Rattle.jsgen_syntax.specs.Name.{starts_name}
+use Rattle.std.specs.Option.{MatchOption}
+use Rattle.jsgen_syntax.specs.Escapes as escapes
 use Rattle.jsgen_syntax.specs.Strings.{quote_char, string_value}
 use Rattle.jsgen_syntax.specs.declared.quote.Quote.{Quote}
 use Rattle.jsgen_syntax.specs.declared.quote.Quote.TheVariants as quotes
 use Rattle.jsgen_syntax.proofs.Strings.{closed_after, valued_closed}
 use Rattle.jsgen_model.specs.Tokens.{Word, Number, Quoted, Sign, stands}
-use Rattle.jsgen_lexing.proofs.Characters.{no_word_no_start}
 use Rattle.jsgen_lexing.proofs.Last.{clear_quoted}
 use Rattle.jsgen_lexing.proofs.OneList.{begins, begins_sign, starts_piece}
-use Rattle.jsgen_slow.specs.Steps.{StandsAt, HasNoPiece, HasNoSign, quote_at, count_before}
-use Rattle.jsgen_slow.specs.Steps as steps
-use Rattle.jsgen_slow.proofs.Pieces.{begins_as, no_quote_digit}
+use Rattle.jsgen_slow.specs.Steps.{starts_word, StandsAt, HasNoPiece, HasNoSign, quote_at, count_before}
+use Rattle.jsgen_slow.proofs.Words.{word_front, starts_no_quote}
+use Rattle.jsgen_slow.proofs.Pieces.{begins_as, word_begins, front_itself, no_quote_digit}
 
 -- ---- quotes
 
@@ -98,11 +98,6 @@ string_stands q text w n e f h =
       ends = clear_quoted q w (drop 1 (drop n text));
     }
 
-starts_no_quote : (q : Quote) → starts_name (quote_char q) ≡ false
-starts_no_quote quotes.Single = no_word_no_start 39 refl
-starts_no_quote quotes.Double = no_word_no_start 34 refl
-starts_no_quote quotes.Backtick = no_word_no_start 96 refl
-
 no_quote_sign : (q : Quote) → begins_sign (quote_char q) ≡ false
 no_quote_sign quotes.Single = refl
 no_quote_sign quotes.Double = refl
@@ -114,7 +109,7 @@ NoString q text = (w rest : List ℕ) → is_some (string_value q w) ≡ true �
 
 no_quoted : (q : Quote) (text : List ℕ) → NoString q text → HasNoPiece (quote_char q ∷ text)
 unfolding starts_piece NoString
-no_quoted q text none (Word w) r s = let b = begins (Word w) s.spelled in both_ways (starts_name (quote_char q)) (starts_no_quote q) (begins_as starts_name (Word w) _ r s b ∙ b.starts)
+no_quoted q text none (Word w) r s = let b = word_front w s.spelled in both_ways (starts_word (quote_char q)) (starts_no_quote q) (word_begins starts_word w _ r s b ∙ b.starts)
 no_quoted q text none (Number w) r s = let b = begins (Number w) s.spelled in both_ways (is_ascii_digit (quote_char q)) (no_quote_digit q) (begins_as is_ascii_digit (Number w) _ r s b ∙ b.starts)
 no_quoted q text none (Sign p) r s = let b = begins (Sign p) s.spelled in both_ways (begins_sign (quote_char q)) (no_quote_sign q) (begins_as begins_sign (Sign p) _ r s b ∙ b.starts)
 no_quoted q text none (Quoted p w) r s =
@@ -135,10 +130,6 @@ pub no_end : (q : Quote) (text : List ℕ) → count_before q false text ≡ Non
 unfolding NoString
 no_end q text e = no_quoted q text (λ w rest h f. let k : None ≡ Some (length w) = sym e ∙ counted q text w rest h f in absurd (cc))
 
-front_itself : (w x : List ℕ) → take (length w) (w ++ x) ≡ w
-front_itself [] x = refl
-front_itself (c ∷ w) x = ap (λ t. c ∷ t) (front_itself w x)
-
 pub no_value : (q : Quote) (text w : List ℕ) (n : ℕ) → count_before q false text ≡ Some n → w ≡ take n text → string_value q w ≡ None → HasNoPiece (quote_char q ∷ text)
 unfolding NoString
 no_value q text w n e f none = no_quoted q text (λ v rest h g.
@@ -149,9 +140,13 @@ no_value q text w n e f none = no_quoted q text (λ v rest h g.
 
 -- ---- no token
 
-pub no_piece : (text : List ℕ) → steps.begins starts_name text ≡ false → steps.begins is_ascii_digit text ≡ false → quote_at text ≡ None → HasNoSign text → HasNoPiece text
+no_piece : (text : List ℕ) → escapes.begins starts_word text ≡ false → escapes.begins is_ascii_digit text ≡ false → quote_at text ≡ None → HasNoSign text → HasNoPiece text
 unfolding starts_piece
-no_piece text f g h none (Word w) r s = let b = begins (Word w) s.spelled in both_ways (steps.begins starts_name text) f (begins_as starts_name (Word w) text r s b ∙ b.starts)
-no_piece text f g h none (Number w) r s = let b = begins (Number w) s.spelled in both_ways (steps.begins is_ascii_digit text) g (begins_as is_ascii_digit (Number w) text r s b ∙ b.starts)
+no_piece text f g h none (Word w) r s = let b = word_front w s.spelled in both_ways (escapes.begins starts_word text) f (word_begins starts_word w text r s b ∙ b.starts)
+no_piece text f g h none (Number w) r s = let b = begins (Number w) s.spelled in both_ways (escapes.begins is_ascii_digit text) g (begins_as is_ascii_digit (Number w) text r s b ∙ b.starts)
 no_piece text f g h none (Quoted q w) r s = let k : None ≡ Some q = sym h ∙ (ap quote_at s.text_is ∙ quote_found q ((w ++ quote_char q ∷ []) ++ r)) in absurd (cc)
 no_piece text f g h none (Sign p) r s = both_ways (stands p text) (none p) (subst (λ t. stands p t ≡ true) (sym s.text_is) (and_parts _ _ s.ends).0)
+
+pub sign_or_none : {A : Type 0} (o : Option A) (P : A → Type 0) (text : List ℕ) → escapes.begins starts_word text ≡ false → escapes.begins is_ascii_digit text ≡ false → quote_at text ≡ None → MatchOption o (HasNoSign text) P → MatchOption o (HasNoPiece text) P
+sign_or_none None P text f g h none = no_piece text f g h none
+sign_or_none (Some x) P text f g h s = s

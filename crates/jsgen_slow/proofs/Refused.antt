@@ -2,11 +2,13 @@
 use Rattle.std.proofs.Common.{◌≡◌, ℕ, Bool, true, false, ◌&&◌, ◌||◌, ◌==◌, List, [], ◌++◌, codes, refl, sym, ap, ◌∙◌, subst}
 use Rattle.std.specs.Prelude.{not}
 use Rattle.std.specs.List.{list_any}
+use Rattle.std.specs.Option.{option_map_or}
 use Rattle.std.specs.Str.{bytes_eq}
 use Rattle.std.proofs.lemmas.Slice.Eq.{bytes_eq-Decides}
 use Rattle.std.proofs.lemmas.Bool.{both_ways, and_parts, and_from, or_left, or_right}
 use lib.Utf8.{encode}
 use Rattle.unicode_ident.proofs.Computing.{unicode_ident}
+use Rattle.jsgen_syntax.specs.Escapes.{word_value}
 use Rattle.jsgen_syntax.specs.Name.{is_reserved, is_strict_reserved}
 use Rattle.jsgen_syntax.specs.Strings.{string_value}
 use Rattle.jsgen_syntax.specs.declared.quote.Quote.TheVariants.{Single, Double}
@@ -16,7 +18,7 @@ use Rattle.jsgen_tree.specs.Tree.{Tree, Trees}
 use Rattle.jsgen_model.specs.Punctuator.{dot, plus, plus_plus, minus_minus, star_star, and_and, or_or, nullish, semicolon, Bracket, Round, Square, Brace, opening, closing}
 use Rattle.jsgen_model.specs.Tokens.{Tokens, done, piece, group, ◌⧺◌, Piece, Word, Number, Quoted, Sign, piece_text, is_blank, longer_stands, AreTokensOf}
 use Rattle.jsgen_model.specs.Valid.{is_free_name, is_lexical}
-use Rattle.jsgen_model.specs.Grammar.{Allowed, Level, operator_piece, ReadsExpression, ReadsBinding, ReadsDeclarator, ReadsDeclarators, ReadsDeclaration, ReadsUnended, ReadsStatement, ReadsStatements, ReadsModule, a_module, starts_with_directive}
+use Rattle.jsgen_model.specs.Grammar.{Allowed, Level, operator_piece, ReadsExpression, ReadsBinding, ReadsDeclarator, ReadsDeclarators, ReadsDeclaration, ReadsUnended, ReadsStatement, ReadsStatements, ReadsDirectives, ReadsModule, a_module}
 use Rattle.jsgen_model.specs.Grammar as grammar
 use Rattle.jsgen_lexing.proofs.Characters.{any_append}
 use Rattle.jsgen_lexing.proofs.OneList.{one_token_list, one_span, piece_stops, piece_or_group, opening_char}
@@ -78,9 +80,13 @@ abbrev pub begins_with_name : Tokens → Bool
 begins_with_name (piece m (Word w) ts) = true
 begins_with_name ts = false
 
+-- the word may be a reference
+abbrev is_free_word : List ℕ → Bool
+is_free_word w = option_map_or is_free_name (word_value w) false
+
 -- an operand that a sign, a bracket or nothing follows
 abbrev pub starts_well : Tokens → Bool
-starts_well (piece m (Word w) ts) = is_free_name w && goes_on ts
+starts_well (piece m (Word w) ts) = is_free_word w && goes_on ts
 starts_well (piece m (Number w) ts) = goes_on ts
 starts_well (piece m (Quoted q w) ts) = goes_on ts
 starts_well (group m Round inside ts) = goes_on ts
@@ -98,7 +104,7 @@ goes_to_body ts = false
 
 -- a word before an operand's end, `const` and a name, or `if` and what it needs
 abbrev word_begins_well : List ℕ → Tokens → Bool
-word_begins_well w ts = (is_free_name w && goes_on ts) || ((bytes_eq w (codes "const") && begins_with_name ts) || (bytes_eq w (codes "if") && goes_to_body ts))
+word_begins_well w ts = (is_free_word w && goes_on ts) || ((bytes_eq w (codes "const") && begins_with_name ts) || (bytes_eq w (codes "if") && goes_to_body ts))
 
 -- a statement begins so: with an operand, a declaration, `if`, a semicolon or a brace group
 abbrev begins_well : Tokens → Bool
@@ -124,7 +130,7 @@ named_further (group n d inside ts) b h = absurd (both_ways false refl h)
 
 starts_further : (ts b : Tokens) → goes_on b ≡ true → starts_well ts ≡ true → starts_well (ts ⧺ b) ≡ true
 starts_further done b j h = absurd (both_ways false refl h)
-starts_further (piece n (Word w) ts) b j h = let k = and_parts (is_free_name w) (goes_on ts) h in and_from _ _ k.0 (goes_further ts b j k.1)
+starts_further (piece n (Word w) ts) b j h = let k = and_parts (is_free_word w) (goes_on ts) h in and_from _ _ k.0 (goes_further ts b j k.1)
 starts_further (piece n (Number w) ts) b j h = goes_further ts b j h
 starts_further (piece n (Quoted q w) ts) b j h = goes_further ts b j h
 starts_further (piece n (Sign r) ts) b j h = absurd (both_ways false refl h)
@@ -184,10 +190,10 @@ expression_starts (grammar.a_member r) = expression_starts r
 expression_starts (grammar.a_primary r) = expression_starts r
 expression_starts (grammar.a_called_member r) = expression_starts r
 expression_starts (grammar.a_called_call r) = expression_starts r
-expression_starts (grammar.a_named_member m n e r) = joined _ _ (piece m (Sign dot) _) refl e (expression_starts r)
+expression_starts (grammar.a_named_member w m n e v r) = joined _ _ (piece m (Sign dot) _) refl e (expression_starts r)
 expression_starts (grammar.a_computed_member m e r s) = joined _ _ (group m Square _ done) refl e (expression_starts r)
 expression_starts (grammar.with_arguments m e r s) = joined _ _ (group m Round _ done) refl e (expression_starts r)
-expression_starts (grammar.a_named_member_of_call m n e r) = joined _ _ (piece m (Sign dot) _) refl e (expression_starts r)
+expression_starts (grammar.a_named_member_of_call w m n e v r) = joined _ _ (piece m (Sign dot) _) refl e (expression_starts r)
 expression_starts (grammar.a_computed_member_of_call m e r s) = joined _ _ (group m Square _ done) refl e (expression_starts r)
 expression_starts (grammar.an_operation o m p q e l r) = joined _ _ (piece m (operator_piece o) _) (operator_joins o) e (expression_starts l)
 expression_starts (grammar.a_power m e l r) = joined _ _ (piece m (Sign star_star) _) refl e (expression_starts l)
@@ -197,13 +203,13 @@ expression_starts (grammar.a_coalesce r) = expression_starts r
 expression_starts (grammar.a_coalescing m e l r) = joined _ _ (piece m (Sign nullish) _) refl e (expression_starts l)
 expression_starts (grammar.a_coalesced_head r) = expression_starts r
 expression_starts (grammar.a_bit_or_head r) = expression_starts r
-expression_starts (grammar.a_reference {w = w} h) = and_from (is_free_name w) true h refl
+expression_starts (grammar.a_reference {w = w} e h) = and_from (is_free_word w) true (ap (λ o. option_map_or is_free_name o false) e ∙ h) refl
 expression_starts grammar.a_number = refl
 expression_starts (grammar.a_string e) = refl
 expression_starts (grammar.in_parentheses r) = refl
 
 binding_starts : {c : Allowed} {ts : Tokens} {t : Tree} → ReadsBinding c ts t → begins_with_name ts ≡ true
-binding_starts (grammar.a_bound_name h) = refl
+binding_starts (grammar.a_bound_name e h) = refl
 
 declarator_starts : {c : Allowed} {ts : Tokens} {t : Tree} → ReadsDeclarator c ts t → begins_with_name ts ≡ true
 declarator_starts (grammar.without_value r) = binding_starts r
@@ -234,17 +240,17 @@ unended_begins (grammar.an_expression {ts = ts} h r) b j = operand_begins (ts �
 
 -- what is no declaration begins with no `const`
 
-const_is_reserved : is_free_name (codes "const") ≡ false
-unfolding unicode_ident is_reserved is_strict_reserved encode
+const_is_reserved : is_free_word (codes "const") ≡ false
+unfolding unicode_ident word_value is_reserved is_strict_reserved encode
 const_is_reserved = refl
 
-no_free_name : (w : List ℕ) (x : Bool) → bytes_eq w (codes "const") ≡ x → is_free_name w ≡ true → x ≡ false
-no_free_name w true e h = absurd (both_ways (is_free_name (codes "const")) const_is_reserved (subst (λ v. is_free_name v ≡ true) ((bytes_eq-Decides w (codes "const")).0 e) h))
+no_free_name : (w : List ℕ) (x : Bool) → bytes_eq w (codes "const") ≡ x → is_free_word w ≡ true → x ≡ false
+no_free_name w true e h = absurd (both_ways (is_free_word (codes "const")) const_is_reserved (subst (λ v. is_free_word v ≡ true) ((bytes_eq-Decides w (codes "const")).0 e) h))
 no_free_name w false e h = refl
 
 operand_no_const : (ts b : Tokens) → starts_well ts ≡ true → begins_with_const (ts ⧺ b) ≡ false
 operand_no_const done b h = absurd (both_ways false refl h)
-operand_no_const (piece m (Word w) ts) b h = no_free_name w (bytes_eq w (codes "const")) refl (and_parts (is_free_name w) (goes_on ts) h).0
+operand_no_const (piece m (Word w) ts) b h = no_free_name w (bytes_eq w (codes "const")) refl (and_parts (is_free_word w) (goes_on ts) h).0
 operand_no_const (piece m (Number w) ts) b h = refl
 operand_no_const (piece m (Quoted q w) ts) b h = refl
 operand_no_const (piece m (Sign r) ts) b h = refl
@@ -319,8 +325,12 @@ statements_sound grammar.no_statement = refl
 statements_sound (grammar.last_statement {ts = ts} r) = subst (λ x. is_sound x ≡ true) (end_nothing ts) (statement_sound ts r done refl)
 statements_sound (grammar.first_statement {a = a} {b = b} e r s) = subst (λ x. is_sound x ≡ true) (sym e) (statement_sound a r b (sound_ends b (statements_sound s)))
 
+directives_sound : {a : Tokens} {ds : Trees} → ReadsDirectives a ds → (b : Tokens) → is_sound b ≡ true → is_sound (a ⧺ b) ≡ true
+directives_sound grammar.no_directive b h = h
+directives_sound (grammar.a_directive {ts = ts} q e d) b h = sound_ends (ts ⧺ b) (directives_sound d b h)
+
 module_sound : {ts : Tokens} {t : Tree} → ReadsModule ts t → is_sound ts ≡ true
-module_sound (a_module h r) = statements_sound r
+module_sound (a_module {b = b} e d h r) = subst (λ x. is_sound x ≡ true) (sym e) (directives_sound d b (statements_sound r))
 
 refused : (source : List ℕ) (ts : Tokens) → AreTokensOf source ts → is_sound ts ≡ false → IsNotRead source
 refused source ts h f us t g r = both_ways (is_sound ts) f (subst (λ x. is_sound x ≡ true) (one_token_list source us ts g h) (module_sound r))
@@ -328,68 +338,60 @@ refused source ts h f us t g r = both_ways (is_sound ts) f (subst (λ x. is_soun
 -- ---- texts
 
 pub two_names : IsNotRead (codes "a b")
-unfolding unicode_ident longer_stands is_reserved is_strict_reserved encode
+unfolding unicode_ident longer_stands word_value is_reserved is_strict_reserved encode
 two_names = refused (codes "a b") (word (codes "a") (word (codes "b") done)) ([], codes " b", refl, refl, refl, refl, refl, (codes " ", [], refl, refl, refl, refl, refl, refl)) refl
 
 pub two_numbers : IsNotRead (codes "1 2;")
-unfolding unicode_ident longer_stands
+unfolding unicode_ident longer_stands word_value
 two_numbers = refused (codes "1 2;") (piece false (Number (codes "1")) (piece false (Number (codes "2")) (sign semicolon done))) ([], codes " 2;", refl, refl, refl, refl, refl, (codes " ", codes ";", refl, refl, refl, refl, refl, ([], [], refl, refl, refl, refl, refl, refl))) refl
 
 pub no_right_operand : IsNotRead (codes "a +")
-unfolding unicode_ident longer_stands is_reserved is_strict_reserved encode
+unfolding unicode_ident longer_stands word_value is_reserved is_strict_reserved encode
 no_right_operand = refused (codes "a +") (word (codes "a") (sign plus done)) ([], codes " +", refl, refl, refl, refl, refl, (codes " ", [], refl, refl, refl, refl, refl, refl)) refl
 
 pub increment_between : IsNotRead (codes "a ++ b;")
-unfolding unicode_ident longer_stands is_reserved is_strict_reserved encode
+unfolding unicode_ident longer_stands word_value is_reserved is_strict_reserved encode
 increment_between = refused (codes "a ++ b;") (word (codes "a") (sign plus_plus (word (codes "b") (sign semicolon done)))) ([], codes " ++ b;", refl, refl, refl, refl, refl, (codes " ", codes " b;", refl, refl, refl, refl, refl, (codes " ", codes ";", refl, refl, refl, refl, refl, ([], [], refl, refl, refl, refl, refl, refl)))) refl
 
 pub string_behind_name : IsNotRead (codes "a'b';")
-unfolding unicode_ident longer_stands is_reserved is_strict_reserved encode string_value
+unfolding unicode_ident longer_stands word_value is_reserved is_strict_reserved encode string_value
 string_behind_name = refused (codes "a'b';") (word (codes "a") (piece false (Quoted Single (codes "b")) (sign semicolon done))) ([], codes "'b';", refl, refl, refl, refl, refl, ([], codes ";", refl, refl, refl, refl, refl, ([], [], refl, refl, refl, refl, refl, refl))) refl
 
 pub no_binding : IsNotRead (codes "const;")
-unfolding unicode_ident longer_stands is_reserved is_strict_reserved encode
+unfolding unicode_ident longer_stands word_value is_reserved is_strict_reserved encode
 no_binding = refused (codes "const;") (word (codes "const") (sign semicolon done)) ([], codes ";", refl, refl, refl, refl, refl, ([], [], refl, refl, refl, refl, refl, refl)) refl
 
 pub reserved_word : IsNotRead (codes "if;")
-unfolding unicode_ident longer_stands is_reserved is_strict_reserved encode
+unfolding unicode_ident longer_stands word_value is_reserved is_strict_reserved encode
 reserved_word = refused (codes "if;") (word (codes "if") (sign semicolon done)) ([], codes ";", refl, refl, refl, refl, refl, ([], [], refl, refl, refl, refl, refl, refl)) refl
 
+pub escaped_word : IsNotRead (codes "i\\u0066;")
+unfolding unicode_ident longer_stands word_value is_reserved is_strict_reserved encode
+escaped_word = refused (codes "i\\u0066;") (word (codes "i\\u0066") (sign semicolon done)) ([], codes ";", refl, refl, refl, refl, refl, ([], [], refl, refl, refl, refl, refl, refl)) refl
+
+pub unended_directive : IsNotRead (codes "\"a\"")
+unfolding unicode_ident longer_stands word_value string_value
+unended_directive = refused (codes "\"a\"") (piece false (Quoted Double (codes "a")) done) ([], [], refl, refl, refl, refl, refl, refl) refl
+
 pub unended_name : IsNotRead (codes "a")
-unfolding unicode_ident longer_stands is_reserved is_strict_reserved encode
+unfolding unicode_ident longer_stands word_value is_reserved is_strict_reserved encode
 unended_name = refused (codes "a") (word (codes "a") done) ([], [], refl, refl, refl, refl, refl, refl) refl
 
 pub unended_declaration : IsNotRead (codes "const a")
-unfolding unicode_ident longer_stands is_reserved is_strict_reserved encode
+unfolding unicode_ident longer_stands word_value is_reserved is_strict_reserved encode
 unended_declaration = refused (codes "const a") (word (codes "const") (word (codes "a") done)) ([], codes " a", refl, refl, refl, refl, refl, (codes " ", [], refl, refl, refl, refl, refl, refl)) refl
 
 pub declaration_behind_if : IsNotRead (codes "if(a)const b;")
-unfolding unicode_ident longer_stands is_reserved is_strict_reserved encode
+unfolding unicode_ident longer_stands word_value is_reserved is_strict_reserved encode
 declaration_behind_if = refused (codes "if(a)const b;") (word (codes "if") (group false Round (word (codes "a") done) (word (codes "const") (word (codes "b") (sign semicolon done))))) ([], codes "(a)const b;", refl, refl, refl, refl, refl, ([], codes "a", codes "const b;", refl, refl, refl, ([], [], refl, refl, refl, refl, refl, refl), ([], codes " b;", refl, refl, refl, refl, refl, (codes " ", codes ";", refl, refl, refl, refl, refl, ([], [], refl, refl, refl, refl, refl, refl))))) refl
 
 pub else_alone : IsNotRead (codes "else;")
-unfolding unicode_ident longer_stands is_reserved is_strict_reserved encode
+unfolding unicode_ident longer_stands word_value is_reserved is_strict_reserved encode
 else_alone = refused (codes "else;") (word (codes "else") (sign semicolon done)) ([], codes ";", refl, refl, refl, refl, refl, ([], [], refl, refl, refl, refl, refl, refl)) refl
 
 pub no_consequent : IsNotRead (codes "if(a)")
-unfolding unicode_ident longer_stands is_reserved is_strict_reserved encode
+unfolding unicode_ident longer_stands word_value is_reserved is_strict_reserved encode
 no_consequent = refused (codes "if(a)") (word (codes "if") (group false Round (word (codes "a") done) done)) ([], codes "(a)", refl, refl, refl, refl, refl, ([], codes "a", [], refl, refl, refl, ([], [], refl, refl, refl, refl, refl, refl), refl)) refl
-
--- ---- directives
-
-module_begins : {ts : Tokens} {t : Tree} → ReadsModule ts t → starts_with_directive ts ≡ false
-module_begins (a_module h r) = h
-
-no_directive : (source : List ℕ) (ts : Tokens) → AreTokensOf source ts → starts_with_directive ts ≡ true → IsNotRead source
-no_directive source ts h f us t g r = both_ways (starts_with_directive us) (module_begins r) (subst (λ x. starts_with_directive x ≡ true) (one_token_list source ts us h g) f)
-
-pub directive : IsNotRead (codes "\"a\";")
-unfolding unicode_ident longer_stands string_value
-directive = no_directive (codes "\"a\";") (piece false (Quoted Double (codes "a")) (sign semicolon done)) ([], codes ";", refl, refl, refl, refl, refl, ([], [], refl, refl, refl, refl, refl, refl)) refl
-
-pub use_strict : IsNotRead (codes "'use strict';a;")
-unfolding unicode_ident longer_stands string_value
-use_strict = no_directive (codes "'use strict';a;") (piece false (Quoted Single (codes "use strict")) (sign semicolon (word (codes "a") (sign semicolon done)))) ([], codes ";a;", refl, refl, refl, refl, refl, ([], codes "a;", refl, refl, refl, refl, refl, ([], codes ";", refl, refl, refl, refl, refl, ([], [], refl, refl, refl, refl, refl, refl)))) refl
 
 -- ---- a bracket that isn't closed
 

@@ -14,7 +14,8 @@ use Rattle.jsgen_slow.specs.declared.form.Form.TheFolds.{fold-Form}
 
 -- one layer, whose children are trees already
 abbrev pub form_layer : Form-F Tree → Tree
-form_layer (forms.Program body) = tree.program (bare []) (trees body.items)
+form_layer (forms.Program directives body) = tree.program (bare []) (trees directives.items) (trees body.items)
+form_layer (forms.Directive value) = tree.directive (bare (units (js_units value) ∷ []))
 form_layer (forms.ExpressionStatement expression) = tree.expression_statement (bare []) expression.value
 form_layer (forms.VariableDeclaration kind declarations) = tree.variable_declaration (bare (declaration_kind kind ∷ [])) (trees declarations.items)
 form_layer (forms.VariableDeclarator id init) = tree.variable_declarator (bare []) id.value (optional (option_map (λ b. b.value) init))

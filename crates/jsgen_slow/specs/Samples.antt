@@ -20,7 +20,10 @@ IsNotRead source = (ts : Tokens) (t : Tree) → AreTokensOf source ts → ReadsM
 -- ---- trees
 
 abbrev pub module_of : Trees → Tree
-module_of statements = tree.program (bare []) statements
+module_of statements = tree.program (bare []) no_trees statements
+
+abbrev pub directed : List ℕ → Trees → Tree
+directed value statements = tree.program (bare []) (more (tree.directive (bare (units value ∷ []))) no_trees) statements
 
 abbrev pub a : Tree
 a = tree.identifier_reference (named (codes "a"))
@@ -107,6 +110,12 @@ pub record GrammarSamples : Type 0 where
   pub string : IsRead (codes "(\"a\");") (module_of (more (statement_of (in_parentheses (string_of (codes "a")))) no_trees))
   -- a template may begin a program, since it is no directive (11.2.1), and an escape is read
   pub template : IsRead (codes "`\\n`;") (module_of (more (statement_of (string_of (10 ∷ []))) no_trees))
+  pub template_statement : IsRead (codes "`a`;") (module_of (more (statement_of (string_of (codes "a"))) no_trees))
+  -- a string in other quotes that begins a program is a directive (11.2.1)
+  pub directive : IsRead (codes "\"a\";") (directed (codes "a") no_trees)
+  pub use_strict : IsRead (codes "'use strict';a;") (directed (codes "use strict") (more (statement_of a) no_trees))
+  -- an escape in a name is its character (12.7)
+  pub escaped_name : IsRead (codes "\\u0061;") (module_of (more (statement_of a) no_trees))
   pub semicolon_alone : IsRead (codes ";") (module_of (more empty no_trees))
   -- before a closing brace the semicolon may lack (12.10)
   pub block : IsRead (codes "{a;b}") (module_of (more (block_of (more (statement_of a) (more (statement_of b) no_trees))) no_trees))
@@ -121,10 +130,9 @@ pub record GrammarSamples : Type 0 where
   pub increment_between : IsNotRead (codes "a ++ b;")
   pub no_binding : IsNotRead (codes "const;")
   pub reserved_word : IsNotRead (codes "if;")
+  -- a reserved word with an escape is no keyword, and no reference (12.7.1)
+  pub escaped_word : IsNotRead (codes "i\\u0066;")
   pub open_bracket : IsNotRead (codes "(a")
-  -- a program that begins with a directive isn't read so far
-  pub directive : IsNotRead (codes "\"a\";")
-  pub use_strict : IsNotRead (codes "'use strict';a;")
   pub member_by_string : IsNotRead (codes "a.\"b\";")
   pub no_element : IsNotRead (codes "a[];")
   pub no_name : IsNotRead (codes "a.;")
@@ -133,6 +141,7 @@ pub record GrammarSamples : Type 0 where
   -- at a module's end the definition adds no semicolon, though 12.10 does
   pub unended_name : IsNotRead (codes "a")
   pub unended_declaration : IsNotRead (codes "const a")
+  pub unended_directive : IsNotRead (codes "\"a\"")
   -- no declaration is what `if` is followed by (14.6)
   pub declaration_behind_if : IsNotRead (codes "if(a)const b;")
   pub else_alone : IsNotRead (codes "else;")
@@ -166,6 +175,10 @@ pub record NormalSamples : Type 0 where
   pub value_or_none : AreTwo (const_of (more (bound (codes "a") absent) no_trees)) (const_of (more (bound (codes "a") (given one)) no_trees))
   -- `a;b;` and `b;a;`
   pub order : AreTwo (module_of (more (statement_of a) (more (statement_of b) no_trees))) (module_of (more (statement_of b) (more (statement_of a) no_trees)))
+  -- a directive by its raw text, as a job gives it, and by its value, as it is read
+  pub directive_by_value : AreOne (tree.directive (bare (text (codes "\\x61'") ∷ []))) (tree.directive (bare (units (codes "a'") ∷ [])))
+  -- the directive `"a";` and the statement of that string
+  pub directive_or_statement : AreTwo (directed (codes "a") no_trees) (module_of (more (statement_of (string_of (codes "a"))) no_trees))
   -- `if(a){if(b)c;}else b;` and the same without braces, which no text is read as
   pub braces_of_a_consequent : AreOne (if_of a (block_of (more (if_of b (statement_of c) absent) no_trees)) (given (statement_of b))) (if_of a (if_of b (statement_of c) absent) (given (statement_of b)))
   -- `if(a){b;}` and `if(a)b;`

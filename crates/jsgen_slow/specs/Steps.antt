@@ -1,16 +1,13 @@
 -- What stands at a place of a text.
 use Rattle.std.specs.Prelude.{◌≡◌, ℕ, ◌+◌, List, [], ◌∷◌, ◌++◌, Bool, true, false, ◌||◌, ◌==◌, Option, Some, None, option_map, if◌then◌else◌, take, drop}
 use Rattle.std.specs.List.{prefix_len}
+use Rattle.jsgen_syntax.specs.Escapes.{begins_with}
+use Rattle.jsgen_syntax.specs.Name.{starts_name, continues_name}
 use Rattle.jsgen_syntax.specs.Strings.{quote_char}
 use Rattle.jsgen_syntax.specs.declared.quote.Quote.{Quote}
 use Rattle.jsgen_syntax.specs.declared.quote.Quote.TheVariants as quotes
 use Rattle.jsgen_model.specs.Punctuator.{Punctuator, Bracket, Round, Square, Brace, opening, closing}
 use Rattle.jsgen_model.specs.Tokens.{Tokens, done, piece, group, Piece, piece_text, is_spelled, ends_before, stands, longer_stands, is_blank, has_line_end}
-
--- the first character passes
-abbrev pub begins : (ℕ → Bool) → List ℕ → Bool
-begins f [] = false
-begins f (c ∷ cs) = f c
 
 -- the text begins with this token
 pub record StandsAt (text : List ℕ) (p : Piece) (rest : List ℕ) : Type 0 where
@@ -27,6 +24,28 @@ HasNoSign text = (p : Punctuator) → stands p text ≡ false
 -- it is the longest there
 abbrev pub IsSignAt : List ℕ → Punctuator → Type 0
 IsSignAt text p = (stands p text ≡ true) × (longer_stands p text ≡ false)
+
+-- ---- words
+
+-- a word begins with it: a backslash begins an escape
+abbrev pub starts_word : ℕ → Bool
+starts_word c = starts_name c || (c == 92)
+
+abbrev mutual
+  -- how many characters of the text go in a word that stands there: those of names, and escapes
+  pub count_word : List ℕ → ℕ
+  count_word [] = 0
+  count_word (c ∷ cs) = if c == 92 then 1 + count_escape cs else (if continues_name c then 1 + count_word cs else 0)
+
+  -- behind a backslash
+  pub count_escape : List ℕ → ℕ
+  count_escape [] = 0
+  count_escape (c ∷ cs) = if c == 117 then 1 + (if begins_with 123 cs then count_braces cs else count_word cs) else 0
+
+  -- up to the closing brace of `\u{H..}`, and behind it
+  pub count_braces : List ℕ → ℕ
+  count_braces [] = 0
+  count_braces (c ∷ cs) = 1 + (if c == 125 then count_word cs else count_braces cs)
 
 -- ---- strings
 

@@ -1,4 +1,4 @@
--- The units that a spelling gives, and the parts of an escape's value that have a program of their own.
+-- The items that a spelling gives, and the parts of an escape's value that have a program of their own.
 use Rattle.std.specs.Prelude.{ℕ, List, [], ◌∷◌, not, ◌&&◌, ◌==◌, Option, None, option_map, if◌then◌else◌}
 use Rattle.std.specs.Char.{is_ascii_digit}
 use Rattle.std.specs.declared.vec.Vec.{Vec}
@@ -6,8 +6,8 @@ use Rattle.std.specs.declared.alloc.Global.{Global}
 use Rattle.jsgen_syntax.specs.Strings.{begins, begins_with, and_then, string_value, code_point_value, hex_value}
 use Rattle.jsgen_syntax.specs.declared.quote.Quote.{Quote}
 
-abbrev pub units_of : Option (Vec ℕ Global) → Option (List ℕ)
-units_of o = option_map (λ v. v.items) o
+abbrev pub items_of : Option (Vec ℕ Global) → Option (List ℕ)
+items_of o = option_map (λ v. v.items) o
 
 -- a number is below this before its last digits, of four at most
 abbrev pub hex_room : ℕ → ℕ

@@ -1,9 +1,20 @@
 // Characters, and the longest front of a text whose characters all pass a test.
-ghost use Rattle.std.specs.Prelude.{◌≡◌, ◌≤◌, ◌||◌, length};
+ghost use Rattle.std.specs.Prelude.{◌≡◌, ◌<◌, ◌≤◌, ◌||◌, true, length, IfOk};
+ghost use Rattle.std.specs.Str.{chars};
 ghost use Rattle.std.specs.List.{prefix_len, list_all};
-ghost use Rattle.std.specs.Char.{is_ascii_digit};
+ghost use Rattle.std.specs.Char.{is_ascii_digit, is_ascii_hexdigit, digit_value};
+ghost use Rattle.jsgen_syntax.specs.Escapes.{begins, begins_with};
 ghost use Rattle.jsgen_syntax.specs.Name.{starts_name, continues_name};
 ghost use Rattle.jsgen_model.specs.Tokens.{is_line_terminator, is_blank, has_line_end};
+
+use jsgen_syntax::Memory;
+use std::alloc::Global;
+
+pub(crate) fn characters_of(alloc: Global, text: &str) -> Result<Vec<char>, Memory>
+    ensures { IfOk result (λ v. v.items ≡ chars text.now) }
+{
+    Ok(text.chars().collect(alloc)?)
+}
 
 pub(crate) fn is_line_terminator(c: char) -> bool
     ensures { result ≡ is_line_terminator c }
@@ -23,7 +34,7 @@ pub(crate) fn starts_name(c: char) -> bool
     unicode_ident::is_xid_start(c) || c == '$' || c == '_'
 }
 
-fn continues_name(c: char) -> bool
+pub(crate) fn continues_name(c: char) -> bool
     ensures { result ≡ continues_name c }
 {
     unicode_ident::is_xid_continue(c) || c == '$' || c == '\u{200C}' || c == '\u{200D}'
@@ -49,13 +60,6 @@ pub(crate) fn count_blanks(text: &[char]) -> usize
     text.iter().take_while(|c| is_blank(**c)).count()
 }
 
-pub(crate) fn count_name(text: &[char]) -> usize
-    ensures value { result ≡ prefix_len continues_name text.now }
-    ensures within { result ≤ length text.now }
-{
-    text.iter().take_while(|c| continues_name(**c)).count()
-}
-
 pub(crate) fn count_digits(text: &[char]) -> usize
     ensures value { result ≡ prefix_len is_ascii_digit text.now }
     ensures within { result ≤ length text.now }
@@ -67,4 +71,39 @@ pub(crate) fn are_digits(text: &[char]) -> bool
     ensures { result ≡ list_all is_ascii_digit text.now }
 {
     text.iter().all(|c| c.is_ascii_digit())
+}
+
+pub(crate) fn digit_value(c: char) -> u32
+    requires { is_ascii_hexdigit c ≡ true }
+    ensures value { result ≡ digit_value c }
+    ensures bound { result < 16 }
+{
+    c.to_digit(16).unwrap_or(0)
+}
+
+pub(crate) fn begins_with(c: char, text: &[char]) -> bool
+    ensures { result ≡ begins_with c text.now }
+{
+    match text.first() {
+        Some(first) => *first == c,
+        None => false,
+    }
+}
+
+pub(crate) fn begins_with_digit(text: &[char]) -> bool
+    ensures { result ≡ begins is_ascii_digit text.now }
+{
+    match text.first() {
+        Some(first) => first.is_ascii_digit(),
+        None => false,
+    }
+}
+
+pub(crate) fn begins_with_hex_digit(text: &[char]) -> bool
+    ensures { result ≡ begins is_ascii_hexdigit text.now }
+{
+    match text.first() {
+        Some(first) => first.is_ascii_hexdigit(),
+        None => false,
+    }
 }

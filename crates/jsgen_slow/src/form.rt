@@ -6,7 +6,12 @@ use jsgen_tree::VariableDeclarationKind;
 #[derive(Debug, Drop, PartialEq, Eq)]
 pub enum Form {
     Program {
+        directives: Vec<Form>,
         body: Vec<Form>,
+    },
+    /// By what the raw text stands for: nothing where it is no spelling of a string.
+    Directive {
+        value: JsStr,
     },
     ExpressionStatement {
         expression: Box<Form>,

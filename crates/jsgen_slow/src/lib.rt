@@ -12,19 +12,17 @@ ghost use Rattle.jsgen_slow.specs.Law.{HasNoTokens};
 ghost use Rattle.jsgen_slow.specs.Samples.{GrammarSamples, NormalSamples};
 
 mod characters;
+mod directive;
 mod form;
 mod normal;
-#[cfg(test)]
-mod normal_tests;
 mod punctuator;
 mod row;
 mod string;
-#[cfg(test)]
-mod string_tests;
-#[cfg(test)]
-mod tests;
 mod token;
+mod word;
 
+use characters::characters_of;
+pub use directive::directive_value_of;
 pub use form::Form;
 use jsgen_syntax::Memory;
 use jsgen_tree::Program;
@@ -34,6 +32,7 @@ use row::take_row;
 use std::alloc::Global;
 pub use string::string_value_of;
 pub use token::{Bracket, Piece, Token};
+pub use word::word_value_of;
 
 /// The tokens of a text (ECMA-262, clause 12), or none where it has no list of them. Reads the text from left to
 /// right, and always takes the longest token that stands there.
@@ -50,12 +49,6 @@ pub fn tokens_of(alloc: Global, text: &str) -> Result<Option<Vec<Token>>, Memory
     } else {
         Ok(None)
     }
-}
-
-fn characters_of(alloc: Global, text: &str) -> Result<Vec<char>, Memory>
-    ensures { IfOk result (λ v. v.items ≡ chars text.now) }
-{
-    Ok(text.chars().collect(alloc)?)
 }
 
 /// The normal form of a program (docs/DEFINITIONS.md): what it has in common with each program of the same meaning.

@@ -1,17 +1,19 @@
 // The normal form of each type of node.
 ghost use Rattle.std.specs.Prelude.{◌≡◌, ◌∷◌, [], map, option_map, IfOk};
 ghost use Rattle.jsgen_tree.specs.Tree.{trees, optional, block};
-ghost use Rattle.jsgen_tree.specs.Rows.{program_row, expression_statement_row, block_statement_row, if_statement_row, empty_statement_row, variable_declaration_row, variable_declarator_row, binding_identifier_row, identifier_reference_row, numeric_literal_row, string_literal_row, parenthesized_expression_row, binary_expression_row, logical_expression_row, identifier_name_row, static_member_expression_row, computed_member_expression_row, call_expression_row, expression_plain, statement_plain, declaration_plain, binding_pattern_plain, in_expression, in_statement, in_argument};
+ghost use Rattle.jsgen_tree.specs.Rows.{program_row, directive_row, expression_statement_row, block_statement_row, if_statement_row, empty_statement_row, variable_declaration_row, variable_declarator_row, binding_identifier_row, identifier_reference_row, numeric_literal_row, string_literal_row, parenthesized_expression_row, binary_expression_row, logical_expression_row, identifier_name_row, static_member_expression_row, computed_member_expression_row, call_expression_row, expression_plain, statement_plain, declaration_plain, binding_pattern_plain, in_expression, in_statement, in_argument};
 ghost use Rattle.jsgen_tree.specs.Plain.{node_plain};
 ghost use Rattle.jsgen_tree.specs.Table.{ends_open};
 ghost use Rattle.jsgen_model.specs.Normal.{bare, normal, normal_maybe, normal_trees, joined, links, same_operator, unbraced};
 ghost use Rattle.jsgen_slow.specs.Form.{form_plain, forms_plain, optional_plain};
 
+use crate::characters::characters_of;
+use crate::directive::directive_units;
 use crate::form::Form;
-use jsgen_syntax::{LogicalOperator, Memory};
+use jsgen_syntax::{JsStr, LogicalOperator, Memory};
 use jsgen_tree::{
     Argument, BinaryExpression, BindingIdentifier, BindingPattern, BlockStatement, CallExpression,
-    ComputedMemberExpression, Declaration, EmptyStatement, Expression, ExpressionNode,
+    ComputedMemberExpression, Declaration, Directive, EmptyStatement, Expression, ExpressionNode,
     ExpressionStatement, IdentifierName, IdentifierReference, IfStatement, LogicalExpression, Node,
     NumericLiteral, NumericValue, ParenthesizedExpression, Program, Statement, StatementNode,
     StaticMemberExpression, StringLiteral, VariableDeclaration, VariableDeclarator,
@@ -32,7 +34,29 @@ pub fn program_form<N: NormalNode>(alloc: Global, node: &Program<N>) -> Result<F
     ensures { IfOk result (λ f. form_plain f ≡ normal (program_row N.plain node.now)) }
 {
     Ok(Form::Program {
+        directives: directive_forms(alloc, &node.directives)?,
         body: statement_forms(alloc, &node.body)?,
+    })
+}
+
+fn directive_forms(alloc: Global, directives: &[Directive]) -> Result<Vec<Form>, Memory>
+    ensures { IfOk result (λ fs. forms_plain fs.items ≡ normal_trees (trees (map directive_row directives.now))) }
+{
+    let mut forms = Vec::new(alloc);
+    for directive in directives {
+        forms.push(directive_form(alloc, directive)?)?;
+    }
+    Ok(forms)
+}
+
+#[tactic(auto, using(crate::proofs::Forms::leaves))]
+fn directive_form(alloc: Global, node: &Directive) -> Result<Form, Memory>
+    ensures { IfOk result (λ f. form_plain f ≡ normal (directive_row node.now)) }
+{
+    let raw = characters_of(alloc, &node.directive)?;
+    let units = directive_units(alloc, &raw)?;
+    Ok(Form::Directive {
+        value: JsStr::from_units(alloc, &units)?,
     })
 }
 

@@ -1,11 +1,12 @@
 // What the spelling of a string stands for (ECMA-262, 12.9.4.2 and 12.9.6.1).
-ghost use Rattle.std.specs.Prelude.{◌≡◌, ◌<◌, true, IfOk};
-ghost use Rattle.std.specs.Char.{is_ascii_digit, is_ascii_hexdigit, digit_value};
+ghost use Rattle.std.specs.Prelude.{◌≡◌, ◌<◌, IfOk};
 ghost use Rattle.std.specs.Char.Escape.{encode_utf16};
-ghost use Rattle.jsgen_syntax.specs.Strings.{quote_char, begins, begins_with, and_then, stands_bare, bare_units, escape_units, string_value, escape_value, hex_value, code_point_value, digits_value};
-ghost use Rattle.jsgen_slow.specs.Values.{units_of, hex_room, unicode_value, digit_escape_value};
+ghost use Rattle.jsgen_syntax.specs.Strings.{quote_char, and_then, stands_bare, bare_units, escape_units, string_value, escape_value, hex_value, code_point_value, digits_value};
+ghost use Rattle.jsgen_slow.specs.Values.{items_of, hex_room, unicode_value, digit_escape_value};
 
-use crate::characters::is_line_terminator;
+use crate::characters::{
+    begins_with, begins_with_digit, begins_with_hex_digit, digit_value, is_line_terminator,
+};
 use jsgen_syntax::{Memory, Quote};
 use std::alloc::Global;
 
@@ -18,7 +19,7 @@ pub fn string_value_of(
     quote: Quote,
     spelling: &[char],
 ) -> Result<Option<Vec<u16>>, Memory>
-    ensures { IfOk result (λ r. units_of r ≡ string_value quote spelling.now) }
+    ensures { IfOk result (λ r. items_of r ≡ string_value quote spelling.now) }
 {
     let Some((first, rest)) = spelling.split_first() else {
         return Ok(Some(Vec::new(alloc)));
@@ -37,7 +38,7 @@ pub fn string_value_of(
 #[cycle(value)]
 #[tactic(auto, unfolding(jsgen_syntax::specs::Strings::string_value))]
 fn escape_value(alloc: Global, quote: Quote, text: &[char]) -> Result<Option<Vec<u16>>, Memory>
-    ensures { IfOk result (λ r. units_of r ≡ escape_value quote text.now) }
+    ensures { IfOk result (λ r. items_of r ≡ escape_value quote text.now) }
 {
     let Some((first, rest)) = text.split_first() else {
         return Ok(None);
@@ -62,7 +63,7 @@ fn escape_value(alloc: Global, quote: Quote, text: &[char]) -> Result<Option<Vec
 #[cycle(value)]
 #[tactic(auto, unfolding(jsgen_syntax::specs::Strings::string_value))]
 fn unicode_value(alloc: Global, quote: Quote, text: &[char]) -> Result<Option<Vec<u16>>, Memory>
-    ensures { IfOk result (λ r. units_of r ≡ unicode_value quote text.now) }
+    ensures { IfOk result (λ r. items_of r ≡ unicode_value quote text.now) }
 {
     if begins_with('{', text) {
         code_point_value(alloc, quote, text)
@@ -80,7 +81,7 @@ fn digit_escape_value(
     digit: char,
     text: &[char],
 ) -> Result<Option<Vec<u16>>, Memory>
-    ensures { IfOk result (λ r. units_of r ≡ digit_escape_value quote digit text.now) }
+    ensures { IfOk result (λ r. items_of r ≡ digit_escape_value quote digit text.now) }
 {
     if digit == '0' && !begins_with_digit(text) {
         let others = string_value_of(alloc, quote, text)?;
@@ -101,7 +102,7 @@ fn hex_value(
     text: &[char],
 ) -> Result<Option<Vec<u16>>, Memory>
     requires { before < hex_room count }
-    ensures { IfOk result (λ r. units_of r ≡ hex_value quote count before text.now) }
+    ensures { IfOk result (λ r. items_of r ≡ hex_value quote count before text.now) }
 {
     let Some((first, rest)) = text.split_first() else {
         return Ok(None);
@@ -122,7 +123,7 @@ fn hex_value(
 #[cycle(value)]
 #[tactic(auto, unfolding(jsgen_syntax::specs::Strings::string_value))]
 fn code_point_value(alloc: Global, quote: Quote, text: &[char]) -> Result<Option<Vec<u16>>, Memory>
-    ensures { IfOk result (λ r. units_of r ≡ code_point_value quote text.now) }
+    ensures { IfOk result (λ r. items_of r ≡ code_point_value quote text.now) }
 {
     let Some((_, rest)) = text.split_first() else {
         return Ok(None);
@@ -144,7 +145,7 @@ fn digits_value(
     text: &[char],
 ) -> Result<Option<Vec<u16>>, Memory>
     requires { before < 0x11_0000 }
-    ensures { IfOk result (λ r. units_of r ≡ digits_value quote before text.now) }
+    ensures { IfOk result (λ r. items_of r ≡ digits_value quote before text.now) }
 {
     let Some((first, rest)) = text.split_first() else {
         return Ok(None);
@@ -166,7 +167,7 @@ fn digits_value(
 
 // These units, and behind them the others.
 fn and_then(mut units: Vec<u16>, others: Option<Vec<u16>>) -> Result<Option<Vec<u16>>, Memory>
-    ensures { IfOk result (λ r. units_of r ≡ and_then units.items (units_of others)) }
+    ensures { IfOk result (λ r. items_of r ≡ and_then units.items (items_of others)) }
 {
     match others {
         Some(mut others) => {
@@ -242,40 +243,5 @@ fn escaped_code(c: char) -> u32
         'f' => 12,
         'r' => 13,
         _ => c as u32,
-    }
-}
-
-fn digit_value(c: char) -> u32
-    requires { is_ascii_hexdigit c ≡ true }
-    ensures value { result ≡ digit_value c }
-    ensures bound { result < 16 }
-{
-    c.to_digit(16).unwrap_or(0)
-}
-
-fn begins_with(c: char, text: &[char]) -> bool
-    ensures { result ≡ begins_with c text.now }
-{
-    match text.first() {
-        Some(first) => *first == c,
-        None => false,
-    }
-}
-
-fn begins_with_digit(text: &[char]) -> bool
-    ensures { result ≡ begins is_ascii_digit text.now }
-{
-    match text.first() {
-        Some(first) => first.is_ascii_digit(),
-        None => false,
-    }
-}
-
-fn begins_with_hex_digit(text: &[char]) -> bool
-    ensures { result ≡ begins is_ascii_hexdigit text.now }
-{
-    match text.first() {
-        Some(first) => first.is_ascii_hexdigit(),
-        None => false,
     }
 }

@@ -1,16 +1,17 @@
 // Tokens, and the one at the front of a text (ECMA-262, clause 12).
 ghost use Rattle.std.specs.Prelude.{◌≡◌, ◌<◌, ◌∷◌, [], true, length, IfOk, IfSome, MatchOption, option_map};
 ghost use Rattle.std.specs.Char.{is_ascii_digit};
-ghost use Rattle.jsgen_syntax.specs.Name.{starts_name};
+ghost use Rattle.jsgen_syntax.specs.Escapes.{begins};
 ghost use Rattle.jsgen_syntax.specs.Strings.{quote_char};
 ghost use Rattle.jsgen_model.specs.Punctuator.{closing};
-ghost use Rattle.jsgen_model.specs.Tokens.{spells_whole, ends_before, Number};
+ghost use Rattle.jsgen_model.specs.Tokens.{spells_whole, ends_before, Word, Number};
 ghost use Rattle.jsgen_slow.specs.Plain.{bracket_plain, piece_plain};
-ghost use Rattle.jsgen_slow.specs.Steps.{begins, StandsAt, HasNoPiece, HasNoSign, quote_at, count_before, opening_at, ends_row};
+ghost use Rattle.jsgen_slow.specs.Steps.{starts_word, StandsAt, HasNoPiece, HasNoSign, quote_at, count_before, opening_at, ends_row};
 
-use crate::characters::{are_digits, count_digits, count_name, starts_name};
+use crate::characters::{are_digits, begins_with_digit, continues_name, count_digits, starts_name};
 use crate::punctuator::{Punctuator, sign_at};
 use crate::string::{mark, string_value_of};
+use crate::word::{count_word, is_word};
 use jsgen_syntax::{Memory, Quote};
 use std::alloc::Global;
 
@@ -24,6 +25,7 @@ pub enum Bracket {
 /// A token that is no bracket.
 #[derive(Drop)]
 pub enum Piece {
+    /// A name or a keyword, by its spelling, which may have escapes.
     Word(Vec<char>),
     Number(Vec<char>),
     /// A string, or a template without substitutions: what stands between its quotes.
@@ -92,9 +94,9 @@ pub(crate) fn take_piece<'a>(alloc: Global, text: &'a [char]) -> Result<Option<T
     ensures { IfOk result (λ r. MatchOption r (HasNoPiece text.now)
         (λ t. StandsAt text.now (piece_plain t.piece) t.rest.now)) }
 {
-    if begins_name(text) {
-        Ok(Some(take_word(alloc, text)?))
-    } else if begins_number(text) {
+    if begins_word(text) {
+        take_word(alloc, text)
+    } else if begins_with_digit(text) {
         take_number(alloc, text)
     } else {
         match quote_at(text) {
@@ -107,33 +109,39 @@ pub(crate) fn take_piece<'a>(alloc: Global, text: &'a [char]) -> Result<Option<T
     }
 }
 
-fn begins_name(text: &[char]) -> bool
-    ensures { result ≡ begins starts_name text.now }
+fn begins_word(text: &[char]) -> bool
+    ensures { result ≡ begins starts_word text.now }
 {
     match text.first() {
-        Some(c) => starts_name(*c),
+        Some(c) => starts_name(*c) || *c == '\\',
         None => false,
     }
 }
 
-fn begins_number(text: &[char]) -> bool
-    ensures { result ≡ begins is_ascii_digit text.now }
+fn take_word<'a>(alloc: Global, text: &'a [char]) -> Result<Option<Taken<'a>>, Memory>
+    requires { begins starts_word text.now ≡ true }
+    ensures { IfOk result (λ r. MatchOption r (HasNoPiece text.now)
+        (λ t. StandsAt text.now (piece_plain t.piece) t.rest.now)) }
 {
-    match text.first() {
-        Some(c) => c.is_ascii_digit(),
-        None => false,
+    let (word, rest) = text.split_at(count_word(text));
+    if is_word(alloc, word)? && ends_word(rest) {
+        Ok(Some(Taken {
+            piece: Piece::Word(Vec::from_slice(alloc, word)?),
+            rest,
+        }))
+    } else {
+        Ok(None)
     }
 }
 
-fn take_word<'a>(alloc: Global, text: &'a [char]) -> Result<Taken<'a>, Memory>
-    requires { begins starts_name text.now ≡ true }
-    ensures { IfOk result (λ t. StandsAt text.now (piece_plain t.piece) t.rest.now) }
+// Whether a word may end before this text.
+fn ends_word(rest: &[char]) -> bool
+    ensures { result ≡ ends_before (Word []) rest.now }
 {
-    let (word, rest) = text.split_at(count_name(text));
-    Ok(Taken {
-        piece: Piece::Word(Vec::from_slice(alloc, word)?),
-        rest,
-    })
+    match rest.first() {
+        Some(c) => !(continues_name(*c) || *c == '\\'),
+        None => true,
+    }
 }
 
 fn take_number<'a>(alloc: Global, text: &'a [char]) -> Result<Option<Taken<'a>>, Memory>
@@ -168,7 +176,7 @@ fn ends_number(rest: &[char]) -> bool
     ensures { result ≡ ends_before (Number []) rest.now }
 {
     match rest.first() {
-        Some(c) => !(starts_name(*c) || c.is_ascii_digit() || *c == '.'),
+        Some(c) => !(starts_name(*c) || c.is_ascii_digit() || *c == '.' || *c == '\\'),
         None => true,
     }
 }

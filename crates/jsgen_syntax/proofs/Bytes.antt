@@ -1,17 +1,16 @@
--- What the bytes of a string tell of its units.
-use Rattle.std.proofs.Common.{◌≡◌, ℕ, ◌+◌, ◌-◌, ◌/◌, ◌%◌, ◌≤◌, ◌<◌, Bool, true, false, nat_lt, nat_le, ◌&&◌, ◌||◌, ◌==◌, ◌⊎◌, inl, inr, List, [], ◌∷◌, ◌++◌, flat_map, if◌then◌else◌, refl, sym, ap, ap₂, ◌∙◌, subst, arith}
+-- What the bytes and the code points of a string tell of its units.
+use Rattle.std.proofs.Common.{◌≡◌, ℕ, ◌+◌, ◌-◌, ◌/◌, ◌%◌, ◌≤◌, ◌<◌, Bool, true, false, nat_le, ◌&&◌, ◌||◌, ◌==◌, ◌⊎◌, inl, inr, List, [], ◌∷◌, ◌++◌, flat_map, if◌then◌else◌, refl, sym, ap, ap₂, ◌∙◌, subst, arith}
 use Rattle.std.specs.List.{list_all}
 use Rattle.std.specs.Char.Escape.{encode_utf16}
-use Rattle.std.specs.Char.Utf16.{is_high_surrogate, is_low_surrogate}
 use lib.Utf8.{encode, encodes}
-use Rattle.std.proofs.lemmas.Bool.{and_parts, and_from, cases_lt, le-leb, lt-leb, leb-true, ne_eqb, or_from, and_right}
+use Rattle.std.proofs.lemmas.Bool.{and_parts, and_from, cases_lt, le-leb, leb-true, ne_eqb, or_from}
 use Rattle.jsgen_syntax.specs.declared.quote.Quote.{Quote}
 use Rattle.jsgen_syntax.specs.declared.quote.Quote.TheVariants.{Single, Double, Backtick}
 use Rattle.jsgen_syntax.specs.declared.js_str.JsStr.{JsStr}
-use Rattle.jsgen_syntax.specs.Strings.{quote_char, is_backtick, begins_with, begins, costs_more, quote_cost, needs_backslash, unit_text, escaped_after, escaped, quoted, is_plain_unit, is_plain_string}
+use Rattle.jsgen_syntax.specs.Strings.{quote_char, is_backtick, begins_with, costs_more, quote_cost}
 use Rattle.jsgen_syntax.specs.Wtf8.{are_units, joined_units}
 use Rattle.jsgen_syntax.specs.Units.{js_units}
-use Rattle.jsgen_syntax.proofs.Wtf8.{encode_one, encode_two, encode_three, encode_four, one_unit, two_units, units_joined, joined_single}
+use Rattle.jsgen_syntax.proofs.Wtf8.{encode_one, encode_two, encode_three, encode_four, one_unit, two_units, units_joined}
 
 -- the units of a string have 16 bits
 pub js_units-are_units : (s : JsStr) → are_units (js_units s) ≡ true
@@ -19,17 +18,17 @@ js_units-are_units s = s.units
 
 -- ---- what a quote costs is seen from the bytes
 
-abbrev are_high : List ℕ → Bool
+abbrev pub are_high : List ℕ → Bool
 are_high xs = list_all (λ x. nat_le 128 x) xs
 
 -- at least one, and none is ASCII
-record High (xs : List ℕ) : Type 0 where
+pub record High (xs : List ℕ) : Type 0 where
   pub head : ℕ
   pub tail : List ℕ
   pub is : xs ≡ head ∷ tail
   pub none : are_high (head ∷ tail) ≡ true
 
-costs_none : (q : Quote) (x : ℕ) (rest : List ℕ) → 128 ≤ x → costs_more q x rest ≡ false
+pub costs_none : (q : Quote) (x : ℕ) (rest : List ℕ) → 128 ≤ x → costs_more q x rest ≡ false
 costs_none Single x rest h = or_from (x == 39) (x == 10) (ne_eqb x 39 (λ e. omega arith)) (ne_eqb x 10 (λ e. omega arith))
 costs_none Double x rest h = or_from (x == 34) (x == 10) (ne_eqb x 34 (λ e. omega arith)) (ne_eqb x 10 (λ e. omega arith))
 costs_none Backtick x rest h = or_from (x == 96) ((x == 36) && begins_with 123 rest) (ne_eqb x 96 (λ e. omega arith)) (ap (λ b. b && begins_with 123 rest) (ne_eqb x 36 (λ e. omega arith)))
@@ -79,7 +78,7 @@ high_three xs a b c e h k l = record { head = a; tail = b ∷ c ∷ []; is = e; 
 high_four : (xs : List ℕ) (a b c d : ℕ) → xs ≡ a ∷ b ∷ c ∷ d ∷ [] → 128 ≤ a → 128 ≤ b → 128 ≤ c → 128 ≤ d → High xs
 high_four xs a b c d e h k l m = record { head = a; tail = b ∷ c ∷ d ∷ []; is = e; none = one_more a (b ∷ c ∷ d ∷ []) h (one_more b (c ∷ d ∷ []) k (one_more c (d ∷ []) l (one_more d [] m refl))) }
 
-utf8_high : (c : ℕ) → 128 ≤ c → High (encode c)
+pub utf8_high : (c : ℕ) → 128 ≤ c → High (encode c)
 utf8_high c h = by (cases_lt c 0x800) (cases_lt c 0x1_0000)
   where
     by : (c < 0x800) ⊎ (0x800 ≤ c) → (c < 0x1_0000) ⊎ (0x1_0000 ≤ c) → High (encode c)
@@ -107,67 +106,14 @@ same_codes q (c ∷ cs) = by (cases_lt c 128) (same_codes q cs)
 pub quote_cost-bytes : (q : Quote) (us : List ℕ) → are_units us ≡ true → quote_cost q (encodes (joined_units us)) ≡ quote_cost q us
 quote_cost-bytes q us h = (same_codes q (joined_units us)).cost ∙ ap (quote_cost q) (units_joined us h)
 
--- ---- the bytes of ASCII that prints are the units
-
-pub plain_bytes : (us : List ℕ) → is_plain_string us ≡ true → encodes (joined_units us) ≡ us
-unfolding joined_units
-plain_bytes [] h = refl
-plain_bytes (u ∷ us) h =
-    let k = and_parts (is_plain_unit u) (is_plain_string us) h in
-    let l = ltb_from u (and_parts (nat_le 32 u) (nat_le u 126) k.0).1 in
-    let n : is_high_surrogate u ≡ false = ap (λ b. b && nat_lt u 0xDC00) (lt-leb 0xD800 u (omega arith)) in
-    ap encodes (joined_single u us (ap (λ b. b && begins is_low_surrogate us) n)) ∙ ap₂ (λ a b. a ++ b) (encode_one u (omega arith)) (plain_bytes us k.1)
+-- and from the code points
+same_points : (q : Quote) (cs : List ℕ) → Same q cs (flat_map encode_utf16 cs)
+same_points q [] = record { cost = refl; brace = refl }
+same_points q (c ∷ cs) = by (cases_lt c 128) (same_points q cs)
   where
-    ltb_from : (n : ℕ) → nat_le n 126 ≡ true → n ≤ 126
-    ltb_from n e = leb-true n 126 e
+    by : (c < 128) ⊎ (128 ≤ c) → Same q cs (flat_map encode_utf16 cs) → Same q (c ∷ cs) (encode_utf16 c ++ flat_map encode_utf16 cs)
+    by (inl l) s = subst (λ t. Same q (c ∷ cs) (t ++ flat_map encode_utf16 cs)) (sym (one_unit c (omega arith))) (same_low q c cs (flat_map encode_utf16 cs) s)
+    by (inr l) s = same_high q (c ∷ []) (encode_utf16 c) cs (flat_map encode_utf16 cs) (record { head = c; tail = []; is = refl; none = one_more c [] l refl }) (utf16_high c l) s
 
-high_plain : (xs ys : List ℕ) → High xs → is_plain_string (xs ++ ys) ≡ false
-high_plain xs ys h =
-    let l = leb-true 128 h.head (and_parts (nat_le 128 h.head) (are_high h.tail) h.none).0 in
-    let n : is_plain_unit h.head ≡ false = and_right (nat_le 32 h.head) (nat_le h.head 126) (lt-leb h.head 126 (omega arith)) in
-    ap (λ t. is_plain_string (t ++ ys)) h.is ∙ ap (λ b. b && is_plain_string (h.tail ++ ys)) n
-
-plain_codes : (cs : List ℕ) → is_plain_string (encodes cs) ≡ is_plain_string (flat_map encode_utf16 cs)
-plain_codes [] = refl
-plain_codes (c ∷ cs) = by (cases_lt c 128) (plain_codes cs)
-  where
-    by : (c < 128) ⊎ (128 ≤ c) → is_plain_string (encodes cs) ≡ is_plain_string (flat_map encode_utf16 cs) → is_plain_string (encode c ++ encodes cs) ≡ is_plain_string (encode_utf16 c ++ flat_map encode_utf16 cs)
-    by (inl l) e =
-        ap (λ t. is_plain_string (t ++ encodes cs)) (encode_one c l) ∙ (ap (λ b. is_plain_unit c && b) e ∙ ap (λ t. is_plain_string (t ++ flat_map encode_utf16 cs)) (sym (one_unit c (omega arith))))
-    by (inr l) e = high_plain (encode c) (encodes cs) (utf8_high c l) ∙ sym (high_plain (encode_utf16 c) (flat_map encode_utf16 cs) (utf16_high c l))
-
--- the bytes tell whether a string is of ASCII that prints
-pub is_plain_string-bytes : (us : List ℕ) → are_units us ≡ true → is_plain_string (encodes (joined_units us)) ≡ is_plain_string us
-is_plain_string-bytes us h = plain_codes (joined_units us) ∙ ap is_plain_string (units_joined us h)
-
--- ---- the text that is printed for ASCII that prints is of the same
-
-pub encodes_plain : (us : List ℕ) → is_plain_string us ≡ true → encodes us ≡ us
-encodes_plain [] h = refl
-encodes_plain (u ∷ us) h =
-    let k = and_parts (is_plain_unit u) (is_plain_string us) h in
-    let l = leb-true u 126 (and_parts (nat_le 32 u) (nat_le u 126) k.0).1 in
-    ap₂ (λ a b. a ++ b) (encode_one u (omega arith)) (encodes_plain us k.1)
-
-plain_append : (us vs : List ℕ) → is_plain_string us ≡ true → is_plain_string vs ≡ true → is_plain_string (us ++ vs) ≡ true
-plain_append [] vs h k = k
-plain_append (u ∷ us) vs h k = let a = and_parts (is_plain_unit u) (is_plain_string us) h in and_from (is_plain_unit u) (is_plain_string (us ++ vs)) a.0 (plain_append us vs a.1 k)
-
-pub escaped_after_plain : (q : Quote) (after_less : Bool) (us : List ℕ) → is_plain_string us ≡ true → is_plain_string (escaped_after q after_less us) ≡ true
-unfolding escaped_after
-escaped_after_plain q after_less [] h = refl
-escaped_after_plain q after_less (u ∷ us) h =
-    let a = and_parts (is_plain_unit u) (is_plain_string us) h in
-    plain_append (unit_text q after_less u us) (escaped_after q (u == 60) us) (by (needs_backslash q after_less u us) a.0) (escaped_after_plain q (u == 60) us a.1)
-  where
-    by : (b : Bool) → is_plain_unit u ≡ true → is_plain_string (if b then 92 ∷ u ∷ [] else u ∷ []) ≡ true
-    by true e = ap (λ x. x && true) e
-    by false e = ap (λ x. x && true) e
-
-pub quoted_plain : (q : Quote) (us : List ℕ) → is_plain_string us ≡ true → is_plain_string (quoted q us) ≡ true
-quoted_plain q us h = and_from (is_plain_unit (quote_char q)) (is_plain_string (escaped q us ++ quote_char q ∷ [])) (of_quote q) (plain_append (escaped q us) (quote_char q ∷ []) (escaped_after_plain q false us h) (ap (λ x. x && true) (of_quote q)))
-  where
-    of_quote : (p : Quote) → is_plain_unit (quote_char p) ≡ true
-    of_quote Single = refl
-    of_quote Double = refl
-    of_quote Backtick = refl
+pub quote_cost-points : (q : Quote) (us : List ℕ) → are_units us ≡ true → quote_cost q (joined_units us) ≡ quote_cost q us
+quote_cost-points q us h = (same_points q (joined_units us)).cost ∙ ap (quote_cost q) (units_joined us h)

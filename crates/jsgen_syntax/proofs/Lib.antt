@@ -1,5 +1,9 @@
 pub mod Last
 pub mod Spellings
 pub mod Wtf8
+pub mod Names
+pub mod Escapes
+pub mod Induction
 pub mod Strings
+pub mod Raw
 pub mod Bytes

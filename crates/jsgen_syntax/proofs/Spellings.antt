@@ -1,6 +1,8 @@
 -- What some spellings stand for, and how some values are printed: for a reader of the definitions.
 use Rattle.std.proofs.Common.{◌≡◌, true, false, codes, [], ◌∷◌, Some, None, refl}
 use Rattle.jsgen_syntax.specs.Strings.{string_value, escaped_after, escaped, quote_cost, cheapest}
+use Rattle.jsgen_syntax.specs.Escapes.{name_text, word_value}
+use Rattle.jsgen_syntax.specs.Raw.{tag_free, tag_free_after, put_in, put_in_after, unmarked, template_text, pattern_text, raw_text_after, directive_quote, first_quote}
 use Rattle.jsgen_syntax.specs.Wtf8.{joined_units}
 use Rattle.jsgen_syntax.specs.declared.quote.Quote.TheVariants.{Single, Double, Backtick}
 
@@ -60,13 +62,64 @@ bare_surrogate : string_value Single (55296 ∷ []) ≡ None
 unfolding string_value
 bare_surrogate = refl
 
-script : escaped Single (codes "<</Script>it's \\ </scrip") ≡ codes "<<\\/Script>it\\'s \\\\ </scrip"
-unfolding escaped_after
+script : escaped Single false (codes "<</Script>it's \\ </scrip") ≡ codes "<<\\/Script>it\\'s \\\\ </scrip"
+unfolding escaped_after joined_units
 script = refl
 
-opening : escaped Backtick (codes "`${'") ≡ codes "\\`\\${'"
-unfolding escaped_after
+opening : escaped Backtick false (codes "`${'") ≡ codes "\\`\\${'"
+unfolding escaped_after joined_units
 opening = refl
+
+controls : escaped Double false (0 ∷ 49 ∷ 0 ∷ 7 ∷ 8 ∷ 9 ∷ 10 ∷ 11 ∷ 12 ∷ 13 ∷ 27 ∷ []) ≡ codes "\\x001\\0\\x07\\b\t\\n\\v\\f\\r\\x1B"
+unfolding escaped_after joined_units
+controls = refl
+
+wide : escaped Double false (0xA0 ∷ 0xE9 ∷ 0x2028 ∷ 0x2029 ∷ 0xD83D ∷ 0xDE00 ∷ 0xD83D ∷ 0xDEAD ∷ 0xDEAD ∷ []) ≡ codes "\\xA0é\\u2028\\u2029😀🚭\\udead"
+unfolding escaped_after joined_units
+wide = refl
+
+wide_as_ascii : escaped Double true (0xA0 ∷ 0xE9 ∷ 0x2028 ∷ 0xD83D ∷ 0xDE00 ∷ 0xD83D ∷ 97 ∷ 0xDBFF ∷ 0xDFFF ∷ []) ≡ codes "\\u00A0\\u00E9\\u2028\\u{1F600}\\ud83da\\u{10FFFF}"
+unfolding escaped_after joined_units
+wide_as_ascii = refl
+
+names : name_text true (codes "aé𠀀") ≡ codes "a\\u00E9\\u{20000}"
+names = refl
+
+words : word_value (codes "a\\u00E9\\u{00020000}b") ≡ Some (codes "aé𠀀b")
+unfolding word_value
+words = refl
+
+no_words : word_value (codes "a\\x41") ≡ None
+unfolding word_value
+no_words = refl
+
+tags : tag_free (codes "</scrip<</SCRIPT></script") ≡ codes "</scrip<<\\/SCRIPT><\\/script"
+unfolding tag_free_after
+tags = refl
+
+tags_back : unmarked (put_in (codes "</SCRIPT>")) (tag_free (codes "</SCRIPT>")) ≡ codes "</SCRIPT>"
+unfolding tag_free_after put_in_after unmarked
+tags_back = refl
+
+pieces : template_text false true true (codes "\\$a\\${\\\\$\\\\\\$\\é\\\\é</script\\\u{2028}") ≡ codes "$a\\${\\\\$\\\\$\\u00E9\\\\\\u00E9<\\/script\\\n"
+unfolding raw_text_after
+pieces = refl
+
+tagged : template_text true true true (codes "\\$é</script") ≡ codes "\\$é<\\/script"
+unfolding raw_text_after
+tagged = refl
+
+patterns : pattern_text true (codes "\\é𠀀</script") ≡ codes "\\u00E9\\uD840\\uDC00</script"
+unfolding raw_text_after
+patterns = refl
+
+quotes : directive_quote Single (codes "it\\'s \"") ≡ Single
+unfolding first_quote
+quotes = refl
+
+other_quotes : directive_quote Single (codes "it's \\\"") ≡ Double
+unfolding first_quote
+other_quotes = refl
 
 lines_spare : cheapest true (34 ∷ 39 ∷ 96 ∷ 10 ∷ []) ≡ Backtick
 unfolding quote_cost

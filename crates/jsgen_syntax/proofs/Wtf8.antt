@@ -1,6 +1,6 @@
 -- WTF-8 keeps the units that it is made of.
 use Rattle.std.proofs.Common.{◌≡◌, ℕ, zero, suc, ◌+◌, ◌-◌, ◌*◌, ◌/◌, ◌%◌, ◌≤◌, ◌<◌, Bool, true, false, not, cond, nat_lt, nat_le, ◌&&◌, ◌||◌, ◌⊎◌, inl, inr, Some, None, is_some, List, [], ◌∷◌, ◌++◌, flat_map, length, get_or, refl, sym, ap, ap₂, ◌∙◌, append-nil, arith}
-use Rattle.std.specs.List.{list_any}
+use Rattle.std.specs.List.{list_all, list_any}
 use Rattle.std.specs.Str.{IsUtf8, chars, chars_after, continuation_len, lead_bits}
 use Rattle.std.specs.Char.Escape.{encode_utf16}
 use Rattle.std.specs.Char.Utf16.{utf16_chars, lone_unit_char, is_high_surrogate, is_low_surrogate, surrogate_pair_char}
@@ -170,7 +170,7 @@ are_units_fit (u ∷ us) h = and_from (is_unit u) (are_units us) (lt-ltb u 0x1_0
 
 -- ---- a text has no surrogate
 
-scalar_below : (c : ℕ) → scalar c ≡ true → c < 0x11_0000
+pub scalar_below : (c : ℕ) → scalar c ≡ true → c < 0x11_0000
 scalar_below c h = by (scalar_cases c h)
   where
     by : (c < 0xD800) ⊎ ((0xE000 ≤ c) × (c < 0x11_0000)) → c < 0x11_0000
@@ -245,7 +245,7 @@ of_text (c ∷ cs) h =
 
 -- ---- without a lone surrogate the code points are a text
 
-scalar_from : (c : ℕ) → c < 0x11_0000 → is_surrogate c ≡ false → scalar c ≡ true
+pub scalar_from : (c : ℕ) → c < 0x11_0000 → is_surrogate c ≡ false → scalar c ≡ true
 scalar_from c l h = grind arith
 
 pub scalars_joined : (us : List ℕ) → are_units us ≡ true → has_lone us ≡ false → scalars (joined_units us) ≡ true
@@ -270,6 +270,28 @@ scalars_joined (u ∷ v ∷ us) h n =
         let s = or_parts (is_surrogate u) (has_lone (v ∷ us)) (sym (lone_single u (v ∷ us) e) ∙ n) in
         let l = ltb-true u 0x1_0000 k.0 in
         ap scalars (joined_single u (v ∷ us) e) ∙ and_from (scalar u) (scalars (joined_units (v ∷ us))) (scalar_from u (omega arith) s.0) (g s.1)
+
+-- the code points of units are at most U+10FFFF
+abbrev pub is_point : ℕ → Bool
+is_point c = nat_lt c 0x11_0000
+
+pub joined_points : (us : List ℕ) → are_units us ≡ true → list_all is_point (joined_units us) ≡ true
+unfolding joined_units
+joined_points [] h = refl
+joined_points (u ∷ []) h = and_from (is_point u) true (let l = ltb-true u 0x1_0000 (and_parts (is_unit u) true h).0 in lt-ltb u 0x11_0000 (omega arith)) refl
+joined_points (u ∷ v ∷ us) h =
+    by (is_pair u v) refl (joined_points us (and_parts (is_unit v) (are_units us) k.1).1) (joined_points (v ∷ us) k.1)
+  where
+    k : (is_unit u ≡ true) × (are_units (v ∷ us) ≡ true)
+    k = and_parts (is_unit u) (are_units (v ∷ us)) h
+
+    by : (b : Bool) → is_pair u v ≡ b → list_all is_point (joined_units us) ≡ true → list_all is_point (joined_units (v ∷ us)) ≡ true → list_all is_point (joined_units (u ∷ v ∷ us)) ≡ true
+    by true e f g =
+        let p = pair_facts u v e in
+        ap (list_all is_point) (joined_pair u v us e) ∙ and_from (is_point (surrogate_pair_char u v)) (list_all is_point (joined_units us)) (lt-ltb (surrogate_pair_char u v) 0x11_0000 (omega arith)) f
+    by false e f g =
+        let l = ltb-true u 0x1_0000 k.0 in
+        ap (list_all is_point) (joined_single u (v ∷ us) e) ∙ and_from (is_point u) (list_all is_point (joined_units (v ∷ us))) (lt-ltb u 0x11_0000 (omega arith)) g
 
 -- ---- what a string keeps of its units
 

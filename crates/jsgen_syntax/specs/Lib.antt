@@ -2,6 +2,8 @@ pub mod Precedence
 pub mod Operator
 pub mod Name
 pub mod Buffer
+pub mod Escapes
 pub mod Strings
+pub mod Raw
 pub mod Wtf8
 pub mod Units

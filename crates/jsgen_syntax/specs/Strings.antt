@@ -1,11 +1,13 @@
 -- Strings (ECMA-262, 12.9.4), and templates without substitutions (12.9.6). A spelling is given by the characters between the quotes, a value by its units of UTF-16.
-use Rattle.std.specs.Prelude.{ℕ, ◌+◌, ◌-◌, ◌*◌, List, [], ◌∷◌, ◌++◌, take, Bool, true, false, not, ◌&&◌, ◌||◌, ◌==◌, nat_le, Option, Some, None, if◌then◌else◌, codes}
+pub use Rattle.jsgen_syntax.specs.Escapes.{begins, begins_with}
+use Rattle.std.specs.Prelude.{ℕ, ◌+◌, ◌-◌, ◌*◌, List, [], ◌∷◌, ◌++◌, take, Bool, true, false, not, ◌&&◌, ◌||◌, ◌==◌, nat_le, nat_lt, Option, Some, None, if◌then◌else◌, codes}
 use Rattle.std.specs.Char.{is_ascii_digit, is_ascii_hexdigit, digit_value}
 use Rattle.std.specs.Char.Escape.{encode_utf16}
-use Rattle.std.specs.List.{list_all}
 use Rattle.std.specs.Option.{option_map}
 use Rattle.std.specs.Str.{str_eq_ignore_ascii_case}
 use lib.Utf8.{scalar}
+use Rattle.jsgen_syntax.specs.Escapes.{unit_escape, lower_digit, character_escape}
+use Rattle.jsgen_syntax.specs.Wtf8.{joined_units, is_surrogate}
 use Rattle.jsgen_syntax.specs.declared.quote.Quote.{Quote}
 use Rattle.jsgen_syntax.specs.declared.quote.Quote.TheVariants as quotes
 
@@ -18,14 +20,6 @@ abbrev pub is_backtick : Quote → Bool
 is_backtick quotes.Single = false
 is_backtick quotes.Double = false
 is_backtick quotes.Backtick = true
-
--- the text begins with such a character
-abbrev pub begins : (ℕ → Bool) → List ℕ → Bool
-begins test [] = false
-begins test (c ∷ cs) = test c
-
-abbrev pub begins_with : ℕ → List ℕ → Bool
-begins_with d text = begins (λ c. c == d) text
 
 -- LF, CR, U+2028 or U+2029 (12.3)
 abbrev pub ends_line : ℕ → Bool
@@ -99,37 +93,59 @@ unfoldable mutual
 
 -- ---- the spelling that is printed
 
--- the units are the letters of `script`, in upper or lower case
+-- the characters are the letters of `script`, in upper or lower case
 abbrev pub begins_script : List ℕ → Bool
-begins_script units = str_eq_ignore_ascii_case (take 6 units) (codes "script")
+begins_script text = str_eq_ignore_ascii_case (take 6 text) (codes "script")
 
--- A backslash stands before the unit: before a backslash, the quote, the `$` of `${` in backticks, and the `/` of `</script`, so that no text ends the script that it stands in.
+-- A backslash stands before the character: before a backslash, the quote, the `$` of `${` in backticks, and the `/` of `</script`, so that no text ends the script that it stands in.
 abbrev pub needs_backslash : Quote → Bool → ℕ → List ℕ → Bool
-needs_backslash q after_less u rest =
-    (u == 92) || (u == quote_char q) || (is_backtick q && (u == 36) && begins_with 123 rest) || (after_less && (u == 47) && begins_script rest)
+needs_backslash q after_less c rest =
+    (c == 92) || (c == quote_char q) || (is_backtick q && (c == 36) && begins_with 123 rest) || (after_less && (c == 47) && begins_script rest)
 
--- the characters for one unit, which may stand behind a `<`, and has these units behind it
-abbrev pub unit_text : Quote → Bool → ℕ → List ℕ → List ℕ
-unit_text q after_less u rest = if needs_backslash q after_less u rest then 92 ∷ u ∷ [] else u ∷ []
+-- A character below U+0020: the escape that it has, or itself. `\0` mustn't stand before a digit, and backticks may hold a line end
+abbrev pub control_text : Quote → ℕ → List ℕ → List ℕ
+control_text q c rest =
+    if c == 0 then (if begins is_ascii_digit rest then codes "\\x00" else codes "\\0")
+    else (if c == 7 then codes "\\x07"
+    else (if c == 8 then codes "\\b"
+    else (if c == 10 then (if is_backtick q then 10 ∷ [] else codes "\\n")
+    else (if c == 11 then codes "\\v"
+    else (if c == 12 then codes "\\f"
+    else (if c == 13 then codes "\\r"
+    else (if c == 27 then codes "\\x1B"
+    else c ∷ [])))))))
 
--- the characters for units that may stand behind a `<`
-unfoldable pub escaped_after : Quote → Bool → List ℕ → List ℕ
-escaped_after q after_less [] = []
-escaped_after q after_less (u ∷ us) = unit_text q after_less u us ++ escaped_after q (u == 60) us
+-- another character of ASCII, which may stand behind a `<`, and has these behind it
+abbrev pub ascii_text : Quote → Bool → ℕ → List ℕ → List ℕ
+ascii_text q after_less c rest = if needs_backslash q after_less c rest then 92 ∷ c ∷ [] else c ∷ []
 
--- the characters between the quotes, so far for values of 32 to 126 only
-abbrev pub escaped : Quote → List ℕ → List ℕ
-escaped q units = escaped_after q false units
+-- A code point past ASCII: an escape for a surrogate without its partner, for each where the text is to be ASCII, and for U+00A0, U+2028 and U+2029
+abbrev pub past_ascii_text : Bool → ℕ → List ℕ
+past_ascii_text ascii c =
+    if is_surrogate c then unit_escape lower_digit c
+    else (if ascii then character_escape c
+    else (if c == 0xA0 then codes "\\xA0"
+    else (if (c == 0x2028) || (c == 0x2029) then unit_escape lower_digit c
+    else c ∷ [])))
 
-abbrev pub quoted : Quote → List ℕ → List ℕ
-quoted q units = quote_char q ∷ (escaped q units ++ quote_char q ∷ [])
+-- the characters for one code point
+abbrev pub point_text : Quote → Bool → Bool → ℕ → List ℕ → List ℕ
+point_text q ascii after_less c rest =
+    if nat_lt c 32 then control_text q c rest
+    else (if nat_lt c 128 then ascii_text q after_less c rest
+    else past_ascii_text ascii c)
 
--- from a space to `~`
-abbrev pub is_plain_unit : ℕ → Bool
-is_plain_unit u = nat_le 32 u && nat_le u 126
+-- the characters for code points that may stand behind a `<`
+unfoldable pub escaped_after : Quote → Bool → Bool → List ℕ → List ℕ
+escaped_after q ascii after_less [] = []
+escaped_after q ascii after_less (c ∷ cs) = point_text q ascii after_less c cs ++ escaped_after q ascii (c == 60) cs
 
-abbrev pub is_plain_string : List ℕ → Bool
-is_plain_string units = list_all is_plain_unit units
+-- the characters between the quotes, for these units: all of ASCII, where the test holds
+abbrev pub escaped : Quote → Bool → List ℕ → List ℕ
+escaped q ascii units = escaped_after q ascii false (joined_units units)
+
+abbrev pub quoted : Quote → Bool → List ℕ → List ℕ
+quoted q ascii units = quote_char q ∷ (escaped q ascii units ++ quote_char q ∷ [])
 
 -- ---- the shortest quote
 

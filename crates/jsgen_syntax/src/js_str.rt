@@ -1,6 +1,5 @@
 ghost use Rattle.std.specs.Prelude.{◌≡◌, true};
 ghost use Rattle.std.specs.Str.{encode_utf8_all};
-ghost use Rattle.jsgen_syntax.specs.Strings.{is_plain_string};
 ghost use Rattle.jsgen_syntax.specs.Wtf8.{are_units, has_lone, joined_units, wtf8_units};
 
 use crate::code_points::{is_surrogate, push_code, take_code};
@@ -65,13 +64,6 @@ impl JsStr {
         self.lone
     }
 
-    /// Whether each unit is one of ASCII from a space to `~`.
-    pub fn is_plain(&self) -> bool
-        ensures { result ≡ is_plain_string (js_units self.now) }
-    {
-        are_plain(self.bytes.as_slice())
-    }
-
     /// The bytes in WTF-8.
     pub fn as_bytes(&self) -> &[u8]
         ensures { result.now ≡ encode_utf8_all (joined_units (js_units self.now)) }
@@ -90,10 +82,4 @@ impl JsStr {
             Some(unsafe { std::str::from_utf8_unchecked(self.bytes.as_slice()) })
         }
     }
-}
-
-fn are_plain(bytes: &[u8]) -> bool
-    ensures { result ≡ is_plain_string bytes.now }
-{
-    bytes.iter().all(|byte| 32 <= *byte && *byte <= 126)
 }

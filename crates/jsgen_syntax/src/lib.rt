@@ -3,18 +3,20 @@
 
 mod buffer;
 mod code_points;
+mod escape;
 mod js_str;
+mod line;
 mod memory;
 mod name;
 mod operator;
 mod precedence;
 mod quote;
 mod span;
-#[cfg(test)]
-mod tests;
 
 pub use buffer::{CodeBuffer, IndentChar};
+pub use escape::NonAsciiEscape;
 pub use js_str::JsStr;
+pub use line::is_line_terminator;
 pub use memory::Memory;
 pub use name::{is_name, is_reserved, is_strict_reserved};
 pub use operator::{BinaryOperator, LogicalOperator};

@@ -1,20 +1,22 @@
 -- The text in the cheapest quote is the shortest.
-use Rattle.std.proofs.Common.{◌≡◌, ℕ, ◌+◌, ◌≤◌, Bool, true, false, not, nat_le, ◌&&◌, ◌||◌, ◌==◌, List, [], ◌∷◌, length, if◌then◌else◌, refl, sym, ap, ◌∙◌, subst, arith, length-append}
-use Rattle.std.proofs.lemmas.Bool.{both_ways, and_parts, leb-true, leb-false, eqb-true, ne_eqb}
+use Rattle.std.proofs.Common.{◌≡◌, ℕ, ◌+◌, ◌≤◌, ◌<◌, Bool, true, false, not, nat_le, nat_lt, ◌&&◌, ◌||◌, ◌==◌, List, [], ◌∷◌, length, if◌then◌else◌, refl, sym, ap, ◌∙◌, subst, arith, length-append}
+use Rattle.std.proofs.lemmas.Bool.{both_ways, and_parts, or_from, and_left, leb-true, leb-false, ltb-true, ltb-false, eqb-true, ne_eqb}
 use Rattle.jsgen_syntax.specs.declared.quote.Quote.{Quote}
 use Rattle.jsgen_syntax.specs.declared.quote.Quote.TheVariants.{Single, Double, Backtick}
-use Rattle.jsgen_syntax.specs.Strings.{quote_char, is_backtick, begins_with, begins_script, needs_backslash, unit_text, escaped_after, escaped, quoted, is_plain_unit, is_plain_string, costs_more, quote_cost, cheapest_of, cheapest}
+use Rattle.jsgen_syntax.specs.Strings.{quote_char, is_backtick, begins_with, begins_script, needs_backslash, control_text, ascii_text, past_ascii_text, point_text, escaped_after, escaped, quoted, costs_more, quote_cost, cheapest_of, cheapest}
+use Rattle.jsgen_syntax.specs.Wtf8.{are_units, joined_units}
+use Rattle.jsgen_syntax.proofs.Bytes.{costs_none, quote_cost-points}
 
 -- a backslash that each quote needs
 abbrev always : Bool → ℕ → List ℕ → Bool
-always after_less u rest = (u == 92) || (after_less && (u == 47) && begins_script rest)
+always after_less c rest = (c == 92) || (after_less && (c == 47) && begins_script rest)
 
 abbrev one_if : Bool → ℕ
 one_if b = if b then 1 else 0
 
 -- a backslash that this quote needs
 abbrev here : Quote → ℕ → List ℕ → Bool
-here q u rest = (u == quote_char q) || (is_backtick q && (u == 36) && begins_with 123 rest)
+here q c rest = (c == quote_char q) || (is_backtick q && (c == 36) && begins_with 123 rest)
 
 counted : (a x y z : Bool) → (a ≡ true → (x || y) ≡ false) → (z ≡ true → (x || y) ≡ false) → 1 + one_if (a || x || y || z) ≡ 1 + one_if (a || z) + one_if (x || y)
 counted true x y z f g = ap (λ w. 2 + one_if w) (sym (f refl))
@@ -25,8 +27,8 @@ counted false false true false f g = refl
 counted false false false true f g = refl
 counted false false false false f g = refl
 
-not_here : (q : Quote) (u : ℕ) (rest : List ℕ) (d : ℕ) → (u == d) ≡ true → ((p : Quote) → here p d rest ≡ false) → here q u rest ≡ false
-not_here q u rest d e h = subst (λ x. here q x rest ≡ false) (sym (eqb-true u d e)) (h q)
+not_here : (q : Quote) (c : ℕ) (rest : List ℕ) (d : ℕ) → (c == d) ≡ true → ((p : Quote) → here p d rest ≡ false) → here q c rest ≡ false
+not_here q c rest d e h = subst (λ x. here q x rest ≡ false) (sym (eqb-true c d e)) (h q)
 
 backslash_apart : (rest : List ℕ) (q : Quote) → here q 92 rest ≡ false
 backslash_apart rest Single = refl
@@ -39,47 +41,92 @@ slash_apart rest Double = refl
 slash_apart rest Backtick = refl
 
 -- but for an LF
-costs_here : (q : Quote) (u : ℕ) (rest : List ℕ) → (u == 10) ≡ false → costs_more q u rest ≡ here q u rest
-costs_here Single u rest e = ap (λ b. (u == 39) || b) e
-costs_here Double u rest e = ap (λ b. (u == 34) || b) e
-costs_here Backtick u rest e = refl
+costs_here : (q : Quote) (c : ℕ) (rest : List ℕ) → (c == 10) ≡ false → costs_more q c rest ≡ here q c rest
+costs_here Single c rest e = ap (λ b. (c == 39) || b) e
+costs_here Double c rest e = ap (λ b. (c == 34) || b) e
+costs_here Backtick c rest e = refl
 
-lengths : (b : Bool) (u : ℕ) → length (if b then 92 ∷ u ∷ [] else u ∷ []) ≡ 1 + one_if b
-lengths true u = refl
-lengths false u = refl
+-- ---- one code point
 
-unit_length : (q : Quote) (after_less : Bool) (u : ℕ) (rest : List ℕ) → is_plain_unit u ≡ true → length (unit_text q after_less u rest) ≡ 1 + one_if (always after_less u rest) + one_if (costs_more q u rest)
-unit_length q after_less u rest plain =
-    let low = leb-true 32 u (and_parts (nat_le 32 u) (nat_le u 126) plain).0 in
-    let e = costs_here q u rest (ne_eqb u 10 (λ k. omega arith)) in
-    lengths (needs_backslash q after_less u rest) u
-    ∙ (counted (u == 92) (u == quote_char q) (is_backtick q && (u == 36) && begins_with 123 rest) (after_less && (u == 47) && begins_script rest)
-    (λ k. not_here q u rest 92 k (backslash_apart rest))
-    (λ k. not_here q u rest 47 (and_parts after_less (u == 47) (and_parts (after_less && (u == 47)) (begins_script rest) k).0).1 (slash_apart rest))
-    ∙ ap (λ b. 1 + one_if (always after_less u rest) + one_if b) (sym e))
+-- its length in a quote where it costs nothing
+abbrev shared_length : Bool → Bool → ℕ → List ℕ → ℕ
+shared_length ascii after_less c rest =
+    if nat_lt c 32 then length (control_text Backtick c rest)
+    else (if nat_lt c 128 then 1 + one_if (always after_less c rest)
+    else length (past_ascii_text ascii c))
+
+line_end_length : (q : Quote) (rest : List ℕ) → length (control_text q 10 rest) ≡ length (control_text Backtick 10 rest) + one_if (costs_more q 10 rest)
+line_end_length Single rest = refl
+line_end_length Double rest = refl
+line_end_length Backtick rest = refl
+
+control_alike : (q : Quote) (c : ℕ) (rest : List ℕ) → (c == 10) ≡ false → control_text q c rest ≡ control_text Backtick c rest
+control_alike q c rest e = rw e refl
+
+control_free : (q : Quote) (c : ℕ) (rest : List ℕ) → c < 32 → here q c rest ≡ false
+control_free Single c rest l = or_from (c == 39) false (ne_eqb c 39 (λ e. omega arith)) refl
+control_free Double c rest l = or_from (c == 34) false (ne_eqb c 34 (λ e. omega arith)) refl
+control_free Backtick c rest l = or_from (c == 96) ((c == 36) && begins_with 123 rest) (ne_eqb c 96 (λ e. omega arith)) (and_left (c == 36) (begins_with 123 rest) (ne_eqb c 36 (λ e. omega arith)))
+
+control_length : (q : Quote) (c : ℕ) (rest : List ℕ) → c < 32 → length (control_text q c rest) ≡ length (control_text Backtick c rest) + one_if (costs_more q c rest)
+control_length q c rest l = by (c == 10) refl
+  where
+    by : (b : Bool) → (c == 10) ≡ b → length (control_text q c rest) ≡ length (control_text Backtick c rest) + one_if (costs_more q c rest)
+    by true e = subst (λ x. length (control_text q x rest) ≡ length (control_text Backtick x rest) + one_if (costs_more q x rest)) (sym (eqb-true c 10 e)) (line_end_length q rest)
+    by false e =
+        let alike = ap length (control_alike q c rest e) in
+        let free = ap one_if (costs_here q c rest e ∙ control_free q c rest l) in
+        omega arith
+
+lengths : (b : Bool) (c : ℕ) → length (if b then 92 ∷ c ∷ [] else c ∷ []) ≡ 1 + one_if b
+lengths true c = refl
+lengths false c = refl
+
+ascii_length : (q : Quote) (after_less : Bool) (c : ℕ) (rest : List ℕ) → 32 ≤ c → length (ascii_text q after_less c rest) ≡ 1 + one_if (always after_less c rest) + one_if (costs_more q c rest)
+ascii_length q after_less c rest l =
+    let e = costs_here q c rest (ne_eqb c 10 (λ k. omega arith)) in
+    lengths (needs_backslash q after_less c rest) c
+    ∙ (counted (c == 92) (c == quote_char q) (is_backtick q && (c == 36) && begins_with 123 rest) (after_less && (c == 47) && begins_script rest)
+    (λ k. not_here q c rest 92 k (backslash_apart rest))
+    (λ k. not_here q c rest 47 (and_parts after_less (c == 47) (and_parts (after_less && (c == 47)) (begins_script rest) k).0).1 (slash_apart rest))
+    ∙ ap (λ b. 1 + one_if (always after_less c rest) + one_if b) (sym e))
+
+past_length : (q : Quote) (ascii : Bool) (c : ℕ) (rest : List ℕ) → 128 ≤ c → length (past_ascii_text ascii c) ≡ length (past_ascii_text ascii c) + one_if (costs_more q c rest)
+past_length q ascii c rest l = and_none (length (past_ascii_text ascii c)) (one_if (costs_more q c rest)) (ap one_if (costs_none q c rest l))
+  where
+    and_none : (n m : ℕ) → m ≡ 0 → n ≡ n + m
+    and_none n m e = omega arith
+
+point_length : (q : Quote) (ascii after_less : Bool) (c : ℕ) (rest : List ℕ) → length (point_text q ascii after_less c rest) ≡ shared_length ascii after_less c rest + one_if (costs_more q c rest)
+point_length q ascii after_less c rest = by (nat_lt c 32) refl (nat_lt c 128) refl
+  where
+    by : (x : Bool) → nat_lt c 32 ≡ x → (y : Bool) → nat_lt c 128 ≡ y
+        → length (if x then control_text q c rest else (if y then ascii_text q after_less c rest else past_ascii_text ascii c))
+        ≡ (if x then length (control_text Backtick c rest) else (if y then 1 + one_if (always after_less c rest) else length (past_ascii_text ascii c))) + one_if (costs_more q c rest)
+    by true e y f = control_length q c rest (ltb-true c 32 e)
+    by false e true f = ascii_length q after_less c rest (ltb-false c 32 e)
+    by false e false f = past_length q ascii c rest (ltb-false c 128 f)
+
+-- ---- the whole text
 
 -- what each quote's text has in common
-shared : Bool → List ℕ → ℕ
-shared after_less [] = 0
-shared after_less (u ∷ us) = 1 + one_if (always after_less u us) + shared (u == 60) us
+shared : Bool → Bool → List ℕ → ℕ
+shared ascii after_less [] = 0
+shared ascii after_less (c ∷ cs) = shared_length ascii after_less c cs + shared ascii (c == 60) cs
 
-escaped_length : (q : Quote) (after_less : Bool) (us : List ℕ) → is_plain_string us ≡ true → length (escaped_after q after_less us) ≡ shared after_less us + quote_cost q us
+escaped_length : (q : Quote) (ascii after_less : Bool) (cs : List ℕ) → length (escaped_after q ascii after_less cs) ≡ shared ascii after_less cs + quote_cost q cs
 unfolding escaped_after quote_cost shared
-escaped_length q after_less [] h = refl
-escaped_length q after_less (u ∷ us) h =
-    let k = and_parts (is_plain_unit u) (is_plain_string us) h in
-    let rest = escaped_length q (u == 60) us k.1 in
-    let first = unit_length q after_less u us k.0 in
-    let both = length-append (unit_text q after_less u us) (escaped_after q (u == 60) us) in
-    summed _ _ _ _ _ _ _ both first rest
+escaped_length q ascii after_less [] = refl
+escaped_length q ascii after_less (c ∷ cs) = summed _ _ _ _ _ _ _ (length-append (point_text q ascii after_less c cs) (escaped_after q ascii (c == 60) cs)) (point_length q ascii after_less c cs) (escaped_length q ascii (c == 60) cs)
   where
-    summed : (n a b x y s c : ℕ) → n ≡ a + b → a ≡ 1 + x + y → b ≡ s + c → n ≡ 1 + x + s + (y + c)
-    summed n a b x y s c e f g = omega arith
+    summed : (n a b x y s k : ℕ) → n ≡ a + b → a ≡ x + y → b ≡ s + k → n ≡ x + s + (y + k)
+    summed n a b x y s k e f g = omega arith
 
-quoted_length : (q : Quote) (us : List ℕ) → is_plain_string us ≡ true → length (quoted q us) ≡ shared false us + 2 + quote_cost q us
-quoted_length q us h =
-    let e = escaped_length q false us h in
-    let k = length-append (escaped q us) (quote_char q ∷ []) in
+quoted_length : (q : Quote) (ascii : Bool) (us : List ℕ) → are_units us ≡ true → length (quoted q ascii us) ≡ shared ascii false (joined_units us) + 2 + quote_cost q us
+quoted_length q ascii us h =
+    let e = escaped_length q ascii false (joined_units us) in
+    let same = quote_cost-points q us h in
+    let k = length-append (escaped q ascii us) (quote_char q ∷ []) in
     omega arith
 
 -- ---- the least cost
@@ -119,14 +166,10 @@ cost_is Single us = refl
 cost_is Double us = refl
 cost_is Backtick us = refl
 
-pub shortest : (b : Bool) (q : Quote) (us : List ℕ) → is_plain_string us ≡ true → (b || not (is_backtick q)) ≡ true → length (quoted (cheapest b us) us) ≤ length (quoted q us)
-shortest b q us h allowed =
+pub shortest : (b : Bool) (q : Quote) (ascii : Bool) (us : List ℕ) → are_units us ≡ true → (b || not (is_backtick q)) ≡ true → length (quoted (cheapest b us) ascii us) ≤ length (quoted q ascii us)
+shortest b q ascii us h allowed =
     let least_cost = least b (quote_cost Single us) (quote_cost Double us) (quote_cost Backtick us) q allowed in
-    let one = quoted_length (cheapest b us) us h in
-    let other = quoted_length q us h in
-    let its = cost_is (cheapest b us) us in
-    let there = cost_is q us in
-    ordered _ _ _ _ _ _ _ one other its there least_cost
+    ordered _ _ _ _ _ _ _ (quoted_length (cheapest b us) ascii us h) (quoted_length q ascii us h) (cost_is (cheapest b us) us) (cost_is q us) least_cost
   where
     ordered : (m n s x y a b : ℕ) → m ≡ s + 2 + x → n ≡ s + 2 + y → a ≡ x → b ≡ y → a ≤ b → m ≤ n
     ordered m n s x y a b e f g h l = omega arith

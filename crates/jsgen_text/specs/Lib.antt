@@ -1,1 +1,4 @@
+pub mod Changes
 pub mod Law
+pub mod Machine
+pub mod Points

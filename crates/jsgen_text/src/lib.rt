@@ -1,23 +1,27 @@
-//! Strings as they are printed, and laws on their spelling.
+//! Strings, names, directives, pieces of templates and patterns as they are printed, and laws on their spelling.
 #![tactic(auto)]
 
+mod directive;
+mod escapes;
+mod laws;
+mod name;
+mod points;
 mod printed;
 mod quotes;
-#[cfg(test)]
-mod tests;
+mod raw;
+mod spelling;
 
-ghost use Rattle.jsgen_text.specs.Law.{PrintedLiteralHasItsValue, CheapestIsShortest};
-
-pub use jsgen_syntax::Quote;
+pub use directive::directive_quote;
+pub use jsgen_syntax::{NonAsciiEscape, Quote};
+pub use laws::{
+    ascii_text_is_ascii, backslashes_taken_out, cheapest_is_shortest, no_tag_closes,
+    printed_literal_has_its_value,
+};
+pub use name::print_name_text;
 pub use printed::{is_script_close_tag, print_string_text};
 pub use quotes::cheapest_quote;
-
-/// What is printed for a string of ASCII that prints is a spelling of it, whatever the quote.
-pub fn printed_literal_has_its_value()
-    ensures { PrintedLiteralHasItsValue }
-{}
-
-/// No other quote that is allowed makes a shorter text of such a string.
-pub fn cheapest_is_shortest()
-    ensures { CheapestIsShortest }
-{}
+pub use raw::{
+    print_directive_raw, print_non_ascii_escaped, print_regex_pattern,
+    print_str_escaping_script_close_tag, print_template_quasi_raw,
+};
+pub use spelling::spells_string;

@@ -56,7 +56,7 @@ fn costs_more(quote: Quote, first: u8, behind: &[u8]) -> bool
 }
 
 // Whether `{` is the next byte.
-pub(crate) fn begins_with_brace(bytes: &[u8]) -> bool
+fn begins_with_brace(bytes: &[u8]) -> bool
     ensures { result ≡ begins_with 123 bytes.now }
 {
     match bytes.split_first() {

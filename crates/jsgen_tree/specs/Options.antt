@@ -1,5 +1,5 @@
 -- The plain data of what a caller can choose about a text.
-use Rattle.std.specs.Prelude.{ℕ, List, Bool, true, false, Option, Some, None, option_map}
+use Rattle.std.specs.Prelude.{ℕ, List, Bool, true, false, Option, None, option_map}
 use Rattle.jsgen_syntax.specs.declared.buffer.IndentChar.{IndentChar}
 use Rattle.jsgen_syntax.specs.declared.buffer.IndentChar.TheVariants.{Tab}
 use Rattle.jsgen_tree.specs.Rows.{characters}

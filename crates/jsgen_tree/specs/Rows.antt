@@ -3,12 +3,13 @@ use Rattle.std.specs.Prelude.{ℕ, List, [], ◌∷◌, map, option_map, String,
 use Rattle.std.specs.Str.{chars}
 use Rattle.std.specs.declared.alloc.Global.{Global}
 use Rattle.jsgen_syntax.specs.Units.{js_units}
-use Rattle.jsgen_tree.specs.Tree.{Tree, Atom, text, units, digits, source_kind, declaration_kind, numeric_kind, Whole, binary_operator, logical_operator, flag, optional, trees, program, expression_statement, variable_declaration, variable_declarator, binding_identifier, identifier_reference, numeric_literal, string_literal, parenthesized, binary, logical, identifier_name, static_member, computed_member, call, block, if_statement, empty_statement}
+use Rattle.jsgen_tree.specs.Tree.{Tree, Atom, text, units, digits, source_kind, declaration_kind, numeric_kind, Whole, binary_operator, logical_operator, flag, optional, trees, program, directive, expression_statement, variable_declaration, variable_declarator, binding_identifier, identifier_reference, numeric_literal, string_literal, parenthesized, binary, logical, identifier_name, static_member, computed_member, call, block, if_statement, empty_statement}
 use Rattle.jsgen_tree.specs.declared.nodes.ExpressionNode.{ExpressionNode}
 use Rattle.jsgen_tree.specs.declared.nodes.StatementNode.{StatementNode}
 use Rattle.jsgen_tree.specs.declared.nodes.DeclarationNode.{DeclarationNode}
 use Rattle.jsgen_tree.specs.declared.nodes.BindingPatternNode.{BindingPatternNode}
 use Rattle.jsgen_tree.specs.declared.statements.Program.{Program}
+use Rattle.jsgen_tree.specs.declared.statements.Directive.{Directive}
 use Rattle.jsgen_tree.specs.declared.statements.ExpressionStatement.{ExpressionStatement}
 use Rattle.jsgen_tree.specs.declared.statements.VariableDeclaration.{VariableDeclaration}
 use Rattle.jsgen_tree.specs.declared.statements.VariableDeclarator.{VariableDeclarator}
@@ -116,8 +117,11 @@ if_statement_row plain n = if_statement (record { span = n.span; values = [] }) 
 abbrev pub empty_statement_row : EmptyStatement → Tree
 empty_statement_row n = empty_statement (record { span = n.span; values = [] })
 
+abbrev pub directive_row : Directive → Tree
+directive_row n = directive (record { span = n.span; values = text (characters n.directive) ∷ [] })
+
 abbrev pub program_row : {N : Type 0} → (N → Tree) → Program N → Tree
-program_row plain n = program (record { span = n.span; values = text (characters n.source) ∷ source_kind n.kind ∷ [] }) (trees (map (in_statement plain) n.body.items))
+program_row plain n = program (record { span = n.span; values = text (characters n.source) ∷ source_kind n.kind ∷ [] }) (trees (map directive_row n.directives.items)) (trees (map (in_statement plain) n.body.items))
 
 -- ---- sets
 

@@ -64,7 +64,10 @@ logical_operator_words = means (codes "||") (logical_operator logical_operators.
 -- ---- fields: one list for each type, in the order of their numbers, from 2 on
 
 abbrev pub program_fields : List Field
-program_fields = may_have (codes "source") text ∷ needs (codes "kind") (word source_kind_words) ∷ not_yet (codes "jsx") ∷ not_yet (codes "typescript") ∷ not_yet (codes "comments") ∷ not_yet (codes "hashbang") ∷ not_yet (codes "directives") ∷ may_have (codes "body") (children sets.Statement) ∷ []
+program_fields = may_have (codes "source") text ∷ needs (codes "kind") (word source_kind_words) ∷ not_yet (codes "jsx") ∷ not_yet (codes "typescript") ∷ not_yet (codes "comments") ∷ not_yet (codes "hashbang") ∷ may_have (codes "directives") (children sets.Directive) ∷ may_have (codes "body") (children sets.Statement) ∷ []
+
+abbrev pub directive_fields : List Field
+directive_fields = needs (codes "directive") text ∷ []
 
 abbrev pub expression_statement_fields : List Field
 expression_statement_fields = needs (codes "expression") (child sets.Expression) ∷ []
@@ -119,6 +122,7 @@ empty_statement_fields = []
 
 abbrev pub fields : NodeType → List Field
 fields types.Program = program_fields
+fields types.Directive = directive_fields
 fields types.ExpressionStatement = expression_statement_fields
 fields types.VariableDeclaration = variable_declaration_fields
 fields types.VariableDeclarator = variable_declarator_fields
@@ -171,6 +175,10 @@ abbrev pub is_identifier_name : NodeType → Bool
 is_identifier_name types.IdentifierName = true
 is_identifier_name other = false
 
+abbrev pub is_directive : NodeType → Bool
+is_directive types.Directive = true
+is_directive other = false
+
 abbrev pub in_set : NodeSet → NodeType → Bool
 in_set sets.Expression t = is_expression t
 in_set sets.Statement t = is_statement t
@@ -178,6 +186,7 @@ in_set sets.BindingPattern t = is_binding_pattern t
 in_set sets.VariableDeclarator t = is_variable_declarator t
 in_set sets.IdentifierName t = is_identifier_name t
 in_set sets.Argument t = is_expression t
+in_set sets.Directive t = is_directive t
 
 -- the sets of the fields that hold children, in their order
 abbrev pub child_sets : List Field → List NodeSet

@@ -106,8 +106,11 @@ logical_operator_in (a ∷ values) = logical_operator_in values
 
 -- ---- the rows, as patterns
 
-pattern abbrev pub program : Atoms → Trees → Tree
-program a body = node types.Program a (many body no_slots)
+pattern abbrev pub program : Atoms → Trees → Trees → Tree
+program a directives body = node types.Program a (many directives (many body no_slots))
+
+pattern abbrev pub directive : Atoms → Tree
+directive a = node types.Directive a no_slots
 
 pattern abbrev pub expression_statement : Atoms → Tree → Tree
 expression_statement a expression = node types.ExpressionStatement a (one expression no_slots)

@@ -23,10 +23,7 @@ pub use options::{CodegenOptions, CommentOptions, LegalComment};
 pub use sets::{Argument, BindingPattern, Declaration, Expression, Statement};
 pub use span::GetSpan;
 pub use statements::{
-    BindingIdentifier, BlockStatement, EmptyStatement, ExpressionStatement, IfStatement, Program,
-    VariableDeclaration, VariableDeclarationKind, VariableDeclarator,
+    BindingIdentifier, BlockStatement, Directive, EmptyStatement, ExpressionStatement, IfStatement,
+    Program, VariableDeclaration, VariableDeclarationKind, VariableDeclarator,
 };
 pub use types::{NodeSet, NodeType};
-
-#[cfg(test)]
-mod tests;

@@ -12,8 +12,8 @@ use crate::expressions::{
 use crate::nodes::Node;
 use crate::sets::{Argument, BindingPattern, Declaration, Expression, Statement};
 use crate::statements::{
-    BindingIdentifier, BlockStatement, EmptyStatement, ExpressionStatement, IfStatement, Program,
-    VariableDeclaration, VariableDeclarator,
+    BindingIdentifier, BlockStatement, Directive, EmptyStatement, ExpressionStatement, IfStatement,
+    Program, VariableDeclaration, VariableDeclarator,
 };
 use jsgen_syntax::Span;
 
@@ -28,6 +28,14 @@ pub trait GetSpan {
 }
 
 impl<N> GetSpan for Program<N> {
+    ghost own_span = { λ n. n.span };
+
+    fn span(&self) -> Span {
+        self.span
+    }
+}
+
+impl GetSpan for Directive {
     ghost own_span = { λ n. n.span };
 
     fn span(&self) -> Span {

@@ -11,7 +11,16 @@ pub struct Program<N = Node> {
     /// The text that spans speak of; empty where there is none.
     pub source: String,
     pub kind: SourceKind,
+    pub directives: Vec<Directive>,
     pub body: Vec<StatementNode<N>>,
+}
+
+/// A string at the front of a body that a program says something by (ECMA-262, 11.2.1).
+#[derive(Drop)]
+pub struct Directive {
+    pub span: Span,
+    /// What stands between its quotes, as it is written.
+    pub directive: String,
 }
 
 /// The word that begins a declaration of variables.

@@ -6,6 +6,7 @@ ghost use Rattle.jsgen_tree.specs.Table.{in_set, is_expression, is_statement};
 #[derive(Clone, Copy, Debug, PartialEq, Eq)]
 pub enum NodeType {
     Program,
+    Directive,
     ExpressionStatement,
     VariableDeclaration,
     VariableDeclarator,
@@ -34,6 +35,7 @@ pub enum NodeSet {
     VariableDeclarator,
     IdentifierName,
     Argument,
+    Directive,
 }
 
 impl NodeType {
@@ -48,6 +50,7 @@ impl NodeType {
             NodeSet::VariableDeclarator => matches!(&self, NodeType::VariableDeclarator),
             NodeSet::IdentifierName => matches!(&self, NodeType::IdentifierName),
             NodeSet::Argument => self.is_expression(),
+            NodeSet::Directive => matches!(&self, NodeType::Directive),
         }
     }
 

@@ -2,6 +2,8 @@ use Rattle.std.proofs.Common.{Bool, true, false, codes, refl, ap}
 use Rattle.std.specs.Fmt.{digits}
 use Rattle.std.specs.Str.{bytes_eq}
 use Rattle.std.proofs.lemmas.Bool.{both_ways}
+use Rattle.jsgen_syntax.specs.Raw.{first_quote}
+use Rattle.jsgen_syntax.specs.Strings.{string_value}
 use Rattle.jsgen_syntax.specs.declared.operator.BinaryOperator.{BinaryOperator}
 use Rattle.jsgen_syntax.specs.declared.operator.BinaryOperator.TheVariants as operators
 use Rattle.jsgen_syntax.specs.declared.operator.LogicalOperator.{LogicalOperator}
@@ -38,7 +40,7 @@ begins_with_name (tree.binary a left right) = is_name left
 begins_with_name t = false
 
 abbrev begins_with_a : Tree → Bool
-begins_with_a (tree.program a (more (tree.expression_statement b e) ts)) = is_a e
+begins_with_a (tree.program a directives (more (tree.expression_statement b e) ts)) = is_a e
 begins_with_a t = false
 
 abbrev is_conjunction : Tree → Bool
@@ -57,8 +59,12 @@ abbrev has_alternate : Tree → Bool
 has_alternate (tree.if_statement a test consequent (given alternate)) = true
 has_alternate t = false
 
+abbrev has_directives : Tree → Bool
+has_directives (tree.program a no_trees body) = false
+has_directives t = true
+
 pub returns : goal.returns
-unfolding digits
+unfolding digits string_value first_quote
 returns c = record {
   parentheses = refl;
   as_grouped = refl;
@@ -71,6 +77,8 @@ returns c = record {
   number = refl;
   value_or_none = λ e. both_ways true (ap has_no_value e) refl;
   order = λ e. both_ways true (ap begins_with_a e) refl;
+  directive_by_value = refl;
+  directive_or_statement = λ e. both_ways true (ap has_directives e) refl;
   braces_of_a_consequent = refl;
   block_or_statement = λ e. both_ways true (ap has_block e) refl;
   alternate_or_none = λ e. both_ways true (ap has_alternate e) refl;

@@ -1,4 +1,4 @@
-use Rattle.std.proofs.Common.{◌≡◌, ℕ, Bool, ◌||◌, List, ◌++◌, Option, option_map, Result, Some, None, refl, sym, ◌∙◌, ap, subst}
+use Rattle.std.proofs.Common.{◌≡◌, ℕ, Bool, ◌||◌, List, ◌++◌, Option, option_map, Result, Some, None, refl, sym, ◌∙◌, ap, subst, arith}
 use Rattle.std.specs.Option.{option_copied, MatchOption}
 use Rattle.std.specs.Result.{IfOk}
 use Rattle.jsgen_syntax.specs.declared.memory.Memory.{Memory}
@@ -8,6 +8,7 @@ use Rattle.jsgen_slow.specs.Plain.{bracket_plain, tokens_plain}
 use Rattle.jsgen_slow.specs.Steps.{opening_at, behind_blanks, mark_at, IsRow, HasNoRow}
 use Rattle.jsgen_slow.specs.declared.row.Row.{Row}
 use Rattle.jsgen_slow.proofs.Groups.{no_inside, not_closed, nothing_behind, group_stands, no_token, no_others, opening_start}
+use Rattle.jsgen_slow.proofs.Pieces.{stands_shorter}
 use Rattle.jsgen_slow.proofs.Made.{piece_first, group_first}
 use Rattle.jsgen_slow.proofs.row.+row.Goals as goal
 
@@ -36,6 +37,9 @@ take_group-returns-clause-row t c =
     let some : text_behind (closing (bracket_plain c.args.bracket)) c.in-Some.inside.rest.now ≡ Some c.in-Some-text_behind.behind.now = ap (λ x. text_behind x c.in-Some.inside.rest.now) (sym c.closing.ensures) ∙ (sym c.text_behind.ensures ∙ ap option_copied c.in-Some-text_behind.is) in
     let made = ap tokens_plain c.in_ok-put_first.ensures ∙ group_first c.args.line c.args.bracket c.in-Some.inside.tokens c.in-Some-2.row.tokens.items in
     subst (λ ts. IsRow c.args.line (opening (bracket_plain c.args.bracket) ++ c.args.text.now) ts c.in-Some-2.row.rest.now) (sym made) (group_stands c.args.line (bracket_plain c.args.bracket) c.args.text.now _ _ _ _ _ inside some (rw c.in-Some-2.is at c.in_ok-row.ensures.row))
+
+pub take_others-take_row-requires : goal.take_others-take_row-requires
+take_others-take_row-requires t c = (omega (arith, stands_shorter c.args.text.now _ c.in-Some.taken.rest.now (rw c.in-Some.is at c.in_ok-taken.ensures)), tt)
 
 pub take_others-returns-in_default-clause-row : goal.take_others-returns-in_default-clause-row
 take_others-returns-in_default-clause-row t c = no_token _ c.args.text.now c.requires.goes_on c.requires.no_group (rw c.in_default.is at c.in_ok-taken.ensures)

@@ -1,22 +1,42 @@
+use Rattle.std.proofs.Common.{◌<◌, length, sym, ap, ◌∙◌, arith}
+use Rattle.std.proofs.lemmas.Bool.{eqb-true}
 use Rattle.jsgen_syntax.specs.Buffer.{buffer_bytes}
-use Rattle.jsgen_syntax.specs.Strings.{escaped}
-use Rattle.jsgen_text.proofs.Appending.{printed_unit, prefix_unit, printed_end, plain_first, on_err}
-use Rattle.std.proofs.Common.{◌∙◌}
+use Rattle.jsgen_text.proofs.Appending.{printed_piece, printed_end, stopped}
+use Rattle.jsgen_text.proofs.Escaped.{escaped_run, escaped_point, escaped_end}
+use Rattle.jsgen_text.proofs.Plain.{are_plain, plain_ascii, behind_run}
 use Rattle.jsgen_text.proofs.printed.print_escaped.Goals as goal
 
-pub returns-in_err-print_unit-clause-err : goal.returns-in_err-print_unit-clause-err
-returns-in_err-print_unit-clause-err c =
-    on_err c.from_residual.result _
-    (prefix_unit c.args.quote c.bytes.after_less c.in-Some.first.now c.bytes.rest.now c.in-Some.behind.now (buffer_bytes c.args.code.now) (buffer_bytes c.bytes.code) (buffer_bytes c.print_unit.new.code) (escaped c.args.quote c.args.bytes.now) c.in-Some.ensures.cases.0 c.bytes.invariant.printed c.in_err-print_unit.ensures.err)
+pub returns-in_err-print_point-clause-err : goal.returns-in_err-print_point-clause-err
+returns-in_err-print_point-clause-err c = stopped c.from_residual.result _ (buffer_bytes c.points.code) _ _ _ c.points.invariant.printed c.in_err-print_point.ensures.err
 
-pub bytes-preserved : goal.bytes-preserved
-bytes-preserved c =
+pub points-preserved-then-n-eq0 : goal.points-preserved-then-n-eq0
+points-preserved-then-n-eq0 c =
+    let p = c.take_point-point in
     record {
-      printed = printed_unit c.args.quote c.bytes.after_less c.in-Some.first.now c.bytes.rest.now c.in-Some.behind.now (buffer_bytes c.args.code.now) (buffer_bytes c.bytes.code) (buffer_bytes c.print_unit.new.code) (escaped c.args.quote c.args.bytes.now) c.in-Some.ensures.cases.0 c.bytes.invariant.printed c.in_ok-print_unit.ensures.appended;
-      plain = (plain_first c.in-Some.first.now c.bytes.rest.now c.in-Some.behind.now c.in-Some.ensures.cases.0 c.bytes.invariant.plain).1;
-      byte = c.in_ok-print_unit.ensures.byte ∙ c.bytes.invariant.byte;
-      width = c.in_ok-print_unit.ensures.width ∙ c.bytes.invariant.width;
+      points = p.ensures.behind;
+      printed = printed_piece _ (buffer_bytes c.points.code) _ _ _ _ _ c.points.invariant.printed (escaped_point c.args.quote c.args.ascii_only c.points.after_less c.points.rest.now p.result.code p.result.behind.now p.ensures.chars) c.in_ok-print_point.ensures.appended;
+      byte = c.in_ok-print_point.ensures.byte ∙ c.points.invariant.byte;
+      width = c.in_ok-print_point.ensures.width ∙ c.points.invariant.width;
+    }
+
+pub print_ascii-requires : goal.print_ascii-requires
+print_ascii-requires c = plain_ascii c.split_at.result.0.now (ap are_plain c.split_at.ensures.front ∙ c.plain_len-n.ensures.plain)
+
+pub returns-in_err-print_ascii-clause-err : goal.returns-in_err-print_ascii-clause-err
+returns-in_err-print_ascii-clause-err c = stopped c.from_residual-in_err-print_ascii.result _ (buffer_bytes c.points.code) _ _ _ c.points.invariant.printed c.in_err-print_ascii.ensures.err
+
+pub points-preserved : goal.points-preserved
+points-preserved c =
+    let run = c.split_at.result.0.now in
+    let plain = ap are_plain c.split_at.ensures.front ∙ c.plain_len-n.ensures.plain in
+    let some : 0 < length run = omega (arith, c.split_at.ensures.front_len) in
+    let cut = c.split_at.ensures.by_index.0 in
+    record {
+      points = (behind_run c.points.rest.now run c.split_at.result.1.now plain c.points.invariant.points cut).points;
+      printed = printed_piece _ (buffer_bytes c.points.code) _ _ _ _ _ c.points.invariant.printed (escaped_run c.args.quote c.args.ascii_only c.points.after_less c.points.rest.now run c.split_at.result.1.now plain some c.points.invariant.points cut) c.in_ok-print_ascii.ensures.appended;
+      byte = c.in_ok-print_ascii.ensures.byte ∙ c.points.invariant.byte;
+      width = c.in_ok-print_ascii.ensures.width ∙ c.points.invariant.width;
     }
 
 pub returns-clause-appended : goal.returns-clause-appended
-returns-clause-appended c = printed_end c.args.quote c.bytes.after_less c.bytes.rest.now (buffer_bytes c.args.code.now) (buffer_bytes c.bytes.code) (escaped c.args.quote c.args.bytes.now) c.in_default.ensures.cases c.bytes.invariant.printed
+returns-clause-appended c = printed_end _ _ _ _ c.points.invariant.printed (escaped_end c.args.quote c.args.ascii_only c.points.after_less c.points.rest.now (eqb-true (length c.points.rest.now) 0 (sym c.points-test.ensures)))

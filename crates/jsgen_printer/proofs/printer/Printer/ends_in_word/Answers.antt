@@ -1,22 +1,19 @@
 use Rattle.std.proofs.Common.{false, ap, sym, ◌∙◌}
 use Rattle.std.specs.Option.{option_map_or}
-use Rattle.std.specs.Str.{IsUtf8}
 use Rattle.jsgen_syntax.specs.Buffer.{buffer_bytes}
 use Rattle.jsgen_syntax.specs.Name.{goes_in_word}
 use Rattle.jsgen_printer.specs.Printer.{pen_of}
-use Rattle.jsgen_printer.proofs.Texts.{ends_by_byte}
+use Rattle.jsgen_printer.proofs.Texts.{code_is_text, ends_by_byte}
 use Rattle.jsgen_printer.proofs.printer.Printer.ends_in_word.Goals as goal
 
 pub returns-in-Some : goal.returns-in-Some
 unfolding pen_of
 returns-in-Some c =
-    let text = buffer_bytes c.args.self.now.code in
-    let is_text : IsUtf8 text = rw c.as_str.ensures at c.as_str.utf8 in
-    c.goes_in_word.ensures ∙ ap (λ o. option_map_or goes_in_word o false) (sym c.in-Some.is ∙ c.last_byte.ensures) ∙ ends_by_byte text is_text
+    let code = c.args.self.now.code in
+    c.goes_in_word.ensures ∙ ap (λ o. option_map_or goes_in_word o false) (sym c.in-Some.is ∙ c.last_byte.ensures) ∙ ends_by_byte (buffer_bytes code) (code_is_text code)
 
 pub returns-in-None : goal.returns-in-None
 unfolding pen_of
 returns-in-None c =
-    let text = buffer_bytes c.args.self.now.code in
-    let is_text : IsUtf8 text = rw c.as_str.ensures at c.as_str.utf8 in
-    ap (λ o. option_map_or goes_in_word o false) (sym c.in-None.is ∙ c.last_byte.ensures) ∙ ends_by_byte text is_text
+    let code = c.args.self.now.code in
+    ap (λ o. option_map_or goes_in_word o false) (sym c.in-None.is ∙ c.last_byte.ensures) ∙ ends_by_byte (buffer_bytes code) (code_is_text code)

@@ -1,9 +1,8 @@
 use Rattle.std.proofs.Common.{◌≡◌, ◌*◌, ◌++◌, length, replicate, ap, ◌∙◌, length-append, arith}
-use Rattle.std.specs.Str.{chars, IsUtf8}
-use Rattle.std.proofs.lemmas.Str.{chars-append}
+use Rattle.std.specs.Str.{chars}
 use Rattle.jsgen_syntax.specs.Buffer.{buffer_bytes, indent_byte, indent_width}
 use Rattle.jsgen_printer.specs.Printer.{pen_of}
-use Rattle.jsgen_printer.proofs.Texts.{indent_chars, indented_by}
+use Rattle.jsgen_printer.proofs.Texts.{appended_text, indent_chars, indented_by}
 use Rattle.jsgen_printer.proofs.printer.Printer.print_levels.Goals as goal
 
 pub returns : goal.returns
@@ -12,8 +11,7 @@ returns c =
     let printer = c.args.self.now in
     let before = buffer_bytes printer.code in
     let n = printer.depth * indent_width printer.code in
-    let is_text : IsUtf8 before = rw c.as_str.ensures at c.as_str.utf8 in
     let all = c.in_ok-print_indent.ensures.appended in
-    let more : chars (buffer_bytes c.print_indent.new.self) ≡ chars before ++ replicate n (indent_byte printer.code) = ap chars all ∙ chars-append before _ is_text ∙ ap (λ t. chars before ++ t) (indent_chars n printer.code) in
+    let more : chars (buffer_bytes c.print_indent.new.self) ≡ chars before ++ replicate n (indent_byte printer.code) = appended_text printer.code c.print_indent.new.self _ all ∙ ap (λ t. chars before ++ t) (indent_chars n printer.code) in
     let some : length (replicate n (indent_byte printer.code)) ≡ 0 → ⊥ = λ none. omega (arith, none, ap length all, length-append before (replicate n (indent_byte printer.code))) in
     rw (indented_by (replicate n (indent_byte printer.code)) (pen_of printer) some) cc

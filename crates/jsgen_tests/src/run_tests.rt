@@ -1,0 +1,320 @@
+// The program from bytes to bytes, over devices in memory.
+ghost use Rattle.std.specs.Prelude.{◌≡◌, ◌⊎◌, Some};
+ghost use Rattle.jsgen_tool.specs.Answers.{IsPrint, HoldsJob};
+ghost use Rattle.jsgen_tool.specs.Memory.{source_left, source_faults};
+ghost use Rattle.jsgen_tool.specs.Transfer.{IsWithin};
+
+use crate::runs::{Seen, printed, run_over, words_of};
+use jsgen_syntax::Memory;
+use jsgen_tool::{
+    Failed, LIMIT, MemSource, Source, Status, StdSink, StdSource, SureSink, SureSource, run,
+};
+use std::alloc::Global;
+use std::test::Fail;
+
+const JOB: &str = "{\"rows\":[\
+    {\"type\":\"BindingIdentifier\",\"name\":\"a\"},\
+    {\"type\":\"NumericLiteral\",\"kind\":\"whole\",\"digits\":1},\
+    {\"type\":\"NumericLiteral\",\"kind\":\"whole\",\"digits\":2},\
+    {\"type\":\"BinaryExpression\",\"operator\":\"+\",\"left\":1,\"right\":2},\
+    {\"type\":\"VariableDeclarator\",\"id\":0,\"init\":3},\
+    {\"type\":\"VariableDeclaration\",\"kind\":\"const\",\"declarations\":[4]},\
+    {\"type\":\"Program\",\"kind\":\"module\",\"body\":[5]}]}";
+
+const EMPTY: &str = "{\"rows\":[{\"type\":\"Program\",\"kind\":\"module\"}]}";
+
+const UNUSED: &str =
+    "{\"rows\":[{\"type\":\"NullLiteral\"},{\"type\":\"Program\",\"kind\":\"module\"}]}";
+
+const DIFFERENCE: &str = "{\"rows\":[\
+    {\"type\":\"IdentifierReference\",\"name\":\"a\"},\
+    {\"type\":\"IdentifierReference\",\"name\":\"b\"},\
+    {\"type\":\"IdentifierReference\",\"name\":\"c\"},\
+    {\"type\":\"BinaryExpression\",\"operator\":\"-\",\"left\":1,\"right\":2},\
+    {\"type\":\"BinaryExpression\",\"operator\":\"-\",\"left\":0,\"right\":3},\
+    {\"type\":\"ExpressionStatement\",\"expression\":4},\
+    {\"type\":\"Program\",\"kind\":\"module\",\"body\":[5]}]}";
+
+const DECLARATIONS: &str = "{\"rows\":[\
+{\"type\":\"BindingIdentifier\",\"name\":\"a\"},\
+{\"type\":\"NumericLiteral\",\"kind\":\"whole\",\"digits\":1},\
+{\"type\":\"VariableDeclarator\",\"id\":0,\"init\":1},\
+{\"type\":\"BindingIdentifier\",\"name\":\"b\"},\
+{\"type\":\"IdentifierReference\",\"name\":\"é\"},\
+{\"type\":\"VariableDeclarator\",\"id\":3,\"init\":4},\
+{\"type\":\"VariableDeclaration\",\"kind\":\"const\",\"declarations\":[2,5]},\
+{\"type\":\"BindingIdentifier\",\"name\":\"c\"},\
+{\"type\":\"VariableDeclarator\",\"id\":7},\
+{\"type\":\"VariableDeclaration\",\"kind\":\"const\",\"declarations\":[8]},\
+{\"type\":\"NumericLiteral\",\"kind\":\"whole\",\"digits\":\"340282366920938463463374607431768211455\"},\
+{\"type\":\"ExpressionStatement\",\"expression\":10},\
+{\"type\":\"Program\",\"kind\":\"module\",\"body\":[6,9,11]}]}";
+
+// A directive whose text is no spelling of a string.
+const SPELLING: &str = "{\"rows\":[\
+    {\"type\":\"Directive\",\"span\":[3,7],\"directive\":\"\\\\8\"},\
+    {\"type\":\"Program\",\"kind\":\"module\",\"directives\":[0]}]}";
+
+// A job, the status of its run, its text and the line that is said.
+type Row = (&'static str, u8, &'static str, &'static str);
+
+const JOBS: [Row; 9] = [
+    (JOB, 0, "const a = 1 + 2;\n", ""),
+    (EMPTY, 0, "", ""),
+    (DIFFERENCE, 0, "a - (b - c);\n", ""),
+    (
+        DECLARATIONS,
+        0,
+        "const a = 1, b = é;\nconst c;\n340282366920938463463374607431768211455;\n",
+        "",
+    ),
+    (UNUSED, 3, "", "not a job: Wrong row 0 field 0\n"),
+    (SPELLING, 1, "", "refused: Literal at 3\n"),
+    ("{\"rows\":[", 3, "", "not a job: Json\n"),
+    ("{}", 3, "", "not a job: Missing head field 4\n"),
+    ("{\"rows\":[]}", 3, "", "not a job: Wrong head field 4\n"),
+];
+
+fn jobs_as_said(alloc: Global, rows: &[Row]) -> Result<bool, Memory> {
+    for (job, code, out, err) in rows {
+        if !printed(alloc, job)?.is(*code, out, err) {
+            return Ok(false);
+        }
+    }
+    Ok(true)
+}
+
+#[test]
+fn jobs_are_printed_or_refused(rt: HostRuntime) {
+    assert!(rt; jobs_as_said(rt.alloc(), &JOBS) == Ok(true));
+}
+
+// The first job with one text in place of another.
+const CHANGED: [(&str, &str, u8, &str, &str); 13] = [
+    ("\"a\"", "\"if\"", 1, "", "refused: Name at 0\n"),
+    ("[4]", "[]", 1, "", "refused: Place at 0\n"),
+    (
+        "\"init\"",
+        "\"span\":[4,2],\"init\"",
+        1,
+        "",
+        "refused: Span at 4\n",
+    ),
+    (
+        "\"right\":2",
+        "\"right\":1",
+        3,
+        "",
+        "not a job: Shared row 1\n",
+    ),
+    (
+        "\"digits\":1",
+        "\"digits\":1.5",
+        3,
+        "",
+        "not a job: Float row 1 field 4\n",
+    ),
+    (
+        "\"left\":1",
+        "\"left\":9",
+        3,
+        "",
+        "not a job: Child row 3 field 3\n",
+    ),
+    (
+        "{\"rows\"",
+        "{\"options\":null,\"rows\"",
+        0,
+        "const a = 1 + 2;\n",
+        "",
+    ),
+    (
+        "{\"rows\"",
+        "{\"options\":{\"minify\":false},\"rows\"",
+        0,
+        "const a = 1 + 2;\n",
+        "",
+    ),
+    (
+        "{\"rows\"",
+        "{\"options\":{\"minify\":true},\"rows\"",
+        0,
+        "const a=1+2;",
+        "",
+    ),
+    (
+        "{\"rows\"",
+        "{\"options\":{\"minify\":1},\"rows\"",
+        3,
+        "",
+        "not a job: Wrong head field 0\n",
+    ),
+    (
+        "{\"rows\"",
+        "{\"options\":{\"indent_width\":1},\"rows\"",
+        3,
+        "",
+        "not a job: Wrong head field 0\n",
+    ),
+    (
+        "{\"rows\"",
+        "{\"options\":[],\"rows\"",
+        3,
+        "",
+        "not a job: Wrong head field 0\n",
+    ),
+    (
+        "{\"rows\"",
+        "{\"options\":{\"minify\":0.5},\"rows\"",
+        3,
+        "",
+        "not a job: Float head field 0\n",
+    ),
+];
+
+fn changed_as_said(alloc: Global, rows: &[(&str, &str, u8, &str, &str)]) -> Result<bool, Memory> {
+    for (old, new, code, out, err) in rows {
+        let job = JOB.replace(alloc, *old, new)?;
+        if !printed(alloc, &job)?.is(*code, out, err) {
+            return Ok(false);
+        }
+    }
+    Ok(true)
+}
+
+#[test]
+fn each_refusal_has_its_status_and_line(rt: HostRuntime) {
+    assert!(rt; changed_as_said(rt.alloc(), &CHANGED) == Ok(true));
+}
+
+const OTHER_WORDS: [&[&str]; 3] = [&["frob"], &[], &["print", "print"]];
+
+fn are_no_commands(alloc: Global, rows: &[&[&str]]) -> Result<bool, Memory> {
+    for texts in rows {
+        let seen = run_over(alloc, texts, JOB.as_bytes().to_vec(alloc)?, &[], &[])?;
+        if !seen.is(2, "", "usage: jsgen COMMAND\n") {
+            return Ok(false);
+        }
+    }
+    Ok(true)
+}
+
+#[test]
+fn other_words_are_no_command(rt: HostRuntime) {
+    assert!(rt; are_no_commands(rt.alloc(), &OTHER_WORDS) == Ok(true));
+}
+
+// A source that gives at most seven bytes a call.
+#[derive(Drop)]
+struct Trickle {
+    inner: MemSource,
+}
+
+impl Source for Trickle {
+    ghost left = { λ s. Some (source_left s.inner) };
+
+    ghost faults = { λ s. source_faults s.inner };
+
+    fn pull(&mut self, into: &mut [u8]) -> Result<usize, Failed> {
+        let count = into.len().min(7);
+        self.inner.pull(&mut into[..count])
+    }
+}
+
+fn trickled(alloc: Global, failing: u64) -> Result<Seen, Memory> {
+    let inner = MemSource::new(JOB.as_bytes().to_vec(alloc)?, vec![in alloc; failing]?);
+    let mut source = Trickle { inner };
+    let mut out = SureSink::new(alloc, 100)?;
+    let mut err = SureSink::new(alloc, 100)?;
+    let words = words_of(alloc, &["print"])?;
+    let status = run(alloc, &words, &mut source, &mut out, &mut err);
+    Ok(Seen {
+        status,
+        out: out.bytes().to_vec(alloc)?,
+        err: err.bytes().to_vec(alloc)?,
+    })
+}
+
+fn fails_at(alloc: Global, call: u64) -> Result<bool, Memory> {
+    let input = JOB.as_bytes().to_vec(alloc)?;
+    let seen = run_over(alloc, &["print"], input, &[call], &[])?;
+    Ok(seen.is(4, "", "read failed\n"))
+}
+
+#[test]
+fn a_failed_read_writes_nothing(rt: HostRuntime) -> Result<(), Fail> {
+    let alloc = rt.alloc();
+    // At the first call, and at the call that would tell the end.
+    assert!(rt; fails_at(alloc, 1)? && fails_at(alloc, 2)?);
+    assert!(rt; trickled(alloc, 1)?.is(4, "", "read failed\n"));
+    assert!(rt; trickled(alloc, 5)?.is(4, "", "read failed\n"));
+    assert!(rt; trickled(alloc, 1000)?.is(0, "const a = 1 + 2;\n", ""));
+    Ok(())
+}
+
+#[test]
+fn a_failed_write_leaves_a_prefix(rt: HostRuntime) -> Result<(), Fail> {
+    let alloc = rt.alloc();
+    let input = JOB.as_bytes().to_vec(alloc)?;
+    let seen = run_over(alloc, &["print"], input, &[], &[(1, 5)])?;
+    assert!(rt; seen.is(5, "const", "write failed\n"));
+    Ok(())
+}
+
+#[test]
+fn the_limit_is_exact(rt: HostRuntime) -> Result<(), Fail> {
+    let alloc = rt.alloc();
+    let input = vec![in alloc; b' '; LIMIT + 1]?;
+    let seen = run_over(alloc, &["print"], input, &[], &[])?;
+    assert!(rt; seen.is(7, "", "input too long\n"));
+    let input = vec![in alloc; b' '; LIMIT]?;
+    let seen = run_over(alloc, &["print"], input, &[], &[])?;
+    assert!(rt; seen.is(3, "", "not a job: Json\n"));
+    Ok(())
+}
+
+#[test]
+fn a_failed_line_leaves_the_status(rt: HostRuntime) -> Result<(), Fail> {
+    let alloc = rt.alloc();
+    let job = JOB.replace(alloc, "\"a\"", "\"if\"")?;
+    let mut source = SureSource::new(job.as_bytes().to_vec(alloc)?);
+    let mut out = SureSink::new(alloc, 10)?;
+    let mut err = SureSink::new(alloc, 10)?;
+    let words = words_of(alloc, &["print"])?;
+    let status = run(alloc, &words, &mut source, &mut out, &mut err);
+    assert!(rt; status.code() == 1 && err.bytes().is_empty());
+    Ok(())
+}
+
+#[test]
+fn readers_and_writers_of_std_serve(rt: HostRuntime) -> Result<(), Fail> {
+    let alloc = rt.alloc();
+    let mut text = Vec::<u8>::new(alloc);
+    let mut line = Vec::<u8>::new(alloc);
+    let mut source = StdSource::new(JOB.as_bytes());
+    let mut out = StdSink::new(&mut text);
+    let mut err = StdSink::new(&mut line);
+    let words = words_of(alloc, &["print"])?;
+    let status = run(alloc, &words, &mut source, &mut out, &mut err);
+    assert!(rt; status == Status::Done && line.is_empty());
+    assert!(rt; text.as_slice() == "const a = 1 + 2;\n".as_bytes());
+    Ok(())
+}
+
+// What the clauses of `run` give a caller whose devices cannot fail: a job that keeps the rules is printed,
+// unless memory or the sink's room ends.
+fn print_surely(
+    alloc: Global,
+    words: &[String],
+    job: Vec<u8>,
+    out: &mut SureSink,
+    err: &mut SureSink,
+) -> Status
+    requires print { IsPrint words.now }
+    requires within { IsWithin job.items }
+    requires job { HoldsJob job.items }
+    ensures { (result ≡ Status.Done) ⊎ ((result ≡ Status.Memory) ⊎ (result ≡ Status.WriteFault)) }
+{
+    let mut source = SureSource::new(job);
+    run(alloc, words, &mut source, out, err)
+}

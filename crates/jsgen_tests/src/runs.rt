@@ -1,0 +1,65 @@
+// Runs of the program over devices in memory.
+use jsgen_rows::read_job;
+use jsgen_syntax::Memory;
+use jsgen_tool::{MemSink, MemSource, Status, run};
+use std::alloc::Global;
+
+// What a run gave.
+#[derive(Drop)]
+pub struct Seen {
+    pub status: Status,
+    pub out: Vec<u8>,
+    pub err: Vec<u8>,
+}
+
+impl Seen {
+    pub fn is(&self, code: u8, out: &str, err: &str) -> bool {
+        self.status.code() == code
+            && self.out.as_slice() == out.as_bytes()
+            && self.err.as_slice() == err.as_bytes()
+    }
+}
+
+pub fn words_of(alloc: Global, texts: &[&str]) -> Result<Vec<String>, Memory> {
+    let mut words = Vec::new(alloc);
+    for text in texts {
+        words.push(text.to_string(alloc)?)?;
+    }
+    Ok(words)
+}
+
+// What a run gives whose source fails at the calls `pulls`, and whose output fails at the calls `pushes`.
+pub fn run_over(
+    alloc: Global,
+    texts: &[&str],
+    input: Vec<u8>,
+    pulls: &[u64],
+    pushes: &[(u64, usize)],
+) -> Result<Seen, Memory> {
+    let mut source = MemSource::new(input, pulls.to_vec(alloc)?);
+    let mut out = MemSink::new(alloc, 1000, pushes.to_vec(alloc)?)?;
+    let mut err = MemSink::new(alloc, 100, Vec::new(alloc))?;
+    let words = words_of(alloc, texts)?;
+    let status = run(alloc, &words, &mut source, &mut out, &mut err);
+    Ok(Seen {
+        status,
+        out: out.bytes().to_vec(alloc)?,
+        err: err.bytes().to_vec(alloc)?,
+    })
+}
+
+pub fn printed(alloc: Global, job: &str) -> Result<Seen, Memory> {
+    run_over(alloc, &["print"], job.as_bytes().to_vec(alloc)?, &[], &[])
+}
+
+// Whether the job has this first fault, as it is said behind `not a job: `; an empty text stands for none.
+pub fn has_fault(alloc: Global, job: &[u8], fault: &str) -> Result<bool, Memory> {
+    if fault.is_empty() {
+        return Ok(read_job(alloc, job).is_ok());
+    }
+    let seen = run_over(alloc, &["print"], job.to_vec(alloc)?, &[], &[])?;
+    let mut line = "not a job: ".to_string(alloc)?;
+    line.push_str(fault)?;
+    line.push('\n')?;
+    Ok(seen.is(3, "", &line))
+}

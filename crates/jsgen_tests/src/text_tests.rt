@@ -1,0 +1,394 @@
+// Strings: their units, their quotes and their texts; and raw texts.
+use jsgen_syntax::{CodeBuffer, IndentChar, JsStr, Memory, is_line_terminator};
+use jsgen_text::{
+    NonAsciiEscape, Quote, cheapest_quote, is_script_close_tag, print_directive_raw,
+    print_name_text, print_non_ascii_escaped, print_regex_pattern,
+    print_str_escaping_script_close_tag, print_string_text, print_template_quasi_raw,
+};
+use std::alloc::Global;
+
+// A string, whether it may stand in backticks, and its quote.
+const QUOTES: [(&str, bool, Quote); 18] = [
+    ("", true, Quote::Backtick),
+    ("", false, Quote::Double),
+    ("it's", true, Quote::Backtick),
+    ("it's", false, Quote::Double),
+    ("say \"no\"", false, Quote::Single),
+    ("\"'", false, Quote::Double),
+    ("\"\"'", false, Quote::Single),
+    ("`", true, Quote::Double),
+    ("`\"", true, Quote::Single),
+    ("`\"'", true, Quote::Backtick),
+    ("`\"\"'", true, Quote::Backtick),
+    ("``\"\"'", true, Quote::Single),
+    ("${a}", true, Quote::Double),
+    ("$a", true, Quote::Backtick),
+    ("`\n", true, Quote::Backtick),
+    ("``\n", true, Quote::Double),
+    ("é\"日", false, Quote::Single),
+    ("\u{1F600}${", true, Quote::Double),
+];
+
+fn quotes_as_said(alloc: Global, rows: &[(&str, bool, Quote)]) -> bool {
+    let mut as_said = true;
+    for (text, allowed, quote) in rows {
+        as_said = as_said && quote_is(alloc, text, *allowed, *quote);
+    }
+    as_said
+}
+
+fn quote_is(alloc: Global, text: &str, allowed: bool, quote: Quote) -> bool {
+    match JsStr::from_text(alloc, text) {
+        Ok(value) => cheapest_quote(&value, allowed) == quote,
+        Err(Memory) => false,
+    }
+}
+
+#[test]
+fn cheapest(rt: HostRuntime) {
+    assert!(rt; quotes_as_said(rt.alloc(), &QUOTES));
+}
+
+// A string, a quote, and its text in it.
+const PRINTED: [(&str, Quote, &str); 15] = [
+    ("", Quote::Single, "''"),
+    ("a b", Quote::Double, "\"a b\""),
+    ("it's", Quote::Single, "'it\\'s'"),
+    ("it's", Quote::Double, "\"it's\""),
+    ("say \"no\"", Quote::Double, "\"say \\\"no\\\"\""),
+    ("a\\b", Quote::Single, "'a\\\\b'"),
+    ("\\'", Quote::Single, "'\\\\\\''"),
+    ("`${a}$b", Quote::Backtick, "`\\`\\${a}$b`"),
+    ("$${", Quote::Backtick, "`$\\${`"),
+    ("${a}", Quote::Double, "\"${a}\""),
+    ("</script>", Quote::Single, "'<\\/script>'"),
+    ("</SCRIPT", Quote::Double, "\"<\\/SCRIPT\""),
+    (
+        "<</ScRiPt </scrip",
+        Quote::Backtick,
+        "`<<\\/ScRiPt </scrip`",
+    ),
+    ("</div> /script", Quote::Single, "'</div> /script'"),
+    ("</script>\"'\\", Quote::Single, "'<\\/script>\"\\'\\\\'"),
+];
+
+fn texts_as_said(alloc: Global, rows: &[(&str, Quote, &str)]) -> bool {
+    let mut as_said = true;
+    for (text, quote, wanted) in rows {
+        as_said = as_said && is_printed(alloc, text, *quote, wanted);
+    }
+    as_said
+}
+
+fn is_printed(alloc: Global, text: &str, quote: Quote, wanted: &str) -> bool {
+    let mut code = CodeBuffer::with_indent(alloc, IndentChar::Tab, 1);
+    match JsStr::from_text(alloc, text) {
+        Ok(value) => {
+            print_string_text(&mut code, &value, quote, true).is_ok() && code.as_str() == wanted
+        }
+        Err(Memory) => false,
+    }
+}
+
+#[test]
+fn printed(rt: HostRuntime) {
+    assert!(rt; texts_as_said(rt.alloc(), &PRINTED));
+}
+
+// Units, a quote, whether the text is to be ASCII, and the text.
+const UNITS: [(&[u16], Quote, bool, &str); 16] = [
+    (&[0, 0x31], Quote::Double, false, "\"\\x001\""),
+    (&[0, 0x39], Quote::Backtick, true, "`\\x009`"),
+    (&[0, 0], Quote::Single, false, "'\\0\\0'"),
+    (&[0, 0xE9], Quote::Single, true, "'\\0\\u00E9'"),
+    (&[10], Quote::Backtick, false, "`\n`"),
+    (&[10], Quote::Single, false, "'\\n'"),
+    (&[9, 1, 127], Quote::Double, true, "\"\t\u{1}\u{7F}\""),
+    (&[0xD800], Quote::Double, false, "\"\\ud800\""),
+    (&[0xDFFF, 0x61], Quote::Backtick, true, "`\\udfffa`"),
+    (&[0xD83D, 0xDE00], Quote::Single, false, "'\u{1F600}'"),
+    (&[0xD83D, 0xDE00], Quote::Single, true, "'\\u{1F600}'"),
+    (&[0xDBFF, 0xDFFF], Quote::Single, true, "'\\u{10FFFF}'"),
+    (&[0xFFFF], Quote::Single, true, "'\\uFFFF'"),
+    (&[0xA0], Quote::Single, false, "'\\xA0'"),
+    (&[0xA0, 0xAB], Quote::Single, true, "'\\u00A0\\u00AB'"),
+    (
+        &[0x2028, 0x2029, 0x202A],
+        Quote::Single,
+        false,
+        "'\\u2028\\u2029\u{202A}'",
+    ),
+];
+
+fn units_as_said(alloc: Global, rows: &[(&[u16], Quote, bool, &str)]) -> bool {
+    let mut as_said = true;
+    for (units, quote, ascii, wanted) in rows {
+        as_said = as_said && units_are(alloc, units, *quote, *ascii, wanted);
+    }
+    as_said
+}
+
+fn units_are(alloc: Global, units: &[u16], quote: Quote, ascii: bool, wanted: &str) -> bool {
+    let mut code = CodeBuffer::with_indent(alloc, IndentChar::Tab, 1);
+    match JsStr::from_units(alloc, units) {
+        Ok(value) => {
+            print_string_text(&mut code, &value, quote, ascii).is_ok() && code.as_str() == wanted
+        }
+        Err(Memory) => false,
+    }
+}
+
+#[test]
+fn printed_units(rt: HostRuntime) {
+    assert!(rt; units_as_said(rt.alloc(), &UNITS));
+}
+
+// How a raw text is printed.
+#[derive(Clone, Copy)]
+enum Raw {
+    CloseTag,
+    Name {
+        ascii: bool,
+    },
+    Escaped(NonAsciiEscape),
+    Template {
+        tagged: bool,
+        minify: bool,
+        ascii: bool,
+    },
+    Directive {
+        ascii: bool,
+    },
+    Pattern {
+        ascii: bool,
+    },
+}
+
+fn print_raw(code: &mut CodeBuffer, raw: Raw, text: &str) -> Result<(), Memory> {
+    match raw {
+        Raw::CloseTag => print_str_escaping_script_close_tag(code, text),
+        Raw::Name { ascii } => {
+            let escapes = print_name_text(code, text, ascii)?;
+            code.print_str(if escapes { "!" } else { "" })
+        }
+        Raw::Escaped(mode) => print_non_ascii_escaped(code, text, mode),
+        Raw::Template {
+            tagged,
+            minify,
+            ascii,
+        } => print_template_quasi_raw(code, text, tagged, minify, ascii),
+        Raw::Directive { ascii } => print_directive_raw(code, text, ascii),
+        Raw::Pattern { ascii } => print_regex_pattern(code, text, ascii),
+    }
+}
+
+const PIECE: Raw = Raw::Template {
+    tagged: false,
+    minify: false,
+    ascii: false,
+};
+
+const SMALL_PIECE: Raw = Raw::Template {
+    tagged: false,
+    minify: true,
+    ascii: false,
+};
+
+const ASCII_PIECE: Raw = Raw::Template {
+    tagged: false,
+    minify: false,
+    ascii: true,
+};
+
+const TAGGED_PIECE: Raw = Raw::Template {
+    tagged: true,
+    minify: true,
+    ascii: true,
+};
+
+// A raw text, and its text. Behind a name with escapes stands `!`.
+const RAW: [(Raw, &str, &str); 38] = [
+    (Raw::CloseTag, "</SCRIPT>", "<\\/SCRIPT>"),
+    (
+        Raw::CloseTag,
+        "a</script</ScRiPt</scrip",
+        "a<\\/script<\\/ScRiPt</scrip",
+    ),
+    (Raw::CloseTag, "<</script é", "<<\\/script é"),
+    (Raw::CloseTag, "<\\/script", "<\\/script"),
+    (Raw::CloseTag, "</scriptor", "<\\/scriptor"),
+    (Raw::Name { ascii: false }, "é", "é"),
+    (Raw::Name { ascii: true }, "a1$", "a1$"),
+    (Raw::Name { ascii: true }, "aé", "a\\u00E9!"),
+    (Raw::Name { ascii: true }, "\u{20BB7}b", "\\u{20BB7}b!"),
+    (
+        Raw::Escaped(NonAsciiEscape::Identifier),
+        "é\u{FFFF}",
+        "\\u00E9\\uFFFF",
+    ),
+    (Raw::Escaped(NonAsciiEscape::Identifier), "\\é", "\\\\u00E9"),
+    (
+        Raw::Escaped(NonAsciiEscape::RegExp),
+        "[\u{1F600}\\é]",
+        "[\\uD83D\\uDE00\\u00E9]",
+    ),
+    (
+        Raw::Escaped(NonAsciiEscape::TemplateRaw),
+        "é</script\\\u{2029}",
+        "\\u00E9<\\/script\\\n",
+    ),
+    (
+        Raw::Escaped(NonAsciiEscape::Directive),
+        "é</script\\\u{2028}",
+        "\\u00E9</script\\\n",
+    ),
+    (PIECE, "a\\$b\\\\\\$c", "a\\$b\\\\\\$c"),
+    (PIECE, "</script>é", "<\\/script>é"),
+    (SMALL_PIECE, "\\$", "$"),
+    (SMALL_PIECE, "a\\$b", "a$b"),
+    (SMALL_PIECE, "\\${", "\\${"),
+    (SMALL_PIECE, "\\\\$", "\\\\$"),
+    (SMALL_PIECE, "\\\\\\$", "\\\\$"),
+    (SMALL_PIECE, "\\$\\$\\${", "$$\\${"),
+    (SMALL_PIECE, "\\`\\n", "\\`\\n"),
+    (ASCII_PIECE, "é", "\\u00E9"),
+    (ASCII_PIECE, "\\é", "\\u00E9"),
+    (ASCII_PIECE, "\\\\é", "\\\\\\u00E9"),
+    (ASCII_PIECE, "\\\\\\é", "\\\\\\u00E9"),
+    (ASCII_PIECE, "\u{2028}\\\u{2028}", "\\u2028\\\n"),
+    (ASCII_PIECE, "\u{1F600}</SCRIPT", "\\u{1F600}<\\/SCRIPT"),
+    (TAGGED_PIECE, "\\$\\é</script", "\\$\\é<\\/script"),
+    (
+        Raw::Directive { ascii: false },
+        "\\é</script",
+        "\\é</script",
+    ),
+    (
+        Raw::Directive { ascii: true },
+        "\\é</script",
+        "\\u00E9</script",
+    ),
+    (
+        Raw::Directive { ascii: true },
+        "a\\$é\\\u{2029}",
+        "a\\$\\u00E9\\\n",
+    ),
+    (Raw::Pattern { ascii: false }, "é\\/", "é\\/"),
+    (Raw::Pattern { ascii: true }, "é\\/", "\\u00E9\\/"),
+    (
+        Raw::Pattern { ascii: true },
+        "\\é\\\\é",
+        "\\u00E9\\\\\\u00E9",
+    ),
+    (Raw::Pattern { ascii: true }, "\u{1F600}", "\\uD83D\\uDE00"),
+    (Raw::Pattern { ascii: true }, "</script", "</script"),
+];
+
+fn raw_as_said(alloc: Global, rows: &[(Raw, &str, &str)]) -> bool {
+    let mut as_said = true;
+    for (raw, text, wanted) in rows {
+        as_said = as_said && is_raw(alloc, *raw, text, wanted);
+    }
+    as_said
+}
+
+fn is_raw(alloc: Global, raw: Raw, text: &str, wanted: &str) -> bool {
+    let mut code = CodeBuffer::with_indent(alloc, IndentChar::Tab, 1);
+    print_raw(&mut code, raw, text).is_ok() && code.as_str() == wanted
+}
+
+#[test]
+fn raw_texts(rt: HostRuntime) {
+    assert!(rt; raw_as_said(rt.alloc(), &RAW));
+}
+
+#[test]
+fn line_terminators(rt: HostRuntime) {
+    assert!(rt; is_line_terminator('\n') && is_line_terminator('\r'));
+    assert!(rt; is_line_terminator('\u{2028}') && is_line_terminator('\u{2029}'));
+    assert!(rt; !is_line_terminator('\u{B}') && !is_line_terminator('\u{85}'));
+}
+
+#[test]
+fn close_tags(rt: HostRuntime) {
+    assert!(rt; is_script_close_tag(b"</script"));
+    assert!(rt; is_script_close_tag(b"</ScrIPT"));
+    assert!(rt; !is_script_close_tag(b"</scripe"));
+    assert!(rt; !is_script_close_tag(b"<\\script"));
+}
+
+const TEXTS: [&str; 4] = ["", "a", "é日", "\u{1F600}\0"];
+
+fn are_kept(alloc: Global, texts: &[&str]) -> bool {
+    let mut kept = true;
+    for text in texts {
+        kept = kept && keeps_text(alloc, text);
+    }
+    kept
+}
+
+#[test]
+fn texts(rt: HostRuntime) {
+    assert!(rt; are_kept(rt.alloc(), &TEXTS));
+}
+
+fn keeps_text(alloc: Global, text: &str) -> bool {
+    match JsStr::from_text(alloc, text) {
+        Ok(value) => {
+            !value.has_lone_surrogate()
+                && value.as_str() == Some(text)
+                && value.as_bytes() == text.as_bytes()
+        }
+        Err(Memory) => false,
+    }
+}
+
+#[test]
+fn units(rt: HostRuntime) {
+    assert!(rt; has_bytes(rt.alloc(), &[0x61, 0xE9, 0x65E5], false, "aé日".as_bytes()));
+    assert!(rt;
+        has_bytes(
+            rt.alloc(),
+            &[0xD83D, 0xDE00, 0x62],
+            false,
+            "\u{1F600}b".as_bytes()
+        )
+    );
+    assert!(rt; has_bytes(rt.alloc(), &[0xD800], true, &[0xED, 0xA0, 0x80]));
+    assert!(rt;
+        has_bytes(
+            rt.alloc(),
+            &[0xDE00, 0xD83D],
+            true,
+            &[0xED, 0xB8, 0x80, 0xED, 0xA0, 0xBD]
+        )
+    );
+    assert!(rt;
+        has_bytes(
+            rt.alloc(),
+            &[0xD83D, 0xD83D, 0xDE00],
+            true,
+            &[0xED, 0xA0, 0xBD, 0xF0, 0x9F, 0x98, 0x80]
+        )
+    );
+}
+
+fn has_bytes(alloc: Global, units: &[u16], lone: bool, bytes: &[u8]) -> bool {
+    match JsStr::from_units(alloc, units) {
+        Ok(value) => {
+            value.has_lone_surrogate() == lone
+                && value.as_str().is_none() == lone
+                && value.as_bytes() == bytes
+        }
+        Err(Memory) => false,
+    }
+}
+
+#[test]
+fn same_values(rt: HostRuntime) {
+    let text = JsStr::from_text(rt.alloc(), "\u{1F600}").expect(&rt, "memory");
+    let pair = JsStr::from_units(rt.alloc(), &[0xD83D, 0xDE00]).expect(&rt, "memory");
+    let lone = JsStr::from_units(rt.alloc(), &[0xD83D]).expect(&rt, "memory");
+    assert!(rt; text == pair);
+    assert!(rt; pair != lone);
+}

@@ -1,0 +1,154 @@
+// Spans and parentheses of a tree, the sets of its types, and options.
+use jsgen_rows::read_job;
+use jsgen_syntax::Span;
+use jsgen_tree::{
+    CodegenOptions, CommentOptions, GetSpan, LegalComment, Node, NodeSet, NodeType, Program,
+    Statement, StatementNode, VariableDeclarationKind,
+};
+use std::alloc::Global;
+use std::test::Fail;
+
+// `((a))`, and `const b = a + 1`, each node with a span of its own.
+const JOB: &str = "{\"rows\":[\
+    {\"type\":\"IdentifierReference\",\"span\":[2,3],\"name\":\"a\"},\
+    {\"type\":\"ParenthesizedExpression\",\"span\":[1,4],\"expression\":0},\
+    {\"type\":\"ParenthesizedExpression\",\"span\":[0,9],\"expression\":1},\
+    {\"type\":\"ExpressionStatement\",\"span\":[0,10],\"expression\":2},\
+    {\"type\":\"IdentifierReference\",\"span\":[16,17],\"name\":\"a\"},\
+    {\"type\":\"NumericLiteral\",\"span\":[20,21],\"kind\":\"whole\",\"digits\":1},\
+    {\"type\":\"BinaryExpression\",\"span\":[16,21],\"operator\":\"+\",\"left\":4,\"right\":5},\
+    {\"type\":\"BindingIdentifier\",\"span\":[12,13],\"name\":\"b\"},\
+    {\"type\":\"VariableDeclarator\",\"span\":[12,21],\"id\":7,\"init\":6},\
+    {\"type\":\"VariableDeclaration\",\"span\":[11,22],\"kind\":\"const\",\"declarations\":[8]},\
+    {\"type\":\"Program\",\"span\":[0,22],\"kind\":\"module\",\"body\":[3,9]}]}";
+
+fn program(alloc: Global) -> Option<Program> {
+    match read_job(alloc, JOB.as_bytes()) {
+        Ok(job) => Some(job.program),
+        Err(_) => None,
+    }
+}
+
+fn is_at(span: Span, start: u32, end: u32) -> bool {
+    span == Span { start, end }
+}
+
+// An expression statement whose expression stands at 0 to 9, and within its parentheses at 2 to 3.
+fn is_parenthesized(statement: &StatementNode) -> bool {
+    let Node::Statement(Statement::ExpressionStatement(node)) = statement.get() else {
+        return false;
+    };
+    let expression = node.expression.get();
+    match expression.inner_expression() {
+        Some(inner) => {
+            is_at(expression.span(), 0, 9)
+                && is_at(inner.span(), 2, 3)
+                && is_at(inner.without_parentheses().span(), 2, 3)
+        }
+        None => false,
+    }
+}
+
+#[test]
+fn parentheses_are_taken_off(rt: HostRuntime) {
+    let program = program(rt.alloc());
+    let Some(program) = program else {
+        panic!(rt; "no job");
+    };
+    assert!(rt; program.body.len() == 2 && is_parenthesized(&program.body[0]));
+}
+
+#[test]
+fn a_set_has_the_span_of_its_member(rt: HostRuntime) {
+    let program = program(rt.alloc());
+    let Some(program) = program else {
+        panic!(rt; "no job");
+    };
+    assert!(rt; program.body.len() == 2 && is_at(program.span(), 0, 22));
+    let statement = program.body[0].get();
+    assert!(rt; is_at(statement.span(), 0, 10) && statement.inner_expression().is_none());
+    let declaration = program.body[1].get();
+    assert!(rt; is_at(declaration.span(), 11, 22) && declaration.inner_expression().is_none());
+    assert_eq!(rt; VariableDeclarationKind::Const.as_str(), "const");
+}
+
+// Types, and whether they are expressions, statements or binding patterns.
+const TYPES: [(NodeType, bool, bool, bool); 19] = [
+    (NodeType::Program, false, false, false),
+    (NodeType::Directive, false, false, false),
+    (NodeType::ExpressionStatement, false, true, false),
+    (NodeType::VariableDeclaration, false, true, false),
+    (NodeType::VariableDeclarator, false, false, false),
+    (NodeType::BindingIdentifier, false, false, true),
+    (NodeType::IdentifierReference, true, false, false),
+    (NodeType::NumericLiteral, true, false, false),
+    (NodeType::ParenthesizedExpression, true, false, false),
+    (NodeType::BinaryExpression, true, false, false),
+    (NodeType::LogicalExpression, true, false, false),
+    (NodeType::BlockStatement, false, true, false),
+    (NodeType::IfStatement, false, true, false),
+    (NodeType::EmptyStatement, false, true, false),
+    (NodeType::StringLiteral, true, false, false),
+    (NodeType::IdentifierName, false, false, false),
+    (NodeType::StaticMemberExpression, true, false, false),
+    (NodeType::ComputedMemberExpression, true, false, false),
+    (NodeType::CallExpression, true, false, false),
+];
+
+fn types_as_said(rows: &[(NodeType, bool, bool, bool)]) -> bool {
+    let mut as_said = true;
+    for (node_type, expression, statement, pattern) in rows {
+        let declarator = *node_type == NodeType::VariableDeclarator;
+        let name = *node_type == NodeType::IdentifierName;
+        let directive = *node_type == NodeType::Directive;
+        as_said = as_said
+            && node_type.is_in(NodeSet::Expression) == *expression
+            && node_type.is_in(NodeSet::Statement) == *statement
+            && node_type.is_in(NodeSet::BindingPattern) == *pattern
+            && node_type.is_in(NodeSet::VariableDeclarator) == declarator
+            && node_type.is_in(NodeSet::Argument) == *expression
+            && node_type.is_in(NodeSet::IdentifierName) == name
+            && node_type.is_in(NodeSet::Directive) == directive;
+    }
+    as_said
+}
+
+#[test]
+fn types_are_in_their_sets(rt: HostRuntime) {
+    assert!(rt; types_as_said(&TYPES));
+}
+
+#[test]
+fn options_are_cloned(rt: HostRuntime) -> Result<(), Fail> {
+    let alloc = rt.alloc();
+    let options = CodegenOptions::default();
+    assert!(rt; options.clone(alloc)? == options);
+    let small = CodegenOptions::minify();
+    assert!(rt; small.minify && small != options);
+    assert!(rt; small.comments == CommentOptions::disabled());
+    let linked = CodegenOptions {
+        comments: CommentOptions {
+            legal: LegalComment::Linked("a.txt".to_string(alloc)?),
+            ..CommentOptions::default()
+        },
+        source_map_path: Some("a.map".to_string(alloc)?),
+        ..CodegenOptions::default()
+    };
+    assert!(rt; linked.clone(alloc)? == linked);
+    Ok(())
+}
+
+fn is_told(legal: &LegalComment, none: bool, inline: bool, eof: bool) -> bool {
+    legal.is_none() == none && legal.is_inline() == inline && legal.is_eof() == eof
+}
+
+#[test]
+fn legal_comments_are_told_apart(rt: HostRuntime) -> Result<(), Fail> {
+    let linked = LegalComment::Linked("a.txt".to_string(rt.alloc())?);
+    assert!(rt; is_told(&LegalComment::None, true, false, false));
+    assert!(rt; is_told(&LegalComment::Inline, false, true, false));
+    assert!(rt; is_told(&LegalComment::Eof, false, false, true));
+    assert!(rt; is_told(&LegalComment::External, false, false, false));
+    assert!(rt; is_told(&linked, false, false, false));
+    Ok(())
+}

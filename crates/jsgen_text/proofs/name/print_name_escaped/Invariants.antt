@@ -1,0 +1,18 @@
+use Rattle.std.proofs.Common.{◌≡◌, true, length}
+use Rattle.std.specs.Str.{chars, encode_utf8_all}
+use Rattle.jsgen_syntax.specs.Buffer.{buffer_bytes, indent_byte, indent_width}
+use Rattle.jsgen_syntax.specs.Escapes.{name_text}
+use Rattle.jsgen_text.specs.Points.{ArePoints}
+use Rattle.jsgen_text.proofs.Appending.{Printed}
+use Rattle.jsgen_text.proofs.name.print_name_escaped.Given as goal
+
+abbrev pub invariant-points : goal.invariant-points
+invariant-points l = record {
+  points : ArePoints l.rest;
+  printed : Printed (buffer_bytes l.initial.code) (buffer_bytes l.code) (encode_utf8_all (name_text true (chars l.s))) (encode_utf8_all (name_text true (chars l.rest)));
+  byte : indent_byte l.code ≡ indent_byte l.initial.code;
+  width : indent_width l.code ≡ indent_width l.initial.code;
+}
+
+abbrev pub decreases-points : goal.decreases-points
+decreases-points l = length l.rest

@@ -1,0 +1,9 @@
+use Rattle.std.proofs.Common.{sym, ◌∙◌, subst}
+use Rattle.std.specs.Str.{IsUtf8}
+use Rattle.std.proofs.lemmas.Str.{IsUtf8-encode}
+use Rattle.jsgen_syntax.proofs.Wtf8.{scalar_from}
+use Rattle.jsgen_text.proofs.printed.print_past_ascii.Goals as goal
+
+pub from_utf8_unchecked-requires : goal.from_utf8_unchecked-requires
+from_utf8_unchecked-requires c =
+    subst IsUtf8 (sym c.requires.bytes) (IsUtf8-encode c.args.point.code (scalar_from c.args.point.code c.requires.code (sym c.is_surrogate.ensures ∙ c.if-is_surrogate.false)))

@@ -1,0 +1,62 @@
+use Rattle.std.proofs.Common.{◌≡◌, ◌<◌, true, length, refl, sym, ap, ◌∙◌, subst, arith}
+use Rattle.std.specs.Str.{chars, encode_utf8_all}
+use lib.Utf8.{scalars}
+use Rattle.std.proofs.lemmas.Bool.{eqb-true}
+use Rattle.jsgen_syntax.specs.Buffer.{buffer_bytes}
+use Rattle.jsgen_syntax.specs.Raw.{raw_text}
+use Rattle.jsgen_text.specs.Changes.{raw_of}
+use Rattle.jsgen_text.specs.Points.{ArePoints}
+use Rattle.jsgen_text.proofs.Appending.{Printed, printed_none, printed_piece, printed_end, stopped}
+use Rattle.jsgen_text.proofs.Plain.{are_plain, plain_ascii, behind_run}
+use Rattle.jsgen_text.proofs.RawTexts.{points_of_text, scalars_of_text, scalars_point, scalars_run, raw_run, raw_point, raw_end}
+use Rattle.jsgen_text.proofs.raw.print_raw.Goals as goal
+
+pub points-init : goal.points-init
+points-init c =
+    let e = sym c.as_bytes-rest.ensures.value in
+    let text = encode_utf8_all (raw_text (raw_of c.args.changes) (chars c.args.s.now)) in
+    record {
+      points = subst ArePoints e (points_of_text c.args.s.now c.utf8.s);
+      are_scalars = subst (λ x. scalars (chars x) ≡ true) e (scalars_of_text c.args.s.now c.utf8.s);
+      printed = subst (λ x. Printed (buffer_bytes c.args.code.now) (buffer_bytes c.args.code.now) text (encode_utf8_all (raw_text (raw_of c.args.changes) (chars x)))) e (printed_none (buffer_bytes c.args.code.now) text);
+      byte = refl;
+      width = refl;
+    }
+
+pub returns-in_err-print_raw_point-clause-err : goal.returns-in_err-print_raw_point-clause-err
+returns-in_err-print_raw_point-clause-err c = stopped c.from_residual.result _ (buffer_bytes c.points.code) _ _ _ c.points.invariant.printed c.in_err-print_raw_point.ensures.err
+
+pub points-preserved-then-n-eq0 : goal.points-preserved-then-n-eq0
+points-preserved-then-n-eq0 c =
+    let p = c.take_point-point in
+    record {
+      points = p.ensures.behind;
+      are_scalars = (scalars_point c.points.rest.now p.result.code p.result.behind.now c.points.invariant.are_scalars p.ensures.chars).1;
+      printed = printed_piece _ (buffer_bytes c.points.code) _ _ _ _ _ c.points.invariant.printed (raw_point (raw_of c.args.changes) c.points.escaped c.points.after_less c.points.rest.now p.result.code p.result.behind.now c.escapes-escaped.result p.ensures.chars c.escapes-escaped.ensures) c.in_ok-print_raw_point.ensures.appended;
+      byte = c.in_ok-print_raw_point.ensures.byte ∙ c.points.invariant.byte;
+      width = c.in_ok-print_raw_point.ensures.width ∙ c.points.invariant.width;
+    }
+
+pub print_ascii-requires : goal.print_ascii-requires
+print_ascii-requires c = plain_ascii c.split_at.result.0.now (ap are_plain c.split_at.ensures.front ∙ c.plain_len-n.ensures.plain)
+
+pub returns-in_err-print_ascii-clause-err : goal.returns-in_err-print_ascii-clause-err
+returns-in_err-print_ascii-clause-err c = stopped c.from_residual-in_err-print_ascii.result _ (buffer_bytes c.points.code) _ _ _ c.points.invariant.printed c.in_err-print_ascii.ensures.err
+
+pub points-preserved : goal.points-preserved
+points-preserved c =
+    let run = c.split_at.result.0.now in
+    let plain = ap are_plain c.split_at.ensures.front ∙ c.plain_len-n.ensures.plain in
+    let some : 0 < length run = omega (arith, c.split_at.ensures.front_len) in
+    let cut = c.split_at.ensures.by_index.0 in
+    let behind = behind_run c.points.rest.now run c.split_at.result.1.now plain c.points.invariant.points cut in
+    record {
+      points = behind.points;
+      are_scalars = scalars_run c.points.rest.now run c.split_at.result.1.now c.points.invariant.are_scalars behind.are;
+      printed = printed_piece _ (buffer_bytes c.points.code) _ _ _ _ _ c.points.invariant.printed (raw_run (raw_of c.args.changes) c.points.escaped c.points.after_less c.points.rest.now run c.split_at.result.1.now plain some c.points.invariant.points cut) c.in_ok-print_ascii.ensures.appended;
+      byte = c.in_ok-print_ascii.ensures.byte ∙ c.points.invariant.byte;
+      width = c.in_ok-print_ascii.ensures.width ∙ c.points.invariant.width;
+    }
+
+pub returns-clause-appended : goal.returns-clause-appended
+returns-clause-appended c = printed_end _ _ _ _ c.points.invariant.printed (raw_end (raw_of c.args.changes) c.points.escaped c.points.after_less c.points.rest.now (eqb-true (length c.points.rest.now) 0 (sym c.points-test.ensures)))

@@ -1,0 +1,1 @@
+"use strict";gr\u00F6\u00DFe in \u{20BB7};f(`\ud800`,`\x0001 <\/script> \u00E9`);
