@@ -6,6 +6,7 @@ pub mod Listed
 pub mod Pool
 pub mod Program
 pub mod RowSteps
+pub mod Sets
 pub mod Taking
 pub mod Told
 pub mod WordLengths

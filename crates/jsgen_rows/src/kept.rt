@@ -6,37 +6,32 @@ ghost use Rattle.jsgen_tree.specs.Plain.{node_plain, program_plain};
 ghost use Rattle.jsgen_tree.specs.Rows.{in_expression, in_statement, in_binding_pattern, in_declaration, expression_plain, statement_plain, declaration_plain, binding_pattern_plain, variable_declarator_row, identifier_name_row, directive_row};
 ghost use Rattle.jsgen_rows.specs.Meaning.{is_program};
 ghost use Rattle.jsgen_rows.specs.Reads.{entry_type};
-ghost use Rattle.jsgen_rows.specs.Kept.{row_plain, entry};
+ghost use Rattle.jsgen_rows.specs.Kept.{statement_row_plain, row_plain, entry};
 
 use jsgen_tree::{
-    BinaryExpression, BindingIdentifier, BindingPattern, BindingPatternNode, BlockStatement,
-    CallExpression, ComputedMemberExpression, Declaration, DeclarationNode, Directive,
-    EmptyStatement, Expression, ExpressionNode, ExpressionStatement, IdentifierName,
-    IdentifierReference, IfStatement, LogicalExpression, NodeType, NumericLiteral,
-    ParenthesizedExpression, Program, Statement, StatementNode, StaticMemberExpression,
-    StringLiteral, VariableDeclaration, VariableDeclarator,
+    BindingPattern, BindingPatternNode, BlockStatement, Declaration, DeclarationNode, Directive,
+    EmptyStatement, Expression, ExpressionNode, ExpressionStatement, IdentifierName, IfStatement,
+    NodeType, Program, Statement, StatementNode, VariableDeclarator,
 };
 use std::alloc::{AllocError, Global};
 
-/// A row that was read.
+/// A row that was read, by the set that it is a child of.
 #[derive(Drop)]
 pub enum Row {
     Program(Box<Program>),
     Directive(Box<Directive>),
-    ExpressionStatement(Box<ExpressionStatement>),
-    VariableDeclaration(Box<VariableDeclaration>),
+    Statement(StatementRow),
+    Declaration(Declaration),
     VariableDeclarator(Box<VariableDeclarator>),
-    BindingIdentifier(Box<BindingIdentifier>),
-    IdentifierReference(Box<IdentifierReference>),
-    NumericLiteral(Box<NumericLiteral>),
-    ParenthesizedExpression(Box<ParenthesizedExpression>),
-    BinaryExpression(Box<BinaryExpression>),
-    LogicalExpression(Box<LogicalExpression>),
-    StringLiteral(Box<StringLiteral>),
+    BindingPattern(BindingPattern),
+    Expression(Expression),
     IdentifierName(Box<IdentifierName>),
-    StaticMemberExpression(Box<StaticMemberExpression>),
-    ComputedMemberExpression(Box<ComputedMemberExpression>),
-    CallExpression(Box<CallExpression>),
+}
+
+/// A row that is a statement and no declaration.
+#[derive(Drop)]
+pub enum StatementRow {
+    ExpressionStatement(Box<ExpressionStatement>),
     BlockStatement(Box<BlockStatement>),
     IfStatement(Box<IfStatement>),
     EmptyStatement(Box<EmptyStatement>),
@@ -49,6 +44,64 @@ pub enum Kept {
     Taken(NodeType),
 }
 
+// ---- the type of a row, set by set
+
+fn statement_type(statement: &StatementRow) -> NodeType
+    ensures { result ≡ type_of (statement_row_plain statement.now) }
+{
+    match statement {
+        StatementRow::ExpressionStatement(_) => NodeType::ExpressionStatement,
+        StatementRow::BlockStatement(_) => NodeType::BlockStatement,
+        StatementRow::IfStatement(_) => NodeType::IfStatement,
+        StatementRow::EmptyStatement(_) => NodeType::EmptyStatement,
+    }
+}
+
+fn declaration_type(declaration: &Declaration) -> NodeType
+    ensures { result ≡ type_of (declaration_plain node_plain declaration.now) }
+{
+    match declaration {
+        Declaration::VariableDeclaration(_) => NodeType::VariableDeclaration,
+    }
+}
+
+fn binding_pattern_type(pattern: &BindingPattern) -> NodeType
+    ensures { result ≡ type_of (binding_pattern_plain pattern.now) }
+{
+    match pattern {
+        BindingPattern::BindingIdentifier(_) => NodeType::BindingIdentifier,
+    }
+}
+
+fn expression_type(expression: &Expression) -> NodeType
+    ensures { result ≡ type_of (expression_plain node_plain expression.now) }
+{
+    match expression {
+        Expression::IdentifierReference(_) => NodeType::IdentifierReference,
+        Expression::NumericLiteral(_) => NodeType::NumericLiteral,
+        Expression::StringLiteral(_) => NodeType::StringLiteral,
+        Expression::BinaryExpression(_) => NodeType::BinaryExpression,
+        Expression::LogicalExpression(_) => NodeType::LogicalExpression,
+        Expression::ParenthesizedExpression(_) => NodeType::ParenthesizedExpression,
+        Expression::StaticMemberExpression(_) => NodeType::StaticMemberExpression,
+        Expression::ComputedMemberExpression(_) => NodeType::ComputedMemberExpression,
+        Expression::CallExpression(_) => NodeType::CallExpression,
+    }
+}
+
+impl StatementRow {
+    pub fn into_statement(self) -> Statement
+        ensures { statement_plain node_plain result ≡ statement_row_plain self }
+    {
+        match self {
+            StatementRow::ExpressionStatement(row) => Statement::ExpressionStatement(row),
+            StatementRow::BlockStatement(row) => Statement::BlockStatement(row),
+            StatementRow::IfStatement(row) => Statement::IfStatement(row),
+            StatementRow::EmptyStatement(row) => Statement::EmptyStatement(row),
+        }
+    }
+}
+
 impl Row {
     pub fn node_type(&self) -> NodeType
         ensures { result ≡ type_of (row_plain self.now) }
@@ -56,26 +109,16 @@ impl Row {
         match self {
             Row::Program(_) => NodeType::Program,
             Row::Directive(_) => NodeType::Directive,
-            Row::ExpressionStatement(_) => NodeType::ExpressionStatement,
-            Row::VariableDeclaration(_) => NodeType::VariableDeclaration,
+            Row::Statement(row) => statement_type(row),
+            Row::Declaration(row) => declaration_type(row),
             Row::VariableDeclarator(_) => NodeType::VariableDeclarator,
-            Row::BindingIdentifier(_) => NodeType::BindingIdentifier,
-            Row::IdentifierReference(_) => NodeType::IdentifierReference,
-            Row::NumericLiteral(_) => NodeType::NumericLiteral,
-            Row::ParenthesizedExpression(_) => NodeType::ParenthesizedExpression,
-            Row::BinaryExpression(_) => NodeType::BinaryExpression,
-            Row::LogicalExpression(_) => NodeType::LogicalExpression,
-            Row::StringLiteral(_) => NodeType::StringLiteral,
+            Row::BindingPattern(row) => binding_pattern_type(row),
+            Row::Expression(row) => expression_type(row),
             Row::IdentifierName(_) => NodeType::IdentifierName,
-            Row::StaticMemberExpression(_) => NodeType::StaticMemberExpression,
-            Row::ComputedMemberExpression(_) => NodeType::ComputedMemberExpression,
-            Row::CallExpression(_) => NodeType::CallExpression,
-            Row::BlockStatement(_) => NodeType::BlockStatement,
-            Row::IfStatement(_) => NodeType::IfStatement,
-            Row::EmptyStatement(_) => NodeType::EmptyStatement,
         }
     }
 
+    #[tactic(auto, using(crate::proofs::Sets::no_statement_is_a_program, crate::proofs::Sets::no_declaration_is_a_program, crate::proofs::Sets::no_binding_pattern_is_a_program, crate::proofs::Sets::no_expression_is_a_program))]
     pub fn into_program(self) -> Option<Program>
         ensures { option_map program_plain result
             ≡ (if is_program (type_of (row_plain self)) then Some (row_plain self) else None) }
@@ -86,52 +129,45 @@ impl Row {
         }
     }
 
+    #[tactic(auto, using(crate::proofs::Sets::no_statement_is_an_expression, crate::proofs::Sets::no_declaration_is_an_expression, crate::proofs::Sets::no_binding_pattern_is_an_expression, crate::proofs::Sets::each_expression_is_an_expression))]
     pub fn into_expression(self) -> Option<Expression>
         ensures { option_map (expression_plain node_plain) result
             ≡ (if is_expression (type_of (row_plain self)) then Some (row_plain self) else None) }
     {
         match self {
-            Row::IdentifierReference(row) => Some(Expression::IdentifierReference(row)),
-            Row::NumericLiteral(row) => Some(Expression::NumericLiteral(row)),
-            Row::ParenthesizedExpression(row) => Some(Expression::ParenthesizedExpression(row)),
-            Row::BinaryExpression(row) => Some(Expression::BinaryExpression(row)),
-            Row::LogicalExpression(row) => Some(Expression::LogicalExpression(row)),
-            Row::StringLiteral(row) => Some(Expression::StringLiteral(row)),
-            Row::StaticMemberExpression(row) => Some(Expression::StaticMemberExpression(row)),
-            Row::ComputedMemberExpression(row) => Some(Expression::ComputedMemberExpression(row)),
-            Row::CallExpression(row) => Some(Expression::CallExpression(row)),
+            Row::Expression(expression) => Some(expression),
             _ => None,
         }
     }
 
     /// A declaration as a statement stands in a box of its own.
+    #[tactic(auto, using(crate::proofs::Sets::each_statement_is_a_statement, crate::proofs::Sets::each_declaration_is_a_statement, crate::proofs::Sets::no_binding_pattern_is_a_statement, crate::proofs::Sets::no_expression_is_a_statement))]
     pub fn into_statement(self, alloc: Global) -> Result<Option<Statement>, AllocError>
         ensures { IfOk result (λ statement. option_map (statement_plain node_plain) statement
             ≡ (if is_statement (type_of (row_plain self)) then Some (row_plain self) else None)) }
     {
         match self {
-            Row::ExpressionStatement(row) => Ok(Some(Statement::ExpressionStatement(row))),
-            Row::VariableDeclaration(row) => {
-                let declaration = declaration_node(Declaration::VariableDeclaration(row));
+            Row::Statement(row) => Ok(Some(row.into_statement())),
+            Row::Declaration(row) => {
+                let declaration = declaration_node(row);
                 Ok(Some(Statement::Declaration(Box::new(alloc, declaration)?)))
             }
-            Row::BlockStatement(row) => Ok(Some(Statement::BlockStatement(row))),
-            Row::IfStatement(row) => Ok(Some(Statement::IfStatement(row))),
-            Row::EmptyStatement(row) => Ok(Some(Statement::EmptyStatement(row))),
             _ => Ok(None),
         }
     }
 
+    #[tactic(auto, using(crate::proofs::Sets::no_statement_is_a_binding_pattern, crate::proofs::Sets::no_declaration_is_a_binding_pattern, crate::proofs::Sets::each_binding_pattern_is_a_binding_pattern, crate::proofs::Sets::no_expression_is_a_binding_pattern))]
     pub fn into_binding_pattern(self) -> Option<BindingPattern>
         ensures { option_map binding_pattern_plain result
             ≡ (if is_binding_pattern (type_of (row_plain self)) then Some (row_plain self) else None) }
     {
         match self {
-            Row::BindingIdentifier(row) => Some(BindingPattern::BindingIdentifier(row)),
+            Row::BindingPattern(pattern) => Some(pattern),
             _ => None,
         }
     }
 
+    #[tactic(auto, using(crate::proofs::Sets::no_statement_is_a_variable_declarator, crate::proofs::Sets::no_declaration_is_a_variable_declarator, crate::proofs::Sets::no_binding_pattern_is_a_variable_declarator, crate::proofs::Sets::no_expression_is_a_variable_declarator))]
     pub fn into_variable_declarator(self) -> Option<VariableDeclarator>
         ensures { option_map (variable_declarator_row node_plain) result
             ≡ (if is_variable_declarator (type_of (row_plain self)) then Some (row_plain self) else None) }
@@ -142,6 +178,7 @@ impl Row {
         }
     }
 
+    #[tactic(auto, using(crate::proofs::Sets::no_statement_is_an_identifier_name, crate::proofs::Sets::no_declaration_is_an_identifier_name, crate::proofs::Sets::no_binding_pattern_is_an_identifier_name, crate::proofs::Sets::no_expression_is_an_identifier_name))]
     pub fn into_identifier_name(self) -> Option<Box<IdentifierName>>
         ensures { option_map (λ b. identifier_name_row b.value) result
             ≡ (if is_identifier_name (type_of (row_plain self)) then Some (row_plain self) else None) }
@@ -152,6 +189,7 @@ impl Row {
         }
     }
 
+    #[tactic(auto, using(crate::proofs::Sets::no_statement_is_a_directive, crate::proofs::Sets::no_declaration_is_a_directive, crate::proofs::Sets::no_binding_pattern_is_a_directive, crate::proofs::Sets::no_expression_is_a_directive))]
     pub fn into_directive(self) -> Option<Directive>
         ensures { option_map directive_row result
             ≡ (if is_directive (type_of (row_plain self)) then Some (row_plain self) else None) }

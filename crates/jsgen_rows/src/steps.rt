@@ -12,7 +12,7 @@ use crate::expressions::{
     read_numeric_literal, read_parenthesized_expression,
 };
 use crate::floats::holds_float;
-use crate::kept::{Kept, Row};
+use crate::kept::{Kept, Row, StatementRow};
 use crate::links::{
     read_call_expression, read_computed_member_expression, read_identifier_name,
     read_static_member_expression, read_string_literal,
@@ -25,7 +25,7 @@ use crate::statements::{
 use crate::values::{not_given, present, span_of, type_of};
 use crate::{At, InputFault};
 use jsgen_syntax::Span;
-use jsgen_tree::{NodeType, Program};
+use jsgen_tree::{BindingPattern, Declaration, Expression, NodeType, Program};
 use serde_json::Value;
 use std::alloc::Global;
 
@@ -43,55 +43,57 @@ fn read_typed(
     match node_type {
         NodeType::Program => Ok(Row::Program(read_program(alloc, kept, number, span, row)?)),
         NodeType::Directive => Ok(Row::Directive(read_directive(alloc, kept, number, span, row)?)),
-        NodeType::ExpressionStatement => Ok(Row::ExpressionStatement(read_expression_statement(
+        NodeType::ExpressionStatement => Ok(Row::Statement(StatementRow::ExpressionStatement(
+            read_expression_statement(alloc, kept, number, span, row)?,
+        ))),
+        NodeType::BlockStatement => Ok(Row::Statement(StatementRow::BlockStatement(
+            read_block_statement(alloc, kept, number, span, row)?,
+        ))),
+        NodeType::IfStatement => Ok(Row::Statement(StatementRow::IfStatement(read_if_statement(
             alloc, kept, number, span, row,
-        )?)),
-        NodeType::VariableDeclaration => Ok(Row::VariableDeclaration(read_variable_declaration(
-            alloc, kept, number, span, row,
-        )?)),
+        )?))),
+        NodeType::EmptyStatement => Ok(Row::Statement(StatementRow::EmptyStatement(
+            read_empty_statement(alloc, kept, number, span, row)?,
+        ))),
+        NodeType::VariableDeclaration => Ok(Row::Declaration(Declaration::VariableDeclaration(
+            read_variable_declaration(alloc, kept, number, span, row)?,
+        ))),
         NodeType::VariableDeclarator => Ok(Row::VariableDeclarator(read_variable_declarator(
             alloc, kept, number, span, row,
         )?)),
-        NodeType::BindingIdentifier => Ok(Row::BindingIdentifier(read_binding_identifier(
+        NodeType::BindingIdentifier => Ok(Row::BindingPattern(BindingPattern::BindingIdentifier(
+            read_binding_identifier(alloc, kept, number, span, row)?,
+        ))),
+        NodeType::IdentifierReference => Ok(Row::Expression(Expression::IdentifierReference(
+            read_identifier_reference(alloc, kept, number, span, row)?,
+        ))),
+        NodeType::NumericLiteral => Ok(Row::Expression(Expression::NumericLiteral(
+            read_numeric_literal(alloc, kept, number, span, row)?,
+        ))),
+        NodeType::StringLiteral => Ok(Row::Expression(Expression::StringLiteral(read_string_literal(
             alloc, kept, number, span, row,
-        )?)),
-        NodeType::IdentifierReference => Ok(Row::IdentifierReference(read_identifier_reference(
-            alloc, kept, number, span, row,
-        )?)),
-        NodeType::NumericLiteral => Ok(Row::NumericLiteral(read_numeric_literal(
-            alloc, kept, number, span, row,
-        )?)),
-        NodeType::ParenthesizedExpression => Ok(Row::ParenthesizedExpression(
+        )?))),
+        NodeType::ParenthesizedExpression => Ok(Row::Expression(Expression::ParenthesizedExpression(
             read_parenthesized_expression(alloc, kept, number, span, row)?,
-        )),
-        NodeType::BinaryExpression => Ok(Row::BinaryExpression(read_binary_expression(
-            alloc, kept, number, span, row,
-        )?)),
-        NodeType::LogicalExpression => Ok(Row::LogicalExpression(read_logical_expression(
-            alloc, kept, number, span, row,
-        )?)),
-        NodeType::StringLiteral => Ok(Row::StringLiteral(read_string_literal(
-            alloc, kept, number, span, row,
-        )?)),
-        NodeType::IdentifierName => Ok(Row::IdentifierName(read_identifier_name(
-            alloc, kept, number, span, row,
-        )?)),
-        NodeType::StaticMemberExpression => Ok(Row::StaticMemberExpression(
+        ))),
+        NodeType::BinaryExpression => Ok(Row::Expression(Expression::BinaryExpression(
+            read_binary_expression(alloc, kept, number, span, row)?,
+        ))),
+        NodeType::LogicalExpression => Ok(Row::Expression(Expression::LogicalExpression(
+            read_logical_expression(alloc, kept, number, span, row)?,
+        ))),
+        NodeType::StaticMemberExpression => Ok(Row::Expression(Expression::StaticMemberExpression(
             read_static_member_expression(alloc, kept, number, span, row)?,
+        ))),
+        NodeType::ComputedMemberExpression => Ok(Row::Expression(
+            Expression::ComputedMemberExpression(read_computed_member_expression(
+                alloc, kept, number, span, row,
+            )?),
         )),
-        NodeType::ComputedMemberExpression => Ok(Row::ComputedMemberExpression(
-            read_computed_member_expression(alloc, kept, number, span, row)?,
-        )),
-        NodeType::CallExpression => Ok(Row::CallExpression(read_call_expression(
-            alloc, kept, number, span, row,
-        )?)),
-        NodeType::BlockStatement => Ok(Row::BlockStatement(read_block_statement(
-            alloc, kept, number, span, row,
-        )?)),
-        NodeType::IfStatement => Ok(Row::IfStatement(read_if_statement(
-            alloc, kept, number, span, row,
-        )?)),
-        NodeType::EmptyStatement => Ok(Row::EmptyStatement(read_empty_statement(
+        NodeType::CallExpression => Ok(Row::Expression(Expression::CallExpression(
+            read_call_expression(alloc, kept, number, span, row)?,
+        ))),
+        NodeType::IdentifierName => Ok(Row::IdentifierName(read_identifier_name(
             alloc, kept, number, span, row,
         )?)),
     }

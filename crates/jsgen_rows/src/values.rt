@@ -6,7 +6,9 @@ ghost use Rattle.jsgen_tree.specs.Rows.{characters};
 ghost use Rattle.jsgen_tree.specs.Tree.{text as text_atom, digits as digits_atom, flag as flag_atom};
 ghost use Rattle.jsgen_tree.specs.Table.{text, digits, flag, unread};
 ghost use Rattle.jsgen_rows.specs.Job.{Same};
-ghost use Rattle.jsgen_rows.specs.Values.{field, field_in, not_given, text_in, items_in, starts_plainly, decimal_number, digits_in, values_in, type_of, span_of, offset_in, offsets};
+ghost use Rattle.serde_json.specs.Find.{as_bool};
+ghost use Rattle.jsgen_rows.specs.declared.InputFault.TheVariants.{Wrong};
+ghost use Rattle.jsgen_rows.specs.Values.{or_fault, field, field_in, not_given, text_in, items_in, starts_plainly, decimal_number, digits_in, value_in, values_in, type_of, span_of, offset_in, offsets};
 
 use crate::floats::holds_float;
 use crate::names::type_by_name;
@@ -131,13 +133,25 @@ fn digits_in(at: At, value: &Value) -> Result<u128, InputFault>
 
 // ---- fields with no children
 
+fn text_value(alloc: Global, at: At, value: &Value) -> Result<String, InputFault>
+    ensures { Same (λ s. text_atom (characters s)) result (value_in at text (view value.now)) }
+{
+    let text = text_in(at, value)?;
+    Ok(String::from_str(alloc, text)?)
+}
+
+fn no_text(alloc: Global) -> String
+    ensures { characters result ≡ [] }
+{
+    String::new(alloc)
+}
+
 #[tactic(auto, unfolding(crate::specs::Values::values_in))]
 pub fn needed_text(alloc: Global, at: At, row: &Value, name: &str) -> Result<String, InputFault>
     ensures { Same (λ s. text_atom (characters s) ∷ []) result (values_in at true text (field name.now (view row.now))) }
 {
     let value = needed_value(at, row, name)?;
-    let text = text_in(at, value)?;
-    Ok(String::from_str(alloc, text)?)
+    text_value(alloc, at, value)
 }
 
 /// A text that is empty where it is absent.
@@ -145,11 +159,10 @@ pub fn needed_text(alloc: Global, at: At, row: &Value, name: &str) -> Result<Str
 pub fn optional_text(alloc: Global, at: At, row: &Value, name: &str) -> Result<String, InputFault>
     ensures { Same (λ s. text_atom (characters s) ∷ []) result (values_in at false text (field name.now (view row.now))) }
 {
-    let Some(value) = optional_value(at, row, name)? else {
-        return Ok(String::new(alloc));
-    };
-    let text = text_in(at, value)?;
-    Ok(String::from_str(alloc, text)?)
+    match optional_value(at, row, name)? {
+        Some(value) => text_value(alloc, at, value),
+        None => Ok(no_text(alloc)),
+    }
 }
 
 #[tactic(auto, unfolding(crate::specs::Values::values_in))]
@@ -160,17 +173,23 @@ pub fn needed_digits(at: At, row: &Value, name: &str) -> Result<u128, InputFault
     digits_in(at, value)
 }
 
+fn flag_in(at: At, value: &Value) -> Result<bool, InputFault>
+    ensures { Same (λ b. b) result (or_fault (Wrong at) (as_bool (view value.now))) }
+{
+    match value.as_bool() {
+        Some(given) => Ok(given),
+        None => Err(InputFault::Wrong(at)),
+    }
+}
+
 /// A flag that is false where it is absent.
 #[tactic(auto, unfolding(crate::specs::Values::values_in))]
 pub fn optional_flag(at: At, row: &Value, name: &str) -> Result<bool, InputFault>
     ensures { Same (λ b. flag_atom b ∷ []) result (values_in at false flag (field name.now (view row.now))) }
 {
-    let Some(value) = optional_value(at, row, name)? else {
-        return Ok(false);
-    };
-    match value.as_bool() {
-        Some(given) => Ok(given),
-        None => Err(InputFault::Wrong(at)),
+    match optional_value(at, row, name)? {
+        Some(value) => flag_in(at, value),
+        None => Ok(false),
     }
 }
 
