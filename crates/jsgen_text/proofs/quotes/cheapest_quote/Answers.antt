@@ -9,8 +9,8 @@ use Rattle.jsgen_text.proofs.quotes.cheapest_quote.Goals as goal
 pub returns : goal.returns
 returns c =
     let us = js_units c.args.value.now in
-    let cost = λ (q : Quote). ap (quote_cost q) c.as_bytes-bytes.ensures ∙ quote_cost-bytes q us (js_units-are_units c.args.value.now) in
-    let s = c.quote_cost-single.ensures ∙ cost Single in
-    let d = c.quote_cost-double.ensures ∙ cost Double in
-    let b = c.quote_cost-backtick.ensures ∙ cost Backtick in
+    let cost = λ (q : Quote). ap (quote_cost q) c.as_bytes.ensures ∙ quote_cost-bytes q us (js_units-are_units c.args.value.now) in
+    let s = c.quote_costs-costs.ensures.single ∙ cost Single in
+    let d = c.quote_costs-costs.ensures.double ∙ cost Double in
+    let b = c.quote_costs-costs.ensures.backtick ∙ cost Backtick in
     c.cheapest_of.ensures ∙ (λ i. cheapest_of c.args.allow_backtick (s i) (d i) (b i))
