@@ -6,8 +6,9 @@ use Rattle.std.specs.List.{list_all, list_any, last_or}
 use Rattle.std.specs.Option.{option_map_or}
 use Rattle.std.proofs.lemmas.Bool.{ltb-true, cases_lt, and_parts, and_from, or_cases, or_from, or_left, or_right, eqb-true, eq-eqb, leb-true, le-leb, false_from_ne_true, both_ways, not-true}
 use Rattle.unicode_ident.specs.Ident.{is_xid_start, is_xid_continue}
-use Rattle.unicode_ident.proofs.IdentLemmas.{is_xid_start-ascii, is_xid_continue-ascii, is_xid_start-is_xid_continue}
+use Rattle.unicode_ident.proofs.IdentLemmas.{is_xid_start-ascii, is_xid_continue-ascii}
 use Rattle.jsgen_syntax.specs.Name.{starts_name, continues_name, goes_in_word, spells_name}
+use Rattle.jsgen_syntax.proofs.Names.{starts_continues}
 use Rattle.jsgen_model.specs.Punctuator.{Punctuator, punctuator_text, dot}
 use Rattle.jsgen_model.specs.Layout.{ends_in_word}
 use Rattle.jsgen_model.specs.Tokens.{text_behind, may_precede, stands, longer_stands, punctuators, spells_whole}
@@ -40,20 +41,6 @@ found_passes f c (d ∷ cs) g h = let k = and_parts (f d) (list_all f cs) g in g
     go ih (inr e) k = ih e
 
 -- ---- names and digits
-
-pub starts_continues : (c : ℕ) → starts_name c ≡ true → continues_name c ≡ true
-starts_continues c h = outer (or_cases (is_xid_start c || (c == 36)) (c == 95) h)
-  where
-    by_continue : is_xid_continue c ≡ true → continues_name c ≡ true
-    by_continue e = or_left _ (c == 8205) (or_left _ (c == 8204) (or_left (is_xid_continue c) (c == 36) e))
-
-    inner : (is_xid_start c ≡ true) ⊎ ((c == 36) ≡ true) → continues_name c ≡ true
-    inner (inl e) = by_continue (is_xid_start-is_xid_continue c e)
-    inner (inr e) = or_left _ (c == 8205) (or_left _ (c == 8204) (or_right (is_xid_continue c) (c == 36) e))
-
-    outer : ((is_xid_start c || (c == 36)) ≡ true) ⊎ ((c == 95) ≡ true) → continues_name c ≡ true
-    outer (inl e) = inner (or_cases (is_xid_start c) (c == 36) e)
-    outer (inr e) = by_continue (subst (λ x. is_xid_continue x ≡ true) (sym (eqb-true c 95 e)) (is_xid_continue-ascii 95 (omega arith)))
 
 pub continues_goes : (c : ℕ) → continues_name c ≡ true → goes_in_word c ≡ true
 continues_goes c h = by (cases_lt c 128)

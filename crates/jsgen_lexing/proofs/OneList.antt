@@ -5,6 +5,7 @@ use Rattle.std.specs.List.{list_all, list_any}
 use Rattle.std.proofs.lemmas.Bool.{both_ways, and_parts, or_parts, or_cases, or_from, eqb-true, not-true, false_from_ne_true}
 use Rattle.std.proofs.lemmas.List.{append_cancel_left}
 use Rattle.unicode_ident.proofs.Computing.{unicode_ident}
+use Rattle.jsgen_syntax.proofs.Names.{starts_continues}
 use Rattle.jsgen_syntax.specs.Name.{starts_name, goes_in_word}
 use Rattle.jsgen_syntax.specs.Strings.{quote_char, string_value}
 use Rattle.jsgen_syntax.specs.declared.quote.Quote.{Quote}
@@ -12,7 +13,7 @@ use Rattle.jsgen_syntax.specs.declared.quote.Quote.TheVariants as quotes
 use Rattle.jsgen_syntax.proofs.Strings.{closed as is_closed, valued_closed, one_string}
 use Rattle.jsgen_model.specs.Punctuator.{Punctuator, dot, Bracket, Round, Square, Brace, opening, closing}
 use Rattle.jsgen_model.specs.Tokens.{Tokens, done, piece, group, Piece, Word, Number, Quoted, Sign, piece_text, is_spelled, is_blank, is_line_terminator, has_line_end, ends_before, AreTokensAfter, AreTokensOf}
-use Rattle.jsgen_lexing.proofs.Characters.{starts_continues, continues_goes, digit_goes, whole_digits, found_passes, no_word_no_start, no_word_no_digit, starts_no_digit}
+use Rattle.jsgen_lexing.proofs.Characters.{continues_goes, digit_goes, whole_digits, found_passes, no_word_no_start, no_word_no_digit, starts_no_digit}
 pub use Rattle.jsgen_lexing.proofs.Words.{Stops}
 use Rattle.jsgen_lexing.proofs.Words.{between, goes_on_in_word, begins_word, word_begins, word_shaped, one_word}
 use Rattle.jsgen_lexing.proofs.Last.{After, clear_closing, clear_quoted}

@@ -6,16 +6,11 @@ use Rattle.std.specs.List.{list_all}
 use Rattle.std.specs.Str.{all_scalars}
 use lib.Utf8.{scalar, low_scalar}
 use Rattle.std.proofs.lemmas.Bool.{both_ways, and_parts, and_from, or_cases, eqb-true, cases_lt, lt-ltb, le-ltb, le-leb, lt-leb}
-use Rattle.ucd_table.specs.Steps.{step_value}
-use Rattle.ucd_table.proofs.Stepped.{Stepped, zip_stepped}
-use Rattle.ucd_table.proofs.Facts.{Stepped-everywhere}
-use Rattle.ucd_derived.proofs.BinaryLemmas.{is_xid_continue_stepped}
-use Rattle.unicode_ident.specs.Ident.{is_xid_continue}
-use Rattle.unicode_ident.proofs.Computing.{unicode_ident}
 use Rattle.jsgen_syntax.specs.Name.{continues_name}
 use Rattle.jsgen_syntax.specs.Strings.{quote_char, string_value}
 use Rattle.jsgen_syntax.specs.declared.quote.Quote.{Quote}
 use Rattle.jsgen_syntax.specs.declared.quote.Quote.TheVariants as quotes
+use Rattle.jsgen_syntax.proofs.Names.{continues_scalar}
 use Rattle.jsgen_syntax.proofs.Strings.{valued_scalars}
 use Rattle.jsgen_model.specs.Punctuator.{Punctuator, punctuator_text, dot, Bracket, Round, opening, closing}
 use Rattle.jsgen_model.specs.Tokens.{Tokens, done, piece, group, Piece, Word, Number, Quoted, Sign, piece_text, is_spelled, is_blank, is_line_terminator, AreTokensAfter, AreTokensOf}
@@ -31,42 +26,6 @@ scalars_follow f h [] e = refl
 scalars_follow f h (x ∷ a) e = let k = and_parts (f x) (list_all f a) e in and_from (scalar x) (all_scalars a) (h x k.0) (scalars_follow f h a k.1)
 
 -- ---- names
-
-itself : (b : Bool) → b ≡ cond b true false
-itself true = refl
-itself false = refl
-
-scalar_stepped : Stepped scalar
-unfolding step_value
-scalar_stepped = record { default = false; steps = (55296, true) ∷ (57344, false) ∷ (1114112, true) ∷ []; gives = λ c. by c (cases_lt c 57344) }
-  where
-    by : (c : ℕ) → (c < 57344) ⊎ (57344 ≤ c) → scalar c ≡ step_value false ((55296, true) ∷ (57344, false) ∷ (1114112, true) ∷ []) c
-    by c (inl l) = rw (lt-ltb c 57344 l, lt-leb 57344 c l) refl
-    by c (inr g) = rw (le-ltb c 57344 g, le-leb 57344 c g) (ap (λ b. cond (nat_lt c 55296) true b) (itself (nat_lt c 1114112)))
-
-xid_scalar : (c : ℕ) → is_xid_continue c ≡ true → scalar c ≡ true
-unfolding unicode_ident scalar_stepped step_value
-xid_scalar c e =
-    let both = zip_stepped (λ a b. not a || b) is_xid_continue scalar is_xid_continue_stepped scalar_stepped in
-    subst (λ a. (not a || scalar c) ≡ true) e (Stepped-everywhere (λ x. not (is_xid_continue x) || scalar x) both refl c)
-
-pub continues_scalar : (c : ℕ) → continues_name c ≡ true → scalar c ≡ true
-continues_scalar c h = outer (or_cases (is_xid_continue c || (c == 36) || (c == 8204)) (c == 8205) h)
-  where
-    that : (d : ℕ) → d < 55296 → (c == d) ≡ true → scalar c ≡ true
-    that d l e = subst (λ x. scalar x ≡ true) (sym (eqb-true c d e)) (low_scalar d l)
-
-    inner : (is_xid_continue c ≡ true) ⊎ ((c == 36) ≡ true) → scalar c ≡ true
-    inner (inl e) = xid_scalar c e
-    inner (inr e) = that 36 (omega arith) e
-
-    middle : ((is_xid_continue c || (c == 36)) ≡ true) ⊎ ((c == 8204) ≡ true) → scalar c ≡ true
-    middle (inl e) = inner (or_cases (is_xid_continue c) (c == 36) e)
-    middle (inr e) = that 8204 (omega arith) e
-
-    outer : ((is_xid_continue c || (c == 36) || (c == 8204)) ≡ true) ⊎ ((c == 8205) ≡ true) → scalar c ≡ true
-    outer (inl e) = middle (or_cases (is_xid_continue c || (c == 36)) (c == 8204) e)
-    outer (inr e) = that 8205 (omega arith) e
 
 hex_scalar : (c : ℕ) → is_ascii_hexdigit c ≡ true → scalar c ≡ true
 hex_scalar c h = outer (or_cases (is_in_range 48 57 c || is_in_range 65 70 c) (is_in_range 97 102 c) h)

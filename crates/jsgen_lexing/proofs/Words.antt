@@ -4,11 +4,11 @@ use Rattle.std.specs.Char.{is_ascii_hexdigit, digit_value}
 use Rattle.std.specs.List.{list_all, list_any}
 use Rattle.std.specs.Option.{option_map_or}
 use Rattle.std.proofs.lemmas.Bool.{both_ways, and_parts, and_from, or_parts, or_left, or_right}
+use Rattle.jsgen_syntax.proofs.Names.{starts_continues}
 use Rattle.jsgen_syntax.specs.Name.{starts_name, continues_name, spells_name}
 use Rattle.jsgen_syntax.specs.Escapes.{begins, begins_with, is_past_ascii, name_text, has_escapes, before_others, word_value, word_escape, word_hex, word_code_point, word_digits}
 use Rattle.jsgen_syntax.proofs.Escapes.{word_text_value}
 use Rattle.jsgen_model.specs.Tokens.{Word, is_spelled}
-use Rattle.jsgen_lexing.proofs.Characters.{starts_continues}
 
 -- ---- the places in a word
 

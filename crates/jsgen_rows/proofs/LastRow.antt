@@ -2,13 +2,15 @@
 use Rattle.std.proofs.Common.{◌≡◌, List, [], ◌∷◌, ◌++◌, ◌-◌, length, Some, ap, ◌∙◌}
 use Rattle.std.proofs.lemmas.List.{map-append, length-map}
 use Rattle.jsgen_rows.specs.Values.{at}
-use Rattle.jsgen_rows.specs.Reads.{Entry, root_of, root_found}
+use Rattle.jsgen_pool.specs.Pool.{Entry}
+use Rattle.jsgen_rows.specs.Reads.{root_of, root_found}
 use Rattle.jsgen_rows.specs.Kept.{entry, entries}
-use Rattle.jsgen_rows.specs.declared.kept.Kept.{Kept}
+use Rattle.jsgen_pool.specs.declared.Kept.{Kept}
+use Rattle.jsgen_rows.specs.declared.kept.Row.{Row}
 use Rattle.jsgen_rows.proofs.Listed.{slice_get-last, length-last}
 
 at_last : (es : List Entry) (e : Entry) → root_of (es ++ e ∷ []) ≡ root_found (at (length es) 0) (Some e)
 at_last es e = ap (λ o. root_found (at (length (es ++ e ∷ []) - 1) 0) o) (slice_get-last es e) ∙ ap (λ n. root_found (at n 0) (Some e)) (length-last es e)
 
-pub root_pushed : (all before : List Kept) (k : Kept) → all ≡ before ++ k ∷ [] → root_of (entries all) ≡ root_found (at (length before) 0) (Some (entry k))
+pub root_pushed : (all before : List (Kept Row)) (k : Kept Row) → all ≡ before ++ k ∷ [] → root_of (entries all) ≡ root_found (at (length before) 0) (Some (entry k))
 root_pushed all before k e = ap (λ x. root_of (entries x)) e ∙ ap root_of (map-append entry before (k ∷ [])) ∙ at_last (entries before) (entry k) ∙ ap (λ n. root_found (at n 0) (Some (entry k))) (length-map before entry)

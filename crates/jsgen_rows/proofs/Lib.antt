@@ -7,6 +7,5 @@ pub mod Pool
 pub mod Program
 pub mod RowSteps
 pub mod Sets
-pub mod Taking
 pub mod Told
 pub mod WordLengths

@@ -4,9 +4,11 @@ use Rattle.std.proofs.lemmas.Bool.Decides.{nat_tests}
 use Rattle.jsgen_tree.specs.Tree.{Tree, type_of}
 use Rattle.jsgen_tree.specs.Table.{in_set}
 use Rattle.jsgen_tree.specs.declared.types.NodeSet.{NodeSet}
+use Rattle.jsgen_pool.specs.Pool.{Entry, there, taken, take_row, take_found, take_entry}
+use Rattle.jsgen_pool.specs.declared.TakeFault.TheVariants.{Absent}
 use Rattle.jsgen_rows.specs.declared.At.{At}
 use Rattle.jsgen_rows.specs.declared.InputFault.TheVariants.{Child, Shared}
-use Rattle.jsgen_rows.specs.Reads.{Entry, there, taken, take_found, take_entry}
+use Rattle.jsgen_rows.specs.Reads.{told}
 use Rattle.jsgen_rows.specs.Meaning.{is_used, found_faults, unless, no_tree}
 
 -- an entry whose tree is t, used or not
@@ -64,20 +66,20 @@ or_false : (a b : Bool) → a ≡ false → b ≡ (a || b)
 or_false a b h = rw h
 
 chosen : (b used : Bool) (a : At) (c : ℕ) (t : Tree) (k l : List Entry) → set k c (taken (type_of t)) ≡ l
-    → (if b then take_entry c (seen used t) k else Err (Child a)) ≡ unless (if b then (if used then Shared c ∷ [] else []) else Child a ∷ []) (t, l)
+    → told a (if b then take_entry c (seen used t) k else Err Absent) ≡ unless (if b then (if used then Shared c ∷ [] else []) else Child a ∷ []) (t, l)
 chosen true true a c t k l h = refl
 chosen true false a c t k l h = ap (λ x. Ok (t, x)) h
 chosen false used a c t k l h = refl
 
 found_unless : (a : At) (s : NodeSet) (c : ℕ) (o : Option Tree) (used : Bool) (k l : List Entry) → ((t : Tree) → o ≡ Some t → set k c (taken (type_of t)) ≡ l)
-    → take_found a s c (option_map (seen used) o) k ≡ unless (found_faults a s c o used) (unwrap_or o no_tree, l)
+    → told a (take_found s c (option_map (seen used) o) k) ≡ unless (found_faults a s c o used) (unwrap_or o no_tree, l)
 found_unless a s c None used k l h = refl
 found_unless a s c (Some t) true k l h = chosen (in_set s (type_of t)) true a c t k l (h t refl)
 found_unless a s c (Some t) false k l h = chosen (in_set s (type_of t)) false a c t k l (h t refl)
 
 pub taken_unless : (a : At) (s : NodeSet) (c : ℕ) (e : List Tree) (u : List ℕ)
-    → take_found a s c (slice_get (pool e u) c) (pool e u) ≡ unless (found_faults a s c (slice_get e c) (is_used u c)) (unwrap_or (slice_get e c) no_tree, pool e (c ∷ u))
+    → told a (take_row s c (pool e u)) ≡ unless (found_faults a s c (slice_get e c) (is_used u c)) (unwrap_or (slice_get e c) no_tree, pool e (c ∷ u))
 taken_unless a s c e u =
-    ap (λ o. take_found a s c o (pool e u)) (pool-get (is_used u) e c)
+    ap (λ o. told a (take_found s c o (pool e u))) (pool-get (is_used u) e c)
     ∙ found_unless a s c (slice_get e c) (is_used u c) (pool e u) (pool e (c ∷ u))
     (λ t q. pool-take (is_used u) (is_used (c ∷ u)) e c t q (or_true (c == c) (is_used u c) (same_eq c)) (λ i n. or_false (i == c) (is_used u i) (other_eq i c n)))

@@ -13,7 +13,8 @@ use Rattle.jsgen_rows.specs.declared.At.{At}
 use Rattle.jsgen_rows.specs.declared.InputFault.{InputFault}
 use Rattle.jsgen_rows.specs.declared.InputFault.TheVariants.{Float}
 use Rattle.jsgen_rows.specs.Values.{after, at, field, field_in, items_in, values_in, type_of, span_of}
-use Rattle.jsgen_rows.specs.Reads.{Entry, Read, take_numbered, take_child, take_all, take_given, take_list, read_child, read_children, read_sort, read_field, read_fields, read_typed, read_node, read_row}
+use Rattle.jsgen_pool.specs.Pool.{Entry, take_row}
+use Rattle.jsgen_rows.specs.Reads.{Read, number_in, told, take_child, take_all, take_given, take_list, read_child, read_children, read_sort, read_field, read_fields, read_typed, read_node, read_row}
 use Rattle.jsgen_rows.specs.Meaning.{Mark, number_marks, child_marks, each, marks_of, given_marks, list_marks, sort_marks, fields_marks, typed_marks, row_marks, number_tree, child_tree, ok_or_else, Held, a_value, a_list, child_held, put_in, given_held, list_held, sort_held, fields_parts, node_of, typed_tree, row_tree, mark_faults, with_mark, with_marks, faults_in, unless}
 use Rattle.jsgen_rows.proofs.Pool.{pool, taken_unless}
 
@@ -51,7 +52,7 @@ then_map e u ms x r f h = ap (λ z. after z (λ p. Ok (f p.0, p.1))) h ∙ unles
 
 -- ---- children
 
-numbered : (e : List Tree) (u : List ℕ) (a : At) (s : NodeSet) (o : Option Num) → Reads e u (number_marks a s o) (number_tree e o) (take_numbered a s o (pool e u))
+numbered : (e : List Tree) (u : List ℕ) (a : At) (s : NodeSet) (o : Option Num) → Reads e u (number_marks a s o) (number_tree e o) (after (number_in a o) (λ c. told a (take_row s c (pool e u))))
 numbered e u a s None = refl
 numbered e u a s (Some (unsigned c)) = taken_unless a s c e u ∙ ap (λ fs. unless fs (number_tree e (Some (unsigned c)), pool e (c ∷ u))) (sym (append-nil _))
 numbered e u a s (Some (negative z)) = refl

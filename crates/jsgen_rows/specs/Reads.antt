@@ -1,6 +1,6 @@
 -- A job read row by row, over the rows that are kept: each still there, or a child of an earlier place already.
 -- The reader's functions are proved against it; that it gives what a job means is a law of its own.
-use Rattle.std.specs.Prelude.{◌-◌, ◌≡◌, ℕ, suc, List, [], ◌∷◌, ◌++◌, length, Bool, Option, Some, None, Result, Ok, Err, slice_get, slice_set, if◌then◌else◌}
+use Rattle.std.specs.Prelude.{◌-◌, ◌≡◌, ℕ, suc, List, [], ◌∷◌, ◌++◌, length, Bool, Option, Some, None, Result, Ok, Err, slice_get, if◌then◌else◌}
 use Rattle.serde_json.specs.Data.{Data, Num, unsigned, negative, float}
 use Rattle.serde_json.specs.Find.{as_number}
 use Rattle.jsgen_syntax.specs.declared.span.Span.{Span}
@@ -8,18 +8,15 @@ use Rattle.jsgen_tree.specs.declared.types.NodeType.{NodeType}
 use Rattle.jsgen_tree.specs.declared.types.NodeSet.{NodeSet}
 use Rattle.jsgen_tree.specs.Tree.{Tree, node, no_slots, absent, no_trees, trees}
 use Rattle.jsgen_tree.specs.Tree as tree
-use Rattle.jsgen_tree.specs.Table.{Sort, Field, fields, in_set}
+use Rattle.jsgen_tree.specs.Table.{Sort, Field, fields}
 use Rattle.jsgen_tree.specs.Table as sorts
+use Rattle.jsgen_pool.specs.Pool.{Entry, there, taken, Took, take_row}
+use Rattle.jsgen_pool.specs.declared.TakeFault.TheVariants.{Absent, Taken}
 use Rattle.jsgen_rows.specs.declared.At.{At}
 use Rattle.jsgen_rows.specs.declared.InputFault.{InputFault}
 use Rattle.jsgen_rows.specs.declared.InputFault.TheVariants.{Wrong, Child, Shared, Memory}
 use Rattle.jsgen_rows.specs.Values.{after, at, field, field_in, items_in, values_in, type_of, span_of, rows_in}
 use Rattle.jsgen_rows.specs.Meaning.{Held, a_value, a_maybe, a_list, Parts, put_in, child_held, is_program}
-
--- an earlier row: its tree, or its type alone where it is a child already
-pub data Entry : Type 0 where
-  there : Tree → Entry
-  taken : NodeType → Entry
 
 abbrev pub Read : Type 0 → Type 0
 Read V = Result (V × List Entry) InputFault
@@ -31,26 +28,20 @@ Gives plain (Err e) kept read = (e ≡ Memory → ⊥) → read ≡ Err e
 
 -- ---- children
 
-abbrev pub entry_type : Entry → NodeType
-entry_type (there t) = tree.type_of t
-entry_type (taken type) = type
+-- a whole number below zero is no row's; anything else that is no whole number is of the wrong kind
+abbrev pub number_in : At → Option Num → Result ℕ InputFault
+number_in a None = Err (Wrong a)
+number_in a (Some (unsigned c)) = Ok c
+number_in a (Some (negative z)) = Err (Child a)
+number_in a (Some (float x)) = Err (Wrong a)
 
-abbrev pub take_entry : ℕ → Entry → List Entry → Read Tree
-take_entry c (there t) kept = Ok (t, slice_set kept c (taken (tree.type_of t)))
-take_entry c (taken type) kept = Err (Shared c)
-
-abbrev pub take_found : At → NodeSet → ℕ → Option Entry → List Entry → Read Tree
-take_found a s c None kept = Err (Child a)
-take_found a s c (Some e) kept = if in_set s (entry_type e) then take_entry c e kept else Err (Child a)
-
-abbrev pub take_numbered : At → NodeSet → Option Num → List Entry → Read Tree
-take_numbered a s None kept = Err (Wrong a)
-take_numbered a s (Some (unsigned c)) kept = take_found a s c (slice_get kept c) kept
-take_numbered a s (Some (negative z)) kept = Err (Child a)
-take_numbered a s (Some (float x)) kept = Err (Wrong a)
+abbrev pub told : At → Took → Read Tree
+told a (Ok t) = Ok t
+told a (Err Absent) = Err (Child a)
+told a (Err (Taken c)) = Err (Shared c)
 
 abbrev pub take_child : At → NodeSet → Data → List Entry → Read Tree
-take_child a s d kept = take_numbered a s (as_number d) kept
+take_child a s d kept = after (number_in a (as_number d)) (λ c. told a (take_row s c kept))
 
 abbrev pub take_all : At → NodeSet → List Tree → List Data → List Entry → Read (List Tree)
 take_all a s done [] kept = Ok (done, kept)

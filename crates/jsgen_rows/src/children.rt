@@ -1,26 +1,44 @@
 // Children: each is taken out by its number.
 ghost use Rattle.std.specs.Prelude.{◌≡◌, true, IfOk, [], map};
 ghost use Rattle.serde_json.specs.View.{view};
+ghost use Rattle.serde_json.specs.Find.{as_number};
 ghost use Rattle.jsgen_tree.specs.Tree.{type_of};
 ghost use Rattle.jsgen_tree.specs.Table.{in_set};
 ghost use Rattle.jsgen_tree.specs.Plain.{node_plain};
 ghost use Rattle.jsgen_tree.specs.Rows.{in_expression, in_statement, in_binding_pattern, in_argument, variable_declarator_row, identifier_name_row, directive_row};
 ghost use Rattle.jsgen_tree.specs.declared.types.NodeSet.TheVariants as sets;
-ghost use Rattle.jsgen_rows.specs.Reads.{Gives, take_child, take_all};
+ghost use Rattle.jsgen_rows.specs.Job.{Same};
+ghost use Rattle.jsgen_rows.specs.Reads.{Gives, number_in, take_child, take_all};
 ghost use Rattle.jsgen_rows.specs.Kept.{row_plain, entries};
 
-use crate::kept::{Kept, Row, binding_pattern_node, expression_node, statement_node};
+use crate::kept::{Row, binding_pattern_node, expression_node, statement_node};
 use crate::{At, InputFault};
+use jsgen_pool::{Kept, TakeFault, take};
 use jsgen_tree::{
     Argument, BindingPatternNode, Directive, ExpressionNode, IdentifierName, NodeSet,
     StatementNode, VariableDeclarator,
 };
 use serde_json::Value;
 use std::alloc::Global;
-use std::mem;
+
+// A whole number below zero is no row's.
+fn number_in(at: At, value: &Value) -> Result<u64, InputFault>
+    ensures { Same (λ n. n) result (number_in at (as_number (view value.now))) }
+{
+    match value.as_u64() {
+        Some(number) => Ok(number),
+        None => {
+            if value.as_i64().is_some() {
+                Err(InputFault::Child(at))
+            } else {
+                Err(InputFault::Wrong(at))
+            }
+        }
+    }
+}
 
 pub fn take_child(
-    kept: &mut Vec<Kept>,
+    kept: &mut Vec<Kept<Row>>,
     at: At,
     set: NodeSet,
     value: &Value,
@@ -28,28 +46,16 @@ pub fn take_child(
     ensures reads { Gives row_plain result (entries kept.new.items) (take_child at set (view value.now) (entries kept.old.items)) }
     ensures fits { IfOk result (λ r. true ≡ in_set set (type_of (row_plain r))) }
 {
-    let Some(number) = value.as_u64() else {
-        if value.as_i64().is_some() {
-            return Err(InputFault::Child(at));
-        }
-        return Err(InputFault::Wrong(at));
-    };
-    if number >= kept.len() as u64 {
-        return Err(InputFault::Child(at));
-    }
-    let index = number as usize;
-    let node_type = kept[index].node_type();
-    if !node_type.is_in(set) {
-        return Err(InputFault::Child(at));
-    }
-    match mem::replace(&mut kept[index], Kept::Taken(node_type)) {
-        Kept::There(row) => Ok(row),
-        Kept::Taken(_) => Err(InputFault::Shared(index)),
+    let number = number_in(at, value)?;
+    match take(kept, set, number) {
+        Ok(row) => Ok(row),
+        Err(TakeFault::Absent) => Err(InputFault::Child(at)),
+        Err(TakeFault::Taken(index)) => Err(InputFault::Shared(index)),
     }
 }
 
 pub fn take_expression(
-    kept: &mut Vec<Kept>,
+    kept: &mut Vec<Kept<Row>>,
     at: At,
     value: &Value,
 ) -> Result<ExpressionNode, InputFault>
@@ -64,7 +70,7 @@ pub fn take_expression(
 
 pub fn take_statement(
     alloc: Global,
-    kept: &mut Vec<Kept>,
+    kept: &mut Vec<Kept<Row>>,
     at: At,
     value: &Value,
 ) -> Result<StatementNode, InputFault>
@@ -79,7 +85,7 @@ pub fn take_statement(
 }
 
 pub fn take_binding_pattern(
-    kept: &mut Vec<Kept>,
+    kept: &mut Vec<Kept<Row>>,
     at: At,
     value: &Value,
 ) -> Result<BindingPatternNode, InputFault>
@@ -93,7 +99,7 @@ pub fn take_binding_pattern(
 }
 
 pub fn take_variable_declarator(
-    kept: &mut Vec<Kept>,
+    kept: &mut Vec<Kept<Row>>,
     at: At,
     value: &Value,
 ) -> Result<VariableDeclarator, InputFault>
@@ -107,7 +113,7 @@ pub fn take_variable_declarator(
 }
 
 pub fn take_identifier_name(
-    kept: &mut Vec<Kept>,
+    kept: &mut Vec<Kept<Row>>,
     at: At,
     value: &Value,
 ) -> Result<Box<IdentifierName>, InputFault>
@@ -120,7 +126,7 @@ pub fn take_identifier_name(
     }
 }
 
-pub fn take_directive(kept: &mut Vec<Kept>, at: At, value: &Value) -> Result<Directive, InputFault>
+pub fn take_directive(kept: &mut Vec<Kept<Row>>, at: At, value: &Value) -> Result<Directive, InputFault>
     ensures { Gives directive_row result (entries kept.new.items)
         (take_child at sets.Directive (view value.now) (entries kept.old.items)) }
 {
@@ -132,7 +138,7 @@ pub fn take_directive(kept: &mut Vec<Kept>, at: At, value: &Value) -> Result<Dir
 
 pub fn take_argument(
     alloc: Global,
-    kept: &mut Vec<Kept>,
+    kept: &mut Vec<Kept<Row>>,
     at: At,
     value: &Value,
 ) -> Result<Argument, InputFault>
@@ -152,7 +158,7 @@ pub fn take_argument(
 
 pub fn take_statements(
     alloc: Global,
-    kept: &mut Vec<Kept>,
+    kept: &mut Vec<Kept<Row>>,
     at: At,
     values: &[Value],
 ) -> Result<Vec<StatementNode>, InputFault>
@@ -169,7 +175,7 @@ pub fn take_statements(
 
 pub fn take_variable_declarators(
     alloc: Global,
-    kept: &mut Vec<Kept>,
+    kept: &mut Vec<Kept<Row>>,
     at: At,
     values: &[Value],
 ) -> Result<Vec<VariableDeclarator>, InputFault>
@@ -186,7 +192,7 @@ pub fn take_variable_declarators(
 
 pub fn take_directives(
     alloc: Global,
-    kept: &mut Vec<Kept>,
+    kept: &mut Vec<Kept<Row>>,
     at: At,
     values: &[Value],
 ) -> Result<Vec<Directive>, InputFault>
@@ -203,7 +209,7 @@ pub fn take_directives(
 
 pub fn take_arguments(
     alloc: Global,
-    kept: &mut Vec<Kept>,
+    kept: &mut Vec<Kept<Row>>,
     at: At,
     values: &[Value],
 ) -> Result<Vec<Argument>, InputFault>

@@ -9,10 +9,11 @@ ghost use Rattle.jsgen_rows.specs.Reads.{Gives, read_node};
 ghost use Rattle.jsgen_rows.specs.Kept.{entries};
 
 use crate::fields::needed_expression;
-use crate::kept::Kept;
+use crate::kept::Row;
 use crate::values::{needed_digits, needed_text, unread};
 use crate::words::{needed_binary_operator, needed_logical_operator, needed_numeric_kind};
 use crate::{At, InputFault};
+use jsgen_pool::Kept;
 use jsgen_syntax::Span;
 use jsgen_tree::{
     BinaryExpression, IdentifierReference, LogicalExpression, NumericLiteral, NumericValue,
@@ -24,7 +25,7 @@ use std::alloc::Global;
 #[tactic(auto, unfolding(crate::specs::Reads::read_node))]
 pub fn read_identifier_reference(
     alloc: Global,
-    kept: &mut Vec<Kept>,
+    kept: &mut Vec<Kept<Row>>,
     number: usize,
     span: Span,
     row: &Value,
@@ -41,7 +42,7 @@ pub fn read_identifier_reference(
 #[tactic(auto, unfolding(crate::specs::Reads::read_node))]
 pub fn read_numeric_literal(
     alloc: Global,
-    kept: &mut Vec<Kept>,
+    kept: &mut Vec<Kept<Row>>,
     number: usize,
     span: Span,
     row: &Value,
@@ -61,7 +62,7 @@ pub fn read_numeric_literal(
 #[tactic(auto, unfolding(crate::specs::Reads::read_node))]
 pub fn read_parenthesized_expression(
     alloc: Global,
-    kept: &mut Vec<Kept>,
+    kept: &mut Vec<Kept<Row>>,
     number: usize,
     span: Span,
     row: &Value,
@@ -76,7 +77,7 @@ pub fn read_parenthesized_expression(
 #[tactic(auto, unfolding(crate::specs::Reads::read_node))]
 pub fn read_binary_expression(
     alloc: Global,
-    kept: &mut Vec<Kept>,
+    kept: &mut Vec<Kept<Row>>,
     number: usize,
     span: Span,
     row: &Value,
@@ -99,7 +100,7 @@ pub fn read_binary_expression(
 #[tactic(auto, unfolding(crate::specs::Reads::read_node))]
 pub fn read_logical_expression(
     alloc: Global,
-    kept: &mut Vec<Kept>,
+    kept: &mut Vec<Kept<Row>>,
     number: usize,
     span: Span,
     row: &Value,

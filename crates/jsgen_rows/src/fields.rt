@@ -14,9 +14,10 @@ use crate::children::{
     take_arguments, take_binding_pattern, take_directives, take_expression, take_identifier_name,
     take_statement, take_statements, take_variable_declarators,
 };
-use crate::kept::Kept;
+use crate::kept::Row;
 use crate::values::{items_in, needed_value, optional_value};
 use crate::{At, InputFault};
+use jsgen_pool::Kept;
 use jsgen_tree::{
     Argument, BindingPatternNode, Directive, ExpressionNode, IdentifierName, StatementNode,
     VariableDeclarator,
@@ -26,7 +27,7 @@ use std::alloc::Global;
 
 #[tactic(auto, unfolding(crate::specs::Reads::read_child))]
 pub fn needed_expression(
-    kept: &mut Vec<Kept>,
+    kept: &mut Vec<Kept<Row>>,
     at: At,
     row: &Value,
     name: &str,
@@ -40,7 +41,7 @@ pub fn needed_expression(
 
 #[tactic(auto, unfolding(crate::specs::Reads::read_child))]
 pub fn optional_expression(
-    kept: &mut Vec<Kept>,
+    kept: &mut Vec<Kept<Row>>,
     at: At,
     row: &Value,
     name: &str,
@@ -58,7 +59,7 @@ pub fn optional_expression(
 #[tactic(auto, unfolding(crate::specs::Reads::read_child))]
 pub fn needed_statement(
     alloc: Global,
-    kept: &mut Vec<Kept>,
+    kept: &mut Vec<Kept<Row>>,
     at: At,
     row: &Value,
     name: &str,
@@ -73,7 +74,7 @@ pub fn needed_statement(
 #[tactic(auto, unfolding(crate::specs::Reads::read_child))]
 pub fn optional_statement(
     alloc: Global,
-    kept: &mut Vec<Kept>,
+    kept: &mut Vec<Kept<Row>>,
     at: At,
     row: &Value,
     name: &str,
@@ -90,7 +91,7 @@ pub fn optional_statement(
 
 #[tactic(auto, unfolding(crate::specs::Reads::read_child))]
 pub fn needed_binding_pattern(
-    kept: &mut Vec<Kept>,
+    kept: &mut Vec<Kept<Row>>,
     at: At,
     row: &Value,
     name: &str,
@@ -104,7 +105,7 @@ pub fn needed_binding_pattern(
 
 #[tactic(auto, unfolding(crate::specs::Reads::read_child))]
 pub fn needed_identifier_name(
-    kept: &mut Vec<Kept>,
+    kept: &mut Vec<Kept<Row>>,
     at: At,
     row: &Value,
     name: &str,
@@ -119,7 +120,7 @@ pub fn needed_identifier_name(
 #[tactic(auto, unfolding(crate::specs::Reads::read_children))]
 pub fn statements(
     alloc: Global,
-    kept: &mut Vec<Kept>,
+    kept: &mut Vec<Kept<Row>>,
     at: At,
     row: &Value,
     name: &str,
@@ -137,7 +138,7 @@ pub fn statements(
 #[tactic(auto, unfolding(crate::specs::Reads::read_children))]
 pub fn variable_declarators(
     alloc: Global,
-    kept: &mut Vec<Kept>,
+    kept: &mut Vec<Kept<Row>>,
     at: At,
     row: &Value,
     name: &str,
@@ -155,7 +156,7 @@ pub fn variable_declarators(
 #[tactic(auto, unfolding(crate::specs::Reads::read_children))]
 pub fn directives(
     alloc: Global,
-    kept: &mut Vec<Kept>,
+    kept: &mut Vec<Kept<Row>>,
     at: At,
     row: &Value,
     name: &str,
@@ -173,7 +174,7 @@ pub fn directives(
 #[tactic(auto, unfolding(crate::specs::Reads::read_children))]
 pub fn arguments(
     alloc: Global,
-    kept: &mut Vec<Kept>,
+    kept: &mut Vec<Kept<Row>>,
     at: At,
     row: &Value,
     name: &str,

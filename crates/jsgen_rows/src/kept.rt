@@ -5,9 +5,9 @@ ghost use Rattle.jsgen_tree.specs.Table.{is_expression, is_statement, is_binding
 ghost use Rattle.jsgen_tree.specs.Plain.{node_plain, program_plain};
 ghost use Rattle.jsgen_tree.specs.Rows.{in_expression, in_statement, in_binding_pattern, in_declaration, expression_plain, statement_plain, declaration_plain, binding_pattern_plain, variable_declarator_row, identifier_name_row, directive_row};
 ghost use Rattle.jsgen_rows.specs.Meaning.{is_program};
-ghost use Rattle.jsgen_rows.specs.Reads.{entry_type};
-ghost use Rattle.jsgen_rows.specs.Kept.{statement_row_plain, row_plain, entry};
+ghost use Rattle.jsgen_rows.specs.Kept.{statement_row_plain, row_plain};
 
+use jsgen_pool::Typed;
 use jsgen_tree::{
     BindingPattern, BindingPatternNode, BlockStatement, Declaration, DeclarationNode, Directive,
     EmptyStatement, Expression, ExpressionNode, ExpressionStatement, IdentifierName, IfStatement,
@@ -35,13 +35,6 @@ pub enum StatementRow {
     BlockStatement(Box<BlockStatement>),
     IfStatement(Box<IfStatement>),
     EmptyStatement(Box<EmptyStatement>),
-}
-
-/// A row that was read, or its type where it is a child already.
-#[derive(Drop)]
-pub enum Kept {
-    There(Row),
-    Taken(NodeType),
 }
 
 // ---- the type of a row, set by set
@@ -102,10 +95,10 @@ impl StatementRow {
     }
 }
 
-impl Row {
-    pub fn node_type(&self) -> NodeType
-        ensures { result ≡ type_of (row_plain self.now) }
-    {
+impl Typed for Row {
+    ghost plain = { λ row. row_plain row };
+
+    fn node_type(&self) -> NodeType {
         match self {
             Row::Program(_) => NodeType::Program,
             Row::Directive(_) => NodeType::Directive,
@@ -117,7 +110,9 @@ impl Row {
             Row::IdentifierName(_) => NodeType::IdentifierName,
         }
     }
+}
 
+impl Row {
     #[tactic(auto, using(crate::proofs::Sets::no_statement_is_a_program, crate::proofs::Sets::no_declaration_is_a_program, crate::proofs::Sets::no_binding_pattern_is_a_program, crate::proofs::Sets::no_expression_is_a_program))]
     pub fn into_program(self) -> Option<Program>
         ensures { option_map program_plain result
@@ -227,15 +222,4 @@ pub fn binding_pattern_node(pattern: BindingPattern) -> BindingPatternNode
     ensures { in_binding_pattern node_plain result ≡ binding_pattern_plain pattern }
 {
     pattern.into()
-}
-
-impl Kept {
-    pub fn node_type(&self) -> NodeType
-        ensures { result ≡ entry_type (entry self.now) }
-    {
-        match self {
-            Kept::There(row) => row.node_type(),
-            Kept::Taken(node_type) => *node_type,
-        }
-    }
 }

@@ -9,10 +9,11 @@ ghost use Rattle.jsgen_rows.specs.Reads.{Gives, read_node};
 ghost use Rattle.jsgen_rows.specs.Kept.{entries};
 
 use crate::fields::{arguments, needed_expression, needed_identifier_name};
-use crate::kept::Kept;
+use crate::kept::Row;
 use crate::strings::needed_units;
 use crate::values::{needed_text, optional_flag, unread};
 use crate::{At, InputFault};
+use jsgen_pool::Kept;
 use jsgen_syntax::Span;
 use jsgen_tree::{
     CallExpression, ComputedMemberExpression, IdentifierName, StaticMemberExpression, StringLiteral,
@@ -23,7 +24,7 @@ use std::alloc::Global;
 #[tactic(auto, unfolding(crate::specs::Reads::read_node))]
 pub fn read_string_literal(
     alloc: Global,
-    kept: &mut Vec<Kept>,
+    kept: &mut Vec<Kept<Row>>,
     number: usize,
     span: Span,
     row: &Value,
@@ -39,7 +40,7 @@ pub fn read_string_literal(
 #[tactic(auto, unfolding(crate::specs::Reads::read_node))]
 pub fn read_identifier_name(
     alloc: Global,
-    kept: &mut Vec<Kept>,
+    kept: &mut Vec<Kept<Row>>,
     number: usize,
     span: Span,
     row: &Value,
@@ -55,7 +56,7 @@ pub fn read_identifier_name(
 #[tactic(auto, unfolding(crate::specs::Reads::read_node))]
 pub fn read_static_member_expression(
     alloc: Global,
-    kept: &mut Vec<Kept>,
+    kept: &mut Vec<Kept<Row>>,
     number: usize,
     span: Span,
     row: &Value,
@@ -77,7 +78,7 @@ pub fn read_static_member_expression(
 #[tactic(auto, unfolding(crate::specs::Reads::read_node))]
 pub fn read_computed_member_expression(
     alloc: Global,
-    kept: &mut Vec<Kept>,
+    kept: &mut Vec<Kept<Row>>,
     number: usize,
     span: Span,
     row: &Value,
@@ -99,7 +100,7 @@ pub fn read_computed_member_expression(
 #[tactic(auto, unfolding(crate::specs::Reads::read_node))]
 pub fn read_call_expression(
     alloc: Global,
-    kept: &mut Vec<Kept>,
+    kept: &mut Vec<Kept<Row>>,
     number: usize,
     span: Span,
     row: &Value,

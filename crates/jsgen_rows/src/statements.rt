@@ -12,10 +12,11 @@ use crate::fields::{
     directives, needed_binding_pattern, needed_expression, needed_statement, optional_expression,
     optional_statement, statements, variable_declarators,
 };
-use crate::kept::Kept;
+use crate::kept::Row;
 use crate::values::{needed_text, optional_text, unread};
 use crate::words::{needed_declaration_kind, needed_source_kind};
 use crate::{At, InputFault};
+use jsgen_pool::Kept;
 use jsgen_syntax::Span;
 use jsgen_tree::{
     BindingIdentifier, BlockStatement, Directive, EmptyStatement, ExpressionStatement, IfStatement,
@@ -27,7 +28,7 @@ use std::alloc::Global;
 #[tactic(auto, unfolding(crate::specs::Reads::read_node))]
 pub fn read_program(
     alloc: Global,
-    kept: &mut Vec<Kept>,
+    kept: &mut Vec<Kept<Row>>,
     number: usize,
     span: Span,
     row: &Value,
@@ -56,7 +57,7 @@ pub fn read_program(
 #[tactic(auto, unfolding(crate::specs::Reads::read_node))]
 pub fn read_directive(
     alloc: Global,
-    kept: &mut Vec<Kept>,
+    kept: &mut Vec<Kept<Row>>,
     number: usize,
     span: Span,
     row: &Value,
@@ -72,7 +73,7 @@ pub fn read_directive(
 #[tactic(auto, unfolding(crate::specs::Reads::read_node))]
 pub fn read_expression_statement(
     alloc: Global,
-    kept: &mut Vec<Kept>,
+    kept: &mut Vec<Kept<Row>>,
     number: usize,
     span: Span,
     row: &Value,
@@ -87,7 +88,7 @@ pub fn read_expression_statement(
 #[tactic(auto, unfolding(crate::specs::Reads::read_node))]
 pub fn read_block_statement(
     alloc: Global,
-    kept: &mut Vec<Kept>,
+    kept: &mut Vec<Kept<Row>>,
     number: usize,
     span: Span,
     row: &Value,
@@ -102,7 +103,7 @@ pub fn read_block_statement(
 #[tactic(auto, unfolding(crate::specs::Reads::read_node))]
 pub fn read_if_statement(
     alloc: Global,
-    kept: &mut Vec<Kept>,
+    kept: &mut Vec<Kept<Row>>,
     number: usize,
     span: Span,
     row: &Value,
@@ -125,7 +126,7 @@ pub fn read_if_statement(
 #[tactic(auto, unfolding(crate::specs::Reads::read_node))]
 pub fn read_empty_statement(
     alloc: Global,
-    kept: &mut Vec<Kept>,
+    kept: &mut Vec<Kept<Row>>,
     number: usize,
     span: Span,
     row: &Value,
@@ -142,7 +143,7 @@ pub fn read_empty_statement(
 #[tactic(auto, unfolding(crate::specs::Reads::read_node))]
 pub fn read_variable_declaration(
     alloc: Global,
-    kept: &mut Vec<Kept>,
+    kept: &mut Vec<Kept<Row>>,
     number: usize,
     span: Span,
     row: &Value,
@@ -170,7 +171,7 @@ pub fn read_variable_declaration(
 #[tactic(auto, unfolding(crate::specs::Reads::read_node))]
 pub fn read_variable_declarator(
     alloc: Global,
-    kept: &mut Vec<Kept>,
+    kept: &mut Vec<Kept<Row>>,
     number: usize,
     span: Span,
     row: &Value,
@@ -188,7 +189,7 @@ pub fn read_variable_declarator(
 #[tactic(auto, unfolding(crate::specs::Reads::read_node))]
 pub fn read_binding_identifier(
     alloc: Global,
-    kept: &mut Vec<Kept>,
+    kept: &mut Vec<Kept<Row>>,
     number: usize,
     span: Span,
     row: &Value,

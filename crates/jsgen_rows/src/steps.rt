@@ -12,7 +12,7 @@ use crate::expressions::{
     read_numeric_literal, read_parenthesized_expression,
 };
 use crate::floats::holds_float;
-use crate::kept::{Kept, Row, StatementRow};
+use crate::kept::{Row, StatementRow};
 use crate::links::{
     read_call_expression, read_computed_member_expression, read_identifier_name,
     read_static_member_expression, read_string_literal,
@@ -24,6 +24,7 @@ use crate::statements::{
 };
 use crate::values::{not_given, present, span_of, type_of};
 use crate::{At, InputFault};
+use jsgen_pool::Kept;
 use jsgen_syntax::Span;
 use jsgen_tree::{BindingPattern, Declaration, Expression, NodeType, Program};
 use serde_json::Value;
@@ -31,7 +32,7 @@ use std::alloc::Global;
 
 fn read_typed(
     alloc: Global,
-    kept: &mut Vec<Kept>,
+    kept: &mut Vec<Kept<Row>>,
     node_type: NodeType,
     number: usize,
     span: Span,
@@ -101,7 +102,7 @@ fn read_typed(
 
 fn read_row(
     alloc: Global,
-    kept: &mut Vec<Kept>,
+    kept: &mut Vec<Kept<Row>>,
     number: usize,
     row: &Value,
 ) -> Result<Row, InputFault>
@@ -113,7 +114,7 @@ fn read_row(
     read_typed(alloc, kept, node_type, number, span, row)
 }
 
-pub fn read_rows(alloc: Global, rows: &[Value]) -> Result<Vec<Kept>, InputFault>
+pub fn read_rows(alloc: Global, rows: &[Value]) -> Result<Vec<Kept<Row>>, InputFault>
     ensures { Same (λ v. entries v.items) result (read_rows (map view rows.now) []) }
 {
     let mut kept = Vec::with_capacity(alloc, rows.len())?;
@@ -127,7 +128,7 @@ pub fn read_rows(alloc: Global, rows: &[Value]) -> Result<Vec<Kept>, InputFault>
 
 // ---- the last row
 
-fn root_at(at: At, last: Kept) -> Result<Program, InputFault>
+fn root_at(at: At, last: Kept<Row>) -> Result<Program, InputFault>
     ensures { Same program_plain result (root_found at (Some (entry last))) }
 {
     match last {
@@ -139,7 +140,7 @@ fn root_at(at: At, last: Kept) -> Result<Program, InputFault>
     }
 }
 
-fn last_of(kept: &mut Vec<Kept>) -> Option<(usize, Kept)>
+fn last_of(kept: &mut Vec<Kept<Row>>) -> Option<(usize, Kept<Row>)>
     ensures { MatchOption result (root_of (entries kept.old.items) ≡ root_found (at 0 0) None)
         (λ p. root_of (entries kept.old.items) ≡ root_found (at p.0 0) (Some (entry p.1))) }
 {
@@ -147,7 +148,7 @@ fn last_of(kept: &mut Vec<Kept>) -> Option<(usize, Kept)>
     Some((kept.len(), last))
 }
 
-pub fn root_of(mut kept: Vec<Kept>) -> Result<Program, InputFault>
+pub fn root_of(mut kept: Vec<Kept<Row>>) -> Result<Program, InputFault>
     ensures { Same program_plain result (root_of (entries kept.items)) }
 {
     match last_of(&mut kept) {

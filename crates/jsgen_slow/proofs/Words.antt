@@ -14,9 +14,9 @@ use Rattle.jsgen_model.specs.Tokens.{Word, is_spelled, ends_before}
 use Rattle.jsgen_syntax.specs.Strings.{quote_char}
 use Rattle.jsgen_syntax.specs.declared.quote.Quote.{Quote}
 use Rattle.jsgen_syntax.specs.declared.quote.Quote.TheVariants as quotes
-use Rattle.jsgen_lexing.proofs.Characters.{ranged, starts_continues, continues_goes, starts_no_digit, no_word_no_start}
+use Rattle.jsgen_lexing.proofs.Characters.{ranged, continues_goes, starts_no_digit, no_word_no_start}
 use Rattle.jsgen_lexing.proofs.OneList.{begins_sign, sign_or}
-use Rattle.jsgen_lexing.proofs.Scalars.{continues_scalar}
+use Rattle.jsgen_syntax.proofs.Names.{starts_continues, continues_scalar}
 use Rattle.jsgen_slow.specs.Steps.{starts_word, count_word, count_escape, count_braces}
 
 -- ---- digits
