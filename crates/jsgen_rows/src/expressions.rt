@@ -8,7 +8,7 @@ ghost use Rattle.jsgen_tree.specs.Table.{identifier_reference_fields, numeric_li
 ghost use Rattle.jsgen_rows.specs.Reads.{Gives, read_node};
 ghost use Rattle.jsgen_rows.specs.Kept.{entries};
 
-use crate::fields::needed_expression;
+use crate::fields::needed_child;
 use crate::kept::Row;
 use crate::values::{needed_digits, needed_text, unread};
 use crate::words::{needed_binary_operator, needed_logical_operator, needed_numeric_kind};
@@ -70,7 +70,7 @@ pub fn read_parenthesized_expression(
     ensures { Gives (λ b. parenthesized_expression_row node_plain b.value) result (entries kept.new.items)
         (read_node number types.ParenthesizedExpression parenthesized_expression_fields span (view row.now) (entries kept.old.items)) }
 {
-    let expression = needed_expression(kept, At::of_row(number, 2), row, "expression")?;
+    let expression = needed_child(alloc, kept, At::of_row(number, 2), row, "expression")?;
     Ok(Box::new(alloc, ParenthesizedExpression { span, expression })?)
 }
 
@@ -86,8 +86,8 @@ pub fn read_binary_expression(
         (read_node number types.BinaryExpression binary_expression_fields span (view row.now) (entries kept.old.items)) }
 {
     let operator = needed_binary_operator(At::of_row(number, 2), row, "operator")?;
-    let left = needed_expression(kept, At::of_row(number, 3), row, "left")?;
-    let right = needed_expression(kept, At::of_row(number, 4), row, "right")?;
+    let left = needed_child(alloc, kept, At::of_row(number, 3), row, "left")?;
+    let right = needed_child(alloc, kept, At::of_row(number, 4), row, "right")?;
     let node = BinaryExpression {
         span,
         operator,
@@ -109,8 +109,8 @@ pub fn read_logical_expression(
         (read_node number types.LogicalExpression logical_expression_fields span (view row.now) (entries kept.old.items)) }
 {
     let operator = needed_logical_operator(At::of_row(number, 2), row, "operator")?;
-    let left = needed_expression(kept, At::of_row(number, 3), row, "left")?;
-    let right = needed_expression(kept, At::of_row(number, 4), row, "right")?;
+    let left = needed_child(alloc, kept, At::of_row(number, 3), row, "left")?;
+    let right = needed_child(alloc, kept, At::of_row(number, 4), row, "right")?;
     let node = LogicalExpression {
         span,
         operator,

@@ -8,7 +8,7 @@ ghost use Rattle.jsgen_tree.specs.Table.{string_literal_fields, identifier_name_
 ghost use Rattle.jsgen_rows.specs.Reads.{Gives, read_node};
 ghost use Rattle.jsgen_rows.specs.Kept.{entries};
 
-use crate::fields::{arguments, needed_expression, needed_identifier_name};
+use crate::fields::{children, needed_child};
 use crate::kept::Row;
 use crate::strings::needed_units;
 use crate::values::{needed_text, optional_flag, unread};
@@ -64,9 +64,9 @@ pub fn read_static_member_expression(
     ensures { Gives (λ b. static_member_expression_row node_plain b.value) result (entries kept.new.items)
         (read_node number types.StaticMemberExpression static_member_expression_fields span (view row.now) (entries kept.old.items)) }
 {
-    let object = needed_expression(kept, At::of_row(number, 2), row, "object")?;
+    let object = needed_child(alloc, kept, At::of_row(number, 2), row, "object")?;
     unread(At::of_row(number, 3), row, "optional")?;
-    let property = needed_identifier_name(kept, At::of_row(number, 4), row, "property")?;
+    let property = needed_child(alloc, kept, At::of_row(number, 4), row, "property")?;
     let node = StaticMemberExpression {
         span,
         object,
@@ -86,9 +86,9 @@ pub fn read_computed_member_expression(
     ensures { Gives (λ b. computed_member_expression_row node_plain b.value) result (entries kept.new.items)
         (read_node number types.ComputedMemberExpression computed_member_expression_fields span (view row.now) (entries kept.old.items)) }
 {
-    let object = needed_expression(kept, At::of_row(number, 2), row, "object")?;
+    let object = needed_child(alloc, kept, At::of_row(number, 2), row, "object")?;
     unread(At::of_row(number, 3), row, "optional")?;
-    let expression = needed_expression(kept, At::of_row(number, 4), row, "expression")?;
+    let expression = needed_child(alloc, kept, At::of_row(number, 4), row, "expression")?;
     let node = ComputedMemberExpression {
         span,
         object,
@@ -108,9 +108,9 @@ pub fn read_call_expression(
     ensures { Gives (λ b. call_expression_row node_plain b.value) result (entries kept.new.items)
         (read_node number types.CallExpression call_expression_fields span (view row.now) (entries kept.old.items)) }
 {
-    let callee = needed_expression(kept, At::of_row(number, 2), row, "callee")?;
+    let callee = needed_child(alloc, kept, At::of_row(number, 2), row, "callee")?;
     unread(At::of_row(number, 3), row, "type_arguments")?;
-    let arguments = arguments(alloc, kept, At::of_row(number, 4), row, "arguments")?;
+    let arguments = children(alloc, kept, At::of_row(number, 4), row, "arguments")?;
     unread(At::of_row(number, 5), row, "optional")?;
     let pure = optional_flag(At::of_row(number, 6), row, "pure")?;
     let node = CallExpression {

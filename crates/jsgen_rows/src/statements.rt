@@ -8,10 +8,7 @@ ghost use Rattle.jsgen_tree.specs.Table.{program_fields, directive_fields, expre
 ghost use Rattle.jsgen_rows.specs.Reads.{Gives, read_node};
 ghost use Rattle.jsgen_rows.specs.Kept.{entries};
 
-use crate::fields::{
-    directives, needed_binding_pattern, needed_expression, needed_statement, optional_expression,
-    optional_statement, statements, variable_declarators,
-};
+use crate::fields::{children, needed_child, optional_child};
 use crate::kept::Row;
 use crate::values::{needed_text, optional_text, unread};
 use crate::words::{needed_declaration_kind, needed_source_kind};
@@ -42,8 +39,8 @@ pub fn read_program(
     unread(At::of_row(number, 5), row, "typescript")?;
     unread(At::of_row(number, 6), row, "comments")?;
     unread(At::of_row(number, 7), row, "hashbang")?;
-    let directives = directives(alloc, kept, At::of_row(number, 8), row, "directives")?;
-    let body = statements(alloc, kept, At::of_row(number, 9), row, "body")?;
+    let directives = children(alloc, kept, At::of_row(number, 8), row, "directives")?;
+    let body = children(alloc, kept, At::of_row(number, 9), row, "body")?;
     let node = Program {
         span,
         source,
@@ -81,7 +78,7 @@ pub fn read_expression_statement(
     ensures { Gives (λ b. expression_statement_row node_plain b.value) result (entries kept.new.items)
         (read_node number types.ExpressionStatement expression_statement_fields span (view row.now) (entries kept.old.items)) }
 {
-    let expression = needed_expression(kept, At::of_row(number, 2), row, "expression")?;
+    let expression = needed_child(alloc, kept, At::of_row(number, 2), row, "expression")?;
     Ok(Box::new(alloc, ExpressionStatement { span, expression })?)
 }
 
@@ -96,7 +93,7 @@ pub fn read_block_statement(
     ensures { Gives (λ b. block_statement_row node_plain b.value) result (entries kept.new.items)
         (read_node number types.BlockStatement block_statement_fields span (view row.now) (entries kept.old.items)) }
 {
-    let body = statements(alloc, kept, At::of_row(number, 2), row, "body")?;
+    let body = children(alloc, kept, At::of_row(number, 2), row, "body")?;
     Ok(Box::new(alloc, BlockStatement { span, body })?)
 }
 
@@ -111,9 +108,9 @@ pub fn read_if_statement(
     ensures { Gives (λ b. if_statement_row node_plain b.value) result (entries kept.new.items)
         (read_node number types.IfStatement if_statement_fields span (view row.now) (entries kept.old.items)) }
 {
-    let test = needed_expression(kept, At::of_row(number, 2), row, "test")?;
-    let consequent = needed_statement(alloc, kept, At::of_row(number, 3), row, "consequent")?;
-    let alternate = optional_statement(alloc, kept, At::of_row(number, 4), row, "alternate")?;
+    let test = needed_child(alloc, kept, At::of_row(number, 2), row, "test")?;
+    let consequent = needed_child(alloc, kept, At::of_row(number, 3), row, "consequent")?;
+    let alternate = optional_child(alloc, kept, At::of_row(number, 4), row, "alternate")?;
     let node = IfStatement {
         span,
         test,
@@ -153,13 +150,7 @@ pub fn read_variable_declaration(
 {
     let kind = needed_declaration_kind(At::of_row(number, 2), row, "kind")?;
     unread(At::of_row(number, 3), row, "declare")?;
-    let declarations = variable_declarators(
-        alloc,
-        kept,
-        At::of_row(number, 4),
-        row,
-        "declarations",
-    )?;
+    let declarations = children(alloc, kept, At::of_row(number, 4), row, "declarations")?;
     let node = VariableDeclaration {
         span,
         kind,
@@ -179,10 +170,10 @@ pub fn read_variable_declarator(
     ensures { Gives (λ b. variable_declarator_row node_plain b.value) result (entries kept.new.items)
         (read_node number types.VariableDeclarator variable_declarator_fields span (view row.now) (entries kept.old.items)) }
 {
-    let id = needed_binding_pattern(kept, At::of_row(number, 2), row, "id")?;
+    let id = needed_child(alloc, kept, At::of_row(number, 2), row, "id")?;
     unread(At::of_row(number, 3), row, "definite")?;
     unread(At::of_row(number, 4), row, "type_annotation")?;
-    let init = optional_expression(kept, At::of_row(number, 5), row, "init")?;
+    let init = optional_child(alloc, kept, At::of_row(number, 5), row, "init")?;
     Ok(Box::new(alloc, VariableDeclarator { span, id, init })?)
 }
 
