@@ -2,9 +2,9 @@
 ghost use Rattle.std.specs.Prelude.{◌≡◌, OnOk, map};
 ghost use Rattle.jsgen_syntax.specs.declared.precedence.Precedence.TheVariants.{Comma};
 ghost use Rattle.jsgen_tree.specs.Tree.{trees};
-ghost use Rattle.jsgen_tree.specs.Rows.{identifier_name_row, static_member_expression_row, computed_member_expression_row, call_expression_row, in_argument, in_expression};
+ghost use Rattle.jsgen_tree.specs.Rows.{characters, identifier_name_row, static_member_expression_row, computed_member_expression_row, call_expression_row, in_argument, in_expression};
 ghost use Rattle.jsgen_model.specs.Punctuator.{Round};
-ghost use Rattle.jsgen_model.specs.Items.{◌⊕◌, brackets};
+ghost use Rattle.jsgen_model.specs.Items.{◌⊕◌, brackets, member_dot, name};
 ghost use Rattle.jsgen_model.specs.Layout.{layout};
 ghost use Rattle.jsgen_model.specs.Spell.{spell, spell_list, spell_more, called, in_brackets};
 ghost use Rattle.jsgen_printer.specs.Printer.{pen_of};
@@ -25,6 +25,15 @@ fn print_identifier_name(node: &IdentifierName, p: &mut Printer, place: Place) -
     p.print_name(node.name.as_str())
 }
 
+// Behind the object.
+#[tactic(auto, unfolding(crate::specs::Place::pen_after))]
+fn print_member_name(node: &IdentifierName, p: &mut Printer, place: Place) -> Result<(), Memory>
+    ensures { OnOk result (pen_of p.new ≡ layout (member_dot ⊕ name (characters node.now.name)) (pen_of p.old)) }
+{
+    p.print_member_dot()?;
+    print_identifier_name(node, p, place)
+}
+
 #[tactic(auto, unfolding(crate::specs::Place::pen_after))]
 pub fn print_static_member_expression<N: PrintNode>(
     node: &StaticMemberExpression<N>,
@@ -37,8 +46,7 @@ pub fn print_static_member_expression<N: PrintNode>(
     node.object
         .get()
         .print(p, place.child(Precedence::Postfix))?;
-    p.print_member_dot()?;
-    print_identifier_name(&node.property, p, place.child(Precedence::Lowest))
+    print_member_name(&node.property, p, place.child(Precedence::Lowest))
 }
 
 #[tactic(auto, unfolding(crate::specs::Place::pen_after))]

@@ -24,8 +24,7 @@ pub fn print_program<N: PrintNode>(node: &Program<N>, p: &mut Printer) -> Result
         ≡ layout (spell (program_row N.plain node.now) among_statements) (pen_of p.old)) }
 {
     print_directives(&node.directives, p)?;
-    print_body(&node.body, p)?;
-    p.print_due_semicolon()
+    print_whole_body(&node.body, p)
 }
 
 #[tactic(auto, unfolding(crate::specs::Place::pen_after))]
@@ -48,6 +47,19 @@ pub fn print_directive(node: &Directive, p: &mut Printer, place: Place) -> Resul
     p.print_directive(node.directive.as_str())?;
     p.print_semicolon()?;
     p.print_soft_line()
+}
+
+// A program's statements, and the semicolon that is due behind the last.
+#[tactic(auto, unfolding(crate::specs::Place::pen_after))]
+fn print_whole_body<N: PrintNode>(
+    statements: &[StatementNode<N>],
+    p: &mut Printer,
+) -> Result<(), Memory>
+    ensures { OnOk result (pen_of p.new
+        ≡ layout (spell_body (trees (map (in_statement N.plain) statements.now)) ⊕ due_semicolon) (pen_of p.old)) }
+{
+    print_body(statements, p)?;
+    p.print_due_semicolon()
 }
 
 // The statements of a body, of which the first may not become a directive.

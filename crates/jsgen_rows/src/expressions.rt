@@ -2,13 +2,11 @@
 ghost use Rattle.std.specs.Prelude.{◌≡◌};
 ghost use Rattle.serde_json.specs.View.{view};
 ghost use Rattle.jsgen_tree.specs.declared.types.NodeType.TheVariants as types;
-ghost use Rattle.jsgen_tree.specs.Plain.{node_plain};
-ghost use Rattle.jsgen_tree.specs.Rows.{identifier_reference_row, numeric_literal_row, parenthesized_expression_row, binary_expression_row, logical_expression_row};
 ghost use Rattle.jsgen_tree.specs.Table.{identifier_reference_fields, numeric_literal_fields, parenthesized_expression_fields, binary_expression_fields, logical_expression_fields};
 ghost use Rattle.jsgen_rows.specs.Reads.{Gives, read_node};
-ghost use Rattle.jsgen_rows.specs.Kept.{entries};
+ghost use Rattle.jsgen_rows.specs.Kept.{entries, row_plain};
 
-use crate::fields::needed_child;
+use crate::fields::{beside, needed_child};
 use crate::kept::Row;
 use crate::values::{needed_digits, needed_text, unread};
 use crate::words::{needed_binary_operator, needed_logical_operator, needed_numeric_kind};
@@ -16,8 +14,8 @@ use crate::{At, InputFault};
 use jsgen_pool::Kept;
 use jsgen_syntax::Span;
 use jsgen_tree::{
-    BinaryExpression, IdentifierReference, LogicalExpression, NumericLiteral, NumericValue,
-    ParenthesizedExpression,
+    BinaryExpression, Expression, IdentifierReference, LogicalExpression, NumericLiteral,
+    NumericValue, ParenthesizedExpression,
 };
 use serde_json::Value;
 use std::alloc::Global;
@@ -29,14 +27,15 @@ pub fn read_identifier_reference(
     number: usize,
     span: Span,
     row: &Value,
-) -> Result<Box<IdentifierReference>, InputFault>
-    ensures { Gives (λ b. identifier_reference_row b.value) result (entries kept.new.items)
+) -> Result<Row, InputFault>
+    ensures { Gives row_plain result (entries kept.new.items)
         (read_node number types.IdentifierReference identifier_reference_fields span (view row.now) (entries kept.old.items)) }
 {
     let _ = kept;
     let name = needed_text(alloc, At::of_row(number, 2), row, "name")?;
     unread(At::of_row(number, 3), row, "reference")?;
-    Ok(Box::new(alloc, IdentifierReference { span, name })?)
+    let node = IdentifierReference { span, name };
+    Ok(Row::Expression(Expression::IdentifierReference(Box::new(alloc, node)?)))
 }
 
 #[tactic(auto, unfolding(crate::specs::Reads::read_node))]
@@ -46,8 +45,8 @@ pub fn read_numeric_literal(
     number: usize,
     span: Span,
     row: &Value,
-) -> Result<Box<NumericLiteral>, InputFault>
-    ensures { Gives (λ b. numeric_literal_row b.value) result (entries kept.new.items)
+) -> Result<Row, InputFault>
+    ensures { Gives row_plain result (entries kept.new.items)
         (read_node number types.NumericLiteral numeric_literal_fields span (view row.now) (entries kept.old.items)) }
 {
     let _ = kept;
@@ -56,7 +55,8 @@ pub fn read_numeric_literal(
     let digits = needed_digits(At::of_row(number, 4), row, "digits")?;
     unread(At::of_row(number, 5), row, "text")?;
     let value = NumericValue::Whole { digits };
-    Ok(Box::new(alloc, NumericLiteral { span, value })?)
+    let node = NumericLiteral { span, value };
+    Ok(Row::Expression(Expression::NumericLiteral(Box::new(alloc, node)?)))
 }
 
 #[tactic(auto, unfolding(crate::specs::Reads::read_node))]
@@ -66,12 +66,13 @@ pub fn read_parenthesized_expression(
     number: usize,
     span: Span,
     row: &Value,
-) -> Result<Box<ParenthesizedExpression>, InputFault>
-    ensures { Gives (λ b. parenthesized_expression_row node_plain b.value) result (entries kept.new.items)
+) -> Result<Row, InputFault>
+    ensures { Gives row_plain result (entries kept.new.items)
         (read_node number types.ParenthesizedExpression parenthesized_expression_fields span (view row.now) (entries kept.old.items)) }
 {
     let expression = needed_child(alloc, kept, At::of_row(number, 2), row, "expression")?;
-    Ok(Box::new(alloc, ParenthesizedExpression { span, expression })?)
+    let node = ParenthesizedExpression { span, expression };
+    Ok(Row::Expression(Expression::ParenthesizedExpression(Box::new(alloc, node)?)))
 }
 
 #[tactic(auto, unfolding(crate::specs::Reads::read_node))]
@@ -81,20 +82,21 @@ pub fn read_binary_expression(
     number: usize,
     span: Span,
     row: &Value,
-) -> Result<Box<BinaryExpression>, InputFault>
-    ensures { Gives (λ b. binary_expression_row node_plain b.value) result (entries kept.new.items)
+) -> Result<Row, InputFault>
+    ensures { Gives row_plain result (entries kept.new.items)
         (read_node number types.BinaryExpression binary_expression_fields span (view row.now) (entries kept.old.items)) }
 {
     let operator = needed_binary_operator(At::of_row(number, 2), row, "operator")?;
     let left = needed_child(alloc, kept, At::of_row(number, 3), row, "left")?;
-    let right = needed_child(alloc, kept, At::of_row(number, 4), row, "right")?;
+    let right = needed_child(alloc, kept, At::of_row(number, 4), row, "right");
+    let (left, right) = beside(left, right)?;
     let node = BinaryExpression {
         span,
         operator,
         left,
         right,
     };
-    Ok(Box::new(alloc, node)?)
+    Ok(Row::Expression(Expression::BinaryExpression(Box::new(alloc, node)?)))
 }
 
 #[tactic(auto, unfolding(crate::specs::Reads::read_node))]
@@ -104,18 +106,19 @@ pub fn read_logical_expression(
     number: usize,
     span: Span,
     row: &Value,
-) -> Result<Box<LogicalExpression>, InputFault>
-    ensures { Gives (λ b. logical_expression_row node_plain b.value) result (entries kept.new.items)
+) -> Result<Row, InputFault>
+    ensures { Gives row_plain result (entries kept.new.items)
         (read_node number types.LogicalExpression logical_expression_fields span (view row.now) (entries kept.old.items)) }
 {
     let operator = needed_logical_operator(At::of_row(number, 2), row, "operator")?;
     let left = needed_child(alloc, kept, At::of_row(number, 3), row, "left")?;
-    let right = needed_child(alloc, kept, At::of_row(number, 4), row, "right")?;
+    let right = needed_child(alloc, kept, At::of_row(number, 4), row, "right");
+    let (left, right) = beside(left, right)?;
     let node = LogicalExpression {
         span,
         operator,
         left,
         right,
     };
-    Ok(Box::new(alloc, node)?)
+    Ok(Row::Expression(Expression::LogicalExpression(Box::new(alloc, node)?)))
 }

@@ -1,8 +1,9 @@
 // Fields that hold children.
-ghost use Rattle.std.specs.Prelude.{◌≡◌, map, option_map};
+ghost use Rattle.std.specs.Prelude.{◌≡◌, Ok, map, option_map};
 ghost use Rattle.serde_json.specs.View.{view};
 ghost use Rattle.jsgen_tree.specs.Tree.{optional, trees};
 ghost use Rattle.jsgen_tree.specs.Table.{needs, may_have, child, children};
+ghost use Rattle.jsgen_rows.specs.Values.{after};
 ghost use Rattle.jsgen_rows.specs.Meaning.{a_child, a_maybe, a_list};
 ghost use Rattle.jsgen_rows.specs.Reads.{Gives, read_field};
 ghost use Rattle.jsgen_rows.specs.Kept.{entries};
@@ -14,6 +15,16 @@ use crate::{At, InputFault};
 use jsgen_pool::Kept;
 use serde_json::Value;
 use std::alloc::Global;
+
+/// Both, or the fault of the second. The first is let go here where there is one, and not at each field of each row.
+pub fn beside<C: Drop, T: Drop>(
+    first: C,
+    second: Result<T, InputFault>,
+) -> Result<(C, T), InputFault>
+    ensures { result ≡ after second (λ t. Ok (first, t)) }
+{
+    Ok((first, second?))
+}
 
 #[tactic(auto, unfolding(crate::specs::Reads::read_child))]
 pub fn needed_child<C: Child + Drop>(

@@ -2,22 +2,20 @@
 ghost use Rattle.std.specs.Prelude.{◌≡◌};
 ghost use Rattle.serde_json.specs.View.{view};
 ghost use Rattle.jsgen_tree.specs.declared.types.NodeType.TheVariants as types;
-ghost use Rattle.jsgen_tree.specs.Plain.{node_plain};
-ghost use Rattle.jsgen_tree.specs.Rows.{program_row, directive_row, expression_statement_row, block_statement_row, if_statement_row, empty_statement_row, variable_declaration_row, variable_declarator_row, binding_identifier_row};
 ghost use Rattle.jsgen_tree.specs.Table.{program_fields, directive_fields, expression_statement_fields, block_statement_fields, if_statement_fields, empty_statement_fields, variable_declaration_fields, variable_declarator_fields, binding_identifier_fields};
 ghost use Rattle.jsgen_rows.specs.Reads.{Gives, read_node};
-ghost use Rattle.jsgen_rows.specs.Kept.{entries};
+ghost use Rattle.jsgen_rows.specs.Kept.{entries, row_plain};
 
-use crate::fields::{children, needed_child, optional_child};
-use crate::kept::Row;
+use crate::fields::{beside, children, needed_child, optional_child};
+use crate::kept::{Row, StatementRow};
 use crate::values::{needed_text, optional_text, unread};
 use crate::words::{needed_declaration_kind, needed_source_kind};
 use crate::{At, InputFault};
 use jsgen_pool::Kept;
 use jsgen_syntax::Span;
 use jsgen_tree::{
-    BindingIdentifier, BlockStatement, Directive, EmptyStatement, ExpressionStatement, IfStatement,
-    Program, VariableDeclaration, VariableDeclarator,
+    BindingIdentifier, BindingPattern, BlockStatement, Declaration, Directive, EmptyStatement,
+    ExpressionStatement, IfStatement, Program, VariableDeclaration, VariableDeclarator,
 };
 use serde_json::Value;
 use std::alloc::Global;
@@ -29,8 +27,8 @@ pub fn read_program(
     number: usize,
     span: Span,
     row: &Value,
-) -> Result<Box<Program>, InputFault>
-    ensures { Gives (λ b. program_row node_plain b.value) result (entries kept.new.items)
+) -> Result<Row, InputFault>
+    ensures { Gives row_plain result (entries kept.new.items)
         (read_node number types.Program program_fields span (view row.now) (entries kept.old.items)) }
 {
     let source = optional_text(alloc, At::of_row(number, 2), row, "source")?;
@@ -48,7 +46,7 @@ pub fn read_program(
         directives,
         body,
     };
-    Ok(Box::new(alloc, node)?)
+    Ok(Row::Program(Box::new(alloc, node)?))
 }
 
 #[tactic(auto, unfolding(crate::specs::Reads::read_node))]
@@ -58,13 +56,14 @@ pub fn read_directive(
     number: usize,
     span: Span,
     row: &Value,
-) -> Result<Box<Directive>, InputFault>
-    ensures { Gives (λ b. directive_row b.value) result (entries kept.new.items)
+) -> Result<Row, InputFault>
+    ensures { Gives row_plain result (entries kept.new.items)
         (read_node number types.Directive directive_fields span (view row.now) (entries kept.old.items)) }
 {
     let _ = kept;
     let directive = needed_text(alloc, At::of_row(number, 2), row, "directive")?;
-    Ok(Box::new(alloc, Directive { span, directive })?)
+    let node = Directive { span, directive };
+    Ok(Row::Directive(Box::new(alloc, node)?))
 }
 
 #[tactic(auto, unfolding(crate::specs::Reads::read_node))]
@@ -74,12 +73,13 @@ pub fn read_expression_statement(
     number: usize,
     span: Span,
     row: &Value,
-) -> Result<Box<ExpressionStatement>, InputFault>
-    ensures { Gives (λ b. expression_statement_row node_plain b.value) result (entries kept.new.items)
+) -> Result<Row, InputFault>
+    ensures { Gives row_plain result (entries kept.new.items)
         (read_node number types.ExpressionStatement expression_statement_fields span (view row.now) (entries kept.old.items)) }
 {
     let expression = needed_child(alloc, kept, At::of_row(number, 2), row, "expression")?;
-    Ok(Box::new(alloc, ExpressionStatement { span, expression })?)
+    let node = ExpressionStatement { span, expression };
+    Ok(Row::Statement(StatementRow::ExpressionStatement(Box::new(alloc, node)?)))
 }
 
 #[tactic(auto, unfolding(crate::specs::Reads::read_node))]
@@ -89,12 +89,13 @@ pub fn read_block_statement(
     number: usize,
     span: Span,
     row: &Value,
-) -> Result<Box<BlockStatement>, InputFault>
-    ensures { Gives (λ b. block_statement_row node_plain b.value) result (entries kept.new.items)
+) -> Result<Row, InputFault>
+    ensures { Gives row_plain result (entries kept.new.items)
         (read_node number types.BlockStatement block_statement_fields span (view row.now) (entries kept.old.items)) }
 {
     let body = children(alloc, kept, At::of_row(number, 2), row, "body")?;
-    Ok(Box::new(alloc, BlockStatement { span, body })?)
+    let node = BlockStatement { span, body };
+    Ok(Row::Statement(StatementRow::BlockStatement(Box::new(alloc, node)?)))
 }
 
 #[tactic(auto, unfolding(crate::specs::Reads::read_node))]
@@ -104,20 +105,22 @@ pub fn read_if_statement(
     number: usize,
     span: Span,
     row: &Value,
-) -> Result<Box<IfStatement>, InputFault>
-    ensures { Gives (λ b. if_statement_row node_plain b.value) result (entries kept.new.items)
+) -> Result<Row, InputFault>
+    ensures { Gives row_plain result (entries kept.new.items)
         (read_node number types.IfStatement if_statement_fields span (view row.now) (entries kept.old.items)) }
 {
     let test = needed_child(alloc, kept, At::of_row(number, 2), row, "test")?;
-    let consequent = needed_child(alloc, kept, At::of_row(number, 3), row, "consequent")?;
-    let alternate = optional_child(alloc, kept, At::of_row(number, 4), row, "alternate")?;
+    let consequent = needed_child(alloc, kept, At::of_row(number, 3), row, "consequent");
+    let parts = beside(test, consequent)?;
+    let alternate = optional_child(alloc, kept, At::of_row(number, 4), row, "alternate");
+    let ((test, consequent), alternate) = beside(parts, alternate)?;
     let node = IfStatement {
         span,
         test,
         consequent,
         alternate,
     };
-    Ok(Box::new(alloc, node)?)
+    Ok(Row::Statement(StatementRow::IfStatement(Box::new(alloc, node)?)))
 }
 
 #[tactic(auto, unfolding(crate::specs::Reads::read_node))]
@@ -127,14 +130,15 @@ pub fn read_empty_statement(
     number: usize,
     span: Span,
     row: &Value,
-) -> Result<Box<EmptyStatement>, InputFault>
-    ensures { Gives (λ b. empty_statement_row b.value) result (entries kept.new.items)
+) -> Result<Row, InputFault>
+    ensures { Gives row_plain result (entries kept.new.items)
         (read_node number types.EmptyStatement empty_statement_fields span (view row.now) (entries kept.old.items)) }
 {
     let _ = kept;
     let _ = number;
     let _ = row;
-    Ok(Box::new(alloc, EmptyStatement { span })?)
+    let node = EmptyStatement { span };
+    Ok(Row::Statement(StatementRow::EmptyStatement(Box::new(alloc, node)?)))
 }
 
 #[tactic(auto, unfolding(crate::specs::Reads::read_node))]
@@ -144,8 +148,8 @@ pub fn read_variable_declaration(
     number: usize,
     span: Span,
     row: &Value,
-) -> Result<Box<VariableDeclaration>, InputFault>
-    ensures { Gives (λ b. variable_declaration_row node_plain b.value) result (entries kept.new.items)
+) -> Result<Row, InputFault>
+    ensures { Gives row_plain result (entries kept.new.items)
         (read_node number types.VariableDeclaration variable_declaration_fields span (view row.now) (entries kept.old.items)) }
 {
     let kind = needed_declaration_kind(At::of_row(number, 2), row, "kind")?;
@@ -156,7 +160,7 @@ pub fn read_variable_declaration(
         kind,
         declarations,
     };
-    Ok(Box::new(alloc, node)?)
+    Ok(Row::Declaration(Declaration::VariableDeclaration(Box::new(alloc, node)?)))
 }
 
 #[tactic(auto, unfolding(crate::specs::Reads::read_node))]
@@ -166,15 +170,17 @@ pub fn read_variable_declarator(
     number: usize,
     span: Span,
     row: &Value,
-) -> Result<Box<VariableDeclarator>, InputFault>
-    ensures { Gives (λ b. variable_declarator_row node_plain b.value) result (entries kept.new.items)
+) -> Result<Row, InputFault>
+    ensures { Gives row_plain result (entries kept.new.items)
         (read_node number types.VariableDeclarator variable_declarator_fields span (view row.now) (entries kept.old.items)) }
 {
     let id = needed_child(alloc, kept, At::of_row(number, 2), row, "id")?;
-    unread(At::of_row(number, 3), row, "definite")?;
-    unread(At::of_row(number, 4), row, "type_annotation")?;
-    let init = optional_child(alloc, kept, At::of_row(number, 5), row, "init")?;
-    Ok(Box::new(alloc, VariableDeclarator { span, id, init })?)
+    let (id, _) = beside(id, unread(At::of_row(number, 3), row, "definite"))?;
+    let (id, _) = beside(id, unread(At::of_row(number, 4), row, "type_annotation"))?;
+    let init = optional_child(alloc, kept, At::of_row(number, 5), row, "init");
+    let (id, init) = beside(id, init)?;
+    let node = VariableDeclarator { span, id, init };
+    Ok(Row::VariableDeclarator(Box::new(alloc, node)?))
 }
 
 #[tactic(auto, unfolding(crate::specs::Reads::read_node))]
@@ -184,12 +190,13 @@ pub fn read_binding_identifier(
     number: usize,
     span: Span,
     row: &Value,
-) -> Result<Box<BindingIdentifier>, InputFault>
-    ensures { Gives (λ b. binding_identifier_row b.value) result (entries kept.new.items)
+) -> Result<Row, InputFault>
+    ensures { Gives row_plain result (entries kept.new.items)
         (read_node number types.BindingIdentifier binding_identifier_fields span (view row.now) (entries kept.old.items)) }
 {
     let _ = kept;
     let name = needed_text(alloc, At::of_row(number, 2), row, "name")?;
     unread(At::of_row(number, 3), row, "symbol")?;
-    Ok(Box::new(alloc, BindingIdentifier { span, name })?)
+    let node = BindingIdentifier { span, name };
+    Ok(Row::BindingPattern(BindingPattern::BindingIdentifier(Box::new(alloc, node)?)))
 }

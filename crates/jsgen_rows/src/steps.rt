@@ -12,7 +12,7 @@ use crate::expressions::{
     read_numeric_literal, read_parenthesized_expression,
 };
 use crate::floats::holds_float;
-use crate::kept::{Row, StatementRow};
+use crate::kept::Row;
 use crate::links::{
     read_call_expression, read_computed_member_expression, read_identifier_name,
     read_static_member_expression, read_string_literal,
@@ -26,7 +26,7 @@ use crate::values::{not_given, present, span_of, type_of};
 use crate::{At, InputFault};
 use jsgen_pool::Kept;
 use jsgen_syntax::Span;
-use jsgen_tree::{BindingPattern, Declaration, Expression, NodeType, Program};
+use jsgen_tree::{NodeType, Program};
 use serde_json::Value;
 use std::alloc::Global;
 
@@ -42,61 +42,31 @@ fn read_typed(
         (read_typed number node_type span (view row.now) (entries kept.old.items)) }
 {
     match node_type {
-        NodeType::Program => Ok(Row::Program(read_program(alloc, kept, number, span, row)?)),
-        NodeType::Directive => Ok(Row::Directive(read_directive(alloc, kept, number, span, row)?)),
-        NodeType::ExpressionStatement => Ok(Row::Statement(StatementRow::ExpressionStatement(
-            read_expression_statement(alloc, kept, number, span, row)?,
-        ))),
-        NodeType::BlockStatement => Ok(Row::Statement(StatementRow::BlockStatement(
-            read_block_statement(alloc, kept, number, span, row)?,
-        ))),
-        NodeType::IfStatement => Ok(Row::Statement(StatementRow::IfStatement(read_if_statement(
+        NodeType::Program => read_program(alloc, kept, number, span, row),
+        NodeType::Directive => read_directive(alloc, kept, number, span, row),
+        NodeType::ExpressionStatement => read_expression_statement(alloc, kept, number, span, row),
+        NodeType::BlockStatement => read_block_statement(alloc, kept, number, span, row),
+        NodeType::IfStatement => read_if_statement(alloc, kept, number, span, row),
+        NodeType::EmptyStatement => read_empty_statement(alloc, kept, number, span, row),
+        NodeType::VariableDeclaration => read_variable_declaration(alloc, kept, number, span, row),
+        NodeType::VariableDeclarator => read_variable_declarator(alloc, kept, number, span, row),
+        NodeType::BindingIdentifier => read_binding_identifier(alloc, kept, number, span, row),
+        NodeType::IdentifierReference => read_identifier_reference(alloc, kept, number, span, row),
+        NodeType::NumericLiteral => read_numeric_literal(alloc, kept, number, span, row),
+        NodeType::StringLiteral => read_string_literal(alloc, kept, number, span, row),
+        NodeType::ParenthesizedExpression => read_parenthesized_expression(
             alloc, kept, number, span, row,
-        )?))),
-        NodeType::EmptyStatement => Ok(Row::Statement(StatementRow::EmptyStatement(
-            read_empty_statement(alloc, kept, number, span, row)?,
-        ))),
-        NodeType::VariableDeclaration => Ok(Row::Declaration(Declaration::VariableDeclaration(
-            read_variable_declaration(alloc, kept, number, span, row)?,
-        ))),
-        NodeType::VariableDeclarator => Ok(Row::VariableDeclarator(read_variable_declarator(
+        ),
+        NodeType::BinaryExpression => read_binary_expression(alloc, kept, number, span, row),
+        NodeType::LogicalExpression => read_logical_expression(alloc, kept, number, span, row),
+        NodeType::StaticMemberExpression => read_static_member_expression(
             alloc, kept, number, span, row,
-        )?)),
-        NodeType::BindingIdentifier => Ok(Row::BindingPattern(BindingPattern::BindingIdentifier(
-            read_binding_identifier(alloc, kept, number, span, row)?,
-        ))),
-        NodeType::IdentifierReference => Ok(Row::Expression(Expression::IdentifierReference(
-            read_identifier_reference(alloc, kept, number, span, row)?,
-        ))),
-        NodeType::NumericLiteral => Ok(Row::Expression(Expression::NumericLiteral(
-            read_numeric_literal(alloc, kept, number, span, row)?,
-        ))),
-        NodeType::StringLiteral => Ok(Row::Expression(Expression::StringLiteral(read_string_literal(
+        ),
+        NodeType::ComputedMemberExpression => read_computed_member_expression(
             alloc, kept, number, span, row,
-        )?))),
-        NodeType::ParenthesizedExpression => Ok(Row::Expression(Expression::ParenthesizedExpression(
-            read_parenthesized_expression(alloc, kept, number, span, row)?,
-        ))),
-        NodeType::BinaryExpression => Ok(Row::Expression(Expression::BinaryExpression(
-            read_binary_expression(alloc, kept, number, span, row)?,
-        ))),
-        NodeType::LogicalExpression => Ok(Row::Expression(Expression::LogicalExpression(
-            read_logical_expression(alloc, kept, number, span, row)?,
-        ))),
-        NodeType::StaticMemberExpression => Ok(Row::Expression(Expression::StaticMemberExpression(
-            read_static_member_expression(alloc, kept, number, span, row)?,
-        ))),
-        NodeType::ComputedMemberExpression => Ok(Row::Expression(
-            Expression::ComputedMemberExpression(read_computed_member_expression(
-                alloc, kept, number, span, row,
-            )?),
-        )),
-        NodeType::CallExpression => Ok(Row::Expression(Expression::CallExpression(
-            read_call_expression(alloc, kept, number, span, row)?,
-        ))),
-        NodeType::IdentifierName => Ok(Row::IdentifierName(read_identifier_name(
-            alloc, kept, number, span, row,
-        )?)),
+        ),
+        NodeType::CallExpression => read_call_expression(alloc, kept, number, span, row),
+        NodeType::IdentifierName => read_identifier_name(alloc, kept, number, span, row),
     }
 }
 

@@ -3,7 +3,7 @@ use jsgen_syntax::{BinaryOperator, JsStr, LogicalOperator};
 use jsgen_tree::VariableDeclarationKind;
 
 /// A program in its normal form, or a part of one. Spans, the source and the kind of a program have no place in it.
-#[derive(Debug, Drop, PartialEq, Eq)]
+#[derive(Drop, PartialEq, Eq)]
 pub enum Form {
     Program {
         directives: Vec<Form>,

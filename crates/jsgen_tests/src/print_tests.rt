@@ -1,7 +1,9 @@
 // The print calls of the library.
+ghost use Rattle.std.specs.Prelude.{◌≡◌, false};
+ghost use Rattle.jsgen.specs.Codegen.{has_failed};
+
 use jsgen::{Codegen, CodegenError, CodegenOptions};
 use std::alloc::Global;
-use std::test::Fail;
 
 // Of minified text, and of text that is to be ASCII.
 fn options(minify: bool, ascii_only: bool) -> CodegenOptions {
@@ -12,28 +14,13 @@ fn options(minify: bool, ascii_only: bool) -> CodegenOptions {
     }
 }
 
-fn pieces(alloc: Global) -> Result<String, CodegenError> {
-    let mut printer = Codegen::new(alloc).with_options(options(false, true));
+fn print_pieces(printer: &mut Codegen) -> Result<(), CodegenError>
+    requires { has_failed printer.old ≡ false }
+{
     printer.print_str("x")?;
     printer.print_ascii_byte(b'=')?;
     printer.print_name("é")?;
-    printer.print_str_escaping_script_close_tag("</SCRIPT>")?;
-    Ok(printer.into_source_text())
-}
-
-fn string(alloc: Global, minify: bool, text: &str) -> Result<String, CodegenError> {
-    let mut printer = Codegen::new(alloc).with_options(options(minify, false));
-    printer.print_string(text)?;
-    Ok(printer.into())
-}
-
-#[test]
-fn pieces_of_code(rt: HostRuntime) -> Result<(), Fail> {
-    match pieces(rt.alloc()) {
-        Ok(code) => assert_eq!(rt; code.as_str(), "x=\\u00E9<\\/SCRIPT>"),
-        Err(_) => panic!(rt; "memory"),
-    }
-    Ok(())
+    printer.print_str_escaping_script_close_tag("</SCRIPT>")
 }
 
 // Whether the text is minified, a string, and its text.
@@ -51,21 +38,24 @@ const STRINGS: [(bool, &str, &str); 8] = [
 fn strings_as_said(alloc: Global, rows: &[(bool, &str, &str)]) -> bool {
     let mut as_said = true;
     for (minify, text, wanted) in rows {
-        as_said = as_said && is_string(alloc, *minify, text, wanted);
+        let mut printer = Codegen::new(alloc).with_options(options(*minify, false));
+        let is_printed = printer.print_string(text).is_ok();
+        let code: String = printer.into();
+        as_said = as_said && is_printed && code.as_str() == *wanted;
     }
     as_said
-}
-
-fn is_string(alloc: Global, minify: bool, text: &str, wanted: &str) -> bool {
-    match string(alloc, minify, text) {
-        Ok(code) => code.as_str() == wanted,
-        Err(_) => false,
-    }
 }
 
 #[test]
 fn strings(rt: HostRuntime) {
     assert!(rt; strings_as_said(rt.alloc(), &STRINGS));
+}
+
+#[test]
+fn pieces(rt: HostRuntime) {
+    let mut printer = Codegen::new(rt.alloc()).with_options(options(false, true));
+    assert!(rt; print_pieces(&mut printer).is_ok());
+    assert!(rt; printer.into_source_text().as_str() == "x=\\u00E9<\\/SCRIPT>");
 }
 
 #[test]

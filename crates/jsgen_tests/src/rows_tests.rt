@@ -2,6 +2,7 @@
 use crate::runs::has_fault;
 use jsgen_rows::read_job;
 use jsgen_syntax::Memory;
+use jsgen_tree::CodegenOptions;
 use std::alloc::Global;
 
 type Row = (&'static str, &'static str);
@@ -384,62 +385,52 @@ fn are_faults(alloc: Global, before: &str, rows: &[Row], behind: &str) -> Result
     Ok(true)
 }
 
-fn heads_as_said(alloc: Global) -> Result<bool, Memory> {
-    let before = "";
-    let behind = "";
-    are_faults(alloc, before, &HEADS, behind)
-}
+const LINKS_BEFORE: &str =
+    "{\"rows\":[{\"type\":\"IdentifierReference\",\"name\":\"a\"},{\"type\":\"IdentifierName\",\"name\":\"b\"},{\"type\":\"StringLiteral\",\"value\":\"c\"},{\"type\":\"IdentifierReference\",\"name\":\"d\"},{\"type\":";
 
-fn rows_as_said(alloc: Global) -> Result<bool, Memory> {
-    let before = "{\"rows\":[";
-    let behind = "]}";
-    are_faults(alloc, before, &ROWS, behind)
-}
+const BODIES_BEFORE: &str =
+    "{\"rows\":[{\"type\":\"IdentifierReference\",\"name\":\"a\"},{\"type\":\"IdentifierReference\",\"name\":\"b\"},{\"type\":\"ExpressionStatement\",\"expression\":1},{\"type\":\"EmptyStatement\"},{\"type\":";
 
-fn strings_as_said(alloc: Global) -> Result<bool, Memory> {
-    let before = "{\"rows\":[{\"type\":\"StringLiteral\",\"value\":";
-    let behind =
-        "},{\"type\":\"ExpressionStatement\",\"expression\":0},{\"type\":\"Program\",\"kind\":\"module\",\"body\":[1]}]}";
-    are_faults(alloc, before, &STRINGS, behind)
-}
+const STRINGS_BEHIND: &str =
+    "},{\"type\":\"ExpressionStatement\",\"expression\":0},{\"type\":\"Program\",\"kind\":\"module\",\"body\":[1]}]}";
 
-fn links_as_said(alloc: Global) -> Result<bool, Memory> {
-    let before =
-        "{\"rows\":[{\"type\":\"IdentifierReference\",\"name\":\"a\"},{\"type\":\"IdentifierName\",\"name\":\"b\"},{\"type\":\"StringLiteral\",\"value\":\"c\"},{\"type\":\"IdentifierReference\",\"name\":\"d\"},{\"type\":";
-    let behind = "},{\"type\":\"Program\",\"kind\":\"module\"}]}";
-    are_faults(alloc, before, &LINKS, behind)
-}
+const LINKS_BEHIND: &str = "},{\"type\":\"Program\",\"kind\":\"module\"}]}";
 
-fn bodies_as_said(alloc: Global) -> Result<bool, Memory> {
-    let before =
-        "{\"rows\":[{\"type\":\"IdentifierReference\",\"name\":\"a\"},{\"type\":\"IdentifierReference\",\"name\":\"b\"},{\"type\":\"ExpressionStatement\",\"expression\":1},{\"type\":\"EmptyStatement\"},{\"type\":";
-    let behind = "},{\"type\":\"Program\",\"kind\":\"module\",\"body\":[4]}]}";
-    are_faults(alloc, before, &BODIES, behind)
+const BODIES_BEHIND: &str = "},{\"type\":\"Program\",\"kind\":\"module\",\"body\":[4]}]}";
+
+fn all_faults(alloc: Global) -> Result<bool, Memory> {
+    let string = "{\"rows\":[{\"type\":\"StringLiteral\",\"value\":";
+    Ok(
+        are_faults(alloc, "", &HEADS, "")?
+            && are_faults(alloc, "{\"rows\":[", &ROWS, "]}")?
+            && are_faults(alloc, string, &STRINGS, STRINGS_BEHIND)?
+            && are_faults(alloc, LINKS_BEFORE, &LINKS, LINKS_BEHIND)?
+            && are_faults(alloc, BODIES_BEFORE, &BODIES, BODIES_BEHIND)?
+            && has_fault(alloc, b"{\"rows\":\"\xff\"}", "Json")?,
+    )
 }
 
 #[test]
 fn faults(rt: HostRuntime) {
-    let alloc = rt.alloc();
-    assert!(rt; heads_as_said(alloc) == Ok(true));
-    assert!(rt; has_fault(alloc, b"{\"rows\":\"\xff\"}", "Json") == Ok(true));
-    assert!(rt; rows_as_said(alloc) == Ok(true));
-    assert!(rt; strings_as_said(alloc) == Ok(true));
-    assert!(rt; links_as_said(alloc) == Ok(true));
-    assert!(rt; bodies_as_said(alloc) == Ok(true));
+    assert!(rt; all_faults(rt.alloc()) == Ok(true));
 }
 
 // Whether these options are set, of `single_quote`, `minify` and `ascii_only` their first letters, or have this fault.
 fn is_asked(alloc: Global, options: &str, wanted: &str) -> Result<bool, Memory> {
-    let mut job = "{\"options\":".to_string(alloc)?;
-    job.push_str(options)?;
-    job.push_str(",\"rows\":[{\"type\":\"Program\",\"kind\":\"module\"}]}")?;
-    let Ok(job) = read_job(alloc, job.as_bytes()) else {
-        return has_fault(alloc, job.as_bytes(), wanted);
-    };
+    let mut text = "{\"options\":".to_string(alloc)?;
+    text.push_str(options)?;
+    text.push_str(",\"rows\":[{\"type\":\"Program\",\"kind\":\"module\"}]}")?;
+    match read_job(alloc, text.as_bytes()) {
+        Ok(job) => has_letters(alloc, &job.options, wanted),
+        Err(_) => has_fault(alloc, text.as_bytes(), wanted),
+    }
+}
+
+fn has_letters(alloc: Global, options: &CodegenOptions, wanted: &str) -> Result<bool, Memory> {
     let mut letters = String::new(alloc);
-    letters.push_str(if job.options.single_quote { "s" } else { "" })?;
-    letters.push_str(if job.options.minify { "m" } else { "" })?;
-    letters.push_str(if job.options.ascii_only { "a" } else { "" })?;
+    letters.push_str(if options.single_quote { "s" } else { "" })?;
+    letters.push_str(if options.minify { "m" } else { "" })?;
+    letters.push_str(if options.ascii_only { "a" } else { "" })?;
     Ok(letters.as_str() == wanted)
 }
 

@@ -84,11 +84,6 @@ fn jobs_as_said(alloc: Global, rows: &[Row]) -> Result<bool, Memory> {
     Ok(true)
 }
 
-#[test]
-fn jobs_are_printed_or_refused(rt: HostRuntime) {
-    assert!(rt; jobs_as_said(rt.alloc(), &JOBS) == Ok(true));
-}
-
 // The first job with one text in place of another.
 const CHANGED: [(&str, &str, u8, &str, &str); 13] = [
     ("\"a\"", "\"if\"", 1, "", "refused: Name at 0\n"),
@@ -182,16 +177,11 @@ fn changed_as_said(alloc: Global, rows: &[(&str, &str, u8, &str, &str)]) -> Resu
     Ok(true)
 }
 
-#[test]
-fn each_refusal_has_its_status_and_line(rt: HostRuntime) {
-    assert!(rt; changed_as_said(rt.alloc(), &CHANGED) == Ok(true));
-}
-
 const OTHER_WORDS: [&[&str]; 3] = [&["frob"], &[], &["print", "print"]];
 
 fn are_no_commands(alloc: Global, rows: &[&[&str]]) -> Result<bool, Memory> {
     for texts in rows {
-        let seen = run_over(alloc, texts, JOB.as_bytes().to_vec(alloc)?, &[], &[])?;
+        let seen = run_over(alloc, texts, JOB.as_bytes(), &[], &[])?;
         if !seen.is(2, "", "usage: jsgen COMMAND\n") {
             return Ok(false);
         }
@@ -200,7 +190,9 @@ fn are_no_commands(alloc: Global, rows: &[&[&str]]) -> Result<bool, Memory> {
 }
 
 #[test]
-fn other_words_are_no_command(rt: HostRuntime) {
+fn each_answer_has_its_status_and_line(rt: HostRuntime) {
+    assert!(rt; jobs_as_said(rt.alloc(), &JOBS) == Ok(true));
+    assert!(rt; changed_as_said(rt.alloc(), &CHANGED) == Ok(true));
     assert!(rt; are_no_commands(rt.alloc(), &OTHER_WORDS) == Ok(true));
 }
 
@@ -221,84 +213,74 @@ impl Source for Trickle {
     }
 }
 
-fn trickled(alloc: Global, failing: u64) -> Result<Seen, Memory> {
-    let inner = MemSource::new(JOB.as_bytes().to_vec(alloc)?, vec![in alloc; failing]?);
-    let mut source = Trickle { inner };
-    let mut out = SureSink::new(alloc, 100)?;
-    let mut err = SureSink::new(alloc, 100)?;
+// A run with a source that fails at this call, and sinks with room for so many bytes.
+fn trickled(alloc: Global, job: &str, failing: u64, room: usize) -> Result<Seen, Memory> {
     let words = words_of(alloc, &["print"])?;
+    let mut out = SureSink::new(alloc, room)?;
+    let mut err = SureSink::new(alloc, room)?;
+    let failing = vec![in alloc; failing]?;
+    let mut source = Trickle {
+        inner: MemSource::new(job.as_bytes().to_vec(alloc)?, failing),
+    };
     let status = run(alloc, &words, &mut source, &mut out, &mut err);
-    Ok(Seen {
-        status,
-        out: out.bytes().to_vec(alloc)?,
-        err: err.bytes().to_vec(alloc)?,
-    })
+    Seen::new(alloc, status, out.bytes(), err.bytes())
 }
 
-fn fails_at(alloc: Global, call: u64) -> Result<bool, Memory> {
-    let input = JOB.as_bytes().to_vec(alloc)?;
-    let seen = run_over(alloc, &["print"], input, &[call], &[])?;
-    Ok(seen.is(4, "", "read failed\n"))
+// Whether a job of spaces, as many as that, ends so.
+fn spaces_end(alloc: Global, count: usize, code: u8, err: &str) -> Result<bool, Memory> {
+    let input = vec![in alloc; b' '; count]?;
+    Ok(run_over(alloc, &["print"], &input, &[], &[])?.is(code, "", err))
 }
 
-#[test]
-fn a_failed_read_writes_nothing(rt: HostRuntime) -> Result<(), Fail> {
-    let alloc = rt.alloc();
-    // At the first call, and at the call that would tell the end.
-    assert!(rt; fails_at(alloc, 1)? && fails_at(alloc, 2)?);
-    assert!(rt; trickled(alloc, 1)?.is(4, "", "read failed\n"));
-    assert!(rt; trickled(alloc, 5)?.is(4, "", "read failed\n"));
-    assert!(rt; trickled(alloc, 1000)?.is(0, "const a = 1 + 2;\n", ""));
-    Ok(())
+// What the first job gives where reading or writing fails at these calls.
+fn failed(alloc: Global, pulls: &[u64], pushes: &[(u64, usize)]) -> Result<Seen, Memory> {
+    run_over(alloc, &["print"], JOB.as_bytes(), pulls, pushes)
 }
 
-#[test]
-fn a_failed_write_leaves_a_prefix(rt: HostRuntime) -> Result<(), Fail> {
-    let alloc = rt.alloc();
-    let input = JOB.as_bytes().to_vec(alloc)?;
-    let seen = run_over(alloc, &["print"], input, &[], &[(1, 5)])?;
-    assert!(rt; seen.is(5, "const", "write failed\n"));
-    Ok(())
+// At the first call, and at the call that would tell the end.
+fn failed_reads_write_nothing(alloc: Global) -> Result<bool, Memory> {
+    Ok(
+        failed(alloc, &[1], &[])?.is(4, "", "read failed\n")
+            && failed(alloc, &[2], &[])?.is(4, "", "read failed\n")
+            && trickled(alloc, JOB, 1, 100)?.is(4, "", "read failed\n")
+            && trickled(alloc, JOB, 5, 100)?.is(4, "", "read failed\n")
+            && trickled(alloc, JOB, 1000, 100)?.is(0, "const a = 1 + 2;\n", ""),
+    )
 }
 
-#[test]
-fn the_limit_is_exact(rt: HostRuntime) -> Result<(), Fail> {
-    let alloc = rt.alloc();
-    let input = vec![in alloc; b' '; LIMIT + 1]?;
-    let seen = run_over(alloc, &["print"], input, &[], &[])?;
-    assert!(rt; seen.is(7, "", "input too long\n"));
-    let input = vec![in alloc; b' '; LIMIT]?;
-    let seen = run_over(alloc, &["print"], input, &[], &[])?;
-    assert!(rt; seen.is(3, "", "not a job: Json\n"));
-    Ok(())
+// A failed write leaves a prefix, and a failed line the status.
+fn failed_writes_are_told(alloc: Global) -> Result<bool, Memory> {
+    Ok(
+        failed(alloc, &[], &[(1, 5)])?.is(5, "const", "write failed\n")
+            && trickled(alloc, "{}", 1000, 100)?.is(3, "", "not a job: Missing head field 4\n")
+            && trickled(alloc, "{}", 1000, 10)?.is(3, "", ""),
+    )
 }
 
 #[test]
-fn a_failed_line_leaves_the_status(rt: HostRuntime) -> Result<(), Fail> {
-    let alloc = rt.alloc();
-    let job = JOB.replace(alloc, "\"a\"", "\"if\"")?;
-    let mut source = SureSource::new(job.as_bytes().to_vec(alloc)?);
-    let mut out = SureSink::new(alloc, 10)?;
-    let mut err = SureSink::new(alloc, 10)?;
-    let words = words_of(alloc, &["print"])?;
-    let status = run(alloc, &words, &mut source, &mut out, &mut err);
-    assert!(rt; status.code() == 1 && err.bytes().is_empty());
-    Ok(())
+fn devices_fail(rt: HostRuntime) {
+    assert!(rt; failed_reads_write_nothing(rt.alloc()) == Ok(true));
+    assert!(rt; failed_writes_are_told(rt.alloc()) == Ok(true));
 }
 
 #[test]
-fn readers_and_writers_of_std_serve(rt: HostRuntime) -> Result<(), Fail> {
+fn the_limit_is_exact(rt: HostRuntime) {
+    assert!(rt; spaces_end(rt.alloc(), LIMIT + 1, 7, "input too long\n") == Ok(true));
+    assert!(rt; spaces_end(rt.alloc(), LIMIT, 3, "not a job: Json\n") == Ok(true));
+}
+
+#[test]
+fn readers_and_writers_of_std_serve(rt: HostRuntime) {
     let alloc = rt.alloc();
+    let words = words_of(alloc, &["print"]).expect(&rt, "memory");
     let mut text = Vec::<u8>::new(alloc);
     let mut line = Vec::<u8>::new(alloc);
     let mut source = StdSource::new(JOB.as_bytes());
     let mut out = StdSink::new(&mut text);
     let mut err = StdSink::new(&mut line);
-    let words = words_of(alloc, &["print"])?;
     let status = run(alloc, &words, &mut source, &mut out, &mut err);
     assert!(rt; status == Status::Done && line.is_empty());
     assert!(rt; text.as_slice() == "const a = 1 + 2;\n".as_bytes());
-    Ok(())
 }
 
 // What the clauses of `run` give a caller whose devices cannot fail: a job that keeps the rules is printed,

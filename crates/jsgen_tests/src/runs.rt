@@ -13,6 +13,14 @@ pub struct Seen {
 }
 
 impl Seen {
+    pub fn new(alloc: Global, status: Status, out: &[u8], err: &[u8]) -> Result<Seen, Memory> {
+        Ok(Seen {
+            status,
+            out: out.to_vec(alloc)?,
+            err: err.to_vec(alloc)?,
+        })
+    }
+
     pub fn is(&self, code: u8, out: &str, err: &str) -> bool {
         self.status.code() == code
             && self.out.as_slice() == out.as_bytes()
@@ -32,24 +40,20 @@ pub fn words_of(alloc: Global, texts: &[&str]) -> Result<Vec<String>, Memory> {
 pub fn run_over(
     alloc: Global,
     texts: &[&str],
-    input: Vec<u8>,
+    input: &[u8],
     pulls: &[u64],
     pushes: &[(u64, usize)],
 ) -> Result<Seen, Memory> {
-    let mut source = MemSource::new(input, pulls.to_vec(alloc)?);
+    let words = words_of(alloc, texts)?;
     let mut out = MemSink::new(alloc, 1000, pushes.to_vec(alloc)?)?;
     let mut err = MemSink::new(alloc, 100, Vec::new(alloc))?;
-    let words = words_of(alloc, texts)?;
+    let mut source = MemSource::new(input.to_vec(alloc)?, pulls.to_vec(alloc)?);
     let status = run(alloc, &words, &mut source, &mut out, &mut err);
-    Ok(Seen {
-        status,
-        out: out.bytes().to_vec(alloc)?,
-        err: err.bytes().to_vec(alloc)?,
-    })
+    Seen::new(alloc, status, out.bytes(), err.bytes())
 }
 
 pub fn printed(alloc: Global, job: &str) -> Result<Seen, Memory> {
-    run_over(alloc, &["print"], job.as_bytes().to_vec(alloc)?, &[], &[])
+    run_over(alloc, &["print"], job.as_bytes(), &[], &[])
 }
 
 // Whether the job has this first fault, as it is said behind `not a job: `; an empty text stands for none.
@@ -57,9 +61,8 @@ pub fn has_fault(alloc: Global, job: &[u8], fault: &str) -> Result<bool, Memory>
     if fault.is_empty() {
         return Ok(read_job(alloc, job).is_ok());
     }
-    let seen = run_over(alloc, &["print"], job.to_vec(alloc)?, &[], &[])?;
     let mut line = "not a job: ".to_string(alloc)?;
     line.push_str(fault)?;
     line.push('\n')?;
-    Ok(seen.is(3, "", &line))
+    Ok(run_over(alloc, &["print"], job, &[], &[])?.is(3, "", &line))
 }

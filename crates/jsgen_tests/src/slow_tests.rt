@@ -172,20 +172,16 @@ const NOT_YET: [&str; 19] = [
 
 fn tokens_as_said(alloc: Global, rows: &[(&str, &str)]) -> Result<bool, Memory> {
     for (text, wanted) in rows {
-        if !are_tokens(alloc, text, wanted)? {
+        let Some(tokens) = tokens_of(alloc, text)? else {
+            return Ok(false);
+        };
+        let mut shown = String::new(alloc);
+        push_tokens(&mut shown, &tokens)?;
+        if shown.as_str() != *wanted {
             return Ok(false);
         }
     }
     Ok(true)
-}
-
-fn are_tokens(alloc: Global, text: &str, wanted: &str) -> Result<bool, Memory> {
-    let Some(tokens) = tokens_of(alloc, text)? else {
-        return Ok(false);
-    };
-    let mut shown = String::new(alloc);
-    push_tokens(&mut shown, &tokens)?;
-    Ok(shown.as_str() == wanted)
 }
 
 fn have_no_tokens(alloc: Global, texts: &[&str]) -> Result<bool, Memory> {

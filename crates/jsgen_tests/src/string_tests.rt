@@ -70,9 +70,21 @@ const NO_VALUES: [(Quote, &str); 22] = [
     (Quote::Backtick, "\\x"),
 ];
 
+fn is_said<T: PartialEq + Copy>(value: Option<Vec<T>>, wanted: &[T]) -> bool {
+    match value {
+        Some(value) => value.as_slice() == wanted,
+        None => false,
+    }
+}
+
+fn value_of(alloc: Global, quote: Quote, spelling: &str) -> Result<Option<Vec<u16>>, Memory> {
+    let characters: Vec<char> = spelling.chars().collect(alloc)?;
+    string_value_of(alloc, quote, &characters)
+}
+
 fn values_as_said(alloc: Global, rows: &[(Quote, &str, &[u16])]) -> Result<bool, Memory> {
     for (quote, spelling, wanted) in rows {
-        if !has_value(alloc, *quote, spelling, wanted)? {
+        if !is_said(value_of(alloc, *quote, spelling)?, wanted) {
             return Ok(false);
         }
     }
@@ -86,18 +98,6 @@ fn have_no_values(alloc: Global, rows: &[(Quote, &str)]) -> Result<bool, Memory>
         }
     }
     Ok(true)
-}
-
-fn has_value(alloc: Global, quote: Quote, spelling: &str, wanted: &[u16]) -> Result<bool, Memory> {
-    match value_of(alloc, quote, spelling)? {
-        Some(units) => Ok(units.as_slice() == wanted),
-        None => Ok(false),
-    }
-}
-
-fn value_of(alloc: Global, quote: Quote, spelling: &str) -> Result<Option<Vec<u16>>, Memory> {
-    let characters: Vec<char> = spelling.chars().collect(alloc)?;
-    string_value_of(alloc, quote, &characters)
 }
 
 // The spelling of a name, and its code points.
@@ -137,16 +137,9 @@ fn word_of(alloc: Global, spelling: &str) -> Result<Option<Vec<u32>>, Memory> {
     word_value_of(alloc, &characters)
 }
 
-fn is_word(alloc: Global, spelling: &str, wanted: &[u32]) -> Result<bool, Memory> {
-    match word_of(alloc, spelling)? {
-        Some(codes) => Ok(codes.as_slice() == wanted),
-        None => Ok(false),
-    }
-}
-
 fn words_as_said(alloc: Global, rows: &[(&str, &[u32])]) -> Result<bool, Memory> {
     for (spelling, wanted) in rows {
-        if !is_word(alloc, spelling, wanted)? {
+        if !is_said(word_of(alloc, spelling)?, wanted) {
             return Ok(false);
         }
     }
@@ -180,16 +173,9 @@ fn directive_of(alloc: Global, raw: &str) -> Result<Option<Vec<u16>>, Memory> {
     directive_value_of(alloc, &characters)
 }
 
-fn is_directive(alloc: Global, raw: &str, wanted: &[u16]) -> Result<bool, Memory> {
-    match directive_of(alloc, raw)? {
-        Some(units) => Ok(units.as_slice() == wanted),
-        None => Ok(false),
-    }
-}
-
 fn directives_as_said(alloc: Global, rows: &[(&str, &[u16])]) -> Result<bool, Memory> {
     for (raw, wanted) in rows {
-        if !is_directive(alloc, raw, wanted)? {
+        if !is_said(directive_of(alloc, raw)?, wanted) {
             return Ok(false);
         }
     }

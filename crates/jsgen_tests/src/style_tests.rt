@@ -1,6 +1,5 @@
 // Programs under options of their own, by the library and by the program.
 use crate::table::styled_otherwise;
-use std::test::Fail;
 
 // Members of the options, signs (src/table.rt tells what they stand for), and the text.
 const STYLES: [(&str, &str, &str); 62] = [
@@ -123,7 +122,7 @@ const STYLES: [(&str, &str, &str); 62] = [
 ];
 
 #[test]
-fn styles(rt: HostRuntime) -> Result<(), Fail> {
-    assert_eq!(rt; styled_otherwise(rt.alloc(), &STYLES)?.as_str(), "");
-    Ok(())
+fn styles(rt: HostRuntime) {
+    let otherwise = styled_otherwise(rt.alloc(), &STYLES).expect(&rt, "memory");
+    assert_eq!(rt; otherwise.as_str(), "");
 }

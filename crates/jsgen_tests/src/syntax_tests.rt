@@ -35,11 +35,6 @@ fn are_as_said(rows: &[(&str, bool)]) -> bool {
     as_said
 }
 
-#[test]
-fn names(rt: HostRuntime) {
-    assert!(rt; are_as_said(&NAMES));
-}
-
 // Words that are always reserved, those that strict code reserves, and some that nothing does.
 const ALWAYS: [&str; 38] = [
     "await",
@@ -114,7 +109,8 @@ fn are_reserved(words: &[&str], always: bool, strict: bool) -> bool {
 }
 
 #[test]
-fn reserved_words(rt: HostRuntime) {
+fn names_and_reserved_words(rt: HostRuntime) {
+    assert!(rt; are_as_said(&NAMES));
     assert!(rt; are_reserved(&ALWAYS, true, false));
     assert!(rt; are_reserved(&STRICT, false, true));
     assert!(rt; are_reserved(&FREE, false, false));
@@ -186,12 +182,6 @@ fn logical_as_said(rows: &[(LogicalOperator, &str, Precedence, Precedence)]) -> 
     as_said
 }
 
-#[test]
-fn operators(rt: HostRuntime) {
-    assert!(rt; binary_as_said(&BINARY));
-    assert!(rt; logical_as_said(&LOGICAL));
-}
-
 // The levels, rising, and how operators of each are grouped.
 const LEVELS: [(Precedence, &str); 23] = [
     (P::Lowest, ""),
@@ -240,7 +230,9 @@ fn is_below(level: &Precedence, at: usize, levels: &[(Precedence, &str)]) -> boo
 }
 
 #[test]
-fn levels(rt: HostRuntime) {
+fn operators_and_levels(rt: HostRuntime) {
+    assert!(rt; binary_as_said(&BINARY));
+    assert!(rt; logical_as_said(&LOGICAL));
     assert!(rt; levels_as_said(&LEVELS));
 }
 

@@ -78,7 +78,7 @@ fn library_text(alloc: Global, job: &str) -> Result<String, Memory> {
 /// `^a^` is a directive.
 pub fn job_of(alloc: Global, signs: &str, options: &str) -> Result<String, Memory> {
     let mut job = Jobs {
-        state: State::Signs,
+        state: ' ',
         text: String::new(alloc),
         rows: String::new(alloc),
         count: 0,
@@ -86,32 +86,22 @@ pub fn job_of(alloc: Global, signs: &str, options: &str) -> Result<String, Memor
         statements: Vec::new(alloc),
         directives: Vec::new(alloc),
     };
-    job.begin_job(options)?;
+    job.rows.push_str("{\"options\":{")?;
+    job.rows.push_str(options)?;
+    job.rows.push_str("},\"rows\":[")?;
     for sign in signs.chars() {
         job.take(sign)?;
     }
-    job.end_job()?;
+    job.row("Program", ",'kind':'module','directives':&,'body':*")?;
+    job.rows.push_str("]}")?;
     Ok(job.rows)
 }
 
-// What the next sign is.
-#[derive(Clone, Copy)]
-enum State {
-    Signs,
-    Text,
-    Units,
-    Directive,
-    Operator,
-    Member,
-    Call,
-    PureCall,
-    Block,
-}
-
-// The job so far, and the numbers of those rows that aren't children yet.
+// The job so far, the numbers of those rows that aren't children yet, and the sign that something is still owed to, or a
+// space.
 #[derive(Drop)]
 struct Jobs {
-    state: State,
+    state: char,
     text: String,
     rows: String,
     count: u32,
@@ -121,171 +111,95 @@ struct Jobs {
 }
 
 impl Jobs {
-    fn begin_job(&mut self, options: &str) -> Result<(), Memory> {
-        self.rows.push_str("{\"options\":{")?;
-        self.rows.push_str(options)?;
-        Ok(self.rows.push_str("},\"rows\":[")?)
-    }
-
-    fn end_job(&mut self) -> Result<(), Memory> {
-        self.begin("Program")?;
-        self.rows.push_str(",\"kind\":\"module\",\"directives\":")?;
-        push_list(&mut self.rows, &self.directives)?;
-        self.rows.push_str(",\"body\":")?;
-        push_list(&mut self.rows, &self.statements)?;
-        Ok(self.rows.push_str("}]}")?)
-    }
-
     // ---- rows
 
-    fn begin(&mut self, node_type: &str) -> Result<(), Memory> {
-        if self.count > 0 {
-            self.rows.push(',')?;
-        }
-        self.rows.push_str("{\"type\":\"")?;
+    // A row and its number. In its fields `'` is a quote, `<` the last operand and `?` the last statement, `#` the text as
+    // a string and `%` as units, `&` all directives, `*` all statements, and `[` or `{` a list of as many of the last
+    // operands or statements as the text says.
+    fn row(&mut self, node_type: &str, fields: &str) -> Result<u32, Memory> {
+        self.rows.push_str(if self.count > 0 {
+            ",{\"type\":\""
+        } else {
+            "{\"type\":\""
+        })?;
         self.rows.push_str(node_type)?;
-        Ok(self.rows.push('"')?)
-    }
-
-    fn name_of_field(&mut self, name: &str) -> Result<(), Memory> {
-        self.rows.push_str(",\"")?;
-        self.rows.push_str(name)?;
-        Ok(self.rows.push_str("\":")?)
-    }
-
-    fn word(&mut self, name: &str, word: &str) -> Result<(), Memory> {
-        self.name_of_field(name)?;
-        push_quoted(&mut self.rows, word)
-    }
-
-    fn child(&mut self, name: &str, number: u32) -> Result<(), Memory> {
-        self.name_of_field(name)?;
-        push_number(&mut self.rows, number)
-    }
-
-    // The number of the row that ends here.
-    fn end(&mut self) -> Result<u32, Memory> {
+        self.rows.push('"')?;
+        for sign in fields.chars() {
+            self.field(sign)?;
+        }
         self.rows.push('}')?;
         let number = self.count;
         self.count = self.count.saturating_add(1);
         Ok(number)
     }
 
-    fn end_operand(&mut self) -> Result<(), Memory> {
-        let number = self.end()?;
+    fn field(&mut self, sign: char) -> Result<(), Memory> {
+        match sign {
+            '\'' => Ok(self.rows.push('"')?),
+            '<' => push_number(&mut self.rows, self.operands.pop().unwrap_or(0)),
+            '?' => push_number(&mut self.rows, self.statements.pop().unwrap_or(0)),
+            '#' => push_quoted(&mut self.rows, &self.text),
+            '%' => push_units(&mut self.rows, &self.text),
+            '&' => push_list(&mut self.rows, &mut self.directives, usize::MAX),
+            '*' => push_list(&mut self.rows, &mut self.statements, usize::MAX),
+            '[' => push_list(&mut self.rows, &mut self.operands, size_of(&self.text)),
+            '{' => push_list(&mut self.rows, &mut self.statements, size_of(&self.text)),
+            _ => Ok(self.rows.push(sign)?),
+        }
+    }
+
+    fn operand(&mut self, node_type: &str, fields: &str) -> Result<(), Memory> {
+        let number = self.row(node_type, fields)?;
         Ok(self.operands.push(number)?)
     }
 
-    fn end_statement(&mut self) -> Result<(), Memory> {
-        let number = self.end()?;
+    fn statement(&mut self, node_type: &str, fields: &str) -> Result<(), Memory> {
+        let number = self.row(node_type, fields)?;
         Ok(self.statements.push(number)?)
-    }
-
-    // The number of the last operand; any where there is none.
-    fn operand(&mut self) -> u32 {
-        self.operands.pop().unwrap_or(0)
-    }
-
-    fn statement(&mut self) -> u32 {
-        self.statements.pop().unwrap_or(0)
     }
 
     // ---- signs
 
     fn take(&mut self, sign: char) -> Result<(), Memory> {
-        let state = self.state;
-        self.state = State::Signs;
-        match state {
-            State::Signs => self.take_sign(sign),
-            State::Text => self.take_until('#', sign, State::Text),
-            State::Units => self.take_until('%', sign, State::Units),
-            State::Directive => self.take_until('^', sign, State::Directive),
-            State::Operator => self.take_until(':', sign, State::Operator),
-            State::Member => self.take_member(sign),
-            State::Call => self.take_call(sign, "false"),
-            State::PureCall => self.take_call(sign, "true"),
-            State::Block => self.take_block(sign),
-        }
-    }
-
-    fn take_sign(&mut self, sign: char) -> Result<(), Memory> {
-        match sign {
-            '#' => self.state = State::Text,
-            '%' => self.state = State::Units,
-            '^' => self.state = State::Directive,
-            ':' => self.state = State::Operator,
-            '.' => self.state = State::Member,
-            '$' => self.state = State::Call,
-            '~' => self.state = State::PureCall,
-            '{' => self.state = State::Block,
-            ';' | '=' | '*' | ',' | '!' | '/' => self.take_statement(sign)?,
-            _ => self.take_operand(sign)?,
-        }
-        Ok(())
-    }
-
-    fn take_operand(&mut self, sign: char) -> Result<(), Memory> {
-        match sign {
-            '0'..='9' => self.take_number(sign),
-            '(' => self.take_parentheses(),
-            '@' => self.take_element(),
-            '-' => self.take_operation("BinaryExpression", "-"),
-            '+' => self.take_operation("BinaryExpression", "+"),
-            _ => self.take_reference(sign),
-        }
-    }
-
-    fn take_statement(&mut self, sign: char) -> Result<(), Memory> {
-        match sign {
-            ';' => {
-                let expression = self.operand();
-                self.begin("ExpressionStatement")?;
-                self.child("expression", expression)?;
-                self.end_statement()
-            }
-            '=' | '*' => self.take_constant(sign),
-            '!' | '/' => self.take_if(sign),
-            _ => {
-                self.begin("EmptyStatement")?;
-                self.end_statement()
+        match self.state {
+            ' ' => self.take_sign(sign),
+            '#' | '%' | '^' | ':' => self.take_part(sign),
+            state => {
+                self.text.push(sign)?;
+                self.end_text(state)
             }
         }
     }
 
-    // A text up to the sign that closes it.
-    fn take_until(&mut self, close: char, sign: char, state: State) -> Result<(), Memory> {
-        if sign != close {
-            self.state = state;
-            return Ok(self.text.push(sign)?);
+    // What stands between two equal signs.
+    fn take_part(&mut self, sign: char) -> Result<(), Memory> {
+        if sign == self.state {
+            return self.end_text(sign);
         }
-        self.take_text(state)?;
+        Ok(self.text.push(sign)?)
+    }
+
+    // A sign whose text is complete.
+    fn end_text(&mut self, sign: char) -> Result<(), Memory> {
+        match sign {
+            '#' => self.operand("StringLiteral", ",'value':#")?,
+            '%' => self.operand("StringLiteral", ",'value':%")?,
+            '^' => {
+                let number = self.row("Directive", ",'directive':#")?;
+                self.directives.push(number)?;
+            }
+            ':' => self.take_operator()?,
+            '.' => {
+                self.operand("IdentifierName", ",'name':#")?;
+                self.operand("StaticMemberExpression", ",'property':<,'object':<")?;
+            }
+            '$' => self.operand("CallExpression", ",'pure':false,'arguments':[,'callee':<")?,
+            '~' => self.operand("CallExpression", ",'pure':true,'arguments':[,'callee':<")?,
+            _ => self.statement("BlockStatement", ",'body':{")?,
+        }
         self.text.clear();
+        self.state = ' ';
         Ok(())
-    }
-
-    fn take_text(&mut self, state: State) -> Result<(), Memory> {
-        match state {
-            State::Text => {
-                self.begin("StringLiteral")?;
-                self.name_of_field("value")?;
-                push_quoted(&mut self.rows, &self.text)?;
-                self.end_operand()
-            }
-            State::Units => {
-                self.begin("StringLiteral")?;
-                self.name_of_field("value")?;
-                push_units(&mut self.rows, &self.text)?;
-                self.end_operand()
-            }
-            State::Directive => {
-                self.begin("Directive")?;
-                self.name_of_field("directive")?;
-                push_quoted(&mut self.rows, &self.text)?;
-                let number = self.end()?;
-                Ok(self.directives.push(number)?)
-            }
-            _ => self.take_operator(),
-        }
     }
 
     fn take_operator(&mut self) -> Result<(), Memory> {
@@ -293,155 +207,73 @@ impl Jobs {
             "&&" | "||" | "??" => "LogicalExpression",
             _ => "BinaryExpression",
         };
-        let right = self.operand();
-        let left = self.operand();
-        self.begin(node_type)?;
-        self.name_of_field("operator")?;
-        push_quoted(&mut self.rows, &self.text)?;
-        self.child("left", left)?;
-        self.child("right", right)?;
-        self.end_operand()
+        self.operand(node_type, ",'operator':#,'right':<,'left':<")
     }
 
-    fn take_operation(&mut self, node_type: &str, operator: &str) -> Result<(), Memory> {
-        let right = self.operand();
-        let left = self.operand();
-        self.begin(node_type)?;
-        self.word("operator", operator)?;
-        self.child("left", left)?;
-        self.child("right", right)?;
-        self.end_operand()
-    }
-
-    fn letter(&mut self, field: &str, letter: char) -> Result<(), Memory> {
-        self.name_of_field(field)?;
-        self.rows.push('"')?;
-        self.rows.push(letter)?;
-        Ok(self.rows.push('"')?)
-    }
-
-    fn take_reference(&mut self, letter: char) -> Result<(), Memory> {
-        self.begin("IdentifierReference")?;
-        self.letter("name", letter)?;
-        self.end_operand()
-    }
-
-    fn take_number(&mut self, digit: char) -> Result<(), Memory> {
-        self.begin("NumericLiteral")?;
-        self.word("kind", "whole")?;
-        self.letter("digits", digit)?;
-        self.end_operand()
-    }
-
-    fn take_parentheses(&mut self) -> Result<(), Memory> {
-        let expression = self.operand();
-        self.begin("ParenthesizedExpression")?;
-        self.child("expression", expression)?;
-        self.end_operand()
-    }
-
-    fn take_element(&mut self) -> Result<(), Memory> {
-        let expression = self.operand();
-        let object = self.operand();
-        self.begin("ComputedMemberExpression")?;
-        self.child("object", object)?;
-        self.child("expression", expression)?;
-        self.end_operand()
-    }
-
-    fn take_member(&mut self, letter: char) -> Result<(), Memory> {
-        let object = self.operand();
-        self.begin("IdentifierName")?;
-        self.letter("name", letter)?;
-        let property = self.end()?;
-        self.begin("StaticMemberExpression")?;
-        self.child("object", object)?;
-        self.child("property", property)?;
-        self.end_operand()
-    }
-
-    fn take_call(&mut self, sign: char, pure: &str) -> Result<(), Memory> {
-        let count = sign.to_digit(10).unwrap_or(0);
-        self.begin("CallExpression")?;
-        self.name_of_field("arguments")?;
-        push_list(&mut self.rows, last_of(&self.operands, count as usize))?;
-        for _ in 0..count {
-            self.operand();
+    fn take_sign(&mut self, sign: char) -> Result<(), Memory> {
+        match sign {
+            '#' | '%' | '^' | ':' | '.' | '$' | '~' | '{' => self.state = sign,
+            ';' => self.statement("ExpressionStatement", ",'expression':<")?,
+            ',' => self.statement("EmptyStatement", "")?,
+            '!' => self.statement("IfStatement", ",'consequent':?,'test':<")?,
+            '/' => self.statement("IfStatement", ",'alternate':?,'consequent':?,'test':<")?,
+            '=' => self.take_constant(",'id':<,'init':<")?,
+            '*' => self.take_constant(",'id':<")?,
+            '(' => self.operand("ParenthesizedExpression", ",'expression':<")?,
+            '@' => self.operand("ComputedMemberExpression", ",'expression':<,'object':<")?,
+            _ => self.take_letter(sign)?,
         }
-        let callee = self.operand();
-        self.child("callee", callee)?;
-        self.name_of_field("pure")?;
-        self.rows.push_str(pure)?;
-        self.end_operand()
+        Ok(())
     }
 
-    fn take_block(&mut self, sign: char) -> Result<(), Memory> {
-        let count = sign.to_digit(10).unwrap_or(0);
-        self.begin("BlockStatement")?;
-        self.name_of_field("body")?;
-        push_list(&mut self.rows, last_of(&self.statements, count as usize))?;
-        for _ in 0..count {
-            self.statement();
+    // An operator, a number or a name of one character.
+    fn take_letter(&mut self, letter: char) -> Result<(), Memory> {
+        self.text.push(letter)?;
+        match letter {
+            '+' | '-' => self.take_operator()?,
+            '0'..='9' => self.operand("NumericLiteral", ",'kind':'whole','digits':#")?,
+            _ => self.operand("IdentifierReference", ",'name':#")?,
         }
-        self.end_statement()
-    }
-
-    fn take_if(&mut self, sign: char) -> Result<(), Memory> {
-        let last = self.statement();
-        let test = self.operand();
-        let consequent = if sign == '/' { self.statement() } else { last };
-        self.begin("IfStatement")?;
-        self.child("test", test)?;
-        self.child("consequent", consequent)?;
-        if sign == '/' {
-            self.child("alternate", last)?;
-        }
-        self.end_statement()
+        self.text.clear();
+        Ok(())
     }
 
     // `const x`, with the last operand or without a value.
-    fn take_constant(&mut self, sign: char) -> Result<(), Memory> {
-        self.begin("BindingIdentifier")?;
-        self.letter("name", 'x')?;
-        let id = self.end()?;
-        self.begin("VariableDeclarator")?;
-        self.child("id", id)?;
-        if sign == '=' {
-            let init = self.operand();
-            self.child("init", init)?;
-        }
-        let declarator = self.end()?;
-        self.begin("VariableDeclaration")?;
-        self.word("kind", "const")?;
-        self.name_of_field("declarations")?;
-        push_list(&mut self.rows, &[declarator])?;
-        self.end_statement()
+    fn take_constant(&mut self, fields: &str) -> Result<(), Memory> {
+        self.operand("BindingIdentifier", ",'name':'x'")?;
+        self.operand("VariableDeclarator", fields)?;
+        self.text.push('1')?;
+        self.statement("VariableDeclaration", ",'kind':'const','declarations':[")?;
+        self.text.clear();
+        Ok(())
     }
 }
 
-// As many of the last numbers as there are.
-fn last_of(numbers: &[u32], count: usize) -> &[u32] {
-    let count = count.min(numbers.len());
-    &numbers[numbers.len() - count..]
-}
-
 // ---- values, as JSON has them
+
+fn size_of(text: &str) -> usize {
+    match text.parse::<usize>() {
+        Ok(size) => size,
+        Err(_) => 0,
+    }
+}
 
 fn push_number(text: &mut String, number: u32) -> Result<(), Memory> {
     let mut buffer = Buffer::new();
     Ok(text.push_str(buffer.format(number))?)
 }
 
-fn push_list(text: &mut String, numbers: &[u32]) -> Result<(), Memory> {
+// As many of the last numbers as there are; they are taken off.
+fn push_list(text: &mut String, numbers: &mut Vec<u32>, count: usize) -> Result<(), Memory> {
+    let first = numbers.len().saturating_sub(count);
     text.push('[')?;
-    let mut is_first = true;
-    for number in numbers {
-        if !is_first {
+    for (i, number) in numbers[first..].iter().enumerate() {
+        if i > 0 {
             text.push(',')?;
         }
-        is_first = false;
         push_number(text, *number)?;
     }
+    numbers.truncate(first);
     Ok(text.push(']')?)
 }
 

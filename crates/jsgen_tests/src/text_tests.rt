@@ -29,24 +29,19 @@ const QUOTES: [(&str, bool, Quote); 18] = [
     ("\u{1F600}${", true, Quote::Double),
 ];
 
-fn quotes_as_said(alloc: Global, rows: &[(&str, bool, Quote)]) -> bool {
-    let mut as_said = true;
+fn quotes_as_said(alloc: Global, rows: &[(&str, bool, Quote)]) -> Result<bool, Memory> {
     for (text, allowed, quote) in rows {
-        as_said = as_said && quote_is(alloc, text, *allowed, *quote);
+        let value = JsStr::from_text(alloc, text)?;
+        if cheapest_quote(&value, *allowed) != *quote {
+            return Ok(false);
+        }
     }
-    as_said
-}
-
-fn quote_is(alloc: Global, text: &str, allowed: bool, quote: Quote) -> bool {
-    match JsStr::from_text(alloc, text) {
-        Ok(value) => cheapest_quote(&value, allowed) == quote,
-        Err(Memory) => false,
-    }
+    Ok(true)
 }
 
 #[test]
 fn cheapest(rt: HostRuntime) {
-    assert!(rt; quotes_as_said(rt.alloc(), &QUOTES));
+    assert!(rt; quotes_as_said(rt.alloc(), &QUOTES) == Ok(true));
 }
 
 // A string, a quote, and its text in it.
@@ -72,27 +67,26 @@ const PRINTED: [(&str, Quote, &str); 15] = [
     ("</script>\"'\\", Quote::Single, "'<\\/script>\"\\'\\\\'"),
 ];
 
-fn texts_as_said(alloc: Global, rows: &[(&str, Quote, &str)]) -> bool {
-    let mut as_said = true;
+fn texts_as_said(alloc: Global, rows: &[(&str, Quote, &str)]) -> Result<bool, Memory> {
     for (text, quote, wanted) in rows {
-        as_said = as_said && is_printed(alloc, text, *quote, wanted);
-    }
-    as_said
-}
-
-fn is_printed(alloc: Global, text: &str, quote: Quote, wanted: &str) -> bool {
-    let mut code = CodeBuffer::with_indent(alloc, IndentChar::Tab, 1);
-    match JsStr::from_text(alloc, text) {
-        Ok(value) => {
-            print_string_text(&mut code, &value, quote, true).is_ok() && code.as_str() == wanted
+        let value = JsStr::from_text(alloc, text)?;
+        if !is_printed(alloc, &value, *quote, true, wanted)? {
+            return Ok(false);
         }
-        Err(Memory) => false,
     }
+    Ok(true)
 }
 
-#[test]
-fn printed(rt: HostRuntime) {
-    assert!(rt; texts_as_said(rt.alloc(), &PRINTED));
+fn is_printed(
+    alloc: Global,
+    value: &JsStr,
+    quote: Quote,
+    ascii: bool,
+    wanted: &str,
+) -> Result<bool, Memory> {
+    let mut code = CodeBuffer::with_indent(alloc, IndentChar::Tab, 1);
+    print_string_text(&mut code, value, quote, ascii)?;
+    Ok(code.as_str() == wanted)
 }
 
 // Units, a quote, whether the text is to be ASCII, and the text.
@@ -120,27 +114,20 @@ const UNITS: [(&[u16], Quote, bool, &str); 16] = [
     ),
 ];
 
-fn units_as_said(alloc: Global, rows: &[(&[u16], Quote, bool, &str)]) -> bool {
-    let mut as_said = true;
+fn units_as_said(alloc: Global, rows: &[(&[u16], Quote, bool, &str)]) -> Result<bool, Memory> {
     for (units, quote, ascii, wanted) in rows {
-        as_said = as_said && units_are(alloc, units, *quote, *ascii, wanted);
-    }
-    as_said
-}
-
-fn units_are(alloc: Global, units: &[u16], quote: Quote, ascii: bool, wanted: &str) -> bool {
-    let mut code = CodeBuffer::with_indent(alloc, IndentChar::Tab, 1);
-    match JsStr::from_units(alloc, units) {
-        Ok(value) => {
-            print_string_text(&mut code, &value, quote, ascii).is_ok() && code.as_str() == wanted
+        let value = JsStr::from_units(alloc, units)?;
+        if !is_printed(alloc, &value, *quote, *ascii, wanted)? {
+            return Ok(false);
         }
-        Err(Memory) => false,
     }
+    Ok(true)
 }
 
 #[test]
-fn printed_units(rt: HostRuntime) {
-    assert!(rt; units_as_said(rt.alloc(), &UNITS));
+fn strings(rt: HostRuntime) {
+    assert!(rt; texts_as_said(rt.alloc(), &PRINTED) == Ok(true));
+    assert!(rt; units_as_said(rt.alloc(), &UNITS) == Ok(true));
 }
 
 // How a raw text is printed.
@@ -284,33 +271,27 @@ const RAW: [(Raw, &str, &str); 38] = [
     (Raw::Pattern { ascii: true }, "</script", "</script"),
 ];
 
-fn raw_as_said(alloc: Global, rows: &[(Raw, &str, &str)]) -> bool {
-    let mut as_said = true;
+fn raw_as_said(alloc: Global, rows: &[(Raw, &str, &str)]) -> Result<bool, Memory> {
     for (raw, text, wanted) in rows {
-        as_said = as_said && is_raw(alloc, *raw, text, wanted);
+        let mut code = CodeBuffer::with_indent(alloc, IndentChar::Tab, 1);
+        print_raw(&mut code, *raw, text)?;
+        if code.as_str() != *wanted {
+            return Ok(false);
+        }
     }
-    as_said
-}
-
-fn is_raw(alloc: Global, raw: Raw, text: &str, wanted: &str) -> bool {
-    let mut code = CodeBuffer::with_indent(alloc, IndentChar::Tab, 1);
-    print_raw(&mut code, raw, text).is_ok() && code.as_str() == wanted
+    Ok(true)
 }
 
 #[test]
 fn raw_texts(rt: HostRuntime) {
-    assert!(rt; raw_as_said(rt.alloc(), &RAW));
+    assert!(rt; raw_as_said(rt.alloc(), &RAW) == Ok(true));
 }
 
 #[test]
-fn line_terminators(rt: HostRuntime) {
+fn line_terminators_and_close_tags(rt: HostRuntime) {
     assert!(rt; is_line_terminator('\n') && is_line_terminator('\r'));
     assert!(rt; is_line_terminator('\u{2028}') && is_line_terminator('\u{2029}'));
     assert!(rt; !is_line_terminator('\u{B}') && !is_line_terminator('\u{85}'));
-}
-
-#[test]
-fn close_tags(rt: HostRuntime) {
     assert!(rt; is_script_close_tag(b"</script"));
     assert!(rt; is_script_close_tag(b"</ScrIPT"));
     assert!(rt; !is_script_close_tag(b"</scripe"));
@@ -319,76 +300,66 @@ fn close_tags(rt: HostRuntime) {
 
 const TEXTS: [&str; 4] = ["", "a", "é日", "\u{1F600}\0"];
 
-fn are_kept(alloc: Global, texts: &[&str]) -> bool {
-    let mut kept = true;
+fn are_kept(alloc: Global, texts: &[&str]) -> Result<bool, Memory> {
     for text in texts {
-        kept = kept && keeps_text(alloc, text);
-    }
-    kept
-}
-
-#[test]
-fn texts(rt: HostRuntime) {
-    assert!(rt; are_kept(rt.alloc(), &TEXTS));
-}
-
-fn keeps_text(alloc: Global, text: &str) -> bool {
-    match JsStr::from_text(alloc, text) {
-        Ok(value) => {
-            !value.has_lone_surrogate()
-                && value.as_str() == Some(text)
-                && value.as_bytes() == text.as_bytes()
+        let value = JsStr::from_text(alloc, text)?;
+        if value.has_lone_surrogate()
+            || value.as_str() != Some(*text)
+            || value.as_bytes() != text.as_bytes()
+        {
+            return Ok(false);
         }
-        Err(Memory) => false,
     }
+    Ok(true)
 }
 
-#[test]
-fn units(rt: HostRuntime) {
-    assert!(rt; has_bytes(rt.alloc(), &[0x61, 0xE9, 0x65E5], false, "aé日".as_bytes()));
-    assert!(rt;
-        has_bytes(
-            rt.alloc(),
-            &[0xD83D, 0xDE00, 0x62],
-            false,
-            "\u{1F600}b".as_bytes()
-        )
-    );
-    assert!(rt; has_bytes(rt.alloc(), &[0xD800], true, &[0xED, 0xA0, 0x80]));
-    assert!(rt;
-        has_bytes(
-            rt.alloc(),
-            &[0xDE00, 0xD83D],
-            true,
-            &[0xED, 0xB8, 0x80, 0xED, 0xA0, 0xBD]
-        )
-    );
-    assert!(rt;
-        has_bytes(
-            rt.alloc(),
-            &[0xD83D, 0xD83D, 0xDE00],
-            true,
-            &[0xED, 0xA0, 0xBD, 0xF0, 0x9F, 0x98, 0x80]
-        )
-    );
-}
+// Units, whether one of them is alone, and the bytes that they are kept as.
+const KEPT: [(&[u16], bool, &[u8]); 5] = [
+    (
+        &[0x61, 0xE9, 0x65E5],
+        false,
+        &[0x61, 0xC3, 0xA9, 0xE6, 0x97, 0xA5],
+    ),
+    (
+        &[0xD83D, 0xDE00, 0x62],
+        false,
+        &[0xF0, 0x9F, 0x98, 0x80, 0x62],
+    ),
+    (&[0xD800], true, &[0xED, 0xA0, 0x80]),
+    (
+        &[0xDE00, 0xD83D],
+        true,
+        &[0xED, 0xB8, 0x80, 0xED, 0xA0, 0xBD],
+    ),
+    (
+        &[0xD83D, 0xD83D, 0xDE00],
+        true,
+        &[0xED, 0xA0, 0xBD, 0xF0, 0x9F, 0x98, 0x80],
+    ),
+];
 
-fn has_bytes(alloc: Global, units: &[u16], lone: bool, bytes: &[u8]) -> bool {
-    match JsStr::from_units(alloc, units) {
-        Ok(value) => {
-            value.has_lone_surrogate() == lone
-                && value.as_str().is_none() == lone
-                && value.as_bytes() == bytes
+fn have_bytes(alloc: Global, rows: &[(&[u16], bool, &[u8])]) -> Result<bool, Memory> {
+    for (units, lone, bytes) in rows {
+        let value = JsStr::from_units(alloc, units)?;
+        if value.has_lone_surrogate() != *lone
+            || value.as_str().is_none() != *lone
+            || value.as_bytes() != *bytes
+        {
+            return Ok(false);
         }
-        Err(Memory) => false,
     }
+    Ok(true)
+}
+
+fn is_one_value(alloc: Global, text: &str, units: &[u16]) -> Result<bool, Memory> {
+    Ok(JsStr::from_text(alloc, text)? == JsStr::from_units(alloc, units)?)
 }
 
 #[test]
-fn same_values(rt: HostRuntime) {
-    let text = JsStr::from_text(rt.alloc(), "\u{1F600}").expect(&rt, "memory");
-    let pair = JsStr::from_units(rt.alloc(), &[0xD83D, 0xDE00]).expect(&rt, "memory");
-    let lone = JsStr::from_units(rt.alloc(), &[0xD83D]).expect(&rt, "memory");
-    assert!(rt; text == pair);
-    assert!(rt; pair != lone);
+fn values(rt: HostRuntime) {
+    let alloc = rt.alloc();
+    assert!(rt; are_kept(alloc, &TEXTS) == Ok(true));
+    assert!(rt; have_bytes(alloc, &KEPT) == Ok(true));
+    assert!(rt; is_one_value(alloc, "\u{1F600}", &[0xD83D, 0xDE00]) == Ok(true));
+    assert!(rt; is_one_value(alloc, "\u{1F600}", &[0xD83D]) == Ok(false));
 }

@@ -143,12 +143,12 @@ fn is_told(legal: &LegalComment, none: bool, inline: bool, eof: bool) -> bool {
 }
 
 #[test]
-fn legal_comments_are_told_apart(rt: HostRuntime) -> Result<(), Fail> {
-    let linked = LegalComment::Linked("a.txt".to_string(rt.alloc())?);
+fn legal_comments_are_told_apart(rt: HostRuntime) {
+    let path = "a.txt".to_string(rt.alloc()).expect(&rt, "memory");
+    let linked = LegalComment::Linked(path);
     assert!(rt; is_told(&LegalComment::None, true, false, false));
     assert!(rt; is_told(&LegalComment::Inline, false, true, false));
     assert!(rt; is_told(&LegalComment::Eof, false, false, true));
     assert!(rt; is_told(&LegalComment::External, false, false, false));
     assert!(rt; is_told(&linked, false, false, false));
-    Ok(())
 }

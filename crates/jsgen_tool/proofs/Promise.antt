@@ -1,5 +1,5 @@
 -- The promise of the program follows from the rows of its answers.
-use Rattle.std.proofs.Common.{◌≡◌, ℕ, List, [], ◌∷◌, Option, Some, None, Ok, IfSome, inl, refl, ap, ◌∙◌, subst, arith}
+use Rattle.std.proofs.Common.{rules, ◌≡◌, ℕ, List, [], ◌∷◌, Option, Some, None, Ok, IfSome, inl, refl, ap, ◌∙◌, subst, arith}
 use Rattle.std.specs.Prelude.{Contains}
 use Rattle.std.specs.Io.KnownBytes.{Appends}
 use Rattle.jsgen_tree.specs.Tree.{Tree}
@@ -12,7 +12,7 @@ use Rattle.jsgen_rows.specs.Job.{job_of}
 use Rattle.jsgen_rows.specs.Meaning.{JobData}
 use Rattle.jsgen_rows.proofs.Program.{job_is_program}
 use Rattle.jsgen_tool.specs.Device.{Rose}
-use Rattle.jsgen_tool.specs.Answers.{InputRow, OutputRow, SourceCount, OutCount}
+use Rattle.jsgen_tool.specs.Answers.{InputRow, OutputRow, SourceCount, OutCount, Due}
 use Rattle.jsgen_tool.specs.Headline.{HoldsProgram, Prints, TookText}
 use Rattle.jsgen_tool.specs.Job.{text_of}
 use Rattle.jsgen_tool.specs.declared.status.Status.{Status}
@@ -52,3 +52,15 @@ prints (NotJob fault) (Some bytes) before now sink_before sink_now old new progr
 prints (Refused fault) (Some bytes) before now sink_before sink_now old new program u r w (within, (job, is, broken)) o (fits, (options, wanted, valid)) plain quiet =
     let P : JobData → Type 0 = λ j. Contains (program_breaches j.options.minify j.program) fault in
     absurd (no_breach (program_breaches options.minify program) fault valid (subst P (one_job bytes job (record { options = options; program = program }) is wanted) broken))
+
+-- what comes where the words are the command and no read failed
+pub due : (s : Status) (held : Option (List ℕ)) (before now sink_before sink_now : ℕ) → (s ≡ Usage → ⊥) → SourceCount s before now → OutCount s sink_before sink_now → IfSome held (InputRow s) → (Rose before now → ⊥) → IfSome held (λ bytes. Due (Rose sink_before sink_now) bytes s)
+due s None before now sink_before sink_now u r w i unread = tt
+due Done (Some bytes) before now sink_before sink_now u r w i unread = search rules
+due Memory (Some bytes) before now sink_before sink_now u r w i unread = search rules
+due ReadFault (Some bytes) before now sink_before sink_now u r w i unread = absurd (unread r.1)
+due WriteFault (Some bytes) before now sink_before sink_now u r w i unread = search rules
+due Usage (Some bytes) before now sink_before sink_now u r w i unread = absurd (u refl)
+due TooLong (Some bytes) before now sink_before sink_now u r w i unread = search rules
+due (NotJob fault) (Some bytes) before now sink_before sink_now u r w i unread = search rules
+due (Refused fault) (Some bytes) before now sink_before sink_now u r w i unread = search rules

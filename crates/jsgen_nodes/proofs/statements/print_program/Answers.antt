@@ -1,4 +1,4 @@
 use Rattle.jsgen_nodes.proofs.statements.print_program.Goals as goal
 
 pub returns : goal.returns
-returns g c = rw (c.in_ok-print_body.ensures, c.deref-2.ensures.value, c.in_ok-print_directives.ensures, c.deref.ensures.value) at c.print_due_semicolon.ensures
+returns g c = rw (c.deref-2.ensures.value, c.in_ok-print_directives.ensures, c.deref.ensures.value) at c.print_whole_body.ensures
