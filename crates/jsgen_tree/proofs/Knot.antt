@@ -1,7 +1,7 @@
 -- The plain data of the recursive type is, set by set, that of what it holds.
 use Rattle.std.specs.declared.alloc.Global.{Global}
 use Rattle.std.proofs.Common.{Box, ◌≡◌, refl, sym, ap, ◌∙◌, List, [], ◌∷◌, Some, None, map}
-use Rattle.jsgen_tree.specs.Tree.{Tree, span_of, declaration_kind, flag, variable_declaration, call, block, trees}
+use Rattle.jsgen_tree.specs.Tree.{Tree, no_value, span_of, declaration_kind, flag, variable_declaration, call, block, trees}
 use Rattle.jsgen_tree.specs.Rows.{in_expression, expression_plain, statement_plain, declaration_plain, binding_pattern_plain}
 use Rattle.jsgen_tree.specs.Plain.{node_plain, layer}
 use Rattle.jsgen_tree.specs.declared.nodes.Node.{Node, out-Node, map-Node, fold_out-Node}
@@ -47,7 +47,7 @@ natural_expression h (expressions.LogicalExpression b) = refl
 natural_expression h (expressions.ParenthesizedExpression b) = refl
 natural_expression h (expressions.StaticMemberExpression b) = refl
 natural_expression h (expressions.ComputedMemberExpression b) = refl
-natural_expression h (expressions.CallExpression b) = ap (λ ts. call (record { span = b.value.span; values = flag b.value.pure ∷ [] }) (in_expression h b.value.callee) (trees ts)) (map_after _ _ _ (with_argument _ (λ e. refl)) b.value.arguments.items)
+natural_expression h (expressions.CallExpression b) = ap (λ ts. call (record { span = b.value.span; values = no_value ∷ flag b.value.pure ∷ [] }) (in_expression h b.value.callee) (trees ts)) (map_after _ _ _ (with_argument _ (λ e. refl)) b.value.arguments.items)
 
 -- an `if` with an alternate, and one without
 with_alternate : (P : IfStatement Node → Type 0) → ((n : IfStatement Node) → P (record n { alternate = None })) → ((n : IfStatement Node) (s : StatementNode Node) → P (record n { alternate = Some s })) → (n : IfStatement Node) → P n
@@ -65,7 +65,7 @@ with_init : (P : VariableDeclarator Node → Type 0) → ((n : VariableDeclarato
 with_init P none some n = elim n.init as (λ o. P (record n { init = o })) [ None ↦ none n | Some e ↦ some n e ]
 
 natural_declaration : (h : Node → Tree) (d : Declaration Node) → layer (map-Node Node Tree h (opened.Declaration d)) ≡ declaration_plain h d
-natural_declaration h (declarations.VariableDeclaration b) = ap (λ ts. variable_declaration (record { span = b.value.span; values = declaration_kind b.value.kind ∷ [] }) (trees ts)) (map_after _ _ _ (with_init _ (λ n. refl) (λ n e. refl)) b.value.declarations.items)
+natural_declaration h (declarations.VariableDeclaration b) = ap (λ ts. variable_declaration (record { span = b.value.span; values = declaration_kind b.value.kind ∷ no_value ∷ [] }) (trees ts)) (map_after _ _ _ (with_init _ (λ n. refl) (λ n e. refl)) b.value.declarations.items)
 
 pub plain_expression : (e : Expression Node) → node_plain (nodes.Expression e) ≡ expression_plain node_plain e
 plain_expression e = plain_out (nodes.Expression e) ∙ ap (λ o. layer (map-Node Node Tree node_plain o)) (outs-Expression e) ∙ natural_expression node_plain e

@@ -1,7 +1,12 @@
 pub mod Words
 pub mod Tree
+pub mod Values
+pub mod Width
 pub mod Table
 pub mod Rows
 pub mod Plain
 pub mod Spans
 pub mod Options
+pub mod Job
+pub mod Everywhere
+pub mod Law

@@ -3,7 +3,7 @@ use Rattle.std.specs.Prelude.{ℕ, List, [], ◌∷◌, map, option_map, String,
 use Rattle.std.specs.Str.{chars}
 use Rattle.std.specs.declared.alloc.Global.{Global}
 use Rattle.jsgen_syntax.specs.Units.{js_units}
-use Rattle.jsgen_tree.specs.Tree.{Tree, Atom, text, units, digits, source_kind, declaration_kind, numeric_kind, Whole, binary_operator, logical_operator, flag, optional, trees, program, directive, expression_statement, variable_declaration, variable_declarator, binding_identifier, identifier_reference, numeric_literal, string_literal, parenthesized, binary, logical, identifier_name, static_member, computed_member, call, block, if_statement, empty_statement}
+use Rattle.jsgen_tree.specs.Tree.{Tree, Atom, no_value, text, units, digits, source_kind, declaration_kind, numeric_kind, Whole, binary_operator, logical_operator, flag, optional, trees, program, directive, expression_statement, variable_declaration, variable_declarator, binding_identifier, identifier_reference, numeric_literal, string_literal, parenthesized, binary, logical, identifier_name, static_member, computed_member, call, block, if_statement, empty_statement}
 use Rattle.jsgen_tree.specs.declared.nodes.ExpressionNode.{ExpressionNode}
 use Rattle.jsgen_tree.specs.declared.nodes.StatementNode.{StatementNode}
 use Rattle.jsgen_tree.specs.declared.nodes.DeclarationNode.{DeclarationNode}
@@ -64,10 +64,10 @@ in_argument plain (argument.Expression b) = in_expression plain b.value
 -- ---- structs
 
 abbrev pub identifier_reference_row : IdentifierReference → Tree
-identifier_reference_row n = identifier_reference (record { span = n.span; values = text (characters n.name) ∷ [] })
+identifier_reference_row n = identifier_reference (record { span = n.span; values = text (characters n.name) ∷ no_value ∷ [] })
 
 abbrev pub numeric_values : NumericValue → List Atom
-numeric_values (numeric.Whole n) = numeric_kind Whole ∷ digits n ∷ []
+numeric_values (numeric.Whole n) = numeric_kind Whole ∷ no_value ∷ digits n ∷ no_value ∷ []
 
 abbrev pub numeric_literal_row : NumericLiteral → Tree
 numeric_literal_row n = numeric_literal (record { span = n.span; values = numeric_values n.value })
@@ -88,22 +88,22 @@ abbrev pub identifier_name_row : IdentifierName → Tree
 identifier_name_row n = identifier_name (record { span = n.span; values = text (characters n.name) ∷ [] })
 
 abbrev pub static_member_expression_row : {N : Type 0} → (N → Tree) → StaticMemberExpression N → Tree
-static_member_expression_row plain n = static_member (record { span = n.span; values = [] }) (in_expression plain n.object) (identifier_name_row n.property.value)
+static_member_expression_row plain n = static_member (record { span = n.span; values = no_value ∷ [] }) (in_expression plain n.object) (identifier_name_row n.property.value)
 
 abbrev pub computed_member_expression_row : {N : Type 0} → (N → Tree) → ComputedMemberExpression N → Tree
-computed_member_expression_row plain n = computed_member (record { span = n.span; values = [] }) (in_expression plain n.object) (in_expression plain n.expression)
+computed_member_expression_row plain n = computed_member (record { span = n.span; values = no_value ∷ [] }) (in_expression plain n.object) (in_expression plain n.expression)
 
 abbrev pub call_expression_row : {N : Type 0} → (N → Tree) → CallExpression N → Tree
-call_expression_row plain n = call (record { span = n.span; values = flag n.pure ∷ [] }) (in_expression plain n.callee) (trees (map (in_argument plain) n.arguments.items))
+call_expression_row plain n = call (record { span = n.span; values = no_value ∷ flag n.pure ∷ [] }) (in_expression plain n.callee) (trees (map (in_argument plain) n.arguments.items))
 
 abbrev pub binding_identifier_row : BindingIdentifier → Tree
-binding_identifier_row n = binding_identifier (record { span = n.span; values = text (characters n.name) ∷ [] })
+binding_identifier_row n = binding_identifier (record { span = n.span; values = text (characters n.name) ∷ no_value ∷ [] })
 
 abbrev pub variable_declarator_row : {N : Type 0} → (N → Tree) → VariableDeclarator N → Tree
-variable_declarator_row plain n = variable_declarator (record { span = n.span; values = [] }) (in_binding_pattern plain n.id) (optional (option_map (in_expression plain) n.init))
+variable_declarator_row plain n = variable_declarator (record { span = n.span; values = no_value ∷ [] }) (in_binding_pattern plain n.id) (optional (option_map (in_expression plain) n.init))
 
 abbrev pub variable_declaration_row : {N : Type 0} → (N → Tree) → VariableDeclaration N → Tree
-variable_declaration_row plain n = variable_declaration (record { span = n.span; values = declaration_kind n.kind ∷ [] }) (trees (map (variable_declarator_row plain) n.declarations.items))
+variable_declaration_row plain n = variable_declaration (record { span = n.span; values = declaration_kind n.kind ∷ no_value ∷ [] }) (trees (map (variable_declarator_row plain) n.declarations.items))
 
 abbrev pub expression_statement_row : {N : Type 0} → (N → Tree) → ExpressionStatement N → Tree
 expression_statement_row plain n = expression_statement (record { span = n.span; values = [] }) (in_expression plain n.expression)
@@ -121,7 +121,7 @@ abbrev pub directive_row : Directive → Tree
 directive_row n = directive (record { span = n.span; values = text (characters n.directive) ∷ [] })
 
 abbrev pub program_row : {N : Type 0} → (N → Tree) → Program N → Tree
-program_row plain n = program (record { span = n.span; values = text (characters n.source) ∷ source_kind n.kind ∷ [] }) (trees (map directive_row n.directives.items)) (trees (map (in_statement plain) n.body.items))
+program_row plain n = program (record { span = n.span; values = text (characters n.source) ∷ source_kind n.kind ∷ no_value ∷ no_value ∷ [] }) (trees (map directive_row n.directives.items)) (trees (map (in_statement plain) n.body.items))
 
 -- ---- sets
 

@@ -8,6 +8,9 @@ use Rattle.jsgen_tree.specs.declared.types.NodeType.TheVariants as types
 use Rattle.jsgen_tree.specs.declared.types.NodeSet.{NodeSet}
 use Rattle.jsgen_tree.specs.declared.types.NodeSet.TheVariants as sets
 use Rattle.jsgen_tree.specs.declared.statements.VariableDeclarationKind.TheVariants as declaration_kinds
+use Rattle.std.specs.Str.{bytes_eq}
+use Rattle.jsgen_tree.specs.Values.{first_value, other_values}
+use Rattle.jsgen_tree.specs.Tree as atoms
 use Rattle.jsgen_tree.specs.Tree.{Atom, Tree, absent, given, type_of, parenthesized, if_statement, source_kind, declaration_kind, numeric_kind, Whole, binary_operator, logical_operator}
 
 -- a word, and what it stands for
@@ -23,26 +26,64 @@ pub data Sort : Type 0 where
   text : Sort
   units : Sort
   digits : Sort
+  -- a whole number below 2 ^ 32
+  number : Sort
   flag : Sort
   word : List Word → Sort
   child : NodeSet → Sort
   children : NodeSet → Sort
-  -- a field of the format that isn't read yet, and may not be given
-  unread : Sort
+  -- a list with a hole at each null
+  children_or_holes : NodeSet → Sort
+  -- a list, or none where it's absent
+  maybe_children : NodeSet → Sort
+  -- children of types that aren't read yet
+  unread_child : Sort
 
+-- whether a field may be absent, and what stands for it then
+pub data Presence : Type 0 where
+  needed : Presence
+  -- needed where the row's field `kind` is this word
+  needed_for : List ℕ → Presence
+  -- no value, no child or an empty list
+  may_be_absent : Presence
+  -- a value by default
+  by_default : Atom → Presence
+
+-- a field of the format; one that isn't read yet may not be given
 pub record Field : Type 0 where
   pub name : List ℕ
-  pub required : Bool
+  pub presence : Presence
   pub sort : Sort
+  pub is_read : Bool
 
 abbrev pub needs : List ℕ → Sort → Field
-needs n s = record { name = n; required = true; sort = s }
+needs n s = record { name = n; presence = needed; sort = s; is_read = true }
+
+abbrev pub needs_for : List ℕ → List ℕ → Sort → Field
+needs_for kind n s = record { name = n; presence = needed_for kind; sort = s; is_read = true }
 
 abbrev pub may_have : List ℕ → Sort → Field
-may_have n s = record { name = n; required = false; sort = s }
+may_have n s = record { name = n; presence = may_be_absent; sort = s; is_read = true }
 
-abbrev pub not_yet : List ℕ → Field
-not_yet n = record { name = n; required = false; sort = unread }
+abbrev pub has_by_default : Atom → List ℕ → Sort → Field
+has_by_default a n s = record { name = n; presence = by_default a; sort = s; is_read = true }
+
+abbrev pub not_yet : List ℕ → Sort → Field
+not_yet n s = record { name = n; presence = may_be_absent; sort = s; is_read = false }
+
+-- what the node holds where the field is absent
+abbrev pub absent_value : Presence → Atom
+absent_value (by_default a) = a
+absent_value p = atoms.no_value
+
+-- the field holds a value of the node, and no child
+abbrev pub is_value : Sort → Bool
+is_value (child s) = false
+is_value (children s) = false
+is_value (children_or_holes s) = false
+is_value (maybe_children s) = false
+is_value unread_child = false
+is_value s = true
 
 -- ---- words
 
@@ -64,7 +105,7 @@ logical_operator_words = means (codes "||") (logical_operator logical_operators.
 -- ---- fields: one list for each type, in the order of their numbers, from 2 on
 
 abbrev pub program_fields : List Field
-program_fields = may_have (codes "source") text ∷ needs (codes "kind") (word source_kind_words) ∷ not_yet (codes "jsx") ∷ not_yet (codes "typescript") ∷ not_yet (codes "comments") ∷ not_yet (codes "hashbang") ∷ may_have (codes "directives") (children sets.Directive) ∷ may_have (codes "body") (children sets.Statement) ∷ []
+program_fields = has_by_default (atoms.text []) (codes "source") text ∷ needs (codes "kind") (word source_kind_words) ∷ not_yet (codes "jsx") flag ∷ not_yet (codes "typescript") flag ∷ not_yet (codes "comments") unread_child ∷ not_yet (codes "hashbang") unread_child ∷ may_have (codes "directives") (children sets.Directive) ∷ may_have (codes "body") (children sets.Statement) ∷ []
 
 abbrev pub directive_fields : List Field
 directive_fields = needs (codes "directive") text ∷ []
@@ -73,19 +114,19 @@ abbrev pub expression_statement_fields : List Field
 expression_statement_fields = needs (codes "expression") (child sets.Expression) ∷ []
 
 abbrev pub variable_declaration_fields : List Field
-variable_declaration_fields = needs (codes "kind") (word declaration_kind_words) ∷ not_yet (codes "declare") ∷ may_have (codes "declarations") (children sets.VariableDeclarator) ∷ []
+variable_declaration_fields = needs (codes "kind") (word declaration_kind_words) ∷ not_yet (codes "declare") flag ∷ may_have (codes "declarations") (children sets.VariableDeclarator) ∷ []
 
 abbrev pub variable_declarator_fields : List Field
-variable_declarator_fields = needs (codes "id") (child sets.BindingPattern) ∷ not_yet (codes "definite") ∷ not_yet (codes "type_annotation") ∷ may_have (codes "init") (child sets.Expression) ∷ []
+variable_declarator_fields = needs (codes "id") (child sets.BindingPattern) ∷ not_yet (codes "definite") flag ∷ not_yet (codes "type_annotation") unread_child ∷ may_have (codes "init") (child sets.Expression) ∷ []
 
 abbrev pub binding_identifier_fields : List Field
-binding_identifier_fields = needs (codes "name") text ∷ not_yet (codes "symbol") ∷ []
+binding_identifier_fields = needs (codes "name") text ∷ not_yet (codes "symbol") number ∷ []
 
 abbrev pub identifier_reference_fields : List Field
-identifier_reference_fields = needs (codes "name") text ∷ not_yet (codes "reference") ∷ []
+identifier_reference_fields = needs (codes "name") text ∷ not_yet (codes "reference") number ∷ []
 
 abbrev pub numeric_literal_fields : List Field
-numeric_literal_fields = needs (codes "kind") (word numeric_kind_words) ∷ not_yet (codes "negative") ∷ needs (codes "digits") digits ∷ not_yet (codes "text") ∷ []
+numeric_literal_fields = needs (codes "kind") (word numeric_kind_words) ∷ not_yet (codes "negative") flag ∷ needs_for (codes "whole") (codes "digits") digits ∷ not_yet (codes "text") text ∷ []
 
 abbrev pub string_literal_fields : List Field
 string_literal_fields = needs (codes "value") units ∷ []
@@ -103,13 +144,13 @@ abbrev pub identifier_name_fields : List Field
 identifier_name_fields = needs (codes "name") text ∷ []
 
 abbrev pub static_member_expression_fields : List Field
-static_member_expression_fields = needs (codes "object") (child sets.Expression) ∷ not_yet (codes "optional") ∷ needs (codes "property") (child sets.IdentifierName) ∷ []
+static_member_expression_fields = needs (codes "object") (child sets.Expression) ∷ not_yet (codes "optional") flag ∷ needs (codes "property") (child sets.IdentifierName) ∷ []
 
 abbrev pub computed_member_expression_fields : List Field
-computed_member_expression_fields = needs (codes "object") (child sets.Expression) ∷ not_yet (codes "optional") ∷ needs (codes "expression") (child sets.Expression) ∷ []
+computed_member_expression_fields = needs (codes "object") (child sets.Expression) ∷ not_yet (codes "optional") flag ∷ needs (codes "expression") (child sets.Expression) ∷ []
 
 abbrev pub call_expression_fields : List Field
-call_expression_fields = needs (codes "callee") (child sets.Expression) ∷ not_yet (codes "type_arguments") ∷ may_have (codes "arguments") (children sets.Argument) ∷ not_yet (codes "optional") ∷ may_have (codes "pure") flag ∷ []
+call_expression_fields = needs (codes "callee") (child sets.Expression) ∷ not_yet (codes "type_arguments") unread_child ∷ may_have (codes "arguments") (children sets.Argument) ∷ not_yet (codes "optional") flag ∷ has_by_default (atoms.flag false) (codes "pure") flag ∷ []
 
 abbrev pub block_statement_fields : List Field
 block_statement_fields = may_have (codes "body") (children sets.Statement) ∷ []
@@ -188,15 +229,24 @@ in_set sets.IdentifierName t = is_identifier_name t
 in_set sets.Argument t = is_expression t
 in_set sets.Directive t = is_directive t
 
--- the sets of the fields that hold children, in their order
+-- the sets of the fields that are read and hold children, in their order
 abbrev pub child_sets : List Field → List NodeSet
 child_sets [] = []
-child_sets (f ∷ fs) = with_set f.sort (child_sets fs)
+child_sets (f ∷ fs) = if f.is_read then with_set f.sort (child_sets fs) else child_sets fs
   where
     with_set : Sort → List NodeSet → List NodeSet
     with_set (child s) ss = s ∷ ss
     with_set (children s) ss = s ∷ ss
+    with_set (children_or_holes s) ss = s ∷ ss
+    with_set (maybe_children s) ss = s ∷ ss
     with_set other ss = ss
+
+-- the value of the field with this name
+abbrev pub value_named : List ℕ → List Field → List Atom → Atom
+value_named name [] values = atoms.no_value
+value_named name (f ∷ fs) values =
+    if is_value f.sort then (if bytes_eq f.name name then first_value values else value_named name fs (other_values values))
+    else value_named name fs values
 
 -- a statement ends in an `if` without `else`
 abbrev pub ends_open : Tree → Bool

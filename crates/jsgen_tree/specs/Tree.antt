@@ -3,24 +3,25 @@ use Rattle.std.specs.Prelude.{ℕ, List, [], ◌∷◌, Bool, Option, Some, None
 use Rattle.jsgen_syntax.specs.declared.span.Span.{Span}
 use Rattle.jsgen_syntax.specs.declared.span.SourceKind.{SourceKind}
 use Rattle.jsgen_syntax.specs.declared.operator.BinaryOperator.{BinaryOperator}
-use Rattle.jsgen_syntax.specs.declared.operator.BinaryOperator.TheVariants as binary_operators
 use Rattle.jsgen_syntax.specs.declared.operator.LogicalOperator.{LogicalOperator}
-use Rattle.jsgen_syntax.specs.declared.operator.LogicalOperator.TheVariants as logical_operators
 use Rattle.jsgen_tree.specs.declared.types.NodeType.{NodeType}
 use Rattle.jsgen_tree.specs.declared.types.NodeType.TheVariants as types
 use Rattle.jsgen_tree.specs.declared.statements.VariableDeclarationKind.{VariableDeclarationKind}
-use Rattle.jsgen_tree.specs.declared.statements.VariableDeclarationKind.TheVariants as declaration_kinds
 
--- the kind of a number's value
+-- the kind of a number's value: a whole number by its digits, or a number by its text
 pub data NumericKind : Type 0 where
   Whole : NumericKind
+  Raw : NumericKind
 
 -- a value that a node holds itself
 pub data Atom : Type 0 where
+  -- of a field that is absent
+  no_value : Atom
   text : List ℕ → Atom
   -- a string's value, by its units of UTF-16
   units : List ℕ → Atom
   digits : ℕ → Atom
+  number : ℕ → Atom
   source_kind : SourceKind → Atom
   declaration_kind : VariableDeclarationKind → Atom
   numeric_kind : NumericKind → Atom
@@ -28,7 +29,7 @@ pub data Atom : Type 0 where
   logical_operator : LogicalOperator → Atom
   flag : Bool → Atom
 
--- what a node holds beside its children: its span, and its values in the order of its fields
+-- what a node holds beside its children: its span, and one value for each of its fields that is no child, in their order
 pub record Atoms : Type 0 where
   pub span : Span
   pub values : List Atom
@@ -43,6 +44,7 @@ mutual
     one : Tree → Slots → Slots
     maybe : Maybe → Slots → Slots
     many : Trees → Slots → Slots
+    maybe_many : MaybeTrees → Slots → Slots
 
   -- an optional child
   pub data Maybe : Type 0 where
@@ -54,6 +56,11 @@ mutual
     no_trees : Trees
     more : Tree → Trees → Trees
     hole : Trees → Trees
+
+  -- an optional list, which is another thing than an empty one
+  pub data MaybeTrees : Type 0 where
+    no_list : MaybeTrees
+    listed : Trees → MaybeTrees
 
 abbrev pub optional : Option Tree → Maybe
 optional None = absent
@@ -71,38 +78,6 @@ atoms_of (node type a slots) = a
 
 abbrev pub span_of : Tree → Span
 span_of t = (atoms_of t).span
-
--- ---- the values that a node holds; where there is none of the kind, any
-
-abbrev pub text_in : List Atom → List ℕ
-text_in [] = []
-text_in (text t ∷ values) = t
-text_in (a ∷ values) = text_in values
-
-abbrev pub units_in : List Atom → List ℕ
-units_in [] = []
-units_in (units us ∷ values) = us
-units_in (a ∷ values) = units_in values
-
-abbrev pub digits_in : List Atom → ℕ
-digits_in [] = 0
-digits_in (digits n ∷ values) = n
-digits_in (a ∷ values) = digits_in values
-
-abbrev pub declaration_kind_in : List Atom → VariableDeclarationKind
-declaration_kind_in [] = declaration_kinds.Const
-declaration_kind_in (declaration_kind k ∷ values) = k
-declaration_kind_in (a ∷ values) = declaration_kind_in values
-
-abbrev pub operator_in : List Atom → BinaryOperator
-operator_in [] = binary_operators.Addition
-operator_in (binary_operator o ∷ values) = o
-operator_in (a ∷ values) = operator_in values
-
-abbrev pub logical_operator_in : List Atom → LogicalOperator
-logical_operator_in [] = logical_operators.Or
-logical_operator_in (logical_operator o ∷ values) = o
-logical_operator_in (a ∷ values) = logical_operator_in values
 
 -- ---- the rows, as patterns
 

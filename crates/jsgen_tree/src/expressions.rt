@@ -1,4 +1,7 @@
 // Expressions (ECMA-262, clause 13).
+ghost use Rattle.std.specs.Prelude.{IsTrue};
+ghost use Rattle.jsgen_tree.specs.Width.{is_wide};
+
 use crate::nodes::{ExpressionNode, Node};
 use crate::sets::Argument;
 use jsgen_syntax::{BinaryOperator, JsStr, LogicalOperator, Span};
@@ -21,6 +24,7 @@ pub enum NumericValue {
 pub struct NumericLiteral {
     pub span: Span,
     pub value: NumericValue,
+    ghost fits: { IsTrue (is_wide value) },
 }
 
 /// A string by its value.

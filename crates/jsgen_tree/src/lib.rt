@@ -6,6 +6,7 @@
 #![tactic(auto)]
 
 mod expressions;
+mod laws;
 mod nodes;
 mod options;
 mod sets;
@@ -18,6 +19,7 @@ pub use expressions::{
     IdentifierReference, LogicalExpression, NumericLiteral, NumericValue, ParenthesizedExpression,
     StaticMemberExpression, StringLiteral,
 };
+pub use laws::fields_are_named;
 pub use nodes::{BindingPatternNode, DeclarationNode, ExpressionNode, Node, StatementNode};
 pub use options::{CodegenOptions, CommentOptions, LegalComment};
 pub use sets::{Argument, BindingPattern, Declaration, Expression, Statement};

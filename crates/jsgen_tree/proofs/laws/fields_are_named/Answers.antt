@@ -1,0 +1,17 @@
+use Rattle.std.proofs.Common.{refl}
+use Rattle.jsgen_tree.proofs.laws.fields_are_named.Goals as goal
+
+pub returns : goal.returns
+returns c = record {
+  program = λ a. (refl, refl);
+  directive = λ a. refl;
+  variable_declaration = λ a. refl;
+  binding_identifier = λ a. refl;
+  identifier_reference = λ a. refl;
+  identifier_name = λ a. refl;
+  numeric_literal = λ a. (refl, refl, refl);
+  string_literal = λ a. refl;
+  binary_expression = λ a. refl;
+  logical_expression = λ a. refl;
+  call_expression = λ a. refl;
+}

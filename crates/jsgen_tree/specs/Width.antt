@@ -1,0 +1,8 @@
+-- How wide the numbers of a tree are.
+use Rattle.std.specs.Prelude.{◌^◌, Bool, nat_lt}
+use Rattle.jsgen_tree.specs.declared.expressions.NumericValue.{NumericValue}
+use Rattle.jsgen_tree.specs.declared.expressions.NumericValue.TheVariants as numeric
+
+-- its digits are a number of 128 bits
+abbrev pub is_wide : NumericValue → Bool
+is_wide (numeric.Whole n) = nat_lt n (2 ^ 128)
