@@ -8,13 +8,13 @@ use Rattle.jsgen_syntax.specs.declared.operator.BinaryOperator.{BinaryOperator}
 use Rattle.jsgen_syntax.specs.declared.operator.BinaryOperator.TheVariants as operators
 use Rattle.jsgen_syntax.specs.declared.operator.LogicalOperator.TheVariants.{Or, And, Coalesce}
 use Rattle.jsgen_tree.specs.declared.statements.VariableDeclarationKind.TheVariants.{Const}
-use Rattle.jsgen_tree.specs.Tree.{Tree, Maybe, absent, given, Trees, no_trees, more, Atoms, text, units, declaration_kind, binary_operator, logical_operator}
-use Rattle.jsgen_tree.specs.Table.{ends_open}
+use Rattle.jsgen_syntax.specs.Name.{is_free_name}
+use Rattle.jsgen_tree.specs.Tree.{Tree, Maybe, absent, given, Trees, no_trees, more, units, binary_operator, logical_operator}
+use Rattle.jsgen_tree.specs.Values.{bare}
 use Rattle.jsgen_tree.specs.Tree as tree
 use Rattle.jsgen_model.specs.Punctuator.{plus, minus, star, slash, percent, star_star, equal_equal, not_equal, equal_equal_equal, not_equal_equal, less, less_equal, greater, greater_equal, shift_left, shift_right, shift_right_zero, bit_and, bit_or, bit_xor, and_and, or_or, nullish, dot, comma, semicolon, equal, Round, Square, Brace}
 use Rattle.jsgen_model.specs.Tokens.{Piece, Tokens, done, piece, group, ◌⧺◌, Word, Number, Quoted, Sign}
-use Rattle.jsgen_model.specs.Valid.{is_free_name, is_lexical}
-use Rattle.jsgen_model.specs.Normal.{bare}
+use Rattle.jsgen_model.specs.Normal.{nothing_of, named, unnumbered, by_text, declared_as}
 
 -- what may stand: the operator `in`, and the operand or statement of each other word (5.1.5, grammatical parameters)
 pub record Allowed : Type 0 where
@@ -110,10 +110,6 @@ abbrev pub may_stand : Allowed → BinaryOperator → Bool
 may_stand allowed operators.In = allowed.in_operator
 may_stand allowed o = true
 
--- what the tree holds, which is read from no source
-abbrev pub named : List ℕ → Atoms
-named w = bare (text w ∷ [])
-
 abbrev pub is_word : List ℕ → Tokens → Bool
 is_word w (piece mark (Word x) ts) = bytes_eq x w
 is_word w ts = false
@@ -142,6 +138,17 @@ starts_statement (piece mark p ts) = true
 starts_statement (group mark Brace inside ts) = false
 starts_statement (group mark b inside ts) = true
 
+-- The first statement is one string in `'` or `"`: a directive (11.2.1)
+abbrev pub starts_with_directive : Tokens → Bool
+starts_with_directive (piece mark (Quoted q w) done) = not (is_backtick q)
+starts_with_directive (piece mark (Quoted q w) (piece next (Sign semicolon) ts)) = not (is_backtick q)
+starts_with_directive ts = false
+
+-- a semicolon ends the tokens, or is omitted as the last of a brace group (12.10)
+pub data EndsBy : Bool → Tokens → Tokens → Type 0 where
+  a_semicolon : {last : Bool} {ts a : Tokens} (mark : Bool) → ts ≡ a ⧺ piece mark (Sign semicolon) done → EndsBy last ts a
+  the_brace : {ts : Tokens} → EndsBy true ts ts
+
 mutual
   -- ---- expressions (clause 13)
   pub data ReadsExpression : Allowed → Level → Tokens → Tree → Type 0 where
@@ -168,11 +175,11 @@ mutual
     a_primary : {c : Allowed} {ts : Tokens} {t : Tree} → ReadsExpression c Primary ts t → ReadsExpression c Member ts t
     a_called_member : {c : Allowed} {ts : Tokens} {t : Tree} → ReadsExpression c Member ts t → ReadsExpression c Callee ts t
     a_called_call : {c : Allowed} {ts : Tokens} {t : Tree} → ReadsExpression c Call ts t → ReadsExpression c Callee ts t
-    a_named_member : {c : Allowed} {ts a : Tokens} {o : Tree} {v : List ℕ} (w : List ℕ) (mark next : Bool) → ts ≡ a ⧺ piece mark (Sign dot) (piece next (Word w) done) → word_value w ≡ Some v → ReadsExpression c Member a o → ReadsExpression c Member ts (tree.static_member (bare []) o (tree.identifier_name (named v)))
-    a_computed_member : {c : Allowed} {ts a inside : Tokens} {o e : Tree} (mark : Bool) → ts ≡ a ⧺ group mark Square inside done → ReadsExpression c Member a o → ReadsExpression (with_in c) Expression inside e → ReadsExpression c Member ts (tree.computed_member (bare []) o e)
-    with_arguments : {c : Allowed} {ts a inside : Tokens} {f : Tree} {es : Trees} (mark : Bool) → ts ≡ a ⧺ group mark Round inside done → ReadsExpression c Callee a f → ReadsArguments (with_in c) inside es → ReadsExpression c Call ts (tree.call (bare []) f es)
-    a_named_member_of_call : {c : Allowed} {ts a : Tokens} {o : Tree} {v : List ℕ} (w : List ℕ) (mark next : Bool) → ts ≡ a ⧺ piece mark (Sign dot) (piece next (Word w) done) → word_value w ≡ Some v → ReadsExpression c Call a o → ReadsExpression c Call ts (tree.static_member (bare []) o (tree.identifier_name (named v)))
-    a_computed_member_of_call : {c : Allowed} {ts a inside : Tokens} {o e : Tree} (mark : Bool) → ts ≡ a ⧺ group mark Square inside done → ReadsExpression c Call a o → ReadsExpression (with_in c) Expression inside e → ReadsExpression c Call ts (tree.computed_member (bare []) o e)
+    a_named_member : {c : Allowed} {ts a : Tokens} {o : Tree} {v : List ℕ} (w : List ℕ) (mark next : Bool) → ts ≡ a ⧺ piece mark (Sign dot) (piece next (Word w) done) → word_value w ≡ Some v → ReadsExpression c Member a o → ReadsExpression c Member ts (tree.static_member (nothing_of 1) o (tree.identifier_name (named v)))
+    a_computed_member : {c : Allowed} {ts a inside : Tokens} {o e : Tree} (mark : Bool) → ts ≡ a ⧺ group mark Square inside done → ReadsExpression c Member a o → ReadsExpression (with_in c) Expression inside e → ReadsExpression c Member ts (tree.computed_member (nothing_of 1) o e)
+    with_arguments : {c : Allowed} {ts a inside : Tokens} {f : Tree} {es : Trees} (mark : Bool) → ts ≡ a ⧺ group mark Round inside done → ReadsExpression c Callee a f → ReadsArguments (with_in c) inside es → ReadsExpression c Call ts (tree.call (nothing_of 2) f es)
+    a_named_member_of_call : {c : Allowed} {ts a : Tokens} {o : Tree} {v : List ℕ} (w : List ℕ) (mark next : Bool) → ts ≡ a ⧺ piece mark (Sign dot) (piece next (Word w) done) → word_value w ≡ Some v → ReadsExpression c Call a o → ReadsExpression c Call ts (tree.static_member (nothing_of 1) o (tree.identifier_name (named v)))
+    a_computed_member_of_call : {c : Allowed} {ts a inside : Tokens} {o e : Tree} (mark : Bool) → ts ≡ a ⧺ group mark Square inside done → ReadsExpression c Call a o → ReadsExpression (with_in c) Expression inside e → ReadsExpression c Call ts (tree.computed_member (nothing_of 1) o e)
     an_operation : {c : Allowed} {ts a b : Tokens} {l r : Tree} (o : BinaryOperator) (mark : Bool) → is_power o ≡ false → may_stand c o ≡ true → ts ≡ a ⧺ piece mark (operator_piece o) b → ReadsExpression c (operation_level o) a l → ReadsExpression c (next_level (operation_level o)) b r → ReadsExpression c (operation_level o) ts (tree.binary (bare (binary_operator o ∷ [])) l r)
     a_power : {c : Allowed} {ts a b : Tokens} {l r : Tree} (mark : Bool) → ts ≡ a ⧺ piece mark (Sign star_star) b → ReadsExpression c Update a l → ReadsExpression c Exponent b r → ReadsExpression c Exponent ts (tree.binary (bare (binary_operator operators.Exponential ∷ [])) l r)
     a_conjunction : {c : Allowed} {ts a b : Tokens} {l r : Tree} (mark : Bool) → ts ≡ a ⧺ piece mark (Sign and_and) b → ReadsExpression c LogicalAnd a l → ReadsExpression c BitOr b r → ReadsExpression c LogicalAnd ts (tree.logical (bare (logical_operator And ∷ [])) l r)
@@ -181,10 +188,10 @@ mutual
     a_coalescing : {c : Allowed} {ts a b : Tokens} {l r : Tree} (mark : Bool) → ts ≡ a ⧺ piece mark (Sign nullish) b → ReadsExpression c CoalesceHead a l → ReadsExpression c BitOr b r → ReadsExpression c Coalesced ts (tree.logical (bare (logical_operator Coalesce ∷ [])) l r)
     a_coalesced_head : {c : Allowed} {ts : Tokens} {t : Tree} → ReadsExpression c Coalesced ts t → ReadsExpression c CoalesceHead ts t
     a_bit_or_head : {c : Allowed} {ts : Tokens} {t : Tree} → ReadsExpression c BitOr ts t → ReadsExpression c CoalesceHead ts t
-    a_reference : {c : Allowed} {mark : Bool} {w v : List ℕ} → word_value w ≡ Some v → is_free_name v ≡ true → ReadsExpression c Primary (piece mark (Word w) done) (tree.identifier_reference (named v))
-    a_number : {c : Allowed} {mark : Bool} {w : List ℕ} → ReadsExpression c Primary (piece mark (Number w) done) (tree.numeric_literal (bare (text w ∷ [])))
+    a_reference : {c : Allowed} {mark : Bool} {w v : List ℕ} → word_value w ≡ Some v → is_free_name v ≡ true → ReadsExpression c Primary (piece mark (Word w) done) (tree.identifier_reference (unnumbered v))
+    a_number : {c : Allowed} {mark : Bool} {w : List ℕ} → ReadsExpression c Primary (piece mark (Number w) done) (tree.numeric_literal (by_text w))
     a_string : {c : Allowed} {mark : Bool} {q : Quote} {w us : List ℕ} → string_value q w ≡ Some us → ReadsExpression c Primary (piece mark (Quoted q w) done) (tree.string_literal (bare (units us ∷ [])))
-    in_parentheses : {c : Allowed} {mark : Bool} {ts : Tokens} {t : Tree} → ReadsExpression (with_in c) Expression ts t → ReadsExpression c Primary (group mark Round ts done) (tree.parenthesized (bare []) t)
+    in_parentheses : {c : Allowed} {mark : Bool} {ts : Tokens} {t : Tree} → ReadsExpression (with_in c) Expression ts t → ReadsExpression c Primary (group mark Round ts done) (tree.parenthesized (nothing_of 0) t)
 
   -- between the parentheses of a call (13.3); a comma may end the list
   pub data ReadsArguments : Allowed → Tokens → Trees → Type 0 where
@@ -199,54 +206,46 @@ mutual
   -- ---- bindings and declarations (14.3)
 
   pub data ReadsBinding : Allowed → Tokens → Tree → Type 0 where
-    a_bound_name : {c : Allowed} {mark : Bool} {w v : List ℕ} → word_value w ≡ Some v → is_free_name v ≡ true → ReadsBinding c (piece mark (Word w) done) (tree.binding_identifier (named v))
+    a_bound_name : {c : Allowed} {mark : Bool} {w v : List ℕ} → word_value w ≡ Some v → is_free_name v ≡ true → ReadsBinding c (piece mark (Word w) done) (tree.binding_identifier (unnumbered v))
 
   pub data ReadsDeclarator : Allowed → Tokens → Tree → Type 0 where
-    without_value : {c : Allowed} {ts : Tokens} {b : Tree} → ReadsBinding c ts b → ReadsDeclarator c ts (tree.variable_declarator (bare []) b absent)
-    with_value : {c : Allowed} {ts a v : Tokens} {b e : Tree} (mark : Bool) → ts ≡ a ⧺ piece mark (Sign equal) v → ReadsBinding c a b → ReadsExpression c Assignment v e → ReadsDeclarator c ts (tree.variable_declarator (bare []) b (given e))
+    without_value : {c : Allowed} {ts : Tokens} {b : Tree} → ReadsBinding c ts b → ReadsDeclarator c ts (tree.variable_declarator (nothing_of 1) b absent)
+    with_value : {c : Allowed} {ts a v : Tokens} {b e : Tree} (mark : Bool) → ts ≡ a ⧺ piece mark (Sign equal) v → ReadsBinding c a b → ReadsExpression c Assignment v e → ReadsDeclarator c ts (tree.variable_declarator (nothing_of 1) b (given e))
 
   pub data ReadsDeclarators : Allowed → Tokens → Trees → Type 0 where
     last_declarator : {c : Allowed} {ts : Tokens} {d : Tree} → ReadsDeclarator c ts d → ReadsDeclarators c ts (more d no_trees)
     first_declarator : {c : Allowed} {ts a b : Tokens} {d : Tree} {ds : Trees} (mark : Bool) → ts ≡ a ⧺ piece mark (Sign comma) b → ReadsDeclarator c a d → ReadsDeclarators c b ds → ReadsDeclarators c ts (more d ds)
 
   pub data ReadsDeclaration : Allowed → Tokens → Tree → Type 0 where
-    a_const : {c : Allowed} {mark : Bool} {ts : Tokens} {ds : Trees} → ReadsDeclarators c ts ds → ReadsDeclaration c (piece mark (Word (codes "const")) ts) (tree.variable_declaration (bare (declaration_kind Const ∷ [])) ds)
+    a_const : {c : Allowed} {mark : Bool} {ts : Tokens} {ds : Trees} → ReadsDeclarators c ts ds → ReadsDeclaration c (piece mark (Word (codes "const")) ts) (tree.variable_declaration (declared_as Const) ds)
 
   -- ---- statements (clause 14)
 
-  -- what is a statement once a semicolon ends it
-  pub data ReadsUnended : Allowed → Tokens → Tree → Type 0 where
-    a_declaration : {c : Allowed} {ts : Tokens} {d : Tree} → ReadsDeclaration (with_in c) ts d → ReadsUnended c ts d
-    an_expression : {c : Allowed} {ts : Tokens} {e : Tree} → starts_statement ts ≡ true → ReadsExpression (with_in c) Expression ts e → ReadsUnended c ts (tree.expression_statement (bare []) e)
+  -- A statement, which is no declaration. The first flag tells that its tokens are the last of a brace group, where alone a
+  -- semicolon may be omitted (12.10). The second tells that `else` follows, so that it can't end in an `if` without `else` (14.6).
+  pub data ReadsStatement : Allowed → Bool → Bool → Tokens → Tree → Type 0 where
+    an_expression_statement : {c : Allowed} {last before_else : Bool} {ts a : Tokens} {e : Tree} → EndsBy last ts a → starts_statement a ≡ true → ReadsExpression (with_in c) Expression a e → ReadsStatement c last before_else ts (tree.expression_statement (nothing_of 0) e)
+    an_empty_statement : {c : Allowed} {last before_else mark : Bool} → ReadsStatement c last before_else (piece mark (Sign semicolon) done) (tree.empty_statement (nothing_of 0))
+    a_block : {c : Allowed} {last before_else mark : Bool} {inside : Tokens} {body : Trees} → ReadsStatements c true inside body → ReadsStatement c last before_else (group mark Brace inside done) (tree.block (nothing_of 0) body)
+    an_if : {c : Allowed} {last mark next : Bool} {test ts : Tokens} {t s : Tree} → ReadsExpression (with_in c) Expression test t → ReadsStatement c last false ts s → ReadsStatement c last false (piece mark (Word (codes "if")) (group next Round test ts)) (tree.if_statement (nothing_of 0) t s absent)
+    an_if_with_else : {c : Allowed} {last before_else mark next : Bool} {test ts a b : Tokens} {t s u : Tree} (k : Bool) → ts ≡ a ⧺ piece k (Word (codes "else")) b → ReadsExpression (with_in c) Expression test t → ReadsStatement c false true a s → ReadsStatement c last before_else b u → ReadsStatement c last before_else (piece mark (Word (codes "if")) (group next Round test ts)) (tree.if_statement (nothing_of 0) t s (given u))
 
-  -- The flag tells that the tokens are the last of a brace group: there alone may the semicolon lack (12.10).
-  pub data ReadsStatement : Allowed → Bool → Tokens → Tree → Type 0 where
-    ended : {c : Allowed} {last : Bool} {ts a : Tokens} {s : Tree} (mark : Bool) → ts ≡ a ⧺ piece mark (Sign semicolon) done → ReadsUnended c a s → ReadsStatement c last ts s
-    an_empty_statement : {c : Allowed} {last mark : Bool} → ReadsStatement c last (piece mark (Sign semicolon) done) (tree.empty_statement (bare []))
-    a_block : {c : Allowed} {last mark : Bool} {inside : Tokens} {body : Trees} → ReadsStatements c true inside body → ReadsStatement c last (group mark Brace inside done) (tree.block (bare []) body)
-    -- what follows is a statement, and no lexical declaration (14.6)
-    an_if : {c : Allowed} {last mark next : Bool} {test ts : Tokens} {t s : Tree} → ReadsExpression (with_in c) Expression test t → ReadsStatement c last ts s → is_lexical s ≡ false → ReadsStatement c last (piece mark (Word (codes "if")) (group next Round test ts)) (tree.if_statement (bare []) t s absent)
-    -- `else` goes with the last `if` that has none (14.6)
-    an_if_with_else : {c : Allowed} {last mark next : Bool} {test ts a b : Tokens} {t s u : Tree} (k : Bool) → ts ≡ a ⧺ piece k (Word (codes "else")) b → ReadsExpression (with_in c) Expression test t → ReadsStatement c false a s → is_lexical s ≡ false → ends_open s ≡ false → ReadsStatement c last b u → is_lexical u ≡ false → ReadsStatement c last (piece mark (Word (codes "if")) (group next Round test ts)) (tree.if_statement (bare []) t s (given u))
-    ended_by_brace : {c : Allowed} {ts : Tokens} {s : Tree} → ReadsUnended c ts s → ReadsStatement c true ts s
+  -- what stands in a list of statements: a statement or a declaration (14.2)
+  pub data ReadsItem : Allowed → Bool → Tokens → Tree → Type 0 where
+    a_statement : {c : Allowed} {last : Bool} {ts : Tokens} {s : Tree} → ReadsStatement c last false ts s → ReadsItem c last ts s
+    a_declaration : {c : Allowed} {last : Bool} {ts a : Tokens} {d : Tree} → EndsBy last ts a → ReadsDeclaration (with_in c) a d → ReadsItem c last ts d
 
   pub data ReadsStatements : Allowed → Bool → Tokens → Trees → Type 0 where
     no_statement : {c : Allowed} {last : Bool} → ReadsStatements c last done no_trees
-    last_statement : {c : Allowed} {last : Bool} {ts : Tokens} {s : Tree} → ReadsStatement c last ts s → ReadsStatements c last ts (more s no_trees)
-    first_statement : {c : Allowed} {last : Bool} {ts a b : Tokens} {s : Tree} {ss : Trees} → ts ≡ a ⧺ b → ReadsStatement c false a s → ReadsStatements c last b ss → ReadsStatements c last ts (more s ss)
+    last_statement : {c : Allowed} {last : Bool} {ts : Tokens} {s : Tree} → ReadsItem c last ts s → ReadsStatements c last ts (more s no_trees)
+    first_statement : {c : Allowed} {last : Bool} {ts a b : Tokens} {s : Tree} {ss : Trees} → ts ≡ a ⧺ b → ReadsItem c false a s → ReadsStatements c last b ss → ReadsStatements c last ts (more s ss)
 
--- ---- modules (16.2)
+  -- ---- bodies, of modules (16.2) and of functions (15.2): as many directives as stand there (11.2.1), and statements
 
--- The first statement is one string in `'` or `"`: a directive (11.2.1)
-abbrev pub starts_with_directive : Tokens → Bool
-starts_with_directive (piece mark (Quoted q w) done) = not (is_backtick q)
-starts_with_directive (piece mark (Quoted q w) (piece next (Sign semicolon) ts)) = not (is_backtick q)
-starts_with_directive ts = false
+  pub data ReadsBody : Allowed → Bool → Tokens → Trees → Trees → Type 0 where
+    a_directive : {c : Allowed} {last mark next : Bool} {q : Quote} {w us : List ℕ} {ts : Tokens} {ds ss : Trees} → is_backtick q ≡ false → string_value q w ≡ Some us → ReadsBody c last ts ds ss → ReadsBody c last (piece mark (Quoted q w) (piece next (Sign semicolon) ts)) (more (tree.directive (bare (units us ∷ []))) ds) ss
+    a_last_directive : {c : Allowed} {mark : Bool} {q : Quote} {w us : List ℕ} → is_backtick q ≡ false → string_value q w ≡ Some us → ReadsBody c true (piece mark (Quoted q w) done) (more (tree.directive (bare (units us ∷ []))) no_trees) no_trees
+    statements : {c : Allowed} {last : Bool} {ts : Tokens} {ss : Trees} → starts_with_directive ts ≡ false → ReadsStatements c last ts ss → ReadsBody c last ts no_trees ss
 
-pub data ReadsDirectives : Tokens → Trees → Type 0 where
-  no_directive : ReadsDirectives done no_trees
-  a_directive : {mark next : Bool} {q : Quote} {w us : List ℕ} {ts : Tokens} {ds : Trees} → is_backtick q ≡ false → string_value q w ≡ Some us → ReadsDirectives ts ds → ReadsDirectives (piece mark (Quoted q w) (piece next (Sign semicolon) ts)) (more (tree.directive (bare (units us ∷ []))) ds)
-
--- as many directives as stand there, and statements
 pub data ReadsModule : Tokens → Tree → Type 0 where
-  a_module : {ts a b : Tokens} {directives body : Trees} → ts ≡ a ⧺ b → ReadsDirectives a directives → starts_with_directive b ≡ false → ReadsStatements in_module false b body → ReadsModule ts (tree.program (bare []) directives body)
+  a_module : {ts : Tokens} {directives body : Trees} → ReadsBody in_module false ts directives body → ReadsModule ts (tree.program (nothing_of 4) directives body)

@@ -1,34 +1,49 @@
 -- What two trees of one meaning have in common.
 use Rattle.std.specs.Prelude.{ℕ, List, [], ◌∷◌, Bool, true, false, Option, Some, None, decimal, if◌then◌else◌}
-use Rattle.jsgen_tree.specs.Tree.{Tree, node, Slots, no_slots, one, maybe, many, Maybe, absent, given, Trees, no_trees, more, hole, Atom, Atoms, text, units, digits, declaration_kind, binary_operator, logical_operator, text_in, units_in, declaration_kind_in, operator_in, logical_operator_in}
+use Rattle.jsgen_tree.specs.Tree.{Tree, node, Slots, no_slots, one, maybe, many, maybe_many, Maybe, absent, given, Trees, no_trees, more, hole, MaybeTrees, no_list, listed, Atom, Atoms, NumericKind, Whole, Raw, no_value, text, units, numeric_kind, declaration_kind, binary_operator, logical_operator}
 use Rattle.jsgen_tree.specs.declared.types.NodeType.TheVariants as types
+use Rattle.jsgen_tree.specs.Values.{bare, absent_values, directive_directive, variable_declaration_kind, binding_identifier_name, identifier_reference_name, identifier_name_name, numeric_literal_kind, numeric_literal_digits, numeric_literal_text, string_literal_value, binary_expression_operator, logical_expression_operator}
 use Rattle.jsgen_syntax.specs.Raw.{directive_value}
 use Rattle.jsgen_syntax.specs.declared.operator.LogicalOperator.{LogicalOperator}
 use Rattle.jsgen_syntax.specs.declared.operator.LogicalOperator.TheVariants.{Or, And, Coalesce}
+use Rattle.jsgen_tree.specs.declared.statements.VariableDeclarationKind.{VariableDeclarationKind}
 use Rattle.jsgen_tree.specs.Table.{ends_open}
 use Rattle.jsgen_tree.specs.Tree as tree
 
--- values that stand nowhere in a source
-abbrev pub bare : List Atom → Atoms
-bare values = record { span = record { start = 0; end = 0 }; values = values }
+-- ---- what a normal form holds: one value for each field, and none of a field that doesn't count
 
--- a number by its text: a whole one by its digits
-abbrev pub number_text : List Atom → List ℕ
-number_text [] = []
-number_text (text t ∷ values) = t
-number_text (digits n ∷ values) = decimal n
-number_text (a ∷ values) = number_text values
+-- of a row none of whose n fields counts
+abbrev pub nothing_of : ℕ → Atoms
+nothing_of n = bare (absent_values n)
+
+-- a name by itself
+abbrev pub named : List ℕ → Atoms
+named name = bare (text name ∷ [])
+
+-- a name without the number by which a table knows it
+abbrev pub unnumbered : List ℕ → Atoms
+unnumbered name = bare (text name ∷ no_value ∷ [])
+
+-- a number by its text
+abbrev pub by_text : List ℕ → Atoms
+by_text w = bare (numeric_kind Raw ∷ no_value ∷ no_value ∷ text w ∷ [])
+
+abbrev pub declared_as : VariableDeclarationKind → Atoms
+declared_as kind = bare (declaration_kind kind ∷ no_value ∷ [])
+
+abbrev pub number_text : NumericKind → Atoms → List ℕ
+number_text Whole a = decimal (numeric_literal_digits a)
+number_text Raw a = numeric_literal_text a
 
 abbrev pub or_none : Option (List ℕ) → List ℕ
 or_none None = []
 or_none (Some us) = us
 
 -- a directive by its value, which raw text stands for
-abbrev pub directive_units : List Atom → List ℕ
-directive_units [] = []
-directive_units (units us ∷ values) = us
-directive_units (text raw ∷ values) = or_none (directive_value raw)
-directive_units (a ∷ values) = directive_units values
+abbrev pub directive_units : Atom → List ℕ
+directive_units (units us) = us
+directive_units (text raw) = or_none (directive_value raw)
+directive_units v = []
 
 -- ---- chains of one logical operator
 
@@ -49,7 +64,7 @@ joined (hole ts) us = hole (joined ts us)
 
 -- what an operand adds to a chain: a chain of the same operator adds its own operands
 abbrev pub links : LogicalOperator → Tree → Trees
-links o (chain a operands) = if same_operator o (logical_operator_in a.values) then operands else more (chain a operands) no_trees
+links o (chain a operands) = if same_operator o (logical_expression_operator a) then operands else more (chain a operands) no_trees
 links o t = more t no_trees
 
 -- a block round one statement that ends in an `if` without `else`, where such a statement couldn't stand by itself
@@ -57,30 +72,30 @@ abbrev pub unbraced : Tree → Tree
 unbraced (tree.block a (more s no_trees)) = if ends_open s then s else tree.block a (more s no_trees)
 unbraced t = t
 
--- Parentheses, spans, the source and the kind of a program are away, a directive is its value, and whether a call is pure; a whole number is its
--- digits; a chain of one logical operator is one list, however it was grouped; braces round a consequent that ends in
--- an `if` without `else` are away.
+-- Parentheses, spans, the source and the kind of a program are away, and whether a call is pure; a directive is its value; a
+-- whole number is its digits; a chain of one logical operator is one list, however it was grouped; braces round a consequent
+-- that ends in an `if` without `else` are away.
 abbrev mutual
   pub normal : Tree → Tree
-  normal (tree.program a directives body) = tree.program (bare []) (normal_trees directives) (normal_trees body)
-  normal (tree.directive a) = tree.directive (bare (units (directive_units a.values) ∷ []))
-  normal (tree.expression_statement a expression) = tree.expression_statement (bare []) (normal expression)
-  normal (tree.variable_declaration a declarations) = tree.variable_declaration (bare (declaration_kind (declaration_kind_in a.values) ∷ [])) (normal_trees declarations)
-  normal (tree.variable_declarator a id init) = tree.variable_declarator (bare []) (normal id) (normal_maybe init)
-  normal (tree.binding_identifier a) = tree.binding_identifier (bare (text (text_in a.values) ∷ []))
-  normal (tree.identifier_reference a) = tree.identifier_reference (bare (text (text_in a.values) ∷ []))
-  normal (tree.numeric_literal a) = tree.numeric_literal (bare (text (number_text a.values) ∷ []))
-  normal (tree.string_literal a) = tree.string_literal (bare (units (units_in a.values) ∷ []))
+  normal (tree.program a directives body) = tree.program (nothing_of 4) (normal_trees directives) (normal_trees body)
+  normal (tree.directive a) = tree.directive (bare (units (directive_units (directive_directive a)) ∷ []))
+  normal (tree.expression_statement a expression) = tree.expression_statement (nothing_of 0) (normal expression)
+  normal (tree.variable_declaration a declarations) = tree.variable_declaration (declared_as (variable_declaration_kind a)) (normal_trees declarations)
+  normal (tree.variable_declarator a id init) = tree.variable_declarator (nothing_of 1) (normal id) (normal_maybe init)
+  normal (tree.binding_identifier a) = tree.binding_identifier (unnumbered (binding_identifier_name a))
+  normal (tree.identifier_reference a) = tree.identifier_reference (unnumbered (identifier_reference_name a))
+  normal (tree.numeric_literal a) = tree.numeric_literal (by_text (number_text (numeric_literal_kind a) a))
+  normal (tree.string_literal a) = tree.string_literal (bare (units (string_literal_value a) ∷ []))
   normal (tree.parenthesized a expression) = normal expression
-  normal (tree.binary a left right) = tree.binary (bare (binary_operator (operator_in a.values) ∷ [])) (normal left) (normal right)
-  normal (tree.logical a left right) = chain (bare (logical_operator (logical_operator_in a.values) ∷ [])) (joined (links (logical_operator_in a.values) (normal left)) (links (logical_operator_in a.values) (normal right)))
-  normal (tree.block a body) = tree.block (bare []) (normal_trees body)
-  normal (tree.if_statement a test consequent alternate) = tree.if_statement (bare []) (normal test) (unbraced (normal consequent)) (normal_maybe alternate)
-  normal (tree.empty_statement a) = tree.empty_statement (bare [])
-  normal (tree.identifier_name a) = tree.identifier_name (bare (text (text_in a.values) ∷ []))
-  normal (tree.static_member a object property) = tree.static_member (bare []) (normal object) (normal property)
-  normal (tree.computed_member a object expression) = tree.computed_member (bare []) (normal object) (normal expression)
-  normal (tree.call a callee arguments) = tree.call (bare []) (normal callee) (normal_trees arguments)
+  normal (tree.binary a left right) = tree.binary (bare (binary_operator (binary_expression_operator a) ∷ [])) (normal left) (normal right)
+  normal (tree.logical a left right) = chain (bare (logical_operator (logical_expression_operator a) ∷ [])) (joined (links (logical_expression_operator a) (normal left)) (links (logical_expression_operator a) (normal right)))
+  normal (tree.block a body) = tree.block (nothing_of 0) (normal_trees body)
+  normal (tree.if_statement a test consequent alternate) = tree.if_statement (nothing_of 0) (normal test) (unbraced (normal consequent)) (normal_maybe alternate)
+  normal (tree.empty_statement a) = tree.empty_statement (nothing_of 0)
+  normal (tree.identifier_name a) = tree.identifier_name (named (identifier_name_name a))
+  normal (tree.static_member a object property) = tree.static_member (nothing_of 1) (normal object) (normal property)
+  normal (tree.computed_member a object expression) = tree.computed_member (nothing_of 1) (normal object) (normal expression)
+  normal (tree.call a callee arguments) = tree.call (nothing_of 2) (normal callee) (normal_trees arguments)
   normal (node type a slots) = node type (bare a.values) (normal_slots slots)
 
   pub normal_slots : Slots → Slots
@@ -88,6 +103,7 @@ abbrev mutual
   normal_slots (one t slots) = one (normal t) (normal_slots slots)
   normal_slots (maybe m slots) = maybe (normal_maybe m) (normal_slots slots)
   normal_slots (many ts slots) = many (normal_trees ts) (normal_slots slots)
+  normal_slots (maybe_many ts slots) = maybe_many (normal_maybe_trees ts) (normal_slots slots)
 
   pub normal_maybe : Maybe → Maybe
   normal_maybe absent = absent
@@ -97,3 +113,7 @@ abbrev mutual
   normal_trees no_trees = no_trees
   normal_trees (more t ts) = more (normal t) (normal_trees ts)
   normal_trees (hole ts) = hole (normal_trees ts)
+
+  pub normal_maybe_trees : MaybeTrees → MaybeTrees
+  normal_maybe_trees no_list = no_list
+  normal_maybe_trees (listed ts) = listed (normal_trees ts)

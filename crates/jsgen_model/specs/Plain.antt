@@ -1,62 +1,70 @@
 -- The trees of which a reading is promised.
-use Rattle.std.specs.Prelude.{◌≡◌, ◌^◌, List, [], ◌∷◌, Bool, true, false, nat_lt, ⊤}
+use Rattle.std.specs.Prelude.{◌≡◌, ◌^◌, ◌&&◌, ◌⊎◌, Bool, true, false, not, nat_lt}
 use Rattle.jsgen_syntax.specs.Wtf8.{are_units}
+use Rattle.jsgen_syntax.specs.declared.span.SourceKind.{SourceKind}
 use Rattle.jsgen_syntax.specs.declared.span.SourceKind.TheVariants as source_kinds
-use Rattle.jsgen_tree.specs.Tree.{Tree, Maybe, absent, given, Trees, no_trees, more, hole, Atom, text, source_kind, numeric_kind, Whole, digits, units_in}
+use Rattle.jsgen_tree.specs.Tree.{Tree, Trees, no_trees, more, hole, Atom, Atoms, text, NumericKind, Whole, Raw}
 use Rattle.jsgen_tree.specs.Tree as tree
+use Rattle.jsgen_tree.specs.Values.{program_kind, directive_directive, numeric_literal_kind, numeric_literal_digits, string_literal_value, call_expression_pure}
+use Rattle.jsgen_tree.specs.Everywhere.{Everywhere}
+use Rattle.jsgen_tree.specs.Options.{Comments, is_none}
+use Rattle.jsgen_tree.specs.Job.{JobData}
 
--- the values name the kind module
-abbrev pub is_module : List Atom → Bool
-is_module [] = false
-is_module (source_kind source_kinds.Module ∷ values) = true
-is_module (a ∷ values) = is_module values
+abbrev pub is_module : SourceKind → Bool
+is_module source_kinds.Module = true
 
--- the values are a whole number of 128 bits
-abbrev pub is_whole : List Atom → Bool
-is_whole (numeric_kind Whole ∷ digits n ∷ []) = nat_lt n (2 ^ 128)
-is_whole values = false
+-- a whole number of 128 bits
+abbrev pub is_whole : NumericKind → Atoms → Bool
+is_whole Whole a = nat_lt (numeric_literal_digits a) (2 ^ 128)
+is_whole Raw a = false
 
--- the values are a directive's raw text
-abbrev pub is_raw : List Atom → Bool
-is_raw (text raw ∷ []) = true
-is_raw values = false
+-- a directive by its raw text
+abbrev pub is_raw : Atom → Bool
+is_raw (text raw) = true
+is_raw v = false
 
--- Every node is of one of these types, with the children that its type has, a program is a module, a string is of units of 16 bits, and a directive has its raw text.
-abbrev mutual
-  pub IsPlain : Tree → Type 0
-  IsPlain (tree.program a directives body) = (is_module a.values ≡ true) × ArePlain directives × ArePlain body
-  IsPlain (tree.directive a) = is_raw a.values ≡ true
-  IsPlain (tree.expression_statement a expression) = IsPlain expression
-  IsPlain (tree.variable_declaration a declarations) = ArePlain declarations
-  IsPlain (tree.variable_declarator a id init) = IsPlain id × IsPlainIfGiven init
-  IsPlain (tree.binding_identifier a) = ⊤
-  IsPlain (tree.identifier_reference a) = ⊤
-  IsPlain (tree.numeric_literal a) = is_whole a.values ≡ true
-  IsPlain (tree.string_literal a) = are_units (units_in a.values) ≡ true
-  IsPlain (tree.parenthesized a expression) = IsPlain expression
-  IsPlain (tree.binary a left right) = IsPlain left × IsPlain right
-  IsPlain (tree.logical a left right) = IsPlain left × IsPlain right
-  IsPlain (tree.block a body) = ArePlain body
-  IsPlain (tree.if_statement a test consequent alternate) = IsPlain test × IsPlain consequent × IsPlainIfGiven alternate
-  IsPlain (tree.empty_statement a) = ⊤
-  IsPlain (tree.identifier_name a) = ⊤
-  IsPlain (tree.static_member a object property) = IsPlain object × IsPlain property
-  IsPlain (tree.computed_member a object expression) = IsPlain object × IsPlain expression
-  IsPlain (tree.call a callee arguments) = IsPlain callee × ArePlain arguments
-  IsPlain t = ⊥
+abbrev pub has_no_hole : Trees → Bool
+has_no_hole no_trees = true
+has_no_hole (more t ts) = has_no_hole ts
+has_no_hole (hole ts) = false
 
-  pub IsPlainIfGiven : Maybe → Type 0
-  IsPlainIfGiven absent = ⊤
-  IsPlainIfGiven (given t) = IsPlain t
+-- The node is of one of these types, with the children that its type has; a program is a module, a number is whole, a string is of units of 16 bits, and a directive has its raw text.
+abbrev pub is_plain_row : Tree → Bool
+is_plain_row (tree.program a directives body) = is_module (program_kind a) && has_no_hole directives && has_no_hole body
+is_plain_row (tree.directive a) = is_raw (directive_directive a)
+is_plain_row (tree.expression_statement a expression) = true
+is_plain_row (tree.variable_declaration a declarations) = has_no_hole declarations
+is_plain_row (tree.variable_declarator a id init) = true
+is_plain_row (tree.binding_identifier a) = true
+is_plain_row (tree.identifier_reference a) = true
+is_plain_row (tree.numeric_literal a) = is_whole (numeric_literal_kind a) a
+is_plain_row (tree.string_literal a) = are_units (string_literal_value a)
+is_plain_row (tree.parenthesized a expression) = true
+is_plain_row (tree.binary a left right) = true
+is_plain_row (tree.logical a left right) = true
+is_plain_row (tree.block a body) = has_no_hole body
+is_plain_row (tree.if_statement a test consequent alternate) = true
+is_plain_row (tree.empty_statement a) = true
+is_plain_row (tree.identifier_name a) = true
+is_plain_row (tree.static_member a object property) = true
+is_plain_row (tree.computed_member a object expression) = true
+is_plain_row (tree.call a callee arguments) = has_no_hole arguments
+is_plain_row t = false
 
-  pub ArePlain : Trees → Type 0
-  ArePlain no_trees = ⊤
-  ArePlain (more t ts) = IsPlain t × ArePlain ts
-  ArePlain (hole ts) = ⊥
+abbrev pub IsPlain : Tree → Type 0
+IsPlain t = Everywhere is_plain_row t
 
--- the comments that the tree holds: so far no type of node holds any
-abbrev pub comments_in : Tree → Trees
-comments_in t = no_trees
+-- ---- quiet
 
-abbrev pub IsQuiet : Tree → Type 0
-IsQuiet t = comments_in t ≡ no_trees
+-- the node is no comment and has no `pure` mark; comments aren't read yet
+abbrev pub is_quiet_row : Tree → Bool
+is_quiet_row (tree.call a callee arguments) = not (call_expression_pure a)
+is_quiet_row t = true
+
+-- no comment is printed, whatever the program holds
+abbrev pub are_off : Comments → Bool
+are_off c = not c.normal && not c.jsdoc && not c.annotation && is_none c.legal
+
+-- The program holds no comment and no `pure` mark, or the options let none be printed.
+abbrev pub IsQuiet : JobData → Type 0
+IsQuiet job = Everywhere is_quiet_row job.program ⊎ (are_off job.options.comments ≡ true)

@@ -1,15 +1,17 @@
 -- What a text is read as.
-use Rattle.std.specs.Prelude.{◌≡◌, ℕ, List}
+use Rattle.std.specs.Prelude.{◌≡◌, ℕ, List, true}
 use Rattle.jsgen_tree.specs.Tree.{Tree}
-use Rattle.jsgen_model.specs.Tokens.{Tokens, AreTokensOf}
+use Rattle.jsgen_tree.specs.Job.{JobData}
+use Rattle.jsgen_model.specs.Tokens.{Tokens, AreTokensOf, are_plain}
 use Rattle.jsgen_model.specs.Grammar.{ReadsModule}
 use Rattle.jsgen_model.specs.Normal.{normal}
 use Rattle.jsgen_model.specs.Renamed.{renamed}
 
--- the text's tokens are read as a program with the normal form of this one after its renamings
-pub record IsReadAs (text : List ℕ) (program : Tree) : Type 0 where
+-- the text has plain tokens, which are read as a program with the normal form of the job's program, renamed by its tables
+pub record IsReadAs (text : List ℕ) (job : JobData) : Type 0 where
   pub tokens : Tokens
   pub are_tokens : AreTokensOf text tokens
+  pub plain : are_plain tokens ≡ true
   pub reading : Tree
   pub reads : ReadsModule tokens reading
-  pub same : normal reading ≡ normal (renamed program)
+  pub same : normal reading ≡ normal (renamed job.tables job.program)

@@ -11,19 +11,30 @@ use Rattle.jsgen_syntax.specs.declared.operator.LogicalOperator.{LogicalOperator
 use Rattle.jsgen_syntax.specs.declared.operator.LogicalOperator.TheVariants as logical_operators
 use Rattle.jsgen_tree.specs.Table.{without_parentheses, ends_open}
 use Rattle.jsgen_tree.specs.Words.{declaration_word}
-use Rattle.jsgen_tree.specs.Tree.{Tree, Maybe, absent, given, Trees, no_trees, more, hole, text_in, units_in, digits_in, declaration_kind_in, operator_in, logical_operator_in}
+use Rattle.jsgen_tree.specs.Tree.{Tree, Maybe, absent, given, Trees, no_trees, more, hole, NumericKind, Whole, Raw, Atoms}
+use Rattle.jsgen_tree.specs.Values.{as_text, directive_directive, variable_declaration_kind, binding_identifier_name, identifier_reference_name, identifier_name_name, numeric_literal_kind, numeric_literal_digits, string_literal_value, binary_expression_operator, logical_expression_operator}
+use Rattle.jsgen_tree.specs.Job.{Tables, JobData}
 use Rattle.jsgen_tree.specs.Tree as tree
 use Rattle.jsgen_model.specs.Punctuator.{comma, semicolon, equal, plus, minus, star, slash, percent, star_star, equal_equal, not_equal, equal_equal_equal, not_equal_equal, less, less_equal, greater, greater_equal, shift_left, shift_right, shift_right_zero, bit_and, bit_or, bit_xor, and_and, or_or, nullish, Round, Square, Brace}
 use Rattle.jsgen_model.specs.Items.{Items, nothing, ◌⊕◌, word, name, number, string, first_string, directive, punctuator, operator, member_dot, brackets, soft_space, soft_line, hard_space, body_space, deeper, indentation, wrapped, statement_end, due_semicolon, drop_semicolon, statement_begins}
-use Rattle.jsgen_model.specs.Layout.{Start, nowhere, statement, unless_printed, Style, layout, empty_pen}
+use Rattle.jsgen_model.specs.Layout.{Start, nowhere, statement, unless_printed, layout, empty_pen, style_of}
 
 -- what an expression's surroundings forbid
 pub record Context : Type 0 where
   pub forbids_in : Bool
   pub forbids_call : Bool
 
+-- what a spelling depends on beside the tree: whether the text is minified, and the tables of names
+pub record Settings : Type 0 where
+  pub minified : Bool
+  pub tables : Tables
+
+abbrev pub settings_of : JobData → Settings
+settings_of job = record { minified = job.options.minify; tables = job.tables }
+
 -- where a node stands
 pub record Place : Type 0 where
+  pub settings : Settings
   -- at or above its own level an expression needs parentheses
   pub level : Precedence
   pub context : Context
@@ -38,31 +49,31 @@ abbrev pub free : Context
 free = record { forbids_in = false; forbids_call = false }
 
 -- a statement's place
-abbrev pub among_statements : Place
-among_statements = record { level = Lowest; context = free; start = nowhere; in_list = true; left_operand = false }
+abbrev pub among_statements : Settings → Place
+among_statements settings = record { settings = settings; level = Lowest; context = free; start = nowhere; in_list = true; left_operand = false }
 
 -- the place of a block or an `if` that goes on with a line
-abbrev pub within_statement : Place
-within_statement = record among_statements { in_list = false }
+abbrev pub within_statement : Settings → Place
+within_statement settings = record (among_statements settings) { in_list = false }
 
 -- the expression of an expression statement
-abbrev pub whole_statement : Place
-whole_statement = record { level = Lowest; context = free; start = statement; in_list = false; left_operand = false }
+abbrev pub whole_statement : Settings → Place
+whole_statement settings = record (within_statement settings) { start = statement }
 
 -- a child that something is printed before, at a level, under the same context
 abbrev pub behind : Precedence → Place → Place
-behind level place = record { level = level; context = place.context; start = nowhere; in_list = false; left_operand = false }
+behind level place = record { settings = place.settings; level = level; context = place.context; start = nowhere; in_list = false; left_operand = false }
 
 -- a child that nothing is printed before
 abbrev pub in_front : Precedence → Place → Place
-in_front level place = record { level = level; context = place.context; start = place.start; in_list = false; left_operand = false }
+in_front level place = record (behind level place) { start = place.start }
 
 abbrev pub left_of : Precedence → Place → Place
 left_of level place = record (in_front level place) { left_operand = true }
 
 -- a child in brackets, where nothing is forbidden
-abbrev pub in_brackets : Precedence → Place
-in_brackets level = record { level = level; context = free; start = nowhere; in_list = false; left_operand = false }
+abbrev pub in_brackets : Precedence → Place → Place
+in_brackets level place = record (behind level place) { context = free }
 
 -- the object of a member
 abbrev pub linked : Place → Place
@@ -146,7 +157,7 @@ is_or_or_and o = true
 
 -- an operation by `||` or `&&`
 abbrev pub mixes : Tree → Bool
-mixes (tree.logical a left right) = is_or_or_and (logical_operator_in a.values)
+mixes (tree.logical a left right) = is_or_or_and (logical_expression_operator a)
 mixes t = false
 
 -- the level of a left operand: just below the operator's, but of `**` its own, and for a number a call's
@@ -176,7 +187,7 @@ as_statement false items = items
 -- ---- the first statement of a body
 
 abbrev pub string_in : Tree → Option (List ℕ)
-string_in (tree.string_literal a) = Some (units_in a.values)
+string_in (tree.string_literal a) = Some (string_literal_value a)
 string_in t = None
 
 -- the string that a statement is, and nothing else
@@ -248,58 +259,63 @@ abbrev pub is_given : Maybe → Bool
 is_given absent = false
 is_given (given t) = true
 
+-- a whole number by its digits; what is read by its text alone isn't spelled yet
+abbrev pub number_item : NumericKind → Atoms → Items
+number_item Whole a = number true (decimal (numeric_literal_digits a))
+number_item Raw a = nothing
+
 -- ---- the whole
 
 abbrev mutual
   pub spell : Tree → Place → Items
-  spell (tree.program a directives body) place = spell_directives directives ⊕ (spell_body body ⊕ due_semicolon)
-  spell (tree.directive a) place = indentation ⊕ (directive (text_in a.values) ⊕ (punctuator semicolon ⊕ soft_line))
-  spell (tree.expression_statement a expression) place = indentation ⊕ (statement_begins ⊕ (spell expression whole_statement ⊕ statement_end))
-  spell (tree.variable_declaration a declarations) place = as_statement place.in_list (word (declaration_word (declaration_kind_in a.values)) ⊕ (soft_space ⊕ spell_list declarations (behind Lowest place)))
+  spell (tree.program a directives body) place = spell_directives directives place.settings ⊕ (spell_body body place.settings ⊕ due_semicolon)
+  spell (tree.directive a) place = indentation ⊕ (directive (as_text (directive_directive a)) ⊕ (punctuator semicolon ⊕ soft_line))
+  spell (tree.expression_statement a expression) place = indentation ⊕ (statement_begins ⊕ (spell expression (whole_statement place.settings) ⊕ statement_end))
+  spell (tree.variable_declaration a declarations) place = as_statement place.in_list (word (declaration_word (variable_declaration_kind a)) ⊕ (soft_space ⊕ spell_list declarations (behind Lowest place)))
   spell (tree.variable_declarator a id init) place = spell id (in_front Lowest place) ⊕ spell_value init (behind Comma place)
-  spell (tree.binding_identifier a) place = name (text_in a.values)
-  spell (tree.identifier_reference a) place = name (text_in a.values)
-  spell (tree.numeric_literal a) place = number true (decimal (digits_in a.values))
-  spell (tree.string_literal a) place = string true (units_in a.values)
+  spell (tree.binding_identifier a) place = name (binding_identifier_name a)
+  spell (tree.identifier_reference a) place = name (identifier_reference_name a)
+  spell (tree.numeric_literal a) place = number_item (numeric_literal_kind a) a
+  spell (tree.string_literal a) place = string true (string_literal_value a)
   spell (tree.parenthesized a expression) place = spell expression place
   spell (tree.binary a left right) place =
-      operation (binary_wraps (operator_in a.values) place) (operator_item (operator_in a.values))
-      (spell left (left_of (left_level (operator_in a.values) left) (within (binary_wraps (operator_in a.values) place) place)))
-      (spell right (behind (right_level (operator_in a.values)) (within (binary_wraps (operator_in a.values) place) place)))
+      operation (binary_wraps (binary_expression_operator a) place) (operator_item (binary_expression_operator a))
+      (spell left (left_of (left_level (binary_expression_operator a) left) (within (binary_wraps (binary_expression_operator a) place) place)))
+      (spell right (behind (right_level (binary_expression_operator a)) (within (binary_wraps (binary_expression_operator a) place) place)))
   spell (tree.logical a left right) place =
-      operation (logical_wraps (logical_operator_in a.values) place) (logical_item (logical_operator_in a.values))
-      (spell left (left_of (unmixed (logical_operator_in a.values) left (logical_lower_level (logical_operator_in a.values))) (within (logical_wraps (logical_operator_in a.values) place) place)))
-      (spell right (behind (unmixed (logical_operator_in a.values) right (logical_level (logical_operator_in a.values))) (within (logical_wraps (logical_operator_in a.values) place) place)))
-  spell (tree.block a body) place = block_items place.in_list (braces body (spell_statements body))
+      operation (logical_wraps (logical_expression_operator a) place) (logical_item (logical_expression_operator a))
+      (spell left (left_of (unmixed (logical_expression_operator a) left (logical_lower_level (logical_expression_operator a))) (within (logical_wraps (logical_expression_operator a) place) place)))
+      (spell right (behind (unmixed (logical_expression_operator a) right (logical_level (logical_expression_operator a))) (within (logical_wraps (logical_expression_operator a) place) place)))
+  spell (tree.block a body) place = block_items place.in_list (braces body (spell_statements body place.settings))
   spell (tree.if_statement a test consequent alternate) place =
-      among_or_within place.in_list (word (codes "if") ⊕ (soft_space ⊕ (brackets Round (spell test (in_brackets Lowest))
-      ⊕ (consequent_items (shape consequent) (ends_open consequent) (spell consequent within_statement) (spell consequent among_statements) (is_given alternate)
-      ⊕ spell_alternate alternate))))
+      among_or_within place.in_list (word (codes "if") ⊕ (soft_space ⊕ (brackets Round (spell test (in_brackets Lowest place))
+      ⊕ (consequent_items (shape consequent) (ends_open consequent) (spell consequent (within_statement place.settings)) (spell consequent (among_statements place.settings)) (is_given alternate)
+      ⊕ spell_alternate alternate place.settings))))
   spell (tree.empty_statement a) place = indentation ⊕ (punctuator semicolon ⊕ soft_line)
-  spell (tree.identifier_name a) place = name (text_in a.values)
+  spell (tree.identifier_name a) place = name (identifier_name_name a)
   spell (tree.static_member a object property) place = spell object (linked place) ⊕ (member_dot ⊕ spell property (behind Lowest place))
-  spell (tree.computed_member a object expression) place = spell object (linked place) ⊕ brackets Square (spell expression (in_brackets Lowest))
+  spell (tree.computed_member a object expression) place = spell object (linked place) ⊕ brackets Square (spell expression (in_brackets Lowest place))
   spell (tree.call a callee arguments) place =
-      wrapped (call_wraps place) (spell callee (called (within (call_wraps place) place)) ⊕ brackets Round (spell_list arguments (in_brackets Comma)))
+      wrapped (call_wraps place) (spell callee (called (within (call_wraps place) place)) ⊕ brackets Round (spell_list arguments (in_brackets Comma place)))
   spell t place = nothing
 
   -- the directives of a body, each with a semicolon of its own
-  pub spell_directives : Trees → Items
-  spell_directives no_trees = nothing
-  spell_directives (more t ts) = spell t among_statements ⊕ spell_directives ts
-  spell_directives (hole ts) = spell_directives ts
+  pub spell_directives : Trees → Settings → Items
+  spell_directives no_trees settings = nothing
+  spell_directives (more t ts) settings = spell t (among_statements settings) ⊕ spell_directives ts settings
+  spell_directives (hole ts) settings = spell_directives ts settings
 
   -- the statements of a body
-  pub spell_body : Trees → Items
-  spell_body no_trees = nothing
-  spell_body (more t ts) = due_semicolon ⊕ (first_statement t (spell t among_statements) ⊕ spell_statements ts)
-  spell_body (hole ts) = spell_body ts
+  pub spell_body : Trees → Settings → Items
+  spell_body no_trees settings = nothing
+  spell_body (more t ts) settings = due_semicolon ⊕ (first_statement t (spell t (among_statements settings)) ⊕ spell_statements ts settings)
+  spell_body (hole ts) settings = spell_body ts settings
 
   -- a list of statements, each after the semicolon that the one before may have left
-  pub spell_statements : Trees → Items
-  spell_statements no_trees = nothing
-  spell_statements (more t ts) = due_semicolon ⊕ (spell t among_statements ⊕ spell_statements ts)
-  spell_statements (hole ts) = spell_statements ts
+  pub spell_statements : Trees → Settings → Items
+  spell_statements no_trees settings = nothing
+  spell_statements (more t ts) settings = due_semicolon ⊕ (spell t (among_statements settings) ⊕ spell_statements ts settings)
+  spell_statements (hole ts) settings = spell_statements ts settings
 
   -- a list with commas
   pub spell_list : Trees → Place → Items
@@ -313,19 +329,19 @@ abbrev mutual
   spell_more (hole ts) place = spell_more ts place
 
   -- `else`, behind the semicolon that the consequent may have left
-  pub spell_alternate : Maybe → Items
-  spell_alternate absent = nothing
-  spell_alternate (given t) = due_semicolon ⊕ (word (codes "else") ⊕ alternate_items (shape t) (spell t within_statement) (spell t among_statements))
+  pub spell_alternate : Maybe → Settings → Items
+  spell_alternate absent settings = nothing
+  spell_alternate (given t) settings = due_semicolon ⊕ (word (codes "else") ⊕ alternate_items (shape t) (spell t (within_statement settings)) (spell t (among_statements settings)))
 
   -- the value of a declarator
   pub spell_value : Maybe → Place → Items
   spell_value absent place = nothing
   spell_value (given t) place = soft_space ⊕ (punctuator equal ⊕ (soft_space ⊕ spell t place))
 
--- the characters of a program's text
-abbrev pub printed : Style → Tree → List ℕ
-printed style program = (layout (spell program among_statements) (empty_pen style 0)).code
+-- the characters of the text of a job's program
+abbrev pub printed : JobData → List ℕ
+printed job = (layout (spell job.program (among_statements (settings_of job))) (empty_pen (style_of job.options) 0)).code
 
 -- and its bytes in UTF-8
-abbrev pub text_bytes : Style → Tree → List ℕ
-text_bytes style program = encode_utf8_all (printed style program)
+abbrev pub text_bytes : JobData → List ℕ
+text_bytes job = encode_utf8_all (printed job)

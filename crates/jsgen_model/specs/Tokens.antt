@@ -116,3 +116,15 @@ AreTokensAfter line text (group mark b inside ts) = (gap inner rest : List ℕ) 
 
 abbrev pub AreTokensOf : List ℕ → Tokens → Type 0
 AreTokensOf text ts = AreTokensAfter false text ts
+
+abbrev pub is_plain_piece : Piece → Bool
+is_plain_piece (Word w) = true
+is_plain_piece (Number w) = true
+is_plain_piece (Quoted q w) = true
+is_plain_piece (Sign p) = true
+
+-- no private names, hashbang, regular expressions or parts of templates
+abbrev pub are_plain : Tokens → Bool
+are_plain done = true
+are_plain (piece mark p ts) = is_plain_piece p && are_plain ts
+are_plain (group mark b inside ts) = are_plain inside && are_plain ts

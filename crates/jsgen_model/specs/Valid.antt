@@ -1,19 +1,33 @@
 -- Validity: the rules that a tree breaks, each with the start of the node at which it is broken.
-use Rattle.std.specs.Prelude.{◌≡◌, ℕ, suc, max, List, [], ◌∷◌, ◌++◌, length, Bool, true, false, nat_lt, Contains, is_some, Result, Ok, Err, if◌then◌else◌}
+use Rattle.std.specs.Prelude.{◌≡◌, ℕ, suc, max, List, [], ◌∷◌, ◌++◌, map, length, Bool, true, false, not, nat_lt, Contains, is_some, Result, Ok, Err, if◌then◌else◌}
 use Rattle.std.specs.Str.{encode_utf8_all}
-use Rattle.jsgen_syntax.specs.Name.{spells_name, is_reserved, is_strict_reserved}
+use Rattle.jsgen_syntax.specs.Name.{spells_name, is_free_name}
 use Rattle.jsgen_syntax.specs.Raw.{directive_value}
 use Rattle.jsgen_syntax.specs.declared.span.Span.{Span}
 use Rattle.jsgen_tree.specs.declared.types.NodeSet.{NodeSet}
+use Rattle.jsgen_tree.specs.Options.{Options}
+use Rattle.jsgen_tree.specs.Job.{Tables, JobData}
 use Rattle.jsgen_tree.specs.Table.{fields, child_sets, in_set}
-use Rattle.jsgen_tree.specs.Tree.{Tree, node, Slots, no_slots, one, maybe, many, Maybe, absent, given, Trees, no_trees, more, hole, Atoms, type_of, span_of, text_in}
+use Rattle.jsgen_tree.specs.Tree.{Tree, node, Slots, no_slots, one, maybe, many, maybe_many, Maybe, absent, given, Trees, no_trees, more, hole, MaybeTrees, no_list, listed, Atoms, type_of, span_of}
 use Rattle.jsgen_tree.specs.Tree as tree
+use Rattle.jsgen_tree.specs.Values.{as_text, program_source, directive_directive, binding_identifier_name, identifier_reference_name, identifier_name_name}
 use Rattle.jsgen_model.specs.declared.fault.TreeFault.{TreeFault}
 use Rattle.jsgen_model.specs.declared.fault.TreeFault.TheVariants as faults
 
-abbrev pub not : Bool → Bool
-not true = false
-not false = true
+-- what surrounds a node: the options, the tables and the program's source
+pub record Surroundings : Type 0 where
+  pub options : Options
+  pub tables : Tables
+  pub source : List ℕ
+
+-- a child's place: the set that its field asks for, and what surrounds it
+pub record ChildPlace : Type 0 where
+  pub set : NodeSet
+  pub around : Surroundings
+
+-- the places of a node's children, field by field: so far the same surrounds them all as the node
+abbrev pub child_places : Surroundings → Tree → List ChildPlace
+child_places around t = map (λ set. record { set = set; around = around }) (child_sets (fields (type_of t)))
 
 abbrev pub fault_if : Bool → TreeFault → List TreeFault
 fault_if true f = f ∷ []
@@ -25,20 +39,17 @@ fault_if false f = []
 abbrev pub span_faults : Span → List TreeFault
 span_faults s = fault_if (nat_lt s.end s.start) (faults.Span s.start)
 
--- a name that a module may use (ECMA-262, 13.1): strict code, so both lists are reserved
-abbrev pub is_free_name : List ℕ → Bool
-is_free_name w = if spells_name w then (if is_reserved (encode_utf8_all w) then false else not (is_strict_reserved (encode_utf8_all w))) else false
-
-abbrev pub name_faults : Atoms → List TreeFault
-name_faults a = fault_if (not (is_free_name (text_in a.values))) (faults.Name a.span.start)
+-- a name that strict code may look up or bind (ECMA-262, 13.1)
+abbrev pub name_faults : Span → List ℕ → List TreeFault
+name_faults s name = fault_if (not (is_free_name name)) (faults.Name s.start)
 
 -- a directive's raw text spells a string (ECMA-262, 12.9.4)
-abbrev pub directive_faults : Atoms → List TreeFault
-directive_faults a = fault_if (not (is_some (directive_value (text_in a.values)))) (faults.Literal a.span.start)
+abbrev pub directive_faults : Span → List ℕ → List TreeFault
+directive_faults s raw = fault_if (not (is_some (directive_value raw))) (faults.Literal s.start)
 
 -- a member's name is a name, be it reserved or not
-abbrev pub written_name_faults : Atoms → List TreeFault
-written_name_faults a = fault_if (not (spells_name (text_in a.values))) (faults.Name a.span.start)
+abbrev pub written_name_faults : Span → List ℕ → List TreeFault
+written_name_faults s name = fault_if (not (spells_name name)) (faults.Name s.start)
 
 -- a declaration has a declarator
 abbrev pub declaration_faults : Span → Trees → List TreeFault
@@ -61,8 +72,8 @@ alternate_faults (given t) = body_faults t
 abbrev pub is_too_long : List ℕ → Bool
 is_too_long source = nat_lt 4294967295 (length (encode_utf8_all source))
 
-abbrev pub source_faults : Atoms → List TreeFault
-source_faults a = fault_if (is_too_long (text_in a.values)) (faults.Span a.span.start)
+abbrev pub source_faults : Span → List ℕ → List TreeFault
+source_faults s source = fault_if (is_too_long source) (faults.Span s.start)
 
 -- how many nodes stand on the longest way down: 1 without a child
 abbrev mutual
@@ -74,6 +85,7 @@ abbrev mutual
   height_of_slots (one t slots) = max (height t) (height_of_slots slots)
   height_of_slots (maybe m slots) = max (height_if_given m) (height_of_slots slots)
   height_of_slots (many ts slots) = max (greatest_height ts) (height_of_slots slots)
+  height_of_slots (maybe_many ts slots) = max (height_if_listed ts) (height_of_slots slots)
 
   pub height_if_given : Maybe → ℕ
   height_if_given absent = 0
@@ -84,62 +96,85 @@ abbrev mutual
   greatest_height (more t ts) = max (height t) (greatest_height ts)
   greatest_height (hole ts) = greatest_height ts
 
+  pub height_if_listed : MaybeTrees → ℕ
+  height_if_listed no_list = 0
+  height_if_listed (listed ts) = greatest_height ts
+
 -- the level of indentation, from 0 on, could pass 32 bits; minified text has none
 abbrev pub indent_faults : Bool → Tree → List TreeFault
 indent_faults minified t = fault_if (if minified then false else nat_lt 4294967295 (height t)) (faults.Indent (span_of t).start)
 
 -- a row's rules of its own
-abbrev pub own_faults : Tree → List TreeFault
-own_faults (tree.program a directives body) = source_faults a
-own_faults (tree.directive a) = directive_faults a
-own_faults (tree.variable_declaration a declarations) = declaration_faults a.span declarations
-own_faults (tree.binding_identifier a) = name_faults a
-own_faults (tree.identifier_reference a) = name_faults a
-own_faults (tree.if_statement a test consequent alternate) = body_faults consequent ++ alternate_faults alternate
-own_faults (tree.identifier_name a) = written_name_faults a
-own_faults t = []
+abbrev pub own_faults : Surroundings → Tree → List TreeFault
+own_faults around (tree.program a directives body) = source_faults a.span around.source ++ indent_faults around.options.minify (tree.program a directives body)
+own_faults around (tree.directive a) = directive_faults a.span (as_text (directive_directive a))
+own_faults around (tree.variable_declaration a declarations) = declaration_faults a.span declarations
+own_faults around (tree.binding_identifier a) = name_faults a.span (binding_identifier_name a)
+own_faults around (tree.identifier_reference a) = name_faults a.span (identifier_reference_name a)
+own_faults around (tree.if_statement a test consequent alternate) = body_faults consequent ++ alternate_faults alternate
+own_faults around (tree.identifier_name a) = written_name_faults a.span (identifier_name_name a)
+own_faults around t = []
 
--- a child stands where its field asks for it
-abbrev pub place_faults : NodeSet → Tree → List TreeFault
-place_faults s t = fault_if (not (in_set s (type_of t))) (faults.Place (span_of t).start)
+-- a child is of the set that its field asks for
+abbrev pub set_faults : NodeSet → Tree → List TreeFault
+set_faults set t = fault_if (not (in_set set (type_of t))) (faults.Place (span_of t).start)
 
-abbrev pub head_set_faults : List NodeSet → Tree → List TreeFault
-head_set_faults [] t = faults.Place (span_of t).start ∷ []
-head_set_faults (s ∷ ss) t = place_faults s t
+-- no field asks for a child that has no place
+abbrev pub place_faults : List ChildPlace → Tree → List TreeFault
+place_faults [] t = faults.Place (span_of t).start ∷ []
+place_faults (p ∷ ps) t = set_faults p.set t
 
-abbrev pub other_sets : List NodeSet → List NodeSet
-other_sets [] = []
-other_sets (s ∷ ss) = ss
+-- what surrounds the child at the first place, in a node that this surrounds
+abbrev pub around_first : Surroundings → List ChildPlace → Surroundings
+around_first around [] = around
+around_first around (p ∷ ps) = p.around
+
+abbrev pub other_places : List ChildPlace → List ChildPlace
+other_places [] = []
+other_places (p ∷ ps) = ps
 
 -- ---- the whole
 
 abbrev mutual
-  -- what is asked of every text: its span, its own rules, and its children, each of the set of its field
-  pub breaches : Tree → List TreeFault
-  breaches (node type a slots) = span_faults a.span ++ own_faults (node type a slots) ++ in_slots (child_sets (fields type)) slots
+  -- what is asked of a tree: its span, its own rules, and its children, each at its place
+  pub breaches : Surroundings → Tree → List TreeFault
+  breaches around (node type a slots) = span_faults a.span ++ own_faults around (node type a slots) ++ in_slots around (child_places around (node type a slots)) slots
 
-  pub in_slots : List NodeSet → Slots → List TreeFault
-  in_slots sets no_slots = []
-  in_slots sets (one t slots) = head_set_faults sets t ++ breaches t ++ in_slots (other_sets sets) slots
-  in_slots sets (maybe m slots) = in_maybe sets m ++ in_slots (other_sets sets) slots
-  in_slots sets (many ts slots) = in_trees sets ts ++ in_slots (other_sets sets) slots
+  pub in_slots : Surroundings → List ChildPlace → Slots → List TreeFault
+  in_slots around places no_slots = []
+  in_slots around places (one t slots) = place_faults places t ++ breaches (around_first around places) t ++ in_slots around (other_places places) slots
+  in_slots around places (maybe m slots) = in_maybe around places m ++ in_slots around (other_places places) slots
+  in_slots around places (many ts slots) = in_trees around places ts ++ in_slots around (other_places places) slots
+  in_slots around places (maybe_many ts slots) = in_maybe_trees around places ts ++ in_slots around (other_places places) slots
 
-  pub in_maybe : List NodeSet → Maybe → List TreeFault
-  in_maybe sets absent = []
-  in_maybe sets (given t) = head_set_faults sets t ++ breaches t
+  pub in_maybe : Surroundings → List ChildPlace → Maybe → List TreeFault
+  in_maybe around places absent = []
+  in_maybe around places (given t) = place_faults places t ++ breaches (around_first around places) t
 
-  pub in_trees : List NodeSet → Trees → List TreeFault
-  in_trees sets no_trees = []
-  in_trees sets (more t ts) = head_set_faults sets t ++ breaches t ++ in_trees sets ts
-  in_trees sets (hole ts) = in_trees sets ts
+  pub in_trees : Surroundings → List ChildPlace → Trees → List TreeFault
+  in_trees around places no_trees = []
+  in_trees around places (more t ts) = place_faults places t ++ breaches (around_first around places) t ++ in_trees around places ts
+  in_trees around places (hole ts) = in_trees around places ts
 
--- all that a program breaks whose text is minified or not
-abbrev pub program_breaches : Bool → Tree → List TreeFault
-program_breaches minified t = breaches t ++ indent_faults minified t
+  pub in_maybe_trees : Surroundings → List ChildPlace → MaybeTrees → List TreeFault
+  in_maybe_trees around places no_list = []
+  in_maybe_trees around places (listed ts) = in_trees around places ts
 
--- no rule is broken
-abbrev pub IsValid : Bool → Tree → Type 0
-IsValid minified t = program_breaches minified t ≡ []
+-- ---- jobs
+
+abbrev pub source_of : Tree → List ℕ
+source_of (tree.program a directives body) = program_source a
+source_of t = []
+
+abbrev pub surroundings_of : JobData → Surroundings
+surroundings_of job = record { options = job.options; tables = job.tables; source = source_of job.program }
+
+abbrev pub job_breaches : JobData → List TreeFault
+job_breaches job = breaches (surroundings_of job) job.program
+
+-- no rule is broken by the program, under the job's options and tables
+abbrev pub IsValid : JobData → Type 0
+IsValid job = job_breaches job ≡ []
 
 -- Ok where no rule is broken, else one that is
 abbrev pub Judges : List TreeFault → Result (Unit {0}) TreeFault → Type 0

@@ -4,5 +4,4 @@ ghost use Rattle.jsgen_tree.specs.Law.{FieldsAreNamed};
 /// A definition that reads a value of a node reads the field that it names.
 pub fn fields_are_named()
     ensures { FieldsAreNamed }
-{
-}
+{}
