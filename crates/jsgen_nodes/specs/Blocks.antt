@@ -25,11 +25,11 @@ abbrev pub braces_closed : ℕ → Pen → Pen
 braces_closed depth pen = layout drop_semicolon (written (closing Brace) other_end (layout indentation (at_depth depth pen)))
 
 -- what a statement gives behind the test of an `if`, and behind `else`
-abbrev pub consequent_of : Tree → Bool → Items
-consequent_of t else_follows = consequent_items (shape t) (ends_open t) (spell t within_statement) (spell t among_statements) else_follows
+abbrev pub consequent_of : Tree → spells.Settings → Bool → Items
+consequent_of t settings else_follows = consequent_items (shape t) (ends_open t) (spell t (within_statement settings)) (spell t (among_statements settings)) else_follows
 
-abbrev pub alternate_of : Tree → Items
-alternate_of t = alternate_items (shape t) (spell t within_statement) (spell t among_statements)
+abbrev pub alternate_of : Tree → spells.Settings → Items
+alternate_of t settings = alternate_items (shape t) (spell t (within_statement settings)) (spell t (among_statements settings))
 
 -- the pen behind the bracket that ends the test
 abbrev pub test_ended : Pen → Pen

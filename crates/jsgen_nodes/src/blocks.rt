@@ -8,12 +8,12 @@ ghost use Rattle.jsgen_model.specs.Items.{◌⊕◌, nothing, word, punctuator, 
 ghost use Rattle.jsgen_model.specs.Layout.{layout, written, other_end};
 ghost use Rattle.jsgen_model.specs.Spell.{spell, spell_statements, spell_alternate, braces, filled_braces, braces_end, body_end, is_given, in_brackets, among_statements};
 ghost use Rattle.jsgen_printer.specs.Printer.{pen_of};
-ghost use Rattle.jsgen_nodes.specs.Place.{pen_after};
+ghost use Rattle.jsgen_nodes.specs.Place.{pen_after, settings_of};
 ghost use Rattle.jsgen_nodes.specs.Blocks.{braces_opened, braces_closed, consequent_of, alternate_of, test_ended};
 
 use crate::shapes::Shape;
 use crate::statements::print_statements;
-use crate::{Place, PrintNode};
+use crate::{Place, PrintNode, Settings};
 use jsgen_printer::{Bracket, Printer};
 use jsgen_syntax::{Memory, Precedence};
 use jsgen_tree::{BlockStatement, EmptyStatement, ExpressionNode, IfStatement, StatementNode};
@@ -29,10 +29,10 @@ pub fn print_block_statement<N: PrintNode>(
 {
     if place.in_list {
         p.print_indentation()?;
-        print_braces(&node.body, p)?;
+        print_braces(&node.body, p, place.settings)?;
         p.print_soft_line()
     } else {
-        print_braces(&node.body, p)
+        print_braces(&node.body, p, place.settings)
     }
 }
 
@@ -41,15 +41,16 @@ pub fn print_block_statement<N: PrintNode>(
 fn print_braces<N: PrintNode>(
     statements: &[StatementNode<N>],
     p: &mut Printer,
+    settings: Settings,
 ) -> Result<(), Memory>
     ensures { OnOk result (pen_of p.new
         ≡ layout (braces (trees (map (in_statement N.plain) statements.now))
-        (spell_statements (trees (map (in_statement N.plain) statements.now)))) (pen_of p.old)) }
+        (spell_statements (trees (map (in_statement N.plain) statements.now)) (settings_of settings))) (pen_of p.old)) }
 {
     if statements.is_empty() {
         print_empty_braces(p)
     } else {
-        print_filled_braces(statements, p)
+        print_filled_braces(statements, p, settings)
     }
 }
 
@@ -67,12 +68,13 @@ fn print_empty_braces(p: &mut Printer) -> Result<(), Memory>
 fn print_filled_braces<N: PrintNode>(
     statements: &[StatementNode<N>],
     p: &mut Printer,
+    settings: Settings,
 ) -> Result<(), Memory>
     ensures { OnOk result (pen_of p.new
-        ≡ layout (filled_braces (spell_statements (trees (map (in_statement N.plain) statements.now)))) (pen_of p.old)) }
+        ≡ layout (filled_braces (spell_statements (trees (map (in_statement N.plain) statements.now)) (settings_of settings))) (pen_of p.old)) }
 {
     let depth = open_braces(p)?;
-    print_statements(statements, p)?;
+    print_statements(statements, p, settings)?;
     close_braces(p, depth)
 }
 
@@ -107,23 +109,27 @@ pub fn print_if_statement<N: PrintNode>(
 {
     if place.in_list {
         p.print_indentation()?;
-        print_if(node, p)
+        print_if(node, p, place.settings)
     } else {
-        print_if(node, p)
+        print_if(node, p, place.settings)
     }
 }
 
 // From the word on.
 #[tactic(auto, unfolding(crate::specs::Place::pen_after))]
-fn print_if<N: PrintNode>(node: &IfStatement<N>, p: &mut Printer) -> Result<(), Memory>
+fn print_if<N: PrintNode>(
+    node: &IfStatement<N>,
+    p: &mut Printer,
+    settings: Settings,
+) -> Result<(), Memory>
     ensures { OnOk result (pen_of p.new
-        ≡ layout (word (codes "if") ⊕ (soft_space ⊕ (brackets Round (spell (in_expression N.plain node.now.test) (in_brackets Lowest))
-        ⊕ (consequent_of (in_statement N.plain node.now.consequent) (is_given (optional (option_map (in_statement N.plain) node.now.alternate)))
-        ⊕ spell_alternate (optional (option_map (in_statement N.plain) node.now.alternate)))))) (pen_of p.old)) }
+        ≡ layout (word (codes "if") ⊕ (soft_space ⊕ (brackets Round (spell (in_expression N.plain node.now.test) (in_brackets Lowest (among_statements (settings_of settings))))
+        ⊕ (consequent_of (in_statement N.plain node.now.consequent) (settings_of settings) (is_given (optional (option_map (in_statement N.plain) node.now.alternate)))
+        ⊕ spell_alternate (optional (option_map (in_statement N.plain) node.now.alternate)) (settings_of settings))))) (pen_of p.old)) }
 {
-    print_test(&node.test, p)?;
-    print_consequent(node.consequent.get(), p, has_alternate(node))?;
-    print_alternate(&node.alternate, p)
+    print_test(&node.test, p, settings)?;
+    print_consequent(node.consequent.get(), p, settings, has_alternate(node))?;
+    print_alternate(&node.alternate, p, settings)
 }
 
 fn has_alternate<N: PrintNode>(node: &IfStatement<N>) -> bool
@@ -134,15 +140,20 @@ fn has_alternate<N: PrintNode>(node: &IfStatement<N>) -> bool
 
 // The word and the test, up to the bracket that ends it.
 #[tactic(auto, unfolding(crate::specs::Place::pen_after))]
-fn print_test<N: PrintNode>(test: &ExpressionNode<N>, p: &mut Printer) -> Result<(), Memory>
+fn print_test<N: PrintNode>(
+    test: &ExpressionNode<N>,
+    p: &mut Printer,
+    settings: Settings,
+) -> Result<(), Memory>
     ensures { OnOk result (pen_of p.new
-        ≡ layout (spell (in_expression N.plain test.now) (in_brackets Lowest))
+        ≡ layout (spell (in_expression N.plain test.now) (in_brackets Lowest (among_statements (settings_of settings))))
         (written (opening Round) other_end (layout soft_space (layout (word (codes "if")) (pen_of p.old))))) }
 {
     p.print_word("if")?;
     p.print_soft_space()?;
     p.print_opening(Bracket::Round)?;
-    test.get().print(p, Place::in_brackets(Precedence::Lowest))
+    test.get()
+        .print(p, Place::in_brackets(Precedence::Lowest, settings))
 }
 
 // The bracket that ends the test, and what follows it. An `else` must not go with an `if` within.
@@ -150,25 +161,26 @@ fn print_test<N: PrintNode>(test: &ExpressionNode<N>, p: &mut Printer) -> Result
 fn print_consequent<N: PrintNode>(
     consequent: &N,
     p: &mut Printer,
+    settings: Settings,
     else_follows: bool,
 ) -> Result<(), Memory>
     ensures { OnOk result (pen_of p.new
-        ≡ layout (consequent_of (N.plain consequent.now) else_follows) (test_ended (pen_of p.old))) }
+        ≡ layout (consequent_of (N.plain consequent.now) (settings_of settings) else_follows) (test_ended (pen_of p.old))) }
 {
     p.print_closing(Bracket::Round)?;
     if consequent.ends_open() {
-        return print_braced(consequent, p, else_follows);
+        return print_braced(consequent, p, settings, else_follows);
     }
     match consequent.shape() {
         Shape::Block => {
             p.print_soft_space()?;
-            consequent.print(p, Place::WITHIN_STATEMENT)?;
+            consequent.print(p, Place::within_statement(settings))?;
             print_braces_end(p, else_follows)
         }
         Shape::Empty => print_empty_body(p, else_follows),
         Shape::If | Shape::Other => {
             p.begin_body();
-            consequent.print(p, Place::AMONG_STATEMENTS)?;
+            consequent.print(p, Place::among_statements(settings))?;
             print_body_end(p, else_follows)
         }
     }
@@ -179,15 +191,16 @@ fn print_consequent<N: PrintNode>(
 fn print_braced<N: PrintNode>(
     consequent: &N,
     p: &mut Printer,
+    settings: Settings,
     else_follows: bool,
 ) -> Result<(), Memory>
     ensures { OnOk result (pen_of p.new
-        ≡ layout (soft_space ⊕ (filled_braces (spell (N.plain consequent.now) among_statements) ⊕ braces_end else_follows))
+        ≡ layout (soft_space ⊕ (filled_braces (spell (N.plain consequent.now) (among_statements (settings_of settings))) ⊕ braces_end else_follows))
         (pen_of p.old)) }
 {
     p.print_soft_space()?;
     let depth = open_braces(p)?;
-    consequent.print(p, Place::AMONG_STATEMENTS)?;
+    consequent.print(p, Place::among_statements(settings))?;
     close_braces(p, depth)?;
     print_braces_end(p, else_follows)
 }
@@ -226,34 +239,39 @@ fn print_body_end(p: &mut Printer, else_follows: bool) -> Result<(), Memory>
 fn print_alternate<N: PrintNode>(
     alternate: &Option<StatementNode<N>>,
     p: &mut Printer,
+    settings: Settings,
 ) -> Result<(), Memory>
     ensures { OnOk result (pen_of p.new
-        ≡ layout (spell_alternate (optional (option_map (in_statement N.plain) alternate.now))) (pen_of p.old)) }
+        ≡ layout (spell_alternate (optional (option_map (in_statement N.plain) alternate.now)) (settings_of settings)) (pen_of p.old)) }
 {
     match alternate {
         Some(alternate) => {
             p.print_due_semicolon()?;
-            print_else(alternate.get(), p)
+            print_else(alternate.get(), p, settings)
         }
         None => Ok(()),
     }
 }
 
 #[tactic(auto, unfolding(crate::specs::Place::pen_after))]
-fn print_else<N: PrintNode>(alternate: &N, p: &mut Printer) -> Result<(), Memory>
+fn print_else<N: PrintNode>(
+    alternate: &N,
+    p: &mut Printer,
+    settings: Settings,
+) -> Result<(), Memory>
     ensures { OnOk result (pen_of p.new
-        ≡ layout (word (codes "else") ⊕ alternate_of (N.plain alternate.now)) (pen_of p.old)) }
+        ≡ layout (word (codes "else") ⊕ alternate_of (N.plain alternate.now) (settings_of settings)) (pen_of p.old)) }
 {
     p.print_word("else")?;
     match alternate.shape() {
         Shape::Block => {
             p.print_soft_space()?;
-            alternate.print(p, Place::WITHIN_STATEMENT)?;
+            alternate.print(p, Place::within_statement(settings))?;
             p.print_soft_line()
         }
         Shape::If => {
             p.print_hard_space()?;
-            alternate.print(p, Place::WITHIN_STATEMENT)
+            alternate.print(p, Place::within_statement(settings))
         }
         Shape::Empty => {
             p.print_semicolon()?;
@@ -261,7 +279,7 @@ fn print_else<N: PrintNode>(alternate: &N, p: &mut Printer) -> Result<(), Memory
         }
         Shape::Other => {
             p.begin_body();
-            alternate.print(p, Place::AMONG_STATEMENTS)
+            alternate.print(p, Place::among_statements(settings))
         }
     }
 }

@@ -28,7 +28,7 @@ pub use operands::Operand;
 use operands::{
     binding_pattern_operand, declaration_operand, expression_operand, statement_operand,
 };
-pub use place::{Context, Place};
+pub use place::{Context, Place, Settings};
 use sets::{print_binding_pattern, print_declaration, print_expression, print_statement};
 pub use shapes::Shape;
 use shapes::{

@@ -6,11 +6,11 @@ ghost use Rattle.jsgen_tree.specs.Rows.{characters, identifier_name_row, static_
 ghost use Rattle.jsgen_model.specs.Punctuator.{Round};
 ghost use Rattle.jsgen_model.specs.Items.{◌⊕◌, brackets, member_dot, name};
 ghost use Rattle.jsgen_model.specs.Layout.{layout};
-ghost use Rattle.jsgen_model.specs.Spell.{spell, spell_list, spell_more, called, in_brackets};
+ghost use Rattle.jsgen_model.specs.Spell.{spell, spell_list, spell_more, called, in_brackets, among_statements};
 ghost use Rattle.jsgen_printer.specs.Printer.{pen_of};
-ghost use Rattle.jsgen_nodes.specs.Place.{pen_after, place_of};
+ghost use Rattle.jsgen_nodes.specs.Place.{pen_after, place_of, settings_of};
 
-use crate::{Place, PrintNode};
+use crate::{Place, PrintNode, Settings};
 use jsgen_printer::{Bracket, Printer};
 use jsgen_syntax::{Memory, Precedence};
 use jsgen_tree::{
@@ -64,7 +64,7 @@ pub fn print_computed_member_expression<N: PrintNode>(
     p.print_opening(Bracket::Square)?;
     node.expression
         .get()
-        .print(p, Place::in_brackets(Precedence::Lowest))?;
+        .print(p, Place::in_brackets(Precedence::Lowest, place.settings))?;
     p.print_closing(Bracket::Square)
 }
 
@@ -91,23 +91,27 @@ fn print_call<N: PrintNode>(
 ) -> Result<(), Memory>
     ensures { OnOk result (pen_of p.new
         ≡ layout (spell (in_expression N.plain node.now.callee) (called (place_of place (pen_of p.old)))
-        ⊕ brackets Round (spell_list (trees (map (in_argument N.plain) node.now.arguments.items)) (in_brackets Comma)))
+        ⊕ brackets Round (spell_list (trees (map (in_argument N.plain) node.now.arguments.items)) (in_brackets Comma (place_of place (pen_of p.old)))))
         (pen_of p.old)) }
 {
     node.callee.get().print(p, place.called())?;
-    print_arguments(&node.arguments, p)
+    print_arguments(&node.arguments, p, place.settings)
 }
 
 #[tactic(auto, unfolding(crate::specs::Place::pen_after))]
-fn print_arguments<N: PrintNode>(arguments: &[Argument<N>], p: &mut Printer) -> Result<(), Memory>
+fn print_arguments<N: PrintNode>(
+    arguments: &[Argument<N>],
+    p: &mut Printer,
+    settings: Settings,
+) -> Result<(), Memory>
     ensures { OnOk result (pen_of p.new
-        ≡ layout (brackets Round (spell_list (trees (map (in_argument N.plain) arguments.now)) (in_brackets Comma)))
+        ≡ layout (brackets Round (spell_list (trees (map (in_argument N.plain) arguments.now)) (in_brackets Comma (among_statements (settings_of settings)))))
         (pen_of p.old)) }
 {
     p.print_opening(Bracket::Round)?;
     if let Some((first, others)) = arguments.split_first() {
-        print_argument(first, p, Place::in_brackets(Precedence::Comma))?;
-        print_more_arguments(others, p)?;
+        print_argument(first, p, Place::in_brackets(Precedence::Comma, settings))?;
+        print_more_arguments(others, p, settings)?;
     }
     p.print_closing(Bracket::Round)
 }
@@ -130,14 +134,15 @@ fn print_argument<N: PrintNode>(
 fn print_more_arguments<N: PrintNode>(
     arguments: &[Argument<N>],
     p: &mut Printer,
+    settings: Settings,
 ) -> Result<(), Memory>
     ensures { OnOk result (pen_of p.new
-        ≡ layout (spell_more (trees (map (in_argument N.plain) arguments.now)) (in_brackets Comma)) (pen_of p.old)) }
+        ≡ layout (spell_more (trees (map (in_argument N.plain) arguments.now)) (in_brackets Comma (among_statements (settings_of settings)))) (pen_of p.old)) }
 {
     for argument in arguments {
         p.print_comma()?;
         p.print_soft_space()?;
-        print_argument(argument, p, Place::in_brackets(Precedence::Comma))?;
+        print_argument(argument, p, Place::in_brackets(Precedence::Comma, settings))?;
     }
     Ok(())
 }

@@ -21,9 +21,16 @@ impl Context {
     };
 }
 
+/// What a spelling depends on beside the tree.
+#[derive(Clone, Copy)]
+pub struct Settings {
+    pub minified: bool,
+}
+
 /// Where a node stands. What begins with it is what begins at the end of the code so far.
 #[derive(Clone, Copy)]
 pub struct Place {
+    pub settings: Settings,
     /// At or above its own level an expression needs parentheses.
     pub level: Precedence,
     pub context: Context,
@@ -34,34 +41,31 @@ pub struct Place {
 }
 
 impl Place {
-    pub const AMONG_STATEMENTS: Place = Place {
-        level: Precedence::Lowest,
-        context: Context::FREE,
-        in_list: true,
-        left_operand: false,
-    };
+    pub fn among_statements(settings: Settings) -> Place
+        ensures { result ≡ record { settings = settings; level = Precedence.Lowest; context = record { forbids_in = false; forbids_call = false }; in_list = true; left_operand = false } }
+    {
+        Place {
+            settings,
+            level: Precedence::Lowest,
+            context: Context::FREE,
+            in_list: true,
+            left_operand: false,
+        }
+    }
 
-    /// A block or an `if` that goes on with a line.
-    pub const WITHIN_STATEMENT: Place = Place {
-        level: Precedence::Lowest,
-        context: Context::FREE,
-        in_list: false,
-        left_operand: false,
-    };
-
-    /// The expression of an expression statement.
-    pub const WHOLE_STATEMENT: Place = Place {
-        level: Precedence::Lowest,
-        context: Context::FREE,
-        in_list: false,
-        left_operand: false,
-    };
+    /// A block or an `if` that goes on with a line, or the expression of an expression statement.
+    pub fn within_statement(settings: Settings) -> Place
+        ensures { result ≡ record { settings = settings; level = Precedence.Lowest; context = record { forbids_in = false; forbids_call = false }; in_list = false; left_operand = false } }
+    {
+        Place::in_brackets(Precedence::Lowest, settings)
+    }
 
     /// A child's place, under the same context.
     pub fn child(self, level: Precedence) -> Place
-        ensures { result ≡ record { level = level; context = self.context; in_list = false; left_operand = false } }
+        ensures { result ≡ record { settings = self.settings; level = level; context = self.context; in_list = false; left_operand = false } }
     {
         Place {
+            settings: self.settings,
             level,
             context: self.context,
             in_list: false,
@@ -71,9 +75,10 @@ impl Place {
 
     /// A left operand's place, under the same context.
     pub fn left_operand(self, level: Precedence) -> Place
-        ensures { result ≡ record { level = level; context = self.context; in_list = false; left_operand = true } }
+        ensures { result ≡ record { settings = self.settings; level = level; context = self.context; in_list = false; left_operand = true } }
     {
         Place {
+            settings: self.settings,
             level,
             context: self.context,
             in_list: false,
@@ -82,10 +87,11 @@ impl Place {
     }
 
     /// A child's place in brackets, where nothing is forbidden.
-    pub fn in_brackets(level: Precedence) -> Place
-        ensures { result ≡ record { level = level; context = record { forbids_in = false; forbids_call = false }; in_list = false; left_operand = false } }
+    pub fn in_brackets(level: Precedence, settings: Settings) -> Place
+        ensures { result ≡ record { settings = settings; level = level; context = record { forbids_in = false; forbids_call = false }; in_list = false; left_operand = false } }
     {
         Place {
+            settings,
             level,
             context: Context::FREE,
             in_list: false,
@@ -98,6 +104,7 @@ impl Place {
         ensures { (pen : Pen) → place_of result pen ≡ called (place_of self pen) }
     {
         Place {
+            settings: self.settings,
             level: Precedence::Postfix,
             context: Context {
                 forbids_call: false,

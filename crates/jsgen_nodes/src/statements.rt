@@ -8,9 +8,9 @@ ghost use Rattle.jsgen_model.specs.Items.{◌⊕◌, word, soft_space, due_semic
 ghost use Rattle.jsgen_model.specs.Layout.{layout};
 ghost use Rattle.jsgen_model.specs.Spell.{spell, spell_list, spell_more, spell_value, spell_directives, spell_body, spell_statements, first_statement, behind, among_statements};
 ghost use Rattle.jsgen_printer.specs.Printer.{pen_of};
-ghost use Rattle.jsgen_nodes.specs.Place.{pen_after, place_of};
+ghost use Rattle.jsgen_nodes.specs.Place.{pen_after, place_of, settings_of};
 
-use crate::{Place, PrintNode};
+use crate::{Place, PrintNode, Settings};
 use jsgen_printer::Printer;
 use jsgen_syntax::{Memory, Precedence};
 use jsgen_tree::{
@@ -19,21 +19,29 @@ use jsgen_tree::{
 };
 
 #[tactic(auto, unfolding(crate::specs::Place::pen_after))]
-pub fn print_program<N: PrintNode>(node: &Program<N>, p: &mut Printer) -> Result<(), Memory>
+pub fn print_program<N: PrintNode>(
+    node: &Program<N>,
+    p: &mut Printer,
+    settings: Settings,
+) -> Result<(), Memory>
     ensures { OnOk result (pen_of p.new
-        ≡ layout (spell (program_row N.plain node.now) among_statements) (pen_of p.old)) }
+        ≡ layout (spell (program_row N.plain node.now) (among_statements (settings_of settings))) (pen_of p.old)) }
 {
-    print_directives(&node.directives, p)?;
-    print_whole_body(&node.body, p)
+    print_directives(&node.directives, p, settings)?;
+    print_whole_body(&node.body, p, settings)
 }
 
 #[tactic(auto, unfolding(crate::specs::Place::pen_after))]
-fn print_directives(directives: &[Directive], p: &mut Printer) -> Result<(), Memory>
+fn print_directives(
+    directives: &[Directive],
+    p: &mut Printer,
+    settings: Settings,
+) -> Result<(), Memory>
     ensures { OnOk result (pen_of p.new
-        ≡ layout (spell_directives (trees (map directive_row directives.now))) (pen_of p.old)) }
+        ≡ layout (spell_directives (trees (map directive_row directives.now)) (settings_of settings)) (pen_of p.old)) }
 {
     for directive in directives {
-        print_directive(directive, p, Place::AMONG_STATEMENTS)?;
+        print_directive(directive, p, Place::among_statements(settings))?;
     }
     Ok(())
 }
@@ -54,33 +62,42 @@ pub fn print_directive(node: &Directive, p: &mut Printer, place: Place) -> Resul
 fn print_whole_body<N: PrintNode>(
     statements: &[StatementNode<N>],
     p: &mut Printer,
+    settings: Settings,
 ) -> Result<(), Memory>
     ensures { OnOk result (pen_of p.new
-        ≡ layout (spell_body (trees (map (in_statement N.plain) statements.now)) ⊕ due_semicolon) (pen_of p.old)) }
+        ≡ layout (spell_body (trees (map (in_statement N.plain) statements.now)) (settings_of settings) ⊕ due_semicolon) (pen_of p.old)) }
 {
-    print_body(statements, p)?;
+    print_body(statements, p, settings)?;
     p.print_due_semicolon()
 }
 
 // The statements of a body, of which the first may not become a directive.
 #[tactic(auto, unfolding(crate::specs::Place::pen_after))]
-fn print_body<N: PrintNode>(statements: &[StatementNode<N>], p: &mut Printer) -> Result<(), Memory>
+fn print_body<N: PrintNode>(
+    statements: &[StatementNode<N>],
+    p: &mut Printer,
+    settings: Settings,
+) -> Result<(), Memory>
     ensures { OnOk result (pen_of p.new
-        ≡ layout (spell_body (trees (map (in_statement N.plain) statements.now))) (pen_of p.old)) }
+        ≡ layout (spell_body (trees (map (in_statement N.plain) statements.now)) (settings_of settings)) (pen_of p.old)) }
 {
     match statements.split_first() {
         Some((first, others)) => {
-            print_first_statement(first.get(), p)?;
-            print_statements(others, p)
+            print_first_statement(first.get(), p, settings)?;
+            print_statements(others, p, settings)
         }
         None => Ok(()),
     }
 }
 
 #[tactic(auto, unfolding(crate::specs::Place::pen_after))]
-fn print_first_statement<N: PrintNode>(statement: &N, p: &mut Printer) -> Result<(), Memory>
+fn print_first_statement<N: PrintNode>(
+    statement: &N,
+    p: &mut Printer,
+    settings: Settings,
+) -> Result<(), Memory>
     ensures { OnOk result (pen_of p.new
-        ≡ layout (due_semicolon ⊕ first_statement (N.plain statement.now) (spell (N.plain statement.now) among_statements))
+        ≡ layout (due_semicolon ⊕ first_statement (N.plain statement.now) (spell (N.plain statement.now) (among_statements (settings_of settings))))
         (pen_of p.old)) }
 {
     p.print_due_semicolon()?;
@@ -90,7 +107,7 @@ fn print_first_statement<N: PrintNode>(statement: &N, p: &mut Printer) -> Result
             p.print_first_string(value)?;
             p.print_statement_end()
         }
-        None => statement.print(p, Place::AMONG_STATEMENTS),
+        None => statement.print(p, Place::among_statements(settings)),
     }
 }
 
@@ -98,13 +115,14 @@ fn print_first_statement<N: PrintNode>(statement: &N, p: &mut Printer) -> Result
 pub fn print_statements<N: PrintNode>(
     statements: &[StatementNode<N>],
     p: &mut Printer,
+    settings: Settings,
 ) -> Result<(), Memory>
     ensures { OnOk result (pen_of p.new
-        ≡ layout (spell_statements (trees (map (in_statement N.plain) statements.now))) (pen_of p.old)) }
+        ≡ layout (spell_statements (trees (map (in_statement N.plain) statements.now)) (settings_of settings)) (pen_of p.old)) }
 {
     for statement in statements {
         p.print_due_semicolon()?;
-        statement.get().print(p, Place::AMONG_STATEMENTS)?;
+        statement.get().print(p, Place::among_statements(settings))?;
     }
     Ok(())
 }
@@ -117,10 +135,11 @@ pub fn print_expression_statement<N: PrintNode>(
 ) -> Result<(), Memory>
     ensures { OnOk result (pen_of p.new ≡ pen_after (expression_statement_row N.plain node.now) place p.old) }
 {
-    let _ = place;
     p.print_indentation()?;
     p.begin_statement();
-    node.expression.get().print(p, Place::WHOLE_STATEMENT)?;
+    node.expression
+        .get()
+        .print(p, Place::within_statement(place.settings))?;
     p.print_statement_end()
 }
 

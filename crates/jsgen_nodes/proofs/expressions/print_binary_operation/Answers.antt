@@ -17,8 +17,8 @@ returns g c =
     let before = pen_of c.args.p.now in
     let between = pen_of c.print_soft_space-2.new.self in
     operation_laid c.print-2.result (pen_of c.print-2.new.p) before _ _ _ between (operator_item o) (plain left) (plain right) c.args.place c.left_operand.result c.child.result (left_level o (plain left)) (right_level o) (operator_nowhere o)
-    (c.left_operand.ensures ∙ ap (λ l. record { level = l; context = c.args.place.context; in_list = false; left_operand = true }) (c.left_level.ensures ∙ ap (λ n. left_level o (plain n)) c.get-left.ensures))
-    (c.child.ensures ∙ ap (λ l. record { level = l; context = c.args.place.context; in_list = false; left_operand = false }) c.right_level.ensures)
+    (c.left_operand.ensures ∙ ap (λ l. record { settings = c.args.place.settings; level = l; context = c.args.place.context; in_list = false; left_operand = true }) (c.left_level.ensures ∙ ap (λ n. left_level o (plain n)) c.get-left.ensures))
+    (c.child.ensures ∙ ap (λ l. record { settings = c.args.place.settings; level = l; context = c.args.place.context; in_list = false; left_operand = false }) c.right_level.ensures)
     (c.in_ok-print.ensures ∙ ap (λ n. layout (spell (plain n) (place_of c.left_operand.result before)) before) c.get-left.ensures)
     c.in_ok-print_soft_space.ensures c.in_ok-print_operator.ensures c.in_ok-print_soft_space-2.ensures
     (same_pen _ _ _ _ c.print-2.ensures (ap (λ n. layout (spell (plain n) (place_of c.child.result between)) between) c.get-right.ensures))
