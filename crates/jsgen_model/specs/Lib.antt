@@ -9,3 +9,4 @@ pub mod Renamed
 pub mod Plain
 pub mod Grammar
 pub mod Reading
+pub mod Law

@@ -1,0 +1,5 @@
+use Rattle.jsgen_model.proofs.Programs.{program_is_plain}
+use Rattle.jsgen_model.proofs.laws.programs_are_plain.Goals as goal
+
+pub returns : goal.returns
+returns c = program_is_plain
