@@ -2,6 +2,8 @@
 use Rattle.std.specs.Prelude.{◌≡◌, ℕ, List, ◌++◌, Bool, true, false, Result, is_err, OnOk, OnErr}
 use Rattle.jsgen_syntax.specs.Buffer.{buffer_bytes, AppendsPrefix}
 use Rattle.jsgen_tree.specs.Options.{Options, options_plain}
+use Rattle.jsgen_tree.specs.Job.{JobData, no_tables}
+use Rattle.jsgen_tree.specs.Tree.{Tree}
 use Rattle.jsgen_syntax.specs.Strings.{quoted}
 use Rattle.jsgen_model.specs.Layout.{chosen_quote, style_of}
 use Rattle.jsgen.specs.declared.codegen.Codegen.{Codegen}
@@ -9,6 +11,10 @@ use Rattle.jsgen.specs.declared.codegen.Codegen.{Codegen}
 -- how it prints
 abbrev pub options_of : Codegen → Options
 options_of c = options_plain c.options
+
+-- what it is asked for with a program: it has no tables yet
+abbrev pub job_for : Codegen → Tree → JobData
+job_for c program = record { options = options_of c; tables = no_tables; program = program }
 
 -- the bytes that print calls printed
 abbrev pub printed_so_far : Codegen → List ℕ

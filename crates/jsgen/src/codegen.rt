@@ -11,12 +11,12 @@ ghost use Rattle.jsgen_model.specs.Spell.{text_bytes};
 ghost use Rattle.std.specs.Str.{chars, encode_utf8_all};
 ghost use Rattle.jsgen_model.specs.Plain.{IsPlain, IsQuiet};
 ghost use Rattle.jsgen_model.specs.Reading.{IsReadAs};
-ghost use Rattle.jsgen_model.specs.Valid.{program_breaches, IsValid, Judges};
-ghost use Rattle.jsgen.specs.Codegen.{options_of, has_printed, has_failed, printed_so_far, begun, string_text, Prints};
+ghost use Rattle.jsgen_model.specs.Valid.{job_breaches, IsValid, Judges};
+ghost use Rattle.jsgen.specs.Codegen.{options_of, job_for, has_printed, has_failed, printed_so_far, begun, string_text, Prints};
 
 use jsgen_check::check_program;
 use jsgen_model::TreeFault;
-use jsgen_nodes::print_program;
+use jsgen_nodes::{Settings, print_program};
 use jsgen_printer::Printer;
 use jsgen_syntax::{CodeBuffer, IndentChar, JsStr, Memory, Quote};
 use jsgen_text::{
@@ -196,26 +196,29 @@ impl<'a> Codegen<'a> {
     /// Says Ok exactly where the program keeps each rule of a tree (docs/FORMAT.md, "Rules of a tree"), and otherwise
     /// a rule that it breaks. It takes no memory.
     pub fn check(&self, program: &Program) -> Result<(), TreeFault>
-        ensures { Judges (program_breaches (options_of self.now).minify (program_plain program.now)) result }
+        ensures { Judges (job_breaches (job_for self.now (program_plain program.now))) result }
     {
-        check_program(self.options.minify, program)
+        check_program(&self.options, program)
     }
 
     /// Prints a program, which `check` has to accept, before anything else is printed. The only error is want of memory.
     pub fn build(self, program: &'a Program) -> Result<CodegenReturn, CodegenError>
         requires unprinted { has_printed self ≡ false }
-        requires valid { IsValid (options_of self).minify (program_plain program.now) }
+        requires valid { IsValid (job_for self (program_plain program.now)) }
 
         // The text, to the byte.
         ensures text { IfOk result (λ printed. string_bytes printed.code
-            ≡ text_bytes (style_of (options_of self.entry)) (program_plain program.now)) }
+            ≡ text_bytes (job_for self.entry (program_plain program.now))) }
 
         // The grammar reads the text of a plain and quiet program as that program, up to its normal form.
-        ensures reads { IfOk result (λ printed. IsPlain (program_plain program.now) → IsQuiet (program_plain program.now)
-            → IsReadAs (chars (string_bytes printed.code)) (program_plain program.now)) }
+        ensures reads { IfOk result (λ printed. IsPlain (program_plain program.now) → IsQuiet (job_for self.entry (program_plain program.now))
+            → IsReadAs (chars (string_bytes printed.code)) (job_for self.entry (program_plain program.now))) }
     {
         let mut p = Printer::new(self.alloc, &self.options);
-        print_program(program, &mut p)?;
+        let settings = Settings {
+            minified: self.options.minify,
+        };
+        print_program(program, &mut p, settings)?;
         Ok(CodegenReturn {
             code: p.into_string(),
         })

@@ -1,20 +1,19 @@
 -- The promise of the program follows from the rows of its answers.
-use Rattle.std.proofs.Common.{rules, ◌≡◌, ℕ, List, [], ◌∷◌, Option, Some, None, Ok, IfSome, inl, refl, ap, ◌∙◌, subst, arith}
+use Rattle.std.proofs.Common.{rules, ◌≡◌, ℕ, List, [], ◌∷◌, Option, Some, None, Ok, IfSome, refl, ap, ◌∙◌, subst, arith}
 use Rattle.std.specs.Prelude.{Contains}
 use Rattle.std.specs.Io.KnownBytes.{Appends}
-use Rattle.jsgen_tree.specs.Tree.{Tree}
-use Rattle.jsgen_model.specs.Layout.{style_of}
-use Rattle.jsgen_model.specs.Valid.{program_breaches, IsValid}
+use Rattle.jsgen_tree.specs.Job.{JobData}
+use Rattle.jsgen_model.specs.Spell.{text_bytes}
+use Rattle.jsgen_model.specs.Valid.{job_breaches}
 use Rattle.jsgen_model.specs.Plain.{IsPlain, IsQuiet}
 use Rattle.jsgen_model.specs.declared.fault.TreeFault.{TreeFault}
 use Rattle.jsgen_reading.proofs.Reading.{bytes_are_read, text_is_utf8}
 use Rattle.jsgen_rows.specs.Job.{job_of}
-use Rattle.jsgen_rows.specs.Meaning.{JobData}
 use Rattle.jsgen_rows.proofs.Program.{job_is_program}
 use Rattle.jsgen_tool.specs.Device.{Rose}
 use Rattle.jsgen_tool.specs.Answers.{InputRow, OutputRow, SourceCount, OutCount, Due}
-use Rattle.jsgen_tool.specs.Headline.{HoldsProgram, Prints, TookText}
-use Rattle.jsgen_tool.specs.Job.{text_of}
+use Rattle.jsgen_tool.specs.Headline.{HoldsJob, Prints, TookText}
+use Rattle.jsgen_tool.specs.Job.{IsJobOf}
 use Rattle.jsgen_tool.specs.declared.status.Status.{Status}
 use Rattle.jsgen_tool.specs.declared.status.Status.TheVariants.{Done, Refused, Usage, NotJob, ReadFault, WriteFault, Memory, TooLong}
 
@@ -26,32 +25,31 @@ no_breach : (fs : List TreeFault) (f : TreeFault) → fs ≡ [] → Contains fs 
 no_breach [] f h (i, within, is) = omega arith
 no_breach (g ∷ gs) f h c = cc
 
-took : (bytes : List ℕ) (wanted job : JobData) (old new : Option (List ℕ)) → job_of bytes ≡ Ok wanted → IsValid wanted.options.minify wanted.program → IsPlain wanted.program → IsQuiet wanted.program → job_of bytes ≡ Ok job → Appends old new (text_of job) → TookText wanted.program old new
-took bytes wanted job old new is valid plain quiet same appends =
-    let P : JobData → Type 0 = λ j. Appends old new (text_of j) in
-    let style = style_of wanted.options in
+took : (bytes : List ℕ) (wanted job : JobData) (old new : Option (List ℕ)) → IsJobOf wanted bytes → IsPlain wanted.program → IsQuiet wanted → job_of bytes ≡ Ok job → Appends old new (text_bytes job) → TookText wanted old new
+took bytes wanted job old new (is, valid) plain quiet same appends =
+    let P : JobData → Type 0 = λ j. Appends old new (text_bytes j) in
     let typed = job_is_program bytes wanted is in (
-      text_of wanted,
+      text_bytes wanted,
       subst P (one_job bytes job wanted same is) appends,
-      text_is_utf8 style wanted.program (inl refl) typed valid plain quiet,
-      bytes_are_read style wanted.program (inl refl) typed valid plain quiet,
+      text_is_utf8 wanted typed valid plain quiet,
+      bytes_are_read wanted typed valid plain quiet,
     )
 
-pub prints : (s : Status) (held : Option (List ℕ)) (before now sink_before sink_now : ℕ) (old new : Option (List ℕ)) (program : Tree) → (s ≡ Usage → ⊥) → SourceCount s before now → OutCount s sink_before sink_now → IfSome held (InputRow s) → OutputRow s held old new → HoldsProgram held program → IsPlain program → IsQuiet program → Prints (Rose before now) (Rose sink_before sink_now) program old new s
-prints s None before now sink_before sink_now old new program u r w i o holds plain quiet = absurd holds
-prints Done (Some bytes) before now sink_before sink_now old new program u r w i (job, (held, same, within, is), appends) (fits, (options, wanted, valid)) plain quiet = record {
+pub prints : (s : Status) (held : Option (List ℕ)) (before now sink_before sink_now : ℕ) (old new : Option (List ℕ)) (job : JobData) → (s ≡ Usage → ⊥) → SourceCount s before now → OutCount s sink_before sink_now → IfSome held (InputRow s) → OutputRow s held old new → HoldsJob held job → IsPlain job.program → IsQuiet job → Prints (Rose before now) (Rose sink_before sink_now) job old new s
+prints s None before now sink_before sink_now old new job u r w i o holds plain quiet = absurd holds
+prints Done (Some bytes) before now sink_before sink_now old new job u r w i (printed, (held, same, within, is), appends) (fits, wanted) plain quiet = record {
   answer = tt;
-  text = λ done. took bytes (record { options = options; program = program }) job old new wanted valid plain quiet (ap job_of same ∙ is.0) appends;
+  text = λ done. took bytes job printed old new wanted plain quiet (ap job_of same ∙ is.0) appends;
 }
-prints Memory (Some bytes) before now sink_before sink_now old new program u r w i o holds plain quiet = record { answer = tt; text = λ done. absurd (cc) }
-prints ReadFault (Some bytes) before now sink_before sink_now old new program u r w i o holds plain quiet = record { answer = r.1; text = λ done. absurd (cc) }
-prints WriteFault (Some bytes) before now sink_before sink_now old new program u r w i o holds plain quiet = record { answer = w.1; text = λ done. absurd (cc) }
-prints Usage (Some bytes) before now sink_before sink_now old new program u r w i o holds plain quiet = absurd (u refl)
-prints TooLong (Some bytes) before now sink_before sink_now old new program u r w i o holds plain quiet = absurd (omega (arith, i, holds.0))
-prints (NotJob fault) (Some bytes) before now sink_before sink_now old new program u r w i o (fits, (options, wanted, valid)) plain quiet = absurd (let a = i.1 in cc)
-prints (Refused fault) (Some bytes) before now sink_before sink_now old new program u r w (within, (job, is, broken)) o (fits, (options, wanted, valid)) plain quiet =
-    let P : JobData → Type 0 = λ j. Contains (program_breaches j.options.minify j.program) fault in
-    absurd (no_breach (program_breaches options.minify program) fault valid (subst P (one_job bytes job (record { options = options; program = program }) is wanted) broken))
+prints Memory (Some bytes) before now sink_before sink_now old new job u r w i o holds plain quiet = record { answer = tt; text = λ done. absurd (cc) }
+prints ReadFault (Some bytes) before now sink_before sink_now old new job u r w i o holds plain quiet = record { answer = r.1; text = λ done. absurd (cc) }
+prints WriteFault (Some bytes) before now sink_before sink_now old new job u r w i o holds plain quiet = record { answer = w.1; text = λ done. absurd (cc) }
+prints Usage (Some bytes) before now sink_before sink_now old new job u r w i o holds plain quiet = absurd (u refl)
+prints TooLong (Some bytes) before now sink_before sink_now old new job u r w i o holds plain quiet = absurd (omega (arith, i, holds.0))
+prints (NotJob fault) (Some bytes) before now sink_before sink_now old new job u r w i o (fits, (wanted, valid)) plain quiet = absurd (let a = i.1 in cc)
+prints (Refused fault) (Some bytes) before now sink_before sink_now old new job u r w (within, (found, is, broken)) o (fits, (wanted, valid)) plain quiet =
+    let P : JobData → Type 0 = λ j. Contains (job_breaches j) fault in
+    absurd (no_breach (job_breaches job) fault valid (subst P (one_job bytes found job is wanted) broken))
 
 -- what comes where the words are the command and no read failed
 pub due : (s : Status) (held : Option (List ℕ)) (before now sink_before sink_now : ℕ) → (s ≡ Usage → ⊥) → SourceCount s before now → OutCount s sink_before sink_now → IfSome held (InputRow s) → (Rose before now → ⊥) → IfSome held (λ bytes. Due (Rose sink_before sink_now) bytes s)

@@ -3,11 +3,12 @@ use Rattle.std.specs.Prelude.{◌≡◌, ◌⊎◌, ⊤, ℕ, ◌<◌, ◌≤◌
 use Rattle.std.specs.declared.alloc.Global.{Global}
 use Rattle.std.specs.Io.KnownBytes.{Keeps, Appends}
 use Rattle.jsgen_model.specs.declared.fault.TreeFault.{TreeFault}
-use Rattle.jsgen_rows.specs.Meaning.{JobData}
+use Rattle.jsgen_tree.specs.Job.{JobData}
+use Rattle.jsgen_model.specs.Spell.{text_bytes}
 use Rattle.jsgen_rows.specs.declared.InputFault.{InputFault}
 use Rattle.jsgen_tool.specs.Device.{Rose, AppendsPart}
 use Rattle.jsgen_tool.specs.Transfer.{IsWithin, limit}
-use Rattle.jsgen_tool.specs.Job.{IsJobOf, Breaks, IsNoJob, text_of}
+use Rattle.jsgen_tool.specs.Job.{IsJobOf, Breaks, IsNoJob}
 use Rattle.jsgen_tool.specs.declared.status.Status.{Status}
 use Rattle.jsgen_tool.specs.declared.status.Status.TheVariants.{Done, Refused, NotJob, ReadFault, WriteFault, Memory, TooLong}
 
@@ -16,16 +17,16 @@ abbrev pub IsPrint : List (String Global) → Type 0
 IsPrint words = map string_bytes words ≡ codes "print" ∷ []
 
 -- the bytes are a job that keeps the rules
-abbrev pub HoldsJob : List ℕ → Type 0
-HoldsJob bytes = (job : JobData) × IsJobOf job bytes
+abbrev pub IsSomeJob : List ℕ → Type 0
+IsSomeJob bytes = (job : JobData) × IsJobOf job bytes
 
 -- what each answer says of the bytes that the source held
 abbrev pub InputRow : Status → List ℕ → Type 0
 InputRow TooLong bytes = limit < length bytes
 InputRow (NotJob fault) bytes = IsWithin bytes × IsNoJob fault bytes
 InputRow (Refused fault) bytes = IsWithin bytes × Breaks fault bytes
-InputRow WriteFault bytes = IsWithin bytes × HoldsJob bytes
-InputRow Done bytes = IsWithin bytes × HoldsJob bytes
+InputRow WriteFault bytes = IsWithin bytes × IsSomeJob bytes
+InputRow Done bytes = IsWithin bytes × IsSomeJob bytes
 InputRow other bytes = ⊤
 
 -- what a source that tells its bytes held is a job within the limit, whose tree keeps the rules
@@ -35,8 +36,8 @@ HeldJob held job = (bytes : List ℕ) × IfSome held (λ told. told ≡ bytes) �
 -- What each answer says of the bytes that the sink took. They are the text of the job that was read, also
 -- where the source doesn't tell its bytes; every answer but Done and WriteFault leaves the sink as it was.
 abbrev pub OutputRow : Status → Option (List ℕ) → Option (List ℕ) → Option (List ℕ) → Type 0
-OutputRow Done held old new = (job : JobData) × HeldJob held job × Appends old new (text_of job)
-OutputRow WriteFault held old new = (job : JobData) × HeldJob held job × AppendsPart old new (text_of job)
+OutputRow Done held old new = (job : JobData) × HeldJob held job × Appends old new (text_bytes job)
+OutputRow WriteFault held old new = (job : JobData) × HeldJob held job × AppendsPart old new (text_bytes job)
 OutputRow other held old new = Keeps old new
 
 -- ReadFault comes only where the source's count rose, and under every other answer it is as it was
@@ -58,4 +59,4 @@ pub record Due (write_failed : Type 0) (bytes : List ℕ) (status : Status) : Ty
   pub too_long : limit < length bytes → (status ≡ TooLong) ⊎ (status ≡ Memory)
   pub not_job : IsWithin bytes → (fault : InputFault) → IsNoJob fault bytes → (status ≡ NotJob fault) ⊎ (status ≡ Memory)
   pub refused : IsWithin bytes → (fault : TreeFault) → Breaks fault bytes → IsRefused status ⊎ (status ≡ Memory)
-  pub done : (write_failed → ⊥) → IsWithin bytes → HoldsJob bytes → (status ≡ Done) ⊎ (status ≡ Memory)
+  pub done : (write_failed → ⊥) → IsWithin bytes → IsSomeJob bytes → (status ≡ Done) ⊎ (status ≡ Memory)

@@ -1,8 +1,8 @@
 // The top call: from the words of a command to its status.
 ghost use Rattle.std.specs.Prelude.{◌≡◌, ◌↔◌, ◌+◌, IsTrue, IfSome};
-ghost use Rattle.jsgen_tree.specs.Tree.{Tree};
+ghost use Rattle.jsgen_tree.specs.Job.{JobData};
 ghost use Rattle.jsgen_model.specs.Plain.{IsPlain, IsQuiet};
-ghost use Rattle.jsgen_tool.specs.Headline.{HoldsProgram, Prints};
+ghost use Rattle.jsgen_tool.specs.Headline.{HoldsJob, Prints};
 ghost use Rattle.jsgen_tool.specs.Answers.{IsPrint, InputRow, OutputRow, SourceCount, OutCount, Due};
 ghost use Rattle.jsgen_tool.specs.Device.{Rose};
 ghost use Rattle.jsgen_tool.specs.Lines.{line_of};
@@ -76,12 +76,12 @@ pub fn run<S: Source, K: Sink>(
     ensures due { IsPrint words.now → (Rose (S.faults source.old) (S.faults source.new) → ⊥) →
         IfSome (S.left source.old) (λ bytes. Due (Rose (K.faults out.old) (K.faults out.new)) bytes result) }
 
-    // What is printed is read back: for `print` and any program that the source holds as a job, that keeps the
-    // rules, is plain and is quiet.
-    ensures prints { IsPrint words.now → (program : Tree) → HoldsProgram (S.left source.old) program →
-        IsPlain program → IsQuiet program →
+    // What is printed is read back: for `print` and any job that the source holds, whose program keeps the rules
+    // under its options and tables and is plain, and which is quiet.
+    ensures prints { IsPrint words.now → (job : JobData) → HoldsJob (S.left source.old) job →
+        IsPlain job.program → IsQuiet job →
         Prints (Rose (S.faults source.old) (S.faults source.new)) (Rose (K.faults out.old) (K.faults out.new))
-        program (K.got out.old) (K.got out.new) result }
+        job (K.got out.old) (K.got out.new) result }
 
     // Want of memory is `Status::Memory`, and no fault of the job.
     ensures memory { result ≡ Status.NotJob InputFault.Memory → ⊥ }

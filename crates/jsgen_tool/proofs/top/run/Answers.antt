@@ -21,8 +21,8 @@ returns-clause-due g c = λ is_print unread.
     due c.work-status.result _ _ _ _ _ (λ usage. c.work-status.ensures.usage.0 usage is_print) c.work-status.ensures.read c.work-status.ensures.write c.work-status.ensures.input unread
 
 pub returns-clause-prints : goal.returns-clause-prints
-returns-clause-prints g c = λ is_print program holds plain quiet.
-    prints c.work-status.result _ _ _ _ _ _ _ program (λ usage. c.work-status.ensures.usage.0 usage is_print) c.work-status.ensures.read c.work-status.ensures.write c.work-status.ensures.input c.work-status.ensures.output holds plain quiet
+returns-clause-prints g c = λ is_print job holds plain quiet.
+    prints c.work-status.result _ _ _ _ _ _ _ job (λ usage. c.work-status.ensures.usage.0 usage is_print) c.work-status.ensures.read c.work-status.ensures.write c.work-status.ensures.input c.work-status.ensures.output holds plain quiet
 
 pub returns-clause-memory : goal.returns-clause-memory
 returns-clause-memory g c = c.work-status.ensures.memory
