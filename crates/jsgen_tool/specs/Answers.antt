@@ -33,8 +33,9 @@ InputRow other bytes = ⊤
 abbrev pub HeldJob : Option (List ℕ) → JobData → Type 0
 HeldJob held job = (bytes : List ℕ) × IfSome held (λ told. told ≡ bytes) × IsWithin bytes × IsJobOf job bytes
 
--- What each answer says of the bytes that the sink took. They are the text of the job that was read, also
--- where the source doesn't tell its bytes; every answer but Done and WriteFault leaves the sink as it was.
+-- What each answer says of the bytes that the sink took: on Done the text of a valid job, on WriteFault some first bytes of
+-- it. It is the job that the source held where the source tells its bytes, and else some job. Every other answer leaves the
+-- sink as it was. Of a sink that doesn't tell what it took this says nothing.
 abbrev pub OutputRow : Status → Option (List ℕ) → Option (List ℕ) → Option (List ℕ) → Type 0
 OutputRow Done held old new = (job : JobData) × HeldJob held job × Appends old new (text_bytes job)
 OutputRow WriteFault held old new = (job : JobData) × HeldJob held job × AppendsPart old new (text_bytes job)

@@ -107,7 +107,7 @@ impl Default for CommentOptions {
     }
 }
 
-/// How a program is printed. So far `minify` alone changes the text.
+/// How a program is printed. So far `single_quote`, `minify` and `ascii_only` change the text; the others are kept.
 #[derive(Debug, PartialEq, Eq, Drop)]
 pub struct CodegenOptions {
     /// Strings of pretty text stand in single quotes.
