@@ -1,6 +1,7 @@
 pub mod Punctuator
 pub mod Items
 pub mod Layout
+pub mod Printing
 pub mod Spell
 pub mod Valid
 pub mod Tokens

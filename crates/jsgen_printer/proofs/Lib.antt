@@ -1,2 +1,4 @@
 pub mod Operators
+pub mod Prefixes
+pub mod Stops
 pub mod Texts

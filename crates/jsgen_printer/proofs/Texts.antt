@@ -1,26 +1,29 @@
 -- Texts in bytes and in characters.
-use Rattle.std.proofs.Common.{◌≡◌, ℕ, zero, suc, codes, Result, Ok, Err, OnOk, ◌<◌, ◌≤◌, ◌-◌, Bool, true, false, nat_lt, Option, Some, None, List, [], ◌∷◌, ◌++◌, length, replicate, take, drop, refl, sym, ap, subst, ◌∙◌, append_assoc, append-nil, length-append, arith}
+use Rattle.std.proofs.Common.{◌≡◌, ℕ, zero, suc, codes, Result, Ok, Err, OnOk, ◌<◌, ◌≤◌, ◌-◌, Bool, true, false, nat_lt, Option, Some, None, List, [], ◌∷◌, ◌++◌, length, replicate, take, drop, refl, sym, ap, subst, ◌∙◌, append_assoc, append-nil, length-append, if◌then◌else◌, arith}
 use Rattle.std.specs.List.{slice_get}
 use Rattle.std.specs.Option.{option_map, option_map_or}
 use Rattle.std.specs.Str.{chars, encode_utf8_all, IsAscii, IsUtf8}
 use Rattle.std.proofs.Math.Seq.{take-append_seam, drop-append_seam}
 use Rattle.std.proofs.lemmas.Bool.{and_parts, and_from}
 use Rattle.std.proofs.lemmas.Bool.Decides.{nat_tests}
-use Rattle.std.proofs.lemmas.Str.{chars-IsAscii, chars-append, chars_from_encodes, IsUtf8-drop, IsUtf8-string_bytes, IsCharBoundary-from_take}
+use Rattle.std.proofs.lemmas.Str.{chars-IsAscii, chars-append, chars_from_encodes, encodes-IsAscii, IsUtf8-drop, IsUtf8-string_bytes, IsCharBoundary-from_take}
 use Rattle.std.proofs.lemmas.Str.Ascii.{IsAscii-nil, IsAscii-cons}
 use Rattle.jsgen_syntax.proofs.Last.{last_goes_in_word}
-use Rattle.jsgen_syntax.specs.Buffer.{buffer_bytes, indent_byte, indent_code}
+use Rattle.jsgen_syntax.specs.Buffer.{buffer_bytes, indent_byte, indent_code, AppendsPrefix}
 use Rattle.jsgen_syntax.specs.declared.buffer.CodeBuffer.{CodeBuffer}
 use Rattle.jsgen_syntax.specs.declared.buffer.IndentChar.{IndentChar}
 use Rattle.jsgen_syntax.specs.declared.buffer.IndentChar.TheVariants as indents
 use Rattle.jsgen_syntax.specs.Name.{goes_in_word}
 use Rattle.jsgen_syntax.specs.Escapes.{name_text, has_escapes}
-use Rattle.jsgen_syntax.specs.Strings.{quote_char}
+use Rattle.jsgen_syntax.specs.Strings.{quote_char, quoted}
 use Rattle.jsgen_syntax.specs.declared.quote.Quote.{Quote}
 use Rattle.jsgen_syntax.specs.declared.quote.Quote.TheVariants as quotes
+use Rattle.jsgen_syntax.specs.declared.quote.Quote.TheVariants.{Backtick}
 use Rattle.jsgen_model.specs.Punctuator.{Round, opening, closing}
-use Rattle.jsgen_model.specs.Layout.{Pen, Ending, other_end, nowhere, written, written_if, indented, space_if, ends_in_word, name_ending}
+use Rattle.jsgen_model.specs.Layout.{Style, Pen, Ending, first_text, other_end, nowhere, written, written_if, indented, space_if, ends_in_word, name_ending}
+use Rattle.jsgen_model.specs.Printing.{IsPrefix}
 use Rattle.jsgen_printer.specs.Printer.{is_ascii, name_written}
+use Rattle.jsgen_printer.proofs.Prefixes.{prefix_append, prefix_behind, first_bytes}
 
 below : (b : ℕ) → nat_lt b 128 ≡ true → b < 128
 below b h = grind (arith, nat_tests)
@@ -55,17 +58,27 @@ all_ascii zero b h = refl
 all_ascii (suc n) b h = rw h (all_ascii n b h)
 
 -- indentation is ASCII
-pub indent_chars : (n : ℕ) (b : CodeBuffer) → chars (replicate n (indent_byte b)) ≡ replicate n (indent_byte b)
-indent_chars n b = ascii_chars _ (all_ascii n (indent_byte b) (by b.indent))
+indent_ascii : (n : ℕ) (b : CodeBuffer) → is_ascii (replicate n (indent_byte b)) ≡ true
+indent_ascii n b = all_ascii n (indent_byte b) (by b.indent)
   where
     by : (c : IndentChar) → nat_lt (indent_code c) 128 ≡ true
     by indents.Tab = refl
     by indents.Space = refl
 
+pub indent_chars : (n : ℕ) (b : CodeBuffer) → chars (replicate n (indent_byte b)) ≡ replicate n (indent_byte b)
+indent_chars n b = ascii_chars _ (indent_ascii n b)
+
+pub indent_bytes : (n : ℕ) (b : CodeBuffer) → encode_utf8_all (replicate n (indent_byte b)) ≡ replicate n (indent_byte b)
+indent_bytes n b = encodes-IsAscii _ (passes _ (indent_ascii n b))
+
 -- indentation that isn't empty
 pub indented_by : (xs : List ℕ) (pen : Pen) → (length xs ≡ 0 → ⊥) → indented xs pen ≡ written xs other_end pen
 indented_by [] pen some = absurd (some refl)
 indented_by (x ∷ xs) pen some = refl
+
+pub indented_code : (xs : List ℕ) (pen : Pen) → (indented xs pen).code ≡ pen.code ++ xs
+indented_code [] pen = sym (append-nil pen.code)
+indented_code (x ∷ xs) pen = refl
 
 -- ---- the code's characters
 
@@ -96,6 +109,14 @@ appended_chars old new text e =
     let u = behind_text (buffer_bytes old) (encode_utf8_all text) (code_is_text old) (subst IsUtf8 e (code_is_text new)) in
     appended_text old new (encode_utf8_all text) e ∙ ap (λ t. chars (buffer_bytes old) ++ t) (encoded_chars text u)
 
+-- some first bytes of characters were appended: the characters are those before and some first ones of these
+pub stopped_chars : (old new : CodeBuffer) (text : List ℕ) → AppendsPrefix (buffer_bytes old) (buffer_bytes new) (encode_utf8_all text) → IsPrefix (chars (buffer_bytes old)) (chars (buffer_bytes new)) × IsPrefix (chars (buffer_bytes new)) (chars (buffer_bytes old) ++ text)
+stopped_chars old new text a =
+    let some = take a.0 (encode_utf8_all text) in
+    let more = appended_text old new some a.1 in
+    let u = behind_text (buffer_bytes old) some (code_is_text old) (subst IsUtf8 a.1 (code_is_text new)) in
+    (rw more (prefix_append (chars (buffer_bytes old)) (chars some)), rw more (prefix_behind (chars (buffer_bytes old)) (first_bytes text a.0 u)))
+
 quote_ascii : (q : Quote) → nat_lt (quote_char q) 128 ≡ true
 quote_ascii quotes.Single = refl
 quote_ascii quotes.Double = refl
@@ -118,6 +139,10 @@ between a text b pen = ap (λ code. record pen { code = code; ending = other_end
 -- in parentheses
 pub in_parentheses : (text : List ℕ) (pen : Pen) → written (closing Round) other_end (written text other_end (written (opening Round) other_end pen)) ≡ written (opening Round ++ (text ++ closing Round)) other_end pen
 in_parentheses text pen = between (opening Round) text (closing Round) pen
+
+-- pretty, a first string stands in parentheses
+pub pretty_first : (style : Style) (units : List ℕ) → style.minified ≡ false → first_text style units ≡ opening Round ++ (quoted style.quote style.ascii units ++ closing Round)
+pretty_first style units h = ap (λ minified. if minified then quoted Backtick style.ascii units else opening Round ++ (quoted style.quote style.ascii units ++ closing Round)) h
 
 -- ---- steps
 

@@ -55,10 +55,11 @@ pub struct Printer {
 
 #[tactic(auto, using(crate::proofs::Texts::ascii_chars), unfolding(crate::specs::Printer::pen_of))]
 impl Printer {
-    ghost use Rattle.std.specs.Prelude.{OnOk, IfOk, [], ◌∷◌, ◌++◌, decimal, replicate, string_bytes, true, IsTrue};
+    ghost use Rattle.std.specs.Prelude.{IfOk, [], ◌∷◌, ◌++◌, decimal, replicate, string_bytes, true, IsTrue};
     ghost use Rattle.std.specs.Str.{chars, encode_utf8_all};
     ghost use Rattle.jsgen_model.specs.Punctuator.{Round, opening, closing, comma, semicolon, equal, plus, minus};
     ghost use Rattle.jsgen_model.specs.Items.{word, name, number, string, first_string, directive, member_dot, punctuator, soft_space, soft_line, hard_space, indentation, body_space, statement_end, due_semicolon, drop_semicolon, statement_begins};
+    ghost use Rattle.jsgen_model.specs.Printing.{Reaches};
     ghost use Rattle.jsgen_model.specs.Layout.{layout, written, written_if, other_end, space_if, ends_in_word, ends_in_escapes, is_apart, name_ending, joins, dot_joins, indented, chosen_quote, deeper_level, empty_pen, style_of};
     ghost use Rattle.jsgen_syntax.specs.Buffer.{indent_byte};
     ghost use Rattle.jsgen_tree.specs.Options.{options_plain};
@@ -87,7 +88,8 @@ impl Printer {
 
     // The code goes on with a text, which ends so.
     fn print_str(&mut self, text: &str, ending: Ending) -> Result<(), Memory>
-        ensures { OnOk result (pen_of self.new ≡ written (chars text.now) (ending_of ending) (pen_of self.old)) }
+        ensures { Reaches result (pen_of self.old) (pen_of self.new)
+            (written (chars text.now) (ending_of ending) (pen_of self.old)) }
     {
         self.code.print_str(text)?;
         self.ending = ending;
@@ -97,8 +99,8 @@ impl Printer {
 
     // A text stands apart from what is before it, by a space where the test holds.
     fn print_apart(&mut self, test: bool, text: &str, ending: Ending) -> Result<(), Memory>
-        ensures { OnOk result (pen_of self.new
-            ≡ written (space_if test ++ chars text.now) (ending_of ending) (pen_of self.old)) }
+        ensures { Reaches result (pen_of self.old) (pen_of self.new)
+            (written (space_if test ++ chars text.now) (ending_of ending) (pen_of self.old)) }
     {
         self.print_if(test, " ")?;
         self.print_str(text, ending)
@@ -106,7 +108,8 @@ impl Printer {
 
     // The code goes on with a text where the test holds.
     fn print_if(&mut self, test: bool, text: &str) -> Result<(), Memory>
-        ensures { OnOk result (pen_of self.new ≡ written_if test (chars text.now) (pen_of self.old)) }
+        ensures { Reaches result (pen_of self.old) (pen_of self.new)
+            (written_if test (chars text.now) (pen_of self.old)) }
     {
         if test {
             self.print_str(text, Ending::Other)
@@ -163,14 +166,15 @@ impl Printer {
 
     pub fn print_word(&mut self, text: &str) -> Result<(), Memory>
         requires { IsTrue (is_ascii text.now) }
-        ensures { OnOk result (pen_of self.new ≡ layout (word text.now) (pen_of self.old)) }
+        ensures { Reaches result (pen_of self.old) (pen_of self.new) (layout (word text.now) (pen_of self.old)) }
     {
         let apart = self.is_apart();
         self.print_apart(apart, text, Ending::Other)
     }
 
     pub fn print_name(&mut self, text: &str) -> Result<(), Memory>
-        ensures { OnOk result (pen_of self.new ≡ layout (name (chars text.now)) (pen_of self.old)) }
+        ensures { Reaches result (pen_of self.old) (pen_of self.new)
+            (layout (name (chars text.now)) (pen_of self.old)) }
     {
         let apart = self.is_apart();
         self.print_if(apart, " ")?;
@@ -179,7 +183,7 @@ impl Printer {
 
     // The code goes on with a name, which needs no space before it.
     fn print_bare_name(&mut self, text: &str) -> Result<(), Memory>
-        ensures { OnOk result (pen_of self.new ≡ name_written (chars text.now) (pen_of self.old)) }
+        ensures { Reaches result (pen_of self.old) (pen_of self.new) (name_written (chars text.now) (pen_of self.old)) }
     {
         let has_escapes = print_name_text(&mut self.code, text, self.ascii_only)?;
         self.ending = Printer::name_ending(has_escapes);
@@ -199,7 +203,8 @@ impl Printer {
     }
 
     pub fn print_whole_number(&mut self, digits: u128) -> Result<(), Memory>
-        ensures { OnOk result (pen_of self.new ≡ layout (number true (decimal digits)) (pen_of self.old)) }
+        ensures { Reaches result (pen_of self.old) (pen_of self.new)
+            (layout (number true (decimal digits)) (pen_of self.old)) }
     {
         let apart = self.is_apart();
         let mut buffer = itoa::Buffer::new();
@@ -219,8 +224,8 @@ impl Printer {
 
     // The code goes on with a string in this quote.
     fn print_quoted(&mut self, value: &JsStr, quote: Quote) -> Result<(), Memory>
-        ensures { OnOk result (pen_of self.new
-            ≡ written (quoted quote (pen_of self.old).style.ascii (js_units value.now)) other_end (pen_of self.old)) }
+        ensures { Reaches result (pen_of self.old) (pen_of self.new)
+            (written (quoted quote (pen_of self.old).style.ascii (js_units value.now)) other_end (pen_of self.old)) }
     {
         print_string_text(&mut self.code, value, quote, self.ascii_only)?;
         self.ending = Ending::Other;
@@ -230,7 +235,8 @@ impl Printer {
 
     /// A string, which may stand in backticks or not.
     pub fn print_string(&mut self, value: &JsStr, backticks: bool) -> Result<(), Memory>
-        ensures { OnOk result (pen_of self.new ≡ layout (string backticks (js_units value.now)) (pen_of self.old)) }
+        ensures { Reaches result (pen_of self.old) (pen_of self.new)
+            (layout (string backticks (js_units value.now)) (pen_of self.old)) }
     {
         let quote = self.string_quote(value, backticks);
         self.print_quoted(value, quote)
@@ -238,7 +244,8 @@ impl Printer {
 
     /// A string that is a whole first statement, without its end.
     pub fn print_first_string(&mut self, value: &JsStr) -> Result<(), Memory>
-        ensures { OnOk result (pen_of self.new ≡ layout (first_string (js_units value.now)) (pen_of self.old)) }
+        ensures { Reaches result (pen_of self.old) (pen_of self.new)
+            (layout (first_string (js_units value.now)) (pen_of self.old)) }
     {
         if self.minify {
             self.print_quoted(value, Quote::Backtick)
@@ -251,7 +258,8 @@ impl Printer {
 
     /// A directive's raw text in its quotes, without its end.
     pub fn print_directive(&mut self, raw: &str) -> Result<(), Memory>
-        ensures { OnOk result (pen_of self.new ≡ layout (directive (chars raw.now)) (pen_of self.old)) }
+        ensures { Reaches result (pen_of self.old) (pen_of self.new)
+            (layout (directive (chars raw.now)) (pen_of self.old)) }
     {
         let quote = directive_quote(self.quote, raw);
         self.print_quote(quote)?;
@@ -260,7 +268,8 @@ impl Printer {
     }
 
     fn print_quote(&mut self, quote: Quote) -> Result<(), Memory>
-        ensures { OnOk result (pen_of self.new ≡ written (quote_char quote ∷ []) other_end (pen_of self.old)) }
+        ensures { Reaches result (pen_of self.old) (pen_of self.new)
+            (written (quote_char quote ∷ []) other_end (pen_of self.old)) }
     {
         quote.print(&mut self.code)?;
         self.ending = Ending::Other;
@@ -269,8 +278,8 @@ impl Printer {
     }
 
     fn print_raw(&mut self, raw: &str) -> Result<(), Memory>
-        ensures { OnOk result (pen_of self.new
-            ≡ written (directive_text (pen_of self.old).style.ascii (chars raw.now)) other_end (pen_of self.old)) }
+        ensures { Reaches result (pen_of self.old) (pen_of self.new)
+            (written (directive_text (pen_of self.old).style.ascii (chars raw.now)) other_end (pen_of self.old)) }
     {
         print_directive_raw(&mut self.code, raw, self.ascii_only)?;
         self.ending = Ending::Other;
@@ -279,7 +288,8 @@ impl Printer {
     }
 
     pub fn print_opening(&mut self, bracket: Bracket) -> Result<(), Memory>
-        ensures { OnOk result (pen_of self.new ≡ written (opening (bracket_of bracket)) other_end (pen_of self.old)) }
+        ensures { Reaches result (pen_of self.old) (pen_of self.new)
+            (written (opening (bracket_of bracket)) other_end (pen_of self.old)) }
     {
         match bracket {
             Bracket::Round => self.print_str("(", Ending::Other),
@@ -289,7 +299,8 @@ impl Printer {
     }
 
     pub fn print_closing(&mut self, bracket: Bracket) -> Result<(), Memory>
-        ensures { OnOk result (pen_of self.new ≡ written (closing (bracket_of bracket)) other_end (pen_of self.old)) }
+        ensures { Reaches result (pen_of self.old) (pen_of self.new)
+            (written (closing (bracket_of bracket)) other_end (pen_of self.old)) }
     {
         match bracket {
             Bracket::Round => self.print_str(")", Ending::Other),
@@ -305,63 +316,65 @@ impl Printer {
     }
 
     pub fn print_member_dot(&mut self) -> Result<(), Memory>
-        ensures { OnOk result (pen_of self.new ≡ layout member_dot (pen_of self.old)) }
+        ensures { Reaches result (pen_of self.old) (pen_of self.new) (layout member_dot (pen_of self.old)) }
     {
         let apart = self.ends_in_number();
         self.print_apart(apart, ".", Ending::Other)
     }
 
     pub fn print_comma(&mut self) -> Result<(), Memory>
-        ensures { OnOk result (pen_of self.new ≡ layout (punctuator comma) (pen_of self.old)) }
+        ensures { Reaches result (pen_of self.old) (pen_of self.new) (layout (punctuator comma) (pen_of self.old)) }
     {
         self.print_str(",", Ending::Other)
     }
 
     pub fn print_semicolon(&mut self) -> Result<(), Memory>
-        ensures { OnOk result (pen_of self.new ≡ layout (punctuator semicolon) (pen_of self.old)) }
+        ensures { Reaches result (pen_of self.old) (pen_of self.new) (layout (punctuator semicolon) (pen_of self.old)) }
     {
         self.print_str(";", Ending::Other)
     }
 
     pub fn print_equal(&mut self) -> Result<(), Memory>
-        ensures { OnOk result (pen_of self.new ≡ layout (punctuator equal) (pen_of self.old)) }
+        ensures { Reaches result (pen_of self.old) (pen_of self.new) (layout (punctuator equal) (pen_of self.old)) }
     {
         self.print_str("=", Ending::Other)
     }
 
     pub fn print_operator(&mut self, operator: BinaryOperator) -> Result<(), Memory>
-        ensures { OnOk result (pen_of self.new ≡ layout (operator_item operator) (pen_of self.old)) }
+        ensures { Reaches result (pen_of self.old) (pen_of self.new)
+            (layout (operator_item operator) (pen_of self.old)) }
     {
         let apart = self.stands_apart(operator);
         self.print_apart(apart, operator.as_str(), Ending::Operator(operator))
     }
 
     pub fn print_logical_sign(&mut self, operator: LogicalOperator) -> Result<(), Memory>
-        ensures { OnOk result (pen_of self.new ≡ layout (logical_item operator) (pen_of self.old)) }
+        ensures { Reaches result (pen_of self.old) (pen_of self.new)
+            (layout (logical_item operator) (pen_of self.old)) }
     {
         self.print_str(operator.as_str(), Ending::Other)
     }
 
     pub fn print_soft_space(&mut self) -> Result<(), Memory>
-        ensures { OnOk result (pen_of self.new ≡ layout soft_space (pen_of self.old)) }
+        ensures { Reaches result (pen_of self.old) (pen_of self.new) (layout soft_space (pen_of self.old)) }
     {
         self.print_if(!self.minify, " ")
     }
 
     pub fn print_soft_line(&mut self) -> Result<(), Memory>
-        ensures { OnOk result (pen_of self.new ≡ layout soft_line (pen_of self.old)) }
+        ensures { Reaches result (pen_of self.old) (pen_of self.new) (layout soft_line (pen_of self.old)) }
     {
         self.print_if(!self.minify, "\n")
     }
 
     pub fn print_hard_space(&mut self) -> Result<(), Memory>
-        ensures { OnOk result (pen_of self.new ≡ layout hard_space (pen_of self.old)) }
+        ensures { Reaches result (pen_of self.old) (pen_of self.new) (layout hard_space (pen_of self.old)) }
     {
         self.print_str(" ", Ending::Other)
     }
 
     pub fn print_indentation(&mut self) -> Result<(), Memory>
-        ensures { OnOk result (pen_of self.new ≡ layout indentation (pen_of self.old)) }
+        ensures { Reaches result (pen_of self.old) (pen_of self.new) (layout indentation (pen_of self.old)) }
     {
         if self.minify {
             Ok(())
@@ -376,8 +389,8 @@ impl Printer {
 
     // The levels' own indentation.
     fn print_levels(&mut self) -> Result<(), Memory>
-        ensures { OnOk result (pen_of self.new
-            ≡ indented (replicate (self.old.depth * indent_width self.old.code) (indent_byte self.old.code))
+        ensures { Reaches result (pen_of self.old) (pen_of self.new)
+            (indented (replicate (self.old.depth * indent_width self.old.code) (indent_byte self.old.code))
             (pen_of self.old)) }
     {
         let before = self.code.len();
@@ -414,7 +427,7 @@ impl Printer {
     /// memory: no tree that keeps the rules is so deep.
     pub fn deepen(&mut self) -> Result<u32, Memory>
         ensures level { IfOk result (λ depth. depth ≡ (pen_of self.old).depth) }
-        ensures pen { OnOk result (pen_of self.new ≡ deepened (pen_of self.old)) }
+        ensures pen { Reaches result (pen_of self.old) (pen_of self.new) (deepened (pen_of self.old)) }
     {
         let depth = self.depth;
         self.depth = self.deeper_level()?;
@@ -429,7 +442,7 @@ impl Printer {
     }
 
     pub fn print_statement_end(&mut self) -> Result<(), Memory>
-        ensures { OnOk result (pen_of self.new ≡ layout statement_end (pen_of self.old)) }
+        ensures { Reaches result (pen_of self.old) (pen_of self.new) (layout statement_end (pen_of self.old)) }
     {
         if self.minify {
             self.pending_semicolon = true;
@@ -440,7 +453,7 @@ impl Printer {
     }
 
     pub fn print_due_semicolon(&mut self) -> Result<(), Memory>
-        ensures { OnOk result (pen_of self.new ≡ layout due_semicolon (pen_of self.old)) }
+        ensures { Reaches result (pen_of self.old) (pen_of self.new) (layout due_semicolon (pen_of self.old)) }
     {
         self.print_if(self.pending_semicolon, ";")?;
         self.pending_semicolon = false;
@@ -462,13 +475,15 @@ impl Printer {
     }
 
     pub fn print_opening_if(&mut self, test: bool) -> Result<(), Memory>
-        ensures { OnOk result (pen_of self.new ≡ written_if test (opening Round) (pen_of self.old)) }
+        ensures { Reaches result (pen_of self.old) (pen_of self.new)
+            (written_if test (opening Round) (pen_of self.old)) }
     {
         self.print_if(test, "(")
     }
 
     pub fn print_closing_if(&mut self, test: bool) -> Result<(), Memory>
-        ensures { OnOk result (pen_of self.new ≡ written_if test (closing Round) (pen_of self.old)) }
+        ensures { Reaches result (pen_of self.old) (pen_of self.new)
+            (written_if test (closing Round) (pen_of self.old)) }
     {
         self.print_if(test, ")")
     }

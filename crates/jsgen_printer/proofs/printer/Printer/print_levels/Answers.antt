@@ -1,9 +1,18 @@
-use Rattle.std.proofs.Common.{◌≡◌, ◌*◌, ◌++◌, length, replicate, ap, ◌∙◌, length-append, arith}
+use Rattle.std.proofs.Common.{rules, ◌≡◌, ◌*◌, ◌++◌, length, replicate, ap, ◌∙◌, length-append, arith}
 use Rattle.std.specs.Str.{chars}
 use Rattle.jsgen_syntax.specs.Buffer.{buffer_bytes, indent_byte, indent_width}
 use Rattle.jsgen_printer.specs.Printer.{pen_of}
-use Rattle.jsgen_printer.proofs.Texts.{appended_text, indent_chars, indented_by}
+use Rattle.jsgen_printer.proofs.Texts.{appended_text, stopped_chars, indent_chars, indent_bytes, indented_by, indented_code}
 use Rattle.jsgen_printer.proofs.printer.Printer.print_levels.Goals as goal
+
+pub returns-in_err-print_indent : goal.returns-in_err-print_indent
+unfolding pen_of
+returns-in_err-print_indent c =
+    let printer = c.args.self.now in
+    let levels = replicate (printer.depth * indent_width printer.code) (indent_byte printer.code) in
+    let s = stopped_chars printer.code c.print_indent.new.self levels (rw (indent_bytes (printer.depth * indent_width printer.code) printer.code) c.in_err-print_indent.ensures.err) in
+    let part = rw (← indented_code levels (pen_of printer)) at s.1 in
+    search rules
 
 pub returns : goal.returns
 unfolding pen_of

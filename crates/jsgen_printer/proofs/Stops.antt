@@ -1,0 +1,69 @@
+-- Where memory runs out among steps in a row: what a step left is what the whole left, since the steps behind it only append.
+use Rattle.std.proofs.Common.{◌≡◌, ℕ, codes, Bool, true, false, List, [], ◌∷◌, ◌++◌, Result, Ok, Err, IsErr, sym, ap, subst, ◌∙◌, append_assoc}
+use Rattle.std.specs.Str.{chars}
+use Rattle.jsgen_model.specs.Punctuator.{Round, opening, closing, punctuator_text}
+use Rattle.jsgen_model.specs.Items.{Items, nothing, ◌⊕◌, indentation, soft_space, soft_line, deeper, brackets, wrapped, statement_end, due_semicolon}
+use Rattle.jsgen_model.specs.Layout.{Pen, Ending, space_if, layout, written, written_if, text_if, other_end, indented, indent_or_space, at_indentation, end_statement, deeper_level}
+use Rattle.jsgen_model.specs.Printing.{IsPrefix, Stops, Reaches}
+use Rattle.jsgen_printer.proofs.Prefixes.{whole_prefix, prefix_append, more_prefix, prefix_of_prefix, prefix_behind}
+use Rattle.jsgen_printer.proofs.Texts.{written_apart}
+
+-- ---- what a step adds stands behind the code before
+
+indented_appends : (text : List ℕ) (pen : Pen) → IsPrefix pen.code (indented text pen).code
+indented_appends [] pen = whole_prefix pen.code
+indented_appends (c ∷ cs) pen = prefix_append pen.code (c ∷ cs)
+
+space_appends : (pending : Bool) (pen : Pen) → IsPrefix pen.code (indent_or_space pending pen).code
+space_appends true pen = prefix_append pen.code _
+space_appends false pen = indented_appends _ pen
+
+indentation_appends : (minified : Bool) (pen : Pen) → IsPrefix pen.code (at_indentation minified pen).code
+indentation_appends true pen = whole_prefix pen.code
+indentation_appends false pen = space_appends pen.pending_space pen
+
+end_appends : (minified : Bool) (pen : Pen) → IsPrefix pen.code (end_statement minified pen).code
+end_appends true pen = whole_prefix pen.code
+end_appends false pen = prefix_append pen.code _
+
+pub layout_appends : (items : Items) (pen : Pen) → IsPrefix pen.code (layout items pen).code
+layout_appends (a ⊕ b) pen = prefix_of_prefix (layout_appends a pen) (layout_appends b (layout a pen))
+layout_appends (deeper a) pen = layout_appends a (record pen { depth = deeper_level pen.style.minified pen.depth })
+layout_appends (brackets b a) pen = more_prefix (closing b) (prefix_of_prefix (prefix_append pen.code (opening b)) (layout_appends a (written (opening b) other_end pen)))
+layout_appends (wrapped test a) pen = more_prefix (text_if test (closing Round)) (prefix_of_prefix (prefix_append pen.code (text_if test (opening Round))) (layout_appends a (written_if test (opening Round) pen)))
+layout_appends indentation pen = indentation_appends pen.style.minified pen
+layout_appends statement_end pen = end_appends pen.style.minified pen
+layout_appends item pen = search (whole_prefix, prefix_append)
+
+-- what leads to the pen before leads to the pen behind the items
+pub layout_more : {a : List ℕ} (items : Items) (pen : Pen) → IsPrefix a pen.code → IsPrefix a (layout items pen).code
+layout_more items pen p = prefix_of_prefix p (layout_appends items pen)
+
+-- ---- steps in a row
+
+-- a step within a whole stopped: it began behind the code before, and what it leads to, the whole goes on from
+pub stops_within : {old mid new part whole : Pen} → Stops mid new part → IsPrefix old.code mid.code → IsPrefix part.code whole.code → Stops old new whole
+stops_within s before behind = record { kept = prefix_of_prefix before s.kept; part = prefix_of_prefix s.part behind }
+
+-- after an error a step has stopped
+pub stopped : {T E : Type 0} (r : Result T E) {old new whole : Pen} → IsErr r → Stops old new whole → Reaches r old new whole
+stopped (Ok x) h s = cc
+stopped (Err e) h s = s
+
+-- the last of several steps reaches what it leads to, and that is the whole
+pub reaches_last : {T E : Type 0} (r : Result T E) (old mid new part whole : Pen) → Reaches r mid new part → IsPrefix old.code mid.code → part ≡ whole → Reaches r old new whole
+reaches_last (Ok x) old mid new part whole h before e = h ∙ e
+reaches_last (Err x) old mid new part whole h before e = record { kept = prefix_of_prefix before h.kept; part = rw (← e) h.part }
+
+-- a space where the test holds, before a text
+pub stops_apart : (test : Bool) (text : List ℕ) (e : Ending) (pen new : Pen) → Stops pen new (written_if test (chars (codes " ")) pen) → Stops pen new (written (space_if test ++ text) e pen)
+stops_apart test text e pen new s =
+    stops_within s (whole_prefix pen.code) (subst (λ p. IsPrefix (written_if test (chars (codes " ")) pen).code p.code) (written_apart test text e pen) (prefix_append (written_if test (chars (codes " ")) pen).code text))
+
+-- three texts in a row
+pub first_of_three : (a text b : List ℕ) (pen new : Pen) → Stops pen new (written a other_end pen) → Stops pen new (written (a ++ (text ++ b)) other_end pen)
+first_of_three a text b pen new s = stops_within s (whole_prefix pen.code) (prefix_behind pen.code (prefix_append a (text ++ b)))
+
+pub second_of_three : (a text b : List ℕ) (pen new : Pen) → Stops (written a other_end pen) new (written text other_end (written a other_end pen)) → Stops pen new (written (a ++ (text ++ b)) other_end pen)
+second_of_three a text b pen new s =
+    stops_within s (prefix_append pen.code a) (rw append_assoc (prefix_behind pen.code (prefix_behind a (prefix_append text b))))
