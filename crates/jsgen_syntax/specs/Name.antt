@@ -1,8 +1,8 @@
 -- Names and reserved words (ECMA-262, 12.7). A text is given by its bytes in UTF-8, or by its characters.
-use Rattle.std.specs.Prelude.{ℕ, List, [], ◌∷◌, Bool, false, ◌&&◌, ◌||◌, ◌==◌, nat_le, codes}
+use Rattle.std.specs.Prelude.{ℕ, List, [], ◌∷◌, Bool, false, not, ◌&&◌, ◌||◌, ◌==◌, nat_le, codes}
 use Rattle.std.specs.Char.{is_ascii_alphanumeric}
 use Rattle.std.specs.List.{list_all, list_any}
-use Rattle.std.specs.Str.{chars, bytes_eq}
+use Rattle.std.specs.Str.{chars, encode_utf8_all, bytes_eq}
 use Rattle.unicode_ident.specs.Ident.{is_xid_start, is_xid_continue}
 
 -- XID_Start, `$` or `_`
@@ -42,3 +42,7 @@ is_reserved text = is_among text reserved_words
 
 unfoldable pub is_strict_reserved : List ℕ → Bool
 is_strict_reserved text = is_among text strict_words
+
+-- of characters: a name that stands for an identifier in a module, whose code is strict (13.1), so neither list has it
+abbrev pub is_free_name : List ℕ → Bool
+is_free_name name = spells_name name && not (is_reserved (encode_utf8_all name)) && not (is_strict_reserved (encode_utf8_all name))
