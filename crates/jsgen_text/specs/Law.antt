@@ -26,16 +26,16 @@ pub record AsciiTextIsAscii : Type 0 where
   pub directive : (raw : List ℕ) → are_ascii (directive_text true raw) ≡ true
   -- a piece of a template that isn't tagged, whether its text is minified or not
   pub template : (minify : Bool) (raw : List ℕ) → are_ascii (template_text false minify true raw) ≡ true
-  -- of code points, which it has by their units of UTF-16
+  -- a pattern of code points
   pub pattern : (pattern : List ℕ) → list_all is_point pattern ≡ true → are_ascii (pattern_text true pattern) ≡ true
 
 -- a directive stands for one value
 pub record DirectiveHasOneValue : Type 0 where
   -- in each quote that spells it
   pub agree : (raw us vs : List ℕ) → string_value Double raw ≡ Some us → string_value Single raw ≡ Some vs → us ≡ vs
-  -- in the quote that is printed, whatever quote is asked for, and none where no quote spells it
+  -- in the quote that is printed, whatever quote is asked for; and no value where neither quote spells one
   pub chosen : (wanted : Quote) (raw : List ℕ) → string_value (directive_quote wanted raw) raw ≡ directive_value raw
-  -- and as it is printed there, whether the text is to be ASCII or not
+  -- there as it is printed, whether the text is to be ASCII or not
   pub printed : (wanted : Quote) (ascii : Bool) (raw us : List ℕ) → directive_value raw ≡ Some us → string_value (directive_quote wanted raw) (directive_text ascii raw) ≡ Some us
 
 -- without the backslashes that were put in the text is as it was
