@@ -25,7 +25,7 @@ use crate::statements::{
 };
 use jsgen_model::TreeFault;
 use jsgen_syntax::{Quote, Span, is_name, is_reserved, is_strict_reserved};
-use jsgen_text::{directive_quote, spells_string};
+use jsgen_text::spells_string;
 use jsgen_tree::{
     BindingIdentifier, BindingPattern, Declaration, Directive, GetSpan, Node, NodeSet, NodeType,
     Program, VariableDeclaration, VariableDeclarator,
@@ -152,7 +152,7 @@ fn check_source(source: &str, start: u32) -> Result<(), TreeFault>
 fn check_raw(raw: &str, start: u32) -> Result<(), TreeFault>
     ensures { Judges (fault_if (not (is_some (directive_value (chars raw.now)))) (faults.Literal start)) result }
 {
-    if !spells_string(directive_quote(Quote::Double, raw), raw) {
+    if !spells_string(Quote::Double, raw) && !spells_string(Quote::Single, raw) {
         return Err(TreeFault::Literal { start });
     }
     Ok(())

@@ -1,10 +1,12 @@
--- A directive's value is the same in each quote that it is printed in, and with escapes for what isn't ASCII.
-use Rattle.std.proofs.Common.{◌≡◌, ℕ, ◌+◌, ◌*◌, ◌<◌, Bool, true, false, not, cond, nat_le, nat_lt, ◌&&◌, ◌||◌, ◌==◌, inl, inr, Option, Some, None, List, [], ◌∷◌, ◌++◌, refl, sym, ap, ap₂, if◌then◌else◌, ◌∙◌, subst, arith}
+-- A directive's value is the same in each quote that spells it, and with escapes for what isn't ASCII.
+use Rattle.std.proofs.Common.{◌≡◌, ℕ, ◌+◌, ◌*◌, ◌<◌, Bool, true, false, not, cond, nat_le, nat_lt, ◌&&◌, ◌||◌, ◌==◌, ◌⊎◌, inl, inr, Option, Some, None, List, [], ◌∷◌, ◌++◌, refl, sym, ap, ap₂, if◌then◌else◌, ◌∙◌, subst, arith}
 use Rattle.std.specs.Char.{is_ascii_digit, is_ascii_hexdigit, digit_value}
 use Rattle.std.specs.Char.Escape.{encode_utf16}
 use Rattle.std.specs.Int.{is_in_range}
+use Rattle.std.specs.Option.{option_or}
 use lib.Utf8.{scalar}
 use Rattle.std.proofs.lemmas.Bool.{both_ways, and_parts, and_from, and_right, or_parts, or_from, not-true, not_from_false, eqb-true, ne_eqb, leb-true, lt-leb}
+use Rattle.std.proofs.lemmas.Option.{same_Some}
 use Rattle.jsgen_syntax.specs.declared.quote.Quote.{Quote}
 use Rattle.jsgen_syntax.specs.declared.quote.Quote.TheVariants.{Single, Double, Backtick}
 use Rattle.jsgen_syntax.specs.declared.escape.NonAsciiEscape.{NonAsciiEscape}
@@ -13,97 +15,148 @@ use Rattle.jsgen_syntax.specs.Escapes.{upper_digit, unit_escape, code_point_esca
 use Rattle.jsgen_syntax.specs.Strings.{begins, begins_with, is_backtick, ends_line, and_then, stands_bare, bare_units, escape_units, string_value, escape_value, hex_value, code_point_value, digits_value}
 use Rattle.jsgen_syntax.specs.Raw.{Raw, raw_escape, is_left_out, raw_text_after, raw_text, directive_text, first_quote, quote_beside, directive_quote, directive_value}
 use Rattle.jsgen_syntax.proofs.Escapes.{hex_passes}
-use Rattle.jsgen_syntax.proofs.Induction.{Way, way, Plain, Steps, of_value, reads, character_value}
+use Rattle.jsgen_syntax.proofs.Induction.{Plain, Steps, of_value, reads, character_value}
 use Rattle.jsgen_syntax.proofs.Wtf8.{scalar_below}
 
--- ---- without a quote, a text stands for the same in both
+-- ---- a text that spells a string in one quote
 
-abbrev Free : Bool → List ℕ → Type 0
-Free escaped cs = first_quote escaped cs ≡ None
+-- of `'` and `"`, the other one
+abbrev other : Quote → Quote
+other Single = Double
+other quote = Single
 
-record FreeStep (c : ℕ) (cs : List ℕ) : Type 0 where
-  no_single : (c == 39) ≡ false
-  rest : first_quote ((c == 92) && true) cs ≡ None
+-- the first bare quote of a text is the other one, or there is none and this holds
+abbrev OtherOrNone : Quote → Option Quote → Type 0 → Type 0
+OtherOrNone q found Fact = (found ≡ Some (other q)) ⊎ ((found ≡ None) × Fact)
 
-some_gives : (q : Quote) → Some q ≡ None → ⊥
-some_gives q e = cc
-
-free_step : (c : ℕ) (cs : List ℕ) → Free false (c ∷ cs) → FreeStep c cs
-unfolding first_quote
-free_step c cs e = first (way (c == 39) _ _ None e)
-  where
-    second : (c == 39) ≡ false → Way (c == 34) (Some Double) (first_quote ((c == 92) && true) cs) None → FreeStep c cs
-    second n (inl k) = absurd (some_gives Double k.1)
-    second n (inr k) = record { no_single = n; rest = k.1 }
-
-    first : Way (c == 39) (Some Single) (cond (c == 34) (Some Double) (first_quote ((c == 92) && true) cs)) None → FreeStep c cs
-    first (inl k) = absurd (some_gives Single k.1)
-    first (inr k) = second k.0 (way (c == 34) _ _ None k.1)
-
--- a character that is no backslash
-free_bare : (c : ℕ) (cs : List ℕ) → (c == 92) ≡ false → Free false (c ∷ cs) → Free false cs
-free_bare c cs n e = let k = free_step c cs e in sym (ap (λ b. first_quote (b && true) cs) n) ∙ k.rest
+onward : {X Y : Type 0} (q : Quote) (o p : Option Quote) → p ≡ o → (X → Y) → OtherOrNone q o X → OtherOrNone q p Y
+onward q o p e f (inl k) = inl (e ∙ k)
+onward q o p e f (inr k) = inr (e ∙ k.0, f k.1)
 
 both_false : (b : Bool) → (b && false) ≡ false
 both_false true = refl
 both_false false = refl
 
 -- a character that a backslash escapes
-free_behind : (c : ℕ) (cs : List ℕ) → Free true (c ∷ cs) → Free false cs
+quote_behind : (c : ℕ) (cs : List ℕ) → first_quote true (c ∷ cs) ≡ first_quote false cs
 unfolding first_quote
-free_behind c cs e = sym (ap (λ b. first_quote b cs) (both_false (c == 92))) ∙ e
+quote_behind c cs = ap (λ b. first_quote b cs) (both_false (c == 92))
 
 -- an LF may be escaped or not
-free_turn : (cs : List ℕ) → begins_with 10 cs ≡ true → Free false cs → Free true cs
+quote_turn : (cs : List ℕ) → begins_with 10 cs ≡ true → first_quote false cs ≡ first_quote true cs
 unfolding first_quote
-free_turn [] b e = e
-free_turn (c ∷ cs) b e = subst (λ x. Free true (x ∷ cs)) (sym (eqb-true c 10 b)) (subst (λ x. Free false (x ∷ cs)) (eqb-true c 10 b) e)
+quote_turn [] b = refl
+quote_turn (c ∷ cs) b = subst (λ x. first_quote false (x ∷ cs) ≡ first_quote true (x ∷ cs)) (sym (eqb-true c 10 b)) refl
 
-single_bare : (c : ℕ) (cs : List ℕ) → (c == 39) ≡ false → stands_bare Double c cs ≡ true → stands_bare Single c cs ≡ true
-single_bare c cs n h =
-    let a = and_parts (scalar c && not (c == 92) && not (c == 34)) (not ((c == 10) || (c == 13))) h in
-    let b = and_parts (scalar c && not (c == 92)) (not (c == 34)) a.0 in
-    and_from (scalar c && not (c == 92) && not (c == 39)) (not ((c == 10) || (c == 13))) (and_from (scalar c && not (c == 92)) (not (c == 39)) b.0 (not_from_false (c == 39) n)) a.1
-
-no_backslash_digit : (c : ℕ) → is_ascii_hexdigit c ≡ true → (c == 92) ≡ false
-no_backslash_digit c h = not-true (c == 92) (hex_passes (λ n. not (n == 92)) refl c h)
-
-single_steps : Steps Double (λ cs us. Free false cs → string_value Single cs ≡ Some us) (λ cs us. Free true cs → escape_value Single cs ≡ Some us) (λ count n cs us. Free false cs → hex_value Single count n cs ≡ Some us) (λ cs us. begins_with 123 cs ≡ true → Free false cs → code_point_value Single cs ≡ Some us) (λ n cs us. Free false cs → digits_value Single n cs ≡ Some us)
+-- a character that is no quote and no backslash
+quote_past : (c : ℕ) (cs : List ℕ) → (c == 39) ≡ false → (c == 34) ≡ false → (c == 92) ≡ false → first_quote false (c ∷ cs) ≡ first_quote false cs
 unfolding first_quote
-single_steps =
-    let r = reads Single in
-    record {
-      nothing = λ f. r.nothing;
-      bare = λ c cs us n b v f. r.bare c cs us n (single_bare c cs (free_step c cs f).no_single b) (v (free_bare c cs n f));
-      backslash = λ cs us e f. r.backslash cs us (e f);
-      two_ends = λ cs us b e f. r.two_ends cs us b (e (free_turn cs b (free_behind 13 cs f)));
-      line_end = λ c cs us n l v f. r.line_end c cs us n l (v (free_behind c cs f));
-      two_digits = λ cs us h f. r.two_digits cs us (h (free_behind 120 cs f));
-      opening = λ cs us b p f. r.opening cs us b (p b (free_behind 117 cs f));
-      four = λ cs us b h f. r.four cs us b (h (free_behind 117 cs f));
-      nought = λ cs us b v f. r.nought cs us b (v (free_behind 48 cs f));
-      itself = λ c cs us p v f. r.itself c cs us p (v (free_behind c cs f));
-      last_digit = λ count n c cs us h k v f. r.last_digit count n c cs us h k (v (free_bare c cs (no_backslash_digit c h) f));
-      digit = λ count n c cs us h k v f. r.digit count n c cs us h k (v (free_bare c cs (no_backslash_digit c h) f));
-      brace = λ c cs us b d e f. r.brace c cs us b (d (free_bare c cs (subst (λ x. (x == 92) ≡ false) (sym (eqb-true c 123 e)) refl) f));
-      closing = λ n cs us v f. r.closing n cs us (v (free_bare 125 cs refl f));
-      within = λ n c cs us k h l d f. r.within n c cs us k h l (d (free_bare c cs (no_backslash_digit c h) f));
-    }
+quote_past c cs s d n =
+    ap (λ b. cond b (Some Single) (cond (c == 34) (Some Double) (first_quote ((c == 92) && true) cs))) s
+    ∙ ap₂ (λ b e. cond b (Some Double) (first_quote (e && true) cs)) d n
 
-single_value : (raw v : List ℕ) → first_quote false raw ≡ None → string_value Double raw ≡ Some v → string_value Single raw ≡ Some v
-single_value raw v f e = of_value Double _ _ _ _ _ single_steps raw v e f
+quote_past_digit : (c : ℕ) (cs : List ℕ) → is_ascii_hexdigit c ≡ true → first_quote false (c ∷ cs) ≡ first_quote false cs
+quote_past_digit c cs h =
+    let k = or_parts ((c == 39) || (c == 34)) (c == 92) (not-true _ (hex_passes (λ n. not ((n == 39) || (n == 34) || (n == 92))) refl c h)) in
+    let l = or_parts (c == 39) (c == 34) k.0 in
+    quote_past c cs l.0 l.1 k.1
 
-pub directive_quote_value : (wanted : Quote) (raw v : List ℕ) → directive_value raw ≡ Some v → string_value (directive_quote wanted raw) raw ≡ Some v
-directive_quote_value wanted raw v e = by wanted (first_quote false raw) refl e
+-- a character that stands bare in one quote
+no_quote : (x n z : Bool) → (x && not n && z) ≡ true → n ≡ false
+no_quote x n z h = not-true n (and_parts x (not n) (and_parts (x && not n) z h).0).1
+
+other_quote : (x m n z : Bool) → n ≡ false → (x && not m && z) ≡ true → (x && not n && z) ≡ true
+other_quote x m n z e h =
+    let a = and_parts (x && not m) z h in
+    and_from (x && not n) z (and_from x (not n) (and_parts x (not m) a.0).0 (not_from_false n e)) a.1
+
+bare_step : (q : Quote) → is_backtick q ≡ false → (c : ℕ) (cs us : List ℕ) → (c == 92) ≡ false → stands_bare q c cs ≡ true → OtherOrNone q (first_quote false cs) (string_value (other q) cs ≡ Some us) → OtherOrNone q (first_quote false (c ∷ cs)) (string_value (other q) (c ∷ cs) ≡ Some (bare_units c cs ++ us))
+unfolding first_quote
+bare_step Single b c cs us n h v = by (c == 34) refl
   where
-    by : (w : Quote) (o : Option Quote) → first_quote false raw ≡ o → string_value (quote_beside Double o) raw ≡ Some v → string_value (quote_beside w o) raw ≡ Some v
-    by Single None f e = single_value raw v f e
-    by Double None f e = e
-    by Backtick None f e = e
-    by w (Some Single) f e = e
-    by w (Some Double) f e = e
-    by w (Some Backtick) f e = e
+    no_single : (c == 39) ≡ false
+    no_single = no_quote (scalar c && not (c == 92)) (c == 39) (not ((c == 10) || (c == 13))) h
 
+    by : (d : Bool) → (c == 34) ≡ d → OtherOrNone Single (first_quote false (c ∷ cs)) (string_value Double (c ∷ cs) ≡ Some (bare_units c cs ++ us))
+    by true d = inl (ap₂ (λ x y. cond x (Some Single) (cond y (Some Double) (first_quote ((c == 92) && true) cs))) no_single d)
+    by false d = onward Single _ _ (quote_past c cs no_single d n) (λ e. (reads Double).bare c cs us n (other_quote (scalar c && not (c == 92)) (c == 39) (c == 34) (not ((c == 10) || (c == 13))) d h) e) v
+bare_step Double b c cs us n h v = by (c == 39) refl
+  where
+    no_double : (c == 34) ≡ false
+    no_double = no_quote (scalar c && not (c == 92)) (c == 34) (not ((c == 10) || (c == 13))) h
+
+    by : (d : Bool) → (c == 39) ≡ d → OtherOrNone Double (first_quote false (c ∷ cs)) (string_value Single (c ∷ cs) ≡ Some (bare_units c cs ++ us))
+    by true d = inl (ap (λ x. cond x (Some Single) (cond (c == 34) (Some Double) (first_quote ((c == 92) && true) cs))) d)
+    by false d = onward Double _ _ (quote_past c cs d no_double n) (λ e. (reads Single).bare c cs us n (other_quote (scalar c && not (c == 92)) (c == 34) (c == 39) (not ((c == 10) || (c == 13))) d h) e) v
+bare_step Backtick b c cs us n h v = absurd (both_ways true b refl)
+
+module _ (q : Quote) (plain : is_backtick q ≡ false) where
+  other_steps : Steps q (λ cs us. OtherOrNone q (first_quote false cs) (string_value (other q) cs ≡ Some us)) (λ cs us. OtherOrNone q (first_quote true cs) (escape_value (other q) cs ≡ Some us)) (λ count n cs us. OtherOrNone q (first_quote false cs) (hex_value (other q) count n cs ≡ Some us)) (λ cs us. begins_with 123 cs ≡ true → OtherOrNone q (first_quote false cs) (code_point_value (other q) cs ≡ Some us)) (λ n cs us. OtherOrNone q (first_quote false cs) (digits_value (other q) n cs ≡ Some us))
+  unfolding first_quote
+  other_steps =
+      let r = reads (other q) in
+      record {
+        nothing = inr (refl, r.nothing);
+        bare = bare_step q plain;
+        backslash = λ cs us e. onward q _ _ refl (r.backslash cs us) e;
+        two_ends = λ cs us b e. onward q _ _ (quote_behind 13 cs ∙ quote_turn cs b) (r.two_ends cs us b) e;
+        line_end = λ c cs us n l v. onward q _ _ (quote_behind c cs) (r.line_end c cs us n l) v;
+        two_digits = λ cs us h. onward q _ _ (quote_behind 120 cs) (r.two_digits cs us) h;
+        opening = λ cs us b p. onward q _ _ (quote_behind 117 cs) (r.opening cs us b) (p b);
+        four = λ cs us b h. onward q _ _ (quote_behind 117 cs) (r.four cs us b) h;
+        nought = λ cs us b v. onward q _ _ (quote_behind 48 cs) (r.nought cs us b) v;
+        itself = λ c cs us p v. onward q _ _ (quote_behind c cs) (r.itself c cs us p) v;
+        last_digit = λ count n c cs us h k v. onward q _ _ (quote_past_digit c cs h) (r.last_digit count n c cs us h k) v;
+        digit = λ count n c cs us h k v. onward q _ _ (quote_past_digit c cs h) (r.digit count n c cs us h k) v;
+        brace = λ c cs us b d e. onward q _ _ (subst (λ x. first_quote false (x ∷ cs) ≡ first_quote false cs) (sym (eqb-true c 123 e)) refl) (r.brace c cs us b) d;
+        closing = λ n cs us v. onward q _ _ refl (r.closing n cs us) v;
+        within = λ n c cs us k h l d. onward q _ _ (quote_past_digit c cs h) (r.within n c cs us k h l) d;
+      }
+
+  in_other : (raw us : List ℕ) → string_value q raw ≡ Some us → OtherOrNone q (first_quote false raw) (string_value (other q) raw ≡ Some us)
+  in_other raw us e = of_value q _ _ _ _ _ other_steps raw us e
+
+-- ---- a directive has one value
+
+-- a text that spells a string in both quotes spells the same in both
+pub one_value : (raw us vs : List ℕ) → string_value Double raw ≡ Some us → string_value Single raw ≡ Some vs → us ≡ vs
+one_value raw us vs e f = by (in_other Double refl raw us e) (in_other Single refl raw vs f)
+  where
+    by : OtherOrNone Double (first_quote false raw) (string_value Single raw ≡ Some us) → OtherOrNone Single (first_quote false raw) (string_value Double raw ≡ Some vs) → us ≡ vs
+    by (inr k) m = same_Some us vs (sym k.1 ∙ f)
+    by (inl k) (inr m) = same_Some us vs (sym e ∙ m.1)
+    by (inl k) (inl m) = cc
+
+-- the quote that is printed
+beside_known : (wanted q : Quote) → is_backtick q ≡ false → quote_beside wanted (Some (other q)) ≡ q
+beside_known wanted Single b = refl
+beside_known wanted Double b = refl
+beside_known wanted Backtick b = absurd (both_ways true b refl)
+
+beside_none : (wanted q : Quote) → is_backtick q ≡ false → (quote_beside wanted None ≡ q) ⊎ (quote_beside wanted None ≡ other q)
+beside_none Single Single b = inl refl
+beside_none Single Double b = inr refl
+beside_none Double Single b = inr refl
+beside_none Double Double b = inl refl
+beside_none Backtick Single b = inr refl
+beside_none Backtick Double b = inl refl
+beside_none wanted Backtick b = absurd (both_ways true b refl)
+
+in_printed : (wanted q : Quote) (raw us : List ℕ) → is_backtick q ≡ false → string_value q raw ≡ Some us → string_value (directive_quote wanted raw) raw ≡ Some us
+in_printed wanted q raw us b e = by (in_other q b raw us e)
+  where
+    in_quote : (p r : Quote) → p ≡ r → string_value r raw ≡ Some us → string_value p raw ≡ Some us
+    in_quote p r k f = ap (λ x. string_value x raw) k ∙ f
+
+    unquoted : string_value (other q) raw ≡ Some us → (quote_beside wanted None ≡ q) ⊎ (quote_beside wanted None ≡ other q) → string_value (quote_beside wanted None) raw ≡ Some us
+    unquoted f (inl k) = in_quote _ q k e
+    unquoted f (inr k) = in_quote _ (other q) k f
+
+    by : OtherOrNone q (first_quote false raw) (string_value (other q) raw ≡ Some us) → string_value (directive_quote wanted raw) raw ≡ Some us
+    by (inl k) = in_quote _ q (ap (quote_beside wanted) k ∙ beside_known wanted q b) e
+    by (inr k) = in_quote _ (quote_beside wanted None) (ap (quote_beside wanted) k.0) (unquoted k.1 (beside_none wanted q b))
+
+-- which is never a backtick
 pub directive_quote_plain : (wanted : Quote) (raw : List ℕ) → is_backtick (directive_quote wanted raw) ≡ false
 directive_quote_plain wanted raw = by wanted (first_quote false raw)
   where
@@ -114,6 +167,23 @@ directive_quote_plain wanted raw = by wanted (first_quote false raw)
     by w (Some Single) = refl
     by w (Some Double) = refl
     by w (Some Backtick) = refl
+
+-- what it spells is what the directive stands for, whatever quote is asked for
+pub printed_quote_value : (wanted : Quote) (raw : List ℕ) → string_value (directive_quote wanted raw) raw ≡ directive_value raw
+printed_quote_value wanted raw = by (string_value Double raw) (string_value Single raw) refl refl
+  where
+    unspelled : (q : Quote) → is_backtick q ≡ false → string_value Double raw ≡ None → string_value Single raw ≡ None → string_value q raw ≡ None
+    unspelled Single b e f = f
+    unspelled Double b e f = e
+    unspelled Backtick b e f = absurd (both_ways true b refl)
+
+    by : (d s : Option (List ℕ)) → string_value Double raw ≡ d → string_value Single raw ≡ s → string_value (directive_quote wanted raw) raw ≡ option_or d s
+    by (Some us) s e f = in_printed wanted Double raw us refl e
+    by None (Some us) e f = in_printed wanted Single raw us refl f
+    by None None e f = unspelled (directive_quote wanted raw) (directive_quote_plain wanted raw) e f
+
+pub directive_quote_value : (wanted : Quote) (raw v : List ℕ) → directive_value raw ≡ Some v → string_value (directive_quote wanted raw) raw ≡ Some v
+directive_quote_value wanted raw v e = printed_quote_value wanted raw ∙ e
 
 -- ---- with escapes, a text stands for the same
 
@@ -291,6 +361,9 @@ module _ (q : Quote) (plain : is_backtick q ≡ false) where
           ∙ (character_value q c (spared false (c == 60) cs) (scalar_below c k.is_scalar)
           ∙ (ap (and_then (encode_utf16 c)) (v (c == 60)) ∙ ap (λ x. Some (x ++ us)) (sym (escape_alone c p)))))
       by false p = behind_low c cs (escape_units c ++ us) p ((reads q).itself c (spared false (c == 60) cs) us k (v (c == 60)))
+
+  no_backslash_digit : (c : ℕ) → is_ascii_hexdigit c ≡ true → (c == 92) ≡ false
+  no_backslash_digit c h = not-true (c == 92) (hex_passes (λ n. not (n == 92)) refl c h)
 
   hex_low : (c : ℕ) → is_ascii_hexdigit c ≡ true → is_past_ascii c ≡ false
   hex_low c h = not-true (is_past_ascii c) (hex_passes (λ n. not (is_past_ascii n)) refl c h)

@@ -2,7 +2,7 @@
 use Rattle.std.proofs.Common.{◌≡◌, true, false, codes, [], ◌∷◌, Some, None, refl}
 use Rattle.jsgen_syntax.specs.Strings.{string_value, escaped_after, escaped, quote_cost, cheapest}
 use Rattle.jsgen_syntax.specs.Escapes.{name_text, word_value}
-use Rattle.jsgen_syntax.specs.Raw.{tag_free, tag_free_after, put_in, put_in_after, unmarked, template_text, pattern_text, raw_text_after, directive_quote, first_quote}
+use Rattle.jsgen_syntax.specs.Raw.{tag_free, tag_free_after, put_in, put_in_after, unmarked, template_text, pattern_text, raw_text_after, directive_value, directive_quote, first_quote}
 use Rattle.jsgen_syntax.specs.Wtf8.{joined_units}
 use Rattle.jsgen_syntax.specs.declared.quote.Quote.TheVariants.{Single, Double, Backtick}
 
@@ -112,6 +112,18 @@ tagged = refl
 patterns : pattern_text true (codes "\\é𠀀</script") ≡ codes "\\u00E9\\uD840\\uDC00</script"
 unfolding raw_text_after
 patterns = refl
+
+directives : directive_value (codes "it's \\\"") ≡ Some (codes "it's \"")
+unfolding string_value
+directives = refl
+
+in_single_quotes : directive_value (codes "a\"b") ≡ Some (codes "a\"b")
+unfolding string_value
+in_single_quotes = refl
+
+in_no_quotes : directive_value (codes "'\"") ≡ None
+unfolding string_value
+in_no_quotes = refl
 
 quotes : directive_quote Single (codes "it\\'s \"") ≡ Single
 unfolding first_quote

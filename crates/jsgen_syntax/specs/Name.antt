@@ -2,7 +2,7 @@
 use Rattle.std.specs.Prelude.{ℕ, List, [], ◌∷◌, Bool, false, not, ◌&&◌, ◌||◌, ◌==◌, nat_le, codes}
 use Rattle.std.specs.Char.{is_ascii_alphanumeric}
 use Rattle.std.specs.List.{list_all, list_any}
-use Rattle.std.specs.Str.{chars, bytes_eq, encode_utf8_all}
+use Rattle.std.specs.Str.{chars, encode_utf8_all, bytes_eq}
 use Rattle.unicode_ident.specs.Ident.{is_xid_start, is_xid_continue}
 
 -- XID_Start, `$` or `_`
@@ -43,6 +43,6 @@ is_reserved text = is_among text reserved_words
 unfoldable pub is_strict_reserved : List ℕ → Bool
 is_strict_reserved text = is_among text strict_words
 
--- a name that strict code may look up or bind, by its characters: neither list has it (13.1)
+-- of characters: a name that stands for an identifier in a module, whose code is strict (13.1), so neither list has it
 abbrev pub is_free_name : List ℕ → Bool
-is_free_name w = spells_name w && not (is_reserved (encode_utf8_all w)) && not (is_strict_reserved (encode_utf8_all w))
+is_free_name name = spells_name name && not (is_reserved (encode_utf8_all name)) && not (is_strict_reserved (encode_utf8_all name))

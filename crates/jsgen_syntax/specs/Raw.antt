@@ -1,6 +1,7 @@
 -- Texts that are printed as they were written, but for what this file says: names, directives (ECMA-262, 11.2.1), pieces of templates (12.9.6) and patterns (12.9.5).
 use Rattle.std.specs.Prelude.{ℕ, List, [], ◌∷◌, ◌++◌, Bool, true, false, not, ◌&&◌, ◌||◌, ◌==◌, Option, Some, None, if◌then◌else◌, codes, flat_map, take}
 use Rattle.std.specs.Char.Escape.{encode_utf16}
+use Rattle.std.specs.Option.{option_or}
 use Rattle.std.specs.Str.{str_eq_ignore_ascii_case}
 use Rattle.jsgen_syntax.specs.Escapes.{begins, begins_with, upper_digit, unit_escape, character_escape, is_past_ascii, name_text}
 use Rattle.jsgen_syntax.specs.Strings.{begins_script, string_value}
@@ -107,6 +108,10 @@ pattern_text ascii text = raw_text (record { mode = modes.RegExp; ascii = ascii;
 
 -- ---- directives
 
+-- what a directive's raw text stands for (11.2.1): what it spells between `"` or, where it spells no string there, between `'` (12.9.4.2, SV)
+abbrev pub directive_value : List ℕ → Option (List ℕ)
+directive_value text = option_or (string_value Double text) (string_value Single text)
+
 -- the first quote character, `'` or `"`, that no backslash escapes
 unfoldable pub first_quote : Bool → List ℕ → Option Quote
 first_quote escaped [] = None
@@ -124,7 +129,3 @@ quote_beside wanted (Some other) = Single
 
 abbrev pub directive_quote : Quote → List ℕ → Quote
 directive_quote wanted text = quote_beside wanted (first_quote false text)
-
--- what a directive's raw text stands for, and `None` where it is no spelling of a string
-abbrev pub directive_value : List ℕ → Option (List ℕ)
-directive_value text = string_value (directive_quote Double text) text

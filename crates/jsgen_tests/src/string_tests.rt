@@ -156,13 +156,15 @@ fn are_no_words(alloc: Global, spellings: &[&str]) -> Result<bool, Memory> {
 }
 
 // The raw text of a directive, and its units.
-const DIRECTIVES: [(&str, &[u16]); 6] = [
+const DIRECTIVES: [(&str, &[u16]); 8] = [
     ("", &[]),
     ("a\\u0062", &[0x61, 0x62]),
     ("it's", &[0x69, 0x74, 0x27, 0x73]),
     ("\"", &[0x22]),
     ("\\'\\\"", &[0x27, 0x22]),
     ("a\\\nb", &[0x61, 0x62]),
+    ("it's \\\"", &[0x69, 0x74, 0x27, 0x73, 0x20, 0x22]),
+    ("a\"b", &[0x61, 0x22, 0x62]),
 ];
 
 // Both quotes, and what no string holds.

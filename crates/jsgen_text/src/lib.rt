@@ -14,8 +14,8 @@ mod spelling;
 pub use directive::directive_quote;
 pub use jsgen_syntax::{NonAsciiEscape, Quote};
 pub use laws::{
-    ascii_text_is_ascii, backslashes_taken_out, cheapest_is_shortest, no_tag_closes,
-    printed_literal_has_its_value,
+    ascii_text_is_ascii, backslashes_taken_out, cheapest_is_shortest, directive_has_one_value,
+    no_tag_closes, printed_literal_has_its_value,
 };
 pub use name::print_name_text;
 pub use printed::{is_script_close_tag, print_string_text};

@@ -2,7 +2,6 @@ use Rattle.std.proofs.Common.{Bool, true, false, codes, refl, ap}
 use Rattle.std.specs.Fmt.{digits}
 use Rattle.std.specs.Str.{bytes_eq}
 use Rattle.std.proofs.lemmas.Bool.{both_ways}
-use Rattle.jsgen_syntax.specs.Raw.{first_quote}
 use Rattle.jsgen_syntax.specs.Strings.{string_value}
 use Rattle.jsgen_syntax.specs.declared.operator.BinaryOperator.{BinaryOperator}
 use Rattle.jsgen_syntax.specs.declared.operator.BinaryOperator.TheVariants as operators
@@ -64,7 +63,7 @@ has_directives (tree.program a no_trees body) = false
 has_directives t = true
 
 pub returns : goal.returns
-unfolding digits string_value first_quote
+unfolding digits string_value
 returns c = record {
   parentheses = refl;
   as_grouped = refl;

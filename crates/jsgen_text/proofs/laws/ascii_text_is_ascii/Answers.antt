@@ -1,5 +1,5 @@
-use Rattle.jsgen_text.proofs.AsciiTexts.{quoted_ascii}
+use Rattle.jsgen_text.proofs.AsciiTexts.{texts_ascii}
 use Rattle.jsgen_text.proofs.laws.ascii_text_is_ascii.Goals as goal
 
 pub returns : goal.returns
-returns c = quoted_ascii
+returns c = texts_ascii

@@ -1,4 +1,4 @@
-use Rattle.std.proofs.Common.{◌≡◌, ℕ, ◌∙◌, sym, arith, if◌then◌else◌}
+use Rattle.std.proofs.Common.{◌∙◌, sym, arith}
 use Rattle.jsgen_syntax.specs.declared.quote.Quote.{Quote}
 use Rattle.jsgen_syntax.specs.declared.quote.Quote.TheVariants.{Single, Double, Backtick}
 use Rattle.jsgen_syntax.specs.Strings.{costs_more}
