@@ -3,6 +3,7 @@ pub mod Items
 pub mod Layout
 pub mod Spell
 pub mod Valid
+pub mod Numbers
 pub mod Tokens
 pub mod Normal
 pub mod Renamed
