@@ -1,4 +1,4 @@
--- What spells a number (ECMA-262, 12.9.3, NumericLiteral), in strict code and production by production: without legacy octals and leading zeros.
+-- What spells a number in strict code: NumericLiteral, production by production (ECMA-262, 12.9.3). Legacy octals and leading zeros have no production here.
 use Rattle.std.specs.Prelude.{ℕ, List, [], ◌∷◌, Bool, true, false, not, ◌&&◌, ◌||◌, ◌==◌, codes}
 use Rattle.std.specs.Char.{is_ascii_digit, is_ascii_hexdigit}
 use Rattle.std.specs.Int.{is_in_range}
@@ -6,11 +6,11 @@ use Rattle.std.specs.List.{list_any}
 
 -- ---- how productions are put together
 
--- a test of texts: what a production of the grammar derives
+-- which texts a production of the standard derives
 abbrev pub Production : Type 0
 Production = List ℕ → Bool
 
--- one character that passes
+-- one character that passes the test
 abbrev pub character : (ℕ → Bool) → Production
 character test [] = false
 character test (c ∷ []) = test c
@@ -23,9 +23,9 @@ one_of cs = character (λ c. list_any (λ d. c == d) cs)
 -- the one or the other
 infixr 50 ◌∣◌
 abbrev pub ◌∣◌ : Production → Production → Production
-(f ∣ g) = λ text. f text || g text
+f ∣ g = λ text. f text || g text
 
--- the text is in two parts: a front that passes the one, and a rest that passes the other
+-- the text is in two parts, the front of the one and the rest of the other
 abbrev pub in_two : Production → Production → Production
 in_two f g [] = f [] && g []
 in_two f g (c ∷ cs) = (f [] && g (c ∷ cs)) || in_two (λ front. f (c ∷ front)) g cs
@@ -33,7 +33,7 @@ in_two f g (c ∷ cs) = (f [] && g (c ∷ cs)) || in_two (λ front. f (c ∷ fro
 -- the one, and behind it the other
 infixr 60 ◌▸◌
 abbrev pub ◌▸◌ : Production → Production → Production
-(f ▸ g) = in_two f g
+f ▸ g = in_two f g
 
 -- the one, or nothing
 abbrev pub perhaps : Production → Production
@@ -60,7 +60,7 @@ zero_digit = one_of (codes "0")
 abbrev pub non_zero_digit : Production
 non_zero_digit = character (λ c. is_ascii_digit c && not (c == 48))
 
--- DecimalDigits, BinaryDigits, OctalDigits and HexDigits with separators: a digit; a digit, and digits behind it; a digit, a separator, and digits behind it
+-- DecimalDigits, BinaryDigits, OctalDigits and HexDigits, with separators: a digit; a digit and more of them; a digit, a separator and more of them
 abbrev pub digits_of : (ℕ → Bool) → Production
 digits_of is_digit [] = false
 digits_of is_digit (c ∷ []) = is_digit c
@@ -71,7 +71,7 @@ decimal_digits = digits_of is_ascii_digit
 
 -- ---- decimal numbers
 
--- DecimalIntegerLiteral
+-- DecimalIntegerLiteral, without NonOctalDecimalIntegerLiteral
 abbrev pub decimal_integer : Production
 decimal_integer = zero_digit ∣ non_zero_digit ∣ (non_zero_digit ▸ perhaps separator ▸ decimal_digits)
 
@@ -99,11 +99,11 @@ decimal_big_integer =
 
 -- ---- other numbers
 
--- BinaryIntegerLiteral
+-- BinaryIntegerLiteral, of `0` and `1`
 abbrev pub binary_integer : Production
 binary_integer = zero_digit ▸ one_of (codes "bB") ▸ digits_of (is_in_range 48 49)
 
--- OctalIntegerLiteral
+-- OctalIntegerLiteral, of `0` to `7`
 abbrev pub octal_integer : Production
 octal_integer = zero_digit ▸ one_of (codes "oO") ▸ digits_of (is_in_range 48 55)
 
@@ -115,6 +115,6 @@ hex_integer = zero_digit ▸ one_of (codes "xX") ▸ digits_of is_ascii_hexdigit
 abbrev pub non_decimal_integer : Production
 non_decimal_integer = binary_integer ∣ octal_integer ∣ hex_integer
 
--- NumericLiteral
+-- NumericLiteral, without LegacyOctalIntegerLiteral
 unfoldable pub spells_number : Production
 spells_number = decimal_literal ∣ decimal_big_integer ∣ non_decimal_integer ∣ (non_decimal_integer ▸ suffix)
