@@ -5,7 +5,7 @@ use Rattle.std.specs.Int.{is_in_range}
 use Rattle.std.specs.List.{list_all, list_any, last_or}
 use Rattle.std.specs.Option.{option_map_or}
 use Rattle.std.proofs.lemmas.Bool.{ltb-true, cases_lt, and_parts, and_from, or_cases, or_from, or_left, or_right, eqb-true, eq-eqb, leb-true, le-leb, false_from_ne_true, both_ways, not-true}
-use Rattle.unicode_ident.specs.Ident.{is_xid_start, is_xid_continue}
+use Rattle.unicode_ident.specs.Ident.{is_xid_start}
 use Rattle.unicode_ident.proofs.IdentLemmas.{is_xid_start-ascii, is_xid_continue-ascii}
 use Rattle.jsgen_syntax.specs.Name.{starts_name, continues_name, goes_in_word, spells_name}
 use Rattle.jsgen_syntax.proofs.Names.{starts_continues}
@@ -202,7 +202,7 @@ below_128 c h = go (or_cases (is_in_range 65 90 c) (is_in_range 97 122 c) h)
     go (inl e) = let b = ranged 65 90 c e in omega arith
     go (inr e) = let b = ranged 97 122 c e in omega arith
 
-letter_starts : (c : ℕ) → is_ascii_alphabetic c ≡ true → starts_name c ≡ true
+pub letter_starts : (c : ℕ) → is_ascii_alphabetic c ≡ true → starts_name c ≡ true
 letter_starts c h = or_left _ (c == 95) (or_left (is_xid_start c) (c == 36) (is_xid_start-ascii c (below_128 c h) ∙ h))
 
 pub letters_spelled : (c : ℕ) (w : List ℕ) → list_all is_ascii_alphabetic (c ∷ w) ≡ true → spells_name (c ∷ w) ≡ true

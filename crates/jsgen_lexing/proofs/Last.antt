@@ -9,9 +9,10 @@ use Rattle.jsgen_syntax.specs.Strings.{quote_char}
 use Rattle.jsgen_syntax.specs.declared.quote.Quote.{Quote}
 use Rattle.jsgen_syntax.specs.declared.quote.Quote.TheVariants as quotes
 use Rattle.jsgen_model.specs.Punctuator.{Punctuator, punctuator_text, dot, ellipsis, question_dot, slash, plus, minus, Bracket, Round, Square, Brace, opening, closing}
-use Rattle.jsgen_model.specs.Tokens.{Piece, Word, Number, Quoted, Sign, ends_before, may_precede, stands, longer_stands}
+use Rattle.jsgen_model.specs.Tokens.{Piece, Word, Number, Quoted, Sign, ends_before, spells_whole, may_precede, stands, longer_stands}
 use Rattle.jsgen_model.specs.Layout.{Pen, Ending, operator_end, number_end, is_apart, space_if}
 use Rattle.jsgen_lexing.proofs.Characters.{goes_on_in_sign, none_longer, behind_itself, no_word_no_name, no_word_no_start, no_word_no_digit, word_no_sign, not_that, continues_goes, starts_no_digit, digit_goes}
+use Rattle.jsgen_lexing.proofs.Numbers.{whole_ends, apart_ends, number_alone}
 use Rattle.jsgen_lexing.proofs.Words.{begins_word}
 
 -- blanks or a bracket, behind a line end or not; or a token
@@ -49,7 +50,7 @@ Remembers s e = Unit {0}
 abbrev pub Ended : List ℕ → Ending → Last → Type 0
 Ended code e (Open line) = Unit {0}
 Ended code e (After (Word w)) = is_apart e code ≡ true
-Ended code e (After (Number w)) = (is_apart e code ≡ true) × (e ≡ number_end)
+Ended code e (After (Number w)) = (is_apart e code ≡ true) × (e ≡ number_end) × (spells_whole w ≡ true)
 Ended code e (After (Quoted q w)) = Unit {0}
 Ended code e (After (Sign s)) = Remembers s e
 
@@ -81,14 +82,10 @@ precedes_apart s c r g h = refl
 pub word_ends : (w : List ℕ) (c : ℕ) (r : List ℕ) → goes_in_word c ≡ false → (c == 92) ≡ false → Clear (After (Word w)) (c ∷ r)
 word_ends w c r h b = ap not (or_from (continues_name c) (c == 92) (no_word_no_name c h) b)
 
--- and no dot either
-number_ends : (w : List ℕ) (c : ℕ) (r : List ℕ) → goes_in_word c ≡ false → (c == 46) ≡ false → (c == 92) ≡ false → Clear (After (Number w)) (c ∷ r)
-number_ends w c r h d b = ap not (or_from _ (c == 92) (or_from _ (c == 46) (or_from (starts_name c) (is_ascii_digit c) (no_word_no_start c h) (no_word_no_digit c h)) d) b)
-
 pub clear_apart : (l : Last) (c : ℕ) (r : List ℕ) → goes_in_word c ≡ false → goes_on_in_sign c ≡ false → (c == 92) ≡ false → Clear l (c ∷ r)
 clear_apart (Open line) c r h g b = tt
 clear_apart (After (Word w)) c r h g b = word_ends w c r h b
-clear_apart (After (Number w)) c r h g b = number_ends w c r h (not_that c 46 g refl) b
+clear_apart (After (Number w)) c r h g b = apart_ends w c r h g b
 clear_apart (After (Quoted q w)) c r h g b = refl
 clear_apart (After (Sign s)) c r h g b = clear_sign s c r g (precedes_apart s c r g (no_word_no_digit c h))
 
@@ -96,7 +93,7 @@ pub clear_end : (l : Last) → Clear l []
 unfolding longer_stands
 clear_end (Open line) = tt
 clear_end (After (Word w)) = refl
-clear_end (After (Number w)) = refl
+clear_end (After (Number w)) = number_alone w
 clear_end (After (Quoted q w)) = refl
 clear_end (After (Sign s)) = sign_end s
   where
@@ -119,12 +116,12 @@ clear_closing Brace l r = clear_apart l 125 r refl refl refl
 
 -- ---- what may stand behind an operand
 
-clear_operand : (l : Last) (c : ℕ) (r : List ℕ) → Operand l → goes_in_word c ≡ false → (c == 46) ≡ false → (c == 92) ≡ false → Clear l (c ∷ r)
-clear_operand (Open line) c r o h e b = tt
-clear_operand (After (Word w)) c r o h e b = word_ends w c r h b
-clear_operand (After (Number w)) c r o h e b = number_ends w c r h e b
-clear_operand (After (Quoted q w)) c r o h e b = refl
-clear_operand (After (Sign s)) c r o h e b = absurd o
+clear_operand : (code : List ℕ) (e : Ending) (l : Last) (c : ℕ) (r : List ℕ) → Operand l → Ended code e l → goes_in_word c ≡ false → (c == 46) ≡ false → (c == 92) ≡ false → Clear l (c ∷ r)
+clear_operand code e (Open line) c r o k h d b = tt
+clear_operand code e (After (Word w)) c r o k h d b = word_ends w c r h b
+clear_operand code e (After (Number w)) c r o k h d b = whole_ends w c r k.2 (no_word_no_start c h) (no_word_no_digit c h) d b
+clear_operand code e (After (Quoted q w)) c r o k h d b = refl
+clear_operand code e (After (Sign s)) c r o k h d b = absurd o
 
 -- a sign that doesn't begin with a dot
 abbrev pub NoDot : Punctuator → Type 0
@@ -132,10 +129,10 @@ NoDot dot = ⊥
 NoDot ellipsis = ⊥
 NoDot s = Unit {0}
 
-pub clear_operator : (s : Punctuator) (l : Last) (r : List ℕ) → NoDot s → Operand l → Clear l (punctuator_text s ++ r)
-clear_operator dot l r i o = absurd i
-clear_operator ellipsis l r i o = absurd i
-clear_operator s l r i o = clear_operand l _ _ o refl refl refl
+pub clear_operator : (s : Punctuator) (code : List ℕ) (e : Ending) (l : Last) (r : List ℕ) → NoDot s → Operand l → Ended code e l → Clear l (punctuator_text s ++ r)
+clear_operator dot code e l r i o k = absurd i
+clear_operator ellipsis code e l r i o k = absurd i
+clear_operator s code e l r i o k = clear_operand code e l _ _ o k refl refl refl
 
 -- a quote is in no word and in no sign
 pub clear_quote : (q : Quote) (l : Last) (r : List ℕ) → Clear l (quote_char q ∷ r)
@@ -152,8 +149,7 @@ spaced w false r e = absurd (both_ways false refl e)
 
 -- anything may stand behind a string
 pub clear_quoted : (q : Quote) (w r : List ℕ) → Clear (After (Quoted q w)) r
-clear_quoted q w [] = refl
-clear_quoted q w (c ∷ r) = refl
+clear_quoted q w r = refl
 
 -- a space, or nothing, behind a sign
 spaced_sign : (s : Punctuator) (b : Bool) (c : ℕ) (r : List ℕ) → Clear (After (Sign s)) (c ∷ r) → Clear (After (Sign s)) (space_if b ++ (c ∷ r))

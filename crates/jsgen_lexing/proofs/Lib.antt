@@ -1,6 +1,8 @@
 pub mod Characters
+pub mod Numbers
 pub mod Words
 pub mod Last
+pub mod Plain
 pub mod Writes
 pub mod Steps
 pub mod Scalars

@@ -2,7 +2,7 @@
 use Rattle.std.proofs.Common.{◌≡◌, ℕ, Bool, true, false, not, ◌||◌, ◌==◌, ◌⊎◌, inl, inr, codes, Option, Some, None, is_some, List, [], ◌∷◌, ◌++◌, refl, sym, ap, ◌∙◌, subst, append_assoc, arith}
 use Rattle.std.specs.Char.{is_ascii_digit}
 use Rattle.std.specs.List.{list_all, list_any}
-use Rattle.std.proofs.lemmas.Bool.{both_ways, and_parts, or_parts, or_cases, or_from, eqb-true, not-true, false_from_ne_true}
+use Rattle.std.proofs.lemmas.Bool.{both_ways, and_parts, or_cases, or_from, eqb-true, not-true, false_from_ne_true}
 use Rattle.std.proofs.lemmas.List.{append_cancel_left}
 use Rattle.unicode_ident.proofs.Computing.{unicode_ident}
 use Rattle.jsgen_syntax.proofs.Names.{starts_continues}
@@ -12,10 +12,11 @@ use Rattle.jsgen_syntax.specs.declared.quote.Quote.{Quote}
 use Rattle.jsgen_syntax.specs.declared.quote.Quote.TheVariants as quotes
 use Rattle.jsgen_syntax.proofs.Strings.{closed as is_closed, valued_closed, one_string}
 use Rattle.jsgen_model.specs.Punctuator.{Punctuator, dot, Bracket, Round, Square, Brace, opening, closing}
-use Rattle.jsgen_model.specs.Tokens.{Tokens, done, piece, group, Piece, Word, Number, Quoted, Sign, piece_text, is_spelled, is_blank, is_line_terminator, has_line_end, ends_before, AreTokensAfter, AreTokensOf}
+use Rattle.jsgen_model.specs.Tokens.{Tokens, done, piece, group, Piece, Word, Number, Quoted, Sign, piece_text, is_spelled, is_blank, is_line_terminator, has_line_end, ends_before, AreTokensAfter, AreTokensOf, are_plain}
 use Rattle.jsgen_lexing.proofs.Characters.{continues_goes, digit_goes, whole_digits, found_passes, no_word_no_start, no_word_no_digit, starts_no_digit}
 pub use Rattle.jsgen_lexing.proofs.Words.{Stops}
 use Rattle.jsgen_lexing.proofs.Words.{between, goes_on_in_word, begins_word, word_begins, word_shaped, one_word}
+use Rattle.jsgen_lexing.proofs.Numbers.{one_number, number_ends_same}
 use Rattle.jsgen_lexing.proofs.Last.{After, clear_closing, clear_quoted}
 use Rattle.jsgen_lexing.proofs.Signs.{one_sign, closing_char, Shut, sign_ends_shut}
 
@@ -147,13 +148,6 @@ pub word_stops : (w x : List ℕ) → ends_before (Word w) x ≡ true → Stops 
 word_stops w [] h = tt
 word_stops w (c ∷ cs) h = not-true (goes_on_in_word c) h
 
-pub number_stops : (w x : List ℕ) → ends_before (Number w) x ≡ true → Stops is_ascii_digit x
-number_stops w [] h = tt
-number_stops w (c ∷ cs) h =
-    let j = or_parts (starts_name c || is_ascii_digit c || (c == 46)) (c == 92) (not-true _ h) in
-    let k = or_parts (starts_name c || is_ascii_digit c) (c == 46) j.0 in
-    (or_parts (starts_name c) (is_ascii_digit c) k.0).1
-
 apart : (p q : Piece) (x y : List ℕ) → is_spelled p ≡ true → is_spelled q ≡ true → ((c : ℕ) → starts_piece p c ≡ true → starts_piece q c ≡ true → ⊥) → piece_text p ++ x ≡ piece_text q ++ y → ⊥
 apart p q x y g h clash e =
     let b = begins p g in
@@ -219,7 +213,7 @@ one_quoted q r v w x y g h e =
 pub one_piece : (p q : Piece) (x y : List ℕ) → is_spelled p ≡ true → is_spelled q ≡ true → ends_before p x ≡ true → ends_before q y ≡ true → piece_text p ++ x ≡ piece_text q ++ y → (p ≡ q) × (x ≡ y)
 unfolding starts_piece
 one_piece (Word v) (Word w) x y g h s t e = let k = one_word (Some between) v w x y (word_shaped v g) (word_shaped w h) (word_stops v x s) (word_stops w y t) e in (ap Word k.0, k.1)
-one_piece (Number v) (Number w) x y g h s t e = let k = one_span is_ascii_digit v w x y (whole_digits v g) (whole_digits w h) (number_stops v x s) (number_stops w y t) e in (ap Number k.0, k.1)
+one_piece (Number v) (Number w) x y g h s t e = let k = one_number v w x y g h s t e in (ap Number k.0, k.1)
 one_piece (Quoted q v) (Quoted r w) x y g h s t e = one_quoted q r v w x y g h e
 one_piece (Sign v) (Sign w) x y g h s t e = let k = one_sign v w x y s t e in (ap Sign k.0, k.1)
 one_piece (Word v) (Number w) x y g h s t e = absurd (apart (Word v) (Number w) x y g h word_or_digit e)
@@ -319,9 +313,7 @@ ends_more (Quoted q w) r x h s = clear_quoted q w (r ++ x)
 ends_more (Word w) [] [] h s = refl
 ends_more (Word w) [] (c ∷ cs) h s = subst (λ t. ends_before (Word w) t ≡ true) (ap (λ t. t ++ cs) (closed s.0) ∙ ap (λ d. d ∷ cs) (sym s.1)) (clear_closing s.0 (After (Word w)) cs)
 ends_more (Word w) (d ∷ r) x h s = h
-ends_more (Number w) [] [] h s = refl
-ends_more (Number w) [] (c ∷ cs) h s = subst (λ t. ends_before (Number w) t ≡ true) (ap (λ t. t ++ cs) (closed s.0) ∙ ap (λ d. d ∷ cs) (sym s.1)) (clear_closing s.0 (After (Number w)) cs)
-ends_more (Number w) (d ∷ r) x h s = h
+ends_more (Number w) r x h s = number_ends_same w r x s ∙ h
 
 behind_piece : (a gap w rest x : List ℕ) → a ≡ gap ++ (w ++ rest) → a ++ x ≡ gap ++ (w ++ (rest ++ x))
 behind_piece a gap w rest x e = ap (λ t. t ++ x) e ∙ (append_assoc gap (w ++ rest) x ∙ ap (λ t. gap ++ t) (append_assoc w rest x))
@@ -396,5 +388,5 @@ one_list (group n c gs ts) (group o d hs us) line a b x y l m s t e =
     same_text : (g h : List ℕ) (c d : Bracket) (q r z w : List ℕ) → g ≡ h → c ≡ d → q ≡ r → z ≡ w → g ++ (opening c ++ (q ++ (closing c ++ z))) ≡ h ++ (opening d ++ (r ++ (closing d ++ w)))
     same_text g h c d q r z w e f k l = λ i. e i ++ (opening (f i) ++ (k i ++ (closing (f i) ++ l i)))
 
-pub one_token_list : (text : List ℕ) (ts us : Tokens) → AreTokensOf text ts → AreTokensOf text us → ts ≡ us
-one_token_list text ts us l m = (one_list ts us false text text [] [] l m tt tt refl).0
+pub one_token_list : (text : List ℕ) (ts us : Tokens) → AreTokensOf text ts → are_plain ts ≡ true → AreTokensOf text us → are_plain us ≡ true → ts ≡ us
+one_token_list text ts us l p m q = (one_list ts us false text text [] [] l m tt tt refl).0

@@ -62,7 +62,7 @@ wrote_number (c ∷ w) p l h y k =
     let d = whole_digits (c ∷ w) h in
     wrote_piece p (layout (number true (c ∷ w)) p) l (space_if b) (Number (c ∷ w)) (line_of l) (space_blank b) (space_mark b (line_of l)) h
     (λ r. clear_digit p.code p.ending l c (w ++ r) k.ending y (and_parts (is_ascii_digit c) (list_all is_ascii_digit w) d).0) refl
-    (record { indent = k.indent; ending = (ends_in_word_behind p.code (space_if b) c w (all_follow is_ascii_digit goes_in_word digit_goes (c ∷ w) d), refl) })
+    (record { indent = k.indent; ending = (ends_in_word_behind p.code (space_if b) c w (all_follow is_ascii_digit goes_in_word digit_goes (c ∷ w) d), refl, h) })
 
 -- ---- strings, behind anything
 
@@ -75,21 +75,21 @@ wrote_quoted q w us p r l h e f k =
 -- ---- punctuators behind an operand
 
 pub wrote_punctuator : (s : Punctuator) (p : Pen) (l : Last) → NoDot s → Remembers s other_end → Operand l → Knows p l → Writes p l (layout (punctuator s) p) (After (Sign s)) (piece (line_of l) (Sign s) done)
-wrote_punctuator s p l i m o k = wrote_piece p (layout (punctuator s) p) l [] (Sign s) (line_of l) refl (space_mark false (line_of l)) refl (λ r. clear_operator s l r i o) refl (record { indent = k.indent; ending = m })
+wrote_punctuator s p l i m o k = wrote_piece p (layout (punctuator s) p) l [] (Sign s) (line_of l) refl (space_mark false (line_of l)) refl (λ r. clear_operator s p.code p.ending l r i o k.ending) refl (record { indent = k.indent; ending = m })
 
 remembered : (s : Punctuator) → Remembers s (operator_end s)
 remembered plus = refl
 remembered minus = refl
 remembered s = tt
 
-spaced_operator : (s : Punctuator) (l : Last) (b : Bool) (r : List ℕ) → NoDot s → Operand l → Clear l (space_if b ++ (punctuator_text s ++ r))
-spaced_operator s l true r i o = clear_space l (punctuator_text s ++ r)
-spaced_operator s l false r i o = clear_operator s l r i o
+spaced_operator : (s : Punctuator) (code : List ℕ) (e : Ending) (l : Last) (b : Bool) (r : List ℕ) → NoDot s → Operand l → Ended code e l → Clear l (space_if b ++ (punctuator_text s ++ r))
+spaced_operator s code e l true r i o k = clear_space l (punctuator_text s ++ r)
+spaced_operator s code e l false r i o k = clear_operator s code e l r i o k
 
 pub wrote_operator : (s : Punctuator) (p : Pen) (l : Last) → NoDot s → Operand l → Knows p l → Writes p l (layout (operator s) p) (After (Sign s)) (piece (line_of l) (Sign s) done)
 wrote_operator s p l i o k =
     let b : Bool = joins p.ending p.code s in
-    wrote_piece p (layout (operator s) p) l (space_if b) (Sign s) (line_of l) (space_blank b) (space_mark b (line_of l)) refl (λ r. spaced_operator s l b r i o) refl (record { indent = k.indent; ending = remembered s })
+    wrote_piece p (layout (operator s) p) l (space_if b) (Sign s) (line_of l) (space_blank b) (space_mark b (line_of l)) refl (λ r. spaced_operator s p.code p.ending l b r i o k.ending) refl (record { indent = k.indent; ending = remembered s })
 
 -- a semicolon may stand behind anything
 pub wrote_semicolon : (p q : Pen) (l : Last) → q.code ≡ p.code ++ codes ";" → q.style ≡ p.style → Knows p l → Writes p l q (After (Sign semicolon)) (piece (line_of l) (Sign semicolon) done)
@@ -284,16 +284,16 @@ spaced_since l false r e = absurd (both_ways false refl e)
 
 plus_clear : (code : List ℕ) (e : Ending) (l : Last) (r : List ℕ) → Ended code e l → Clear l (space_if (joins e code plus) ++ (43 ∷ r))
 plus_clear code e (Open line) r k = tt
-plus_clear code e (After (Word w)) r k = spaced_operator plus (After (Word w)) (joins e code plus) r tt tt
-plus_clear code e (After (Number w)) r k = spaced_operator plus (After (Number w)) (joins e code plus) r tt tt
+plus_clear code e (After (Word w)) r k = spaced_operator plus code e (After (Word w)) (joins e code plus) r tt tt k
+plus_clear code e (After (Number w)) r k = spaced_operator plus code e (After (Number w)) (joins e code plus) r tt tt k
 plus_clear code e (After (Quoted q w)) r k = clear_quoted q w (space_if (joins e code plus) ++ (43 ∷ r))
 plus_clear code e (After (Sign plus)) r k = spaced_since (After (Sign plus)) (joins e code plus) (43 ∷ r) (ap (λ x. joins x code plus) k)
 plus_clear code e (After (Sign s)) r k = spaced_or (After (Sign s)) (joins e code plus) (43 ∷ r) (plus_behind s r tt)
 
 minus_clear : (code : List ℕ) (e : Ending) (l : Last) (r : List ℕ) → Ended code e l → Clear l (space_if (joins e code minus) ++ (45 ∷ r))
 minus_clear code e (Open line) r k = tt
-minus_clear code e (After (Word w)) r k = spaced_operator minus (After (Word w)) (joins e code minus) r tt tt
-minus_clear code e (After (Number w)) r k = spaced_operator minus (After (Number w)) (joins e code minus) r tt tt
+minus_clear code e (After (Word w)) r k = spaced_operator minus code e (After (Word w)) (joins e code minus) r tt tt k
+minus_clear code e (After (Number w)) r k = spaced_operator minus code e (After (Number w)) (joins e code minus) r tt tt k
 minus_clear code e (After (Quoted q w)) r k = clear_quoted q w (space_if (joins e code minus) ++ (45 ∷ r))
 minus_clear code e (After (Sign minus)) r k = spaced_since (After (Sign minus)) (joins e code minus) (45 ∷ r) (ap (λ x. joins x code minus) k)
 minus_clear code e (After (Sign s)) r k = spaced_or (After (Sign s)) (joins e code minus) (45 ∷ r) (minus_behind s r tt)

@@ -4,6 +4,7 @@ pub mod Layout
 pub mod Printing
 pub mod Spell
 pub mod Valid
+pub mod Numbers
 pub mod Tokens
 pub mod Normal
 pub mod Renamed

@@ -3,10 +3,11 @@ use Rattle.std.specs.Prelude.{◌≡◌, ℕ, List, [], ◌∷◌, ◌++◌, len
 use Rattle.std.specs.Char.{is_ascii_digit}
 use Rattle.std.specs.List.{list_all, list_any}
 use Rattle.std.specs.Option.{option_map_or}
-use Rattle.jsgen_syntax.specs.Escapes.{word_value}
+use Rattle.jsgen_syntax.specs.Escapes.{begins, word_value}
 use Rattle.jsgen_syntax.specs.Name.{starts_name, continues_name, spells_name}
 use Rattle.jsgen_syntax.specs.Strings.{quote_char, string_value}
 use Rattle.jsgen_syntax.specs.declared.quote.Quote.{Quote}
+use Rattle.jsgen_model.specs.Numbers.{spells_number}
 use Rattle.jsgen_model.specs.Punctuator.{Punctuator, punctuator_text, dot, ellipsis, semicolon, comma, colon, question, question_dot, arrow, less, greater, less_equal, greater_equal, equal_equal, not_equal, equal_equal_equal, not_equal_equal, plus, minus, star, slash, percent, star_star, plus_plus, minus_minus, shift_left, shift_right, shift_right_zero, bit_and, bit_or, bit_xor, bang, tilde, and_and, or_or, nullish, equal, plus_equal, minus_equal, star_equal, slash_equal, percent_equal, star_star_equal, shift_left_equal, shift_right_equal, shift_right_zero_equal, bit_and_equal, bit_or_equal, bit_xor_equal, and_and_equal, or_or_equal, nullish_equal, Bracket, opening, closing}
 
 -- A token that is no bracket. Private names, regular expressions and the parts of templates come with the nodes that print them.
@@ -73,13 +74,20 @@ stands p text = option_map_or (may_precede p) (text_behind (punctuator_text p) t
 unfoldable pub longer_stands : Punctuator → List ℕ → Bool
 longer_stands p text = list_any (λ q. nat_lt (length (punctuator_text p)) (length (punctuator_text q)) && stands q text) punctuators
 
--- ---- tokens that are no brackets
+-- ---- numbers (12.9.3)
 
--- `0`, or decimal digits without a leading zero (12.9.3): so far the only form of a number
+-- `0`, or decimal digits without a leading zero: so far the only form of a number that is a token. The others come with the nodes that print them
 abbrev pub spells_whole : List ℕ → Bool
 spells_whole [] = false
 spells_whole (c ∷ []) = is_ascii_digit c
 spells_whole (c ∷ d ∷ ds) = not (c == 48) && list_all is_ascii_digit (c ∷ d ∷ ds)
+
+-- a longer number stands there, of whatever form: the characters w and one or more of the text behind them spell it
+unfoldable pub longer_number_stands : List ℕ → List ℕ → Bool
+longer_number_stands w [] = false
+longer_number_stands w (c ∷ cs) = spells_number (w ++ c ∷ []) || longer_number_stands (w ++ c ∷ []) cs
+
+-- ---- tokens that are no brackets
 
 abbrev pub piece_text : Piece → List ℕ
 piece_text (Word w) = w
@@ -93,18 +101,33 @@ is_spelled (Number w) = spells_whole w
 is_spelled (Quoted q w) = is_some (string_value q w)
 is_spelled (Sign p) = true
 
--- with this character behind it, a word is longer, and a number another one or none (12.9.3); a string has its end. A backslash begins an escape of a name
-abbrev pub goes_on_with : Piece → ℕ → Bool
-goes_on_with (Word w) c = continues_name c || (c == 92)
-goes_on_with (Number w) c = starts_name c || is_ascii_digit c || (c == 46) || (c == 92)
-goes_on_with (Quoted q w) c = false
-goes_on_with (Sign p) c = false
+-- what may not follow a number at once: what begins a name, a backslash, which begins an escape of one, and a digit (12.9.3)
+abbrev pub is_barred_behind_number : ℕ → Bool
+is_barred_behind_number c = starts_name c || is_ascii_digit c || (c == 92)
 
 -- the token ends before this text
 abbrev pub ends_before : Piece → List ℕ → Bool
+-- a word goes on with characters of names and with escapes
+ends_before (Word w) text = not (begins (λ c. continues_name c || (c == 92)) text)
+ends_before (Number w) text = not (begins is_barred_behind_number text) && not (longer_number_stands w text)
+-- a string has its end
+ends_before (Quoted q w) text = true
 ends_before (Sign p) text = stands p (punctuator_text p ++ text) && not (longer_stands p (punctuator_text p ++ text))
-ends_before p [] = true
-ends_before p (c ∷ cs) = not (goes_on_with p c)
+
+-- ---- plain tokens
+
+-- no private name, hashbang, part of a template or regular expression
+abbrev pub is_plain_piece : Piece → Bool
+is_plain_piece (Word w) = true
+is_plain_piece (Number w) = true
+is_plain_piece (Quoted q w) = true
+is_plain_piece (Sign p) = true
+
+-- a text's tokens don't depend on the grammar where they are all plain
+abbrev pub are_plain : Tokens → Bool
+are_plain done = true
+are_plain (piece mark p ts) = is_plain_piece p && are_plain ts
+are_plain (group mark b inside ts) = are_plain inside && are_plain ts
 
 -- ---- the whole
 
@@ -116,15 +139,3 @@ AreTokensAfter line text (group mark b inside ts) = (gap inner rest : List ℕ) 
 
 abbrev pub AreTokensOf : List ℕ → Tokens → Type 0
 AreTokensOf text ts = AreTokensAfter false text ts
-
-abbrev pub is_plain_piece : Piece → Bool
-is_plain_piece (Word w) = true
-is_plain_piece (Number w) = true
-is_plain_piece (Quoted q w) = true
-is_plain_piece (Sign p) = true
-
--- no private names, hashbang, regular expressions or parts of templates
-abbrev pub are_plain : Tokens → Bool
-are_plain done = true
-are_plain (piece mark p ts) = is_plain_piece p && are_plain ts
-are_plain (group mark b inside ts) = are_plain inside && are_plain ts

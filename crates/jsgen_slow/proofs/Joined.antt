@@ -14,6 +14,7 @@ use Rattle.jsgen_model.specs.Punctuator.{dot, comma, equal, star_star, and_and, 
 use Rattle.jsgen_model.specs.Tokens.{Tokens, done, piece, group, ◌⧺◌, Word, Quoted, Sign, longer_stands, AreTokensOf}
 use Rattle.jsgen_model.specs.Grammar.{Allowed, Level, operator_piece, ReadsExpression, ReadsArguments, ReadsArgumentList, ReadsBinding, ReadsDeclarator, ReadsDeclarators, ReadsDeclaration, ReadsUnended, ReadsStatement, ReadsStatements, ReadsDirectives, ReadsModule, a_module}
 use Rattle.jsgen_model.specs.Grammar as grammar
+use Rattle.jsgen_lexing.proofs.Plain.{all_plain}
 use Rattle.jsgen_lexing.proofs.OneList.{one_token_list}
 use Rattle.jsgen_slow.specs.Samples.{IsNotRead}
 use Rattle.jsgen_slow.proofs.Samples.{word, sign}
@@ -142,7 +143,7 @@ module_joined : {ts : Tokens} {t : Tree} → ReadsModule ts t → is_joined ts �
 module_joined (a_module {a = a} {b = b} e d h r) = made _ a b e (directives_joined d) (statements_joined r)
 
 refused : (source : List ℕ) (ts : Tokens) → AreTokensOf source ts → is_joined ts ≡ false → IsNotRead source
-refused source ts h f us t g r = both_ways (is_joined ts) f (subst (λ x. is_joined x ≡ true) (one_token_list source us ts g h) (module_joined r))
+refused source ts h f us t g r = both_ways (is_joined ts) f (subst (λ x. is_joined x ≡ true) (one_token_list source us ts g (all_plain us) h (all_plain ts)) (module_joined r))
 
 -- ---- texts
 

@@ -11,10 +11,10 @@ use Rattle.jsgen_syntax.specs.declared.quote.Quote.{Quote}
 use Rattle.jsgen_syntax.specs.declared.quote.Quote.TheVariants as quotes
 use Rattle.jsgen_model.specs.Tokens.{Piece, Word, Number, Quoted, Sign, is_spelled, ends_before, spells_whole}
 use Rattle.jsgen_lexing.proofs.Characters.{whole_digits, digit_goes}
-use Rattle.jsgen_lexing.proofs.OneList.{Stops, Begins, begins, begins_sign, starts_piece, one_span, number_stops, sign_or}
-use Rattle.jsgen_slow.specs.Steps.{StandsAt, HasNoPiece, starts_word, count_word}
+use Rattle.jsgen_lexing.proofs.OneList.{Stops, Begins, begins, begins_sign, starts_piece, one_span, sign_or}
+use Rattle.jsgen_slow.specs.Steps.{StandsAt, HasNoPiece, starts_word, count_word, ends_whole}
 use Rattle.jsgen_slow.proofs.Words.{WordFront, word_front, word_counted, starts_no_digit_or_sign, starts_no_quote}
-use Rattle.jsgen_slow.proofs.Spans.{front_passes, rest_stops}
+use Rattle.jsgen_slow.proofs.Spans.{front_passes, rest_stops, number_ended, whole_stopped}
 
 -- the text begins as its first token does
 pub begins_as : (f : ℕ → Bool) (p : Piece) (text rest : List ℕ) → StandsAt text p rest → (b : Begins p) → escapes.begins f text ≡ f b.head
@@ -55,16 +55,12 @@ no_word text w rest h e f none (Quoted q v) r s = both_ways (starts_word (quote_
 
 -- ---- numbers
 
-number_again : (w rest : List ℕ) → ends_before (Number w) rest ≡ true → ends_before (Number []) rest ≡ true
-number_again w [] h = refl
-number_again w (c ∷ cs) h = h
-
 pub no_quote_digit : (q : Quote) → is_ascii_digit (quote_char q) ≡ false
 no_quote_digit quotes.Single = refl
 no_quote_digit quotes.Double = refl
 no_quote_digit quotes.Backtick = refl
 
-pub no_number : (text n rest : List ℕ) → escapes.begins is_ascii_digit text ≡ true → n ≡ take (prefix_len is_ascii_digit text) text → rest ≡ drop (prefix_len is_ascii_digit text) text → (spells_whole n ≡ true → ends_before (Number []) rest ≡ true → ⊥) → HasNoPiece text
+pub no_number : (text n rest : List ℕ) → escapes.begins is_ascii_digit text ≡ true → n ≡ take (prefix_len is_ascii_digit text) text → rest ≡ drop (prefix_len is_ascii_digit text) text → (spells_whole n ≡ true → ends_whole rest ≡ true → ⊥) → HasNoPiece text
 unfolding starts_piece
 no_number text n rest h e f none (Word w) r s = let b = word_front w s.spelled in both_ways (is_ascii_digit b.head) (starts_no_digit_or_sign b.head b.starts).0 (sym (word_begins is_ascii_digit w text r s b) ∙ h)
 no_number text n rest h e f none (Sign q) r s = let b = begins (Sign q) s.spelled in sign_or b.head b.starts (digit_goes b.head (sym (begins_as is_ascii_digit (Sign q) text r s b) ∙ h))
@@ -73,5 +69,6 @@ no_number text n rest h e f none (Number w) r s =
     let front : list_all is_ascii_digit n ≡ true = subst (λ x. list_all is_ascii_digit x ≡ true) (sym e) (front_passes is_ascii_digit text) in
     let whole : n ++ rest ≡ text = ap (λ x. x ++ rest) e ∙ (ap (λ x. take (prefix_len is_ascii_digit text) text ++ x) f ∙ take-append-drop (prefix_len is_ascii_digit text) text) in
     let stops = subst (λ x. Stops is_ascii_digit x) (sym f) (rest_stops is_ascii_digit text) in
-    let k = one_span is_ascii_digit w n r rest (whole_digits w s.spelled) front (number_stops w r s.ends) stops (sym s.text_is ∙ sym whole) in
-    none (subst (λ x. spells_whole x ≡ true) k.0 s.spelled) (subst (λ x. ends_before (Number []) x ≡ true) k.1 (number_again w r s.ends))
+    let ended = number_ended w r s.spelled s.ends in
+    let k = one_span is_ascii_digit w n r rest (whole_digits w s.spelled) front (whole_stopped r ended) stops (sym s.text_is ∙ sym whole) in
+    none (subst (λ x. spells_whole x ≡ true) k.0 s.spelled) (subst (λ x. ends_whole x ≡ true) k.1 ended)

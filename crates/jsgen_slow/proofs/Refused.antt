@@ -16,11 +16,13 @@ use Rattle.jsgen_syntax.specs.declared.operator.BinaryOperator.{BinaryOperator}
 use Rattle.jsgen_syntax.specs.declared.operator.BinaryOperator.TheVariants as operators
 use Rattle.jsgen_tree.specs.Tree.{Tree, Trees}
 use Rattle.jsgen_model.specs.Punctuator.{dot, plus, plus_plus, minus_minus, star_star, and_and, or_or, nullish, semicolon, Bracket, Round, Square, Brace, opening, closing}
-use Rattle.jsgen_model.specs.Tokens.{Tokens, done, piece, group, ◌⧺◌, Piece, Word, Number, Quoted, Sign, piece_text, is_blank, longer_stands, AreTokensOf}
+use Rattle.jsgen_model.specs.Numbers.{spells_number}
+use Rattle.jsgen_model.specs.Tokens.{Tokens, done, piece, group, ◌⧺◌, Piece, Word, Number, Quoted, Sign, piece_text, is_blank, longer_stands, longer_number_stands, AreTokensOf}
 use Rattle.jsgen_model.specs.Valid.{is_free_name, is_lexical}
 use Rattle.jsgen_model.specs.Grammar.{Allowed, Level, operator_piece, ReadsExpression, ReadsBinding, ReadsDeclarator, ReadsDeclarators, ReadsDeclaration, ReadsUnended, ReadsStatement, ReadsStatements, ReadsDirectives, ReadsModule, a_module}
 use Rattle.jsgen_model.specs.Grammar as grammar
 use Rattle.jsgen_lexing.proofs.Characters.{any_append}
+use Rattle.jsgen_lexing.proofs.Plain.{all_plain}
 use Rattle.jsgen_lexing.proofs.OneList.{one_token_list, one_span, piece_stops, piece_or_group, opening_char}
 use Rattle.jsgen_slow.specs.Samples.{IsNotRead}
 use Rattle.jsgen_slow.proofs.Samples.{word, sign}
@@ -333,7 +335,7 @@ module_sound : {ts : Tokens} {t : Tree} → ReadsModule ts t → is_sound ts ≡
 module_sound (a_module {b = b} e d h r) = subst (λ x. is_sound x ≡ true) (sym e) (directives_sound d b (statements_sound r))
 
 refused : (source : List ℕ) (ts : Tokens) → AreTokensOf source ts → is_sound ts ≡ false → IsNotRead source
-refused source ts h f us t g r = both_ways (is_sound ts) f (subst (λ x. is_sound x ≡ true) (one_token_list source us ts g h) (module_sound r))
+refused source ts h f us t g r = both_ways (is_sound ts) f (subst (λ x. is_sound x ≡ true) (one_token_list source us ts g (all_plain us) h (all_plain ts)) (module_sound r))
 
 -- ---- texts
 
@@ -342,7 +344,7 @@ unfolding unicode_ident longer_stands word_value is_reserved is_strict_reserved 
 two_names = refused (codes "a b") (word (codes "a") (word (codes "b") done)) ([], codes " b", refl, refl, refl, refl, refl, (codes " ", [], refl, refl, refl, refl, refl, refl)) refl
 
 pub two_numbers : IsNotRead (codes "1 2;")
-unfolding unicode_ident longer_stands word_value
+unfolding unicode_ident longer_stands longer_number_stands spells_number word_value
 two_numbers = refused (codes "1 2;") (piece false (Number (codes "1")) (piece false (Number (codes "2")) (sign semicolon done))) ([], codes " 2;", refl, refl, refl, refl, refl, (codes " ", codes ";", refl, refl, refl, refl, refl, ([], [], refl, refl, refl, refl, refl, refl))) refl
 
 pub no_right_operand : IsNotRead (codes "a +")

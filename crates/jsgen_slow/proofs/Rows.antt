@@ -6,6 +6,7 @@ use Rattle.std.proofs.lemmas.List.{take-append-drop, append_cancel_left}
 use Rattle.jsgen_model.specs.Punctuator.{Bracket, Round, Square, Brace, opening, closing}
 use Rattle.jsgen_model.specs.Tokens.{Tokens, done, piece, group, Piece, Word, Number, Quoted, Sign, piece_text, ends_before, is_blank, has_line_end, AreTokensAfter, AreTokensOf}
 use Rattle.jsgen_lexing.proofs.Last.{clear_quoted}
+use Rattle.jsgen_lexing.proofs.Numbers.{number_ends_same}
 use Rattle.jsgen_lexing.proofs.Signs.{Shut, closing_char, sign_ends_same}
 use Rattle.jsgen_lexing.proofs.OneList.{Stops, one_span, one_list, piece_stops, opening_stops, shut_stops, opened, closed, ends_more}
 use Rattle.jsgen_slow.specs.Steps.{ends_row, behind_blanks, mark_at, IsRow, HasNoRow}
@@ -45,8 +46,7 @@ ends_less (Sign q) r x h s = sym (sign_ends_same q r x s) ∙ h
 ends_less (Quoted q w) r x h s = clear_quoted q w r
 ends_less (Word w) [] x h s = refl
 ends_less (Word w) (c ∷ cs) x h s = h
-ends_less (Number w) [] x h s = refl
-ends_less (Number w) (c ∷ cs) x h s = h
+ends_less (Number w) r x h s = sym (number_ends_same w r x s) ∙ h
 
 -- ---- blanks
 

@@ -9,7 +9,8 @@ use Rattle.jsgen_syntax.specs.declared.quote.Quote.TheVariants.{Single, Double, 
 use Rattle.jsgen_syntax.specs.declared.operator.BinaryOperator.TheVariants.{Addition, Subtraction, Multiplication}
 use Rattle.jsgen_tree.specs.Tree.{Tree, absent, given, Trees, no_trees, more}
 use Rattle.jsgen_model.specs.Punctuator.{Punctuator, plus, minus, star, star_star, comma, semicolon, dot, equal, Round, Square, Brace}
-use Rattle.jsgen_model.specs.Tokens.{Tokens, done, piece, group, ◌⧺◌, Word, Number, Quoted, Sign, longer_stands}
+use Rattle.jsgen_model.specs.Numbers.{spells_number}
+use Rattle.jsgen_model.specs.Tokens.{Tokens, done, piece, group, ◌⧺◌, Word, Number, Quoted, Sign, longer_stands, longer_number_stands}
 use Rattle.jsgen_model.specs.Valid.{is_free_name}
 use Rattle.jsgen_model.specs.Grammar.{Allowed, Level, Expression, Assignment, Multiplicative, Additive, Exponent, Update, Primary, in_module, with_in, ReadsExpression, ReadsBinding, ReadsDeclarator, ReadsDeclarators, ReadsDeclaration, ReadsUnended, ReadsStatement, ReadsStatements, ReadsModule, a_module, starts_with_directive}
 use Rattle.jsgen_model.specs.Grammar as grammar
@@ -120,7 +121,7 @@ parentheses = (
 )
 
 pub declarators : IsRead (codes "const a=1,b=c;") (samples.module_of (more (samples.const_of (more (samples.bound (codes "a") (given samples.one)) (more (samples.bound (codes "b") (given samples.c)) no_trees))) no_trees))
-unfolding unicode_ident longer_stands word_value
+unfolding unicode_ident longer_stands longer_number_stands spells_number word_value
 declarators =
     let first = word (codes "a") (sign equal (piece false (Number (codes "1")) done)) in
     let second = word (codes "b") (sign equal (word (codes "c") done)) in (
@@ -163,7 +164,7 @@ product_in_sum = (
 )
 
 pub members : IsRead (codes "a.b(c)[1];") (samples.module_of (more (samples.statement_of (samples.element_of (samples.call_of (samples.member_of samples.a (codes "b")) (more samples.c no_trees)) samples.one)) no_trees))
-unfolding unicode_ident longer_stands word_value
+unfolding unicode_ident longer_stands longer_number_stands spells_number word_value
 members =
     let callee = word (codes "a") (sign dot (word (codes "b") done)) in
     let called = word (codes "a") (sign dot (word (codes "b") (group false Round (word (codes "c") done) done))) in

@@ -1,7 +1,8 @@
 -- What stands at a place of a text.
-use Rattle.std.specs.Prelude.{◌≡◌, ℕ, ◌+◌, List, [], ◌∷◌, ◌++◌, Bool, true, false, ◌||◌, ◌==◌, Option, Some, None, option_map, if◌then◌else◌, take, drop}
+use Rattle.std.specs.Prelude.{◌≡◌, ℕ, ◌+◌, List, [], ◌∷◌, ◌++◌, Bool, true, false, not, ◌||◌, ◌==◌, Option, Some, None, option_map, if◌then◌else◌, take, drop}
+use Rattle.std.specs.Char.{is_ascii_digit}
 use Rattle.std.specs.List.{prefix_len}
-use Rattle.jsgen_syntax.specs.Escapes.{begins_with}
+use Rattle.jsgen_syntax.specs.Escapes.{begins, begins_with}
 use Rattle.jsgen_syntax.specs.Name.{starts_name, continues_name}
 use Rattle.jsgen_syntax.specs.Strings.{quote_char}
 use Rattle.jsgen_syntax.specs.declared.quote.Quote.{Quote}
@@ -46,6 +47,12 @@ abbrev mutual
   pub count_braces : List ℕ → ℕ
   count_braces [] = 0
   count_braces (c ∷ cs) = 1 + (if c == 125 then count_word cs else count_braces cs)
+
+-- ---- numbers
+
+-- a whole number ends before this text: no name begins there, no escape of one, and no digit and no dot stands there
+abbrev pub ends_whole : List ℕ → Bool
+ends_whole text = not (begins (λ c. starts_name c || is_ascii_digit c || (c == 46) || (c == 92)) text)
 
 -- ---- strings
 

@@ -10,6 +10,7 @@ ghost use Rattle.jsgen_slow.specs.Plain.{tokens_plain};
 ghost use Rattle.jsgen_slow.specs.Form.{form_plain};
 ghost use Rattle.jsgen_slow.specs.Law.{HasNoTokens};
 ghost use Rattle.jsgen_slow.specs.Samples.{GrammarSamples, NormalSamples};
+ghost use Rattle.jsgen_slow.specs.NumberSamples.{NumberSamples};
 
 mod characters;
 mod directive;
@@ -58,6 +59,11 @@ pub fn normal_form(alloc: Global, program: &Program) -> Result<Form, Memory>
 {
     program_form(alloc, program)
 }
+
+/// A few texts spell a number by the model, and a few don't, as ECMA-262 has it.
+pub fn number_samples()
+    ensures { NumberSamples }
+{}
 
 /// The grammar of the model reads a few texts as ECMA-262 does.
 pub fn grammar_samples()

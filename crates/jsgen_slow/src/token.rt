@@ -4,9 +4,9 @@ ghost use Rattle.std.specs.Char.{is_ascii_digit};
 ghost use Rattle.jsgen_syntax.specs.Escapes.{begins};
 ghost use Rattle.jsgen_syntax.specs.Strings.{quote_char};
 ghost use Rattle.jsgen_model.specs.Punctuator.{closing};
-ghost use Rattle.jsgen_model.specs.Tokens.{spells_whole, ends_before, Word, Number};
+ghost use Rattle.jsgen_model.specs.Tokens.{spells_whole, ends_before, Word};
 ghost use Rattle.jsgen_slow.specs.Plain.{bracket_plain, piece_plain};
-ghost use Rattle.jsgen_slow.specs.Steps.{starts_word, StandsAt, HasNoPiece, HasNoSign, quote_at, count_before, opening_at, ends_row};
+ghost use Rattle.jsgen_slow.specs.Steps.{starts_word, StandsAt, HasNoPiece, HasNoSign, ends_whole, quote_at, count_before, opening_at, ends_row};
 
 use crate::characters::{are_digits, begins_with_digit, continues_name, count_digits, starts_name};
 use crate::punctuator::{Punctuator, sign_at};
@@ -150,7 +150,7 @@ fn take_number<'a>(alloc: Global, text: &'a [char]) -> Result<Option<Taken<'a>>,
         (λ t. StandsAt text.now (piece_plain t.piece) t.rest.now)) }
 {
     let (number, rest) = text.split_at(count_digits(text));
-    if is_whole(number) && ends_number(rest) {
+    if is_whole(number) && ends_whole(rest) {
         Ok(Some(Taken {
             piece: Piece::Number(Vec::from_slice(alloc, number)?),
             rest,
@@ -171,9 +171,9 @@ fn is_whole(number: &[char]) -> bool
     }
 }
 
-// Whether a number may end before this text.
-fn ends_number(rest: &[char]) -> bool
-    ensures { result ≡ ends_before (Number []) rest.now }
+// Whether a whole number may end before this text.
+fn ends_whole(rest: &[char]) -> bool
+    ensures { result ≡ ends_whole rest.now }
 {
     match rest.first() {
         Some(c) => !(starts_name(*c) || c.is_ascii_digit() || *c == '.' || *c == '\\'),

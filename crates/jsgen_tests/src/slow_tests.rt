@@ -5,7 +5,7 @@ use std::alloc::Global;
 use std::rt::HostRuntime;
 
 // A text, and its tokens with a space between each two and an arrow before each that a line end precedes.
-const READ: [(&str, &str); 92] = [
+const READ: [(&str, &str); 96] = [
     ("", ""),
     (" \t ", ""),
     ("\n\r\n", ""),
@@ -58,6 +58,10 @@ const READ: [(&str, &str); 92] = [
     ("0", "0"),
     ("10", "10"),
     ("0 1", "0 1"),
+    ("1 .x", "1 . x"),
+    ("3 in x", "3 in x"),
+    ("1+1", "1 + 1"),
+    ("0-1", "0 - 1"),
     ("a.b.c", "a . b . c"),
     ("const a=1,b;", "const a = 1 , b ;"),
     // line ends
@@ -107,13 +111,20 @@ const READ: [(&str, &str); 92] = [
 ];
 
 // What the standard refuses in a module: what is no token, escapes that are errors, and brackets that don't match.
-const NOT_TOKENS: [&str; 36] = [
+const NOT_TOKENS: [&str; 43] = [
     "3in",
     "01",
     "00",
     "1a",
     "1$",
     "0a",
+    "1.x",
+    "1_",
+    "0_1",
+    "1e+",
+    "1.5n",
+    "08",
+    "0x",
     "(a",
     "a)",
     "(]",
@@ -148,7 +159,7 @@ const NOT_TOKENS: [&str; 36] = [
 
 // What the standard reads, in forms that the definition doesn't have: comments, other white space and numbers,
 // templates with substitutions, private names.
-const NOT_YET: [&str; 19] = [
+const NOT_YET: [&str; 21] = [
     "a/**/b",
     "a//b",
     "/*",
@@ -162,6 +173,8 @@ const NOT_YET: [&str; 19] = [
     "1.",
     ".5",
     "1.5",
+    "1..x",
+    "1e5",
     "a?.1",
     "0x1",
     "1n",
