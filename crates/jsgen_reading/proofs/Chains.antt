@@ -8,7 +8,8 @@ use Rattle.jsgen_syntax.specs.declared.operator.LogicalOperator.TheVariants.{Or,
 use Rattle.jsgen_syntax.specs.declared.precedence.Precedence.{Precedence}
 use Rattle.jsgen_syntax.specs.declared.precedence.Precedence.TheVariants as levels
 use Rattle.jsgen_tree.specs.Table.{without_parentheses, is_expression}
-use Rattle.jsgen_tree.specs.Tree.{Tree, Trees, no_trees, more, hole, Atoms, type_of, logical_operator_in, logical_operator}
+use Rattle.jsgen_tree.specs.Tree.{Tree, Trees, no_trees, more, hole, Atoms, type_of, logical_operator}
+use Rattle.jsgen_tree.specs.Values.{bare, logical_expression_operator}
 use Rattle.jsgen_tree.specs.Tree as tree
 use Rattle.jsgen_model.specs.Punctuator.{Punctuator, and_and, or_or, nullish}
 use Rattle.jsgen_model.specs.Tokens.{Tokens, piece, ◌⧺◌, Sign}
@@ -16,7 +17,7 @@ use Rattle.jsgen_model.specs.Items.{◌⊕◌, soft_space, punctuator}
 use Rattle.jsgen_model.specs.Layout.{Pen, Start, nowhere, other_end, layout, unless_printed}
 use Rattle.jsgen_model.specs.Grammar.{Allowed, Level, ReadsExpression}
 use Rattle.jsgen_model.specs.Grammar as grammar
-use Rattle.jsgen_model.specs.Normal.{normal, bare, chain, links, joined}
+use Rattle.jsgen_model.specs.Normal.{normal, chain, links, joined}
 use Rattle.jsgen_model.specs.Spell.{Place, spell, within, left_of, behind, wraps, logical_item, goes_on, logical_wraps, unmixed, mixes, is_or_or_and}
 use Rattle.jsgen_lexing.proofs.Last.{Last, After, Ready, Remembers, Knows, NoDot}
 use Rattle.jsgen_lexing.proofs.Writes.{then_assoc}
@@ -141,7 +142,7 @@ join Coalesce a u line r s = let h = join_coalesce a u line refl r s in (h.0, gr
 
 -- a chain of `||` or `&&`
 abbrev is_mixed : Tree → Bool
-is_mixed (chain a operands) = is_or_or_and (logical_operator_in a.values)
+is_mixed (chain a operands) = is_or_or_and (logical_expression_operator a)
 is_mixed t = false
 
 -- what is read as neither may stand in a chain of `??`
@@ -166,7 +167,7 @@ head_at_short d h r = absurd (omega (arith, ap number_of d))
 
 pub an_expression : {c : Allowed} {t : Tree} → IsExpression c t → is_expression (type_of t) ≡ true
 an_expression (family.a_reference h) = refl
-an_expression (family.a_number h e) = refl
+an_expression (family.a_number h) = refl
 an_expression (family.a_string h) = refl
 an_expression (family.in_parentheses v) = refl
 an_expression (family.an_operation v w) = refl
@@ -178,7 +179,7 @@ an_expression (family.a_call v w) = refl
 -- the normal form tells which operands mix
 pub mixes_so : {c : Allowed} {t : Tree} → IsExpression c t → is_mixed (normal t) ≡ mixes (without_parentheses t)
 mixes_so (family.a_reference h) = refl
-mixes_so (family.a_number h e) = refl
+mixes_so (family.a_number h) = refl
 mixes_so (family.a_string h) = refl
 mixes_so (family.in_parentheses {a} {t} v) = mixes_so v ∙ ap (λ b. mixes (cond b (without_parentheses t) (tree.parenthesized a t))) (sym (an_expression v))
 mixes_so (family.an_operation v w) = refl
@@ -213,7 +214,7 @@ same_chain o u v x y e f = λ i. chain (bare (logical_operator o ∷ [])) (joine
 
 pub good_logical_operation : (c : Allowed) (a : Atoms) (x y : Tree) → Printed c x → Printed c y → is_mixed (normal x) ≡ mixes (without_parentheses x) → is_mixed (normal y) ≡ mixes (without_parentheses y) → Printed c (tree.logical a x y)
 good_logical_operation c a x y f g mx my place =
-    let o : LogicalOperator = logical_operator_in a.values in
+    let o : LogicalOperator = logical_expression_operator a in
     good_wrapped c place (own_goal o) (logical_wraps o place) (λ w. spell x (left_of (unmixed o x (logical_lower_level o)) (within w place)) ⊕ (soft_space ⊕ (logical_item o ⊕ (soft_space ⊕ spell y (behind (unmixed o y (logical_level o)) (within w place)))))) (tree.logical a x y)
     (λ d ts u r. lifted false (looser (logical_level o)) levels.Lowest (omega arith) (own_level false o r)) (λ e ts u r. unwrapped_chain o place e r)
     (λ v e. good_infix (logical_item o) (Sign (logical_sign o)) (spell x (left_of (unmixed o x (logical_lower_level o)) (within v place))) (spell y (behind (unmixed o y (logical_level o)) (within v place))) x y (tree.logical a x y) (under (within v place) c) (unless_printed v place.start) (operand_goal o) (operand_goal o) (own_goal o) (logical_between o)

@@ -10,25 +10,29 @@ use Rattle.jsgen_syntax.specs.declared.operator.BinaryOperator.{BinaryOperator}
 use Rattle.jsgen_syntax.specs.declared.operator.BinaryOperator.TheVariants as operators
 use Rattle.jsgen_syntax.proofs.Strings.{escaped_value}
 use Rattle.jsgen_tree.specs.Table.{without_parentheses}
-use Rattle.jsgen_tree.specs.Tree.{Tree, Trees, absent, given, more, Atoms, atoms_of, units, units_in}
+use Rattle.jsgen_tree.specs.Tree.{Tree, Trees, no_trees, more, Atoms, units}
+use Rattle.jsgen_tree.specs.Values.{bare, string_literal_value}
 use Rattle.jsgen_tree.specs.Tree as tree
 use Rattle.jsgen_model.specs.Punctuator.{dot, star_star, and_and, or_or, nullish, semicolon, Round, Square, opening, closing}
 use Rattle.jsgen_model.specs.Tokens.{Tokens, done, piece, group, ◌⧺◌, Quoted, Sign}
-use Rattle.jsgen_model.specs.Items.{Items, ◌⊕◌, first_string, indentation, statement_end, due_semicolon}
+use Rattle.jsgen_model.specs.Items.{Items, first_string, due_semicolon}
 use Rattle.jsgen_model.specs.Layout.{Pen, layout, written, other_end}
-use Rattle.jsgen_model.specs.Grammar.{Allowed, Level, ReadsExpression, ReadsUnended, ReadsStatement, operator_piece, starts_with_directive}
+use Rattle.jsgen_model.specs.Grammar.{Allowed, Level, EndsBy, ReadsExpression, ReadsStatement, ReadsItem, ReadsBody, operator_piece, starts_with_directive}
 use Rattle.jsgen_model.specs.Grammar as grammar
-use Rattle.jsgen_model.specs.Normal.{normal, bare}
-use Rattle.jsgen_model.specs.Spell.{spell, spell_statements, string_in, unless_string, first_statement, among_statements, whole_statement}
-use Rattle.jsgen_lexing.proofs.Last.{Last, Open, After, line_of, Ready, Knows}
-use Rattle.jsgen_lexing.proofs.Writes.{wrote_brackets, then_assoc}
-use Rattle.jsgen_lexing.proofs.Steps.{gap, indentation_written, none_due, wrote_quoted, within_brackets}
+use Rattle.jsgen_model.specs.Normal.{normal, nothing_of}
+use Rattle.jsgen_model.specs.Spell.{Settings, spell, spell_body, string_in, unless_string, first_statement, among_statements, whole_statement}
+use Rattle.jsgen_lexing.proofs.Last.{Last, Open, After, line_of}
+use Rattle.jsgen_lexing.proofs.Writes.{wrote_none, wrote_both, wrote_brackets, then_assoc}
+use Rattle.jsgen_lexing.proofs.Steps.{gap, none_due, wrote_quoted, within_brackets}
 use Rattle.jsgen_reading.proofs.Levels.{from_primary}
-use Rattle.jsgen_reading.proofs.Families.{IsExpression, IsStatement, AreStatements}
+use Rattle.jsgen_reading.proofs.Families.{IsExpression, IsItem, AreStatements}
 use Rattle.jsgen_reading.proofs.Families as family
 use Rattle.jsgen_reading.proofs.Chains.{an_expression}
-use Rattle.jsgen_reading.proofs.Statements.{Ends, GoodUnended, GoodStatement, GoodRow, UnendedAt, RestStated, Stated, ended_so, good_ended, soft_before, row_parts}
-use Rattle.jsgen_reading.proofs.Blocks.{stated}
+use Rattle.jsgen_reading.proofs.Lists.{same_more}
+use Rattle.jsgen_reading.proofs.Ends.{Ended, at_brace, ends_itself, ends_since, ended_more}
+use Rattle.jsgen_reading.proofs.Stands.{Stands, Unended, StandsAt, UnendedAt, Listed, SameTree, SameTrees, stands_since, blank_before, whole_line}
+use Rattle.jsgen_reading.proofs.Rows.{GoodRest}
+use Rattle.jsgen_reading.proofs.Statements.{listed, rows}
 
 abbrev is_string : Tree → Bool
 is_string (tree.string_literal a) = true
@@ -125,55 +129,34 @@ abbrev is_string_statement : Tree → Bool
 is_string_statement (tree.expression_statement a e) = is_string e
 is_string_statement t = false
 
-unended_apart : {c : Allowed} {ts : Tokens} {u : Tree} → ReadsUnended c ts u → is_string_statement (normal u) ≡ false → Apart ts
-unended_apart (grammar.a_declaration (grammar.a_const r)) n x = refl
-unended_apart (grammar.an_expression {ts = ts} {e = e} h r) n x = no_directive ts e (opens r) n x
+-- with a semicolon behind it too
+end_apart : {last : Bool} {ts a : Tokens} → EndsBy last ts a → Apart a → Apart ts
+end_apart {a = a} (grammar.a_semicolon m e) h r = subst (λ ts. starts_with_directive (ts ⧺ r) ≡ false) (sym e) (subst (λ ts. starts_with_directive ts ≡ false) (sym (then_assoc a (piece m (Sign semicolon) done) r)) (h (piece m (Sign semicolon) r)))
+end_apart grammar.the_brace h r = h r
 
--- a first statement, which is read as no directive
-pub record FirstStatement (p : Pen) (l : Last) (q : Pen) (c : Allowed) (t : Tree) : Type 0 where
-  pub statement : GoodStatement p l q c t
-  pub apart : Apart statement.tokens
+statement_apart : {c : Allowed} {last before_else : Bool} {ts : Tokens} {u : Tree} → ReadsStatement c last before_else ts u → is_string_statement (normal u) ≡ false → Apart ts
+statement_apart (grammar.an_expression_statement {a = a} {e = e} h s r) n = end_apart h (no_directive a e (opens r) n)
+statement_apart grammar.an_empty_statement n = λ r. refl
+statement_apart (grammar.a_block r) n = λ x. refl
+statement_apart (grammar.an_if r s) n = λ x. refl
+statement_apart (grammar.an_if_with_else k e r s u) n = λ x. refl
 
-ended_apart : {p q : Pen} {l : Last} {c : Allowed} {t : Tree} (minified : Bool) (g : GoodUnended p l q c t) → Apart g.tokens → Apart (ended_so minified g).tokens
-unfolding ended_so
-ended_apart true g h r = h r
-ended_apart false g h r = subst (λ ts. starts_with_directive ts ≡ false) (sym (then_assoc g.tokens (piece (line_of g.last) (Sign semicolon) done) r)) (h (piece (line_of g.last) (Sign semicolon) r))
+item_apart : {c : Allowed} {last : Bool} {ts : Tokens} {u : Tree} → ReadsItem c last ts u → is_string_statement (normal u) ≡ false → Apart ts
+item_apart (grammar.a_statement r) n = statement_apart r n
+item_apart (grammar.a_declaration h (grammar.a_const r)) n = end_apart h (λ x. refl)
 
-abbrev FirstAt : Allowed → Items → Tree → Type 0
-FirstAt c items t = (p : Pen) (l : Last) → p.pending_semicolon ≡ false → Ready l → Knows p l → FirstStatement p l (layout items p) c t
+-- an item that is read as no directive
+abbrev pub First : Allowed → Bool → Tokens → Tree → Type 0
+First c last ts t = ReadsItem c last ts t × Apart ts
 
--- from what a semicolon ends
-first_from : (c : Allowed) (items : Items) (t : Tree) (f : UnendedAt c items t) → ((p : Pen) (l : Last) (z : p.pending_semicolon ≡ false) (y : Ready l) (k : Knows p l) → Apart (f p l z y k).tokens) → FirstAt c (indentation ⊕ (items ⊕ statement_end)) t
-first_from c items t f h p l z y k =
-    let i = indentation_written p l k in
-    let p1 : Pen = layout indentation p in
-    let q : Pen = layout items p1 in
-    let g = f p1 i.last (i.semicolon ∙ z) (i.ready y) i.writes.knows in
-    record { statement = soft_before (gap i) (good_ended g); apart = ended_apart q.style.minified g (h p1 i.last (i.semicolon ∙ z) (i.ready y) i.writes.knows) }
-
-statement_apart : {c : Allowed} {last : Bool} {ts : Tokens} {u : Tree} → ReadsStatement c last ts u → is_string_statement (normal u) ≡ false → Apart ts
-statement_apart (grammar.ended {a = a} m e r) n x = subst (λ ts. starts_with_directive (ts ⧺ x) ≡ false) (sym e) (subst (λ ts. starts_with_directive ts ≡ false) (sym (then_assoc a (piece m (Sign semicolon) done) x)) (unended_apart r n (piece m (Sign semicolon) x)))
-statement_apart grammar.an_empty_statement n x = refl
-statement_apart (grammar.a_block r) n x = refl
-statement_apart (grammar.an_if r s y) n x = refl
-statement_apart (grammar.an_if_with_else k e r s y o u z) n x = refl
-statement_apart (grammar.ended_by_brace r) n x = unended_apart r n x
-
-ends_apart : (c : Allowed) (b : Bool) (ts : Tokens) (u : Tree) → Ends c b ts u → is_string_statement (normal u) ≡ false → Apart ts
-ends_apart c true ts u r n = statement_apart r.0 n
-ends_apart c false ts u r n = statement_apart r n
-
-no_string_first : (c : Allowed) (t : Tree) → Stated c t → is_string_statement (normal t) ≡ false → FirstAt c (spell t among_statements) t
-no_string_first c t f n p l z y k =
-    let g = f p l z y k in
-    let q : Pen = layout (spell t among_statements) p in
-    record { statement = g; apart = ends_apart c q.pending_semicolon g.tokens g.tree g.reads (ap is_string_statement g.same ∙ n) }
+no_string_first : {c : Allowed} (t : Tree) → Listed c t → is_string_statement (normal t) ≡ false → (settings : Settings) → StandsAt (First c) (SameTree t) (spell t (among_statements settings))
+no_string_first t f n settings p l z y k = stands_since (λ e ts u s r. (r, item_apart r (ap is_string_statement s ∙ n))) (λ u s. s) (f settings p l z y k)
 
 -- ---- a string alone
 
 strings_so : {c : Allowed} {t : Tree} → IsExpression c t → is_string (normal t) ≡ is_some (string_in (without_parentheses t))
 strings_so (family.a_reference h) = refl
-strings_so (family.a_number h e) = refl
+strings_so (family.a_number h) = refl
 strings_so (family.a_string h) = refl
 strings_so (family.in_parentheses {a} {t} v) = strings_so v ∙ ap (λ b. is_some (string_in (cond b (without_parentheses t) (tree.parenthesized a t)))) (sym (an_expression v))
 strings_so (family.an_operation v w) = refl
@@ -190,8 +173,8 @@ none_is_some us e = both_ways false refl (ap is_some e)
 
 string_inside : {c : Allowed} {t : Tree} → IsExpression c t → (us : List ℕ) → string_in (without_parentheses t) ≡ Some us → IsStringOf t us
 string_inside (family.a_reference h) us s = absurd (none_is_some us s)
-string_inside (family.a_number h e) us s = absurd (none_is_some us s)
-string_inside (family.a_string {a} h) us s = let e = same_Some (units_in a.values) us s in (subst (λ x. are_units x ≡ true) e h, ap (λ x. tree.string_literal (bare (units x ∷ []))) e)
+string_inside (family.a_number h) us s = absurd (none_is_some us s)
+string_inside (family.a_string {a} h) us s = let e = same_Some (string_literal_value a) us s in (subst (λ x. are_units x ≡ true) e h, ap (λ x. tree.string_literal (bare (units x ∷ []))) e)
 string_inside (family.in_parentheses {a} {t} v) us s =
     subst (λ b. string_in (cond b (without_parentheses t) (tree.parenthesized a t)) ≡ Some us → IsStringOf t us) (sym (an_expression v)) (string_inside v us) s
 string_inside (family.an_operation v w) us s = absurd (none_is_some us s)
@@ -201,12 +184,8 @@ string_inside (family.a_computed_member v w) us s = absurd (none_is_some us s)
 string_inside (family.a_call v w) us s = absurd (none_is_some us s)
 
 -- its tokens: a string in parentheses, or one in backticks
-record FirstString (p : Pen) (l : Last) (q : Pen) (c : Allowed) (a : Atoms) (e : Tree) : Type 0 where
-  unended : GoodUnended p l q c (tree.expression_statement a e)
-  apart : Apart unended.tokens
-
-string_written : (c : Allowed) (a : Atoms) (e : Tree) (us : List ℕ) → are_units us ≡ true → normal e ≡ tree.string_literal (bare (units us ∷ [])) → (p : Pen) (l : Last) → p.pending_semicolon ≡ false → Knows p l → FirstString p l (layout (first_string us) p) c a e
-string_written c a e us h s p l z k = go p.style.minified
+string_written : (c : Allowed) (a : Atoms) (e : Tree) (us : List ℕ) (settings : Settings) → are_units us ≡ true → normal e ≡ tree.string_literal (bare (units us ∷ [])) → UnendedAt (First c) (SameTree (tree.expression_statement a e)) (first_string us)
+string_written c a e us settings h s p l z y k = go p.style.minified
   where
     text_of : Quote → List ℕ
     text_of q = escaped q p.style.ascii us
@@ -217,21 +196,16 @@ string_written c a e us h s p l z k = go p.style.minified
     of_text : Quote → List ℕ
     of_text q = quoted q p.style.ascii us
 
-    go : (b : Bool) → FirstString p l (written (cond b (of_text Backtick) (opening Round ++ (of_text p.style.quote ++ closing Round))) other_end p) c a e
+    go : (b : Bool) → Unended (First c) (SameTree (tree.expression_statement a e)) p l (written (cond b (of_text Backtick) (opening Round ++ (of_text p.style.quote ++ closing Round))) other_end p)
     go true = record {
-      unended = record {
-        last = After (Quoted Backtick (text_of Backtick));
-        tokens = piece (line_of l) (Quoted Backtick (text_of Backtick)) done;
-        writes = wrote_quoted Backtick (text_of Backtick) us p (written (of_text Backtick) other_end p) l (valued Backtick) refl refl k;
-        ready = tt;
-        semicolon = z;
-        tree = tree.expression_statement (bare []) (tree.string_literal (bare (units us ∷ [])));
-        reads = grammar.an_expression refl (from_primary whole_statement (grammar.a_string (valued Backtick)));
-        same = ap (λ x. tree.expression_statement (bare []) x) (sym s);
-        dangling = refl;
-        lexical = refl;
-      };
-      apart = λ r. in_backticks r;
+      last = After (Quoted Backtick (text_of Backtick));
+      tokens = piece (line_of l) (Quoted Backtick (text_of Backtick)) done;
+      writes = wrote_quoted Backtick (text_of Backtick) us p (written (of_text Backtick) other_end p) l (valued Backtick) refl refl k;
+      ready = tt;
+      semicolon = z;
+      reading = tree.expression_statement (nothing_of 0) (tree.string_literal (bare (units us ∷ [])));
+      reads = record { read = λ e ts x. (grammar.a_statement (grammar.an_expression_statement x refl (from_primary (whole_statement settings) (grammar.a_string (valued Backtick)))), end_apart x in_backticks) };
+      same = ap (λ x. tree.expression_statement (nothing_of 0) x) (sym s);
     }
       where
         in_backticks : (r : Tokens) → starts_with_directive (piece (line_of l) (Quoted Backtick (text_of Backtick)) r) ≡ false
@@ -245,55 +219,64 @@ string_written c a e us h s p l z k = go p.style.minified
         let r : Pen = written (opening Round ++ (of_text q ++ closing Round)) other_end p in
         let w = wrote_quoted q (text_of q) us p1 p2 (Open false) (valued q) refl refl (within_brackets Round p l k) in
         record {
-          unended = record {
-            last = Open false;
-            tokens = group (line_of l) Round (piece false (Quoted q (text_of q)) done) done;
-            writes = wrote_brackets Round p p1 p2 r l (After (Quoted q (text_of q))) (piece false (Quoted q (text_of q)) done) refl (in_order p.code (opening Round) (of_text q) (closing Round)) (record { indent = k.indent; ending = tt }) w;
-            ready = tt;
-            semicolon = z;
-            tree = tree.expression_statement (bare []) (tree.parenthesized (bare []) (tree.string_literal (bare (units us ∷ []))));
-            reads = grammar.an_expression refl (from_primary whole_statement (grammar.in_parentheses (from_primary whole_statement (grammar.a_string (valued q)))));
-            same = ap (λ x. tree.expression_statement (bare []) x) (sym s);
-            dangling = refl;
-            lexical = refl;
-          };
-          apart = λ x. refl;
+          last = Open false;
+          tokens = group (line_of l) Round (piece false (Quoted q (text_of q)) done) done;
+          writes = wrote_brackets Round p p1 p2 r l (After (Quoted q (text_of q))) (piece false (Quoted q (text_of q)) done) refl (in_order p.code (opening Round) (of_text q) (closing Round)) (record { indent = k.indent; ending = tt }) w;
+          ready = tt;
+          semicolon = z;
+          reading = tree.expression_statement (nothing_of 0) (tree.parenthesized (nothing_of 0) (tree.string_literal (bare (units us ∷ []))));
+          reads = record { read = λ e ts x. (grammar.a_statement (grammar.an_expression_statement x refl (from_primary (whole_statement settings) (grammar.in_parentheses (from_primary (whole_statement settings) (grammar.a_string (valued q)))))), end_apart x (λ d. refl)) };
+          same = ap (λ x. tree.expression_statement (nothing_of 0) x) (sym s);
         }
       where
         in_order : (a b d e : List ℕ) → a ++ (b ++ (d ++ e)) ≡ ((a ++ b) ++ d) ++ e
         in_order a b d e = sym (append_assoc (a ++ b) d e ∙ append_assoc a b (d ++ e))
 
-first_string_at : (c : Allowed) (a : Atoms) (e : Tree) (us : List ℕ) → are_units us ≡ true → normal e ≡ tree.string_literal (bare (units us ∷ [])) → FirstAt c (indentation ⊕ (first_string us ⊕ statement_end)) (tree.expression_statement a e)
-first_string_at c a e us h s = first_from c (first_string us) (tree.expression_statement a e) (λ p l z y k. (string_written c a e us h s p l z k).unended) (λ p l z y k. (string_written c a e us h s p l z k).apart)
+-- ---- the first item of a body
 
--- ---- the first statement of a body
-
-first_stated : {c : Allowed} {t : Tree} → IsStatement c t → FirstAt c (first_statement t (spell t among_statements)) t
-first_stated {c} (family.an_expression {a} {e} v) = go (string_in (without_parentheses e)) refl
+first_stated : {c : Allowed} {t : Tree} → IsItem c t → (settings : Settings) → StandsAt (First c) (SameTree t) (first_statement t (spell t (among_statements settings)))
+first_stated {c} (family.a_statement (family.an_expression_statement {a} {e} v)) settings = go (string_in (without_parentheses e)) refl
   where
-    go : (o : Option (List ℕ)) → string_in (without_parentheses e) ≡ o → FirstAt c (unless_string o (spell (tree.expression_statement a e) among_statements)) (tree.expression_statement a e)
-    go (Some us) s = let k = string_inside v us s in first_string_at c a e us k.0 k.1
-    go None s = no_string_first c (tree.expression_statement a e) (stated (family.an_expression v)) (strings_so v ∙ ap is_some s)
-first_stated {c} (family.a_declaration {a} {ds} v) = no_string_first c (tree.variable_declaration a ds) (stated (family.a_declaration v)) refl
-first_stated {c} (family.an_empty_statement {a}) = no_string_first c (tree.empty_statement a) (stated (family.an_empty_statement {a = a})) refl
-first_stated {c} (family.a_block {a} {ss} v) = no_string_first c (tree.block a ss) (stated (family.a_block v)) refl
-first_stated {c} (family.an_if {a} {t} {s} v w x) = no_string_first c (tree.if_statement a t s absent) (stated (family.an_if v w x)) refl
-first_stated {c} (family.an_if_with_else {a} {t} {s} {u} v w x y z) = no_string_first c (tree.if_statement a t s (given u)) (stated (family.an_if_with_else v w x y z)) refl
+    go : (o : Option (List ℕ)) → string_in (without_parentheses e) ≡ o → StandsAt (First c) (SameTree (tree.expression_statement a e)) (unless_string o (spell (tree.expression_statement a e) (among_statements settings)))
+    go (Some us) s = let k = string_inside v us s in whole_line (first_string us) (string_written c a e us settings k.0 k.1)
+    go None s = no_string_first (tree.expression_statement a e) (listed (family.a_statement (family.an_expression_statement {a = a} v))) (strings_so v ∙ ap is_some s) settings
+first_stated {t = t} (family.a_statement v) settings = no_string_first t (listed (family.a_statement v)) refl settings
+first_stated {t = t} (family.a_declaration {a} v) settings = no_string_first t (listed (family.a_declaration {a = a} v)) refl settings
 
--- a body that has a first statement
-pub record FirstRow (p : Pen) (l : Last) (q : Pen) (c : Allowed) (ss : Trees) : Type 0 where
-  pub row : GoodRow p l q c ss
-  pub apart : Apart row.tokens
+-- ---- the statements of a body
 
-pub first_row : {c : Allowed} {t : Tree} {ss : Trees} → IsStatement c t → RestStated c ss → (p : Pen) (l : Last) → p.pending_semicolon ≡ false → Ready l → Knows p l → FirstRow p l (layout (due_semicolon ⊕ (first_statement t (spell t among_statements) ⊕ spell_statements ss)) p) c (more t ss)
-first_row {c} {t} {ss} v h p l z y k =
+-- between two pens stand the statements of a body, which are read as no directives
+abbrev pub BodyAt : Allowed → Items → Trees → Type 0
+BodyAt c items ss = StandsAt (λ e ts us. ReadsBody c e ts no_trees us) (SameTrees ss) items
+
+first_row : {p q r : Pen} {l : Last} {c : Allowed} (t : Tree) (ss : Trees) → (g : Stands (First c) (SameTree t) p l q) → GoodRest q g.last r c ss → Stands (λ e ts us. ReadsBody c e ts no_trees us) (SameTrees (more t ss)) p l r
+first_row {q = q} {r = r} t ss g h = record {
+  last = h.last;
+  tokens = g.tokens ⧺ h.tokens;
+  writes = wrote_both g.writes h.writes;
+  ready = h.ready;
+  reading = more g.reading h.trees;
+  reads = record { read = λ e ts x. grammar.statements (apart e ts x) ((h.reads g.tokens g.reading (ends_since (λ f us i. i.0) g.reads)).read e ts x) };
+  same = same_more g.reading t h.trees ss g.same h.same;
+}
+  where
+    apart : (e : Bool) (ts : Tokens) → Ended r.pending_semicolon e ts (g.tokens ⧺ h.tokens) → starts_with_directive ts ≡ false
+    apart e ts x =
+        let k = ended_more r.pending_semicolon e ts (g.tokens ⧺ h.tokens) x in
+        subst (λ us. starts_with_directive us ≡ false) (sym (k.1 ∙ then_assoc g.tokens h.tokens k.0)) ((g.reads.read true g.tokens (at_brace q.pending_semicolon g.tokens)).1 (h.tokens ⧺ k.0))
+
+pub body_stated : {c : Allowed} {ss : Trees} → AreStatements c ss → (settings : Settings) → BodyAt c (spell_body ss settings) ss
+body_stated family.no_statement settings p l z y k = record {
+  last = l;
+  tokens = done;
+  writes = wrote_none p p l refl k;
+  ready = y;
+  reading = no_trees;
+  reads = ends_itself z (λ e. grammar.statements refl grammar.no_statement);
+  same = refl;
+}
+body_stated (family.first_statement {s} {ss} v w) settings p l z y k =
     let p1 : Pen = layout due_semicolon p in
-    let p2 : Pen = layout (first_statement t (spell t among_statements)) p1 in
     let n = none_due p l z k in
-    let f = first_stated v p1 n.last (n.semicolon ∙ z) (n.ready y) n.writes.knows in
-    let g = f.statement in
-    let r = h p2 g.last g.tokens g.tree g.ready g.writes.knows g.reads in
-    record {
-      row = row_parts p p1 p2 (layout (spell_statements ss) p2) l c t ss n g r;
-      apart = λ x. subst (λ ts. starts_with_directive ts ≡ false) (sym (then_assoc g.tokens r.tokens x)) (f.apart (r.tokens ⧺ x));
-    }
+    let g = first_stated v settings p1 n.last (n.semicolon ∙ z) (n.ready y) n.writes.knows in
+    blank_before (gap n) (first_row s ss g ((rows w settings).1 (layout (first_statement s (spell s (among_statements settings))) p1) g.last g.ready g.writes.knows))

@@ -1,27 +1,32 @@
 -- One lemma for each type of expression.
-use Rattle.std.proofs.Common.{◌≡◌, ℕ, Bool, true, false, not, decimal, codes, Some, List, [], ◌∷◌, refl, ap}
+use Rattle.std.proofs.Common.{◌≡◌, ℕ, Bool, true, false, not, decimal, codes, Some, List, [], ◌∷◌, refl, sym, ap}
+use Rattle.std.proofs.lemmas.Bool.{both_ways, ltb-true}
 use Rattle.jsgen_syntax.specs.Escapes.{name_text, word_value}
+use Rattle.jsgen_syntax.specs.Name.{is_free_name}
 use Rattle.jsgen_syntax.specs.Strings.{escaped, string_value}
 use Rattle.jsgen_syntax.specs.Wtf8.{are_units}
 use Rattle.jsgen_syntax.specs.declared.quote.Quote.{Quote}
 use Rattle.jsgen_syntax.proofs.Escapes.{word_text_value}
 use Rattle.jsgen_syntax.proofs.Strings.{escaped_value}
 use Rattle.jsgen_model.specs.Items.{string}
-use Rattle.jsgen_tree.specs.Tree.{Tree, Trees, Atoms, text, units, text_in, units_in, digits_in}
+use Rattle.jsgen_tree.specs.Tree.{Tree, Trees, Atoms, NumericKind, Whole, Raw, units}
+use Rattle.jsgen_tree.specs.Values.{bare, identifier_reference_name, numeric_literal_kind, numeric_literal_digits, string_literal_value}
 use Rattle.jsgen_tree.specs.Tree as tree
-use Rattle.jsgen_model.specs.Tokens.{Tokens, done, piece, Word, Number, Quoted, spells_whole}
+use Rattle.jsgen_model.specs.Tokens.{Tokens, done, piece, Word, Number, Quoted}
 use Rattle.jsgen_model.specs.Layout.{layout, chosen_quote, Start, nowhere, statement, arrow_body, default_export}
-use Rattle.jsgen_model.specs.Grammar.{Allowed, is_word, named}
+use Rattle.jsgen_model.specs.Grammar.{Allowed, is_word}
 use Rattle.jsgen_model.specs.Grammar as grammar
-use Rattle.jsgen_model.specs.Normal.{bare, number_text}
-use Rattle.jsgen_model.specs.Valid.{is_free_name}
+use Rattle.jsgen_model.specs.Normal.{unnumbered, by_text, number_text}
+use Rattle.jsgen_model.specs.Plain.{is_whole}
+use Rattle.jsgen_model.specs.Spell.{number_item}
 use Rattle.jsgen_lexing.proofs.Last.{After, line_of}
 use Rattle.jsgen_lexing.proofs.Steps.{wrote_name, wrote_number, wrote_quoted}
-use Rattle.jsgen_reading.proofs.Levels.{from_primary}
+use Rattle.jsgen_reading.proofs.Levels.{level_of, under, from_primary}
 use Rattle.jsgen_reading.proofs.Families.{IsExpression, AreArguments}
 use Rattle.jsgen_reading.proofs.Families as family
 use Rattle.jsgen_reading.proofs.Names.{free_spelled, free_starts_none}
-use Rattle.jsgen_reading.proofs.Good.{Printed, may_begin}
+use Rattle.jsgen_reading.proofs.Numbers.{decimal_whole}
+use Rattle.jsgen_reading.proofs.Good.{Good, Printed, may_begin}
 use Rattle.jsgen_reading.proofs.Operations.{good_operation, spelled_alike}
 use Rattle.jsgen_reading.proofs.Chains.{good_logical_operation, mixes_so}
 use Rattle.jsgen_reading.proofs.Links.{ArgumentsAt, MoreArgumentsAt, good_named_member, good_computed_member, good_call, no_arguments, first_of_arguments, no_more_arguments, one_more_argument}
@@ -34,9 +39,9 @@ name_begins statement line w v b e h n = ap not (free_starts_none w v b e h n)
 name_begins arrow_body line w v b e h n = refl
 name_begins default_export line w v b e h n = ap not (free_starts_none w v b e h n)
 
-pub good_reference : (c : Allowed) (a : Atoms) → is_free_name (text_in a.values) ≡ true → Printed c (tree.identifier_reference a)
+pub good_reference : (c : Allowed) (a : Atoms) → is_free_name (identifier_reference_name a) ≡ true → Printed c (tree.identifier_reference a)
 good_reference c a h place p l z y k =
-    let v : List ℕ = text_in a.values in
+    let v : List ℕ = identifier_reference_name a in
     let w : List ℕ = name_text p.style.ascii v in
     let e : word_value w ≡ Some v = word_text_value p.style.ascii v (free_spelled v h) in
     record {
@@ -47,7 +52,7 @@ good_reference c a h place p l z y k =
       semicolon = z;
       begins = λ b n. name_begins place.start (line_of l) w v b e h n;
       line = λ g. ap not g;
-      tree = tree.identifier_reference (named v);
+      tree = tree.identifier_reference (unnumbered v);
       reads = from_primary place (grammar.a_reference e h);
       same = refl;
     }
@@ -58,19 +63,26 @@ number_begins statement line w b = refl
 number_begins arrow_body line w b = refl
 number_begins default_export line w b = refl
 
-pub good_number : (c : Allowed) (a : Atoms) → spells_whole (decimal (digits_in a.values)) ≡ true → decimal (digits_in a.values) ≡ number_text a.values → Printed c (tree.numeric_literal a)
-good_number c a h e place p l z y k = record {
-  last = _;
-  tokens = piece (line_of l) (Number (decimal (digits_in a.values))) done;
-  writes = wrote_number (decimal (digits_in a.values)) p l h y k;
-  operand = tt;
-  semicolon = z;
-  begins = λ b n. number_begins place.start (line_of l) (decimal (digits_in a.values)) b;
-  line = λ g. ap not g;
-  tree = tree.numeric_literal (bare (text (decimal (digits_in a.values)) ∷ []));
-  reads = from_primary place grammar.a_number;
-  same = ap (λ w. tree.numeric_literal (bare (text w ∷ []))) e;
-}
+pub good_number : (c : Allowed) (a : Atoms) → is_whole (numeric_literal_kind a) a ≡ true → Printed c (tree.numeric_literal a)
+good_number c a h place p l z y k = by (numeric_literal_kind a) refl h
+  where
+    w : List ℕ
+    w = decimal (numeric_literal_digits a)
+
+    by : (kind : NumericKind) → numeric_literal_kind a ≡ kind → is_whole kind a ≡ true → Good p l (layout (number_item kind a) p) (under place c) (level_of place) place.start (tree.numeric_literal a)
+    by Whole e h = record {
+      last = _;
+      tokens = piece (line_of l) (Number w) done;
+      writes = wrote_number w p l (decimal_whole (numeric_literal_digits a) (ltb-true (numeric_literal_digits a) _ h)) y k;
+      operand = tt;
+      semicolon = z;
+      begins = λ b n. number_begins place.start (line_of l) w b;
+      line = λ g. ap not g;
+      tree = tree.numeric_literal (by_text w);
+      reads = from_primary place grammar.a_number;
+      same = ap (λ x. tree.numeric_literal (by_text (number_text x a))) (sym e);
+    }
+    by Raw e h = absurd (both_ways false refl h)
 
 -- ---- strings
 
@@ -80,9 +92,9 @@ quoted_begins statement line q w b = refl
 quoted_begins arrow_body line q w b = refl
 quoted_begins default_export line q w b = refl
 
-pub good_string : (c : Allowed) (a : Atoms) → are_units (units_in a.values) ≡ true → Printed c (tree.string_literal a)
+pub good_string : (c : Allowed) (a : Atoms) → are_units (string_literal_value a) ≡ true → Printed c (tree.string_literal a)
 good_string c a h place p l z y k =
-    let us : List ℕ = units_in a.values in
+    let us : List ℕ = string_literal_value a in
     let q : Quote = chosen_quote p.style true us in
     let w : List ℕ = escaped q p.style.ascii us in
     let e : string_value q w ≡ Some us = escaped_value q p.style.ascii us h in
@@ -111,7 +123,7 @@ good_parenthesized c a t f place p l z y k =
 mutual
   pub printed_expression : {c : Allowed} {t : Tree} → IsExpression c t → Printed c t
   printed_expression {c} (family.a_reference {a} h) = good_reference c a h
-  printed_expression {c} (family.a_number {a} h e) = good_number c a h e
+  printed_expression {c} (family.a_number {a} h) = good_number c a h
   printed_expression {c} (family.a_string {a} h) = good_string c a h
   printed_expression {c} (family.in_parentheses {a} {t} v) = good_parenthesized c a t (printed_expression v)
   printed_expression {c} (family.an_operation {a} {l} {r} v w) = good_operation c a l r (spelled_alike v) (printed_expression v) (printed_expression w)

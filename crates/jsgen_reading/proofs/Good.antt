@@ -1,5 +1,5 @@
 -- What is carried through the induction for expressions.
-use Rattle.std.proofs.Common.{◌≡◌, Bool, true, false, not, codes, [], refl, sym, ap, ◌∙◌, subst}
+use Rattle.std.proofs.Common.{◌≡◌, Bool, true, false, not, codes, refl, sym, ap, ◌∙◌, subst}
 use Rattle.std.proofs.lemmas.Bool.{both_ways}
 use Rattle.jsgen_tree.specs.Tree.{Tree}
 use Rattle.jsgen_tree.specs.Tree as tree
@@ -9,7 +9,7 @@ use Rattle.jsgen_model.specs.Items.{Items, ◌⊕◌, soft_space, wrapped}
 use Rattle.jsgen_model.specs.Layout.{Pen, Start, nowhere, statement, arrow_body, default_export, layout, written_if, unless_printed}
 use Rattle.jsgen_model.specs.Grammar.{Allowed, Level, ReadsExpression, with_in, is_word, on_same_line, starts_statement, starts_declaration}
 use Rattle.jsgen_model.specs.Grammar as grammar
-use Rattle.jsgen_model.specs.Normal.{normal, bare}
+use Rattle.jsgen_model.specs.Normal.{normal, nothing_of}
 use Rattle.jsgen_model.specs.Spell.{Place, spell, within}
 use Rattle.jsgen_lexing.proofs.Last.{Last, Open, After, line_of, Operand, Ready, Knows}
 use Rattle.jsgen_lexing.proofs.Writes.{Writes, wrote_both, wrote_and_none, then_assoc}
@@ -106,7 +106,7 @@ good_parentheses c place p q l g = record {
   semicolon = g.semicolon;
   begins = λ b h. parentheses_begin place.start (line_of l) g.tokens b;
   line = λ e. ap not e;
-  tree = tree.parenthesized (bare []) g.tree;
+  tree = tree.parenthesized (nothing_of 0) g.tree;
   reads = from_primary place (grammar.in_parentheses g.reads);
   same = g.same;
 }

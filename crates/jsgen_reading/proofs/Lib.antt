@@ -8,8 +8,13 @@ pub mod Operations
 pub mod Chains
 pub mod Links
 pub mod Expressions
-pub mod Statements
+pub mod Ends
+pub mod Stands
+pub mod Declarations
+pub mod Rows
 pub mod Blocks
+pub mod Branches
+pub mod Statements
 pub mod Directives
 pub mod Prologue
 pub mod Reading

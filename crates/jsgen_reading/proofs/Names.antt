@@ -1,15 +1,13 @@
 -- What a name that a module may use isn't.
-use Rattle.std.proofs.Common.{◌≡◌, ℕ, Bool, true, false, codes, Some, List, refl, sym, ap, ◌∙◌, subst, cond, encode_utf8_all, bytes_eq}
+use Rattle.std.proofs.Common.{◌≡◌, ℕ, true, false, not, ◌&&◌, codes, Some, List, refl, sym, ap, ◌∙◌, subst, encode_utf8_all, bytes_eq}
 use Rattle.std.proofs.Math.Utf8.{encode}
-use Rattle.std.proofs.lemmas.Bool.{both_ways, false_from_ne_true, or_from, and_right, and_left}
+use Rattle.std.proofs.lemmas.Bool.{both_ways, false_from_ne_true, or_from, and_parts, and_right, and_left, not-true}
 use Rattle.std.proofs.lemmas.Slice.Eq.{bytes_eq-Decides}
 use Rattle.std.proofs.lemmas.Option.{same_Some}
 use Rattle.jsgen_syntax.specs.Escapes.{word_value}
-use Rattle.jsgen_syntax.specs.Name.{spells_name, is_reserved, is_strict_reserved}
+use Rattle.jsgen_syntax.specs.Name.{spells_name, is_reserved, is_strict_reserved, is_free_name}
 use Rattle.jsgen_model.specs.Tokens.{Tokens}
 use Rattle.jsgen_model.specs.Grammar.{is_word, on_same_line, starts_in_square, starts_declaration}
-use Rattle.jsgen_model.specs.Valid as valid
-use Rattle.jsgen_model.specs.Valid.{is_free_name}
 
 -- a free name is a name in neither list
 record Free (w : List ℕ) : Type 0 where
@@ -18,13 +16,10 @@ record Free (w : List ℕ) : Type 0 where
   unreserved_in_strict : is_strict_reserved (encode_utf8_all w) ≡ false
 
 free : (w : List ℕ) → is_free_name w ≡ true → Free w
-free w h = by (spells_name w) (is_reserved (encode_utf8_all w)) (is_strict_reserved (encode_utf8_all w)) refl refl refl h
-  where
-    by : (a b c : Bool) → spells_name w ≡ a → is_reserved (encode_utf8_all w) ≡ b → is_strict_reserved (encode_utf8_all w) ≡ c → cond a (cond b false (valid.not c)) false ≡ true → Free w
-    by true true c e f g k = absurd (both_ways false refl k)
-    by true false true e f g k = absurd (both_ways false refl k)
-    by true false false e f g k = record { named = e; unreserved = f; unreserved_in_strict = g }
-    by false b c e f g k = absurd (both_ways false refl k)
+free w h =
+    let k = and_parts (spells_name w && not (is_reserved (encode_utf8_all w))) (not (is_strict_reserved (encode_utf8_all w))) h in
+    let j = and_parts (spells_name w) (not (is_reserved (encode_utf8_all w))) k.0 in
+    record { named = j.0; unreserved = not-true (is_reserved (encode_utf8_all w)) j.1; unreserved_in_strict = not-true (is_strict_reserved (encode_utf8_all w)) k.1 }
 
 pub free_spelled : (w : List ℕ) → is_free_name w ≡ true → spells_name w ≡ true
 free_spelled w h = (free w h).named

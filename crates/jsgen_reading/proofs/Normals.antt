@@ -1,11 +1,12 @@
 -- A normal form is its own.
 use Rattle.std.proofs.Common.{◌≡◌, Bool, true, false, cond, [], ◌∷◌, refl, ap, ◌∙◌}
 use Rattle.jsgen_syntax.specs.declared.operator.LogicalOperator.{LogicalOperator}
-use Rattle.jsgen_tree.specs.Tree.{Tree, node, Slots, no_slots, one, maybe, many, Maybe, absent, given, Trees, no_trees, more, hole, declaration_kind, declaration_kind_in, binary_operator, operator_in, logical_operator, logical_operator_in}
+use Rattle.jsgen_tree.specs.Tree.{Tree, node, Slots, no_slots, one, maybe, many, maybe_many, Maybe, absent, given, Trees, no_trees, more, hole, MaybeTrees, no_list, listed, binary_operator, logical_operator}
+use Rattle.jsgen_tree.specs.Values.{bare, variable_declaration_kind, binary_expression_operator, logical_expression_operator}
 use Rattle.jsgen_tree.specs.Table.{ends_open}
 use Rattle.jsgen_tree.specs.Tree as tree
 use Rattle.std.proofs.lemmas.Bool.{both_ways}
-use Rattle.jsgen_model.specs.Normal.{normal, normal_slots, normal_maybe, normal_trees, unbraced, bare, chain, same_operator, joined, links}
+use Rattle.jsgen_model.specs.Normal.{normal, normal_slots, normal_maybe, normal_trees, normal_maybe_trees, unbraced, nothing_of, declared_as, chain, same_operator, joined, links}
 
 -- ---- chains
 
@@ -21,7 +22,7 @@ operands_of t = no_trees
 
 -- what an operand in normal form adds is in normal form
 links_again : (o : LogicalOperator) (t : Tree) → normal t ≡ t → normal_trees (links o t) ≡ links o t
-links_again o (chain a operands) e = go (same_operator o (logical_operator_in a.values))
+links_again o (chain a operands) e = go (same_operator o (logical_expression_operator a))
   where
     go : (b : Bool) → normal_trees (cond b operands (more (chain a operands) no_trees)) ≡ cond b operands (more (chain a operands) no_trees)
     go true = ap operands_of e
@@ -58,25 +59,25 @@ unbraced_again t e = ap unbraced e
 
 mutual
   pub normal_again : (t : Tree) → normal (normal t) ≡ normal t
-  normal_again (tree.program a directives body) = let e = normal_trees_again directives in let f = normal_trees_again body in λ i. tree.program (bare []) (e i) (f i)
+  normal_again (tree.program a directives body) = let e = normal_trees_again directives in let f = normal_trees_again body in λ i. tree.program (nothing_of 4) (e i) (f i)
   normal_again (tree.directive a) = refl
-  normal_again (tree.expression_statement a expression) = ap (λ e. tree.expression_statement (bare []) e) (normal_again expression)
-  normal_again (tree.variable_declaration a declarations) = ap (λ ts. tree.variable_declaration (bare (declaration_kind (declaration_kind_in a.values) ∷ [])) ts) (normal_trees_again declarations)
-  normal_again (tree.variable_declarator a id init) = let e = normal_again id in let f = normal_maybe_again init in λ i. tree.variable_declarator (bare []) (e i) (f i)
+  normal_again (tree.expression_statement a expression) = ap (λ e. tree.expression_statement (nothing_of 0) e) (normal_again expression)
+  normal_again (tree.variable_declaration a declarations) = ap (λ ts. tree.variable_declaration (declared_as (variable_declaration_kind a)) ts) (normal_trees_again declarations)
+  normal_again (tree.variable_declarator a id init) = let e = normal_again id in let f = normal_maybe_again init in λ i. tree.variable_declarator (nothing_of 1) (e i) (f i)
   normal_again (tree.binding_identifier a) = refl
   normal_again (tree.identifier_reference a) = refl
   normal_again (tree.numeric_literal a) = refl
   normal_again (tree.string_literal a) = refl
   normal_again (tree.parenthesized a expression) = normal_again expression
-  normal_again (tree.binary a left right) = let e = normal_again left in let f = normal_again right in λ i. tree.binary (bare (binary_operator (operator_in a.values) ∷ [])) (e i) (f i)
-  normal_again (tree.logical a left right) = normal_chain_again (logical_operator_in a.values) (normal left) (normal right) (normal_again left) (normal_again right)
-  normal_again (tree.block a body) = ap (λ ts. tree.block (bare []) ts) (normal_trees_again body)
-  normal_again (tree.if_statement a test consequent alternate) = let e = normal_again test in let f = unbraced_again (normal consequent) (normal_again consequent) in let g = normal_maybe_again alternate in λ i. tree.if_statement (bare []) (e i) (f i) (g i)
+  normal_again (tree.binary a left right) = let e = normal_again left in let f = normal_again right in λ i. tree.binary (bare (binary_operator (binary_expression_operator a) ∷ [])) (e i) (f i)
+  normal_again (tree.logical a left right) = normal_chain_again (logical_expression_operator a) (normal left) (normal right) (normal_again left) (normal_again right)
+  normal_again (tree.block a body) = ap (λ ts. tree.block (nothing_of 0) ts) (normal_trees_again body)
+  normal_again (tree.if_statement a test consequent alternate) = let e = normal_again test in let f = unbraced_again (normal consequent) (normal_again consequent) in let g = normal_maybe_again alternate in λ i. tree.if_statement (nothing_of 0) (e i) (f i) (g i)
   normal_again (tree.empty_statement a) = refl
   normal_again (tree.identifier_name a) = refl
-  normal_again (tree.static_member a object property) = let e = normal_again object in let f = normal_again property in λ i. tree.static_member (bare []) (e i) (f i)
-  normal_again (tree.computed_member a object expression) = let e = normal_again object in let f = normal_again expression in λ i. tree.computed_member (bare []) (e i) (f i)
-  normal_again (tree.call a callee arguments) = let e = normal_again callee in let f = normal_trees_again arguments in λ i. tree.call (bare []) (e i) (f i)
+  normal_again (tree.static_member a object property) = let e = normal_again object in let f = normal_again property in λ i. tree.static_member (nothing_of 1) (e i) (f i)
+  normal_again (tree.computed_member a object expression) = let e = normal_again object in let f = normal_again expression in λ i. tree.computed_member (nothing_of 1) (e i) (f i)
+  normal_again (tree.call a callee arguments) = let e = normal_again callee in let f = normal_trees_again arguments in λ i. tree.call (nothing_of 2) (e i) (f i)
   normal_again (node type a slots) = ap (λ s. node type (bare a.values) s) (normal_slots_again slots)
 
   normal_slots_again : (s : Slots) → normal_slots (normal_slots s) ≡ normal_slots s
@@ -84,6 +85,7 @@ mutual
   normal_slots_again (one t s) = let e = normal_again t in let f = normal_slots_again s in λ i. one (e i) (f i)
   normal_slots_again (maybe m s) = let e = normal_maybe_again m in let f = normal_slots_again s in λ i. maybe (e i) (f i)
   normal_slots_again (many ts s) = let e = normal_trees_again ts in let f = normal_slots_again s in λ i. many (e i) (f i)
+  normal_slots_again (maybe_many ts s) = let e = normal_maybe_trees_again ts in let f = normal_slots_again s in λ i. maybe_many (e i) (f i)
 
   normal_maybe_again : (m : Maybe) → normal_maybe (normal_maybe m) ≡ normal_maybe m
   normal_maybe_again absent = refl
@@ -93,3 +95,7 @@ mutual
   normal_trees_again no_trees = refl
   normal_trees_again (more t ts) = let e = normal_again t in let f = normal_trees_again ts in λ i. more (e i) (f i)
   normal_trees_again (hole ts) = ap (λ us. hole us) (normal_trees_again ts)
+
+  normal_maybe_trees_again : (ts : MaybeTrees) → normal_maybe_trees (normal_maybe_trees ts) ≡ normal_maybe_trees ts
+  normal_maybe_trees_again no_list = refl
+  normal_maybe_trees_again (listed ts) = ap (λ us. listed us) (normal_trees_again ts)

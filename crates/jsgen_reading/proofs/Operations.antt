@@ -9,7 +9,8 @@ use Rattle.jsgen_syntax.specs.declared.operator.LogicalOperator.{LogicalOperator
 use Rattle.jsgen_syntax.specs.declared.operator.LogicalOperator.TheVariants as logical_operators
 use Rattle.jsgen_syntax.specs.declared.precedence.Precedence.TheVariants as levels
 use Rattle.jsgen_tree.specs.Table.{without_parentheses}
-use Rattle.jsgen_tree.specs.Tree.{Tree, Atoms, operator_in, logical_operator_in, binary_operator}
+use Rattle.jsgen_tree.specs.Tree.{Tree, Atoms, binary_operator}
+use Rattle.jsgen_tree.specs.Values.{bare, binary_expression_operator, logical_expression_operator}
 use Rattle.jsgen_tree.specs.Tree as tree
 use Rattle.jsgen_model.specs.Punctuator.{Punctuator}
 use Rattle.jsgen_model.specs.Tokens.{Tokens, piece, ◌⧺◌, Word, Sign}
@@ -17,7 +18,7 @@ use Rattle.jsgen_model.specs.Items.{◌⊕◌, soft_space, word, operator}
 use Rattle.jsgen_model.specs.Layout.{Pen, layout, unless_printed}
 use Rattle.jsgen_model.specs.Grammar.{Allowed, Level, ReadsExpression, operation_level, next_level, operator_piece, may_stand}
 use Rattle.jsgen_model.specs.Grammar as grammar
-use Rattle.jsgen_model.specs.Normal.{normal, bare}
+use Rattle.jsgen_model.specs.Normal.{normal}
 use Rattle.jsgen_model.specs.Spell.{Place, spell, within, left_of, behind, operation, operator_item, logical_item, wraps, is_forbidden, binary_wraps, logical_wraps, left_level, right_level, unmixed, is_number}
 use Rattle.jsgen_lexing.proofs.Characters.{letters_spelled}
 use Rattle.jsgen_lexing.proofs.Last.{Last, After, Ready, Knows, NoDot}
@@ -75,16 +76,16 @@ same_logical o place = refl
 -- a call needs none at either
 pub spelled_alike : {c : Allowed} {t : Tree} → IsExpression c t → (place : Place) → spell t (left_of levels.Exponentiation place) ≡ spell t (left_of levels.Prefix place)
 spelled_alike (family.a_reference h) place = refl
-spelled_alike (family.a_number h e) place = refl
+spelled_alike (family.a_number h) place = refl
 spelled_alike (family.a_string h) place = refl
 spelled_alike (family.in_parentheses v) place = spelled_alike v place
 spelled_alike (family.a_named_member v h) place = refl
 spelled_alike (family.a_computed_member v w) place = refl
 spelled_alike (family.a_call v w) place = refl
 spelled_alike (family.an_operation {a} {l = x} {r = y} v w) place =
-    ap (λ b. operation b (operator_item (operator_in a.values)) (spell x (left_of (left_level (operator_in a.values) x) (within b place))) (spell y (behind (right_level (operator_in a.values)) (within b place)))) (same_binary (operator_in a.values) place)
+    ap (λ b. operation b (operator_item (binary_expression_operator a)) (spell x (left_of (left_level (binary_expression_operator a) x) (within b place))) (spell y (behind (right_level (binary_expression_operator a)) (within b place)))) (same_binary (binary_expression_operator a) place)
 spelled_alike (family.a_logical_operation {a} {l = x} {r = y} v w) place =
-    ap (λ b. operation b (logical_item (logical_operator_in a.values)) (spell x (left_of (unmixed (logical_operator_in a.values) x (logical_lower_level (logical_operator_in a.values))) (within b place))) (spell y (behind (unmixed (logical_operator_in a.values) y (logical_level (logical_operator_in a.values))) (within b place)))) (same_logical (logical_operator_in a.values) place)
+    ap (λ b. operation b (logical_item (logical_expression_operator a)) (spell x (left_of (unmixed (logical_expression_operator a) x (logical_lower_level (logical_expression_operator a))) (within b place))) (spell y (behind (unmixed (logical_expression_operator a) y (logical_level (logical_expression_operator a))) (within b place)))) (same_logical (logical_expression_operator a) place)
 
 abbrev pub SpelledAlike : Tree → Type 0
 SpelledAlike t = (place : Place) → spell t (left_of levels.Exponentiation place) ≡ spell t (left_of levels.Prefix place)
@@ -113,7 +114,7 @@ same_operation o u v x y e f = λ i. tree.binary (bare (binary_operator o ∷ []
 
 pub good_operation : (c : Allowed) (a : Atoms) (x y : Tree) → SpelledAlike x → Printed c x → Printed c y → Printed c (tree.binary a x y)
 good_operation c a x y h f g place =
-    let o : BinaryOperator = operator_in a.values in
+    let o : BinaryOperator = binary_expression_operator a in
     good_wrapped c place (operation_level o) (binary_wraps o place) (λ w. spell x (left_of (left_level o x) (within w place)) ⊕ (soft_space ⊕ (operator_item o ⊕ (soft_space ⊕ spell y (behind (right_level o) (within w place)))))) (tree.binary a x y)
     (λ d ts u r. lifted false (looser (binary_level o)) levels.Lowest (omega arith) (own_level false o r)) (λ e ts u r. unwrapped (binary_level o) place (or_parts (wraps (binary_level o) place) (is_forbidden o place) e).0 (own_level place.context.forbids_call o r))
     (λ v e. good_infix (operator_item o) (operator_piece o) (spell x (left_of (left_level o x) (within v place))) (spell y (behind (right_level o) (within v place))) x y (tree.binary a x y) (under (within v place) c) (unless_printed v place.start) (left_goal o) (next_level (operation_level o)) (operation_level o) (operator_between o)

@@ -3,7 +3,7 @@
 
 ghost use Rattle.jsgen_reading.specs.Law.{PrintedIsRead, BytesAreRead, NormalIsNormal};
 
-/// The characters of a printed program are read as that program.
+/// The characters of a job's text are read as its program.
 pub fn printed_is_read()
     ensures { PrintedIsRead }
 {}
