@@ -17,7 +17,7 @@ use Rattle.jsgen_reading.proofs.Ends.{ends_itself, at_brace}
 use Rattle.jsgen_reading.proofs.Stands.{Stands, StandsAt, ReadsClosed, Stated, SameTree, SameTrees, before_blank, indented_line}
 use Rattle.jsgen_reading.proofs.Rows.{RowAt}
 
--- between two pens stands a brace group, in which is read so
+-- between two pens stands a brace group, and what is in it is read so
 pub record GoodBraces {X : Type 0} (R : Bool → Tokens → X → Type 0) (Same : X → Type 0) (p : Pen) (l : Last) (q : Pen) : Type 0 where
   pub tokens : Tokens
   pub writes : Writes p l q (Open false) (group (line_of l) Brace tokens done)

@@ -1,4 +1,4 @@
--- The bodies of `if` and `else`.
+-- Empty statements, `if` and `else`.
 use Rattle.std.proofs.Common.{◌≡◌, ℕ, Bool, true, false, cond, codes, List, refl, sym, ap, ◌∙◌, subst}
 use Rattle.std.proofs.lemmas.Bool.{both_ways}
 use Rattle.jsgen_syntax.specs.declared.precedence.Precedence.TheVariants as levels
@@ -136,7 +136,7 @@ good_alternate c t settings f = by_shape (shape t) refl
     by_shape an_empty i = before_blank (punctuator semicolon) soft_line (good_semicolon c (ends_open t) (sym (empty_shape t i))) soft_line_written
     by_shape other i = behind_blank body_space whole body_blank (f (among_statements settings))
 
--- ---- a keyword and an expression in parentheses
+-- ---- a keyword, and an expression in parentheses
 
 record GoodHead (w : List ℕ) (p : Pen) (l : Last) (q : Pen) (c : Allowed) (t : Tree) : Type 0 where
   next : Bool

@@ -10,7 +10,7 @@ use Rattle.jsgen_lexing.proofs.Last.{Last, After, line_of, Ready, Knows}
 use Rattle.jsgen_lexing.proofs.Writes.{Writes, then_assoc, then_done}
 use Rattle.jsgen_lexing.proofs.Steps.{due_written, none_due}
 
--- the tokens with their end, where a semicolon is left and where none is
+-- these tokens are the others with their end: where a semicolon is left it or a brace, and else nothing more
 abbrev pub Ended : Bool → Bool → Tokens → Tokens → Type 0
 Ended true last ts a = EndsBy last ts a
 Ended false last ts a = ts ≡ a
@@ -24,6 +24,7 @@ pub at_brace : (left : Bool) (a : Tokens) → Ended left true a a
 at_brace true a = grammar.the_brace
 at_brace false a = refl
 
+-- read otherwise
 pub ends_since : {R S : Bool → Tokens → Type 0} {left : Bool} {a : Tokens} → ((last : Bool) (ts : Tokens) → R last ts → S last ts) → Ends R left a → Ends S left a
 ends_since f e = record { read = λ last ts h. f last ts (e.read last ts h) }
 
@@ -46,10 +47,11 @@ ended_behind : (left last : Bool) (ts a b : Tokens) → Ended left last ts (a �
 ended_behind true last ts a b e = semicolon_or_brace a b refl e
 ended_behind false last ts a b e = (b, e, refl)
 
+-- read as something more
 pub ends_behind : {R S : Bool → Tokens → Type 0} {left : Bool} {b : Tokens} (a : Tokens) → ((last : Bool) (ts : Tokens) → R last ts → S last (a ⧺ ts)) → Ends R left b → Ends S left (a ⧺ b)
 ends_behind {R} {S} {left} {b} a f e = record { read = λ last ts h. let k = ended_behind left last ts a b h in subst (λ x. S last x) (sym k.1) (f last k.0 (e.read last k.0 k.2)) }
 
--- the end is one more row
+-- with their end, tokens begin as without it
 pub ended_more : (left last : Bool) (ts a : Tokens) → Ended left last ts a → (d : Tokens) × (ts ≡ a ⧺ d)
 ended_more left last ts a e = let k = ended_behind left last ts a done (subst (λ x. Ended left last ts x) (sym (then_done a)) e) in (k.0, k.1)
 

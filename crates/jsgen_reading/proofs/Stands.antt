@@ -16,7 +16,7 @@ use Rattle.jsgen_lexing.proofs.Writes.{Writes, wrote_both, wrote_and_none}
 use Rattle.jsgen_lexing.proofs.Steps.{Gap, gap, indentation_written, end_written, end_left}
 use Rattle.jsgen_reading.proofs.Ends.{Ends, ends_since, ends_behind, semicolon_behind}
 
--- Between two pens stand tokens that are read so, however they end. What they are read as is as it should be.
+-- Between two pens stand tokens that are read as `R` says, however they end. `Same` holds of what they are read as.
 pub record Stands {X : Type 0} (R : Bool → Tokens → X → Type 0) (Same : X → Type 0) (p : Pen) (l : Last) (q : Pen) : Type 0 where
   pub last : Last
   pub tokens : Tokens
