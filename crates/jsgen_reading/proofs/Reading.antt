@@ -1,14 +1,13 @@
 -- The whole path: from a valid job to its text, the text's tokens and their reading.
 use Rattle.std.proofs.Common.{◌≡◌, ℕ, true, false, List, chars, encode_utf8_all, refl, sym, ap, ◌∙◌, subst}
 use Rattle.std.specs.Str.{IsUtf8}
-use Rattle.std.proofs.lemmas.Bool.{and_from}
 use Rattle.std.proofs.lemmas.Str.{chars-encodes}
 use Rattle.jsgen_tree.specs.declared.types.NodeType.TheVariants as types
 use Rattle.jsgen_tree.specs.Options.{Options}
 use Rattle.jsgen_tree.specs.Job.{Tables, no_tables, JobData}
 use Rattle.jsgen_tree.specs.Tree.{Tree, type_of}
 use Rattle.jsgen_tree.specs.Tree as tree
-use Rattle.jsgen_model.specs.Tokens.{Tokens, done, piece, group, ◌⧺◌, Piece, Word, is_plain_piece, are_plain}
+use Rattle.jsgen_model.specs.Tokens.{◌⧺◌}
 use Rattle.jsgen_model.specs.Items.{◌⊕◌, due_semicolon}
 use Rattle.jsgen_model.specs.Layout.{Pen, layout, empty_pen, style_of}
 use Rattle.jsgen_model.specs.Grammar as grammar
@@ -20,6 +19,7 @@ use Rattle.jsgen_model.specs.Plain.{IsPlain, IsQuiet}
 use Rattle.jsgen_model.specs.Reading.{IsReadAs}
 use Rattle.jsgen_lexing.proofs.Last.{Open, is_indent}
 use Rattle.jsgen_lexing.proofs.Writes.{wrote_both, all_tokens}
+use Rattle.jsgen_lexing.proofs.Plain.{all_plain}
 use Rattle.jsgen_lexing.proofs.Scalars.{tokens_scalars}
 use Rattle.jsgen_reading.proofs.Families.{IsProgram, is_program, program_valid}
 use Rattle.jsgen_reading.proofs.Families as family
@@ -29,16 +29,6 @@ use Rattle.jsgen_reading.proofs.Prologue.{whole_body}
 -- the indentation of a job's options is of spaces or of tabs
 style_indents : (options : Options) → is_indent (style_of options).indent ≡ true
 style_indents options = refl
-
--- every row of tokens is plain
-plain_piece : (p : Piece) → is_plain_piece p ≡ true
-plain_piece (Word w) = refl
-plain_piece p = refl
-
-all_plain : (ts : Tokens) → are_plain ts ≡ true
-all_plain done = refl
-all_plain (piece mark p ts) = and_from (is_plain_piece p) (are_plain ts) (plain_piece p) (all_plain ts)
-all_plain (group mark b inside ts) = and_from (are_plain inside) (are_plain ts) (all_plain inside) (all_plain ts)
 
 -- no name is printed otherwise
 renamed_so : (tables : Tables) (t : Tree) → renamed tables t ≡ t
