@@ -3,6 +3,7 @@ pub mod JobLaw
 pub mod Json
 pub mod LastRow
 pub mod Listed
+pub mod NumberKind
 pub mod Pool
 pub mod Program
 pub mod RowSteps

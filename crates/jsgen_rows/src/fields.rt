@@ -26,7 +26,7 @@ pub fn beside<C: Drop, T: Drop>(
     Ok((first, second?))
 }
 
-#[tactic(auto, unfolding(crate::specs::Reads::read_child))]
+#[tactic(auto, unfolding(crate::specs::Reads::read_children))]
 pub fn needed_child<C: Child + Drop>(
     alloc: Global,
     kept: &mut Vec<Kept<Row>>,
@@ -41,7 +41,7 @@ pub fn needed_child<C: Child + Drop>(
     take_as(alloc, kept, at, value)
 }
 
-#[tactic(auto, unfolding(crate::specs::Reads::read_child))]
+#[tactic(auto, unfolding(crate::specs::Reads::read_children))]
 pub fn optional_child<C: Child + Drop>(
     alloc: Global,
     kept: &mut Vec<Kept<Row>>,
