@@ -3,7 +3,6 @@ pub mod JobLaw
 pub mod Json
 pub mod LastRow
 pub mod Listed
-pub mod NumberKind
 pub mod Pool
 pub mod Program
 pub mod RowSteps

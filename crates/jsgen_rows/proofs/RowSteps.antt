@@ -7,14 +7,14 @@ use Rattle.jsgen_syntax.specs.declared.span.Span.{Span}
 use Rattle.jsgen_tree.specs.declared.types.NodeType.{NodeType}
 use Rattle.jsgen_tree.specs.declared.types.NodeSet.{NodeSet}
 use Rattle.jsgen_tree.specs.Tree.{Atom, no_value, Tree, trees, listed}
-use Rattle.jsgen_tree.specs.Table.{Sort, Presence, Field, fields, is_value}
+use Rattle.jsgen_tree.specs.Table.{Sort, Presence, Field, fields, absent_value, is_value}
 use Rattle.jsgen_tree.specs.Table as sorts
 use Rattle.jsgen_rows.specs.declared.At.{At}
 use Rattle.jsgen_rows.specs.declared.InputFault.{InputFault}
 use Rattle.jsgen_rows.specs.declared.InputFault.TheVariants.{Float}
-use Rattle.jsgen_rows.specs.Values.{after, at, field, field_in, not_given, is_needed, given_in, items_in, value_in, value_or_absent, value_of, type_of, span_of}
+use Rattle.jsgen_rows.specs.Values.{after, at, field, field_in, not_given, is_needed, items_in, value_in, type_of, span_of}
 use Rattle.jsgen_pool.specs.Pool.{Entry, take_row}
-use Rattle.jsgen_rows.specs.Reads.{Read, number_in, told, take_child, take_or_hole, take_each, take_list, take_sort, take_given, read_children, read_field, read_fields, read_typed, read_node, read_row}
+use Rattle.jsgen_rows.specs.Reads.{Read, number_in, told, take_child, take_or_hole, take_each, take_list, take_sort, take_given, read_children, value_or, read_value, read_given, read_field, read_fields, read_typed, read_node, read_row}
 use Rattle.jsgen_rows.specs.Meaning.{Mark, number_marks, child_marks, hole_marks, each, marks_of, given_marks, field_marks, fields_marks, typed_marks, row_marks, number_tree, child_tree, child_or_hole, holed, ok_or_else, Held, a_value, a_list, a_maybe_list, child_held, put_in, held, unread_held, field_held, fields_parts, node_of, typed_tree, row_tree, mark_faults, with_mark, with_marks, faults_in, unless}
 use Rattle.jsgen_rows.proofs.Pool.{pool, taken_unless}
 
@@ -102,7 +102,7 @@ value_read e u (Ok x) = refl
 value_read e u (Err f) = refl
 
 value_given : (e : List Tree) (u : List ℕ) (a : At) (p : Presence) (s : Sort) → is_value s ≡ true → (o : Option Data)
-    → Reads e u (given_marks a s o) (held e a p s o) (after (value_or_absent a p s o) (λ v. Ok (a_value v, pool e u)))
+    → Reads e u (given_marks a s o) (held e a p s o) (after (value_or (absent_value p) a s o) (λ v. Ok (a_value v, pool e u)))
 value_given e u a p (sorts.child s) h o = cc
 value_given e u a p (sorts.children s) h o = cc
 value_given e u a p (sorts.maybe_children s) h o = cc
@@ -126,13 +126,14 @@ after_both (Ok x) g f = refl
 after_both (Err e) g f = refl
 
 -- a field that is read, with a value or with children
-sort_read : (e : List Tree) (u : List ℕ) (a : At) (p : Presence) (s : Sort) (r : Bool) (o : Option Data) (v : Bool) → is_value s ≡ v
-    → Reads e u (marks_of (given_marks a s) (field_in a r o)) (held e a p s o)
-        (if v then after (after (field_in a r o) (value_or_absent a p s)) (λ x. Ok (a_value x, pool e u)) else after (field_in a r o) (λ d. take_given a p s d (pool e u)))
-sort_read e u a p s r o true h =
-    after_both (field_in a r o) (value_or_absent a p s) (λ x. Ok (a_value x, pool e u))
-    ∙ in_field e u a r o (given_marks a s) (held e a p s o) (λ d. after (value_or_absent a p s d) (λ x. Ok (a_value x, pool e u))) (value_given e u a p s h o)
-sort_read e u a p s r o false h = in_field e u a r o (given_marks a s) (held e a p s o) (λ d. take_given a p s d (pool e u)) (children_given e u a p s h o)
+sort_read : (e : List Tree) (u : List ℕ) (a : At) (b : Bool) (p : Presence) (s : Sort) (o : Option Data) (v : Bool) → is_value s ≡ v
+    → Reads e u (marks_of (given_marks a s) (field_in a b o)) (held e a p s o)
+        (if v then after (read_value a b (absent_value p) s o) (λ x. Ok (a_value x, pool e u)) else read_children a b p s o (pool e u))
+unfolding read_value read_children
+sort_read e u a b p s o true h =
+    after_both (field_in a b o) (value_or (absent_value p) a s) (λ x. Ok (a_value x, pool e u))
+    ∙ in_field e u a b o (given_marks a s) (held e a p s o) (λ d. after (value_or (absent_value p) a s d) (λ x. Ok (a_value x, pool e u))) (value_given e u a p s h o)
+sort_read e u a b p s o false h = in_field e u a b o (given_marks a s) (held e a p s o) (λ d. take_given a p s d (pool e u)) (children_given e u a p s h o)
 
 unread_read : (e : List Tree) (u : List ℕ) (a : At) (x : Held) (o : Option Data) → Reads e u (marks_of (λ nothing. []) (not_given a o)) x (after (not_given a o) (λ _. Ok (x, pool e u)))
 unfolding not_given
@@ -145,10 +146,9 @@ chosen_read e u true ms ns x y f g h i = h
 chosen_read e u false ms ns x y f g h i = i
 
 field_read : (e : List Tree) (u : List ℕ) (a : At) (f : Field) (d : Data) → Reads e u (field_marks a f d) (field_held e a f d) (read_field a f d (pool e u))
-unfolding value_of read_children
 field_read e u a f d =
     chosen_read e u f.is_read _ _ _ _ _ _
-    (sort_read e u a f.presence f.sort (is_needed f.presence d) (field f.name d) (is_value f.sort) refl)
+    (sort_read e u a (is_needed f.presence d) f.presence f.sort (field f.name d) (is_value f.sort) refl)
     (unread_read e u a (unread_held f.sort) (field f.name d))
 
 fields_read : (e : List Tree) (u : List ℕ) (k i : ℕ) (fs : List Field) (d : Data) → Reads e u (fields_marks k i fs d) (fields_parts e k i fs d) (read_fields k i fs d (pool e u))

@@ -6,16 +6,16 @@ use Rattle.serde_json.specs.Find.{as_number}
 use Rattle.jsgen_syntax.specs.declared.span.Span.{Span}
 use Rattle.jsgen_tree.specs.declared.types.NodeType.{NodeType}
 use Rattle.jsgen_tree.specs.declared.types.NodeSet.{NodeSet}
-use Rattle.jsgen_tree.specs.Tree.{Tree, node, no_slots, trees, listed}
+use Rattle.jsgen_tree.specs.Tree.{Atom, Tree, node, no_slots, trees, listed}
 use Rattle.jsgen_tree.specs.Tree as tree
-use Rattle.jsgen_tree.specs.Table.{Sort, Presence, Field, fields, is_value}
+use Rattle.jsgen_tree.specs.Table.{Sort, Presence, Field, fields, absent_value, is_value}
 use Rattle.jsgen_tree.specs.Table as sorts
 use Rattle.jsgen_pool.specs.Pool.{Entry, there, taken, Took, take_row}
 use Rattle.jsgen_pool.specs.declared.TakeFault.TheVariants.{Absent, Taken}
 use Rattle.jsgen_rows.specs.declared.At.{At}
 use Rattle.jsgen_rows.specs.declared.InputFault.{InputFault}
 use Rattle.jsgen_rows.specs.declared.InputFault.TheVariants.{Wrong, Child, Shared, Memory}
-use Rattle.jsgen_rows.specs.Values.{after, at, field, not_given, given_in, items_in, value_of, type_of, span_of, rows_in}
+use Rattle.jsgen_rows.specs.Values.{after, at, field, not_given, field_in, is_needed, items_in, value_in, type_of, span_of, rows_in}
 use Rattle.jsgen_rows.specs.Meaning.{holed, Held, nothing, a_value, a_list, a_maybe_list, Parts, put_in, child_held, absent_held, unread_held, is_program}
 
 abbrev pub Read : Type 0 → Type 0
@@ -69,12 +69,23 @@ take_given a p s None kept = Ok (absent_held p s, kept)
 take_given a p s (Some d) kept = take_sort a p s d kept
 
 -- a field with children
-unfoldable pub read_children : At → Field → Data → List Entry → Read Held
-read_children a f d kept = after (given_in a f d) (λ o. take_given a f.presence f.sort o kept)
+unfoldable pub read_children : At → Bool → Presence → Sort → Option Data → List Entry → Read Held
+read_children a b p s o kept = after (field_in a b o) (λ d. take_given a p s d kept)
+
+abbrev pub value_or : Atom → At → Sort → Option Data → Result Atom InputFault
+value_or v a s None = Ok v
+value_or v a s (Some d) = value_in a s d
+
+-- a field with a value, which is v where it is absent
+unfoldable pub read_value : At → Bool → Atom → Sort → Option Data → Result Atom InputFault
+read_value a b v s o = after (field_in a b o) (value_or v a s)
+
+abbrev pub read_given : At → Bool → Presence → Sort → Option Data → List Entry → Read Held
+read_given a b p s o kept = if is_value s then after (read_value a b (absent_value p) s o) (λ v. Ok (a_value v, kept)) else read_children a b p s o kept
 
 abbrev pub read_field : At → Field → Data → List Entry → Read Held
 read_field a f d kept =
-    if f.is_read then (if is_value f.sort then after (value_of a f d) (λ v. Ok (a_value v, kept)) else read_children a f d kept)
+    if f.is_read then read_given a (is_needed f.presence d) f.presence f.sort (field f.name d) kept
     else after (not_given a (field f.name d)) (λ _. Ok (unread_held f.sort, kept))
 
 -- the fields from number i on

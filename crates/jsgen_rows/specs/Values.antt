@@ -12,7 +12,7 @@ use Rattle.jsgen_tree.specs.declared.types.NodeType.TheVariants as types
 use Rattle.jsgen_tree.specs.Options.{Options, default_options}
 use Rattle.jsgen_tree.specs.Tree.{Atom}
 use Rattle.jsgen_tree.specs.Tree as atoms
-use Rattle.jsgen_tree.specs.Table.{Field, Presence, Sort, Word, needed, needed_for, absent_value}
+use Rattle.jsgen_tree.specs.Table.{Field, Presence, Sort, Word, needed, needed_for}
 use Rattle.jsgen_tree.specs.Table as sorts
 use Rattle.jsgen_rows.specs.declared.At.{At}
 use Rattle.jsgen_rows.specs.declared.InputFault.{InputFault}
@@ -154,14 +154,6 @@ value_in a sorts.number d = after (or_fault (Wrong a) (number_of_bits 32 d)) (λ
 value_in a sorts.flag d = after (or_fault (Wrong a) (as_bool d)) (λ b. Ok (atoms.flag b))
 value_in a (sorts.word ws) d = word_in a ws d
 value_in a other d = Err (Wrong a)
-
-abbrev pub value_or_absent : At → Presence → Sort → Option Data → Result Atom InputFault
-value_or_absent a p s None = Ok (absent_value p)
-value_or_absent a p s (Some d) = value_in a s d
-
--- what a row gives its node for a field with no children
-unfoldable pub value_of : At → Field → Data → Result Atom InputFault
-value_of a f d = after (given_in a f d) (value_or_absent a f.presence f.sort)
 
 -- ---- the type and the span of a row, its fields 0 and 1
 

@@ -8,7 +8,7 @@ ghost use Rattle.jsgen_rows.specs.Kept.{entries, row_plain};
 
 use crate::fields::{beside, needed_child};
 use crate::kept::Row;
-use crate::values::{needed_text, not_given, whole_digits};
+use crate::values::{needed_digits, needed_text, not_given};
 use crate::words::{needed_binary_operator, needed_logical_operator, needed_numeric_kind};
 use crate::{At, InputFault};
 use jsgen_pool::Kept;
@@ -38,7 +38,7 @@ pub fn read_identifier_reference(
     Ok(Row::Expression(Expression::IdentifierReference(Box::new(alloc, node)?)))
 }
 
-#[tactic(auto, unfolding(crate::specs::Reads::read_node), using(crate::proofs::NumberKind::kind_is_whole))]
+#[tactic(auto, unfolding(crate::specs::Reads::read_node))]
 pub fn read_numeric_literal(
     alloc: Global,
     kept: &mut Vec<Kept<Row>>,
@@ -50,9 +50,9 @@ pub fn read_numeric_literal(
         (read_node number types.NumericLiteral numeric_literal_fields span (view row.now) (entries kept.old.items)) }
 {
     let _ = kept;
-    needed_numeric_kind(At::of_row(number, 2), row, "kind")?;
+    needed_numeric_kind(At::of_row(number, 2), row)?;
     not_given(At::of_row(number, 3), row, "negative")?;
-    let digits = whole_digits(At::of_row(number, 4), row, "digits")?;
+    let digits = needed_digits(At::of_row(number, 4), row, "digits")?;
     not_given(At::of_row(number, 5), row, "text")?;
     let value = NumericValue::Whole { digits };
     let node = NumericLiteral { span, value };
