@@ -14,7 +14,7 @@ use Rattle.jsgen_rows.specs.declared.InputFault.{InputFault}
 use Rattle.jsgen_rows.specs.declared.InputFault.TheVariants.{Float}
 use Rattle.jsgen_rows.specs.Values.{after, at, field, field_in, not_given, is_needed, items_in, value_in, type_of, span_of}
 use Rattle.jsgen_pool.specs.Pool.{Entry, take_row}
-use Rattle.jsgen_rows.specs.Reads.{Read, number_in, told, take_child, take_or_hole, take_each, take_list, take_sort, take_given, read_children, value_or, read_value, read_given, read_field, read_fields, read_typed, read_node, read_row}
+use Rattle.jsgen_rows.specs.Reads.{Read, number_in, told, take_child, take_or_hole, take_each, take_given, read_children, value_or, read_value, read_field, read_fields, read_typed, read_node, read_row}
 use Rattle.jsgen_rows.specs.Meaning.{Mark, number_marks, child_marks, hole_marks, each, marks_of, given_marks, field_marks, fields_marks, typed_marks, row_marks, number_tree, child_tree, child_or_hole, holed, ok_or_else, Held, a_value, a_list, a_maybe_list, child_held, put_in, held, unread_held, field_held, fields_parts, node_of, typed_tree, row_tree, mark_faults, with_mark, with_marks, faults_in, unless}
 use Rattle.jsgen_rows.proofs.Pool.{pool, taken_unless}
 
@@ -128,7 +128,7 @@ after_both (Err e) g f = refl
 -- a field that is read, with a value or with children
 sort_read : (e : List Tree) (u : List ℕ) (a : At) (b : Bool) (p : Presence) (s : Sort) (o : Option Data) (v : Bool) → is_value s ≡ v
     → Reads e u (marks_of (given_marks a s) (field_in a b o)) (held e a p s o)
-        (if v then after (read_value a b (absent_value p) s o) (λ x. Ok (a_value x, pool e u)) else read_children a b p s o (pool e u))
+    (if v then after (read_value a b (absent_value p) s o) (λ x. Ok (a_value x, pool e u)) else read_children a b p s o (pool e u))
 unfolding read_value read_children
 sort_read e u a b p s o true h =
     after_both (field_in a b o) (value_or (absent_value p) a s) (λ x. Ok (a_value x, pool e u))

@@ -40,12 +40,12 @@ abbrev pub marks_of : {A : Type 0} → (A → List Mark) → Result A InputFault
 marks_of f (Err e) = fault e ∷ []
 marks_of f (Ok x) = f x
 
--- a null is a hole
+-- null is a hole
 abbrev pub hole_marks : At → NodeSet → Data → List Mark
 hole_marks a s null = []
 hole_marks a s d = child_marks a s d
 
--- of a value that is given
+-- of a value that is given, by the sort of its field
 abbrev pub sort_marks : At → Sort → Data → List Mark
 sort_marks a (sorts.child s) d = child_marks a s d
 sort_marks a (sorts.children s) d = marks_of (each (child_marks a s)) (items_in a d)
@@ -90,7 +90,7 @@ abbrev pub ok_or_else : {A : Type 0} → A → Result A InputFault → A
 ok_or_else a (Ok b) = b
 ok_or_else a (Err e) = a
 
--- the child at a place of a list, or a hole
+-- the child at a place of a list; none at a hole
 abbrev pub child_or_hole : List Tree → Data → Option Tree
 child_or_hole e null = None
 child_or_hole e d = Some (child_tree e d)
@@ -121,10 +121,12 @@ put_in (a_maybe m) p = record { values = p.values; slots = maybe m p.slots }
 put_in (a_list ts) p = record { values = p.values; slots = many ts p.slots }
 put_in (a_maybe_list l) p = record { values = p.values; slots = maybe_many l p.slots }
 
+-- a child that may be absent has a place that may be empty
 abbrev pub child_held : Presence → Tree → Held
 child_held needed t = a_child t
 child_held p t = a_maybe (given t)
 
+-- where a value is given
 abbrev pub given_held : List Tree → At → Presence → Sort → Data → Held
 given_held e a p (sorts.child s) d = child_held p (child_tree e d)
 given_held e a p (sorts.children s) d = a_list (trees (map (child_tree e) (ok_or_else [] (items_in a d))))
@@ -132,6 +134,7 @@ given_held e a p (sorts.maybe_children s) d = a_maybe_list (listed (trees (map (
 given_held e a p (sorts.children_or_holes s) d = a_list (holed (map (child_or_hole e) (ok_or_else [] (items_in a d))))
 given_held e a p s d = a_value (ok_or_else no_value (value_in a s d))
 
+-- where the field is absent
 abbrev pub absent_held : Presence → Sort → Held
 absent_held p (sorts.child s) = a_maybe absent
 absent_held p (sorts.children s) = a_list no_trees
@@ -148,6 +151,7 @@ held e a p s (Some d) = given_held e a p s d
 abbrev pub unread_held : Sort → Held
 unread_held s = if is_value s then a_value no_value else nothing
 
+-- of any field
 abbrev pub field_held : List Tree → At → Field → Data → Held
 field_held e a f d = if f.is_read then held e a f.presence f.sort (field f.name d) else unread_held f.sort
 

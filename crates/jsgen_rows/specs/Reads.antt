@@ -16,7 +16,7 @@ use Rattle.jsgen_rows.specs.declared.At.{At}
 use Rattle.jsgen_rows.specs.declared.InputFault.{InputFault}
 use Rattle.jsgen_rows.specs.declared.InputFault.TheVariants.{Wrong, Child, Shared, Memory}
 use Rattle.jsgen_rows.specs.Values.{after, at, field, not_given, field_in, is_needed, items_in, value_in, type_of, span_of, rows_in}
-use Rattle.jsgen_rows.specs.Meaning.{holed, Held, nothing, a_value, a_list, a_maybe_list, Parts, put_in, child_held, absent_held, unread_held, is_program}
+use Rattle.jsgen_rows.specs.Meaning.{holed, Held, a_value, a_list, a_maybe_list, Parts, put_in, child_held, absent_held, unread_held, is_program}
 
 abbrev pub Read : Type 0 → Type 0
 Read V = Result (V × List Entry) InputFault

@@ -112,7 +112,10 @@ pub fn read_call_expression(
         (read_node number types.CallExpression call_expression_fields span (view row.now) (entries kept.old.items)) }
 {
     let callee = needed_child(alloc, kept, At::of_row(number, 2), row, "callee")?;
-    let (callee, _) = beside(callee, not_given(At::of_row(number, 3), row, "type_arguments"))?;
+    let (callee, _) = beside(
+        callee,
+        not_given(At::of_row(number, 3), row, "type_arguments"),
+    )?;
     let arguments = children(alloc, kept, At::of_row(number, 4), row, "arguments");
     let parts = beside(callee, arguments)?;
     let (parts, _) = beside(parts, not_given(At::of_row(number, 5), row, "optional"))?;

@@ -57,7 +57,7 @@ pub fn needed_value<'v>(at: At, row: &'v Value, name: &str) -> Result<&'v Value,
     Ok(value)
 }
 
-/// A field of the format that isn't read yet.
+/// What isn't read yet may not be given.
 #[tactic(auto, unfolding(crate::specs::Values::not_given))]
 pub fn not_given(at: At, object: &Value, name: &str) -> Result<(), InputFault>
     ensures { Same (λ u. u) result (not_given at (field name.now (view object.now))) }

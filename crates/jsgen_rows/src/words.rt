@@ -46,7 +46,7 @@ pub fn needed_declaration_kind(
 pub fn needed_numeric_kind(at: At, row: &Value) -> Result<(), InputFault>
     ensures reads { Same (λ k. numeric_kind Whole) result
         (read_value at true no_value (word numeric_kind_words) (field (codes "kind") (view row.now))) }
-    ensures is { IfOk result (λ k. is_of_kind (codes "whole") (view row.now) ≡ true) }
+    ensures whole { IfOk result (λ k. is_of_kind (codes "whole") (view row.now) ≡ true) }
 {
     let value = needed_value(at, row, "kind")?;
     match text_in(at, value)? {
