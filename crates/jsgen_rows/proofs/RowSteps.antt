@@ -1,21 +1,21 @@
 -- Reading a field and a row gives what its marks and its tree say.
 use Rattle.std.proofs.Common.{◌≡◌, ℕ, suc, List, [], ◌∷◌, ◌++◌, length, map, Bool, true, false, Option, Some, None, Result, Ok, Err, refl, sym, ap, ap₂, ◌∙◌, append_assoc, append-nil, if◌then◌else◌}
-use Rattle.serde_json.specs.Data.{Data, Num, unsigned, negative, float}
+use Rattle.serde_json.specs.Data.{Data, null, Num, unsigned, negative, float}
 use Rattle.serde_json.specs.Find.{as_number}
 use Rattle.serde_json.specs.Written.{has_float}
 use Rattle.jsgen_syntax.specs.declared.span.Span.{Span}
 use Rattle.jsgen_tree.specs.declared.types.NodeType.{NodeType}
 use Rattle.jsgen_tree.specs.declared.types.NodeSet.{NodeSet}
-use Rattle.jsgen_tree.specs.Tree.{Atom, Tree, trees}
-use Rattle.jsgen_tree.specs.Table.{Sort, Field, fields}
+use Rattle.jsgen_tree.specs.Tree.{Atom, no_value, Tree, trees, listed}
+use Rattle.jsgen_tree.specs.Table.{Sort, Presence, Field, fields, absent_value, is_value}
 use Rattle.jsgen_tree.specs.Table as sorts
 use Rattle.jsgen_rows.specs.declared.At.{At}
 use Rattle.jsgen_rows.specs.declared.InputFault.{InputFault}
 use Rattle.jsgen_rows.specs.declared.InputFault.TheVariants.{Float}
-use Rattle.jsgen_rows.specs.Values.{after, at, field, field_in, items_in, values_in, type_of, span_of}
+use Rattle.jsgen_rows.specs.Values.{after, at, field, field_in, not_given, is_needed, items_in, value_in, type_of, span_of}
 use Rattle.jsgen_pool.specs.Pool.{Entry, take_row}
-use Rattle.jsgen_rows.specs.Reads.{Read, number_in, told, take_child, take_all, take_given, take_list, read_child, read_children, read_sort, read_field, read_fields, read_typed, read_node, read_row}
-use Rattle.jsgen_rows.specs.Meaning.{Mark, number_marks, child_marks, each, marks_of, given_marks, list_marks, sort_marks, fields_marks, typed_marks, row_marks, number_tree, child_tree, ok_or_else, Held, a_value, a_list, child_held, put_in, given_held, list_held, sort_held, fields_parts, node_of, typed_tree, row_tree, mark_faults, with_mark, with_marks, faults_in, unless}
+use Rattle.jsgen_rows.specs.Reads.{Read, number_in, told, take_child, take_or_hole, take_each, take_given, read_children, value_or, read_value, read_field, read_fields, read_typed, read_node, read_row}
+use Rattle.jsgen_rows.specs.Meaning.{Mark, number_marks, child_marks, hole_marks, each, marks_of, given_marks, field_marks, fields_marks, typed_marks, row_marks, number_tree, child_tree, child_or_hole, holed, ok_or_else, Held, a_value, a_list, a_maybe_list, child_held, put_in, held, unread_held, field_held, fields_parts, node_of, typed_tree, row_tree, mark_faults, with_mark, with_marks, faults_in, unless}
 use Rattle.jsgen_rows.proofs.Pool.{pool, taken_unless}
 
 -- ---- what a list of marks gives, and two lists one after the other
@@ -61,27 +61,28 @@ numbered e u a s (Some (float x)) = refl
 a_child_read : (e : List Tree) (u : List ℕ) (a : At) (s : NodeSet) (d : Data) → Reads e u (child_marks a s d) (child_tree e d) (take_child a s d (pool e u))
 a_child_read e u a s d = numbered e u a s (as_number d)
 
-all_read : (e : List Tree) (u : List ℕ) (a : At) (s : NodeSet) (done : List Tree) (ds : List Data) → Reads e u (each (child_marks a s) ds) (done ++ map (child_tree e) ds) (take_all a s done ds (pool e u))
-all_read e u a s done [] = ap (λ x. Ok (x, pool e u)) (sym (append-nil done))
-all_read e u a s done (d ∷ ds) =
-    then_read e u (child_marks a s d) (each (child_marks a s) ds) (child_tree e d) (done ++ map (child_tree e) (d ∷ ds)) (take_child a s d (pool e u)) (λ t. take_all a s (done ++ t.0 ∷ []) ds t.1)
-    (a_child_read e u a s d)
-    (all_read e (with_marks u (child_marks a s d)) a s (done ++ child_tree e d ∷ []) ds ∙ ap (λ x. unless (faults_in e (with_marks u (child_marks a s d)) (each (child_marks a s) ds)) (x, pool e (with_marks (with_marks u (child_marks a s d)) (each (child_marks a s) ds)))) (append_assoc done (child_tree e d ∷ []) (map (child_tree e) ds)))
+hole_read : (e : List Tree) (u : List ℕ) (a : At) (s : NodeSet) (d : Data) → Reads e u (hole_marks a s d) (child_or_hole e d) (take_or_hole a s d (pool e u))
+hole_read e u a s null = refl
+hole_read e u a s d = then_map e u (child_marks a s d) (child_tree e d) (take_child a s d (pool e u)) Some (a_child_read e u a s d)
+
+-- a place of a list takes what its marks say, whatever is used before
+abbrev TakesEach : {X : Type 0} → List Tree → (Data → List Mark) → (Data → X) → (Data → List Entry → Read X) → Type 0
+TakesEach e f g take = (u : List ℕ) (d : Data) → Reads e u (f d) (g d) (take d (pool e u))
+
+each_read : {X : Type 0} (e : List Tree) (f : Data → List Mark) (g : Data → X) (take : Data → List Entry → Read X) → TakesEach e f g take
+    → (u : List ℕ) (done : List X) (ds : List Data) → Reads e u (each f ds) (done ++ map g ds) (take_each take done ds (pool e u))
+each_read e f g take h u done [] = ap (λ x. Ok (x, pool e u)) (sym (append-nil done))
+each_read e f g take h u done (d ∷ ds) =
+    then_read e u (f d) (each f ds) (g d) (done ++ map g (d ∷ ds)) (take d (pool e u)) (λ t. take_each take (done ++ t.0 ∷ []) ds t.1)
+    (h u d)
+    (each_read e f g take h (with_marks u (f d)) (done ++ g d ∷ []) ds ∙ ap (λ x. unless (faults_in e (with_marks u (f d)) (each f ds)) (x, pool e (with_marks (with_marks u (f d)) (each f ds)))) (append_assoc done (g d ∷ []) (map g ds)))
 
 -- ---- fields
 
-given_read : (e : List Tree) (u : List ℕ) (a : At) (r : Bool) (s : NodeSet) (o : Option Data) → Reads e u (given_marks a s o) (given_held e r o) (take_given a r s o (pool e u))
-given_read e u a r s None = refl
-given_read e u a r s (Some d) = then_map e u (child_marks a s d) (child_tree e d) (take_child a s d (pool e u)) (child_held r) (a_child_read e u a s d)
-
-items_read : (e : List Tree) (u : List ℕ) (a : At) (s : NodeSet) (l : Result (List Data) InputFault)
-    → Reads e u (marks_of (each (child_marks a s)) l) (a_list (trees (map (child_tree e) (ok_or_else [] l)))) (after l (λ ds. after (take_all a s [] ds (pool e u)) (λ ts. Ok (a_list (trees ts.0), ts.1))))
-items_read e u a s (Err f) = refl
-items_read e u a s (Ok ds) = then_map e u (each (child_marks a s) ds) (map (child_tree e) ds) (take_all a s [] ds (pool e u)) (λ ts. a_list (trees ts)) (all_read e u a s [] ds)
-
-list_read : (e : List Tree) (u : List ℕ) (a : At) (s : NodeSet) (o : Option Data) → Reads e u (list_marks a s o) (list_held e a o) (take_list a s o (pool e u))
-list_read e u a s None = refl
-list_read e u a s (Some d) = items_read e u a s (items_in a d)
+items_read : {X : Type 0} (e : List Tree) (u : List ℕ) (f : Data → List Mark) (g : Data → X) (take : Data → List Entry → Read X) (hold : List X → Held) → TakesEach e f g take
+    → (l : Result (List Data) InputFault) → Reads e u (marks_of (each f) l) (hold (map g (ok_or_else [] l))) (after l (λ ds. after (take_each take [] ds (pool e u)) (λ xs. Ok (hold xs.0, xs.1))))
+items_read e u f g take hold h (Err x) = refl
+items_read e u f g take hold h (Ok ds) = then_map e u (each f ds) (map g ds) (take_each take [] ds (pool e u)) hold (each_read e f g take h u [] ds)
 
 -- the look for a float, before what is read of the value
 float_read : {X : Type 0} (b : Bool) (e : List Tree) (u : List ℕ) (a : At) (o : Option Data) (f : Option Data → List Mark) (x : X) (g : Option Data → Read X)
@@ -96,28 +97,67 @@ in_field e u a false None f x g h = h
 in_field e u a true (Some d) f x g h = float_read (has_float d) e u a (Some d) f x g h
 in_field e u a false (Some d) f x g h = float_read (has_float d) e u a (Some d) f x g h
 
-values_read : (e : List Tree) (u : List ℕ) (v : Result (List Atom) InputFault) → Reads e u (marks_of (λ values. []) v) (a_value (ok_or_else [] v)) (after v (λ vs. Ok (a_value vs, pool e u)))
-values_read e u (Ok vs) = refl
-values_read e u (Err f) = refl
+value_read : (e : List Tree) (u : List ℕ) (v : Result Atom InputFault) → Reads e u (marks_of (λ value. []) v) (a_value (ok_or_else no_value v)) (after v (λ x. Ok (a_value x, pool e u)))
+value_read e u (Ok x) = refl
+value_read e u (Err f) = refl
 
-sort_read : (e : List Tree) (u : List ℕ) (a : At) (r : Bool) (s : Sort) (o : Option Data) → Reads e u (sort_marks a r s o) (sort_held e a r s o) (read_sort a r s o (pool e u))
-unfolding read_child read_children
-sort_read e u a r (sorts.child s) o = in_field e u a r o (given_marks a s) (given_held e r o) (λ d. take_given a r s d (pool e u)) (given_read e u a r s o)
-sort_read e u a r (sorts.children s) o = in_field e u a r o (list_marks a s) (list_held e a o) (λ d. take_list a s d (pool e u)) (list_read e u a s o)
-sort_read e u a r sorts.text o = values_read e u (values_in a r sorts.text o)
-sort_read e u a r sorts.units o = values_read e u (values_in a r sorts.units o)
-sort_read e u a r sorts.digits o = values_read e u (values_in a r sorts.digits o)
-sort_read e u a r sorts.flag o = values_read e u (values_in a r sorts.flag o)
-sort_read e u a r (sorts.word ws) o = values_read e u (values_in a r (sorts.word ws) o)
-sort_read e u a r sorts.unread o = values_read e u (values_in a r sorts.unread o)
+value_given : (e : List Tree) (u : List ℕ) (a : At) (p : Presence) (s : Sort) → is_value s ≡ true → (o : Option Data)
+    → Reads e u (given_marks a s o) (held e a p s o) (after (value_or (absent_value p) a s o) (λ v. Ok (a_value v, pool e u)))
+value_given e u a p (sorts.child s) h o = cc
+value_given e u a p (sorts.children s) h o = cc
+value_given e u a p (sorts.maybe_children s) h o = cc
+value_given e u a p (sorts.children_or_holes s) h o = cc
+value_given e u a p sorts.unread_child h o = cc
+value_given e u a p s h None = refl
+value_given e u a p s h (Some d) = value_read e u (value_in a s d)
+
+children_given : (e : List Tree) (u : List ℕ) (a : At) (p : Presence) (s : Sort) → is_value s ≡ false → (o : Option Data)
+    → Reads e u (given_marks a s o) (held e a p s o) (take_given a p s o (pool e u))
+children_given e u a p s h None = refl
+children_given e u a p (sorts.child s) h (Some d) = then_map e u (child_marks a s d) (child_tree e d) (take_child a s d (pool e u)) (child_held p) (a_child_read e u a s d)
+children_given e u a p (sorts.children s) h (Some d) = items_read e u (child_marks a s) (child_tree e) (take_child a s) (λ ts. a_list (trees ts)) (λ v x. a_child_read e v a s x) (items_in a d)
+children_given e u a p (sorts.maybe_children s) h (Some d) = items_read e u (child_marks a s) (child_tree e) (take_child a s) (λ ts. a_maybe_list (listed (trees ts))) (λ v x. a_child_read e v a s x) (items_in a d)
+children_given e u a p (sorts.children_or_holes s) h (Some d) = items_read e u (hole_marks a s) (child_or_hole e) (take_or_hole a s) (λ os. a_list (holed os)) (λ v x. hole_read e v a s x) (items_in a d)
+children_given e u a p sorts.unread_child h (Some d) = refl
+children_given e u a p s h (Some d) = cc
+
+after_both : {A B C : Type 0} (r : Result A InputFault) (g : A → Result B InputFault) (f : B → Result C InputFault) → after (after r g) f ≡ after r (λ x. after (g x) f)
+after_both (Ok x) g f = refl
+after_both (Err e) g f = refl
+
+-- a field that is read, with a value or with children
+sort_read : (e : List Tree) (u : List ℕ) (a : At) (b : Bool) (p : Presence) (s : Sort) (o : Option Data) (v : Bool) → is_value s ≡ v
+    → Reads e u (marks_of (given_marks a s) (field_in a b o)) (held e a p s o)
+    (if v then after (read_value a b (absent_value p) s o) (λ x. Ok (a_value x, pool e u)) else read_children a b p s o (pool e u))
+unfolding read_value read_children
+sort_read e u a b p s o true h =
+    after_both (field_in a b o) (value_or (absent_value p) a s) (λ x. Ok (a_value x, pool e u))
+    ∙ in_field e u a b o (given_marks a s) (held e a p s o) (λ d. after (value_or (absent_value p) a s d) (λ x. Ok (a_value x, pool e u))) (value_given e u a p s h o)
+sort_read e u a b p s o false h = in_field e u a b o (given_marks a s) (held e a p s o) (λ d. take_given a p s d (pool e u)) (children_given e u a p s h o)
+
+unread_read : (e : List Tree) (u : List ℕ) (a : At) (x : Held) (o : Option Data) → Reads e u (marks_of (λ nothing. []) (not_given a o)) x (after (not_given a o) (λ _. Ok (x, pool e u)))
+unfolding not_given
+unread_read e u a x None = refl
+unread_read e u a x (Some d) = refl
+
+chosen_read : {X : Type 0} (e : List Tree) (u : List ℕ) (b : Bool) (ms ns : List Mark) (x y : X) (f g : Read X) → Reads e u ms x f → Reads e u ns y g
+    → Reads e u (if b then ms else ns) (if b then x else y) (if b then f else g)
+chosen_read e u true ms ns x y f g h i = h
+chosen_read e u false ms ns x y f g h i = i
+
+field_read : (e : List Tree) (u : List ℕ) (a : At) (f : Field) (d : Data) → Reads e u (field_marks a f d) (field_held e a f d) (read_field a f d (pool e u))
+field_read e u a f d =
+    chosen_read e u f.is_read _ _ _ _ _ _
+    (sort_read e u a (is_needed f.presence d) f.presence f.sort (field f.name d) (is_value f.sort) refl)
+    (unread_read e u a (unread_held f.sort) (field f.name d))
 
 fields_read : (e : List Tree) (u : List ℕ) (k i : ℕ) (fs : List Field) (d : Data) → Reads e u (fields_marks k i fs d) (fields_parts e k i fs d) (read_fields k i fs d (pool e u))
 fields_read e u k i [] d = refl
 fields_read e u k i (f ∷ fs) d =
-    let ms : List Mark = sort_marks (at k i) f.required f.sort (field f.name d) in
-    let x : Held = sort_held e (at k i) f.required f.sort (field f.name d) in
+    let ms : List Mark = field_marks (at k i) f d in
+    let x : Held = field_held e (at k i) f d in
     then_read e u ms (fields_marks k (suc i) fs d) x (fields_parts e k i (f ∷ fs) d) (read_field (at k i) f d (pool e u)) (λ h. after (read_fields k (suc i) fs d h.1) (λ p. Ok (put_in h.0 p.0, p.1)))
-    (sort_read e u (at k i) f.required f.sort (field f.name d))
+    (field_read e u (at k i) f d)
     (then_map e (with_marks u ms) (fields_marks k (suc i) fs d) (fields_parts e k (suc i) fs d) (read_fields k (suc i) fs d (pool e (with_marks u ms))) (put_in x) (fields_read e (with_marks u ms) k (suc i) fs d))
 
 -- ---- rows

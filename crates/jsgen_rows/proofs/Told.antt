@@ -2,7 +2,7 @@
 use Rattle.std.proofs.Common.{◌≡◌, ℕ, suc, List, [], ◌∷◌, ◌++◌, length, Bool, true, false, Option, Some, None, Result, Ok, Err, slice_get, if◌then◌else◌}
 use Rattle.std.specs.Prelude.{⊤, codes}
 use Rattle.std.specs.Str.{is_utf8}
-use Rattle.serde_json.specs.Data.{Data, Num, unsigned, negative, float}
+use Rattle.serde_json.specs.Data.{Data, null, Num, unsigned, negative, float}
 use Rattle.serde_json.specs.Find.{as_bool, as_number, as_object, as_str}
 use Rattle.serde_json.specs.Read.{read}
 use Rattle.serde_json.specs.Written.{has_float}
@@ -10,13 +10,13 @@ use Rattle.jsgen_syntax.specs.declared.span.Span.{Span}
 use Rattle.jsgen_tree.specs.declared.types.NodeSet.{NodeSet}
 use Rattle.jsgen_tree.specs.declared.types.NodeType.{NodeType}
 use Rattle.jsgen_tree.specs.Tree.{Tree, type_of as tree_type}
-use Rattle.jsgen_tree.specs.Table.{Sort, Word, Field, fields, in_set}
+use Rattle.jsgen_tree.specs.Table.{Sort, Field, fields, in_set}
 use Rattle.jsgen_tree.specs.Table as sorts
 use Rattle.jsgen_rows.specs.declared.At.{At}
 use Rattle.jsgen_rows.specs.declared.InputFault.{InputFault}
 use Rattle.jsgen_rows.specs.declared.InputFault.TheVariants.{Json, Float, Wrong, Child, Shared, Memory}
-use Rattle.jsgen_rows.specs.Values.{after, or_fault, at, head, field, field_in, not_given, text_in, items_in, digits_in, unit_in, units_listed, text_or_listed, units_in, value_in, given_values, values_in, type_named, type_given, type_of, offsets, span_given, span_of, none_given, text_options, comment_options, unread_options, choice_given, options_given, options_in, unread_head, some_rows, rows_listed, rows_given, rows_in}
-use Rattle.jsgen_rows.specs.Meaning.{Mark, fault, use_of, number_marks, child_marks, each, marks_of, given_marks, list_marks, sort_marks, fields_marks, typed_marks, row_marks, row_tree, is_used, is_program, found_faults, mark_faults, with_mark, with_marks, faults_in, root_tree, root_faults, faults_after, unless, rows_meaning, program_meaning, value_meaning}
+use Rattle.jsgen_rows.specs.Values.{after, or_fault, at, head, field, field_in, not_given, text_in, items_in, digits_in, is_needed, given_in, number_of_bits, unit_in, units_listed, text_or_listed, units_in, value_in, type_named, type_given, type_of, offsets, span_given, span_of, none_given, text_options, comment_options, unread_options, choice_given, options_given, options_in, unread_head, some_rows, rows_listed, rows_given, rows_in}
+use Rattle.jsgen_rows.specs.Meaning.{Mark, fault, use_of, number_marks, child_marks, hole_marks, each, marks_of, sort_marks, given_marks, field_marks, fields_marks, typed_marks, row_marks, row_tree, is_used, is_program, found_faults, mark_faults, with_mark, with_marks, faults_in, root_tree, root_faults, faults_after, unless, rows_meaning, program_meaning, value_meaning}
 use Rattle.jsgen_rows.specs.Job.{json_of, job_of}
 
 -- ---- what is told is not Memory
@@ -64,6 +64,7 @@ field_told a true (Some d) = choice_told (has_float d) (Err (Float a)) (Ok (Some
 field_told a false (Some d) = choice_told (has_float d) (Err (Float a)) (Ok (Some d)) (λ e. cc) tt
 
 not_given_told : (a : At) (o : Option Data) → ResultTold (not_given a o)
+unfolding not_given
 not_given_told a None = tt
 not_given_told a (Some d) = wrong_told a
 
@@ -85,26 +86,10 @@ value_told : (a : At) (s : Sort) (d : Data) → ResultTold (value_in a s d)
 value_told a sorts.text d = after_told (text_in a d) _ (text_told a d) (λ s. tt)
 value_told a sorts.units d = after_told (units_in a d) _ (text_or_listed_told a d (as_str d)) (λ us. tt)
 value_told a sorts.digits d = after_told (digits_in a d) _ (or_told (Wrong a) _ (wrong_told a)) (λ n. tt)
+value_told a sorts.number d = after_told (or_fault (Wrong a) (number_of_bits 32 d)) _ (or_told (Wrong a) (number_of_bits 32 d) (wrong_told a)) (λ n. tt)
 value_told a sorts.flag d = after_told (or_fault (Wrong a) (as_bool d)) _ (or_told (Wrong a) (as_bool d) (wrong_told a)) (λ b. tt)
 value_told a (sorts.word ws) d = after_told (text_in a d) _ (text_told a d) (λ s. or_told (Wrong a) _ (wrong_told a))
-value_told a (sorts.child s) d = wrong_told a
-value_told a (sorts.children s) d = wrong_told a
-value_told a sorts.unread d = wrong_told a
-
-given_told : (a : At) (s : Sort) (o : Option Data) → ResultTold (given_values a s o)
-given_told a s None = tt
-given_told a s (Some d) = after_told (value_in a s d) _ (value_told a s d) (λ v. tt)
-
-values_told : (a : At) (required : Bool) (s : Sort) (o : Option Data) → ResultTold (values_in a required s o)
-unfolding values_in
-values_told a required sorts.unread o = after_told (not_given a o) _ (not_given_told a o) (λ u. tt)
-values_told a required sorts.text o = after_told (field_in a required o) (given_values a sorts.text) (field_told a required o) (given_told a sorts.text)
-values_told a required sorts.units o = after_told (field_in a required o) (given_values a sorts.units) (field_told a required o) (given_told a sorts.units)
-values_told a required sorts.flag o = after_told (field_in a required o) (given_values a sorts.flag) (field_told a required o) (given_told a sorts.flag)
-values_told a required sorts.digits o = after_told (field_in a required o) (given_values a sorts.digits) (field_told a required o) (given_told a sorts.digits)
-values_told a required (sorts.word ws) o = after_told (field_in a required o) (given_values a (sorts.word ws)) (field_told a required o) (given_told a (sorts.word ws))
-values_told a required (sorts.child s) o = after_told (field_in a required o) (given_values a (sorts.child s)) (field_told a required o) (given_told a (sorts.child s))
-values_told a required (sorts.children s) o = after_told (field_in a required o) (given_values a (sorts.children s)) (field_told a required o) (given_told a (sorts.children s))
+value_told a s d = wrong_told a
 
 type_given_told : (a : At) (o : Option Data) → ResultTold (type_given a o)
 type_given_told a None = λ e. cc
@@ -138,31 +123,41 @@ number_told a s (Some (unsigned c)) = (tt, tt)
 number_told a s (Some (negative z)) = ((λ e. cc), tt)
 number_told a s (Some (float x)) = (wrong_told a, tt)
 
-each_told : (a : At) (s : NodeSet) (ds : List Data) → MarksTold (each (child_marks a s) ds)
-each_told a s [] = tt
-each_told a s (d ∷ ds) = append_told (child_marks a s d) (each (child_marks a s) ds) (number_told a s (as_number d)) (each_told a s ds)
+hole_told : (a : At) (s : NodeSet) (d : Data) → MarksTold (hole_marks a s d)
+hole_told a s null = tt
+hole_told a s d = number_told a s (as_number d)
 
-given_marks_told : (a : At) (s : NodeSet) (o : Option Data) → MarksTold (given_marks a s o)
-given_marks_told a s None = tt
-given_marks_told a s (Some d) = number_told a s (as_number d)
+each_told : (f : Data → List Mark) → ((d : Data) → MarksTold (f d)) → (ds : List Data) → MarksTold (each f ds)
+each_told f h [] = tt
+each_told f h (d ∷ ds) = append_told (f d) (each f ds) (h d) (each_told f h ds)
 
-list_told : (a : At) (s : NodeSet) (o : Option Data) → MarksTold (list_marks a s o)
-list_told a s None = tt
-list_told a s (Some d) = marks_told (each (child_marks a s)) (items_in a d) (items_told a d) (each_told a s)
+list_told : (a : At) (f : Data → List Mark) → ((d : Data) → MarksTold (f d)) → (d : Data) → MarksTold (marks_of (each f) (items_in a d))
+list_told a f h d = marks_told (each f) (items_in a d) (items_told a d) (each_told f h)
 
-sort_told : (a : At) (required : Bool) (s : Sort) (o : Option Data) → MarksTold (sort_marks a required s o)
-sort_told a required (sorts.child s) o = marks_told (given_marks a s) (field_in a required o) (field_told a required o) (given_marks_told a s)
-sort_told a required (sorts.children s) o = marks_told (list_marks a s) (field_in a required o) (field_told a required o) (list_told a s)
-sort_told a required sorts.text o = marks_told _ (values_in a required sorts.text o) (values_told a required sorts.text o) (λ vs. tt)
-sort_told a required sorts.units o = marks_told _ (values_in a required sorts.units o) (values_told a required sorts.units o) (λ vs. tt)
-sort_told a required sorts.flag o = marks_told _ (values_in a required sorts.flag o) (values_told a required sorts.flag o) (λ vs. tt)
-sort_told a required sorts.digits o = marks_told _ (values_in a required sorts.digits o) (values_told a required sorts.digits o) (λ vs. tt)
-sort_told a required (sorts.word ws) o = marks_told _ (values_in a required (sorts.word ws) o) (values_told a required (sorts.word ws) o) (λ vs. tt)
-sort_told a required sorts.unread o = marks_told _ (values_in a required sorts.unread o) (values_told a required sorts.unread o) (λ vs. tt)
+sort_told : (a : At) (s : Sort) (d : Data) → MarksTold (sort_marks a s d)
+sort_told a (sorts.child s) d = number_told a s (as_number d)
+sort_told a (sorts.children s) d = list_told a (child_marks a s) (λ x. number_told a s (as_number x)) d
+sort_told a (sorts.maybe_children s) d = list_told a (child_marks a s) (λ x. number_told a s (as_number x)) d
+sort_told a (sorts.children_or_holes s) d = list_told a (hole_marks a s) (hole_told a s) d
+sort_told a s d = marks_told (λ value. []) (value_in a s d) (value_told a s d) (λ v. tt)
+
+given_told : (a : At) (s : Sort) (o : Option Data) → MarksTold (given_marks a s o)
+given_told a s None = tt
+given_told a s (Some d) = sort_told a s d
+
+chosen_told : (b : Bool) (ms ns : List Mark) → MarksTold ms → MarksTold ns → MarksTold (if b then ms else ns)
+chosen_told true ms ns h g = h
+chosen_told false ms ns h g = g
+
+one_told : (a : At) (f : Field) (d : Data) → MarksTold (field_marks a f d)
+one_told a f d =
+    chosen_told f.is_read (marks_of (given_marks a f.sort) (given_in a f d)) (marks_of (λ nothing. []) (not_given a (field f.name d)))
+    (marks_told (given_marks a f.sort) (given_in a f d) (field_told a (is_needed f.presence d) (field f.name d)) (given_told a f.sort))
+    (marks_told _ (not_given a (field f.name d)) (not_given_told a (field f.name d)) (λ u. tt))
 
 fields_told : (k i : ℕ) (fs : List Field) (d : Data) → MarksTold (fields_marks k i fs d)
 fields_told k i [] d = tt
-fields_told k i (f ∷ fs) d = append_told (sort_marks (at k i) f.required f.sort (field f.name d)) (fields_marks k (suc i) fs d) (sort_told (at k i) f.required f.sort (field f.name d)) (fields_told k (suc i) fs d)
+fields_told k i (f ∷ fs) d = append_told (field_marks (at k i) f d) (fields_marks k (suc i) fs d) (one_told (at k i) f d) (fields_told k (suc i) fs d)
 
 typed_told : (k : ℕ) (d : Data) (t : Result NodeType InputFault) (s : Result Span InputFault) → ResultTold t → ResultTold s → MarksTold (typed_marks k d t s)
 typed_told k d (Err e) s h g = (h, tt)

@@ -3,13 +3,14 @@ use Rattle.std.specs.Prelude.{◌≡◌, ℕ, List, Result, Ok, Err, if◌then�
 use Rattle.std.specs.Str.{is_utf8}
 use Rattle.serde_json.specs.Data.{Data}
 use Rattle.serde_json.specs.Read.{read}
+use Rattle.jsgen_tree.specs.Job.{JobData, no_tables}
 use Rattle.jsgen_tree.specs.Options.{options_plain}
 use Rattle.jsgen_tree.specs.Plain.{program_plain}
 use Rattle.jsgen_rows.specs.declared.InputFault.{InputFault}
 use Rattle.jsgen_rows.specs.declared.InputFault.TheVariants.{Json, Memory}
 use Rattle.jsgen_rows.specs.declared.Job.{Job}
 use Rattle.jsgen_rows.specs.Values.{after, or_fault}
-use Rattle.jsgen_rows.specs.Meaning.{JobData, value_meaning}
+use Rattle.jsgen_rows.specs.Meaning.{value_meaning}
 
 -- A result of code beside what the definition gives: it is the same, but want of memory may come in its place.
 abbrev pub Same : {T V : Type 0} → (T → V) → Result T InputFault → Result V InputFault → Type 0
@@ -18,7 +19,7 @@ Same plain (Err e) meant = (e ≡ Memory → ⊥) → meant ≡ Err e
 
 -- the plain data of a job
 abbrev pub job_plain : Job → JobData
-job_plain job = record { options = options_plain job.options; program = program_plain job.program }
+job_plain job = record { options = options_plain job.options; tables = no_tables; program = program_plain job.program }
 
 -- The bytes are a text in UTF-8 that is one value of JSON (RFC 8259), read as `serde_json` reads it.
 abbrev pub json_of : List ℕ → Result Data InputFault

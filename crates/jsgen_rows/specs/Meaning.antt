@@ -1,20 +1,20 @@
 -- What a job means: the faults that it has, in their order, and the tree of each row.
 use Rattle.std.specs.Prelude.{ℕ, suc, ◌-◌, ◌==◌, ◌||◌, List, [], ◌∷◌, ◌++◌, length, map, Bool, true, false, Option, Some, None, unwrap_or, Result, Ok, Err, slice_get, if◌then◌else◌}
-use Rattle.serde_json.specs.Data.{Data, Num, unsigned, negative, float}
+use Rattle.serde_json.specs.Data.{Data, null, Num, unsigned, negative, float}
 use Rattle.serde_json.specs.Find.{as_number}
 use Rattle.jsgen_syntax.specs.declared.span.Span.{Span}
 use Rattle.jsgen_tree.specs.declared.types.NodeType.{NodeType}
 use Rattle.jsgen_tree.specs.declared.types.NodeType.TheVariants as types
 use Rattle.jsgen_tree.specs.declared.types.NodeSet.{NodeSet}
-use Rattle.jsgen_tree.specs.Options.{Options}
-use Rattle.jsgen_tree.specs.Tree.{Atom, Tree, Slots, Maybe, Trees, node, no_slots, one, maybe, many, absent, given, no_trees, trees}
+use Rattle.jsgen_tree.specs.Job.{JobData, no_tables}
+use Rattle.jsgen_tree.specs.Tree.{Atom, no_value, Tree, Slots, Maybe, Trees, MaybeTrees, node, no_slots, one, maybe, many, maybe_many, absent, given, no_trees, more, hole, trees, no_list, listed}
 use Rattle.jsgen_tree.specs.Tree as tree
-use Rattle.jsgen_tree.specs.Table.{Sort, Field, fields, in_set}
+use Rattle.jsgen_tree.specs.Table.{Sort, Presence, needed, Field, fields, absent_value, is_value, in_set}
 use Rattle.jsgen_tree.specs.Table as sorts
 use Rattle.jsgen_rows.specs.declared.At.{At}
 use Rattle.jsgen_rows.specs.declared.InputFault.{InputFault}
 use Rattle.jsgen_rows.specs.declared.InputFault.TheVariants.{Wrong, Child, Shared}
-use Rattle.jsgen_rows.specs.Values.{after, at, field, field_in, items_in, values_in, type_of, span_of, options_in, rows_in}
+use Rattle.jsgen_rows.specs.Values.{after, at, field, not_given, given_in, items_in, value_in, type_of, span_of, options_in, rows_in}
 
 -- ---- the marks of a row, which it has by itself: a fault, or the number of a row that is to be a child
 
@@ -40,23 +40,31 @@ abbrev pub marks_of : {A : Type 0} → (A → List Mark) → Result A InputFault
 marks_of f (Err e) = fault e ∷ []
 marks_of f (Ok x) = f x
 
-abbrev pub given_marks : At → NodeSet → Option Data → List Mark
+-- null is a hole
+abbrev pub hole_marks : At → NodeSet → Data → List Mark
+hole_marks a s null = []
+hole_marks a s d = child_marks a s d
+
+-- of a value that is given, by the sort of its field
+abbrev pub sort_marks : At → Sort → Data → List Mark
+sort_marks a (sorts.child s) d = child_marks a s d
+sort_marks a (sorts.children s) d = marks_of (each (child_marks a s)) (items_in a d)
+sort_marks a (sorts.maybe_children s) d = marks_of (each (child_marks a s)) (items_in a d)
+sort_marks a (sorts.children_or_holes s) d = marks_of (each (hole_marks a s)) (items_in a d)
+sort_marks a s d = marks_of (λ value. []) (value_in a s d)
+
+abbrev pub given_marks : At → Sort → Option Data → List Mark
 given_marks a s None = []
-given_marks a s (Some d) = child_marks a s d
+given_marks a s (Some d) = sort_marks a s d
 
-abbrev pub list_marks : At → NodeSet → Option Data → List Mark
-list_marks a s None = []
-list_marks a s (Some d) = marks_of (each (child_marks a s)) (items_in a d)
-
-abbrev pub sort_marks : At → Bool → Sort → Option Data → List Mark
-sort_marks a required (sorts.child s) o = marks_of (given_marks a s) (field_in a required o)
-sort_marks a required (sorts.children s) o = marks_of (list_marks a s) (field_in a required o)
-sort_marks a required s o = marks_of (λ values. []) (values_in a required s o)
+-- a field that isn't read may not be given
+abbrev pub field_marks : At → Field → Data → List Mark
+field_marks a f d = if f.is_read then marks_of (given_marks a f.sort) (given_in a f d) else marks_of (λ nothing. []) (not_given a (field f.name d))
 
 -- of the fields from number i on
 abbrev pub fields_marks : ℕ → ℕ → List Field → Data → List Mark
 fields_marks k i [] d = []
-fields_marks k i (f ∷ fs) d = sort_marks (at k i) f.required f.sort (field f.name d) ++ fields_marks k (suc i) fs d
+fields_marks k i (f ∷ fs) d = field_marks (at k i) f d ++ fields_marks k (suc i) fs d
 
 -- a row with no type has no other mark
 abbrev pub typed_marks : ℕ → Data → Result NodeType InputFault → Result Span InputFault → List Mark
@@ -82,43 +90,74 @@ abbrev pub ok_or_else : {A : Type 0} → A → Result A InputFault → A
 ok_or_else a (Ok b) = b
 ok_or_else a (Err e) = a
 
+-- the child at a place of a list; none at a hole
+abbrev pub child_or_hole : List Tree → Data → Option Tree
+child_or_hole e null = None
+child_or_hole e d = Some (child_tree e d)
+
+abbrev pub holed : List (Option Tree) → Trees
+holed [] = no_trees
+holed (None ∷ os) = hole (holed os)
+holed (Some t ∷ os) = more t (holed os)
+
 -- what a field gives to its node
 pub data Held : Type 0 where
-  a_value : List Atom → Held
+  nothing : Held
+  a_value : Atom → Held
   a_child : Tree → Held
   a_maybe : Maybe → Held
   a_list : Trees → Held
+  a_maybe_list : MaybeTrees → Held
 
 pub record Parts : Type 0 where
   pub values : List Atom
   pub slots : Slots
 
 abbrev pub put_in : Held → Parts → Parts
-put_in (a_value vs) p = record { values = vs ++ p.values; slots = p.slots }
+put_in nothing p = p
+put_in (a_value v) p = record { values = v ∷ p.values; slots = p.slots }
 put_in (a_child t) p = record { values = p.values; slots = one t p.slots }
 put_in (a_maybe m) p = record { values = p.values; slots = maybe m p.slots }
 put_in (a_list ts) p = record { values = p.values; slots = many ts p.slots }
+put_in (a_maybe_list l) p = record { values = p.values; slots = maybe_many l p.slots }
 
-abbrev pub child_held : Bool → Tree → Held
-child_held true t = a_child t
-child_held false t = a_maybe (given t)
+-- a child that may be absent has a place that may be empty
+abbrev pub child_held : Presence → Tree → Held
+child_held needed t = a_child t
+child_held p t = a_maybe (given t)
 
-abbrev pub given_held : List Tree → Bool → Option Data → Held
-given_held e required None = a_maybe absent
-given_held e required (Some d) = child_held required (child_tree e d)
+-- where a value is given
+abbrev pub given_held : List Tree → At → Presence → Sort → Data → Held
+given_held e a p (sorts.child s) d = child_held p (child_tree e d)
+given_held e a p (sorts.children s) d = a_list (trees (map (child_tree e) (ok_or_else [] (items_in a d))))
+given_held e a p (sorts.maybe_children s) d = a_maybe_list (listed (trees (map (child_tree e) (ok_or_else [] (items_in a d)))))
+given_held e a p (sorts.children_or_holes s) d = a_list (holed (map (child_or_hole e) (ok_or_else [] (items_in a d))))
+given_held e a p s d = a_value (ok_or_else no_value (value_in a s d))
 
-abbrev pub list_held : List Tree → At → Option Data → Held
-list_held e a None = a_list no_trees
-list_held e a (Some d) = a_list (trees (map (child_tree e) (ok_or_else [] (items_in a d))))
+-- where the field is absent
+abbrev pub absent_held : Presence → Sort → Held
+absent_held p (sorts.child s) = a_maybe absent
+absent_held p (sorts.children s) = a_list no_trees
+absent_held p (sorts.maybe_children s) = a_maybe_list no_list
+absent_held p (sorts.children_or_holes s) = a_list no_trees
+absent_held p sorts.unread_child = nothing
+absent_held p s = a_value (absent_value p)
 
-abbrev pub sort_held : List Tree → At → Bool → Sort → Option Data → Held
-sort_held e a required (sorts.child s) o = given_held e required o
-sort_held e a required (sorts.children s) o = list_held e a o
-sort_held e a required s o = a_value (ok_or_else [] (values_in a required s o))
+abbrev pub held : List Tree → At → Presence → Sort → Option Data → Held
+held e a p s None = absent_held p s
+held e a p s (Some d) = given_held e a p s d
+
+-- of a field that isn't read
+abbrev pub unread_held : Sort → Held
+unread_held s = if is_value s then a_value no_value else nothing
+
+-- of any field
+abbrev pub field_held : List Tree → At → Field → Data → Held
+field_held e a f d = if f.is_read then held e a f.presence f.sort (field f.name d) else unread_held f.sort
 
 abbrev pub fields_parts : List Tree → ℕ → ℕ → List Field → Data → Parts
 fields_parts e k i [] d = record { values = []; slots = no_slots }
-fields_parts e k i (f ∷ fs) d = put_in (sort_held e (at k i) f.required f.sort (field f.name d)) (fields_parts e k (suc i) fs d)
+fields_parts e k i (f ∷ fs) d = put_in (field_held e (at k i) f d) (fields_parts e k (suc i) fs d)
 
 abbrev pub node_of : NodeType → Span → Parts → Tree
 node_of type span p = node type (record { span = span; values = p.values }) p.slots
@@ -191,11 +230,6 @@ rows_meaning ds = unless (faults_after [] [] ds) (unwrap_or (root_tree (trees_af
 abbrev pub program_meaning : Data → Result Tree InputFault
 program_meaning d = after (rows_in d) rows_meaning
 
--- what a job asks for
-pub record JobData : Type 0 where
-  pub options : Options
-  pub program : Tree
-
 -- the job that was read as JSON, or its first fault
 abbrev pub value_meaning : Data → Result JobData InputFault
-value_meaning d = after (options_in d) (λ options. after (program_meaning d) (λ program. Ok (record { options = options; program = program })))
+value_meaning d = after (options_in d) (λ options. after (program_meaning d) (λ program. Ok (record { options = options; tables = no_tables; program = program })))

@@ -1,22 +1,22 @@
 -- A job read row by row, over the rows that are kept: each still there, or a child of an earlier place already.
 -- The reader's functions are proved against it; that it gives what a job means is a law of its own.
 use Rattle.std.specs.Prelude.{◌-◌, ◌≡◌, ℕ, suc, List, [], ◌∷◌, ◌++◌, length, Bool, Option, Some, None, Result, Ok, Err, slice_get, if◌then◌else◌}
-use Rattle.serde_json.specs.Data.{Data, Num, unsigned, negative, float}
+use Rattle.serde_json.specs.Data.{Data, null, Num, unsigned, negative, float}
 use Rattle.serde_json.specs.Find.{as_number}
 use Rattle.jsgen_syntax.specs.declared.span.Span.{Span}
 use Rattle.jsgen_tree.specs.declared.types.NodeType.{NodeType}
 use Rattle.jsgen_tree.specs.declared.types.NodeSet.{NodeSet}
-use Rattle.jsgen_tree.specs.Tree.{Tree, node, no_slots, absent, no_trees, trees}
+use Rattle.jsgen_tree.specs.Tree.{Atom, Tree, node, no_slots, trees, listed}
 use Rattle.jsgen_tree.specs.Tree as tree
-use Rattle.jsgen_tree.specs.Table.{Sort, Field, fields}
+use Rattle.jsgen_tree.specs.Table.{Sort, Presence, Field, fields, absent_value, is_value}
 use Rattle.jsgen_tree.specs.Table as sorts
 use Rattle.jsgen_pool.specs.Pool.{Entry, there, taken, Took, take_row}
 use Rattle.jsgen_pool.specs.declared.TakeFault.TheVariants.{Absent, Taken}
 use Rattle.jsgen_rows.specs.declared.At.{At}
 use Rattle.jsgen_rows.specs.declared.InputFault.{InputFault}
 use Rattle.jsgen_rows.specs.declared.InputFault.TheVariants.{Wrong, Child, Shared, Memory}
-use Rattle.jsgen_rows.specs.Values.{after, at, field, field_in, items_in, values_in, type_of, span_of, rows_in}
-use Rattle.jsgen_rows.specs.Meaning.{Held, a_value, a_maybe, a_list, Parts, put_in, child_held, is_program}
+use Rattle.jsgen_rows.specs.Values.{after, at, field, not_given, field_in, is_needed, items_in, value_in, type_of, span_of, rows_in}
+use Rattle.jsgen_rows.specs.Meaning.{holed, Held, a_value, a_list, a_maybe_list, Parts, put_in, child_held, absent_held, unread_held, is_program}
 
 abbrev pub Read : Type 0 → Type 0
 Read V = Result (V × List Entry) InputFault
@@ -43,33 +43,50 @@ told a (Err (Taken c)) = Err (Shared c)
 abbrev pub take_child : At → NodeSet → Data → List Entry → Read Tree
 take_child a s d kept = after (number_in a (as_number d)) (λ c. told a (take_row s c kept))
 
-abbrev pub take_all : At → NodeSet → List Tree → List Data → List Entry → Read (List Tree)
-take_all a s done [] kept = Ok (done, kept)
-take_all a s done (d ∷ ds) kept = after (take_child a s d kept) (λ t. take_all a s (done ++ t.0 ∷ []) ds t.1)
+abbrev pub take_or_hole : At → NodeSet → Data → List Entry → Read (Option Tree)
+take_or_hole a s null kept = Ok (None, kept)
+take_or_hole a s d kept = after (take_child a s d kept) (λ t. Ok (Some t.0, t.1))
+
+abbrev pub take_each : {X : Type 0} → (Data → List Entry → Read X) → List X → List Data → List Entry → Read (List X)
+take_each take done [] kept = Ok (done, kept)
+take_each take done (d ∷ ds) kept = after (take d kept) (λ x. take_each take (done ++ x.0 ∷ []) ds x.1)
+
+abbrev pub take_list : {X : Type 0} → At → (Data → List Entry → Read X) → (List X → Held) → Data → List Entry → Read Held
+take_list a take hold d kept = after (items_in a d) (λ ds. after (take_each take [] ds kept) (λ xs. Ok (hold xs.0, xs.1)))
 
 -- ---- fields
 
-abbrev pub take_given : At → Bool → NodeSet → Option Data → List Entry → Read Held
-take_given a required s None kept = Ok (a_maybe absent, kept)
-take_given a required s (Some d) kept = after (take_child a s d kept) (λ t. Ok (child_held required t.0, t.1))
+-- of a field with children that are given
+abbrev pub take_sort : At → Presence → Sort → Data → List Entry → Read Held
+take_sort a p (sorts.child s) d kept = after (take_child a s d kept) (λ t. Ok (child_held p t.0, t.1))
+take_sort a p (sorts.children s) d kept = take_list a (take_child a s) (λ ts. a_list (trees ts)) d kept
+take_sort a p (sorts.maybe_children s) d kept = take_list a (take_child a s) (λ ts. a_maybe_list (listed (trees ts))) d kept
+take_sort a p (sorts.children_or_holes s) d kept = take_list a (take_or_hole a s) (λ os. a_list (holed os)) d kept
+take_sort a p s d kept = Err (Wrong a)
 
-abbrev pub take_list : At → NodeSet → Option Data → List Entry → Read Held
-take_list a s None kept = Ok (a_list no_trees, kept)
-take_list a s (Some d) kept = after (items_in a d) (λ ds. after (take_all a s [] ds kept) (λ ts. Ok (a_list (trees ts.0), ts.1)))
+abbrev pub take_given : At → Presence → Sort → Option Data → List Entry → Read Held
+take_given a p s None kept = Ok (absent_held p s, kept)
+take_given a p s (Some d) kept = take_sort a p s d kept
 
-unfoldable pub read_child : At → Bool → NodeSet → Option Data → List Entry → Read Held
-read_child a required s o kept = after (field_in a required o) (λ d. take_given a required s d kept)
+-- a field with children
+unfoldable pub read_children : At → Bool → Presence → Sort → Option Data → List Entry → Read Held
+read_children a b p s o kept = after (field_in a b o) (λ d. take_given a p s d kept)
 
-unfoldable pub read_children : At → Bool → NodeSet → Option Data → List Entry → Read Held
-read_children a required s o kept = after (field_in a required o) (λ d. take_list a s d kept)
+abbrev pub value_or : Atom → At → Sort → Option Data → Result Atom InputFault
+value_or v a s None = Ok v
+value_or v a s (Some d) = value_in a s d
 
-abbrev pub read_sort : At → Bool → Sort → Option Data → List Entry → Read Held
-read_sort a required (sorts.child s) o kept = read_child a required s o kept
-read_sort a required (sorts.children s) o kept = read_children a required s o kept
-read_sort a required s o kept = after (values_in a required s o) (λ vs. Ok (a_value vs, kept))
+-- a field with a value, which is v where it is absent
+unfoldable pub read_value : At → Bool → Atom → Sort → Option Data → Result Atom InputFault
+read_value a b v s o = after (field_in a b o) (value_or v a s)
+
+abbrev pub read_given : At → Bool → Presence → Sort → Option Data → List Entry → Read Held
+read_given a b p s o kept = if is_value s then after (read_value a b (absent_value p) s o) (λ v. Ok (a_value v, kept)) else read_children a b p s o kept
 
 abbrev pub read_field : At → Field → Data → List Entry → Read Held
-read_field a f d kept = read_sort a f.required f.sort (field f.name d) kept
+read_field a f d kept =
+    if f.is_read then read_given a (is_needed f.presence d) f.presence f.sort (field f.name d) kept
+    else after (not_given a (field f.name d)) (λ _. Ok (unread_held f.sort, kept))
 
 -- the fields from number i on
 abbrev pub read_fields : ℕ → ℕ → List Field → Data → List Entry → Read Parts

@@ -1,5 +1,5 @@
 -- What stands in a field of a job by itself: JSON (RFC 8259), in the fields that docs/FORMAT.md lists.
-use Rattle.std.specs.Prelude.{ℕ, ◌^◌, ◌==◌, ◌&&◌, List, [], ◌∷◌, length, filter, flat_map, Bool, true, false, not, nat_lt, codes, Option, Some, None, option_map, option_and_then, Result, Ok, Err, if◌then◌else◌, ⊤}
+use Rattle.std.specs.Prelude.{ℕ, ◌^◌, ◌==◌, ◌&&◌, List, [], ◌∷◌, length, filter, flat_map, Bool, true, false, not, nat_lt, codes, Option, Some, None, option_map, option_and_then, unwrap_or, Result, Ok, Err, if◌then◌else◌, ⊤}
 use Rattle.std.specs.Char.Escape.{encode_utf16}
 use Rattle.std.specs.Str.{bytes_eq, chars, all_ascii_digits}
 use Rattle.std.specs.Str.Parse.{digits_value}
@@ -12,7 +12,7 @@ use Rattle.jsgen_tree.specs.declared.types.NodeType.TheVariants as types
 use Rattle.jsgen_tree.specs.Options.{Options, default_options}
 use Rattle.jsgen_tree.specs.Tree.{Atom}
 use Rattle.jsgen_tree.specs.Tree as atoms
-use Rattle.jsgen_tree.specs.Table.{Sort, Word}
+use Rattle.jsgen_tree.specs.Table.{Field, Presence, Sort, Word, needed, needed_for}
 use Rattle.jsgen_tree.specs.Table as sorts
 use Rattle.jsgen_rows.specs.declared.At.{At}
 use Rattle.jsgen_rows.specs.declared.InputFault.{InputFault}
@@ -56,16 +56,30 @@ present (Some d) = not_null d
 abbrev pub field : List ℕ → Data → Option Data
 field name d = present (get name d)
 
--- the value of a field, where there is one; a float, at any depth, is told before anything else of it
+-- the value of a field, where there is one, which a needed field has; a float, at any depth, is told before anything else of it
 abbrev pub field_in : At → Bool → Option Data → Result (Option Data) InputFault
 field_in a true None = Err (Missing a)
 field_in a false None = Ok None
-field_in a required (Some d) = if has_float d then Err (Float a) else Ok (Some d)
+field_in a b (Some d) = if has_float d then Err (Float a) else Ok (Some d)
 
 -- a field of the format that isn't read yet may not be there
-abbrev pub not_given : At → Option Data → Result ⊤ InputFault
+unfoldable pub not_given : At → Option Data → Result ⊤ InputFault
 not_given a None = Ok tt
 not_given a (Some d) = Err (Wrong a)
+
+-- the row's field `kind` is this word
+abbrev pub is_of_kind : List ℕ → Data → Bool
+is_of_kind w d = unwrap_or (option_map (λ s. bytes_eq s w) (option_and_then as_str (field (codes "kind") d))) false
+
+-- whether the field may not be absent in this row
+abbrev pub is_needed : Presence → Data → Bool
+is_needed needed d = true
+is_needed (needed_for w) d = is_of_kind w d
+is_needed p d = false
+
+-- what stands in a field of a row
+abbrev pub given_in : At → Field → Data → Result (Option Data) InputFault
+given_in a f d = field_in a (is_needed f.presence d) (field f.name d)
 
 -- ---- kinds of values
 
@@ -81,6 +95,10 @@ items_in a d = or_fault (Wrong a) (option_map listed (as_array d))
 
 abbrev pub whole_number : Data → Option ℕ
 whole_number d = option_and_then as_u64 (as_number d)
+
+-- a whole number of so many bits
+abbrev pub number_of_bits : ℕ → Data → Option ℕ
+number_of_bits bits d = option_and_then (λ n. if nat_lt n (2 ^ bits) then Some n else None) (whole_number d)
 
 -- what a word stands for
 abbrev pub word_meaning : List Word → List ℕ → Option Atom
@@ -112,7 +130,7 @@ digits_in a d = or_fault (Wrong a) (or_else (whole_number d) (option_and_then de
 
 -- one unit of UTF-16
 abbrev pub unit_in : Data → Option ℕ
-unit_in d = option_and_then (λ n. if nat_lt n (2 ^ 16) then Some n else None) (whole_number d)
+unit_in d = number_of_bits 16 d
 
 abbrev pub units_listed : At → List Data → Result (List ℕ) InputFault
 units_listed a [] = Ok []
@@ -132,24 +150,10 @@ abbrev pub value_in : At → Sort → Data → Result Atom InputFault
 value_in a sorts.text d = after (text_in a d) (λ s. Ok (atoms.text (chars s)))
 value_in a sorts.units d = after (units_in a d) (λ us. Ok (atoms.units us))
 value_in a sorts.digits d = after (digits_in a d) (λ n. Ok (atoms.digits n))
+value_in a sorts.number d = after (or_fault (Wrong a) (number_of_bits 32 d)) (λ n. Ok (atoms.number n))
 value_in a sorts.flag d = after (or_fault (Wrong a) (as_bool d)) (λ b. Ok (atoms.flag b))
 value_in a (sorts.word ws) d = word_in a ws d
 value_in a other d = Err (Wrong a)
-
--- what a node holds where the field is absent
-abbrev pub default_values : Sort → List Atom
-default_values sorts.text = atoms.text [] ∷ []
-default_values sorts.flag = atoms.flag false ∷ []
-default_values other = []
-
-abbrev pub given_values : At → Sort → Option Data → Result (List Atom) InputFault
-given_values a s None = Ok (default_values s)
-given_values a s (Some d) = after (value_in a s d) (λ v. Ok (v ∷ []))
-
--- what the node holds of a field
-unfoldable pub values_in : At → Bool → Sort → Option Data → Result (List Atom) InputFault
-values_in a required sorts.unread o = after (not_given a o) (λ _. Ok [])
-values_in a required s o = after (field_in a required o) (given_values a s)
 
 -- ---- the type and the span of a row, its fields 0 and 1
 
@@ -199,7 +203,7 @@ type_of k d = after (or_fault (Wrong (at k 0)) (as_object d)) (λ members. after
 
 -- an offset in bytes
 abbrev pub offset_in : Data → Option ℕ
-offset_in d = option_and_then (λ n. if nat_lt n (2 ^ 32) then Some n else None) (whole_number d)
+offset_in d = number_of_bits 32 d
 
 abbrev pub both : Option ℕ → Option ℕ → Option Span
 both (Some start) (Some end) = Some (record { start = start; end = end })

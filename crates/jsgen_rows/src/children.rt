@@ -8,7 +8,7 @@ ghost use Rattle.jsgen_tree.specs.Plain.{node_plain};
 ghost use Rattle.jsgen_tree.specs.Rows.{in_expression, in_statement, in_binding_pattern, in_argument, variable_declarator_row, identifier_name_row, directive_row};
 ghost use Rattle.jsgen_tree.specs.declared.types.NodeSet.TheVariants as sets;
 ghost use Rattle.jsgen_rows.specs.Job.{Same};
-ghost use Rattle.jsgen_rows.specs.Reads.{Gives, number_in, take_child, take_all};
+ghost use Rattle.jsgen_rows.specs.Reads.{Gives, number_in, take_child, take_each};
 ghost use Rattle.jsgen_rows.specs.Kept.{row_plain, entries};
 
 use crate::kept::{Row, binding_pattern_node, declaration_node, expression_node, statement_node};
@@ -236,7 +236,7 @@ pub fn take_all<C: Child + Drop>(
     values: &[Value],
 ) -> Result<Vec<C>, InputFault>
     ensures { Gives (λ v. map C.plain v.items) result (entries kept.new.items)
-        (take_all at C.of_set [] (map view values.now) (entries kept.old.items)) }
+        (take_each (take_child at C.of_set) [] (map view values.now) (entries kept.old.items)) }
 {
     let mut children = Vec::with_capacity(alloc, values.len())?;
     for value in values {

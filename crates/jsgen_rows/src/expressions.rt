@@ -8,7 +8,7 @@ ghost use Rattle.jsgen_rows.specs.Kept.{entries, row_plain};
 
 use crate::fields::{beside, needed_child};
 use crate::kept::Row;
-use crate::values::{needed_digits, needed_text, unread};
+use crate::values::{needed_digits, needed_text, not_given};
 use crate::words::{needed_binary_operator, needed_logical_operator, needed_numeric_kind};
 use crate::{At, InputFault};
 use jsgen_pool::Kept;
@@ -33,7 +33,7 @@ pub fn read_identifier_reference(
 {
     let _ = kept;
     let name = needed_text(alloc, At::of_row(number, 2), row, "name")?;
-    unread(At::of_row(number, 3), row, "reference")?;
+    not_given(At::of_row(number, 3), row, "reference")?;
     let node = IdentifierReference { span, name };
     Ok(Row::Expression(Expression::IdentifierReference(Box::new(alloc, node)?)))
 }
@@ -50,10 +50,10 @@ pub fn read_numeric_literal(
         (read_node number types.NumericLiteral numeric_literal_fields span (view row.now) (entries kept.old.items)) }
 {
     let _ = kept;
-    needed_numeric_kind(At::of_row(number, 2), row, "kind")?;
-    unread(At::of_row(number, 3), row, "negative")?;
+    needed_numeric_kind(At::of_row(number, 2), row)?;
+    not_given(At::of_row(number, 3), row, "negative")?;
     let digits = needed_digits(At::of_row(number, 4), row, "digits")?;
-    unread(At::of_row(number, 5), row, "text")?;
+    not_given(At::of_row(number, 5), row, "text")?;
     let value = NumericValue::Whole { digits };
     let node = NumericLiteral { span, value };
     Ok(Row::Expression(Expression::NumericLiteral(Box::new(alloc, node)?)))

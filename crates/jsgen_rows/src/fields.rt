@@ -1,11 +1,11 @@
 // Fields that hold children.
-ghost use Rattle.std.specs.Prelude.{◌≡◌, Ok, map, option_map};
+ghost use Rattle.std.specs.Prelude.{◌≡◌, Ok, true, false, map, option_map};
 ghost use Rattle.serde_json.specs.View.{view};
 ghost use Rattle.jsgen_tree.specs.Tree.{optional, trees};
-ghost use Rattle.jsgen_tree.specs.Table.{needs, may_have, child, children};
-ghost use Rattle.jsgen_rows.specs.Values.{after};
+ghost use Rattle.jsgen_tree.specs.Table.{needed, may_be_absent, child, children};
+ghost use Rattle.jsgen_rows.specs.Values.{after, field};
 ghost use Rattle.jsgen_rows.specs.Meaning.{a_child, a_maybe, a_list};
-ghost use Rattle.jsgen_rows.specs.Reads.{Gives, read_field};
+ghost use Rattle.jsgen_rows.specs.Reads.{Gives, read_children};
 ghost use Rattle.jsgen_rows.specs.Kept.{entries};
 
 use crate::children::{Child, take_all, take_as};
@@ -26,7 +26,7 @@ pub fn beside<C: Drop, T: Drop>(
     Ok((first, second?))
 }
 
-#[tactic(auto, unfolding(crate::specs::Reads::read_child))]
+#[tactic(auto, unfolding(crate::specs::Reads::read_children))]
 pub fn needed_child<C: Child + Drop>(
     alloc: Global,
     kept: &mut Vec<Kept<Row>>,
@@ -35,13 +35,13 @@ pub fn needed_child<C: Child + Drop>(
     name: &str,
 ) -> Result<C, InputFault>
     ensures { Gives (λ c. a_child (C.plain c)) result (entries kept.new.items)
-        (read_field at (needs name.now (child C.of_set)) (view row.now) (entries kept.old.items)) }
+        (read_children at true needed (child C.of_set) (field name.now (view row.now)) (entries kept.old.items)) }
 {
     let value = needed_value(at, row, name)?;
     take_as(alloc, kept, at, value)
 }
 
-#[tactic(auto, unfolding(crate::specs::Reads::read_child))]
+#[tactic(auto, unfolding(crate::specs::Reads::read_children))]
 pub fn optional_child<C: Child + Drop>(
     alloc: Global,
     kept: &mut Vec<Kept<Row>>,
@@ -50,7 +50,7 @@ pub fn optional_child<C: Child + Drop>(
     name: &str,
 ) -> Result<Option<C>, InputFault>
     ensures { Gives (λ o. a_maybe (optional (option_map C.plain o))) result (entries kept.new.items)
-        (read_field at (may_have name.now (child C.of_set)) (view row.now) (entries kept.old.items)) }
+        (read_children at false may_be_absent (child C.of_set) (field name.now (view row.now)) (entries kept.old.items)) }
 {
     let Some(value) = optional_value(at, row, name)? else {
         return Ok(None);
@@ -69,7 +69,7 @@ pub fn children<C: Child + Drop>(
     name: &str,
 ) -> Result<Vec<C>, InputFault>
     ensures { Gives (λ v. a_list (trees (map C.plain v.items))) result (entries kept.new.items)
-        (read_field at (may_have name.now (children C.of_set)) (view row.now) (entries kept.old.items)) }
+        (read_children at false may_be_absent (children C.of_set) (field name.now (view row.now)) (entries kept.old.items)) }
 {
     let Some(value) = optional_value(at, row, name)? else {
         return Ok(Vec::new(alloc));

@@ -9,7 +9,7 @@ ghost use Rattle.jsgen_rows.specs.Kept.{entries, row_plain};
 use crate::fields::{beside, children, needed_child};
 use crate::kept::Row;
 use crate::strings::needed_units;
-use crate::values::{needed_text, optional_flag, unread};
+use crate::values::{needed_text, not_given, optional_flag};
 use crate::{At, InputFault};
 use jsgen_pool::Kept;
 use jsgen_syntax::Span;
@@ -66,7 +66,7 @@ pub fn read_static_member_expression(
         (read_node number types.StaticMemberExpression static_member_expression_fields span (view row.now) (entries kept.old.items)) }
 {
     let object = needed_child(alloc, kept, At::of_row(number, 2), row, "object")?;
-    let (object, _) = beside(object, unread(At::of_row(number, 3), row, "optional"))?;
+    let (object, _) = beside(object, not_given(At::of_row(number, 3), row, "optional"))?;
     let property = needed_child(alloc, kept, At::of_row(number, 4), row, "property");
     let (object, property) = beside(object, property)?;
     let node = StaticMemberExpression {
@@ -89,7 +89,7 @@ pub fn read_computed_member_expression(
         (read_node number types.ComputedMemberExpression computed_member_expression_fields span (view row.now) (entries kept.old.items)) }
 {
     let object = needed_child(alloc, kept, At::of_row(number, 2), row, "object")?;
-    let (object, _) = beside(object, unread(At::of_row(number, 3), row, "optional"))?;
+    let (object, _) = beside(object, not_given(At::of_row(number, 3), row, "optional"))?;
     let expression = needed_child(alloc, kept, At::of_row(number, 4), row, "expression");
     let (object, expression) = beside(object, expression)?;
     let node = ComputedMemberExpression {
@@ -112,10 +112,13 @@ pub fn read_call_expression(
         (read_node number types.CallExpression call_expression_fields span (view row.now) (entries kept.old.items)) }
 {
     let callee = needed_child(alloc, kept, At::of_row(number, 2), row, "callee")?;
-    let (callee, _) = beside(callee, unread(At::of_row(number, 3), row, "type_arguments"))?;
+    let (callee, _) = beside(
+        callee,
+        not_given(At::of_row(number, 3), row, "type_arguments"),
+    )?;
     let arguments = children(alloc, kept, At::of_row(number, 4), row, "arguments");
     let parts = beside(callee, arguments)?;
-    let (parts, _) = beside(parts, unread(At::of_row(number, 5), row, "optional"))?;
+    let (parts, _) = beside(parts, not_given(At::of_row(number, 5), row, "optional"))?;
     let pure = optional_flag(At::of_row(number, 6), row, "pure");
     let ((callee, arguments), pure) = beside(parts, pure)?;
     let node = CallExpression {

@@ -8,7 +8,7 @@ ghost use Rattle.jsgen_rows.specs.Kept.{entries, row_plain};
 
 use crate::fields::{beside, children, needed_child, optional_child};
 use crate::kept::{Row, StatementRow};
-use crate::values::{needed_text, optional_text, unread};
+use crate::values::{needed_text, not_given, optional_text};
 use crate::words::{needed_declaration_kind, needed_source_kind};
 use crate::{At, InputFault};
 use jsgen_pool::Kept;
@@ -33,10 +33,10 @@ pub fn read_program(
 {
     let source = optional_text(alloc, At::of_row(number, 2), row, "source")?;
     let kind = needed_source_kind(At::of_row(number, 3), row, "kind")?;
-    unread(At::of_row(number, 4), row, "jsx")?;
-    unread(At::of_row(number, 5), row, "typescript")?;
-    unread(At::of_row(number, 6), row, "comments")?;
-    unread(At::of_row(number, 7), row, "hashbang")?;
+    not_given(At::of_row(number, 4), row, "jsx")?;
+    not_given(At::of_row(number, 5), row, "typescript")?;
+    not_given(At::of_row(number, 6), row, "comments")?;
+    not_given(At::of_row(number, 7), row, "hashbang")?;
     let directives = children(alloc, kept, At::of_row(number, 8), row, "directives")?;
     let body = children(alloc, kept, At::of_row(number, 9), row, "body")?;
     let node = Program {
@@ -153,7 +153,7 @@ pub fn read_variable_declaration(
         (read_node number types.VariableDeclaration variable_declaration_fields span (view row.now) (entries kept.old.items)) }
 {
     let kind = needed_declaration_kind(At::of_row(number, 2), row, "kind")?;
-    unread(At::of_row(number, 3), row, "declare")?;
+    not_given(At::of_row(number, 3), row, "declare")?;
     let declarations = children(alloc, kept, At::of_row(number, 4), row, "declarations")?;
     let node = VariableDeclaration {
         span,
@@ -175,8 +175,8 @@ pub fn read_variable_declarator(
         (read_node number types.VariableDeclarator variable_declarator_fields span (view row.now) (entries kept.old.items)) }
 {
     let id = needed_child(alloc, kept, At::of_row(number, 2), row, "id")?;
-    let (id, _) = beside(id, unread(At::of_row(number, 3), row, "definite"))?;
-    let (id, _) = beside(id, unread(At::of_row(number, 4), row, "type_annotation"))?;
+    let (id, _) = beside(id, not_given(At::of_row(number, 3), row, "definite"))?;
+    let (id, _) = beside(id, not_given(At::of_row(number, 4), row, "type_annotation"))?;
     let init = optional_child(alloc, kept, At::of_row(number, 5), row, "init");
     let (id, init) = beside(id, init)?;
     let node = VariableDeclarator { span, id, init };
@@ -196,7 +196,7 @@ pub fn read_binding_identifier(
 {
     let _ = kept;
     let name = needed_text(alloc, At::of_row(number, 2), row, "name")?;
-    unread(At::of_row(number, 3), row, "symbol")?;
+    not_given(At::of_row(number, 3), row, "symbol")?;
     let node = BindingIdentifier { span, name };
     Ok(Row::BindingPattern(BindingPattern::BindingIdentifier(Box::new(alloc, node)?)))
 }

@@ -1,11 +1,12 @@
 // Fields that hold the value of a string.
-ghost use Rattle.std.specs.Prelude.{◌≡◌, [], ◌∷◌, true, Ok, map};
+ghost use Rattle.std.specs.Prelude.{◌≡◌, ◌∷◌, true, Ok, map};
 ghost use Rattle.serde_json.specs.View.{view};
 ghost use Rattle.jsgen_syntax.specs.Units.{js_units};
-ghost use Rattle.jsgen_tree.specs.Tree.{units as units_atom};
+ghost use Rattle.jsgen_tree.specs.Tree.{no_value, units as units_atom};
 ghost use Rattle.jsgen_tree.specs.Table.{units};
 ghost use Rattle.jsgen_rows.specs.Job.{Same};
-ghost use Rattle.jsgen_rows.specs.Values.{field, unit_in, units_listed, units_in, values_in};
+ghost use Rattle.jsgen_rows.specs.Reads.{read_value};
+ghost use Rattle.jsgen_rows.specs.Values.{field, unit_in, units_listed, units_in};
 
 use crate::values::{items_in, needed_value};
 use crate::{At, InputFault};
@@ -50,9 +51,9 @@ fn units_in(alloc: Global, at: At, value: &Value) -> Result<JsStr, InputFault>
     Ok(JsStr::from_units(alloc, units.as_slice())?)
 }
 
-#[tactic(auto, unfolding(crate::specs::Values::values_in))]
+#[tactic(auto, unfolding(crate::specs::Reads::read_value))]
 pub fn needed_units(alloc: Global, at: At, row: &Value, name: &str) -> Result<JsStr, InputFault>
-    ensures { Same (λ s. units_atom (js_units s) ∷ []) result (values_in at true units (field name.now (view row.now))) }
+    ensures { Same (λ s. units_atom (js_units s)) result (read_value at true no_value units (field name.now (view row.now))) }
 {
     let value = needed_value(at, row, name)?;
     units_in(alloc, at, value)

@@ -1,14 +1,15 @@
 // What stands in a field by itself.
-ghost use Rattle.std.specs.Prelude.{◌≡◌, [], ◌∷◌, Some, true, false, map, option_map};
+ghost use Rattle.std.specs.Prelude.{◌≡◌, [], Some, true, false, map, option_map};
 ghost use Rattle.std.specs.Str.{bytes_eq};
 ghost use Rattle.serde_json.specs.View.{view};
 ghost use Rattle.jsgen_tree.specs.Rows.{characters};
-ghost use Rattle.jsgen_tree.specs.Tree.{text as text_atom, digits as digits_atom, flag as flag_atom};
-ghost use Rattle.jsgen_tree.specs.Table.{text, digits, flag, unread};
+ghost use Rattle.jsgen_tree.specs.Tree.{no_value, text as text_atom, digits as digits_atom, flag as flag_atom};
+ghost use Rattle.jsgen_tree.specs.Table.{text, digits, flag};
 ghost use Rattle.jsgen_rows.specs.Job.{Same};
 ghost use Rattle.serde_json.specs.Find.{as_bool};
 ghost use Rattle.jsgen_rows.specs.declared.InputFault.TheVariants.{Wrong};
-ghost use Rattle.jsgen_rows.specs.Values.{or_fault, field, field_in, not_given, text_in, items_in, starts_plainly, decimal_number, digits_in, value_in, values_in, type_of, span_of, offset_in, offsets};
+ghost use Rattle.jsgen_rows.specs.Reads.{read_value};
+ghost use Rattle.jsgen_rows.specs.Values.{or_fault, field, field_in, not_given, text_in, items_in, starts_plainly, decimal_number, digits_in, value_in, type_of, span_of, offset_in, offsets};
 
 use crate::floats::holds_float;
 use crate::names::type_by_name;
@@ -56,22 +57,15 @@ pub fn needed_value<'v>(at: At, row: &'v Value, name: &str) -> Result<&'v Value,
     Ok(value)
 }
 
-/// A field of the head that isn't read yet.
-pub fn not_given(at: At, job: &Value, name: &str) -> Result<(), InputFault>
-    ensures { Same (λ u. u) result (not_given at (field name.now (view job.now))) }
+/// What isn't read yet may not be given.
+#[tactic(auto, unfolding(crate::specs::Values::not_given))]
+pub fn not_given(at: At, object: &Value, name: &str) -> Result<(), InputFault>
+    ensures { Same (λ u. u) result (not_given at (field name.now (view object.now))) }
 {
-    match present(job, name) {
+    match present(object, name) {
         Some(_) => Err(InputFault::Wrong(at)),
         None => Ok(()),
     }
-}
-
-/// A field of a row that isn't read yet.
-#[tactic(auto, unfolding(crate::specs::Values::values_in))]
-pub fn unread(at: At, row: &Value, name: &str) -> Result<(), InputFault>
-    ensures { Same (λ u. []) result (values_in at false unread (field name.now (view row.now))) }
-{
-    not_given(at, row, name)
 }
 
 pub fn text_in(at: At, value: &Value) -> Result<&str, InputFault>
@@ -146,18 +140,18 @@ fn no_text(alloc: Global) -> String
     String::new(alloc)
 }
 
-#[tactic(auto, unfolding(crate::specs::Values::values_in))]
+#[tactic(auto, unfolding(crate::specs::Reads::read_value))]
 pub fn needed_text(alloc: Global, at: At, row: &Value, name: &str) -> Result<String, InputFault>
-    ensures { Same (λ s. text_atom (characters s) ∷ []) result (values_in at true text (field name.now (view row.now))) }
+    ensures { Same (λ s. text_atom (characters s)) result (read_value at true no_value text (field name.now (view row.now))) }
 {
     let value = needed_value(at, row, name)?;
     text_value(alloc, at, value)
 }
 
 /// A text that is empty where it is absent.
-#[tactic(auto, unfolding(crate::specs::Values::values_in))]
+#[tactic(auto, unfolding(crate::specs::Reads::read_value))]
 pub fn optional_text(alloc: Global, at: At, row: &Value, name: &str) -> Result<String, InputFault>
-    ensures { Same (λ s. text_atom (characters s) ∷ []) result (values_in at false text (field name.now (view row.now))) }
+    ensures { Same (λ s. text_atom (characters s)) result (read_value at false (text_atom []) text (field name.now (view row.now))) }
 {
     match optional_value(at, row, name)? {
         Some(value) => text_value(alloc, at, value),
@@ -165,9 +159,9 @@ pub fn optional_text(alloc: Global, at: At, row: &Value, name: &str) -> Result<S
     }
 }
 
-#[tactic(auto, unfolding(crate::specs::Values::values_in))]
+#[tactic(auto, unfolding(crate::specs::Reads::read_value))]
 pub fn needed_digits(at: At, row: &Value, name: &str) -> Result<u128, InputFault>
-    ensures { Same (λ n. digits_atom n ∷ []) result (values_in at true digits (field name.now (view row.now))) }
+    ensures { Same (λ n. digits_atom n) result (read_value at true no_value digits (field name.now (view row.now))) }
 {
     let value = needed_value(at, row, name)?;
     digits_in(at, value)
@@ -183,9 +177,9 @@ fn flag_in(at: At, value: &Value) -> Result<bool, InputFault>
 }
 
 /// A flag that is false where it is absent.
-#[tactic(auto, unfolding(crate::specs::Values::values_in))]
+#[tactic(auto, unfolding(crate::specs::Reads::read_value))]
 pub fn optional_flag(at: At, row: &Value, name: &str) -> Result<bool, InputFault>
-    ensures { Same (λ b. flag_atom b ∷ []) result (values_in at false flag (field name.now (view row.now))) }
+    ensures { Same (λ b. flag_atom b) result (read_value at false (flag_atom false) flag (field name.now (view row.now))) }
 {
     match optional_value(at, row, name)? {
         Some(value) => flag_in(at, value),

@@ -1,10 +1,11 @@
 // Fields that hold a word.
-ghost use Rattle.std.specs.Prelude.{◌≡◌, [], ◌∷◌, true, option_map};
+ghost use Rattle.std.specs.Prelude.{◌≡◌, true, IfOk, option_map, codes};
 ghost use Rattle.serde_json.specs.View.{view};
-ghost use Rattle.jsgen_tree.specs.Tree.{source_kind, declaration_kind, numeric_kind, binary_operator, logical_operator, Whole};
+ghost use Rattle.jsgen_tree.specs.Tree.{no_value, source_kind, declaration_kind, numeric_kind, binary_operator, logical_operator, Whole};
 ghost use Rattle.jsgen_tree.specs.Table.{word, source_kind_words, declaration_kind_words, numeric_kind_words, binary_operator_words, logical_operator_words};
 ghost use Rattle.jsgen_rows.specs.Job.{Same};
-ghost use Rattle.jsgen_rows.specs.Values.{field, values_in, word_meaning, words_of_length};
+ghost use Rattle.jsgen_rows.specs.Reads.{read_value};
+ghost use Rattle.jsgen_rows.specs.Values.{field, is_of_kind, word_meaning, words_of_length};
 
 use crate::values::{needed_value, text_in};
 use crate::{At, InputFault};
@@ -12,10 +13,10 @@ use jsgen_syntax::{BinaryOperator, LogicalOperator, SourceKind};
 use jsgen_tree::VariableDeclarationKind;
 use serde_json::Value;
 
-#[tactic(auto, unfolding(crate::specs::Values::values_in))]
+#[tactic(auto, unfolding(crate::specs::Reads::read_value))]
 pub fn needed_source_kind(at: At, row: &Value, name: &str) -> Result<SourceKind, InputFault>
-    ensures { Same (λ k. source_kind k ∷ []) result
-        (values_in at true (word source_kind_words) (field name.now (view row.now))) }
+    ensures { Same (λ k. source_kind k) result
+        (read_value at true no_value (word source_kind_words) (field name.now (view row.now))) }
 {
     let value = needed_value(at, row, name)?;
     match text_in(at, value)? {
@@ -24,14 +25,14 @@ pub fn needed_source_kind(at: At, row: &Value, name: &str) -> Result<SourceKind,
     }
 }
 
-#[tactic(auto, unfolding(crate::specs::Values::values_in))]
+#[tactic(auto, unfolding(crate::specs::Reads::read_value))]
 pub fn needed_declaration_kind(
     at: At,
     row: &Value,
     name: &str,
 ) -> Result<VariableDeclarationKind, InputFault>
-    ensures { Same (λ k. declaration_kind k ∷ []) result
-        (values_in at true (word declaration_kind_words) (field name.now (view row.now))) }
+    ensures { Same (λ k. declaration_kind k) result
+        (read_value at true no_value (word declaration_kind_words) (field name.now (view row.now))) }
 {
     let value = needed_value(at, row, name)?;
     match text_in(at, value)? {
@@ -40,13 +41,14 @@ pub fn needed_declaration_kind(
     }
 }
 
-/// Numbers have one kind yet.
-#[tactic(auto, unfolding(crate::specs::Values::values_in))]
-pub fn needed_numeric_kind(at: At, row: &Value, name: &str) -> Result<(), InputFault>
-    ensures { Same (λ k. numeric_kind Whole ∷ []) result
-        (values_in at true (word numeric_kind_words) (field name.now (view row.now))) }
+/// The kind of a number, of which there is one yet.
+#[tactic(auto, unfolding(crate::specs::Reads::read_value))]
+pub fn needed_numeric_kind(at: At, row: &Value) -> Result<(), InputFault>
+    ensures reads { Same (λ k. numeric_kind Whole) result
+        (read_value at true no_value (word numeric_kind_words) (field (codes "kind") (view row.now))) }
+    ensures whole { IfOk result (λ k. is_of_kind (codes "whole") (view row.now) ≡ true) }
 {
-    let value = needed_value(at, row, name)?;
+    let value = needed_value(at, row, "kind")?;
     match text_in(at, value)? {
         "whole" => Ok(()),
         _ => Err(InputFault::Wrong(at)),
@@ -121,10 +123,10 @@ fn binary_operator_by_word(word: &str) -> Option<BinaryOperator>
     }
 }
 
-#[tactic(auto, unfolding(crate::specs::Values::values_in))]
+#[tactic(auto, unfolding(crate::specs::Reads::read_value))]
 pub fn needed_binary_operator(at: At, row: &Value, name: &str) -> Result<BinaryOperator, InputFault>
-    ensures { Same (λ o. binary_operator o ∷ []) result
-        (values_in at true (word binary_operator_words) (field name.now (view row.now))) }
+    ensures { Same (λ o. binary_operator o) result
+        (read_value at true no_value (word binary_operator_words) (field name.now (view row.now))) }
 {
     let value = needed_value(at, row, name)?;
     match binary_operator_by_word(text_in(at, value)?) {
@@ -133,14 +135,14 @@ pub fn needed_binary_operator(at: At, row: &Value, name: &str) -> Result<BinaryO
     }
 }
 
-#[tactic(auto, unfolding(crate::specs::Values::values_in))]
+#[tactic(auto, unfolding(crate::specs::Reads::read_value))]
 pub fn needed_logical_operator(
     at: At,
     row: &Value,
     name: &str,
 ) -> Result<LogicalOperator, InputFault>
-    ensures { Same (λ o. logical_operator o ∷ []) result
-        (values_in at true (word logical_operator_words) (field name.now (view row.now))) }
+    ensures { Same (λ o. logical_operator o) result
+        (read_value at true no_value (word logical_operator_words) (field name.now (view row.now))) }
 {
     let value = needed_value(at, row, name)?;
     match text_in(at, value)? {
