@@ -1,3 +1,4 @@
 pub mod Declarators
 pub mod Heights
 pub mod Validity
+pub mod Verdicts

@@ -1,12 +1,12 @@
-use Rattle.std.proofs.Common.{◌≡◌, [], ◌∷◌, map, drop}
+use Rattle.std.proofs.Common.{◌≡◌, map, drop}
 use Rattle.jsgen_tree.specs.Tree.{trees}
 use Rattle.jsgen_tree.specs.Rows.{in_statement}
 use Rattle.jsgen_tree.specs.declared.types.NodeSet.TheVariants as sets
-use Rattle.jsgen_model.specs.Valid.{in_trees}
+use Rattle.jsgen_check.specs.Verdict.{children_verdict}
 use Rattle.jsgen_check.proofs.statements.check_statements.Given as goal
 
--- what the statements left break is what all of them break
+-- what the statements left are judged as all of them are
 abbrev pub invariant-loop-statement : goal.invariant-loop-statement
 invariant-loop-statement g l =
-    let faults = λ (ss : _). in_trees (sets.Statement ∷ []) (trees (map (in_statement g.N.CheckNode.plain) ss)) in
-    faults (drop l.statement-index l.statements) ≡ faults l.statements
+    let found = λ (ss : _). children_verdict l.around sets.Statement (trees (map (in_statement g.N.CheckNode.plain) ss)) in
+    found (drop l.statement-index l.statements) ≡ found l.statements

@@ -1,0 +1,68 @@
+// Rules that a node keeps by its own values, whatever stands below it.
+#![tactic(auto, unfolding(crate::specs::Verdict::verdict))]
+
+ghost use Rattle.std.specs.Prelude.{◌≡◌};
+ghost use Rattle.std.specs.Str.{chars};
+ghost use Rattle.jsgen_syntax.specs.Name.{is_free_name};
+ghost use Rattle.jsgen_model.specs.Valid.{span_faults, name_faults, written_name_faults, directive_faults, source_faults};
+ghost use Rattle.jsgen_check.specs.Verdict.{verdict};
+
+use jsgen_model::TreeFault;
+use jsgen_syntax::{Quote, Span, is_name, is_reserved, is_strict_reserved};
+use jsgen_text::spells_string;
+
+pub fn check_span(span: Span) -> Result<(), TreeFault>
+    ensures { result ≡ verdict (span_faults span) }
+{
+    if span.end < span.start {
+        return Err(TreeFault::Span { start: span.start });
+    }
+    Ok(())
+}
+
+#[tactic(auto, using(crate::proofs::Validity::free_names))]
+fn is_free_name(name: &str) -> bool
+    ensures { result ≡ is_free_name (chars name.now) }
+{
+    is_name(name) && !is_reserved(name) && !is_strict_reserved(name)
+}
+
+/// A name that is looked up or bound is one, and isn't reserved.
+pub fn check_name(name: &str, span: Span) -> Result<(), TreeFault>
+    ensures { result ≡ verdict (name_faults span (chars name.now)) }
+{
+    if !is_free_name(name) {
+        return Err(TreeFault::Name { start: span.start });
+    }
+    Ok(())
+}
+
+/// A member's name is one, reserved or not.
+pub fn check_written_name(name: &str, span: Span) -> Result<(), TreeFault>
+    ensures { result ≡ verdict (written_name_faults span (chars name.now)) }
+{
+    if !is_name(name) {
+        return Err(TreeFault::Name { start: span.start });
+    }
+    Ok(())
+}
+
+/// A directive's raw text spells a string, in the one quote or the other.
+pub fn check_raw(raw: &str, span: Span) -> Result<(), TreeFault>
+    ensures { result ≡ verdict (directive_faults span (chars raw.now)) }
+{
+    if !spells_string(Quote::Double, raw) && !spells_string(Quote::Single, raw) {
+        return Err(TreeFault::Literal { start: span.start });
+    }
+    Ok(())
+}
+
+#[tactic(auto, using(crate::proofs::Validity::lengths), unfolding(crate::specs::Verdict::verdict))]
+pub fn check_source(source: &str, span: Span) -> Result<(), TreeFault>
+    ensures { result ≡ verdict (source_faults span (chars source.now)) }
+{
+    if source.len() > 4_294_967_295 {
+        return Err(TreeFault::Span { start: span.start });
+    }
+    Ok(())
+}
