@@ -1,5 +1,5 @@
 -- Operations, from the steps that print them.
-use Rattle.std.proofs.Common.{◌≡◌, Bool, true, false, Result, OnOk, refl, ap, ◌∙◌}
+use Rattle.std.proofs.Common.{◌≡◌, Bool, true, false, Result, refl, ap, ◌∙◌}
 use Rattle.jsgen_syntax.specs.declared.precedence.Precedence.{Precedence}
 use Rattle.jsgen_syntax.specs.declared.operator.BinaryOperator.{BinaryOperator}
 use Rattle.jsgen_syntax.specs.declared.operator.BinaryOperator.TheVariants as operators
@@ -13,7 +13,9 @@ use Rattle.jsgen_model.specs.Spell as spells
 use Rattle.jsgen_model.specs.Spell.{spell, left_of, behind, within, operation, operator_item, logical_item}
 use Rattle.jsgen_nodes.specs.declared.place.Place.{Place}
 use Rattle.jsgen_nodes.specs.Place.{settings_of, context_of, place_of, place_within}
-use Rattle.jsgen_printer.proofs.Texts.{same_pen}
+use Rattle.jsgen_model.specs.Printing.{Reaches, IsPrefix}
+use Rattle.jsgen_printer.proofs.Prefixes.{prefix_append}
+use Rattle.jsgen_printer.proofs.Stops.{reaches_last, layout_more, appends}
 
 -- nothing begins behind an operator
 pub operator_nowhere : (o : BinaryOperator) (pen : Pen) → (layout (operator_item o) pen).start ≡ nowhere
@@ -29,24 +31,26 @@ still_nowhere true = refl
 still_nowhere false = refl
 
 -- the operands and the operator between them, one after another
-pub operation_laid : {T E : Type 0} (r : Result T E) (z a b c d e : Pen) (item : Items) (left right : Tree) (place lp rp : Place) (ll rl : Precedence) → ((pen : Pen) → (layout item pen).start ≡ nowhere) → lp ≡ record { settings = place.settings; level = ll; context = place.context; in_list = false; left_operand = true } → rp ≡ record { settings = place.settings; level = rl; context = place.context; in_list = false; left_operand = false } → b ≡ layout (spell left (place_of lp a)) a → c ≡ layout soft_space b → d ≡ layout item c → e ≡ layout soft_space d → OnOk r (z ≡ layout (spell right (place_of rp e)) e) → OnOk r (z ≡ layout (spell left (left_of ll (place_of place a)) ⊕ (soft_space ⊕ (item ⊕ (soft_space ⊕ spell right (behind rl (place_of place a)))))) a)
+pub operation_laid : {T E : Type 0} (r : Result T E) (z a b c d e : Pen) (item : Items) (left right : Tree) (place lp rp : Place) (ll rl : Precedence) → ((pen : Pen) → (layout item pen).start ≡ nowhere) → lp ≡ record { settings = place.settings; level = ll; context = place.context; in_list = false; left_operand = true } → rp ≡ record { settings = place.settings; level = rl; context = place.context; in_list = false; left_operand = false } → b ≡ layout (spell left (place_of lp a)) a → c ≡ layout soft_space b → d ≡ layout item c → e ≡ layout soft_space d → Reaches r e z (layout (spell right (place_of rp e)) e) → Reaches r a z (layout (spell left (left_of ll (place_of place a)) ⊕ (soft_space ⊕ (item ⊕ (soft_space ⊕ spell right (behind rl (place_of place a)))))) a)
 operation_laid r z a b c d e item left right place lp rp ll rl none at_left at_right hb hc hd he h =
     let start : e.start ≡ nowhere = ap (λ p. p.start) he ∙ ap (λ s. unless_printed (not d.style.minified) s) (ap (λ p. p.start) hd ∙ none c) ∙ still_nowhere (not d.style.minified) in
     let behind_it : place_of rp e ≡ behind rl (place_of place a) = ap (λ q. place_of q e) at_right ∙ ap (λ s. record { settings = settings_of place.settings; level = rl; context = context_of place.context; start = s; in_list = false; left_operand = false }) start in
     let before : e ≡ layout soft_space (layout item (layout soft_space (layout (spell left (left_of ll (place_of place a))) a))) = he ∙ ap (λ p. layout soft_space p) (hd ∙ ap (λ p. layout item p) (hc ∙ ap (λ p. layout soft_space p) (hb ∙ ap (λ q. layout (spell left (place_of q a)) a) at_left))) in
-    same_pen r z _ _ h (ap (λ q. layout (spell right q) e) behind_it ∙ ap (λ p. layout (spell right (behind rl (place_of place a))) p) before)
+    let kept : IsPrefix a.code e.code = rw (he, hd, hc, hb) (search appends) in
+    reaches_last r a e z _ _ h kept (ap (λ q. layout (spell right q) e) behind_it ∙ ap (λ p. layout (spell right (behind rl (place_of place a))) p) before)
 
 within_printed : (test : Bool) (place : Place) (pen : Pen) → place_of (place_within test place) (written_if test (opening Round) pen) ≡ within test (place_of place pen)
 within_printed true place pen = refl
 within_printed false place pen = refl
 
 -- items in parentheses where the test holds
-pub wrapped_laid : {T E : Type 0} (r : Result T E) (z a b c : Pen) (test wraps : Bool) (place inner : Place) (items : spells.Place → Items) → test ≡ wraps → inner ≡ place_within test place → b ≡ written_if test (opening Round) a → c ≡ layout (items (place_of inner b)) b → OnOk r (z ≡ written_if test (closing Round) c) → OnOk r (z ≡ layout (wrapped wraps (items (within wraps (place_of place a)))) a)
+pub wrapped_laid : {T E : Type 0} (r : Result T E) (z a b c : Pen) (test wraps : Bool) (place inner : Place) (items : spells.Place → Items) → test ≡ wraps → inner ≡ place_within test place → b ≡ written_if test (opening Round) a → c ≡ layout (items (place_of inner b)) b → Reaches r c z (written_if test (closing Round) c) → Reaches r a z (layout (wrapped wraps (items (within wraps (place_of place a)))) a)
 wrapped_laid r z a b c test wraps place inner items ht hi hb hc h =
     let at_inner : place_of inner b ≡ within test (place_of place a) = ap (λ q. place_of q b) hi ∙ ap (λ p. place_of (place_within test place) p) hb ∙ within_printed test place a in
     let content : c ≡ layout (items (within test (place_of place a))) (written_if test (opening Round) a) = hc ∙ ap (λ q. layout (items q) b) at_inner ∙ ap (λ p. layout (items (within test (place_of place a))) p) hb in
-    same_pen r z _ _ h (ap (λ p. written_if test (closing Round) p) content ∙ ap (λ t. layout (wrapped t (items (within t (place_of place a)))) a) ht)
+    let kept : IsPrefix a.code c.code = rw hc (layout_more (items (place_of inner b)) b (rw hb (prefix_append a.code _))) in
+    reaches_last r a c z _ _ h kept (ap (λ p. written_if test (closing Round) p) content ∙ ap (λ t. layout (wrapped t (items (within t (place_of place a)))) a) ht)
 
 -- an operation, in parentheses where the test holds
-pub operation_wrapped : {T E : Type 0} (r : Result T E) (z a b c : Pen) (test wraps : Bool) (place inner : Place) (item : Items) (left right : spells.Place → Items) → test ≡ wraps → inner ≡ place_within test place → b ≡ written_if test (opening Round) a → c ≡ layout (left (place_of inner b) ⊕ (soft_space ⊕ (item ⊕ (soft_space ⊕ right (place_of inner b))))) b → OnOk r (z ≡ written_if test (closing Round) c) → OnOk r (z ≡ layout (operation wraps item (left (within wraps (place_of place a))) (right (within wraps (place_of place a)))) a)
+pub operation_wrapped : {T E : Type 0} (r : Result T E) (z a b c : Pen) (test wraps : Bool) (place inner : Place) (item : Items) (left right : spells.Place → Items) → test ≡ wraps → inner ≡ place_within test place → b ≡ written_if test (opening Round) a → c ≡ layout (left (place_of inner b) ⊕ (soft_space ⊕ (item ⊕ (soft_space ⊕ right (place_of inner b))))) b → Reaches r c z (written_if test (closing Round) c) → Reaches r a z (layout (operation wraps item (left (within wraps (place_of place a))) (right (within wraps (place_of place a)))) a)
 operation_wrapped r z a b c test wraps place inner item left right ht hi hb hc h = wrapped_laid r z a b c test wraps place inner (λ q. left q ⊕ (soft_space ⊕ (item ⊕ (soft_space ⊕ right q)))) ht hi hb hc h

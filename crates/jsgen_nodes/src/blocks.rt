@@ -1,5 +1,5 @@
 // Blocks, `if` and empty statements (ECMA-262, 14.2, 14.4 and 14.6), one function for each row.
-ghost use Rattle.std.specs.Prelude.{◌≡◌, OnOk, IfOk, map, option_map, codes};
+ghost use Rattle.std.specs.Prelude.{◌≡◌, IfOk, map, option_map, codes};
 ghost use Rattle.jsgen_syntax.specs.declared.precedence.Precedence.TheVariants.{Lowest};
 ghost use Rattle.jsgen_tree.specs.Tree.{trees, optional};
 ghost use Rattle.jsgen_tree.specs.Rows.{block_statement_row, if_statement_row, empty_statement_row, in_expression, in_statement};
@@ -7,6 +7,7 @@ ghost use Rattle.jsgen_model.specs.Punctuator.{semicolon, Brace, Round, opening}
 ghost use Rattle.jsgen_model.specs.Items.{◌⊕◌, nothing, word, punctuator, brackets, soft_space, soft_line, drop_semicolon};
 ghost use Rattle.jsgen_model.specs.Layout.{layout, written, other_end};
 ghost use Rattle.jsgen_model.specs.Spell.{spell, spell_statements, spell_alternate, braces, filled_braces, braces_end, body_end, is_given, in_brackets, among_statements};
+ghost use Rattle.jsgen_model.specs.Printing.{Reaches};
 ghost use Rattle.jsgen_printer.specs.Printer.{pen_of};
 ghost use Rattle.jsgen_nodes.specs.Place.{pen_after, settings_of};
 ghost use Rattle.jsgen_nodes.specs.Blocks.{braces_opened, braces_closed, consequent_of, alternate_of, test_ended};
@@ -25,7 +26,7 @@ pub fn print_block_statement<N: PrintNode>(
     p: &mut Printer,
     place: Place,
 ) -> Result<(), Memory>
-    ensures { OnOk result (pen_of p.new ≡ pen_after (block_statement_row N.plain node.now) place p.old) }
+    ensures { Reaches result (pen_of p.old) (pen_of p.new) (pen_after (block_statement_row N.plain node.now) place p.old) }
 {
     if place.in_list {
         p.print_indentation()?;
@@ -43,8 +44,7 @@ fn print_braces<N: PrintNode>(
     p: &mut Printer,
     settings: Settings,
 ) -> Result<(), Memory>
-    ensures { OnOk result (pen_of p.new
-        ≡ layout (braces (trees (map (in_statement N.plain) statements.now))
+    ensures { Reaches result (pen_of p.old) (pen_of p.new) (layout (braces (trees (map (in_statement N.plain) statements.now))
         (spell_statements (trees (map (in_statement N.plain) statements.now)) (settings_of settings))) (pen_of p.old)) }
 {
     if statements.is_empty() {
@@ -56,7 +56,7 @@ fn print_braces<N: PrintNode>(
 
 #[tactic(auto, unfolding(crate::specs::Place::pen_after))]
 fn print_empty_braces(p: &mut Printer) -> Result<(), Memory>
-    ensures { OnOk result (pen_of p.new ≡ layout (brackets Brace nothing ⊕ drop_semicolon) (pen_of p.old)) }
+    ensures { Reaches result (pen_of p.old) (pen_of p.new) (layout (brackets Brace nothing ⊕ drop_semicolon) (pen_of p.old)) }
 {
     p.print_opening(Bracket::Brace)?;
     p.print_closing(Bracket::Brace)?;
@@ -70,8 +70,7 @@ fn print_filled_braces<N: PrintNode>(
     p: &mut Printer,
     settings: Settings,
 ) -> Result<(), Memory>
-    ensures { OnOk result (pen_of p.new
-        ≡ layout (filled_braces (spell_statements (trees (map (in_statement N.plain) statements.now)) (settings_of settings))) (pen_of p.old)) }
+    ensures { Reaches result (pen_of p.old) (pen_of p.new) (layout (filled_braces (spell_statements (trees (map (in_statement N.plain) statements.now)) (settings_of settings))) (pen_of p.old)) }
 {
     let depth = open_braces(p)?;
     print_statements(statements, p, settings)?;
@@ -81,7 +80,7 @@ fn print_filled_braces<N: PrintNode>(
 // The opening brace, behind which the code is one level deeper; gives the level before.
 fn open_braces(p: &mut Printer) -> Result<u32, Memory>
     ensures level { IfOk result (λ depth. depth ≡ (pen_of p.old).depth) }
-    ensures pen { OnOk result (pen_of p.new ≡ braces_opened (pen_of p.old)) }
+    ensures pen { Reaches result (pen_of p.old) (pen_of p.new) (braces_opened (pen_of p.old)) }
 {
     p.print_opening(Bracket::Brace)?;
     p.print_soft_line()?;
@@ -90,7 +89,7 @@ fn open_braces(p: &mut Printer) -> Result<u32, Memory>
 
 // The closing brace, at the level before.
 fn close_braces(p: &mut Printer, depth: u32) -> Result<(), Memory>
-    ensures { OnOk result (pen_of p.new ≡ braces_closed depth (pen_of p.old)) }
+    ensures { Reaches result (pen_of p.old) (pen_of p.new) (braces_closed depth (pen_of p.old)) }
 {
     p.set_depth(depth);
     p.print_indentation()?;
@@ -105,7 +104,7 @@ pub fn print_if_statement<N: PrintNode>(
     p: &mut Printer,
     place: Place,
 ) -> Result<(), Memory>
-    ensures { OnOk result (pen_of p.new ≡ pen_after (if_statement_row N.plain node.now) place p.old) }
+    ensures { Reaches result (pen_of p.old) (pen_of p.new) (pen_after (if_statement_row N.plain node.now) place p.old) }
 {
     if place.in_list {
         p.print_indentation()?;
@@ -122,8 +121,7 @@ fn print_if<N: PrintNode>(
     p: &mut Printer,
     settings: Settings,
 ) -> Result<(), Memory>
-    ensures { OnOk result (pen_of p.new
-        ≡ layout (word (codes "if") ⊕ (soft_space ⊕ (brackets Round (spell (in_expression N.plain node.now.test) (in_brackets Lowest (among_statements (settings_of settings))))
+    ensures { Reaches result (pen_of p.old) (pen_of p.new) (layout (word (codes "if") ⊕ (soft_space ⊕ (brackets Round (spell (in_expression N.plain node.now.test) (in_brackets Lowest (among_statements (settings_of settings))))
         ⊕ (consequent_of (in_statement N.plain node.now.consequent) (settings_of settings) (is_given (optional (option_map (in_statement N.plain) node.now.alternate)))
         ⊕ spell_alternate (optional (option_map (in_statement N.plain) node.now.alternate)) (settings_of settings))))) (pen_of p.old)) }
 {
@@ -145,8 +143,7 @@ fn print_test<N: PrintNode>(
     p: &mut Printer,
     settings: Settings,
 ) -> Result<(), Memory>
-    ensures { OnOk result (pen_of p.new
-        ≡ layout (spell (in_expression N.plain test.now) (in_brackets Lowest (among_statements (settings_of settings))))
+    ensures { Reaches result (pen_of p.old) (pen_of p.new) (layout (spell (in_expression N.plain test.now) (in_brackets Lowest (among_statements (settings_of settings))))
         (written (opening Round) other_end (layout soft_space (layout (word (codes "if")) (pen_of p.old))))) }
 {
     p.print_word("if")?;
@@ -164,8 +161,7 @@ fn print_consequent<N: PrintNode>(
     settings: Settings,
     else_follows: bool,
 ) -> Result<(), Memory>
-    ensures { OnOk result (pen_of p.new
-        ≡ layout (consequent_of (N.plain consequent.now) (settings_of settings) else_follows) (test_ended (pen_of p.old))) }
+    ensures { Reaches result (pen_of p.old) (pen_of p.new) (layout (consequent_of (N.plain consequent.now) (settings_of settings) else_follows) (test_ended (pen_of p.old))) }
 {
     p.print_closing(Bracket::Round)?;
     if consequent.ends_open() {
@@ -194,8 +190,7 @@ fn print_braced<N: PrintNode>(
     settings: Settings,
     else_follows: bool,
 ) -> Result<(), Memory>
-    ensures { OnOk result (pen_of p.new
-        ≡ layout (soft_space ⊕ (filled_braces (spell (N.plain consequent.now) (among_statements (settings_of settings))) ⊕ braces_end else_follows))
+    ensures { Reaches result (pen_of p.old) (pen_of p.new) (layout (soft_space ⊕ (filled_braces (spell (N.plain consequent.now) (among_statements (settings_of settings))) ⊕ braces_end else_follows))
         (pen_of p.old)) }
 {
     p.print_soft_space()?;
@@ -207,8 +202,7 @@ fn print_braced<N: PrintNode>(
 
 #[tactic(auto, unfolding(crate::specs::Place::pen_after))]
 fn print_empty_body(p: &mut Printer, else_follows: bool) -> Result<(), Memory>
-    ensures { OnOk result (pen_of p.new
-        ≡ layout (punctuator semicolon ⊕ (soft_line ⊕ body_end else_follows)) (pen_of p.old)) }
+    ensures { Reaches result (pen_of p.old) (pen_of p.new) (layout (punctuator semicolon ⊕ (soft_line ⊕ body_end else_follows)) (pen_of p.old)) }
 {
     p.print_semicolon()?;
     p.print_soft_line()?;
@@ -216,7 +210,7 @@ fn print_empty_body(p: &mut Printer, else_follows: bool) -> Result<(), Memory>
 }
 
 fn print_braces_end(p: &mut Printer, else_follows: bool) -> Result<(), Memory>
-    ensures { OnOk result (pen_of p.new ≡ layout (braces_end else_follows) (pen_of p.old)) }
+    ensures { Reaches result (pen_of p.old) (pen_of p.new) (layout (braces_end else_follows) (pen_of p.old)) }
 {
     if else_follows {
         p.print_soft_space()
@@ -226,7 +220,7 @@ fn print_braces_end(p: &mut Printer, else_follows: bool) -> Result<(), Memory>
 }
 
 fn print_body_end(p: &mut Printer, else_follows: bool) -> Result<(), Memory>
-    ensures { OnOk result (pen_of p.new ≡ layout (body_end else_follows) (pen_of p.old)) }
+    ensures { Reaches result (pen_of p.old) (pen_of p.new) (layout (body_end else_follows) (pen_of p.old)) }
 {
     if else_follows {
         p.print_indentation()
@@ -241,8 +235,7 @@ fn print_alternate<N: PrintNode>(
     p: &mut Printer,
     settings: Settings,
 ) -> Result<(), Memory>
-    ensures { OnOk result (pen_of p.new
-        ≡ layout (spell_alternate (optional (option_map (in_statement N.plain) alternate.now)) (settings_of settings)) (pen_of p.old)) }
+    ensures { Reaches result (pen_of p.old) (pen_of p.new) (layout (spell_alternate (optional (option_map (in_statement N.plain) alternate.now)) (settings_of settings)) (pen_of p.old)) }
 {
     match alternate {
         Some(alternate) => {
@@ -259,8 +252,7 @@ fn print_else<N: PrintNode>(
     p: &mut Printer,
     settings: Settings,
 ) -> Result<(), Memory>
-    ensures { OnOk result (pen_of p.new
-        ≡ layout (word (codes "else") ⊕ alternate_of (N.plain alternate.now) (settings_of settings)) (pen_of p.old)) }
+    ensures { Reaches result (pen_of p.old) (pen_of p.new) (layout (word (codes "else") ⊕ alternate_of (N.plain alternate.now) (settings_of settings)) (pen_of p.old)) }
 {
     p.print_word("else")?;
     match alternate.shape() {
@@ -290,7 +282,7 @@ pub fn print_empty_statement(
     p: &mut Printer,
     place: Place,
 ) -> Result<(), Memory>
-    ensures { OnOk result (pen_of p.new ≡ pen_after (empty_statement_row node.now) place p.old) }
+    ensures { Reaches result (pen_of p.old) (pen_of p.new) (pen_after (empty_statement_row node.now) place p.old) }
 {
     let _ = node;
     let _ = place;

@@ -1,10 +1,11 @@
 // Expressions (ECMA-262, clause 13), one function for each row.
-ghost use Rattle.std.specs.Prelude.{◌≡◌, OnOk};
+ghost use Rattle.std.specs.Prelude.{◌≡◌};
 ghost use Rattle.jsgen_syntax.specs.Operator.{logical_level, logical_lower_level};
 ghost use Rattle.jsgen_tree.specs.Rows.{identifier_reference_row, numeric_literal_row, string_literal_row, parenthesized_expression_row, binary_expression_row, logical_expression_row, in_expression};
 ghost use Rattle.jsgen_model.specs.Items.{◌⊕◌, soft_space};
 ghost use Rattle.jsgen_model.specs.Layout.{layout};
 ghost use Rattle.jsgen_model.specs.Spell.{spell, left_of, behind, left_level, right_level, unmixed, operator_item, logical_item};
+ghost use Rattle.jsgen_model.specs.Printing.{Reaches};
 ghost use Rattle.jsgen_printer.specs.Printer.{pen_of};
 ghost use Rattle.jsgen_nodes.specs.Place.{pen_after, place_of};
 
@@ -23,7 +24,7 @@ pub fn print_identifier_reference(
     p: &mut Printer,
     place: Place,
 ) -> Result<(), Memory>
-    ensures { OnOk result (pen_of p.new ≡ pen_after (identifier_reference_row node.now) place p.old) }
+    ensures { Reaches result (pen_of p.old) (pen_of p.new) (pen_after (identifier_reference_row node.now) place p.old) }
 {
     let _ = place;
     p.print_name(node.name.as_str())
@@ -35,7 +36,7 @@ pub fn print_numeric_literal(
     p: &mut Printer,
     place: Place,
 ) -> Result<(), Memory>
-    ensures { OnOk result (pen_of p.new ≡ pen_after (numeric_literal_row node.now) place p.old) }
+    ensures { Reaches result (pen_of p.old) (pen_of p.new) (pen_after (numeric_literal_row node.now) place p.old) }
 {
     let _ = place;
     match node.value {
@@ -49,7 +50,7 @@ pub fn print_string_literal(
     p: &mut Printer,
     place: Place,
 ) -> Result<(), Memory>
-    ensures { OnOk result (pen_of p.new ≡ pen_after (string_literal_row node.now) place p.old) }
+    ensures { Reaches result (pen_of p.old) (pen_of p.new) (pen_after (string_literal_row node.now) place p.old) }
 {
     let _ = place;
     p.print_string(&node.value, true)
@@ -62,8 +63,7 @@ pub fn print_parenthesized_expression<N: PrintNode>(
     p: &mut Printer,
     place: Place,
 ) -> Result<(), Memory>
-    ensures { OnOk result (pen_of p.new
-        ≡ pen_after (parenthesized_expression_row N.plain node.now) place p.old) }
+    ensures { Reaches result (pen_of p.old) (pen_of p.new) (pen_after (parenthesized_expression_row N.plain node.now) place p.old) }
 {
     node.expression.get().print(p, place)
 }
@@ -74,7 +74,7 @@ pub fn print_binary_expression<N: PrintNode>(
     p: &mut Printer,
     place: Place,
 ) -> Result<(), Memory>
-    ensures { OnOk result (pen_of p.new ≡ pen_after (binary_expression_row N.plain node.now) place p.old) }
+    ensures { Reaches result (pen_of p.old) (pen_of p.new) (pen_after (binary_expression_row N.plain node.now) place p.old) }
 {
     let wrap = place.wraps_binary(node.operator);
     p.print_opening_if(wrap)?;
@@ -89,8 +89,7 @@ fn print_binary_operation<N: PrintNode>(
     p: &mut Printer,
     place: Place,
 ) -> Result<(), Memory>
-    ensures { OnOk result (pen_of p.new
-        ≡ layout (spell (in_expression N.plain node.now.left)
+    ensures { Reaches result (pen_of p.old) (pen_of p.new) (layout (spell (in_expression N.plain node.now.left)
         (left_of (left_level node.now.operator (in_expression N.plain node.now.left)) (place_of place (pen_of p.old)))
         ⊕ (soft_space ⊕ (operator_item node.now.operator ⊕ (soft_space
         ⊕ spell (in_expression N.plain node.now.right)
@@ -111,7 +110,7 @@ pub fn print_logical_expression<N: PrintNode>(
     p: &mut Printer,
     place: Place,
 ) -> Result<(), Memory>
-    ensures { OnOk result (pen_of p.new ≡ pen_after (logical_expression_row N.plain node.now) place p.old) }
+    ensures { Reaches result (pen_of p.old) (pen_of p.new) (pen_after (logical_expression_row N.plain node.now) place p.old) }
 {
     let wrap = place.wraps_logical(node.operator);
     p.print_opening_if(wrap)?;
@@ -126,8 +125,7 @@ fn print_logical_operation<N: PrintNode>(
     p: &mut Printer,
     place: Place,
 ) -> Result<(), Memory>
-    ensures { OnOk result (pen_of p.new
-        ≡ layout (spell (in_expression N.plain node.now.left)
+    ensures { Reaches result (pen_of p.old) (pen_of p.new) (layout (spell (in_expression N.plain node.now.left)
         (left_of (unmixed node.now.operator (in_expression N.plain node.now.left) (logical_lower_level node.now.operator))
         (place_of place (pen_of p.old)))
         ⊕ (soft_space ⊕ (logical_item node.now.operator ⊕ (soft_space

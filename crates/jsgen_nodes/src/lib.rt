@@ -11,12 +11,13 @@ mod shapes;
 mod statements;
 mod strings;
 
-ghost use Rattle.std.specs.Prelude.{◌≡◌, OnOk, option_map};
+ghost use Rattle.std.specs.Prelude.{◌≡◌, option_map};
 ghost use Rattle.jsgen_syntax.specs.Units.{js_units};
 ghost use Rattle.jsgen_tree.specs.Tree.{Tree};
 ghost use Rattle.jsgen_tree.specs.Table.{without_parentheses, ends_open};
 ghost use Rattle.jsgen_tree.specs.Plain.{node_plain};
 ghost use Rattle.jsgen_model.specs.Spell.{string_in, string_statement, shape};
+ghost use Rattle.jsgen_model.specs.Printing.{Reaches};
 ghost use Rattle.jsgen_printer.specs.Printer.{pen_of};
 ghost use Rattle.jsgen_nodes.specs.Place.{pen_after, operand_of};
 ghost use Rattle.jsgen_nodes.specs.Blocks.{shape_of};
@@ -47,7 +48,7 @@ pub trait PrintNode {
     ghost plain: { Self → Tree };
 
     fn print(&self, p: &mut Printer, place: Place) -> Result<(), Memory>
-        ensures { OnOk result (pen_of p.new ≡ pen_after (plain self.now) place p.old) };
+        ensures { Reaches result (pen_of p.old) (pen_of p.new) (pen_after (plain self.now) place p.old) };
 
     /// What matters of it as an operand.
     fn operand(&self) -> Operand

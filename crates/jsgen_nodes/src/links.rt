@@ -1,5 +1,5 @@
 // Members and calls (ECMA-262, 13.3), one function for each row.
-ghost use Rattle.std.specs.Prelude.{◌≡◌, OnOk, map};
+ghost use Rattle.std.specs.Prelude.{◌≡◌, map};
 ghost use Rattle.jsgen_syntax.specs.declared.precedence.Precedence.TheVariants.{Comma};
 ghost use Rattle.jsgen_tree.specs.Tree.{trees};
 ghost use Rattle.jsgen_tree.specs.Rows.{characters, identifier_name_row, static_member_expression_row, computed_member_expression_row, call_expression_row, in_argument, in_expression};
@@ -7,6 +7,7 @@ ghost use Rattle.jsgen_model.specs.Punctuator.{Round};
 ghost use Rattle.jsgen_model.specs.Items.{◌⊕◌, brackets, member_dot, name};
 ghost use Rattle.jsgen_model.specs.Layout.{layout};
 ghost use Rattle.jsgen_model.specs.Spell.{spell, spell_list, spell_more, called, in_brackets, among_statements};
+ghost use Rattle.jsgen_model.specs.Printing.{Reaches};
 ghost use Rattle.jsgen_printer.specs.Printer.{pen_of};
 ghost use Rattle.jsgen_nodes.specs.Place.{pen_after, place_of, settings_of};
 
@@ -19,7 +20,7 @@ use jsgen_tree::{
 
 #[tactic(auto, unfolding(crate::specs::Place::pen_after))]
 fn print_identifier_name(node: &IdentifierName, p: &mut Printer, place: Place) -> Result<(), Memory>
-    ensures { OnOk result (pen_of p.new ≡ pen_after (identifier_name_row node.now) place p.old) }
+    ensures { Reaches result (pen_of p.old) (pen_of p.new) (pen_after (identifier_name_row node.now) place p.old) }
 {
     let _ = place;
     p.print_name(node.name.as_str())
@@ -28,7 +29,7 @@ fn print_identifier_name(node: &IdentifierName, p: &mut Printer, place: Place) -
 // Behind the object.
 #[tactic(auto, unfolding(crate::specs::Place::pen_after))]
 fn print_member_name(node: &IdentifierName, p: &mut Printer, place: Place) -> Result<(), Memory>
-    ensures { OnOk result (pen_of p.new ≡ layout (member_dot ⊕ name (characters node.now.name)) (pen_of p.old)) }
+    ensures { Reaches result (pen_of p.old) (pen_of p.new) (layout (member_dot ⊕ name (characters node.now.name)) (pen_of p.old)) }
 {
     p.print_member_dot()?;
     print_identifier_name(node, p, place)
@@ -40,8 +41,7 @@ pub fn print_static_member_expression<N: PrintNode>(
     p: &mut Printer,
     place: Place,
 ) -> Result<(), Memory>
-    ensures { OnOk result (pen_of p.new
-        ≡ pen_after (static_member_expression_row N.plain node.now) place p.old) }
+    ensures { Reaches result (pen_of p.old) (pen_of p.new) (pen_after (static_member_expression_row N.plain node.now) place p.old) }
 {
     node.object
         .get()
@@ -55,8 +55,7 @@ pub fn print_computed_member_expression<N: PrintNode>(
     p: &mut Printer,
     place: Place,
 ) -> Result<(), Memory>
-    ensures { OnOk result (pen_of p.new
-        ≡ pen_after (computed_member_expression_row N.plain node.now) place p.old) }
+    ensures { Reaches result (pen_of p.old) (pen_of p.new) (pen_after (computed_member_expression_row N.plain node.now) place p.old) }
 {
     node.object
         .get()
@@ -74,7 +73,7 @@ pub fn print_call_expression<N: PrintNode>(
     p: &mut Printer,
     place: Place,
 ) -> Result<(), Memory>
-    ensures { OnOk result (pen_of p.new ≡ pen_after (call_expression_row N.plain node.now) place p.old) }
+    ensures { Reaches result (pen_of p.old) (pen_of p.new) (pen_after (call_expression_row N.plain node.now) place p.old) }
 {
     let wrap = place.wraps_call();
     p.print_opening_if(wrap)?;
@@ -89,8 +88,7 @@ fn print_call<N: PrintNode>(
     p: &mut Printer,
     place: Place,
 ) -> Result<(), Memory>
-    ensures { OnOk result (pen_of p.new
-        ≡ layout (spell (in_expression N.plain node.now.callee) (called (place_of place (pen_of p.old)))
+    ensures { Reaches result (pen_of p.old) (pen_of p.new) (layout (spell (in_expression N.plain node.now.callee) (called (place_of place (pen_of p.old)))
         ⊕ brackets Round (spell_list (trees (map (in_argument N.plain) node.now.arguments.items)) (in_brackets Comma (place_of place (pen_of p.old)))))
         (pen_of p.old)) }
 {
@@ -104,8 +102,7 @@ fn print_arguments<N: PrintNode>(
     p: &mut Printer,
     settings: Settings,
 ) -> Result<(), Memory>
-    ensures { OnOk result (pen_of p.new
-        ≡ layout (brackets Round (spell_list (trees (map (in_argument N.plain) arguments.now)) (in_brackets Comma (among_statements (settings_of settings)))))
+    ensures { Reaches result (pen_of p.old) (pen_of p.new) (layout (brackets Round (spell_list (trees (map (in_argument N.plain) arguments.now)) (in_brackets Comma (among_statements (settings_of settings)))))
         (pen_of p.old)) }
 {
     p.print_opening(Bracket::Round)?;
@@ -122,7 +119,7 @@ fn print_argument<N: PrintNode>(
     p: &mut Printer,
     place: Place,
 ) -> Result<(), Memory>
-    ensures { OnOk result (pen_of p.new ≡ pen_after (in_argument N.plain argument.now) place p.old) }
+    ensures { Reaches result (pen_of p.old) (pen_of p.new) (pen_after (in_argument N.plain argument.now) place p.old) }
 {
     match argument {
         Argument::Expression(expression) => expression.get().print(p, place),
@@ -136,8 +133,7 @@ fn print_more_arguments<N: PrintNode>(
     p: &mut Printer,
     settings: Settings,
 ) -> Result<(), Memory>
-    ensures { OnOk result (pen_of p.new
-        ≡ layout (spell_more (trees (map (in_argument N.plain) arguments.now)) (in_brackets Comma (among_statements (settings_of settings)))) (pen_of p.old)) }
+    ensures { Reaches result (pen_of p.old) (pen_of p.new) (layout (spell_more (trees (map (in_argument N.plain) arguments.now)) (in_brackets Comma (among_statements (settings_of settings)))) (pen_of p.old)) }
 {
     for argument in arguments {
         p.print_comma()?;

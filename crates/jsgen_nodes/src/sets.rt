@@ -1,6 +1,7 @@
 // A set is a match over its members.
-ghost use Rattle.std.specs.Prelude.{◌≡◌, OnOk};
+ghost use Rattle.std.specs.Prelude.{◌≡◌};
 ghost use Rattle.jsgen_tree.specs.Rows.{expression_plain, statement_plain, declaration_plain, binding_pattern_plain};
+ghost use Rattle.jsgen_model.specs.Printing.{Reaches};
 ghost use Rattle.jsgen_printer.specs.Printer.{pen_of};
 ghost use Rattle.jsgen_nodes.specs.Place.{pen_after};
 
@@ -25,7 +26,7 @@ pub fn print_expression<N: PrintNode>(
     p: &mut Printer,
     place: Place,
 ) -> Result<(), Memory>
-    ensures { OnOk result (pen_of p.new ≡ pen_after (expression_plain N.plain node.now) place p.old) }
+    ensures { Reaches result (pen_of p.old) (pen_of p.new) (pen_after (expression_plain N.plain node.now) place p.old) }
 {
     match node {
         Expression::IdentifierReference(node) => print_identifier_reference(node, p, place),
@@ -47,7 +48,7 @@ pub fn print_statement<N: PrintNode>(
     p: &mut Printer,
     place: Place,
 ) -> Result<(), Memory>
-    ensures { OnOk result (pen_of p.new ≡ pen_after (statement_plain N.plain node.now) place p.old) }
+    ensures { Reaches result (pen_of p.old) (pen_of p.new) (pen_after (statement_plain N.plain node.now) place p.old) }
 {
     match node {
         Statement::Declaration(node) => node.get().print(p, place),
@@ -63,7 +64,7 @@ pub fn print_declaration<N: PrintNode>(
     p: &mut Printer,
     place: Place,
 ) -> Result<(), Memory>
-    ensures { OnOk result (pen_of p.new ≡ pen_after (declaration_plain N.plain node.now) place p.old) }
+    ensures { Reaches result (pen_of p.old) (pen_of p.new) (pen_after (declaration_plain N.plain node.now) place p.old) }
 {
     match node {
         Declaration::VariableDeclaration(node) => print_variable_declaration(node, p, place),
@@ -75,7 +76,7 @@ pub fn print_binding_pattern(
     p: &mut Printer,
     place: Place,
 ) -> Result<(), Memory>
-    ensures { OnOk result (pen_of p.new ≡ pen_after (binding_pattern_plain node.now) place p.old) }
+    ensures { Reaches result (pen_of p.old) (pen_of p.new) (pen_after (binding_pattern_plain node.now) place p.old) }
 {
     match node {
         BindingPattern::BindingIdentifier(node) => print_binding_identifier(node, p, place),

@@ -1,5 +1,5 @@
 // Programs, statements and declarations (ECMA-262, clauses 14 and 16), one function for each row.
-ghost use Rattle.std.specs.Prelude.{◌≡◌, OnOk, map, option_map};
+ghost use Rattle.std.specs.Prelude.{◌≡◌, map, option_map};
 ghost use Rattle.jsgen_syntax.specs.declared.precedence.Precedence.TheVariants.{Lowest, Comma};
 ghost use Rattle.jsgen_tree.specs.Tree.{trees, optional};
 ghost use Rattle.jsgen_tree.specs.Words.{declaration_word};
@@ -7,6 +7,7 @@ ghost use Rattle.jsgen_tree.specs.Rows.{binding_identifier_row, variable_declara
 ghost use Rattle.jsgen_model.specs.Items.{◌⊕◌, word, soft_space, due_semicolon};
 ghost use Rattle.jsgen_model.specs.Layout.{layout};
 ghost use Rattle.jsgen_model.specs.Spell.{spell, spell_list, spell_more, spell_value, spell_directives, spell_body, spell_statements, first_statement, behind, among_statements};
+ghost use Rattle.jsgen_model.specs.Printing.{Reaches};
 ghost use Rattle.jsgen_printer.specs.Printer.{pen_of};
 ghost use Rattle.jsgen_nodes.specs.Place.{pen_after, place_of, settings_of};
 
@@ -24,8 +25,7 @@ pub fn print_program<N: PrintNode>(
     p: &mut Printer,
     settings: Settings,
 ) -> Result<(), Memory>
-    ensures { OnOk result (pen_of p.new
-        ≡ layout (spell (program_row N.plain node.now) (among_statements (settings_of settings))) (pen_of p.old)) }
+    ensures { Reaches result (pen_of p.old) (pen_of p.new) (layout (spell (program_row N.plain node.now) (among_statements (settings_of settings))) (pen_of p.old)) }
 {
     print_directives(&node.directives, p, settings)?;
     print_whole_body(&node.body, p, settings)
@@ -37,8 +37,7 @@ fn print_directives(
     p: &mut Printer,
     settings: Settings,
 ) -> Result<(), Memory>
-    ensures { OnOk result (pen_of p.new
-        ≡ layout (spell_directives (trees (map directive_row directives.now)) (settings_of settings)) (pen_of p.old)) }
+    ensures { Reaches result (pen_of p.old) (pen_of p.new) (layout (spell_directives (trees (map directive_row directives.now)) (settings_of settings)) (pen_of p.old)) }
 {
     for directive in directives {
         print_directive(directive, p, Place::among_statements(settings))?;
@@ -48,7 +47,7 @@ fn print_directives(
 
 #[tactic(auto, unfolding(crate::specs::Place::pen_after))]
 pub fn print_directive(node: &Directive, p: &mut Printer, place: Place) -> Result<(), Memory>
-    ensures { OnOk result (pen_of p.new ≡ pen_after (directive_row node.now) place p.old) }
+    ensures { Reaches result (pen_of p.old) (pen_of p.new) (pen_after (directive_row node.now) place p.old) }
 {
     let _ = place;
     p.print_indentation()?;
@@ -64,8 +63,7 @@ fn print_whole_body<N: PrintNode>(
     p: &mut Printer,
     settings: Settings,
 ) -> Result<(), Memory>
-    ensures { OnOk result (pen_of p.new
-        ≡ layout (spell_body (trees (map (in_statement N.plain) statements.now)) (settings_of settings) ⊕ due_semicolon) (pen_of p.old)) }
+    ensures { Reaches result (pen_of p.old) (pen_of p.new) (layout (spell_body (trees (map (in_statement N.plain) statements.now)) (settings_of settings) ⊕ due_semicolon) (pen_of p.old)) }
 {
     print_body(statements, p, settings)?;
     p.print_due_semicolon()
@@ -78,8 +76,7 @@ fn print_body<N: PrintNode>(
     p: &mut Printer,
     settings: Settings,
 ) -> Result<(), Memory>
-    ensures { OnOk result (pen_of p.new
-        ≡ layout (spell_body (trees (map (in_statement N.plain) statements.now)) (settings_of settings)) (pen_of p.old)) }
+    ensures { Reaches result (pen_of p.old) (pen_of p.new) (layout (spell_body (trees (map (in_statement N.plain) statements.now)) (settings_of settings)) (pen_of p.old)) }
 {
     match statements.split_first() {
         Some((first, others)) => {
@@ -96,8 +93,7 @@ fn print_first_statement<N: PrintNode>(
     p: &mut Printer,
     settings: Settings,
 ) -> Result<(), Memory>
-    ensures { OnOk result (pen_of p.new
-        ≡ layout (due_semicolon ⊕ first_statement (N.plain statement.now) (spell (N.plain statement.now) (among_statements (settings_of settings))))
+    ensures { Reaches result (pen_of p.old) (pen_of p.new) (layout (due_semicolon ⊕ first_statement (N.plain statement.now) (spell (N.plain statement.now) (among_statements (settings_of settings))))
         (pen_of p.old)) }
 {
     p.print_due_semicolon()?;
@@ -117,8 +113,7 @@ pub fn print_statements<N: PrintNode>(
     p: &mut Printer,
     settings: Settings,
 ) -> Result<(), Memory>
-    ensures { OnOk result (pen_of p.new
-        ≡ layout (spell_statements (trees (map (in_statement N.plain) statements.now)) (settings_of settings)) (pen_of p.old)) }
+    ensures { Reaches result (pen_of p.old) (pen_of p.new) (layout (spell_statements (trees (map (in_statement N.plain) statements.now)) (settings_of settings)) (pen_of p.old)) }
 {
     for statement in statements {
         p.print_due_semicolon()?;
@@ -133,7 +128,7 @@ pub fn print_expression_statement<N: PrintNode>(
     p: &mut Printer,
     place: Place,
 ) -> Result<(), Memory>
-    ensures { OnOk result (pen_of p.new ≡ pen_after (expression_statement_row N.plain node.now) place p.old) }
+    ensures { Reaches result (pen_of p.old) (pen_of p.new) (pen_after (expression_statement_row N.plain node.now) place p.old) }
 {
     p.print_indentation()?;
     p.begin_statement();
@@ -149,7 +144,7 @@ pub fn print_variable_declaration<N: PrintNode>(
     p: &mut Printer,
     place: Place,
 ) -> Result<(), Memory>
-    ensures { OnOk result (pen_of p.new ≡ pen_after (variable_declaration_row N.plain node.now) place p.old) }
+    ensures { Reaches result (pen_of p.old) (pen_of p.new) (pen_after (variable_declaration_row N.plain node.now) place p.old) }
 {
     if place.in_list {
         p.print_indentation()?;
@@ -167,8 +162,7 @@ fn print_declarators<N: PrintNode>(
     p: &mut Printer,
     place: Place,
 ) -> Result<(), Memory>
-    ensures { OnOk result (pen_of p.new
-        ≡ layout (word (declaration_word node.now.kind)
+    ensures { Reaches result (pen_of p.old) (pen_of p.new) (layout (word (declaration_word node.now.kind)
         ⊕ (soft_space ⊕ spell_list (trees (map (variable_declarator_row N.plain) node.now.declarations.items))
         (behind Lowest (place_of place (pen_of p.old))))) (pen_of p.old)) }
 {
@@ -190,8 +184,7 @@ fn print_more_declarators<N: PrintNode>(
     p: &mut Printer,
     place: Place,
 ) -> Result<(), Memory>
-    ensures { OnOk result (pen_of p.new
-        ≡ layout (spell_more (trees (map (variable_declarator_row N.plain) declarators.now))
+    ensures { Reaches result (pen_of p.old) (pen_of p.new) (layout (spell_more (trees (map (variable_declarator_row N.plain) declarators.now))
         (behind Lowest (place_of place (pen_of p.old)))) (pen_of p.old)) }
 {
     for declarator in declarators {
@@ -208,7 +201,7 @@ pub fn print_variable_declarator<N: PrintNode>(
     p: &mut Printer,
     place: Place,
 ) -> Result<(), Memory>
-    ensures { OnOk result (pen_of p.new ≡ pen_after (variable_declarator_row N.plain node.now) place p.old) }
+    ensures { Reaches result (pen_of p.old) (pen_of p.new) (pen_after (variable_declarator_row N.plain node.now) place p.old) }
 {
     node.id.get().print(p, place.child(Precedence::Lowest))?;
     print_value(&node.init, p, place)
@@ -221,8 +214,7 @@ fn print_value<N: PrintNode>(
     p: &mut Printer,
     place: Place,
 ) -> Result<(), Memory>
-    ensures { OnOk result (pen_of p.new
-        ≡ layout (spell_value (optional (option_map (in_expression N.plain) value.now))
+    ensures { Reaches result (pen_of p.old) (pen_of p.new) (layout (spell_value (optional (option_map (in_expression N.plain) value.now))
         (behind Comma (place_of place (pen_of p.old)))) (pen_of p.old)) }
 {
     match value {
@@ -242,7 +234,7 @@ pub fn print_binding_identifier(
     p: &mut Printer,
     place: Place,
 ) -> Result<(), Memory>
-    ensures { OnOk result (pen_of p.new ≡ pen_after (binding_identifier_row node.now) place p.old) }
+    ensures { Reaches result (pen_of p.old) (pen_of p.new) (pen_after (binding_identifier_row node.now) place p.old) }
 {
     let _ = place;
     p.print_name(node.name.as_str())

@@ -1,7 +1,7 @@
 -- Where memory runs out among steps in a row: what a step left is what the whole left, since the steps behind it only append.
 use Rattle.std.proofs.Common.{◌≡◌, ℕ, codes, Bool, true, false, List, [], ◌∷◌, ◌++◌, Result, Ok, Err, IsErr, sym, ap, subst, ◌∙◌, append_assoc}
 use Rattle.std.specs.Str.{chars}
-use Rattle.jsgen_model.specs.Punctuator.{Round, opening, closing, punctuator_text}
+use Rattle.jsgen_model.specs.Punctuator.{Bracket, Round, opening, closing, punctuator_text}
 use Rattle.jsgen_model.specs.Items.{Items, nothing, ◌⊕◌, indentation, soft_space, soft_line, deeper, brackets, wrapped, statement_end, due_semicolon}
 use Rattle.jsgen_model.specs.Layout.{Pen, Ending, space_if, layout, written, written_if, text_if, other_end, indented, indent_or_space, at_indentation, end_statement, deeper_level}
 use Rattle.jsgen_model.specs.Printing.{IsPrefix, Stops, Reaches}
@@ -67,3 +67,28 @@ first_of_three a text b pen new s = stops_within s (whole_prefix pen.code) (pref
 pub second_of_three : (a text b : List ℕ) (pen new : Pen) → Stops (written a other_end pen) new (written text other_end (written a other_end pen)) → Stops pen new (written (a ++ (text ++ b)) other_end pen)
 second_of_three a text b pen new s =
     stops_within s (prefix_append pen.code a) (rw append_assoc (prefix_behind pen.code (prefix_behind a (prefix_append text b))))
+
+-- of two, in the first
+pub stops_first : (a b : Items) {old new : Pen} → Stops old new (layout a old) → Stops old new (layout (a ⊕ b) old)
+stops_first a b {old} s = stops_within s (whole_prefix old.code) (layout_appends b (layout a old))
+
+-- of two, in the second
+pub stops_second : (a b : Items) {old mid new : Pen} → mid ≡ layout a old → Stops mid new (layout b mid) → Stops old new (layout (a ⊕ b) old)
+stops_second a b {old} {mid} {new} e s =
+    let s' = subst (λ p. Stops p new (layout b p)) e s in
+    stops_within s' (layout_appends a old) (whole_prefix (layout b (layout a old)).code)
+
+pub then_more : {c : List ℕ} (a b : Items) (pen : Pen) → IsPrefix c (layout b (layout a pen)).code → IsPrefix c (layout (a ⊕ b) pen).code
+then_more a b pen p = p
+
+pub brackets_more : {c : List ℕ} (b : Bracket) (a : Items) (pen : Pen) → IsPrefix c (layout a (written (opening b) other_end pen)).code → IsPrefix c (layout (brackets b a) pen).code
+brackets_more b a pen p = more_prefix (closing b) p
+
+pub wrapped_more : {c : List ℕ} (test : Bool) (a : Items) (pen : Pen) → IsPrefix c (layout a (written_if test (opening Round) pen)).code → IsPrefix c (layout (wrapped test a) pen).code
+wrapped_more test a pen p = more_prefix (text_if test (closing Round)) p
+
+pub deeper_more : {c : List ℕ} (a : Items) (pen : Pen) → IsPrefix c (layout a (record pen { depth = deeper_level pen.style.minified pen.depth })).code → IsPrefix c (layout (deeper a) pen).code
+deeper_more a pen p = p
+
+pub ruleset appends = (whole_prefix, more_prefix, layout_more, then_more, brackets_more, wrapped_more, deeper_more)
+pub ruleset stops = (stops_within, appends)
