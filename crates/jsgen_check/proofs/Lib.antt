@@ -1,4 +1,3 @@
 pub mod Declarators
 pub mod Heights
-pub mod Validity
 pub mod Verdicts

@@ -1,18 +1,18 @@
 -- The verdict on a tree, from those on its parts.
-use Rattle.std.proofs.Common.{◌≡◌, List, [], ◌∷◌, ◌++◌, map, true, false, Result, Ok, Err, refl, ap, ◌∙◌, arith}
+use Rattle.std.proofs.Common.{◌≡◌, List, [], ◌∷◌, ◌++◌, map, true, Result, Ok, Err, refl, ap, ◌∙◌, arith}
 use Rattle.std.specs.Str.{chars}
 use Rattle.std.proofs.lemmas.List.{drop_all, drop_more}
 use Rattle.jsgen_tree.specs.declared.types.NodeSet.{NodeSet}
 use Rattle.jsgen_tree.specs.declared.types.NodeType.{NodeType}
-use Rattle.jsgen_tree.specs.Tree.{Tree, node, Atoms, Slots, no_slots, one, maybe, many, maybe_many, Maybe, absent, given, Trees, no_trees, more, hole, MaybeTrees, no_list, listed, type_of, span_of}
+use Rattle.jsgen_tree.specs.Tree.{Tree, node, Atoms, Slots, no_slots, one, maybe, many, maybe_many, Maybe, absent, given, Trees, no_trees, more, hole, MaybeTrees, no_list, listed, type_of}
 use Rattle.jsgen_tree.specs.Table.{fields, child_sets, in_set}
 use Rattle.jsgen_tree.specs.Job.{JobData}
 use Rattle.jsgen_model.specs.Valid as valid
 use Rattle.jsgen_model.specs.Valid.{ChildPlace, breaches, span_faults, own_faults, set_faults, in_slots, in_maybe, in_trees, in_maybe_trees, surroundings_of, job_breaches, Judges}
 use Rattle.jsgen_model.specs.declared.fault.TreeFault.{TreeFault}
-use Rattle.jsgen_model.specs.declared.fault.TreeFault.TheVariants as faults
+use Rattle.jsgen_rules.specs.Verdict.{verdict}
 use Rattle.jsgen_check.specs.declared.surroundings.Surroundings.{Surroundings}
-use Rattle.jsgen_check.specs.Verdict.{surroundings_plain, verdict, tree_verdict, child_verdict, children_verdict}
+use Rattle.jsgen_check.specs.Verdict.{surroundings_plain, tree_verdict, child_verdict, maybe_verdict, children_verdict}
 
 -- the first verdict if it is a fault, else the second
 unfoldable pub both : Result (Unit {0}) TreeFault → Result (Unit {0}) TreeFault → Result (Unit {0}) TreeFault
@@ -42,10 +42,6 @@ of_two [] b = refl
 of_two (f ∷ a) b = refl
 
 -- ---- children
-
-abbrev pub maybe_verdict : Surroundings → NodeSet → Maybe → Result (Unit {0}) TreeFault
-maybe_verdict around set absent = Ok tt
-maybe_verdict around set (given t) = child_verdict around set t
 
 abbrev pub maybe_children_verdict : Surroundings → NodeSet → MaybeTrees → Result (Unit {0}) TreeFault
 maybe_children_verdict around set no_list = Ok tt
@@ -109,10 +105,10 @@ of_node around type a slots =
     let below = in_slots (surroundings_plain around) (map (place around) (child_sets (fields type))) slots in
     of_two (span_faults a.span ++ own) below ∙ both_same (of_two (span_faults a.span) own) (of_slots around (child_sets (fields type)) slots) ∙ both_assoc (verdict (span_faults a.span)) (verdict own) (slots_verdict around (child_sets (fields type)) slots)
 
--- a child of another set, and of its own
-pub of_wrong_set : (around : Surroundings) (s : NodeSet) (t : Tree) → in_set s (type_of t) ≡ false → child_verdict around s t ≡ Err (faults.Place (span_of t).start)
-unfolding child_verdict verdict
-of_wrong_set around s t h = rw h
+-- a child, from its set and its own rules
+pub of_placed : (around : Surroundings) (s : NodeSet) (t : Tree) → child_verdict around s t ≡ both (verdict (set_faults s t)) (tree_verdict around t)
+unfolding child_verdict tree_verdict
+of_placed around s t = of_two (set_faults s t) (breaches (surroundings_plain around) t)
 
 pub of_right_set : (around : Surroundings) (s : NodeSet) (t : Tree) → in_set s (type_of t) ≡ true → child_verdict around s t ≡ tree_verdict around t
 unfolding child_verdict tree_verdict
@@ -154,6 +150,6 @@ of_job around job same = rw same (first_is_one (job_breaches job))
 
 pub ruleset judging = (of_node, of_right_set, of_two, of_none, both_kept, both_broken, both_end)
 
-pub ruleset placing = (of_wrong_set, of_right_set)
+pub ruleset placing = (of_placed, both_kept, both_broken)
 
 pub ruleset listing = (of_first, of_no_children, drop_more, drop_all, of_right_set, both_kept, both_broken)

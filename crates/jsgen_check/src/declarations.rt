@@ -6,11 +6,13 @@ ghost use Rattle.jsgen_tree.specs.Tree.{trees};
 ghost use Rattle.jsgen_tree.specs.Rows.{variable_declaration_row, variable_declarator_row, binding_identifier_row};
 ghost use Rattle.jsgen_tree.specs.declared.types.NodeSet.TheVariants as sets;
 ghost use Rattle.jsgen_model.specs.Valid.{declaration_faults};
-ghost use Rattle.jsgen_check.specs.Verdict.{verdict, tree_verdict, children_verdict};
+ghost use Rattle.jsgen_rules.specs.Verdict.{verdict};
+ghost use Rattle.jsgen_check.specs.Verdict.{tree_verdict, children_verdict};
 
-use crate::rules::{check_name, check_span};
+use crate::expressions::check_optional_expression;
 use crate::{CheckNode, Surroundings, check_child};
 use jsgen_model::TreeFault;
+use jsgen_rules::{check_name, check_span};
 use jsgen_syntax::Span;
 use jsgen_tree::{BindingIdentifier, NodeSet, VariableDeclaration, VariableDeclarator};
 
@@ -32,13 +34,10 @@ fn check_variable_declarator<N: CheckNode>(
 {
     check_span(node.span)?;
     check_child(node.id.get(), NodeSet::BindingPattern, around)?;
-    if let Some(init) = &node.init {
-        check_child(init.get(), NodeSet::Expression, around)?;
-    }
-    Ok(())
+    check_optional_expression(&node.init, around)
 }
 
-#[tactic(auto, using(crate::proofs::Declarators::counted), unfolding(crate::specs::Verdict::verdict))]
+#[tactic(auto, using(crate::proofs::Declarators::counted), unfolding(jsgen_rules::specs::Verdict::verdict))]
 fn check_count<N: CheckNode>(
     declarators: &[VariableDeclarator<N>],
     span: Span,

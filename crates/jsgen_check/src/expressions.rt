@@ -1,19 +1,19 @@
 // Expressions (ECMA-262, clause 13), one function for each row.
 #![tactic(auto, using(crate::proofs::Verdicts::judging))]
 
-ghost use Rattle.std.specs.Prelude.{◌≡◌, map};
-ghost use Rattle.jsgen_tree.specs.Tree.{trees};
-ghost use Rattle.jsgen_tree.specs.Rows.{identifier_reference_row, numeric_literal_row, string_literal_row, parenthesized_expression_row, binary_expression_row, logical_expression_row, identifier_name_row, static_member_expression_row, computed_member_expression_row, call_expression_row, in_argument};
+ghost use Rattle.std.specs.Prelude.{◌≡◌, map, option_map};
+ghost use Rattle.jsgen_tree.specs.Tree.{optional, trees};
+ghost use Rattle.jsgen_tree.specs.Rows.{identifier_reference_row, numeric_literal_row, string_literal_row, parenthesized_expression_row, binary_expression_row, logical_expression_row, identifier_name_row, static_member_expression_row, computed_member_expression_row, call_expression_row, in_expression, in_argument};
 ghost use Rattle.jsgen_tree.specs.declared.types.NodeSet.TheVariants as sets;
-ghost use Rattle.jsgen_check.specs.Verdict.{verdict, tree_verdict, child_verdict, children_verdict};
+ghost use Rattle.jsgen_check.specs.Verdict.{tree_verdict, child_verdict, maybe_verdict, children_verdict};
 
-use crate::rules::{check_name, check_span, check_written_name};
 use crate::{CheckNode, Surroundings, check_child};
 use jsgen_model::TreeFault;
+use jsgen_rules::{check_name, check_span, check_written_name};
 use jsgen_tree::{
-    Argument, BinaryExpression, CallExpression, ComputedMemberExpression, IdentifierName,
-    IdentifierReference, LogicalExpression, NodeSet, NumericLiteral, ParenthesizedExpression,
-    StaticMemberExpression, StringLiteral,
+    Argument, BinaryExpression, CallExpression, ComputedMemberExpression, ExpressionNode,
+    IdentifierName, IdentifierReference, LogicalExpression, NodeSet, NumericLiteral,
+    ParenthesizedExpression, StaticMemberExpression, StringLiteral,
 };
 
 pub fn check_identifier_reference(
@@ -139,4 +139,16 @@ pub fn check_call_expression<N: CheckNode>(
     check_span(node.span)?;
     check_child(node.callee.get(), NodeSet::Expression, around)?;
     check_arguments(&node.arguments, around)
+}
+
+pub fn check_optional_expression<N: CheckNode>(
+    expression: &Option<ExpressionNode<N>>,
+    around: Surroundings<'_>,
+) -> Result<(), TreeFault>
+    ensures { result ≡ maybe_verdict around.entry sets.Expression (optional (option_map (in_expression N.plain) expression.now)) }
+{
+    match expression {
+        Some(expression) => check_child(expression.get(), NodeSet::Expression, around),
+        None => Ok(()),
+    }
 }

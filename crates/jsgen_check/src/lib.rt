@@ -13,7 +13,6 @@ mod declarations;
 mod expressions;
 mod height;
 mod program;
-mod rules;
 mod sets;
 mod statements;
 mod surroundings;
@@ -29,6 +28,7 @@ use crate::sets::{
 };
 pub use crate::surroundings::Surroundings;
 use jsgen_model::TreeFault;
+use jsgen_rules::check_set;
 use jsgen_tree::{CodegenOptions, GetSpan, Node, NodeSet, NodeType, Program};
 
 /// What the checks ask of a child. Only `Node` implements it.
@@ -71,11 +71,7 @@ fn check_child<N: CheckNode>(
 ) -> Result<(), TreeFault>
     ensures { result ≡ child_verdict around.entry set (N.plain child.now) }
 {
-    if !child.node_type().is_in(set) {
-        return Err(TreeFault::Place {
-            start: child.start(),
-        });
-    }
+    check_set(child.node_type(), set, child.start())?;
     child.check(around)
 }
 

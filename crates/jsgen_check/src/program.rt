@@ -6,13 +6,14 @@ ghost use Rattle.jsgen_tree.specs.Tree.{trees};
 ghost use Rattle.jsgen_tree.specs.Rows.{program_row, directive_row};
 ghost use Rattle.jsgen_tree.specs.declared.types.NodeSet.TheVariants as sets;
 ghost use Rattle.jsgen_model.specs.Valid.{indent_faults};
-ghost use Rattle.jsgen_check.specs.Verdict.{verdict, tree_verdict, children_verdict};
+ghost use Rattle.jsgen_rules.specs.Verdict.{verdict};
+ghost use Rattle.jsgen_check.specs.Verdict.{tree_verdict, children_verdict};
 
 use crate::height::is_program_higher;
-use crate::rules::{check_raw, check_source, check_span};
 use crate::statements::check_statements;
 use crate::{CheckNode, Surroundings};
 use jsgen_model::TreeFault;
+use jsgen_rules::{check_raw, check_source, check_span};
 use jsgen_tree::{Directive, Program};
 
 fn check_directive(node: &Directive, around: Surroundings<'_>) -> Result<(), TreeFault>
@@ -32,7 +33,7 @@ fn check_directives(directives: &[Directive], around: Surroundings<'_>) -> Resul
     Ok(())
 }
 
-#[tactic(auto, unfolding(crate::specs::Verdict::verdict))]
+#[tactic(auto, unfolding(jsgen_rules::specs::Verdict::verdict))]
 fn check_height<N: CheckNode>(minified: bool, node: &Program<N>) -> Result<(), TreeFault>
     ensures { result ≡ verdict (indent_faults minified (program_row N.plain node.now)) }
 {

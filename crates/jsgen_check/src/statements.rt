@@ -6,11 +6,12 @@ ghost use Rattle.jsgen_tree.specs.Tree.{optional, trees};
 ghost use Rattle.jsgen_tree.specs.Rows.{expression_statement_row, block_statement_row, if_statement_row, empty_statement_row, in_statement};
 ghost use Rattle.jsgen_tree.specs.declared.types.NodeSet.TheVariants as sets;
 ghost use Rattle.jsgen_model.specs.Valid.{body_faults, alternate_faults};
-ghost use Rattle.jsgen_check.specs.Verdict.{verdict, tree_verdict, children_verdict};
+ghost use Rattle.jsgen_rules.specs.Verdict.{verdict};
+ghost use Rattle.jsgen_check.specs.Verdict.{tree_verdict, maybe_verdict, children_verdict};
 
-use crate::rules::check_span;
 use crate::{CheckNode, Surroundings, check_child};
 use jsgen_model::TreeFault;
+use jsgen_rules::check_span;
 use jsgen_tree::{
     BlockStatement, EmptyStatement, ExpressionStatement, IfStatement, NodeSet, StatementNode,
 };
@@ -48,8 +49,20 @@ pub fn check_block_statement<N: CheckNode>(
     check_statements(&node.body, around)
 }
 
-#[tactic(auto, unfolding(crate::specs::Verdict::verdict))]
+fn check_optional_statement<N: CheckNode>(
+    statement: &Option<StatementNode<N>>,
+    around: Surroundings<'_>,
+) -> Result<(), TreeFault>
+    ensures { result ≡ maybe_verdict around.entry sets.Statement (optional (option_map (in_statement N.plain) statement.now)) }
+{
+    match statement {
+        Some(statement) => check_child(statement.get(), NodeSet::Statement, around),
+        None => Ok(()),
+    }
+}
+
 /// No lexical declaration stands behind `if` or `else`.
+#[tactic(auto, unfolding(jsgen_rules::specs::Verdict::verdict))]
 fn check_body<N: CheckNode>(body: &N) -> Result<(), TreeFault>
     ensures { result ≡ verdict (body_faults (N.plain body.now)) }
 {
@@ -61,7 +74,7 @@ fn check_body<N: CheckNode>(body: &N) -> Result<(), TreeFault>
     Ok(())
 }
 
-#[tactic(auto, unfolding(crate::specs::Verdict::verdict))]
+#[tactic(auto, unfolding(jsgen_rules::specs::Verdict::verdict))]
 fn check_alternate<N: CheckNode>(alternate: &Option<StatementNode<N>>) -> Result<(), TreeFault>
     ensures { result ≡ verdict (alternate_faults (optional (option_map (in_statement N.plain) alternate.now))) }
 {
@@ -82,10 +95,7 @@ pub fn check_if_statement<N: CheckNode>(
     check_alternate(&node.alternate)?;
     check_child(node.test.get(), NodeSet::Expression, around)?;
     check_child(node.consequent.get(), NodeSet::Statement, around)?;
-    if let Some(alternate) = &node.alternate {
-        check_child(alternate.get(), NodeSet::Statement, around)?;
-    }
-    Ok(())
+    check_optional_statement(&node.alternate, around)
 }
 
 pub fn check_empty_statement(

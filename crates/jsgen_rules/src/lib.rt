@@ -1,16 +1,20 @@
-// Rules that a node keeps by its own values, whatever stands below it.
+//! Rules that a node keeps by its own values, whatever stands below it. A check names the first that is broken.
 #![tactic(auto, unfolding(crate::specs::Verdict::verdict))]
 
-ghost use Rattle.std.specs.Prelude.{◌≡◌};
+ghost use Rattle.std.specs.Prelude.{◌≡◌, not};
 ghost use Rattle.std.specs.Str.{chars};
 ghost use Rattle.jsgen_syntax.specs.Name.{is_free_name};
-ghost use Rattle.jsgen_model.specs.Valid.{span_faults, name_faults, written_name_faults, directive_faults, source_faults};
-ghost use Rattle.jsgen_check.specs.Verdict.{verdict};
+ghost use Rattle.jsgen_tree.specs.Table.{in_set};
+ghost use Rattle.jsgen_model.specs.Valid.{span_faults, name_faults, written_name_faults, directive_faults, source_faults, fault_if};
+ghost use Rattle.jsgen_model.specs.declared.fault.TreeFault.TheVariants as faults;
+ghost use Rattle.jsgen_rules.specs.Verdict.{verdict};
 
 use jsgen_model::TreeFault;
 use jsgen_syntax::{Quote, Span, is_name, is_reserved, is_strict_reserved};
 use jsgen_text::spells_string;
+use jsgen_tree::{NodeSet, NodeType};
 
+/// A start isn't after its end.
 pub fn check_span(span: Span) -> Result<(), TreeFault>
     ensures { result ≡ verdict (span_faults span) }
 {
@@ -20,7 +24,7 @@ pub fn check_span(span: Span) -> Result<(), TreeFault>
     Ok(())
 }
 
-#[tactic(auto, using(crate::proofs::Validity::free_names))]
+#[tactic(auto, using(crate::proofs::Bytes::free_names))]
 fn is_free_name(name: &str) -> bool
     ensures { result ≡ is_free_name (chars name.now) }
 {
@@ -57,12 +61,23 @@ pub fn check_raw(raw: &str, span: Span) -> Result<(), TreeFault>
     Ok(())
 }
 
-#[tactic(auto, using(crate::proofs::Validity::lengths), unfolding(crate::specs::Verdict::verdict))]
+/// Offsets of the source fit 32 bits.
+#[tactic(auto, using(crate::proofs::Bytes::lengths), unfolding(crate::specs::Verdict::verdict))]
 pub fn check_source(source: &str, span: Span) -> Result<(), TreeFault>
     ensures { result ≡ verdict (source_faults span (chars source.now)) }
 {
     if source.len() > 4_294_967_295 {
         return Err(TreeFault::Span { start: span.start });
+    }
+    Ok(())
+}
+
+/// A child is of the set that its field asks for.
+pub fn check_set(node_type: NodeType, set: NodeSet, start: u32) -> Result<(), TreeFault>
+    ensures { result ≡ verdict (fault_if (not (in_set set node_type)) (faults.Place start)) }
+{
+    if !node_type.is_in(set) {
+        return Err(TreeFault::Place { start });
     }
     Ok(())
 }
