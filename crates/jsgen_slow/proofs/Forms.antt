@@ -14,7 +14,8 @@ use Rattle.jsgen_tree.specs.Tree.{Tree, text, units, declaration_kind, binary_op
 use Rattle.jsgen_tree.specs.Tree as tree
 use Rattle.jsgen_tree.specs.Table.{ends_open}
 use Rattle.jsgen_tree.specs.Rows.{characters}
-use Rattle.jsgen_model.specs.Normal.{bare, chain, normal, normal_trees, joined, links, unbraced}
+use Rattle.jsgen_tree.specs.Values.{bare}
+use Rattle.jsgen_model.specs.Normal.{nothing_of, named, unnumbered, by_text, declared_as, chain, normal, normal_trees, joined, links, unbraced}
 use Rattle.jsgen_slow.specs.Form.{form_layer, form_plain, forms_plain, optional_plain}
 use Rattle.jsgen_slow.specs.declared.form.Form.{Form}
 use Rattle.jsgen_slow.specs.declared.form.Form.TheViews.{out-Form, roll-Form, roll-out-Form}
@@ -23,7 +24,7 @@ use Rattle.jsgen_slow.specs.declared.form.Form.TheOpen as opened
 use Rattle.jsgen_slow.specs.declared.form.Form.TheVariants.{Program, Directive, ExpressionStatement, VariableDeclaration, VariableDeclarator, BindingIdentifier, IdentifierReference, NumericLiteral, StringLiteral, BinaryExpression, Chain, IdentifierName, StaticMemberExpression, ComputedMemberExpression, CallExpression, BlockStatement, IfStatement, EmptyStatement, rolls-Program, rolls-Directive, rolls-ExpressionStatement, rolls-VariableDeclaration, rolls-VariableDeclarator, rolls-BindingIdentifier, rolls-IdentifierReference, rolls-NumericLiteral, rolls-StringLiteral, rolls-BinaryExpression, rolls-Chain, rolls-IdentifierName, rolls-StaticMemberExpression, rolls-ComputedMemberExpression, rolls-CallExpression, rolls-BlockStatement, rolls-IfStatement, rolls-EmptyStatement}
 use Rattle.jsgen_slow.specs.declared.form.Form.TheFolds.{map-Form, fold-roll-Form, fold_out-Form}
 
-pub program : (directives body : Vec Form Global) → form_plain (Program directives body) ≡ tree.program (bare []) (forms_plain directives.items) (forms_plain body.items)
+pub program : (directives body : Vec Form Global) → form_plain (Program directives body) ≡ tree.program (nothing_of 4) (forms_plain directives.items) (forms_plain body.items)
 unfolding form_plain
 program directives body = ap form_plain (sym (rolls-Program directives body)) ∙ fold-roll-Form Tree form_layer (opened.Program directives body)
 
@@ -31,28 +32,28 @@ pub directive : (value : JsStr) → form_plain (Directive value) ≡ tree.direct
 unfolding form_plain
 directive value = ap form_plain (sym (rolls-Directive value)) ∙ fold-roll-Form Tree form_layer (opened.Directive value)
 
-pub expression_statement : (expression : Box Form Global) → form_plain (ExpressionStatement expression) ≡ tree.expression_statement (bare []) (form_plain expression.value)
+pub expression_statement : (expression : Box Form Global) → form_plain (ExpressionStatement expression) ≡ tree.expression_statement (nothing_of 0) (form_plain expression.value)
 unfolding form_plain
 expression_statement expression = ap form_plain (sym (rolls-ExpressionStatement expression)) ∙ fold-roll-Form Tree form_layer (opened.ExpressionStatement expression)
 
-pub variable_declaration : (kind : VariableDeclarationKind) (declarations : Vec Form Global) → form_plain (VariableDeclaration kind declarations) ≡ tree.variable_declaration (bare (declaration_kind kind ∷ [])) (forms_plain declarations.items)
+pub variable_declaration : (kind : VariableDeclarationKind) (declarations : Vec Form Global) → form_plain (VariableDeclaration kind declarations) ≡ tree.variable_declaration (declared_as kind) (forms_plain declarations.items)
 unfolding form_plain
 variable_declaration kind declarations = ap form_plain (sym (rolls-VariableDeclaration kind declarations)) ∙ fold-roll-Form Tree form_layer (opened.VariableDeclaration kind declarations)
 
-pub variable_declarator : (id : Box Form Global) (init : Option (Box Form Global)) → form_plain (VariableDeclarator id init) ≡ tree.variable_declarator (bare []) (form_plain id.value) (optional_plain init)
+pub variable_declarator : (id : Box Form Global) (init : Option (Box Form Global)) → form_plain (VariableDeclarator id init) ≡ tree.variable_declarator (nothing_of 1) (form_plain id.value) (optional_plain init)
 unfolding form_plain
 variable_declarator id None = ap form_plain (sym (rolls-VariableDeclarator id None)) ∙ fold-roll-Form Tree form_layer (opened.VariableDeclarator id None)
 variable_declarator id (Some init) = ap form_plain (sym (rolls-VariableDeclarator id (Some init))) ∙ fold-roll-Form Tree form_layer (opened.VariableDeclarator id (Some init))
 
-pub binding_identifier : (name : String Global) → form_plain (BindingIdentifier name) ≡ tree.binding_identifier (bare (text (characters name) ∷ []))
+pub binding_identifier : (name : String Global) → form_plain (BindingIdentifier name) ≡ tree.binding_identifier (unnumbered (characters name))
 unfolding form_plain
 binding_identifier name = ap form_plain (sym (rolls-BindingIdentifier name)) ∙ fold-roll-Form Tree form_layer (opened.BindingIdentifier name)
 
-pub identifier_reference : (name : String Global) → form_plain (IdentifierReference name) ≡ tree.identifier_reference (bare (text (characters name) ∷ []))
+pub identifier_reference : (name : String Global) → form_plain (IdentifierReference name) ≡ tree.identifier_reference (unnumbered (characters name))
 unfolding form_plain
 identifier_reference name = ap form_plain (sym (rolls-IdentifierReference name)) ∙ fold-roll-Form Tree form_layer (opened.IdentifierReference name)
 
-pub numeric_literal : (n : ℕ) → form_plain (NumericLiteral n) ≡ tree.numeric_literal (bare (text (decimal n) ∷ []))
+pub numeric_literal : (n : ℕ) → form_plain (NumericLiteral n) ≡ tree.numeric_literal (by_text (decimal n))
 unfolding form_plain
 numeric_literal n = ap form_plain (sym (rolls-NumericLiteral n)) ∙ fold-roll-Form Tree form_layer (opened.NumericLiteral n)
 
@@ -68,32 +69,32 @@ pub chain_form : (operator : LogicalOperator) (operands : Vec Form Global) → f
 unfolding form_plain
 chain_form operator operands = ap form_plain (sym (rolls-Chain operator operands)) ∙ fold-roll-Form Tree form_layer (opened.Chain operator operands)
 
-pub identifier_name : (name : String Global) → form_plain (IdentifierName name) ≡ tree.identifier_name (bare (text (characters name) ∷ []))
+pub identifier_name : (name : String Global) → form_plain (IdentifierName name) ≡ tree.identifier_name (named (characters name))
 unfolding form_plain
 identifier_name name = ap form_plain (sym (rolls-IdentifierName name)) ∙ fold-roll-Form Tree form_layer (opened.IdentifierName name)
 
-pub static_member : (object property : Box Form Global) → form_plain (StaticMemberExpression object property) ≡ tree.static_member (bare []) (form_plain object.value) (form_plain property.value)
+pub static_member : (object property : Box Form Global) → form_plain (StaticMemberExpression object property) ≡ tree.static_member (nothing_of 1) (form_plain object.value) (form_plain property.value)
 unfolding form_plain
 static_member object property = ap form_plain (sym (rolls-StaticMemberExpression object property)) ∙ fold-roll-Form Tree form_layer (opened.StaticMemberExpression object property)
 
-pub computed_member : (object expression : Box Form Global) → form_plain (ComputedMemberExpression object expression) ≡ tree.computed_member (bare []) (form_plain object.value) (form_plain expression.value)
+pub computed_member : (object expression : Box Form Global) → form_plain (ComputedMemberExpression object expression) ≡ tree.computed_member (nothing_of 1) (form_plain object.value) (form_plain expression.value)
 unfolding form_plain
 computed_member object expression = ap form_plain (sym (rolls-ComputedMemberExpression object expression)) ∙ fold-roll-Form Tree form_layer (opened.ComputedMemberExpression object expression)
 
-pub call : (callee : Box Form Global) (arguments : Vec Form Global) → form_plain (CallExpression callee arguments) ≡ tree.call (bare []) (form_plain callee.value) (forms_plain arguments.items)
+pub call : (callee : Box Form Global) (arguments : Vec Form Global) → form_plain (CallExpression callee arguments) ≡ tree.call (nothing_of 2) (form_plain callee.value) (forms_plain arguments.items)
 unfolding form_plain
 call callee arguments = ap form_plain (sym (rolls-CallExpression callee arguments)) ∙ fold-roll-Form Tree form_layer (opened.CallExpression callee arguments)
 
-pub block_statement : (body : Vec Form Global) → form_plain (BlockStatement body) ≡ tree.block (bare []) (forms_plain body.items)
+pub block_statement : (body : Vec Form Global) → form_plain (BlockStatement body) ≡ tree.block (nothing_of 0) (forms_plain body.items)
 unfolding form_plain
 block_statement body = ap form_plain (sym (rolls-BlockStatement body)) ∙ fold-roll-Form Tree form_layer (opened.BlockStatement body)
 
-pub if_statement : (test consequent : Box Form Global) (alternate : Option (Box Form Global)) → form_plain (IfStatement test consequent alternate) ≡ tree.if_statement (bare []) (form_plain test.value) (form_plain consequent.value) (optional_plain alternate)
+pub if_statement : (test consequent : Box Form Global) (alternate : Option (Box Form Global)) → form_plain (IfStatement test consequent alternate) ≡ tree.if_statement (nothing_of 0) (form_plain test.value) (form_plain consequent.value) (optional_plain alternate)
 unfolding form_plain
 if_statement test consequent None = ap form_plain (sym (rolls-IfStatement test consequent None)) ∙ fold-roll-Form Tree form_layer (opened.IfStatement test consequent None)
 if_statement test consequent (Some alternate) = ap form_plain (sym (rolls-IfStatement test consequent (Some alternate))) ∙ fold-roll-Form Tree form_layer (opened.IfStatement test consequent (Some alternate))
 
-pub empty_statement : form_plain EmptyStatement ≡ tree.empty_statement (bare [])
+pub empty_statement : form_plain EmptyStatement ≡ tree.empty_statement (nothing_of 0)
 unfolding form_plain
 empty_statement = ap form_plain (sym rolls-EmptyStatement) ∙ fold-roll-Form Tree form_layer opened.EmptyStatement
 
@@ -197,12 +198,12 @@ other_ends f not =
 
 -- ---- a block as a consequent
 
-pub stays_around : (fs : List Form) → (length fs ≡ 1 → ⊥) → unbraced (tree.block (bare []) (forms_plain fs)) ≡ tree.block (bare []) (forms_plain fs)
+pub stays_around : (fs : List Form) → (length fs ≡ 1 → ⊥) → unbraced (tree.block (nothing_of 0) (forms_plain fs)) ≡ tree.block (nothing_of 0) (forms_plain fs)
 stays_around [] several = refl
 stays_around (f ∷ []) several = absurd (several refl)
 stays_around (f ∷ g ∷ fs) several = refl
 
-pub stays_around_one : (fs : List Form) (f : Form) → length fs ≡ 1 → f ≡ get_or fs 0 f → ends_open (form_plain f) ≡ false → unbraced (tree.block (bare []) (forms_plain fs)) ≡ tree.block (bare []) (forms_plain fs)
+pub stays_around_one : (fs : List Form) (f : Form) → length fs ≡ 1 → f ≡ get_or fs 0 f → ends_open (form_plain f) ≡ false → unbraced (tree.block (nothing_of 0) (forms_plain fs)) ≡ tree.block (nothing_of 0) (forms_plain fs)
 stays_around_one [] f one is ends = refl
 stays_around_one (g ∷ []) f one is ends = rw (sym is, ends) refl
 stays_around_one (g ∷ h ∷ fs) f one is ends = refl

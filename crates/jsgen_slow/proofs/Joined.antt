@@ -12,7 +12,7 @@ use Rattle.jsgen_syntax.specs.declared.operator.BinaryOperator.TheVariants as op
 use Rattle.jsgen_tree.specs.Tree.{Tree, Trees}
 use Rattle.jsgen_model.specs.Punctuator.{dot, comma, equal, star_star, and_and, or_or, nullish, semicolon, Round, Square, Brace}
 use Rattle.jsgen_model.specs.Tokens.{Tokens, done, piece, group, ◌⧺◌, Word, Quoted, Sign, longer_stands, AreTokensOf}
-use Rattle.jsgen_model.specs.Grammar.{Allowed, Level, operator_piece, ReadsExpression, ReadsArguments, ReadsArgumentList, ReadsBinding, ReadsDeclarator, ReadsDeclarators, ReadsDeclaration, ReadsUnended, ReadsStatement, ReadsStatements, ReadsDirectives, ReadsModule, a_module}
+use Rattle.jsgen_model.specs.Grammar.{Allowed, Level, operator_piece, ReadsExpression, ReadsArguments, ReadsArgumentList, ReadsBinding, ReadsDeclarator, ReadsDeclarators, ReadsDeclaration, EndsBy, ReadsStatement, ReadsItem, ReadsStatements, ReadsBody, ReadsModule, a_module}
 use Rattle.jsgen_model.specs.Grammar as grammar
 use Rattle.jsgen_lexing.proofs.Plain.{all_plain}
 use Rattle.jsgen_lexing.proofs.OneList.{one_token_list}
@@ -118,29 +118,33 @@ declarators_joined (grammar.first_declarator m e r s) = made _ _ (piece m (Sign 
 declaration_joined : {c : Allowed} {ts : Tokens} {t : Tree} → ReadsDeclaration c ts t → is_joined ts ≡ true
 declaration_joined (grammar.a_const r) = declarators_joined r
 
-unended_joined : {c : Allowed} {ts : Tokens} {t : Tree} → ReadsUnended c ts t → is_joined ts ≡ true
-unended_joined (grammar.a_declaration r) = declaration_joined r
-unended_joined (grammar.an_expression h r) = expression_joined r
+ended_joined : {last : Bool} {ts a : Tokens} → EndsBy last ts a → is_joined a ≡ true → is_joined ts ≡ true
+ended_joined (grammar.a_semicolon m e) h = made _ _ (piece m (Sign semicolon) done) e h refl
+ended_joined grammar.the_brace h = h
 
-statement_joined : {c : Allowed} {last : Bool} {ts : Tokens} {s : Tree} → ReadsStatement c last ts s → is_joined ts ≡ true
-statement_joined (grammar.ended m e r) = made _ _ (piece m (Sign semicolon) done) e (unended_joined r) refl
-statement_joined (grammar.ended_by_brace r) = unended_joined r
+statement_joined : {c : Allowed} {last before_else : Bool} {ts : Tokens} {s : Tree} → ReadsStatement c last before_else ts s → is_joined ts ≡ true
+statement_joined (grammar.an_expression_statement e h r) = ended_joined e (expression_joined r)
 statement_joined grammar.an_empty_statement = refl
 statement_joined (grammar.a_block r) = refl
-statement_joined (grammar.an_if {test = i} r s n) = and_from (may_be_given i) _ (given_from i (expression_starts r)) (statement_joined s)
-statement_joined (grammar.an_if_with_else {test = i} k e r s n o u p) = and_from (may_be_given i) _ (given_from i (expression_starts r)) (made _ _ (piece k (Word (codes "else")) _) e (statement_joined s) (statement_joined u))
+statement_joined (grammar.an_if {test = i} r s) = and_from (may_be_given i) _ (given_from i (expression_starts r)) (statement_joined s)
+statement_joined (grammar.an_if_with_else {test = i} k e r s u) = and_from (may_be_given i) _ (given_from i (expression_starts r)) (made _ _ (piece k (Word (codes "else")) _) e (statement_joined s) (statement_joined u))
+
+item_joined : {c : Allowed} {last : Bool} {ts : Tokens} {s : Tree} → ReadsItem c last ts s → is_joined ts ≡ true
+item_joined (grammar.a_statement r) = statement_joined r
+item_joined (grammar.a_declaration e r) = ended_joined e (declaration_joined r)
 
 statements_joined : {c : Allowed} {last : Bool} {ts : Tokens} {ss : Trees} → ReadsStatements c last ts ss → is_joined ts ≡ true
 statements_joined grammar.no_statement = refl
-statements_joined (grammar.last_statement r) = statement_joined r
-statements_joined (grammar.first_statement {ts = ts} {a = a} {b = b} e r s) = made ts a b e (statement_joined r) (statements_joined s)
+statements_joined (grammar.last_statement r) = item_joined r
+statements_joined (grammar.first_statement {ts = ts} {a = a} {b = b} e r s) = made ts a b e (item_joined r) (statements_joined s)
 
-directives_joined : {ts : Tokens} {ds : Trees} → ReadsDirectives ts ds → is_joined ts ≡ true
-directives_joined grammar.no_directive = refl
-directives_joined (grammar.a_directive q e d) = directives_joined d
+body_joined : {c : Allowed} {last : Bool} {ts : Tokens} {ds ss : Trees} → ReadsBody c last ts ds ss → is_joined ts ≡ true
+body_joined (grammar.a_directive q e d) = body_joined d
+body_joined (grammar.a_last_directive q e) = refl
+body_joined (grammar.statements h r) = statements_joined r
 
 module_joined : {ts : Tokens} {t : Tree} → ReadsModule ts t → is_joined ts ≡ true
-module_joined (a_module {a = a} {b = b} e d h r) = made _ a b e (directives_joined d) (statements_joined r)
+module_joined (a_module r) = body_joined r
 
 refused : (source : List ℕ) (ts : Tokens) → AreTokensOf source ts → is_joined ts ≡ false → IsNotRead source
 refused source ts h f us t g r = both_ways (is_joined ts) f (subst (λ x. is_joined x ≡ true) (one_token_list source us ts g (all_plain us) h (all_plain ts)) (module_joined r))

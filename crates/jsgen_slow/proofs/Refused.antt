@@ -9,7 +9,7 @@ use Rattle.std.proofs.lemmas.Bool.{both_ways, and_parts, and_from, or_left, or_r
 use lib.Utf8.{encode}
 use Rattle.unicode_ident.proofs.Computing.{unicode_ident}
 use Rattle.jsgen_syntax.specs.Escapes.{word_value}
-use Rattle.jsgen_syntax.specs.Name.{is_reserved, is_strict_reserved}
+use Rattle.jsgen_syntax.specs.Name.{is_reserved, is_strict_reserved, is_free_name}
 use Rattle.jsgen_syntax.specs.Strings.{string_value}
 use Rattle.jsgen_syntax.specs.declared.quote.Quote.TheVariants.{Single, Double}
 use Rattle.jsgen_syntax.specs.declared.operator.BinaryOperator.{BinaryOperator}
@@ -18,8 +18,7 @@ use Rattle.jsgen_tree.specs.Tree.{Tree, Trees}
 use Rattle.jsgen_model.specs.Punctuator.{dot, plus, plus_plus, minus_minus, star_star, and_and, or_or, nullish, semicolon, Bracket, Round, Square, Brace, opening, closing}
 use Rattle.jsgen_model.specs.Numbers.{spells_number}
 use Rattle.jsgen_model.specs.Tokens.{Tokens, done, piece, group, ◌⧺◌, Piece, Word, Number, Quoted, Sign, piece_text, is_blank, longer_stands, longer_number_stands, AreTokensOf}
-use Rattle.jsgen_model.specs.Valid.{is_free_name, is_lexical}
-use Rattle.jsgen_model.specs.Grammar.{Allowed, Level, operator_piece, ReadsExpression, ReadsBinding, ReadsDeclarator, ReadsDeclarators, ReadsDeclaration, ReadsUnended, ReadsStatement, ReadsStatements, ReadsDirectives, ReadsModule, a_module}
+use Rattle.jsgen_model.specs.Grammar.{Allowed, Level, operator_piece, ReadsExpression, ReadsBinding, ReadsDeclarator, ReadsDeclarators, ReadsDeclaration, EndsBy, ReadsStatement, ReadsItem, ReadsStatements, ReadsBody, ReadsModule, a_module}
 use Rattle.jsgen_model.specs.Grammar as grammar
 use Rattle.jsgen_lexing.proofs.Characters.{any_append}
 use Rattle.jsgen_lexing.proofs.Plain.{all_plain}
@@ -236,11 +235,10 @@ operand_begins (group m Brace inside ts) h = absurd (both_ways false refl h)
 declaration_begins : {c : Allowed} {ts : Tokens} {t : Tree} → ReadsDeclaration c ts t → (b : Tokens) → begins_well (ts ⧺ b) ≡ true
 declaration_begins (grammar.a_const {ts = ts} r) b = or_right _ _ (or_left _ _ (named_further ts b (declarators_start r)))
 
-unended_begins : {c : Allowed} {ts : Tokens} {t : Tree} → ReadsUnended c ts t → (b : Tokens) → goes_on b ≡ true → begins_well (ts ⧺ b) ≡ true
-unended_begins (grammar.a_declaration r) b j = declaration_begins r b
-unended_begins (grammar.an_expression {ts = ts} h r) b j = operand_begins (ts ⧺ b) (starts_further ts b j (expression_starts r))
+expression_begins : {c : Allowed} {l : Level} {ts : Tokens} {t : Tree} → ReadsExpression c l ts t → (b : Tokens) → goes_on b ≡ true → begins_well (ts ⧺ b) ≡ true
+expression_begins {ts = ts} r b j = operand_begins (ts ⧺ b) (starts_further ts b j (expression_starts r))
 
--- what is no declaration begins with no `const`
+-- a statement begins with no `const`
 
 const_is_reserved : is_free_word (codes "const") ≡ false
 unfolding unicode_ident word_value is_reserved is_strict_reserved encode
@@ -258,20 +256,13 @@ operand_no_const (piece m (Quoted q w) ts) b h = refl
 operand_no_const (piece m (Sign r) ts) b h = refl
 operand_no_const (group m d inside ts) b h = refl
 
-declaration_lexical : {c : Allowed} {ts : Tokens} {t : Tree} → ReadsDeclaration c ts t → is_lexical t ≡ true
-declaration_lexical (grammar.a_const r) = refl
-
-unended_no_const : {c : Allowed} {ts : Tokens} {t : Tree} → ReadsUnended c ts t → is_lexical t ≡ false → (b : Tokens) → begins_with_const (ts ⧺ b) ≡ false
-unended_no_const (grammar.a_declaration {d = d} r) n b = absurd (both_ways (is_lexical d) n (declaration_lexical r))
-unended_no_const (grammar.an_expression {ts = ts} h r) n b = operand_no_const ts b (expression_starts r)
-
-statement_no_const : {c : Allowed} {last : Bool} {ts : Tokens} {s : Tree} → ReadsStatement c last ts s → is_lexical s ≡ false → (b : Tokens) → begins_with_const (ts ⧺ b) ≡ false
-statement_no_const (grammar.ended {a = a} m e r) n b = subst (λ x. begins_with_const (x ⧺ b) ≡ false) (sym e) (subst (λ x. begins_with_const x ≡ false) (sym (one_more m (Sign semicolon) a b)) (unended_no_const r n (piece m (Sign semicolon) b)))
-statement_no_const (grammar.ended_by_brace r) n b = unended_no_const r n b
-statement_no_const grammar.an_empty_statement n b = refl
-statement_no_const (grammar.a_block r) n b = refl
-statement_no_const (grammar.an_if r s o) n b = refl
-statement_no_const (grammar.an_if_with_else k e r s o p u q) n b = refl
+statement_no_const : {c : Allowed} {last before_else : Bool} {ts : Tokens} {s : Tree} → ReadsStatement c last before_else ts s → (b : Tokens) → begins_with_const (ts ⧺ b) ≡ false
+statement_no_const (grammar.an_expression_statement {a = a} (grammar.a_semicolon m e) h r) b = subst (λ x. begins_with_const (x ⧺ b) ≡ false) (sym e) (subst (λ x. begins_with_const x ≡ false) (sym (one_more m (Sign semicolon) a b)) (operand_no_const a (piece m (Sign semicolon) b) (expression_starts r)))
+statement_no_const (grammar.an_expression_statement {a = a} grammar.the_brace h r) b = operand_no_const a b (expression_starts r)
+statement_no_const grammar.an_empty_statement b = refl
+statement_no_const (grammar.a_block r) b = refl
+statement_no_const (grammar.an_if r s) b = refl
+statement_no_const (grammar.an_if_with_else k e r s u) b = refl
 
 -- ---- a program
 
@@ -289,13 +280,16 @@ sound_ends done h = refl
 sound_ends (piece m p ts) h = (and_parts _ _ h).1
 sound_ends (group m b inside ts) h = (and_parts _ _ h).1
 
--- a statement that stands before others, or at the end of a module
-statement_ends : {c : Allowed} {a : Tokens} {s : Tree} → ReadsStatement c false a s → (v : Bool) (b : Tokens) → ends_so true b ≡ true → ends_so v (a ⧺ b) ≡ true
-statement_ends (grammar.ended {a = a} m e r) v b h = subst (λ x. ends_so v (x ⧺ b) ≡ true) (sym e) (subst (λ x. ends_so v x ≡ true) (sym (one_more m (Sign semicolon) a b)) (ends_behind v m a b h))
+-- what a semicolon ends, before others or at the end of a module
+semicolon_ends : {ts a : Tokens} → EndsBy false ts a → (v : Bool) (b : Tokens) → ends_so true b ≡ true → ends_so v (ts ⧺ b) ≡ true
+semicolon_ends {a = a} (grammar.a_semicolon m e) v b h = subst (λ x. ends_so v (x ⧺ b) ≡ true) (sym e) (subst (λ x. ends_so v x ≡ true) (sym (one_more m (Sign semicolon) a b)) (ends_behind v m a b h))
+
+statement_ends : {c : Allowed} {before_else : Bool} {a : Tokens} {s : Tree} → ReadsStatement c false before_else a s → (v : Bool) (b : Tokens) → ends_so true b ≡ true → ends_so v (a ⧺ b) ≡ true
+statement_ends (grammar.an_expression_statement e h r) v b g = semicolon_ends e v b g
 statement_ends grammar.an_empty_statement v b h = h
 statement_ends (grammar.a_block r) v b h = h
-statement_ends (grammar.an_if r s n) v b h = statement_ends s false b h
-statement_ends (grammar.an_if_with_else {a = a} {b = d} k e r s n o u p) v b h =
+statement_ends (grammar.an_if r s) v b h = statement_ends s false b h
+statement_ends (grammar.an_if_with_else {a = a} {b = d} k e r s u) v b h =
     let w : List ℕ = codes "else" in
     subst (λ x. ends_so false (x ⧺ b) ≡ true) (sym e) (subst (λ x. ends_so false x ≡ true) (sym (in_a_row a (piece k (Word w) d) b)) (ends_past k w a (d ⧺ b) (statement_ends u false b h) false))
 
@@ -305,17 +299,32 @@ body_begins next test done n h = absurd (both_ways false refl h)
 body_begins next test (piece m p ts) n h = ap not n
 body_begins next test (group m d inside ts) n h = ap not n
 
-statement_begins : {c : Allowed} {a : Tokens} {s : Tree} → ReadsStatement c false a s → (b : Tokens) → ends_so true b ≡ true → begins_well (a ⧺ b) ≡ true
-statement_begins (grammar.ended {a = a} m e r) b h = subst (λ x. begins_well (x ⧺ b) ≡ true) (sym e) (subst (λ x. begins_well x ≡ true) (sym (one_more m (Sign semicolon) a b)) (unended_begins r (piece m (Sign semicolon) b) refl))
+if_begins : (next : Bool) (test ts : Tokens) → goes_to_body (group next Round test ts) ≡ true → word_begins_well (codes "if") (group next Round test ts) ≡ true
+if_begins next test ts h = or_right (is_free_word (codes "if") && goes_on (group next Round test ts)) _ (or_right (bytes_eq (codes "if") (codes "const") && begins_with_name (group next Round test ts)) _ h)
+
+-- before a semicolon
+semicolon_begins : {ts a : Tokens} → EndsBy false ts a → ((d : Tokens) → goes_on d ≡ true → begins_well (a ⧺ d) ≡ true) → (b : Tokens) → begins_well (ts ⧺ b) ≡ true
+semicolon_begins {a = a} (grammar.a_semicolon m e) h b = subst (λ x. begins_well (x ⧺ b) ≡ true) (sym e) (subst (λ x. begins_well x ≡ true) (sym (one_more m (Sign semicolon) a b)) (h (piece m (Sign semicolon) b) refl))
+
+statement_begins : {c : Allowed} {before_else : Bool} {a : Tokens} {s : Tree} → ReadsStatement c false before_else a s → (b : Tokens) → ends_so true b ≡ true → begins_well (a ⧺ b) ≡ true
+statement_begins (grammar.an_expression_statement e h r) b g = semicolon_begins e (expression_begins r) b
 statement_begins grammar.an_empty_statement b h = refl
 statement_begins (grammar.a_block r) b h = refl
-statement_begins (grammar.an_if {next = next} {test = test} {ts = ts} r s n) b h = or_right _ _ (body_begins next test (ts ⧺ b) (statement_no_const s n b) (statement_ends s false b h))
-statement_begins (grammar.an_if_with_else {next = next} {test = test} {ts = ts} {a = a} {b = d} k e r s n o u p) b h =
+statement_begins (grammar.an_if {next = next} {test = test} {ts = ts} r s) b h = if_begins next test (ts ⧺ b) (body_begins next test (ts ⧺ b) (statement_no_const s b) (statement_ends s false b h))
+statement_begins (grammar.an_if_with_else {next = next} {test = test} {ts = ts} {a = a} {b = d} k e r s u) b h =
     let w : List ℕ = codes "else" in
-    or_right _ _ (body_begins next test (ts ⧺ b) (subst (λ x. begins_with_const (x ⧺ b) ≡ false) (sym e) (subst (λ x. begins_with_const x ≡ false) (sym (in_a_row a (piece k (Word w) d) b)) (statement_no_const s n (piece k (Word w) (d ⧺ b))))) (subst (λ x. ends_so false (x ⧺ b) ≡ true) (sym e) (subst (λ x. ends_so false x ≡ true) (sym (in_a_row a (piece k (Word w) d) b)) (ends_past k w a (d ⧺ b) (statement_ends u false b h) false))))
+    if_begins next test (ts ⧺ b) (body_begins next test (ts ⧺ b) (subst (λ x. begins_with_const (x ⧺ b) ≡ false) (sym e) (subst (λ x. begins_with_const x ≡ false) (sym (in_a_row a (piece k (Word w) d) b)) (statement_no_const s (piece k (Word w) (d ⧺ b))))) (subst (λ x. ends_so false (x ⧺ b) ≡ true) (sym e) (subst (λ x. ends_so false x ≡ true) (sym (in_a_row a (piece k (Word w) d) b)) (ends_past k w a (d ⧺ b) (statement_ends u false b h) false))))
 
-statement_sound : {c : Allowed} (a : Tokens) {s : Tree} → ReadsStatement c false a s → (b : Tokens) → ends_so true b ≡ true → is_sound (a ⧺ b) ≡ true
-statement_sound a r b h = sound_from (a ⧺ b) (statement_begins r b h) (statement_ends r true b h)
+item_begins : {c : Allowed} {a : Tokens} {s : Tree} → ReadsItem c false a s → (b : Tokens) → ends_so true b ≡ true → begins_well (a ⧺ b) ≡ true
+item_begins (grammar.a_statement r) b h = statement_begins r b h
+item_begins (grammar.a_declaration e r) b h = semicolon_begins e (λ d j. declaration_begins r d) b
+
+item_ends : {c : Allowed} {a : Tokens} {s : Tree} → ReadsItem c false a s → (v : Bool) (b : Tokens) → ends_so true b ≡ true → ends_so v (a ⧺ b) ≡ true
+item_ends (grammar.a_statement r) v b h = statement_ends r v b h
+item_ends (grammar.a_declaration e r) v b h = semicolon_ends e v b h
+
+item_sound : {c : Allowed} (a : Tokens) {s : Tree} → ReadsItem c false a s → (b : Tokens) → ends_so true b ≡ true → is_sound (a ⧺ b) ≡ true
+item_sound a r b h = sound_from (a ⧺ b) (item_begins r b h) (item_ends r true b h)
 
 end_nothing : (a : Tokens) → a ⧺ done ≡ a
 end_nothing done = refl
@@ -324,15 +333,15 @@ end_nothing (group m b inside a) = ap (group m b inside) (end_nothing a)
 
 statements_sound : {c : Allowed} {ts : Tokens} {ss : Trees} → ReadsStatements c false ts ss → is_sound ts ≡ true
 statements_sound grammar.no_statement = refl
-statements_sound (grammar.last_statement {ts = ts} r) = subst (λ x. is_sound x ≡ true) (end_nothing ts) (statement_sound ts r done refl)
-statements_sound (grammar.first_statement {a = a} {b = b} e r s) = subst (λ x. is_sound x ≡ true) (sym e) (statement_sound a r b (sound_ends b (statements_sound s)))
+statements_sound (grammar.last_statement {ts = ts} r) = subst (λ x. is_sound x ≡ true) (end_nothing ts) (item_sound ts r done refl)
+statements_sound (grammar.first_statement {a = a} {b = b} e r s) = subst (λ x. is_sound x ≡ true) (sym e) (item_sound a r b (sound_ends b (statements_sound s)))
 
-directives_sound : {a : Tokens} {ds : Trees} → ReadsDirectives a ds → (b : Tokens) → is_sound b ≡ true → is_sound (a ⧺ b) ≡ true
-directives_sound grammar.no_directive b h = h
-directives_sound (grammar.a_directive {ts = ts} q e d) b h = sound_ends (ts ⧺ b) (directives_sound d b h)
+body_sound : {c : Allowed} {ts : Tokens} {ds ss : Trees} → ReadsBody c false ts ds ss → is_sound ts ≡ true
+body_sound (grammar.a_directive {ts = ts} q e r) = sound_ends ts (body_sound r)
+body_sound (grammar.statements h r) = statements_sound r
 
 module_sound : {ts : Tokens} {t : Tree} → ReadsModule ts t → is_sound ts ≡ true
-module_sound (a_module {b = b} e d h r) = subst (λ x. is_sound x ≡ true) (sym e) (directives_sound d b (statements_sound r))
+module_sound (a_module r) = body_sound r
 
 refused : (source : List ℕ) (ts : Tokens) → AreTokensOf source ts → is_sound ts ≡ false → IsNotRead source
 refused source ts h f us t g r = both_ways (is_sound ts) f (subst (λ x. is_sound x ≡ true) (one_token_list source us ts g (all_plain us) h (all_plain ts)) (module_sound r))

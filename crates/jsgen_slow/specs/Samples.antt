@@ -3,11 +3,12 @@ use Rattle.std.specs.Prelude.{◌≡◌, ℕ, List, [], ◌∷◌, codes}
 use Rattle.jsgen_syntax.specs.declared.operator.BinaryOperator.TheVariants.{Addition, Subtraction, Multiplication, Exponential}
 use Rattle.jsgen_syntax.specs.declared.operator.LogicalOperator.TheVariants.{Or, And}
 use Rattle.jsgen_tree.specs.declared.statements.VariableDeclarationKind.TheVariants.{Const}
-use Rattle.jsgen_tree.specs.Tree.{Tree, Maybe, absent, given, Trees, no_trees, more, text, units, digits, numeric_kind, Whole, declaration_kind, binary_operator, logical_operator}
+use Rattle.jsgen_tree.specs.Tree.{Tree, Maybe, absent, given, Trees, no_trees, more, no_value, text, units, digits, numeric_kind, Whole, binary_operator, logical_operator}
 use Rattle.jsgen_tree.specs.Tree as tree
 use Rattle.jsgen_model.specs.Tokens.{Tokens, AreTokensOf}
-use Rattle.jsgen_model.specs.Normal.{bare, normal}
-use Rattle.jsgen_model.specs.Grammar.{named, ReadsModule}
+use Rattle.jsgen_tree.specs.Values.{bare}
+use Rattle.jsgen_model.specs.Normal.{nothing_of, named, unnumbered, by_text, declared_as, normal}
+use Rattle.jsgen_model.specs.Grammar.{ReadsModule}
 
 -- the text has tokens, and they are read as this program
 abbrev pub IsRead : List ℕ → Tree → Type 0
@@ -20,22 +21,22 @@ IsNotRead source = (ts : Tokens) (t : Tree) → AreTokensOf source ts → ReadsM
 -- ---- trees
 
 abbrev pub module_of : Trees → Tree
-module_of statements = tree.program (bare []) no_trees statements
+module_of statements = tree.program (nothing_of 4) no_trees statements
 
 abbrev pub directed : List ℕ → Trees → Tree
-directed value statements = tree.program (bare []) (more (tree.directive (bare (units value ∷ []))) no_trees) statements
+directed value statements = tree.program (nothing_of 4) (more (tree.directive (bare (units value ∷ []))) no_trees) statements
 
 abbrev pub a : Tree
-a = tree.identifier_reference (named (codes "a"))
+a = tree.identifier_reference (unnumbered (codes "a"))
 
 abbrev pub b : Tree
-b = tree.identifier_reference (named (codes "b"))
+b = tree.identifier_reference (unnumbered (codes "b"))
 
 abbrev pub c : Tree
-c = tree.identifier_reference (named (codes "c"))
+c = tree.identifier_reference (unnumbered (codes "c"))
 
 abbrev pub one : Tree
-one = tree.numeric_literal (bare (text (codes "1") ∷ []))
+one = tree.numeric_literal (by_text (codes "1"))
 
 abbrev pub sum_of : Tree → Tree → Tree
 sum_of left right = tree.binary (bare (binary_operator Addition ∷ [])) left right
@@ -56,37 +57,37 @@ abbrev pub or_of : Tree → Tree → Tree
 or_of left right = tree.logical (bare (logical_operator Or ∷ [])) left right
 
 abbrev pub in_parentheses : Tree → Tree
-in_parentheses inner = tree.parenthesized (bare []) inner
+in_parentheses inner = tree.parenthesized (nothing_of 0) inner
 
 abbrev pub string_of : List ℕ → Tree
 string_of value = tree.string_literal (bare (units value ∷ []))
 
 abbrev pub member_of : Tree → List ℕ → Tree
-member_of object name = tree.static_member (bare []) object (tree.identifier_name (named name))
+member_of object name = tree.static_member (nothing_of 1) object (tree.identifier_name (named name))
 
 abbrev pub element_of : Tree → Tree → Tree
-element_of object expression = tree.computed_member (bare []) object expression
+element_of object expression = tree.computed_member (nothing_of 1) object expression
 
 abbrev pub call_of : Tree → Trees → Tree
-call_of callee arguments = tree.call (bare []) callee arguments
+call_of callee arguments = tree.call (nothing_of 2) callee arguments
 
 abbrev pub statement_of : Tree → Tree
-statement_of expression = tree.expression_statement (bare []) expression
+statement_of expression = tree.expression_statement (nothing_of 0) expression
 
 abbrev pub bound : List ℕ → Maybe → Tree
-bound name value = tree.variable_declarator (bare []) (tree.binding_identifier (named name)) value
+bound name value = tree.variable_declarator (nothing_of 1) (tree.binding_identifier (unnumbered name)) value
 
 abbrev pub const_of : Trees → Tree
-const_of bounds = tree.variable_declaration (bare (declaration_kind Const ∷ [])) bounds
+const_of bounds = tree.variable_declaration (declared_as Const) bounds
 
 abbrev pub block_of : Trees → Tree
-block_of statements = tree.block (bare []) statements
+block_of statements = tree.block (nothing_of 0) statements
 
 abbrev pub if_of : Tree → Tree → Maybe → Tree
-if_of test consequent alternate = tree.if_statement (bare []) test consequent alternate
+if_of test consequent alternate = tree.if_statement (nothing_of 0) test consequent alternate
 
 abbrev pub empty : Tree
-empty = tree.empty_statement (bare [])
+empty = tree.empty_statement (nothing_of 0)
 
 -- ---- the samples
 
@@ -117,13 +118,15 @@ pub record GrammarSamples : Type 0 where
   -- an escape in a name is its character (12.7)
   pub escaped_name : IsRead (codes "\\u0061;") (module_of (more (statement_of a) no_trees))
   pub semicolon_alone : IsRead (codes ";") (module_of (more empty no_trees))
-  -- before a closing brace the semicolon may lack (12.10)
+  -- before a closing brace the semicolon may be omitted (12.10)
   pub block : IsRead (codes "{a;b}") (module_of (more (block_of (more (statement_of a) (more (statement_of b) no_trees))) no_trees))
   pub empty_in_block : IsRead (codes "{;}") (module_of (more (block_of (more empty no_trees)) no_trees))
   pub without_else : IsRead (codes "if(a)b;") (module_of (more (if_of a (statement_of b) absent) no_trees))
   pub with_else : IsRead (codes "if(a)b;else c;") (module_of (more (if_of a (statement_of b) (given (statement_of c))) no_trees))
   -- `else` goes with the last `if` that has none (14.6)
   pub last_if : IsRead (codes "if(a)if(b)c;else;") (module_of (more (if_of a (if_of b (statement_of c) (given empty)) absent) no_trees))
+  -- and never with one further out
+  pub no_other_if : (ts : Tokens) → AreTokensOf (codes "if(a)if(b)c;else;") ts → ReadsModule ts (module_of (more (if_of a (if_of b (statement_of c) absent) (given empty)) no_trees)) → ⊥
   pub two_names : IsNotRead (codes "a b")
   pub two_numbers : IsNotRead (codes "1 2;")
   pub no_right_operand : IsNotRead (codes "a +")
@@ -170,7 +173,7 @@ pub record NormalSamples : Type 0 where
   pub other_name : AreTwo a b
   pub name_or_number : AreTwo a one
   -- a number by its value, as a job gives it, and by its digits, as it is read
-  pub number : AreOne (tree.numeric_literal (record { span = record { start = 3; end = 5 }; values = numeric_kind Whole ∷ digits 10 ∷ [] })) (tree.numeric_literal (bare (text (codes "10") ∷ [])))
+  pub number : AreOne (tree.numeric_literal (record { span = record { start = 3; end = 5 }; values = numeric_kind Whole ∷ no_value ∷ digits 10 ∷ no_value ∷ [] })) (tree.numeric_literal (by_text (codes "10")))
   -- `const a;` and `const a=1;`
   pub value_or_none : AreTwo (const_of (more (bound (codes "a") absent) no_trees)) (const_of (more (bound (codes "a") (given one)) no_trees))
   -- `a;b;` and `b;a;`

@@ -4,7 +4,7 @@ ghost use Rattle.jsgen_tree.specs.Tree.{trees, optional, block};
 ghost use Rattle.jsgen_tree.specs.Rows.{program_row, directive_row, expression_statement_row, block_statement_row, if_statement_row, empty_statement_row, variable_declaration_row, variable_declarator_row, binding_identifier_row, identifier_reference_row, numeric_literal_row, string_literal_row, parenthesized_expression_row, binary_expression_row, logical_expression_row, identifier_name_row, static_member_expression_row, computed_member_expression_row, call_expression_row, expression_plain, statement_plain, declaration_plain, binding_pattern_plain, in_expression, in_statement, in_argument};
 ghost use Rattle.jsgen_tree.specs.Plain.{node_plain};
 ghost use Rattle.jsgen_tree.specs.Table.{ends_open};
-ghost use Rattle.jsgen_model.specs.Normal.{bare, normal, normal_maybe, normal_trees, joined, links, same_operator, unbraced};
+ghost use Rattle.jsgen_model.specs.Normal.{nothing_of, normal, normal_maybe, normal_trees, joined, links, same_operator, unbraced};
 ghost use Rattle.jsgen_slow.specs.Form.{form_plain, forms_plain, optional_plain};
 
 use crate::characters::characters_of;
@@ -144,7 +144,7 @@ fn unbraced(form: Form) -> Form
 }
 
 fn unbraced_block(mut body: Vec<Form>) -> Form
-    ensures { form_plain result ≡ unbraced (block (bare []) (forms_plain body.items)) }
+    ensures { form_plain result ≡ unbraced (block (nothing_of 0) (forms_plain body.items)) }
 {
     if body.len() != 1 {
         return Form::BlockStatement { body };

@@ -8,7 +8,8 @@ use Rattle.jsgen_syntax.specs.declared.operator.BinaryOperator.TheVariants as op
 use Rattle.jsgen_syntax.specs.declared.operator.LogicalOperator.{LogicalOperator}
 use Rattle.jsgen_syntax.specs.declared.operator.LogicalOperator.TheVariants.{And}
 use Rattle.jsgen_tree.specs.declared.types.NodeType.TheVariants as types
-use Rattle.jsgen_tree.specs.Tree.{Tree, node, logical_operator_in, absent, given, no_trees, more, text_in, operator_in}
+use Rattle.jsgen_tree.specs.Tree.{Tree, node, absent, given, no_trees, more}
+use Rattle.jsgen_tree.specs.Values.{identifier_reference_name, binary_expression_operator, logical_expression_operator}
 use Rattle.jsgen_tree.specs.Tree as tree
 use Rattle.jsgen_slow.proofs.normal_samples.Goals as goal
 
@@ -23,7 +24,7 @@ is_and And = true
 is_and o = false
 
 abbrev adds : Tree → Bool
-adds (tree.binary a left right) = is_addition (operator_in a.values)
+adds (tree.binary a left right) = is_addition (binary_expression_operator a)
 adds t = false
 
 abbrev is_name : Tree → Bool
@@ -31,7 +32,7 @@ is_name (tree.identifier_reference a) = true
 is_name t = false
 
 abbrev is_a : Tree → Bool
-is_a (tree.identifier_reference a) = bytes_eq (text_in a.values) (codes "a")
+is_a (tree.identifier_reference a) = bytes_eq (identifier_reference_name a) (codes "a")
 is_a t = false
 
 abbrev begins_with_name : Tree → Bool
@@ -43,7 +44,7 @@ begins_with_a (tree.program a directives (more (tree.expression_statement b e) t
 begins_with_a t = false
 
 abbrev is_conjunction : Tree → Bool
-is_conjunction (node types.LogicalExpression a slots) = is_and (logical_operator_in a.values)
+is_conjunction (node types.LogicalExpression a slots) = is_and (logical_expression_operator a)
 is_conjunction t = false
 
 abbrev has_no_value : Tree → Bool
