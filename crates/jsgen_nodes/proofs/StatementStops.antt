@@ -22,8 +22,8 @@ pub turn_left : {A : Type 0} (items : List A → Items) (xs : List A) (i : ℕ) 
 turn_left items xs i x at h e left = ap (λ y. layout (items (y ∷ drop (i + 1) xs)) at) e ∙ (sym (at_drop_more (λ ys. layout (items ys) at) xs i x h) ∙ left)
 
 -- what stopped within items that give the whole
-pub part_stopped : {old at new part whole : Pen} → IsPrefix old.code at.code → part ≡ whole → Stops at new part → Stops old new whole
-part_stopped {old} {at} {new} {part} before e s = stops_within s before (subst (λ p. IsPrefix part.code p.code) e (whole_prefix part.code))
+pub part_stopped : (at : Pen) {old new part whole : Pen} → IsPrefix old.code at.code → part ≡ whole → Stops at new part → Stops old new whole
+part_stopped at {old} {new} {part} before e s = stops_within s before (subst (λ p. IsPrefix part.code p.code) e (whole_prefix part.code))
 
 -- the next turn begins behind the code before, and the rows behind give the whole
 pub turn_done : (first rest : Items) (old at next : Pen) {whole : Pen} → IsPrefix old.code at.code → layout (first ⊕ rest) at ≡ whole → next ≡ layout first at → IsPrefix old.code next.code × layout rest next ≡ whole

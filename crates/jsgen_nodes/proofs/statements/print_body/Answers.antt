@@ -20,7 +20,7 @@ returns-in_err-print_first_statement-in-Some g c =
     let first = plain c.in-Some.first.now in
     let rest = spell_statements (trees (map plain c.in-Some.others.now)) settings in
     let all = ap (λ ss. layout (spell_body (trees (map plain ss)) settings) before) (sym c.in-Some.ensures.cases.0) in
-    stopped _ c.from_residual.ensures.0 (part_stopped (whole_prefix before.code) all (stops_first (due_semicolon ⊕ first_statement first (spell first (among_statements settings))) rest (rw c.get.ensures at c.in_err-print_first_statement-in-Some.ensures)))
+    stopped _ c.from_residual.ensures.0 (part_stopped before (whole_prefix before.code) all (stops_first (due_semicolon ⊕ first_statement first (spell first (among_statements settings))) rest (rw c.get.ensures at c.in_err-print_first_statement-in-Some.ensures)))
 
 pub returns-in_ok-print_first_statement-in-Some : goal.returns-in_ok-print_first_statement-in-Some
 unfolding pen_after

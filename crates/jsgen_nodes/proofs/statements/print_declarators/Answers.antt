@@ -40,7 +40,7 @@ returns-in_err-print_variable_declarator-in-Some g c =
     let all = ap (λ ds. layout (kind ⊕ (soft_space ⊕ spell_list (trees (map row ds)) place)) before) (sym c.in-Some.ensures.cases.0 ∙ c.deref.ensures.value) in
     let here = behind_space Lowest c.args.place c.child.result before (pen_of c.print_word.new.self) spaced (ap (λ p. p.start) behind_kind) c.in_ok-print_soft_space.ensures c.child.ensures in
     let in_first = subst (λ q. Stops spaced (pen_of c.print_variable_declarator.new.p) (layout (spell (row c.in-Some.first.now) q) spaced)) here c.in_err-print_variable_declarator-in-Some.ensures in
-    stopped _ c.from_residual-in_err-print_variable_declarator-in-Some.ensures.0 (part_stopped (whole_prefix before.code) all (stops_second kind (soft_space ⊕ (first ⊕ more)) behind_kind (stops_second soft_space (first ⊕ more) c.in_ok-print_soft_space.ensures (stops_first first more in_first))))
+    stopped _ c.from_residual-in_err-print_variable_declarator-in-Some.ensures.0 (part_stopped before (whole_prefix before.code) all (stops_second kind (soft_space ⊕ (first ⊕ more)) behind_kind (stops_second soft_space (first ⊕ more) c.in_ok-print_soft_space.ensures (stops_first first more in_first))))
 
 pub returns-in_ok-print_variable_declarator-in-Some : goal.returns-in_ok-print_variable_declarator-in-Some
 unfolding pen_after

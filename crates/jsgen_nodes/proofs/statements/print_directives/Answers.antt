@@ -29,4 +29,4 @@ returns-in_err-print_directive c =
     let items = λ (ds : _). spell_directives (trees (map directive_row ds)) settings in
     let at = pen_of c.loop-directive.p in
     let left = turn_left items c.args.directives.now c.loop-directive.directive-index c.directive-item.result at c.loop-directive-test.true c.directive-item.is c.loop-directive.invariant.1 in
-    stopped _ c.from_residual.ensures.0 (part_stopped c.loop-directive.invariant.0 left (stops_first (spell (directive_row c.directive-item.result) (among_statements settings)) (items (drop (c.loop-directive.directive-index + 1) c.args.directives.now)) c.in_err-print_directive.ensures))
+    stopped _ c.from_residual.ensures.0 (part_stopped at c.loop-directive.invariant.0 left (stops_first (spell (directive_row c.directive-item.result) (among_statements settings)) (items (drop (c.loop-directive.directive-index + 1) c.args.directives.now)) c.in_err-print_directive.ensures))

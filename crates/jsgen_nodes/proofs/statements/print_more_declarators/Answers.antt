@@ -43,7 +43,7 @@ returns-in_err-print_comma g c =
     let first = spell (row c.declarator-item.result) place in
     let rest = items (drop (c.loop-declarator.declarator-index + 1) c.args.declarators.now) in
     let left = turn_left items c.args.declarators.now c.loop-declarator.declarator-index c.declarator-item.result at c.loop-declarator-test.true c.declarator-item.is c.loop-declarator.invariant.1 in
-    stopped _ c.from_residual.ensures.0 (part_stopped c.loop-declarator.invariant.0 left (stops_first (punctuator comma) (soft_space ⊕ (first ⊕ rest)) c.in_err-print_comma.ensures))
+    stopped _ c.from_residual.ensures.0 (part_stopped at c.loop-declarator.invariant.0 left (stops_first (punctuator comma) (soft_space ⊕ (first ⊕ rest)) c.in_err-print_comma.ensures))
 
 pub returns-in_err-print_soft_space : goal.returns-in_err-print_soft_space
 unfolding pen_after
@@ -55,7 +55,7 @@ returns-in_err-print_soft_space g c =
     let first = spell (row c.declarator-item.result) place in
     let rest = items (drop (c.loop-declarator.declarator-index + 1) c.args.declarators.now) in
     let left = turn_left items c.args.declarators.now c.loop-declarator.declarator-index c.declarator-item.result at c.loop-declarator-test.true c.declarator-item.is c.loop-declarator.invariant.1 in
-    stopped _ c.from_residual-in_err-print_soft_space.ensures.0 (part_stopped c.loop-declarator.invariant.0 left (stops_second (punctuator comma) (soft_space ⊕ (first ⊕ rest)) c.in_ok-print_comma.ensures (stops_first soft_space (first ⊕ rest) c.in_err-print_soft_space.ensures)))
+    stopped _ c.from_residual-in_err-print_soft_space.ensures.0 (part_stopped at c.loop-declarator.invariant.0 left (stops_second (punctuator comma) (soft_space ⊕ (first ⊕ rest)) c.in_ok-print_comma.ensures (stops_first soft_space (first ⊕ rest) c.in_err-print_soft_space.ensures)))
 
 pub returns-in_err-print_variable_declarator : goal.returns-in_err-print_variable_declarator
 unfolding pen_after
@@ -70,4 +70,4 @@ returns-in_err-print_variable_declarator g c =
     let spaced = pen_of c.print_soft_space.new.self in
     let here = behind_space Lowest c.args.place c.child.result (pen_of c.args.p.now) (pen_of c.print_comma.new.self) spaced (ap (λ p. p.start) c.in_ok-print_comma.ensures) c.in_ok-print_soft_space.ensures c.child.ensures in
     let in_first = subst (λ q. Stops spaced (pen_of c.print_variable_declarator.new.p) (layout (spell (row c.declarator-item.result) q) spaced)) here c.in_err-print_variable_declarator.ensures in
-    stopped _ c.from_residual-in_err-print_variable_declarator.ensures.0 (part_stopped c.loop-declarator.invariant.0 left (stops_second (punctuator comma) (soft_space ⊕ (first ⊕ rest)) c.in_ok-print_comma.ensures (stops_second soft_space (first ⊕ rest) c.in_ok-print_soft_space.ensures (stops_first first rest in_first))))
+    stopped _ c.from_residual-in_err-print_variable_declarator.ensures.0 (part_stopped at c.loop-declarator.invariant.0 left (stops_second (punctuator comma) (soft_space ⊕ (first ⊕ rest)) c.in_ok-print_comma.ensures (stops_second soft_space (first ⊕ rest) c.in_ok-print_soft_space.ensures (stops_first first rest in_first))))

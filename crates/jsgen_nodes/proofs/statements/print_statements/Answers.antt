@@ -35,7 +35,7 @@ returns-in_err-print_due_semicolon g c =
     let at = pen_of c.loop-statement.p in
     let left = turn_left items c.args.statements.now c.loop-statement.statement-index c.statement-item.result at c.loop-statement-test.true c.statement-item.is c.loop-statement.invariant.1 in
     let rest = items (drop (c.loop-statement.statement-index + 1) c.args.statements.now) in
-    stopped _ c.from_residual.ensures.0 (part_stopped c.loop-statement.invariant.0 left (stops_first due_semicolon (first ⊕ rest) c.in_err-print_due_semicolon.ensures))
+    stopped _ c.from_residual.ensures.0 (part_stopped at c.loop-statement.invariant.0 left (stops_first due_semicolon (first ⊕ rest) c.in_err-print_due_semicolon.ensures))
 
 pub returns-in_err-print : goal.returns-in_err-print
 unfolding pen_after
@@ -47,4 +47,4 @@ returns-in_err-print g c =
     let at = pen_of c.loop-statement.p in
     let left = turn_left items c.args.statements.now c.loop-statement.statement-index c.statement-item.result at c.loop-statement-test.true c.statement-item.is c.loop-statement.invariant.1 in
     let rest = items (drop (c.loop-statement.statement-index + 1) c.args.statements.now) in
-    stopped _ c.from_residual-in_err-print.ensures.0 (part_stopped c.loop-statement.invariant.0 left (stops_second due_semicolon (first ⊕ rest) refl (stops_first first rest (rw (c.in_ok-print_due_semicolon.ensures, c.get.ensures, c.among_statements.ensures) at c.in_err-print.ensures))))
+    stopped _ c.from_residual-in_err-print.ensures.0 (part_stopped at c.loop-statement.invariant.0 left (stops_second due_semicolon (first ⊕ rest) refl (stops_first first rest (rw (c.in_ok-print_due_semicolon.ensures, c.get.ensures, c.among_statements.ensures) at c.in_err-print.ensures))))
