@@ -3,13 +3,14 @@ use Rattle.std.proofs.Common.{◌≡◌, ℕ, ◌+◌, ◌<◌, Bool, true, fals
 use Rattle.std.proofs.Math.ListN.{get_or}
 use Rattle.std.proofs.lemmas.List.{at_drop_more}
 use Rattle.jsgen_syntax.specs.declared.precedence.Precedence.{Precedence}
+use Rattle.jsgen_tree.specs.Tree.{Tree}
 use Rattle.jsgen_model.specs.Items.{Items, ◌⊕◌, soft_space}
 use Rattle.jsgen_model.specs.Layout.{Pen, nowhere, layout, unless_printed, not}
 use Rattle.jsgen_model.specs.Spell as spells
-use Rattle.jsgen_model.specs.Spell.{behind}
+use Rattle.jsgen_model.specs.Spell.{spell, behind}
 use Rattle.jsgen_model.specs.Printing.{IsPrefix, Stops, Reaches}
 use Rattle.jsgen_printer.proofs.Prefixes.{whole_prefix}
-use Rattle.jsgen_printer.proofs.Stops.{layout_appends, layout_more, stops_within, reaches_last}
+use Rattle.jsgen_printer.proofs.Stops.{layout_appends, layout_more, stops_within, stops_second, reaches_last}
 use Rattle.jsgen_nodes.specs.declared.place.Place.{Place}
 use Rattle.jsgen_nodes.specs.Place.{settings_of, context_of, place_of}
 
@@ -34,7 +35,14 @@ still_nowhere true = refl
 still_nowhere false = refl
 
 -- behind a space, nothing begins where nothing began before it
-pub behind_space : (level : Precedence) (place child : Place) (before at spaced : Pen) → at.start ≡ nowhere → spaced ≡ layout soft_space at → child ≡ record { settings = place.settings; level = level; context = place.context; in_list = false; left_operand = false } → place_of child spaced ≡ behind level (place_of place before)
+behind_space : (level : Precedence) (place child : Place) (before at spaced : Pen) → at.start ≡ nowhere → spaced ≡ layout soft_space at → child ≡ record { settings = place.settings; level = level; context = place.context; in_list = false; left_operand = false } → place_of child spaced ≡ behind level (place_of place before)
 behind_space level place child before at spaced none hs hc =
     let start : spaced.start ≡ nowhere = ap (λ p. p.start) hs ∙ (ap (λ s. unless_printed (not at.style.minified) s) none ∙ still_nowhere (not at.style.minified)) in
     ap (λ q. place_of q spaced) hc ∙ ap (λ s. record { settings = settings_of place.settings; level = level; context = context_of place.context; start = s; in_list = false; left_operand = false }) start
+
+-- a row behind a space, on Ok and where memory runs out
+pub spaced_row : (level : Precedence) (place child : Place) (before at spaced next : Pen) (row : Tree) → at.start ≡ nowhere → spaced ≡ layout soft_space at → child ≡ record { settings = place.settings; level = level; context = place.context; in_list = false; left_operand = false } → next ≡ layout (spell row (place_of child spaced)) spaced → next ≡ layout (soft_space ⊕ spell row (behind level (place_of place before))) at
+spaced_row level place child before at spaced next row none hs hc h = h ∙ (ap (λ q. layout (spell row q) spaced) (behind_space level place child before at spaced none hs hc) ∙ ap (λ p. layout (spell row (behind level (place_of place before))) p) hs)
+
+pub spaced_stopped : (level : Precedence) (place child : Place) (before at spaced new : Pen) (row : Tree) → at.start ≡ nowhere → spaced ≡ layout soft_space at → child ≡ record { settings = place.settings; level = level; context = place.context; in_list = false; left_operand = false } → Stops spaced new (layout (spell row (place_of child spaced)) spaced) → Stops at new (layout (soft_space ⊕ spell row (behind level (place_of place before))) at)
+spaced_stopped level place child before at spaced new row none hs hc s = stops_second soft_space (spell row (behind level (place_of place before))) hs (subst (λ q. Stops spaced new (layout (spell row q) spaced)) (behind_space level place child before at spaced none hs hc) s)
