@@ -1,2 +1,3 @@
 pub mod Braces
 pub mod Operations
+pub mod StatementStops
