@@ -1,2 +1,3 @@
+pub mod BlockStops
 pub mod Braces
 pub mod Operations
