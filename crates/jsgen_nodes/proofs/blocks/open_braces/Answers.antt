@@ -1,6 +1,5 @@
-use Rattle.std.proofs.Common.{refl, sym, ap, ◌∙◌}
-use Rattle.jsgen_nodes.specs.Place.{pen_after}
-use Rattle.jsgen_printer.proofs.Stops.{appends, stopped, stops_within, reaches_last}
+use Rattle.std.proofs.Common.{refl}
+use Rattle.jsgen_printer.proofs.Stops.{appends, reaches_last}
 use Rattle.jsgen_nodes.proofs.blocks.open_braces.Goals as goal
 
 pub returns-clause-pen : goal.returns-clause-pen

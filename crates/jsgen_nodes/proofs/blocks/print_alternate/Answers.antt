@@ -1,6 +1,5 @@
-use Rattle.std.proofs.Common.{refl, sym, ap, ◌∙◌}
 use Rattle.jsgen_nodes.specs.Place.{pen_after}
-use Rattle.jsgen_printer.proofs.Stops.{appends, stopped, stops_within, reaches_last}
+use Rattle.jsgen_printer.proofs.Stops.{appends, stopped, stops_within}
 use Rattle.jsgen_nodes.proofs.blocks.print_alternate.Goals as goal
 
 pub returns-in_err-print_due_semicolon-in-Some : goal.returns-in_err-print_due_semicolon-in-Some

@@ -1,4 +1,4 @@
-use Rattle.std.proofs.Common.{refl, sym, ap, ◌∙◌}
+use Rattle.std.proofs.Common.{refl}
 use Rattle.jsgen_nodes.specs.Place.{pen_after}
 use Rattle.jsgen_printer.proofs.Stops.{appends, stopped, stops_within, reaches_last}
 use Rattle.jsgen_nodes.proofs.blocks.print_block_statement.Goals as goal

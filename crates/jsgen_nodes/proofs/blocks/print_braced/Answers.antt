@@ -13,11 +13,15 @@ returns-in_err-print_soft_space g c = stopped _ c.from_residual.ensures.0 (stops
 
 pub returns-in_err-depth : goal.returns-in_err-depth
 unfolding pen_after
-returns-in_err-depth g c = stopped _ c.from_residual-in_err-depth.ensures.0 (stops_in_braced (spell (g.N.PrintNode.plain c.args.consequent.now) (among_statements (settings_of c.args.settings))) (braces_end c.args.else_follows) (stops_opening (spell (g.N.PrintNode.plain c.args.consequent.now) (among_statements (settings_of c.args.settings))) (rw c.in_ok-print_soft_space.ensures at c.in_err-depth.ensures.pen)))
+returns-in_err-depth g c =
+    let items = spell (g.N.PrintNode.plain c.args.consequent.now) (among_statements (settings_of c.args.settings)) in
+    stopped _ c.from_residual-in_err-depth.ensures.0 (stops_in_braced items (braces_end c.args.else_follows) (stops_opening items (rw c.in_ok-print_soft_space.ensures at c.in_err-depth.ensures.pen)))
 
 pub returns-in_err-print : goal.returns-in_err-print
 unfolding pen_after
-returns-in_err-print g c = stopped _ c.from_residual-in_err-print.ensures.0 (stops_in_braced (spell (g.N.PrintNode.plain c.args.consequent.now) (among_statements (settings_of c.args.settings))) (braces_end c.args.else_follows) (stops_in_braces (spell (g.N.PrintNode.plain c.args.consequent.now) (among_statements (settings_of c.args.settings))) (rw (c.among_statements.ensures, c.in_ok-depth.ensures.pen, c.in_ok-print_soft_space.ensures) at c.in_err-print.ensures)))
+returns-in_err-print g c =
+    let items = spell (g.N.PrintNode.plain c.args.consequent.now) (among_statements (settings_of c.args.settings)) in
+    stopped _ c.from_residual-in_err-print.ensures.0 (stops_in_braced items (braces_end c.args.else_follows) (stops_in_braces items (rw (c.among_statements.ensures, c.in_ok-depth.ensures.pen, c.in_ok-print_soft_space.ensures) at c.in_err-print.ensures)))
 
 pub returns-in_err-close_braces : goal.returns-in_err-close_braces
 unfolding pen_after
@@ -25,4 +29,6 @@ returns-in_err-close_braces g c = stopped _ c.from_residual-in_err-close_braces.
 
 pub returns : goal.returns
 unfolding pen_after
-returns g c = reaches_last _ _ _ _ _ _ (rw (c.in_ok-close_braces.ensures, c.in_ok-print.ensures, c.among_statements.ensures, c.in_ok-depth.ensures.level, c.in_ok-depth.ensures.pen, c.in_ok-print_soft_space.ensures) at c.print_braces_end.ensures) (layout_appends (soft_space ⊕ filled_braces (spell (g.N.PrintNode.plain c.args.consequent.now) (among_statements (settings_of c.args.settings)))) (pen_of c.args.p.now)) refl
+returns g c =
+    let items = spell (g.N.PrintNode.plain c.args.consequent.now) (among_statements (settings_of c.args.settings)) in
+    reaches_last _ _ _ _ _ _ (rw (c.in_ok-close_braces.ensures, c.in_ok-print.ensures, c.among_statements.ensures, c.in_ok-depth.ensures.level, c.in_ok-depth.ensures.pen, c.in_ok-print_soft_space.ensures) at c.print_braces_end.ensures) (layout_appends (soft_space ⊕ filled_braces items) (pen_of c.args.p.now)) refl

@@ -1,6 +1,4 @@
-use Rattle.std.proofs.Common.{refl, sym, ap, ◌∙◌}
-use Rattle.jsgen_nodes.specs.Place.{pen_after}
-use Rattle.jsgen_printer.proofs.Stops.{appends, stopped, stops_within, reaches_last}
+use Rattle.jsgen_printer.proofs.Stops.{appends, stopped, stops_within}
 use Rattle.jsgen_nodes.proofs.blocks.print_empty_body.Goals as goal
 
 pub returns-in_err-print_semicolon : goal.returns-in_err-print_semicolon

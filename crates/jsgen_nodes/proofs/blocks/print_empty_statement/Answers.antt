@@ -1,6 +1,6 @@
-use Rattle.std.proofs.Common.{refl, sym, ap, ◌∙◌}
+use Rattle.std.proofs.Common.{refl}
 use Rattle.jsgen_nodes.specs.Place.{pen_after}
-use Rattle.jsgen_printer.proofs.Stops.{appends, stopped, stops_within, reaches_last}
+use Rattle.jsgen_printer.proofs.Stops.{appends, reaches_last}
 use Rattle.jsgen_nodes.proofs.blocks.print_empty_statement.Goals as goal
 
 pub returns : goal.returns
