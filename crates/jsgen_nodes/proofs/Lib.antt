@@ -1,3 +1,4 @@
+pub mod BlockStops
 pub mod Braces
 pub mod Operations
 pub mod StatementStops

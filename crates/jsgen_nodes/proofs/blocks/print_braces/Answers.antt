@@ -3,7 +3,8 @@ use Rattle.jsgen_tree.specs.Tree.{trees}
 use Rattle.jsgen_tree.specs.Rows.{in_statement}
 use Rattle.jsgen_model.specs.Spell.{spell_statements}
 use Rattle.jsgen_printer.specs.Printer.{pen_of}
-use Rattle.jsgen_printer.proofs.Texts.{same_pen}
+use Rattle.jsgen_printer.proofs.Prefixes.{whole_prefix}
+use Rattle.jsgen_printer.proofs.Stops.{reaches_last}
 use Rattle.jsgen_nodes.specs.Place.{settings_of}
 use Rattle.jsgen_nodes.proofs.Braces.{some_braces}
 use Rattle.jsgen_nodes.proofs.blocks.print_braces.Goals as goal
@@ -12,4 +13,4 @@ pub returns-else-is_empty : goal.returns-else-is_empty
 returns-else-is_empty g c =
     let plain = in_statement g.N.PrintNode.plain in
     let statements = c.args.statements.now in
-    same_pen _ _ _ _ c.print_filled_braces.ensures (some_braces plain statements (spell_statements (trees (map plain statements)) (settings_of c.args.settings)) (pen_of c.args.p.now) (sym c.is_empty.ensures ∙ c.if-is_empty.false))
+    reaches_last _ _ _ _ _ _ c.print_filled_braces.ensures (whole_prefix _) (some_braces plain statements (spell_statements (trees (map plain statements)) (settings_of c.args.settings)) (pen_of c.args.p.now) (sym c.is_empty.ensures ∙ c.if-is_empty.false))

@@ -1,0 +1,34 @@
+use Rattle.std.proofs.Common.{refl}
+use Rattle.jsgen_model.specs.Items.{◌⊕◌, soft_space}
+use Rattle.jsgen_model.specs.Spell.{spell, filled_braces, braces_end, among_statements}
+use Rattle.jsgen_printer.specs.Printer.{pen_of}
+use Rattle.jsgen_nodes.specs.Place.{pen_after, settings_of}
+use Rattle.jsgen_printer.proofs.Stops.{appends, stopped, stops_within, reaches_last, layout_appends}
+use Rattle.jsgen_nodes.proofs.BlockStops.{stops_opening, stops_in_braces, stops_in_braced}
+use Rattle.jsgen_nodes.proofs.blocks.print_braced.Goals as goal
+
+pub returns-in_err-print_soft_space : goal.returns-in_err-print_soft_space
+unfolding pen_after
+returns-in_err-print_soft_space g c = stopped _ c.from_residual.ensures.0 (stops_within c.in_err-print_soft_space.ensures (search appends) (search appends))
+
+pub returns-in_err-depth : goal.returns-in_err-depth
+unfolding pen_after
+returns-in_err-depth g c =
+    let items = spell (g.N.PrintNode.plain c.args.consequent.now) (among_statements (settings_of c.args.settings)) in
+    stopped _ c.from_residual-in_err-depth.ensures.0 (stops_in_braced items (braces_end c.args.else_follows) (stops_opening items (rw c.in_ok-print_soft_space.ensures at c.in_err-depth.ensures.pen)))
+
+pub returns-in_err-print : goal.returns-in_err-print
+unfolding pen_after
+returns-in_err-print g c =
+    let items = spell (g.N.PrintNode.plain c.args.consequent.now) (among_statements (settings_of c.args.settings)) in
+    stopped _ c.from_residual-in_err-print.ensures.0 (stops_in_braced items (braces_end c.args.else_follows) (stops_in_braces items (rw (c.among_statements.ensures, c.in_ok-depth.ensures.pen, c.in_ok-print_soft_space.ensures) at c.in_err-print.ensures)))
+
+pub returns-in_err-close_braces : goal.returns-in_err-close_braces
+unfolding pen_after
+returns-in_err-close_braces g c = stopped _ c.from_residual-in_err-close_braces.ensures.0 (stops_within (rw (c.in_ok-print.ensures, c.among_statements.ensures, c.in_ok-depth.ensures.level, c.in_ok-depth.ensures.pen, c.in_ok-print_soft_space.ensures) at c.in_err-close_braces.ensures) (search appends) (search appends))
+
+pub returns : goal.returns
+unfolding pen_after
+returns g c =
+    let items = spell (g.N.PrintNode.plain c.args.consequent.now) (among_statements (settings_of c.args.settings)) in
+    reaches_last _ _ _ _ _ _ (rw (c.in_ok-close_braces.ensures, c.in_ok-print.ensures, c.among_statements.ensures, c.in_ok-depth.ensures.level, c.in_ok-depth.ensures.pen, c.in_ok-print_soft_space.ensures) at c.print_braces_end.ensures) (layout_appends (soft_space ⊕ filled_braces items) (pen_of c.args.p.now)) refl
