@@ -15,10 +15,14 @@ use Rattle.jsgen_printer.proofs.Prefixes.{whole_prefix, prefix_append, more_pref
 use Rattle.jsgen_printer.proofs.Stops.{stops_within, stops_first, stops_second, layout_appends}
 use Rattle.jsgen_nodes.proofs.Operations.{still_nowhere}
 
+-- the place of an argument, as print functions are given it
+abbrev argument_place : Settings → Place
+argument_place settings = record { settings = settings; level = Comma; context = record { forbids_in = false; forbids_call = false }; in_list = false; left_operand = false }
+
 abbrev within_call : Settings → spells.Place
 within_call settings = in_brackets Comma (among_statements (settings_of settings))
 
--- in the first
+-- where memory runs out in the first
 pub stops_at_first : {E : Type 0} (f : E → Tree) (e : E) (es : List E) (settings : Settings) (old new : Pen) → Stops (written (opening Round) other_end old) new (layout (spell (f e) (within_call settings)) (written (opening Round) other_end old)) → Stops old new (layout (brackets Round (spell_list (trees (map f (e ∷ es))) (within_call settings))) old)
 stops_at_first f e es settings old new s =
     stops_within s (prefix_append old.code (opening Round)) (more_prefix (closing Round) (layout_appends (spell_more (trees (map f es)) (within_call settings)) (layout (spell (f e) (within_call settings)) (written (opening Round) other_end old))))
@@ -28,27 +32,31 @@ next_of : {E : Type 0} (f : E → Tree) (es : List E) (i : ℕ) (e : E) (place :
 next_of f es i e place inside is = ap (λ l. spell_more (trees (map f l)) place) (ap (λ n. e ∷ drop n es) (add-one i) ∙ ap (λ x. x ∷ drop (suc i) es) is ∙ sym (drop-cons es i e inside))
 
 -- behind a comma and its space nothing begins
-behind_comma : (inner : Place) (settings : Settings) (at mid pen : Pen) → inner ≡ record { settings = settings; level = Comma; context = record { forbids_in = false; forbids_call = false }; in_list = false; left_operand = false } → mid ≡ layout (punctuator comma) at → pen ≡ layout soft_space mid → place_of inner pen ≡ within_call settings
+behind_comma : (inner : Place) (settings : Settings) (at mid pen : Pen) → inner ≡ argument_place settings → mid ≡ layout (punctuator comma) at → pen ≡ layout soft_space mid → place_of inner pen ≡ within_call settings
 behind_comma inner settings at mid pen is hm hp =
     let start : pen.start ≡ nowhere = ap (λ p. p.start) hp ∙ ap (λ s. unless_printed (not mid.style.minified) s) (ap (λ p. p.start) hm) ∙ still_nowhere (not mid.style.minified) in
     ap (λ q. place_of q pen) is ∙ ap (λ s. record (within_call settings) { start = s }) start
 
+-- where memory runs out in what is left
 stops_turn : (items : Items) (old at new whole : Pen) → layout items at ≡ whole → IsPrefix old.code at.code → Stops at new (layout items at) → Stops old new whole
 stops_turn items old at new whole e before s = stops_within s before (subst (λ p. IsPrefix (layout items at).code p.code) e (whole_prefix (layout items at).code))
 
+-- at the comma
 pub stops_at_comma : {E : Type 0} (f : E → Tree) (es : List E) (i : ℕ) (e : E) (settings : Settings) (old at new whole : Pen) → i < length es → e ≡ get_or es i e → layout (spell_more (trees (map f (drop i es))) (within_call settings)) at ≡ whole → IsPrefix old.code at.code → Stops at new (layout (punctuator comma) at) → Stops old new whole
 stops_at_comma f es i e settings old at new whole inside is left before s =
     let place = within_call settings in
     let behind = soft_space ⊕ (spell (f e) place ⊕ spell_more (trees (map f (drop (i + 1) es))) place) in
     stops_turn (punctuator comma ⊕ behind) old at new whole (ap (λ x. layout x at) (next_of f es i e place inside is) ∙ left) before (stops_first (punctuator comma) behind s)
 
+-- at the space behind it
 pub stops_at_space : {E : Type 0} (f : E → Tree) (es : List E) (i : ℕ) (e : E) (settings : Settings) (old at mid new whole : Pen) → i < length es → e ≡ get_or es i e → layout (spell_more (trees (map f (drop i es))) (within_call settings)) at ≡ whole → IsPrefix old.code at.code → mid ≡ layout (punctuator comma) at → Stops mid new (layout soft_space mid) → Stops old new whole
 stops_at_space f es i e settings old at mid new whole inside is left before hm s =
     let place = within_call settings in
     let behind = spell (f e) place ⊕ spell_more (trees (map f (drop (i + 1) es))) place in
     stops_turn (punctuator comma ⊕ (soft_space ⊕ behind)) old at new whole (ap (λ x. layout x at) (next_of f es i e place inside is) ∙ left) before (stops_second (punctuator comma) (soft_space ⊕ behind) hm (stops_first soft_space behind s))
 
-pub stops_at_argument : {E : Type 0} (f : E → Tree) (es : List E) (i : ℕ) (e : E) (settings : Settings) (inner : Place) (old at mid pen new whole : Pen) → i < length es → e ≡ get_or es i e → inner ≡ record { settings = settings; level = Comma; context = record { forbids_in = false; forbids_call = false }; in_list = false; left_operand = false } → layout (spell_more (trees (map f (drop i es))) (within_call settings)) at ≡ whole → IsPrefix old.code at.code → mid ≡ layout (punctuator comma) at → pen ≡ layout soft_space mid → Stops pen new (layout (spell (f e) (place_of inner pen)) pen) → Stops old new whole
+-- in the argument
+pub stops_at_argument : {E : Type 0} (f : E → Tree) (es : List E) (i : ℕ) (e : E) (settings : Settings) (inner : Place) (old at mid pen new whole : Pen) → i < length es → e ≡ get_or es i e → inner ≡ argument_place settings → layout (spell_more (trees (map f (drop i es))) (within_call settings)) at ≡ whole → IsPrefix old.code at.code → mid ≡ layout (punctuator comma) at → pen ≡ layout soft_space mid → Stops pen new (layout (spell (f e) (place_of inner pen)) pen) → Stops old new whole
 stops_at_argument f es i e settings inner old at mid pen new whole inside is hi left before hm hp s =
     let place = within_call settings in
     let behind = spell_more (trees (map f (drop (i + 1) es))) place in
@@ -56,7 +64,7 @@ stops_at_argument f es i e settings inner old at mid pen new whole inside is hi 
     stops_turn (punctuator comma ⊕ (soft_space ⊕ (spell (f e) place ⊕ behind))) old at new whole (ap (λ x. layout x at) (next_of f es i e place inside is) ∙ left) before (stops_second (punctuator comma) (soft_space ⊕ (spell (f e) place ⊕ behind)) hm (stops_second soft_space (spell (f e) place ⊕ behind) hp (stops_first (spell (f e) place) behind s')))
 
 -- after a turn what is left still leads to the whole
-pub left_after_turn : {E : Type 0} (f : E → Tree) (es : List E) (i : ℕ) (e : E) (settings : Settings) (inner : Place) (at mid pen new whole : Pen) → i < length es → e ≡ get_or es i e → inner ≡ record { settings = settings; level = Comma; context = record { forbids_in = false; forbids_call = false }; in_list = false; left_operand = false } → layout (spell_more (trees (map f (drop i es))) (within_call settings)) at ≡ whole → mid ≡ layout (punctuator comma) at → pen ≡ layout soft_space mid → new ≡ layout (spell (f e) (place_of inner pen)) pen → layout (spell_more (trees (map f (drop (i + 1) es))) (within_call settings)) new ≡ whole
+pub left_after_turn : {E : Type 0} (f : E → Tree) (es : List E) (i : ℕ) (e : E) (settings : Settings) (inner : Place) (at mid pen new whole : Pen) → i < length es → e ≡ get_or es i e → inner ≡ argument_place settings → layout (spell_more (trees (map f (drop i es))) (within_call settings)) at ≡ whole → mid ≡ layout (punctuator comma) at → pen ≡ layout soft_space mid → new ≡ layout (spell (f e) (place_of inner pen)) pen → layout (spell_more (trees (map f (drop (i + 1) es))) (within_call settings)) new ≡ whole
 left_after_turn f es i e settings inner at mid pen new whole inside is hi left hm hp hn =
     let place = within_call settings in
     let behind = spell_more (trees (map f (drop (i + 1) es))) place in

@@ -16,7 +16,7 @@ use Rattle.jsgen_nodes.specs.declared.place.Place.{Place}
 use Rattle.jsgen_nodes.specs.Place.{settings_of, context_of, place_of, place_within}
 use Rattle.jsgen_model.specs.Printing.{Reaches, IsPrefix, Stops}
 use Rattle.jsgen_printer.proofs.Prefixes.{whole_prefix, prefix_append, more_prefix}
-use Rattle.jsgen_printer.proofs.Stops.{reaches_last, stops_within, layout_appends, layout_more, appends}
+use Rattle.jsgen_printer.proofs.Stops.{reaches_last, stops_within, layout_more, appends}
 
 -- nothing begins behind an operator
 pub operator_nowhere : (o : BinaryOperator) (pen : Pen) → (layout (operator_item o) pen).start ≡ nowhere
