@@ -1,6 +1,7 @@
 -- Operations, from the steps that print them.
-use Rattle.std.proofs.Common.{◌≡◌, Bool, true, false, Result, refl, ap, ◌∙◌}
+use Rattle.std.proofs.Common.{◌≡◌, Bool, true, false, Result, refl, ap, subst, ◌∙◌}
 use Rattle.jsgen_syntax.specs.declared.precedence.Precedence.{Precedence}
+use Rattle.jsgen_syntax.specs.Operator.{logical_level, logical_lower_level}
 use Rattle.jsgen_syntax.specs.declared.operator.BinaryOperator.{BinaryOperator}
 use Rattle.jsgen_syntax.specs.declared.operator.BinaryOperator.TheVariants as operators
 use Rattle.jsgen_syntax.specs.declared.operator.LogicalOperator.{LogicalOperator}
@@ -8,14 +9,14 @@ use Rattle.jsgen_syntax.specs.declared.operator.LogicalOperator.TheVariants as l
 use Rattle.jsgen_tree.specs.Tree.{Tree}
 use Rattle.jsgen_model.specs.Punctuator.{Round, opening, closing}
 use Rattle.jsgen_model.specs.Items.{Items, ◌⊕◌, soft_space, wrapped}
-use Rattle.jsgen_model.specs.Layout.{Pen, nowhere, layout, written_if, unless_printed, not}
+use Rattle.jsgen_model.specs.Layout.{Pen, nowhere, layout, written_if, text_if, unless_printed, not}
 use Rattle.jsgen_model.specs.Spell as spells
-use Rattle.jsgen_model.specs.Spell.{spell, left_of, behind, within, operation, operator_item, logical_item}
+use Rattle.jsgen_model.specs.Spell.{spell, left_of, behind, within, left_level, right_level, unmixed, operator_item, logical_item}
 use Rattle.jsgen_nodes.specs.declared.place.Place.{Place}
 use Rattle.jsgen_nodes.specs.Place.{settings_of, context_of, place_of, place_within}
-use Rattle.jsgen_model.specs.Printing.{Reaches, IsPrefix}
-use Rattle.jsgen_printer.proofs.Prefixes.{prefix_append}
-use Rattle.jsgen_printer.proofs.Stops.{reaches_last, layout_more, appends}
+use Rattle.jsgen_model.specs.Printing.{Reaches, IsPrefix, Stops}
+use Rattle.jsgen_printer.proofs.Prefixes.{whole_prefix, prefix_append, more_prefix}
+use Rattle.jsgen_printer.proofs.Stops.{reaches_last, stops_within, layout_more, appends}
 
 -- nothing begins behind an operator
 pub operator_nowhere : (o : BinaryOperator) (pen : Pen) → (layout (operator_item o) pen).start ≡ nowhere
@@ -26,7 +27,7 @@ pub logical_nowhere : (o : LogicalOperator) (pen : Pen) → (layout (logical_ite
 logical_nowhere logical_operators.Or pen = refl
 logical_nowhere o pen = refl
 
-still_nowhere : (printed : Bool) → unless_printed printed nowhere ≡ nowhere
+pub still_nowhere : (printed : Bool) → unless_printed printed nowhere ≡ nowhere
 still_nowhere true = refl
 still_nowhere false = refl
 
@@ -43,14 +44,28 @@ within_printed : (test : Bool) (place : Place) (pen : Pen) → place_of (place_w
 within_printed true place pen = refl
 within_printed false place pen = refl
 
+-- what stands in the parentheses begins where the place within them says
+place_wrapped : (a b : Pen) (test : Bool) (place inner : Place) → inner ≡ place_within test place → b ≡ written_if test (opening Round) a → place_of inner b ≡ within test (place_of place a)
+place_wrapped a b test place inner hi hb = ap (λ q. place_of q b) hi ∙ ap (λ p. place_of (place_within test place) p) hb ∙ within_printed test place a
+
 -- items in parentheses where the test holds
 pub wrapped_laid : {T E : Type 0} (r : Result T E) (z a b c : Pen) (test wraps : Bool) (place inner : Place) (items : spells.Place → Items) → test ≡ wraps → inner ≡ place_within test place → b ≡ written_if test (opening Round) a → c ≡ layout (items (place_of inner b)) b → Reaches r c z (written_if test (closing Round) c) → Reaches r a z (layout (wrapped wraps (items (within wraps (place_of place a)))) a)
 wrapped_laid r z a b c test wraps place inner items ht hi hb hc h =
-    let at_inner : place_of inner b ≡ within test (place_of place a) = ap (λ q. place_of q b) hi ∙ ap (λ p. place_of (place_within test place) p) hb ∙ within_printed test place a in
-    let content : c ≡ layout (items (within test (place_of place a))) (written_if test (opening Round) a) = hc ∙ ap (λ q. layout (items q) b) at_inner ∙ ap (λ p. layout (items (within test (place_of place a))) p) hb in
+    let content : c ≡ layout (items (within test (place_of place a))) (written_if test (opening Round) a) = hc ∙ ap (λ q. layout (items q) b) (place_wrapped a b test place inner hi hb) ∙ ap (λ p. layout (items (within test (place_of place a))) p) hb in
     let kept : IsPrefix a.code c.code = rw hc (layout_more (items (place_of inner b)) b (rw hb (prefix_append a.code _))) in
     reaches_last r a c z _ _ h kept (ap (λ p. written_if test (closing Round) p) content ∙ ap (λ t. layout (wrapped t (items (within t (place_of place a)))) a) ht)
 
--- an operation, in parentheses where the test holds
-pub operation_wrapped : {T E : Type 0} (r : Result T E) (z a b c : Pen) (test wraps : Bool) (place inner : Place) (item : Items) (left right : spells.Place → Items) → test ≡ wraps → inner ≡ place_within test place → b ≡ written_if test (opening Round) a → c ≡ layout (left (place_of inner b) ⊕ (soft_space ⊕ (item ⊕ (soft_space ⊕ right (place_of inner b))))) b → Reaches r c z (written_if test (closing Round) c) → Reaches r a z (layout (operation wraps item (left (within wraps (place_of place a))) (right (within wraps (place_of place a)))) a)
-operation_wrapped r z a b c test wraps place inner item left right ht hi hb hc h = wrapped_laid r z a b c test wraps place inner (λ q. left q ⊕ (soft_space ⊕ (item ⊕ (soft_space ⊕ right q)))) ht hi hb hc h
+-- where memory runs out within them
+pub stops_wrapped : (z a b : Pen) (test wraps : Bool) (place inner : Place) (items : spells.Place → Items) → test ≡ wraps → inner ≡ place_within test place → b ≡ written_if test (opening Round) a → Stops b z (layout (items (place_of inner b)) b) → Stops a z (layout (wrapped wraps (items (within wraps (place_of place a)))) a)
+stops_wrapped z a b test wraps place inner items ht hi hb s =
+    let s1 = subst (λ q. Stops b z (layout (items q) b)) (place_wrapped a b test place inner hi hb) s in
+    let s2 = subst (λ p. Stops p z (layout (items (within test (place_of place a))) p)) hb s1 in
+    let s3 = subst (λ t. Stops (written_if t (opening Round) a) z (layout (items (within t (place_of place a))) (written_if t (opening Round) a))) ht s2 in
+    stops_within s3 (prefix_append a.code (text_if wraps (opening Round))) (more_prefix (text_if wraps (closing Round)) (whole_prefix _))
+
+-- both operands and the operator between them
+abbrev pub binary_items : BinaryOperator → Tree → Tree → spells.Place → Items
+binary_items o left right place = spell left (left_of (left_level o left) place) ⊕ (soft_space ⊕ (operator_item o ⊕ (soft_space ⊕ spell right (behind (right_level o) place))))
+
+abbrev pub logical_items : LogicalOperator → Tree → Tree → spells.Place → Items
+logical_items o left right place = spell left (left_of (unmixed o left (logical_lower_level o)) place) ⊕ (soft_space ⊕ (logical_item o ⊕ (soft_space ⊕ spell right (behind (unmixed o right (logical_level o)) place))))
