@@ -29,6 +29,4 @@ returns-in_err-close_braces g c = stopped _ c.from_residual-in_err-close_braces.
 
 pub returns : goal.returns
 unfolding pen_after
-returns g c =
-    let items = spell (g.N.PrintNode.plain c.args.consequent.now) (among_statements (settings_of c.args.settings)) in
-    reaches_last _ _ _ _ _ _ (rw (c.in_ok-close_braces.ensures, c.in_ok-print.ensures, c.among_statements.ensures, c.in_ok-depth.ensures.level, c.in_ok-depth.ensures.pen, c.in_ok-print_soft_space.ensures) at c.print_braces_end.ensures) (layout_appends (soft_space ⊕ filled_braces items) (pen_of c.args.p.now)) refl
+returns g c = reaches_last _ _ _ _ _ _ (rw (c.in_ok-close_braces.ensures, c.in_ok-print.ensures, c.among_statements.ensures, c.in_ok-depth.ensures.level, c.in_ok-depth.ensures.pen, c.in_ok-print_soft_space.ensures) at c.print_braces_end.ensures) (layout_appends (soft_space ⊕ filled_braces (spell (g.N.PrintNode.plain c.args.consequent.now) (among_statements (settings_of c.args.settings)))) (pen_of c.args.p.now)) refl

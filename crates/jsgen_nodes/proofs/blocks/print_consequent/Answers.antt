@@ -11,33 +11,20 @@ returns-in_err-print_closing g c = stopped _ c.from_residual.ensures.0 (stops_wi
 
 pub returns-in_err-print_soft_space-in-Block : goal.returns-in_err-print_soft_space-in-Block
 unfolding pen_after
-returns-in_err-print_soft_space-in-Block g c =
-    let closed = sym c.ends_open.ensures ∙ c.if-ends_open.false in
-    let block = sym c.shape.ensures ∙ ap shape_of c.in-Block.is in
-    rw (closed, block) (stopped _ c.from_residual-in_err-print_soft_space-in-Block.ensures.0 (stops_within (rw c.in_ok-print_closing.ensures at c.in_err-print_soft_space-in-Block.ensures) (search appends) (search appends)))
+returns-in_err-print_soft_space-in-Block g c = rw (sym c.ends_open.ensures ∙ c.if-ends_open.false, sym c.shape.ensures ∙ ap shape_of c.in-Block.is) (stopped _ c.from_residual-in_err-print_soft_space-in-Block.ensures.0 (stops_within (rw c.in_ok-print_closing.ensures at c.in_err-print_soft_space-in-Block.ensures) (search appends) (search appends)))
 
 pub returns-in_err-print-in-Block : goal.returns-in_err-print-in-Block
 unfolding pen_after
-returns-in_err-print-in-Block g c =
-    let closed = sym c.ends_open.ensures ∙ c.if-ends_open.false in
-    let block = sym c.shape.ensures ∙ ap shape_of c.in-Block.is in
-    rw (closed, block) (stopped _ c.from_residual-in_err-print-in-Block.ensures.0 (stops_within (rw (c.within_statement.ensures, c.in_ok-print_soft_space-in-Block.ensures, c.in_ok-print_closing.ensures) at c.in_err-print-in-Block.ensures) (search appends) (search appends)))
+returns-in_err-print-in-Block g c = rw (sym c.ends_open.ensures ∙ c.if-ends_open.false, sym c.shape.ensures ∙ ap shape_of c.in-Block.is) (stopped _ c.from_residual-in_err-print-in-Block.ensures.0 (stops_within (rw (c.within_statement.ensures, c.in_ok-print_soft_space-in-Block.ensures, c.in_ok-print_closing.ensures) at c.in_err-print-in-Block.ensures) (search appends) (search appends)))
 
 pub returns-in_err-print-in-If : goal.returns-in_err-print-in-If
 unfolding pen_after
-returns-in_err-print-in-If g c =
-    let is_body = consequent_is_body c.shape.result (g.N.PrintNode.plain c.args.consequent.now) (settings_of c.args.settings) c.args.else_follows c.in-If.is c.shape.ensures (sym c.ends_open.ensures ∙ c.if-ends_open.false) in
-    rw is_body (stopped _ c.from_residual-in_err-print-in-If.ensures.0 (stops_within (rw (c.among_statements.ensures, c.begin_body.ensures, c.in_ok-print_closing.ensures) at c.in_err-print-in-If.ensures) (search appends) (search appends)))
+returns-in_err-print-in-If g c = rw (consequent_is_body c.shape.result (g.N.PrintNode.plain c.args.consequent.now) (settings_of c.args.settings) c.args.else_follows c.in-If.is c.shape.ensures (sym c.ends_open.ensures ∙ c.if-ends_open.false)) (stopped _ c.from_residual-in_err-print-in-If.ensures.0 (stops_within (rw (c.among_statements.ensures, c.begin_body.ensures, c.in_ok-print_closing.ensures) at c.in_err-print-in-If.ensures) (search appends) (search appends)))
 
 pub returns-in_ok-print-in-Block : goal.returns-in_ok-print-in-Block
 unfolding pen_after
-returns-in_ok-print-in-Block g c =
-    let closed = sym c.ends_open.ensures ∙ c.if-ends_open.false in
-    let block = sym c.shape.ensures ∙ ap shape_of c.in-Block.is in
-    rw (closed, block) (reaches_last _ _ _ _ _ _ (rw (c.in_ok-print-in-Block.ensures, c.within_statement.ensures, c.in_ok-print_soft_space-in-Block.ensures, c.in_ok-print_closing.ensures) at c.print_braces_end.ensures) (search appends) refl)
+returns-in_ok-print-in-Block g c = rw (sym c.ends_open.ensures ∙ c.if-ends_open.false, sym c.shape.ensures ∙ ap shape_of c.in-Block.is) (reaches_last _ _ _ _ _ _ (rw (c.in_ok-print-in-Block.ensures, c.within_statement.ensures, c.in_ok-print_soft_space-in-Block.ensures, c.in_ok-print_closing.ensures) at c.print_braces_end.ensures) (search appends) refl)
 
 pub returns-in_ok-print-in-If : goal.returns-in_ok-print-in-If
 unfolding pen_after
-returns-in_ok-print-in-If g c =
-    let is_body = consequent_is_body c.shape.result (g.N.PrintNode.plain c.args.consequent.now) (settings_of c.args.settings) c.args.else_follows c.in-If.is c.shape.ensures (sym c.ends_open.ensures ∙ c.if-ends_open.false) in
-    rw is_body (reaches_last _ _ _ _ _ _ (rw (c.in_ok-print-in-If.ensures, c.among_statements.ensures, c.begin_body.ensures, c.in_ok-print_closing.ensures) at c.print_body_end.ensures) (search appends) refl)
+returns-in_ok-print-in-If g c = rw (consequent_is_body c.shape.result (g.N.PrintNode.plain c.args.consequent.now) (settings_of c.args.settings) c.args.else_follows c.in-If.is c.shape.ensures (sym c.ends_open.ensures ∙ c.if-ends_open.false)) (reaches_last _ _ _ _ _ _ (rw (c.in_ok-print-in-If.ensures, c.among_statements.ensures, c.begin_body.ensures, c.in_ok-print_closing.ensures) at c.print_body_end.ensures) (search appends) refl)
