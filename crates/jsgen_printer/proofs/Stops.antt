@@ -1,21 +1,22 @@
--- Where memory runs out among steps in a row: what a step left is what the whole left, since the steps behind it only append.
-use Rattle.std.proofs.Common.{◌≡◌, ℕ, codes, Bool, true, false, List, [], ◌∷◌, ◌++◌, Result, Ok, Err, IsErr, sym, ap, subst, ◌∙◌, append_assoc}
+-- Where memory runs out among steps in a row. Every step only appends, so what one step left is on the way to the whole, too.
+use Rattle.std.proofs.Common.{◌≡◌, ℕ, ◌+◌, ◌<◌, length, drop, get_or, sym, ap, codes, Bool, true, false, List, [], ◌∷◌, ◌++◌, Result, Ok, Err, IsErr, subst, ◌∙◌, append_assoc}
 use Rattle.std.specs.Str.{chars}
-use Rattle.jsgen_model.specs.Punctuator.{Round, opening, closing, punctuator_text}
-use Rattle.jsgen_model.specs.Items.{Items, nothing, ◌⊕◌, indentation, soft_space, soft_line, deeper, brackets, wrapped, statement_end, due_semicolon}
+use Rattle.std.proofs.lemmas.List.{at_drop_more}
+use Rattle.jsgen_model.specs.Punctuator.{Bracket, Round, opening, closing}
+use Rattle.jsgen_model.specs.Items.{Items, ◌⊕◌, indentation, deeper, brackets, wrapped, statement_end}
 use Rattle.jsgen_model.specs.Layout.{Pen, Ending, space_if, layout, written, written_if, text_if, other_end, indented, indent_or_space, at_indentation, end_statement, deeper_level}
 use Rattle.jsgen_model.specs.Printing.{IsPrefix, Stops, Reaches}
 use Rattle.jsgen_printer.proofs.Prefixes.{whole_prefix, prefix_append, more_prefix, prefix_of_prefix, prefix_behind}
 use Rattle.jsgen_printer.proofs.Texts.{written_apart}
 
--- ---- what a step adds stands behind the code before
+-- ---- items append
 
 indented_appends : (text : List ℕ) (pen : Pen) → IsPrefix pen.code (indented text pen).code
 indented_appends [] pen = whole_prefix pen.code
 indented_appends (c ∷ cs) pen = prefix_append pen.code (c ∷ cs)
 
 space_appends : (pending : Bool) (pen : Pen) → IsPrefix pen.code (indent_or_space pending pen).code
-space_appends true pen = prefix_append pen.code _
+space_appends true pen = prefix_append pen.code (codes " ")
 space_appends false pen = indented_appends _ pen
 
 indentation_appends : (minified : Bool) (pen : Pen) → IsPrefix pen.code (at_indentation minified pen).code
@@ -24,7 +25,7 @@ indentation_appends false pen = space_appends pen.pending_space pen
 
 end_appends : (minified : Bool) (pen : Pen) → IsPrefix pen.code (end_statement minified pen).code
 end_appends true pen = whole_prefix pen.code
-end_appends false pen = prefix_append pen.code _
+end_appends false pen = prefix_append pen.code (codes ";\n")
 
 pub layout_appends : (items : Items) (pen : Pen) → IsPrefix pen.code (layout items pen).code
 layout_appends (a ⊕ b) pen = prefix_of_prefix (layout_appends a pen) (layout_appends b (layout a pen))
@@ -35,32 +36,61 @@ layout_appends indentation pen = indentation_appends pen.style.minified pen
 layout_appends statement_end pen = end_appends pen.style.minified pen
 layout_appends item pen = search (whole_prefix, prefix_append)
 
--- what leads to the pen before leads to the pen behind the items
-pub layout_more : {a : List ℕ} (items : Items) (pen : Pen) → IsPrefix a pen.code → IsPrefix a (layout items pen).code
+-- ---- what the code after items begins with
+
+-- the code before them
+pub layout_more : {c : List ℕ} (items : Items) (pen : Pen) → IsPrefix c pen.code → IsPrefix c (layout items pen).code
 layout_more items pen p = prefix_of_prefix p (layout_appends items pen)
+
+-- of two, the code after the first
+pub first_more : {c : List ℕ} (a b : Items) (pen : Pen) → IsPrefix c (layout a pen).code → IsPrefix c (layout (a ⊕ b) pen).code
+first_more a b pen p = layout_more b (layout a pen) p
+
+pub second_more : {c : List ℕ} (a b : Items) (pen : Pen) → IsPrefix c (layout b (layout a pen)).code → IsPrefix c (layout (a ⊕ b) pen).code
+second_more a b pen p = p
+
+-- the code before the closing bracket
+pub brackets_more : {c : List ℕ} (b : Bracket) (a : Items) (pen : Pen) → IsPrefix c (layout a (written (opening b) other_end pen)).code → IsPrefix c (layout (brackets b a) pen).code
+brackets_more b a pen p = more_prefix (closing b) p
+
+pub wrapped_more : {c : List ℕ} (test : Bool) (a : Items) (pen : Pen) → IsPrefix c (layout a (written_if test (opening Round) pen)).code → IsPrefix c (layout (wrapped test a) pen).code
+wrapped_more test a pen p = more_prefix (text_if test (closing Round)) p
+
+pub deeper_more : {c : List ℕ} (a : Items) (pen : Pen) → IsPrefix c (layout a (record pen { depth = deeper_level pen.style.minified pen.depth })).code → IsPrefix c (layout (deeper a) pen).code
+deeper_more a pen p = p
+
+pub ruleset appends = (whole_prefix, first_more, second_more, brackets_more, wrapped_more, deeper_more, more_prefix, layout_more)
 
 -- ---- steps in a row
 
--- a step within a whole stopped: it began behind the code before, and what it leads to, the whole goes on from
+-- a step within a whole stopped: it began behind the code before, and the whole goes on behind what it leads to
 pub stops_within : {old mid new part whole : Pen} → Stops mid new part → IsPrefix old.code mid.code → IsPrefix part.code whole.code → Stops old new whole
 stops_within s before behind = record { kept = prefix_of_prefix before s.kept; part = prefix_of_prefix s.part behind }
 
--- after an error a step has stopped
+-- after an error a whole has stopped
 pub stopped : {T E : Type 0} (r : Result T E) {old new whole : Pen} → IsErr r → Stops old new whole → Reaches r old new whole
 stopped (Ok x) h s = cc
 stopped (Err e) h s = s
 
--- the last of several steps reaches what it leads to, and that is the whole
+-- the last step: what it reaches is the whole
 pub reaches_last : {T E : Type 0} (r : Result T E) (old mid new part whole : Pen) → Reaches r mid new part → IsPrefix old.code mid.code → part ≡ whole → Reaches r old new whole
 reaches_last (Ok x) old mid new part whole h before e = h ∙ e
 reaches_last (Err x) old mid new part whole h before e = record { kept = prefix_of_prefix before h.kept; part = rw (← e) h.part }
+
+-- a turn of a loop over a list: what is left of it, from the pen at the turn, leads to the whole
+pub turn_more : {X : Type 0} {c : List ℕ} (items : List X → Items) (xs : List X) (i : ℕ) (x : X) (before now : Pen) → layout (items (drop i xs)) now ≡ layout (items xs) before → i < length xs → x ≡ get_or xs i x → IsPrefix c (layout (items (x ∷ drop (i + 1) xs)) now).code → IsPrefix c (layout (items xs) before).code
+turn_more {X} {c} items xs i x before now left within is p =
+    let same : layout (items (x ∷ drop (i + 1) xs)) now ≡ layout (items xs) before = ap (λ y. layout (items (y ∷ drop (i + 1) xs)) now) is ∙ (sym (at_drop_more (λ ys. layout (items ys) now) xs i x within) ∙ left) in
+    subst (λ pen. IsPrefix c pen.code) same p
+
+-- ---- texts in a row
 
 -- a space where the test holds, before a text
 pub stops_apart : (test : Bool) (text : List ℕ) (e : Ending) (pen new : Pen) → Stops pen new (written_if test (chars (codes " ")) pen) → Stops pen new (written (space_if test ++ text) e pen)
 stops_apart test text e pen new s =
     stops_within s (whole_prefix pen.code) (subst (λ p. IsPrefix (written_if test (chars (codes " ")) pen).code p.code) (written_apart test text e pen) (prefix_append (written_if test (chars (codes " ")) pen).code text))
 
--- three texts in a row
+-- the first of three texts, and the second
 pub first_of_three : (a text b : List ℕ) (pen new : Pen) → Stops pen new (written a other_end pen) → Stops pen new (written (a ++ (text ++ b)) other_end pen)
 first_of_three a text b pen new s = stops_within s (whole_prefix pen.code) (prefix_behind pen.code (prefix_append a (text ++ b)))
 
