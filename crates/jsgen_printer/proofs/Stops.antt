@@ -1,8 +1,8 @@
 -- Where memory runs out among steps in a row: what a step left is what the whole left, since the steps behind it only append.
-use Rattle.std.proofs.Common.{◌≡◌, ℕ, codes, Bool, true, false, List, [], ◌∷◌, ◌++◌, Result, Ok, Err, IsErr, sym, ap, subst, ◌∙◌, append_assoc}
+use Rattle.std.proofs.Common.{◌≡◌, ℕ, codes, Bool, true, false, List, [], ◌∷◌, ◌++◌, Result, Ok, Err, IsErr, subst, ◌∙◌, append_assoc}
 use Rattle.std.specs.Str.{chars}
-use Rattle.jsgen_model.specs.Punctuator.{Bracket, Round, opening, closing, punctuator_text}
-use Rattle.jsgen_model.specs.Items.{Items, nothing, ◌⊕◌, indentation, soft_space, soft_line, deeper, brackets, wrapped, statement_end, due_semicolon}
+use Rattle.jsgen_model.specs.Punctuator.{Bracket, Round, opening, closing}
+use Rattle.jsgen_model.specs.Items.{Items, ◌⊕◌, indentation, deeper, brackets, wrapped, statement_end}
 use Rattle.jsgen_model.specs.Layout.{Pen, Ending, space_if, layout, written, written_if, text_if, other_end, indented, indent_or_space, at_indentation, end_statement, deeper_level}
 use Rattle.jsgen_model.specs.Printing.{IsPrefix, Stops, Reaches}
 use Rattle.jsgen_printer.proofs.Prefixes.{whole_prefix, prefix_append, more_prefix, prefix_of_prefix, prefix_behind}
@@ -91,4 +91,5 @@ pub deeper_more : {c : List ℕ} (a : Items) (pen : Pen) → IsPrefix c (layout 
 deeper_more a pen p = p
 
 pub ruleset appends = (whole_prefix, more_prefix, layout_more, then_more, brackets_more, wrapped_more, deeper_more)
+
 pub ruleset stops = (stops_within, appends)
