@@ -12,7 +12,7 @@ use Rattle.jsgen_rows.specs.Reads.{read_row, read_rows, root_of, root_found, rea
 use Rattle.jsgen_rows.specs.Meaning.{Mark, fault, use_of, is_used, is_program, found_faults, mark_faults, with_mark, with_marks, faults_in, row_marks, row_tree, root_tree, root_faults, trees_after, faults_after, unless, no_tree, rows_meaning, program_meaning}
 use Rattle.jsgen_rows.proofs.Listed.{length-last}
 use Rattle.jsgen_rows.proofs.Pool.{pool, seen, pool-length, pool-get, pool-push, other_eq}
-use Rattle.jsgen_rows.proofs.RowSteps.{row_read}
+use Rattle.jsgen_rows.proofs.RowSteps.{after-after, row_read}
 
 -- no number from the end on is used
 abbrev Fresh : List Tree → List ℕ → Type 0
@@ -49,10 +49,6 @@ get_before : {A : Type 0} (xs ys : List A) (i : ℕ) → slice_get (xs ++ ys) i 
 get_before [] ys i h = refl
 get_before (x ∷ xs) ys zero h = cc
 get_before (x ∷ xs) ys (suc i) h = get_before xs ys i h
-
-after-after : {A B C : Type 0} (r : Result A InputFault) (g : A → Result B InputFault) (f : B → Result C InputFault) → after (after r g) f ≡ after r (λ x. after (g x) f)
-after-after (Ok x) g f = refl
-after-after (Err e) g f = refl
 
 step : {A B : Type 0} (fs gs : List InputFault) (x : A) (y : B) (g : A → Result B InputFault) → (fs ≡ [] → g x ≡ unless gs y) → after (unless fs x) g ≡ unless (fs ++ gs) y
 step [] gs x y g h = h refl

@@ -121,9 +121,9 @@ children_given e u a p (sorts.children_or_holes s) h (Some d) = items_read e u (
 children_given e u a p sorts.unread_child h (Some d) = refl
 children_given e u a p s h (Some d) = cc
 
-after_both : {A B C : Type 0} (r : Result A InputFault) (g : A → Result B InputFault) (f : B → Result C InputFault) → after (after r g) f ≡ after r (λ x. after (g x) f)
-after_both (Ok x) g f = refl
-after_both (Err e) g f = refl
+pub after-after : {A B C : Type 0} (r : Result A InputFault) (g : A → Result B InputFault) (f : B → Result C InputFault) → after (after r g) f ≡ after r (λ x. after (g x) f)
+after-after (Ok x) g f = refl
+after-after (Err e) g f = refl
 
 -- a field that is read, with a value or with children
 sort_read : (e : List Tree) (u : List ℕ) (a : At) (b : Bool) (p : Presence) (s : Sort) (o : Option Data) (v : Bool) → is_value s ≡ v
@@ -131,7 +131,7 @@ sort_read : (e : List Tree) (u : List ℕ) (a : At) (b : Bool) (p : Presence) (s
     (if v then after (read_value a b (absent_value p) s o) (λ x. Ok (a_value x, pool e u)) else read_children a b p s o (pool e u))
 unfolding read_value read_children
 sort_read e u a b p s o true h =
-    after_both (field_in a b o) (value_or (absent_value p) a s) (λ x. Ok (a_value x, pool e u))
+    after-after (field_in a b o) (value_or (absent_value p) a s) (λ x. Ok (a_value x, pool e u))
     ∙ in_field e u a b o (given_marks a s) (held e a p s o) (λ d. after (value_or (absent_value p) a s d) (λ x. Ok (a_value x, pool e u))) (value_given e u a p s h o)
 sort_read e u a b p s o false h = in_field e u a b o (given_marks a s) (held e a p s o) (λ d. take_given a p s d (pool e u)) (children_given e u a p s h o)
 

@@ -56,7 +56,7 @@ present (Some d) = not_null d
 abbrev pub field : List ℕ → Data → Option Data
 field name d = present (get name d)
 
--- the value of a field, where there is one, which a needed field has; a float, at any depth, is told before anything else of it
+-- the value of a field, where there is one, as there is in a needed field; a float in it, at any depth, is told before anything else
 abbrev pub field_in : At → Bool → Option Data → Result (Option Data) InputFault
 field_in a true None = Err (Missing a)
 field_in a false None = Ok None
