@@ -6,6 +6,6 @@ mod laws;
 
 pub use codegen::{Codegen, CodegenError, CodegenReturn};
 pub use jsgen_model::TreeFault;
-pub use laws::jobs_are_plain;
 pub use jsgen_rows::{At, InputFault, Job, job_faults_are_told, read_job};
 pub use jsgen_tree::{CodegenOptions, CommentOptions, LegalComment};
+pub use laws::jobs_are_plain;
