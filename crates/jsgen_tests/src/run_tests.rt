@@ -1,6 +1,6 @@
 // The program from bytes to bytes, over devices in memory.
 ghost use Rattle.std.specs.Prelude.{◌≡◌, ◌⊎◌, Some};
-ghost use Rattle.jsgen_tool.specs.Answers.{IsPrint, HoldsJob};
+ghost use Rattle.jsgen_tool.specs.Answers.{IsPrint, IsSomeJob};
 ghost use Rattle.jsgen_tool.specs.Memory.{source_left, source_faults};
 ghost use Rattle.jsgen_tool.specs.Transfer.{IsWithin};
 
@@ -294,7 +294,7 @@ fn print_surely(
 ) -> Status
     requires print { IsPrint words.now }
     requires within { IsWithin job.items }
-    requires job { HoldsJob job.items }
+    requires job { IsSomeJob job.items }
     ensures { (result ≡ Status.Done) ⊎ ((result ≡ Status.Memory) ⊎ (result ≡ Status.WriteFault)) }
 {
     let mut source = SureSource::new(job);
