@@ -5,7 +5,9 @@ use Rattle.std.proofs.lemmas.List.{drop_all, drop_more}
 use Rattle.jsgen_tree.specs.declared.types.NodeSet.{NodeSet}
 use Rattle.jsgen_tree.specs.declared.types.NodeType.{NodeType}
 use Rattle.jsgen_tree.specs.Tree.{Tree, node, Atoms, Slots, no_slots, one, maybe, many, maybe_many, Maybe, absent, given, Trees, no_trees, more, hole, MaybeTrees, no_list, listed, type_of}
-use Rattle.jsgen_tree.specs.Table.{fields, child_sets, in_set}
+use Rattle.jsgen_tree.specs.Table.{child_sets}
+use Rattle.jsgen_tree.specs.Fields.{fields}
+use Rattle.jsgen_tree.specs.Sets.{in_set}
 use Rattle.jsgen_tree.specs.Job.{JobData}
 use Rattle.jsgen_model.specs.Valid as valid
 use Rattle.jsgen_model.specs.Valid.{ChildPlace, breaches, span_faults, own_faults, set_faults, in_slots, in_maybe, in_trees, in_maybe_trees, surroundings_of, job_breaches, Judges}

@@ -6,9 +6,11 @@ use Rattle.jsgen_syntax.proofs.Bytes.{js_units-are_units}
 use Rattle.jsgen_syntax.specs.declared.span.Span.{Span}
 use Rattle.jsgen_syntax.specs.declared.span.SourceKind.{SourceKind}
 use Rattle.jsgen_syntax.specs.declared.span.SourceKind.TheVariants as source_kinds
-use Rattle.jsgen_tree.specs.Tree.{Tree, trees, numeric_literal}
+use Rattle.jsgen_tree.specs.Tree.{Tree, trees}
+use Rattle.jsgen_tree.specs.Nodes.{numeric_literal}
 use Rattle.jsgen_tree.specs.Plain.{node_plain, layer}
-use Rattle.jsgen_tree.specs.Rows.{numeric_literal_row, numeric_values, program_row}
+use Rattle.jsgen_tree.specs.Characters.{numeric_values}
+use Rattle.jsgen_tree.specs.Rows.{numeric_literal_row, program_row}
 use Rattle.jsgen_tree.specs.Width.{is_wide}
 use Rattle.jsgen_tree.specs.Everywhere.{EverywhereInTrees}
 use Rattle.jsgen_tree.specs.declared.nodes.Node.{Node, Node-F, map-Node}
@@ -17,8 +19,8 @@ use Rattle.jsgen_tree.specs.declared.nodes.Node.TheOpen as opened
 use Rattle.jsgen_tree.specs.declared.nodes.ExpressionNode.{ExpressionNode}
 use Rattle.jsgen_tree.specs.declared.nodes.StatementNode.{StatementNode}
 use Rattle.jsgen_tree.specs.declared.expressions.NumericLiteral.{NumericLiteral}
-use Rattle.jsgen_tree.specs.declared.expressions.NumericValue.{NumericValue}
-use Rattle.jsgen_tree.specs.declared.expressions.NumericValue.TheVariants as numeric
+use Rattle.jsgen_tree.specs.declared.numbers.NumericValue.{NumericValue}
+use Rattle.jsgen_tree.specs.declared.numbers.NumericValue.TheVariants as numeric
 use Rattle.jsgen_tree.specs.declared.statements.IfStatement.{IfStatement}
 use Rattle.jsgen_tree.specs.declared.statements.Program.{Program}
 use Rattle.jsgen_tree.specs.declared.statements.VariableDeclarator.{VariableDeclarator}

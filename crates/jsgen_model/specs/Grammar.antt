@@ -9,9 +9,10 @@ use Rattle.jsgen_syntax.specs.declared.operator.BinaryOperator.TheVariants as op
 use Rattle.jsgen_syntax.specs.declared.operator.LogicalOperator.TheVariants.{Or, And, Coalesce}
 use Rattle.jsgen_tree.specs.declared.statements.VariableDeclarationKind.TheVariants.{Const}
 use Rattle.jsgen_syntax.specs.Name.{is_free_name}
-use Rattle.jsgen_tree.specs.Tree.{Tree, Maybe, absent, given, Trees, no_trees, more, units, binary_operator, logical_operator}
-use Rattle.jsgen_tree.specs.Values.{bare}
-use Rattle.jsgen_tree.specs.Tree as tree
+use Rattle.jsgen_tree.specs.Atom.{units, binary_operator, logical_operator}
+use Rattle.jsgen_tree.specs.Tree.{Tree, Maybe, absent, given, Trees, no_trees, more}
+use Rattle.jsgen_tree.specs.Places.{bare}
+use Rattle.jsgen_tree.specs.Nodes as tree
 use Rattle.jsgen_model.specs.Punctuator.{plus, minus, star, slash, percent, star_star, equal_equal, not_equal, equal_equal_equal, not_equal_equal, less, less_equal, greater, greater_equal, shift_left, shift_right, shift_right_zero, bit_and, bit_or, bit_xor, and_and, or_or, nullish, dot, comma, semicolon, equal, Round, Square, Brace}
 use Rattle.jsgen_model.specs.Tokens.{Piece, Tokens, done, piece, group, ◌⧺◌, Word, Number, Quoted, Sign}
 use Rattle.jsgen_model.specs.Normal.{nothing_of, named, unnumbered, by_text, declared_as}

@@ -7,9 +7,11 @@ use Rattle.jsgen_syntax.specs.declared.span.Span.{Span}
 use Rattle.jsgen_tree.specs.declared.types.NodeSet.{NodeSet}
 use Rattle.jsgen_tree.specs.Options.{Options}
 use Rattle.jsgen_tree.specs.Job.{Tables, JobData}
-use Rattle.jsgen_tree.specs.Table.{fields, child_sets, in_set}
+use Rattle.jsgen_tree.specs.Table.{child_sets}
+use Rattle.jsgen_tree.specs.Fields.{fields}
+use Rattle.jsgen_tree.specs.Sets.{in_set}
 use Rattle.jsgen_tree.specs.Tree.{Tree, node, Slots, no_slots, one, maybe, many, maybe_many, Maybe, absent, given, Trees, no_trees, more, hole, MaybeTrees, no_list, listed, Atoms, type_of, span_of}
-use Rattle.jsgen_tree.specs.Tree as tree
+use Rattle.jsgen_tree.specs.Nodes as tree
 use Rattle.jsgen_tree.specs.Values.{as_text, program_source, directive_directive, binding_identifier_name, identifier_reference_name, identifier_name_name}
 use Rattle.jsgen_model.specs.declared.fault.TreeFault.{TreeFault}
 use Rattle.jsgen_model.specs.declared.fault.TreeFault.TheVariants as faults

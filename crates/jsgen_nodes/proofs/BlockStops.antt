@@ -1,7 +1,7 @@
 -- Where memory runs out in blocks and in `if` statements.
 use Rattle.std.proofs.Common.{◌≡◌, ◌⊎◌, inl, inr, ℕ, Bool, false, codes, refl}
 use Rattle.jsgen_tree.specs.Tree.{Tree}
-use Rattle.jsgen_tree.specs.Table.{ends_open}
+use Rattle.jsgen_tree.specs.Inside.{ends_open}
 use Rattle.jsgen_model.specs.Punctuator.{Round, Brace, opening, closing}
 use Rattle.jsgen_model.specs.Items.{Items, ◌⊕◌, word, brackets, indentation, soft_space, soft_line, body_space}
 use Rattle.jsgen_model.specs.Layout.{Pen, layout, written, other_end}

@@ -1,7 +1,7 @@
 -- Blocks, and what `if` and `else` are followed by.
 use Rattle.std.specs.Prelude.{ℕ, Bool}
 use Rattle.jsgen_tree.specs.Tree.{Tree}
-use Rattle.jsgen_tree.specs.Table.{ends_open}
+use Rattle.jsgen_tree.specs.Inside.{ends_open}
 use Rattle.jsgen_model.specs.Punctuator.{Brace, Round, opening, closing}
 use Rattle.jsgen_model.specs.Items.{Items, soft_line, indentation, drop_semicolon}
 use Rattle.jsgen_model.specs.Layout.{Pen, layout, written, other_end}

@@ -14,7 +14,7 @@ mod strings;
 ghost use Rattle.std.specs.Prelude.{◌≡◌, option_map};
 ghost use Rattle.jsgen_syntax.specs.Units.{js_units};
 ghost use Rattle.jsgen_tree.specs.Tree.{Tree};
-ghost use Rattle.jsgen_tree.specs.Table.{without_parentheses, ends_open};
+ghost use Rattle.jsgen_tree.specs.Inside.{without_parentheses, ends_open};
 ghost use Rattle.jsgen_tree.specs.Plain.{node_plain};
 ghost use Rattle.jsgen_model.specs.Spell.{string_in, string_statement, shape};
 ghost use Rattle.jsgen_model.specs.Printing.{Reaches};

@@ -2,7 +2,7 @@
 ghost use Rattle.std.specs.Prelude.{◌≡◌};
 ghost use Rattle.jsgen_syntax.specs.declared.operator.BinaryOperator.TheVariants as operators;
 ghost use Rattle.jsgen_syntax.specs.declared.operator.LogicalOperator.TheVariants as logical_operators;
-ghost use Rattle.jsgen_tree.specs.Table.{without_parentheses};
+ghost use Rattle.jsgen_tree.specs.Inside.{without_parentheses};
 ghost use Rattle.jsgen_tree.specs.Rows.{parenthesized_expression_row, logical_expression_row, expression_plain, statement_plain, declaration_plain, binding_pattern_plain};
 ghost use Rattle.jsgen_model.specs.Spell.{left_level, right_level, unmixed, is_or_or_and};
 ghost use Rattle.jsgen_nodes.specs.Place.{operand_of};

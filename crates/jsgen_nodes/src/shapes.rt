@@ -1,6 +1,6 @@
 // What a statement is as what `if` or `else` is followed by.
 ghost use Rattle.std.specs.Prelude.{◌≡◌};
-ghost use Rattle.jsgen_tree.specs.Table.{ends_open};
+ghost use Rattle.jsgen_tree.specs.Inside.{ends_open};
 ghost use Rattle.jsgen_tree.specs.Rows.{if_statement_row, expression_plain, statement_plain, declaration_plain, binding_pattern_plain};
 ghost use Rattle.jsgen_model.specs.Spell.{shape};
 ghost use Rattle.jsgen_nodes.specs.Blocks.{shape_of};

@@ -1,7 +1,7 @@
 -- Rows by their number: each still there, or a child of an earlier place already.
 use Rattle.std.specs.Prelude.{◌≡◌, ℕ, List, map, Option, Some, None, Result, Ok, Err, slice_get, slice_set, if◌then◌else◌}
 use Rattle.jsgen_tree.specs.Tree.{Tree, type_of}
-use Rattle.jsgen_tree.specs.Table.{in_set}
+use Rattle.jsgen_tree.specs.Sets.{in_set}
 use Rattle.jsgen_tree.specs.declared.types.NodeType.{NodeType}
 use Rattle.jsgen_tree.specs.declared.types.NodeSet.{NodeSet}
 use Rattle.jsgen_pool.specs.declared.Kept.{Kept}

@@ -1,7 +1,7 @@
 -- Braces round rows of statements, and blocks.
 use Rattle.std.proofs.Common.{◌≡◌, ℕ, Bool, true, false, refl, ap, ◌∙◌}
 use Rattle.jsgen_tree.specs.Tree.{Tree, Trees, no_trees, more, hole, Atoms}
-use Rattle.jsgen_tree.specs.Tree as tree
+use Rattle.jsgen_tree.specs.Nodes as tree
 use Rattle.jsgen_model.specs.Punctuator.{Brace, opening, closing}
 use Rattle.jsgen_model.specs.Tokens.{Tokens, done, group}
 use Rattle.jsgen_model.specs.Items.{Items, nothing, ◌⊕◌, brackets, soft_line, drop_semicolon}

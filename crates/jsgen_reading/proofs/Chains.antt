@@ -7,10 +7,13 @@ use Rattle.jsgen_syntax.specs.declared.operator.LogicalOperator.{LogicalOperator
 use Rattle.jsgen_syntax.specs.declared.operator.LogicalOperator.TheVariants.{Or, And, Coalesce}
 use Rattle.jsgen_syntax.specs.declared.precedence.Precedence.{Precedence}
 use Rattle.jsgen_syntax.specs.declared.precedence.Precedence.TheVariants as levels
-use Rattle.jsgen_tree.specs.Table.{without_parentheses, is_expression}
-use Rattle.jsgen_tree.specs.Tree.{Tree, Trees, no_trees, more, hole, Atoms, type_of, logical_operator}
-use Rattle.jsgen_tree.specs.Values.{bare, logical_expression_operator}
-use Rattle.jsgen_tree.specs.Tree as tree
+use Rattle.jsgen_tree.specs.Sets.{is_expression}
+use Rattle.jsgen_tree.specs.Inside.{without_parentheses}
+use Rattle.jsgen_tree.specs.Atom.{logical_operator}
+use Rattle.jsgen_tree.specs.Tree.{Tree, Trees, no_trees, more, hole, Atoms, type_of}
+use Rattle.jsgen_tree.specs.Places.{bare}
+use Rattle.jsgen_tree.specs.Values.{logical_expression_operator}
+use Rattle.jsgen_tree.specs.Nodes as tree
 use Rattle.jsgen_model.specs.Punctuator.{Punctuator, and_and, or_or, nullish}
 use Rattle.jsgen_model.specs.Tokens.{Tokens, piece, ◌⧺◌, Sign}
 use Rattle.jsgen_model.specs.Items.{◌⊕◌, soft_space, punctuator}

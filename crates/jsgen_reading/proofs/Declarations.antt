@@ -9,7 +9,7 @@ use Rattle.jsgen_tree.specs.declared.statements.VariableDeclarationKind.TheVaria
 use Rattle.jsgen_tree.specs.Words.{declaration_word}
 use Rattle.jsgen_tree.specs.Tree.{Tree, Maybe, absent, given, Trees, no_trees, more, Atoms}
 use Rattle.jsgen_tree.specs.Values.{binding_identifier_name, variable_declaration_kind}
-use Rattle.jsgen_tree.specs.Tree as tree
+use Rattle.jsgen_tree.specs.Nodes as tree
 use Rattle.jsgen_model.specs.Punctuator.{equal}
 use Rattle.jsgen_model.specs.Tokens.{Tokens, done, piece, ◌⧺◌, Word, Sign}
 use Rattle.jsgen_model.specs.Items.{Items, ◌⊕◌, word, punctuator, soft_space}

@@ -9,10 +9,12 @@ use Rattle.jsgen_syntax.specs.declared.quote.Quote.TheVariants.{Backtick}
 use Rattle.jsgen_syntax.specs.declared.operator.BinaryOperator.{BinaryOperator}
 use Rattle.jsgen_syntax.specs.declared.operator.BinaryOperator.TheVariants as operators
 use Rattle.jsgen_syntax.proofs.Strings.{escaped_value}
-use Rattle.jsgen_tree.specs.Table.{without_parentheses}
-use Rattle.jsgen_tree.specs.Tree.{Tree, Trees, no_trees, more, Atoms, units}
-use Rattle.jsgen_tree.specs.Values.{bare, string_literal_value}
-use Rattle.jsgen_tree.specs.Tree as tree
+use Rattle.jsgen_tree.specs.Inside.{without_parentheses}
+use Rattle.jsgen_tree.specs.Atom.{units}
+use Rattle.jsgen_tree.specs.Tree.{Tree, Trees, no_trees, more, Atoms}
+use Rattle.jsgen_tree.specs.Places.{bare}
+use Rattle.jsgen_tree.specs.Values.{string_literal_value}
+use Rattle.jsgen_tree.specs.Nodes as tree
 use Rattle.jsgen_model.specs.Punctuator.{dot, star_star, and_and, or_or, nullish, semicolon, Round, Square, opening, closing}
 use Rattle.jsgen_model.specs.Tokens.{Tokens, done, piece, group, ◌⧺◌, Quoted, Sign}
 use Rattle.jsgen_model.specs.Items.{Items, first_string, due_semicolon}

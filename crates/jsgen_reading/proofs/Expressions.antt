@@ -9,9 +9,12 @@ use Rattle.jsgen_syntax.specs.declared.quote.Quote.{Quote}
 use Rattle.jsgen_syntax.proofs.Escapes.{word_text_value}
 use Rattle.jsgen_syntax.proofs.Strings.{escaped_value}
 use Rattle.jsgen_model.specs.Items.{string}
-use Rattle.jsgen_tree.specs.Tree.{Tree, Trees, Atoms, NumericKind, Whole, Raw, units}
-use Rattle.jsgen_tree.specs.Values.{bare, identifier_reference_name, numeric_literal_kind, numeric_literal_digits, string_literal_value}
-use Rattle.jsgen_tree.specs.Tree as tree
+use Rattle.jsgen_tree.specs.Atom.{units}
+use Rattle.jsgen_tree.specs.Number.{NumericKind, Whole, Raw}
+use Rattle.jsgen_tree.specs.Tree.{Tree, Trees, Atoms}
+use Rattle.jsgen_tree.specs.Places.{bare}
+use Rattle.jsgen_tree.specs.Values.{identifier_reference_name, numeric_literal_kind, numeric_literal_digits, string_literal_value}
+use Rattle.jsgen_tree.specs.Nodes as tree
 use Rattle.jsgen_model.specs.Tokens.{Tokens, done, piece, Word, Number, Quoted}
 use Rattle.jsgen_model.specs.Layout.{layout, chosen_quote, Start, nowhere, statement, arrow_body, default_export}
 use Rattle.jsgen_model.specs.Grammar.{Allowed, is_word}

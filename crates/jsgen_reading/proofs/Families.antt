@@ -1,11 +1,12 @@
 -- The trees over which the induction goes. They follow from the rules, one lemma a row.
 use Rattle.std.proofs.Common.{◌≡◌, ℕ, Bool, true, false, not, ◌&&◌, ◌++◌, List, [], ◌∷◌, Option, Some, None, is_some, refl, ap}
 use Rattle.std.proofs.lemmas.Bool.{both_ways, and_parts}
-use Rattle.jsgen_tree.specs.Tree.{Tree, Maybe, absent, given, Trees, no_trees, more, hole, Atom, Atoms, type_of, span_of, text}
-use Rattle.jsgen_tree.specs.Tree as tree
+use Rattle.jsgen_tree.specs.Atom.{Atom, text}
+use Rattle.jsgen_tree.specs.Tree.{Tree, Maybe, absent, given, Trees, no_trees, more, hole, Atoms, type_of, span_of}
+use Rattle.jsgen_tree.specs.Nodes as tree
 use Rattle.jsgen_tree.specs.Values.{as_text, program_kind, directive_directive, binding_identifier_name, identifier_reference_name, identifier_name_name, numeric_literal_kind, string_literal_value}
 use Rattle.jsgen_tree.specs.Everywhere.{EverywhereIfGiven, EverywhereInTrees}
-use Rattle.jsgen_tree.specs.Table.{in_set, is_expression, is_statement, is_binding_pattern, is_variable_declarator, is_identifier_name, is_directive}
+use Rattle.jsgen_tree.specs.Sets.{in_set, is_expression, is_statement, is_binding_pattern, is_variable_declarator, is_identifier_name, is_directive}
 use Rattle.jsgen_tree.specs.declared.types.NodeType.{NodeType}
 use Rattle.jsgen_tree.specs.declared.types.NodeType.TheVariants as types
 use Rattle.jsgen_tree.specs.declared.types.NodeSet.{NodeSet}

@@ -7,7 +7,7 @@ use Rattle.jsgen_syntax.proofs.Escapes.{word_text_value}
 use Rattle.jsgen_syntax.specs.declared.precedence.Precedence.TheVariants as levels
 use Rattle.jsgen_tree.specs.Tree.{Tree, Trees, no_trees, more, Atoms}
 use Rattle.jsgen_tree.specs.Values.{identifier_name_name}
-use Rattle.jsgen_tree.specs.Tree as tree
+use Rattle.jsgen_tree.specs.Nodes as tree
 use Rattle.jsgen_model.specs.Punctuator.{dot, Round, Square, opening, closing}
 use Rattle.jsgen_model.specs.Tokens.{Tokens, done, piece, group, ◌⧺◌, Word, Sign}
 use Rattle.jsgen_model.specs.Items.{◌⊕◌, brackets, member_dot}

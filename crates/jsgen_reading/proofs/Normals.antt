@@ -1,10 +1,12 @@
 -- A normal form is its own.
 use Rattle.std.proofs.Common.{◌≡◌, Bool, true, false, cond, [], ◌∷◌, refl, ap, ◌∙◌}
 use Rattle.jsgen_syntax.specs.declared.operator.LogicalOperator.{LogicalOperator}
-use Rattle.jsgen_tree.specs.Tree.{Tree, node, Slots, no_slots, one, maybe, many, maybe_many, Maybe, absent, given, Trees, no_trees, more, hole, MaybeTrees, no_list, listed, binary_operator, logical_operator}
-use Rattle.jsgen_tree.specs.Values.{bare, variable_declaration_kind, binary_expression_operator, logical_expression_operator}
-use Rattle.jsgen_tree.specs.Table.{ends_open}
-use Rattle.jsgen_tree.specs.Tree as tree
+use Rattle.jsgen_tree.specs.Atom.{binary_operator, logical_operator}
+use Rattle.jsgen_tree.specs.Tree.{Tree, node, Slots, no_slots, one, maybe, many, maybe_many, Maybe, absent, given, Trees, no_trees, more, hole, MaybeTrees, no_list, listed}
+use Rattle.jsgen_tree.specs.Places.{bare}
+use Rattle.jsgen_tree.specs.Values.{variable_declaration_kind, binary_expression_operator, logical_expression_operator}
+use Rattle.jsgen_tree.specs.Inside.{ends_open}
+use Rattle.jsgen_tree.specs.Nodes as tree
 use Rattle.std.proofs.lemmas.Bool.{both_ways}
 use Rattle.jsgen_model.specs.Normal.{normal, normal_slots, normal_maybe, normal_trees, normal_maybe_trees, unbraced, nothing_of, declared_as, chain, same_operator, joined, links}
 

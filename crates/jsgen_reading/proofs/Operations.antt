@@ -8,10 +8,12 @@ use Rattle.jsgen_syntax.specs.declared.operator.BinaryOperator.TheVariants as op
 use Rattle.jsgen_syntax.specs.declared.operator.LogicalOperator.{LogicalOperator}
 use Rattle.jsgen_syntax.specs.declared.operator.LogicalOperator.TheVariants as logical_operators
 use Rattle.jsgen_syntax.specs.declared.precedence.Precedence.TheVariants as levels
-use Rattle.jsgen_tree.specs.Table.{without_parentheses}
-use Rattle.jsgen_tree.specs.Tree.{Tree, Atoms, binary_operator}
-use Rattle.jsgen_tree.specs.Values.{bare, binary_expression_operator, logical_expression_operator}
-use Rattle.jsgen_tree.specs.Tree as tree
+use Rattle.jsgen_tree.specs.Inside.{without_parentheses}
+use Rattle.jsgen_tree.specs.Atom.{binary_operator}
+use Rattle.jsgen_tree.specs.Tree.{Tree, Atoms}
+use Rattle.jsgen_tree.specs.Places.{bare}
+use Rattle.jsgen_tree.specs.Values.{binary_expression_operator, logical_expression_operator}
+use Rattle.jsgen_tree.specs.Nodes as tree
 use Rattle.jsgen_model.specs.Punctuator.{Punctuator}
 use Rattle.jsgen_model.specs.Tokens.{Tokens, piece, ◌⧺◌, Word, Sign}
 use Rattle.jsgen_model.specs.Items.{◌⊕◌, soft_space, word, operator}

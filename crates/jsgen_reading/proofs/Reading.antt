@@ -6,7 +6,7 @@ use Rattle.jsgen_tree.specs.declared.types.NodeType.TheVariants as types
 use Rattle.jsgen_tree.specs.Options.{Options}
 use Rattle.jsgen_tree.specs.Job.{Tables, no_tables, JobData}
 use Rattle.jsgen_tree.specs.Tree.{Tree, type_of}
-use Rattle.jsgen_tree.specs.Tree as tree
+use Rattle.jsgen_tree.specs.Nodes as tree
 use Rattle.jsgen_model.specs.Tokens.{◌⧺◌}
 use Rattle.jsgen_model.specs.Items.{◌⊕◌, due_semicolon}
 use Rattle.jsgen_model.specs.Layout.{Pen, layout, empty_pen, style_of}

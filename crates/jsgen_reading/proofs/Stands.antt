@@ -1,7 +1,7 @@
 -- What is carried through the induction for statements, declarations and rows of them.
 use Rattle.std.proofs.Common.{◌≡◌, Bool, true, false, refl, sym, ◌∙◌, subst}
 use Rattle.std.proofs.lemmas.Bool.{both_ways}
-use Rattle.jsgen_tree.specs.Table.{ends_open}
+use Rattle.jsgen_tree.specs.Inside.{ends_open}
 use Rattle.jsgen_tree.specs.Tree.{Tree, Trees}
 use Rattle.jsgen_model.specs.Punctuator.{semicolon}
 use Rattle.jsgen_model.specs.Tokens.{Tokens, done, piece, ◌⧺◌, Sign}

@@ -1,8 +1,8 @@
 -- One lemma for each type of statement, and rows of all of them.
 use Rattle.std.proofs.Common.{◌≡◌, false, true, refl, ap, ◌∙◌, subst}
-use Rattle.jsgen_tree.specs.Table.{ends_open}
+use Rattle.jsgen_tree.specs.Inside.{ends_open}
 use Rattle.jsgen_tree.specs.Tree.{Tree, Trees, Atoms}
-use Rattle.jsgen_tree.specs.Tree as tree
+use Rattle.jsgen_tree.specs.Nodes as tree
 use Rattle.jsgen_model.specs.Tokens.{done}
 use Rattle.jsgen_model.specs.Items.{◌⊕◌, statement_begins}
 use Rattle.jsgen_model.specs.Layout.{Pen, layout}

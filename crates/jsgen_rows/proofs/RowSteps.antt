@@ -6,8 +6,10 @@ use Rattle.serde_json.specs.Written.{has_float}
 use Rattle.jsgen_syntax.specs.declared.span.Span.{Span}
 use Rattle.jsgen_tree.specs.declared.types.NodeType.{NodeType}
 use Rattle.jsgen_tree.specs.declared.types.NodeSet.{NodeSet}
-use Rattle.jsgen_tree.specs.Tree.{Atom, no_value, Tree, trees, listed}
-use Rattle.jsgen_tree.specs.Table.{Sort, Presence, Field, fields, absent_value, is_value}
+use Rattle.jsgen_tree.specs.Atom.{Atom, no_value}
+use Rattle.jsgen_tree.specs.Tree.{Tree, trees, listed}
+use Rattle.jsgen_tree.specs.Table.{Sort, Presence, Field, absent_value, is_value}
+use Rattle.jsgen_tree.specs.Fields.{fields}
 use Rattle.jsgen_tree.specs.Table as sorts
 use Rattle.jsgen_rows.specs.declared.At.{At}
 use Rattle.jsgen_rows.specs.declared.InputFault.{InputFault}

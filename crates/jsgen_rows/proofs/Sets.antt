@@ -1,7 +1,7 @@
 -- Which of the sets that children are of hold the rows that are kept by their set.
 use Rattle.std.proofs.Common.{◌≡◌, Bool, true, false, refl}
 use Rattle.jsgen_tree.specs.Tree.{type_of}
-use Rattle.jsgen_tree.specs.Table.{is_directive, is_statement, is_variable_declarator, is_binding_pattern, is_expression, is_identifier_name}
+use Rattle.jsgen_tree.specs.Sets.{is_directive, is_statement, is_variable_declarator, is_binding_pattern, is_expression, is_identifier_name}
 use Rattle.jsgen_tree.specs.Rows.{expression_plain, declaration_plain, binding_pattern_plain}
 use Rattle.jsgen_tree.specs.Plain.{node_plain}
 use Rattle.jsgen_tree.specs.declared.nodes.Node.{Node}

@@ -10,7 +10,9 @@ use Rattle.jsgen_syntax.specs.declared.span.Span.{Span}
 use Rattle.jsgen_tree.specs.declared.types.NodeSet.{NodeSet}
 use Rattle.jsgen_tree.specs.declared.types.NodeType.{NodeType}
 use Rattle.jsgen_tree.specs.Tree.{Tree, type_of as tree_type}
-use Rattle.jsgen_tree.specs.Table.{Sort, Field, fields, in_set}
+use Rattle.jsgen_tree.specs.Table.{Sort, Field}
+use Rattle.jsgen_tree.specs.Fields.{fields}
+use Rattle.jsgen_tree.specs.Sets.{in_set}
 use Rattle.jsgen_tree.specs.Table as sorts
 use Rattle.jsgen_rows.specs.declared.At.{At}
 use Rattle.jsgen_rows.specs.declared.InputFault.{InputFault}

@@ -7,9 +7,12 @@ use Rattle.jsgen_tree.specs.declared.types.NodeType.{NodeType}
 use Rattle.jsgen_tree.specs.declared.types.NodeType.TheVariants as types
 use Rattle.jsgen_tree.specs.declared.types.NodeSet.{NodeSet}
 use Rattle.jsgen_tree.specs.Job.{JobData, no_tables}
-use Rattle.jsgen_tree.specs.Tree.{Atom, no_value, Tree, Slots, Maybe, Trees, MaybeTrees, node, no_slots, one, maybe, many, maybe_many, absent, given, no_trees, more, hole, trees, no_list, listed}
+use Rattle.jsgen_tree.specs.Atom.{Atom, no_value}
+use Rattle.jsgen_tree.specs.Tree.{Tree, Slots, Maybe, Trees, MaybeTrees, node, no_slots, one, maybe, many, maybe_many, absent, given, no_trees, more, hole, trees, no_list, listed}
 use Rattle.jsgen_tree.specs.Tree as tree
-use Rattle.jsgen_tree.specs.Table.{Sort, Presence, needed, Field, fields, absent_value, is_value, in_set}
+use Rattle.jsgen_tree.specs.Table.{Sort, Presence, needed, Field, absent_value, is_value}
+use Rattle.jsgen_tree.specs.Fields.{fields}
+use Rattle.jsgen_tree.specs.Sets.{in_set}
 use Rattle.jsgen_tree.specs.Table as sorts
 use Rattle.jsgen_rows.specs.declared.At.{At}
 use Rattle.jsgen_rows.specs.declared.InputFault.{InputFault}

@@ -6,9 +6,11 @@ use Rattle.serde_json.specs.Find.{as_number}
 use Rattle.jsgen_syntax.specs.declared.span.Span.{Span}
 use Rattle.jsgen_tree.specs.declared.types.NodeType.{NodeType}
 use Rattle.jsgen_tree.specs.declared.types.NodeSet.{NodeSet}
-use Rattle.jsgen_tree.specs.Tree.{Atom, Tree, node, no_slots, trees, listed}
+use Rattle.jsgen_tree.specs.Atom.{Atom}
+use Rattle.jsgen_tree.specs.Tree.{Tree, node, no_slots, trees, listed}
 use Rattle.jsgen_tree.specs.Tree as tree
-use Rattle.jsgen_tree.specs.Table.{Sort, Presence, Field, fields, absent_value, is_value}
+use Rattle.jsgen_tree.specs.Table.{Sort, Presence, Field, absent_value, is_value}
+use Rattle.jsgen_tree.specs.Fields.{fields}
 use Rattle.jsgen_tree.specs.Table as sorts
 use Rattle.jsgen_pool.specs.Pool.{Entry, there, taken, Took, take_row}
 use Rattle.jsgen_pool.specs.declared.TakeFault.TheVariants.{Absent, Taken}

@@ -10,8 +10,8 @@ use Rattle.jsgen_syntax.specs.declared.span.Span.{Span}
 use Rattle.jsgen_tree.specs.declared.types.NodeType.{NodeType}
 use Rattle.jsgen_tree.specs.declared.types.NodeType.TheVariants as types
 use Rattle.jsgen_tree.specs.Options.{Options, default_options}
-use Rattle.jsgen_tree.specs.Tree.{Atom}
-use Rattle.jsgen_tree.specs.Tree as atoms
+use Rattle.jsgen_tree.specs.Atom.{Atom}
+use Rattle.jsgen_tree.specs.Atom as atoms
 use Rattle.jsgen_tree.specs.Table.{Field, Presence, Sort, Word, needed, needed_for}
 use Rattle.jsgen_tree.specs.Table as sorts
 use Rattle.jsgen_rows.specs.declared.At.{At}

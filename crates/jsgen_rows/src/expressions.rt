@@ -2,7 +2,7 @@
 ghost use Rattle.std.specs.Prelude.{◌≡◌};
 ghost use Rattle.serde_json.specs.View.{view};
 ghost use Rattle.jsgen_tree.specs.declared.types.NodeType.TheVariants as types;
-ghost use Rattle.jsgen_tree.specs.Table.{identifier_reference_fields, numeric_literal_fields, parenthesized_expression_fields, binary_expression_fields, logical_expression_fields};
+ghost use Rattle.jsgen_tree.specs.Fields.{identifier_reference_fields, numeric_literal_fields, parenthesized_expression_fields, binary_expression_fields, logical_expression_fields};
 ghost use Rattle.jsgen_rows.specs.Reads.{Gives, read_node};
 ghost use Rattle.jsgen_rows.specs.Kept.{entries, row_plain};
 

@@ -1,7 +1,7 @@
 // The rows that were read, and what becomes of them: a child of a set.
 ghost use Rattle.std.specs.Prelude.{◌≡◌, Some, None, IfOk, option_map, if◌then◌else◌};
 ghost use Rattle.jsgen_tree.specs.Tree.{type_of};
-ghost use Rattle.jsgen_tree.specs.Table.{is_expression, is_statement, is_binding_pattern, is_variable_declarator, is_identifier_name, is_directive};
+ghost use Rattle.jsgen_tree.specs.Sets.{is_expression, is_statement, is_binding_pattern, is_variable_declarator, is_identifier_name, is_directive};
 ghost use Rattle.jsgen_tree.specs.Plain.{node_plain, program_plain};
 ghost use Rattle.jsgen_tree.specs.Rows.{in_expression, in_statement, in_binding_pattern, in_declaration, expression_plain, statement_plain, declaration_plain, binding_pattern_plain, variable_declarator_row, identifier_name_row, directive_row};
 ghost use Rattle.jsgen_rows.specs.Meaning.{is_program};

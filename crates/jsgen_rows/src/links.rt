@@ -2,7 +2,7 @@
 ghost use Rattle.std.specs.Prelude.{◌≡◌};
 ghost use Rattle.serde_json.specs.View.{view};
 ghost use Rattle.jsgen_tree.specs.declared.types.NodeType.TheVariants as types;
-ghost use Rattle.jsgen_tree.specs.Table.{string_literal_fields, identifier_name_fields, static_member_expression_fields, computed_member_expression_fields, call_expression_fields};
+ghost use Rattle.jsgen_tree.specs.Fields.{string_literal_fields, identifier_name_fields, static_member_expression_fields, computed_member_expression_fields, call_expression_fields};
 ghost use Rattle.jsgen_rows.specs.Reads.{Gives, read_node};
 ghost use Rattle.jsgen_rows.specs.Kept.{entries, row_plain};
 

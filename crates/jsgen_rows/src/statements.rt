@@ -2,7 +2,7 @@
 ghost use Rattle.std.specs.Prelude.{◌≡◌};
 ghost use Rattle.serde_json.specs.View.{view};
 ghost use Rattle.jsgen_tree.specs.declared.types.NodeType.TheVariants as types;
-ghost use Rattle.jsgen_tree.specs.Table.{program_fields, directive_fields, expression_statement_fields, block_statement_fields, if_statement_fields, empty_statement_fields, variable_declaration_fields, variable_declarator_fields, binding_identifier_fields};
+ghost use Rattle.jsgen_tree.specs.Fields.{program_fields, directive_fields, expression_statement_fields, block_statement_fields, if_statement_fields, empty_statement_fields, variable_declaration_fields, variable_declarator_fields, binding_identifier_fields};
 ghost use Rattle.jsgen_rows.specs.Reads.{Gives, read_node};
 ghost use Rattle.jsgen_rows.specs.Kept.{entries, row_plain};
 

@@ -2,7 +2,7 @@
 ghost use Rattle.std.specs.Prelude.{◌≡◌, ◌∷◌, true, Ok, map};
 ghost use Rattle.serde_json.specs.View.{view};
 ghost use Rattle.jsgen_syntax.specs.Units.{js_units};
-ghost use Rattle.jsgen_tree.specs.Tree.{no_value, units as units_atom};
+ghost use Rattle.jsgen_tree.specs.Atom.{no_value, units as units_atom};
 ghost use Rattle.jsgen_tree.specs.Table.{units};
 ghost use Rattle.jsgen_rows.specs.Job.{Same};
 ghost use Rattle.jsgen_rows.specs.Reads.{read_value};

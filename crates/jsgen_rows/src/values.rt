@@ -2,8 +2,8 @@
 ghost use Rattle.std.specs.Prelude.{◌≡◌, [], Some, true, false, map, option_map};
 ghost use Rattle.std.specs.Str.{bytes_eq};
 ghost use Rattle.serde_json.specs.View.{view};
-ghost use Rattle.jsgen_tree.specs.Rows.{characters};
-ghost use Rattle.jsgen_tree.specs.Tree.{no_value, text as text_atom, digits as digits_atom, flag as flag_atom};
+ghost use Rattle.jsgen_tree.specs.Characters.{characters};
+ghost use Rattle.jsgen_tree.specs.Atom.{no_value, text as text_atom, digits as digits_atom, flag as flag_atom};
 ghost use Rattle.jsgen_tree.specs.Table.{text, digits, flag};
 ghost use Rattle.jsgen_rows.specs.Job.{Same};
 ghost use Rattle.serde_json.specs.Find.{as_bool};

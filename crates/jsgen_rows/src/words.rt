@@ -1,8 +1,10 @@
 // Fields that hold a word.
 ghost use Rattle.std.specs.Prelude.{◌≡◌, true, IfOk, option_map, codes};
 ghost use Rattle.serde_json.specs.View.{view};
-ghost use Rattle.jsgen_tree.specs.Tree.{no_value, source_kind, declaration_kind, numeric_kind, binary_operator, logical_operator, Whole};
-ghost use Rattle.jsgen_tree.specs.Table.{word, source_kind_words, declaration_kind_words, numeric_kind_words, binary_operator_words, logical_operator_words};
+ghost use Rattle.jsgen_tree.specs.Atom.{no_value, source_kind, declaration_kind, numeric_kind, binary_operator, logical_operator};
+ghost use Rattle.jsgen_tree.specs.Number.{Whole};
+ghost use Rattle.jsgen_tree.specs.Table.{word};
+ghost use Rattle.jsgen_tree.specs.Fields.{source_kind_words, declaration_kind_words, numeric_kind_words, binary_operator_words, logical_operator_words};
 ghost use Rattle.jsgen_rows.specs.Job.{Same};
 ghost use Rattle.jsgen_rows.specs.Reads.{read_value};
 ghost use Rattle.jsgen_rows.specs.Values.{field, is_of_kind, word_meaning, words_of_length};

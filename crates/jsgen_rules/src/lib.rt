@@ -4,7 +4,7 @@
 ghost use Rattle.std.specs.Prelude.{◌≡◌, not};
 ghost use Rattle.std.specs.Str.{chars};
 ghost use Rattle.jsgen_syntax.specs.Name.{is_free_name};
-ghost use Rattle.jsgen_tree.specs.Table.{in_set};
+ghost use Rattle.jsgen_tree.specs.Sets.{in_set};
 ghost use Rattle.jsgen_model.specs.Valid.{span_faults, name_faults, written_name_faults, directive_faults, source_faults, fault_if};
 ghost use Rattle.jsgen_model.specs.declared.fault.TreeFault.TheVariants as faults;
 ghost use Rattle.jsgen_rules.specs.Verdict.{verdict};

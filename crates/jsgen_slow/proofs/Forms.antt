@@ -10,11 +10,12 @@ use Rattle.jsgen_syntax.specs.Units.{js_units}
 use Rattle.jsgen_syntax.specs.declared.operator.BinaryOperator.{BinaryOperator}
 use Rattle.jsgen_syntax.specs.declared.operator.LogicalOperator.{LogicalOperator}
 use Rattle.jsgen_tree.specs.declared.statements.VariableDeclarationKind.{VariableDeclarationKind}
-use Rattle.jsgen_tree.specs.Tree.{Tree, text, units, declaration_kind, binary_operator, logical_operator, no_trees, more, trees}
-use Rattle.jsgen_tree.specs.Tree as tree
-use Rattle.jsgen_tree.specs.Table.{ends_open}
-use Rattle.jsgen_tree.specs.Rows.{characters}
-use Rattle.jsgen_tree.specs.Values.{bare}
+use Rattle.jsgen_tree.specs.Atom.{text, units, declaration_kind, binary_operator, logical_operator}
+use Rattle.jsgen_tree.specs.Tree.{Tree, no_trees, more, trees}
+use Rattle.jsgen_tree.specs.Nodes as tree
+use Rattle.jsgen_tree.specs.Inside.{ends_open}
+use Rattle.jsgen_tree.specs.Characters.{characters}
+use Rattle.jsgen_tree.specs.Places.{bare}
 use Rattle.jsgen_model.specs.Normal.{nothing_of, named, unnumbered, by_text, declared_as, chain, normal, normal_trees, joined, links, unbraced}
 use Rattle.jsgen_slow.specs.Form.{form_layer, form_plain, forms_plain, optional_plain}
 use Rattle.jsgen_slow.specs.declared.form.Form.{Form}

@@ -3,10 +3,11 @@ use Rattle.std.specs.Prelude.{List, [], ◌∷◌, map, Option, option_map, deci
 use Rattle.std.specs.declared.boxed.Box.{Box}
 use Rattle.std.specs.declared.alloc.Global.{Global}
 use Rattle.jsgen_syntax.specs.Units.{js_units}
-use Rattle.jsgen_tree.specs.Tree.{Tree, units, binary_operator, logical_operator, Maybe, optional, Trees, trees}
-use Rattle.jsgen_tree.specs.Tree as tree
-use Rattle.jsgen_tree.specs.Rows.{characters}
-use Rattle.jsgen_tree.specs.Values.{bare}
+use Rattle.jsgen_tree.specs.Atom.{units, binary_operator, logical_operator}
+use Rattle.jsgen_tree.specs.Tree.{Tree, Maybe, optional, Trees, trees}
+use Rattle.jsgen_tree.specs.Nodes as tree
+use Rattle.jsgen_tree.specs.Characters.{characters}
+use Rattle.jsgen_tree.specs.Places.{bare}
 use Rattle.jsgen_model.specs.Normal.{nothing_of, named, unnumbered, by_text, declared_as, chain}
 use Rattle.jsgen_slow.specs.declared.form.Form.{Form}
 use Rattle.jsgen_slow.specs.declared.form.Form.TheOpen.{Form-F}

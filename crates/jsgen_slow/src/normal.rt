@@ -1,9 +1,10 @@
 // The normal form of each type of node.
 ghost use Rattle.std.specs.Prelude.{◌≡◌, ◌∷◌, [], map, option_map, IfOk};
-ghost use Rattle.jsgen_tree.specs.Tree.{trees, optional, block};
+ghost use Rattle.jsgen_tree.specs.Tree.{trees, optional};
+ghost use Rattle.jsgen_tree.specs.Nodes.{block};
 ghost use Rattle.jsgen_tree.specs.Rows.{program_row, directive_row, expression_statement_row, block_statement_row, if_statement_row, empty_statement_row, variable_declaration_row, variable_declarator_row, binding_identifier_row, identifier_reference_row, numeric_literal_row, string_literal_row, parenthesized_expression_row, binary_expression_row, logical_expression_row, identifier_name_row, static_member_expression_row, computed_member_expression_row, call_expression_row, expression_plain, statement_plain, declaration_plain, binding_pattern_plain, in_expression, in_statement, in_argument};
 ghost use Rattle.jsgen_tree.specs.Plain.{node_plain};
-ghost use Rattle.jsgen_tree.specs.Table.{ends_open};
+ghost use Rattle.jsgen_tree.specs.Inside.{ends_open};
 ghost use Rattle.jsgen_model.specs.Normal.{nothing_of, normal, normal_maybe, normal_trees, joined, links, same_operator, unbraced};
 ghost use Rattle.jsgen_slow.specs.Form.{form_plain, forms_plain, optional_plain};
 

@@ -1,9 +1,11 @@
+-- Generated from tools/nodes/table.txt; edit that and run tools/nodes/generate.
 -- What is promised of the names of fields.
 use Rattle.std.specs.Prelude.{◌≡◌, codes}
-use Rattle.jsgen_tree.specs.declared.types.NodeType.TheVariants as types
 use Rattle.jsgen_tree.specs.Tree.{Atoms}
-use Rattle.jsgen_tree.specs.Table.{fields, value_named}
-use Rattle.jsgen_tree.specs.Values.{as_text, as_units, as_digits, as_source_kind, as_declaration_kind, as_numeric_kind, as_binary_operator, as_logical_operator, as_flag, program_source, program_kind, directive_directive, variable_declaration_kind, binding_identifier_name, identifier_reference_name, identifier_name_name, numeric_literal_kind, numeric_literal_digits, numeric_literal_text, string_literal_value, binary_expression_operator, logical_expression_operator, call_expression_pure}
+use Rattle.jsgen_tree.specs.Table.{value_named}
+use Rattle.jsgen_tree.specs.Fields.{fields}
+use Rattle.jsgen_tree.specs.Values.{as_text, as_units, as_digits, as_flag, as_source_kind, as_declaration_kind, as_numeric_kind, as_binary_operator, as_logical_operator, program_source, program_kind, directive_directive, variable_declaration_kind, binding_identifier_name, identifier_reference_name, numeric_literal_kind, numeric_literal_negative, numeric_literal_digits, numeric_literal_text, string_literal_value, binary_expression_operator, logical_expression_operator, identifier_name_name, call_expression_pure}
+use Rattle.jsgen_tree.specs.declared.types.NodeType.TheVariants as types
 
 -- each value is that of the field of its name
 pub record FieldsAreNamed : Type 0 where
@@ -12,9 +14,9 @@ pub record FieldsAreNamed : Type 0 where
   pub variable_declaration : (a : Atoms) → variable_declaration_kind a ≡ as_declaration_kind (value_named (codes "kind") (fields types.VariableDeclaration) a.values)
   pub binding_identifier : (a : Atoms) → binding_identifier_name a ≡ as_text (value_named (codes "name") (fields types.BindingIdentifier) a.values)
   pub identifier_reference : (a : Atoms) → identifier_reference_name a ≡ as_text (value_named (codes "name") (fields types.IdentifierReference) a.values)
-  pub identifier_name : (a : Atoms) → identifier_name_name a ≡ as_text (value_named (codes "name") (fields types.IdentifierName) a.values)
-  pub numeric_literal : (a : Atoms) → (numeric_literal_kind a ≡ as_numeric_kind (value_named (codes "kind") (fields types.NumericLiteral) a.values)) × (numeric_literal_digits a ≡ as_digits (value_named (codes "digits") (fields types.NumericLiteral) a.values)) × (numeric_literal_text a ≡ as_text (value_named (codes "text") (fields types.NumericLiteral) a.values))
+  pub numeric_literal : (a : Atoms) → (numeric_literal_kind a ≡ as_numeric_kind (value_named (codes "kind") (fields types.NumericLiteral) a.values)) × (numeric_literal_negative a ≡ as_flag (value_named (codes "negative") (fields types.NumericLiteral) a.values)) × (numeric_literal_digits a ≡ as_digits (value_named (codes "digits") (fields types.NumericLiteral) a.values)) × (numeric_literal_text a ≡ as_text (value_named (codes "text") (fields types.NumericLiteral) a.values))
   pub string_literal : (a : Atoms) → string_literal_value a ≡ as_units (value_named (codes "value") (fields types.StringLiteral) a.values)
   pub binary_expression : (a : Atoms) → binary_expression_operator a ≡ as_binary_operator (value_named (codes "operator") (fields types.BinaryExpression) a.values)
   pub logical_expression : (a : Atoms) → logical_expression_operator a ≡ as_logical_operator (value_named (codes "operator") (fields types.LogicalExpression) a.values)
+  pub identifier_name : (a : Atoms) → identifier_name_name a ≡ as_text (value_named (codes "name") (fields types.IdentifierName) a.values)
   pub call_expression : (a : Atoms) → call_expression_pure a ≡ as_flag (value_named (codes "pure") (fields types.CallExpression) a.values)

@@ -1,8 +1,16 @@
 pub mod Words
+pub mod Number
+pub mod Atom
 pub mod Tree
+pub mod Nodes
+pub mod Places
 pub mod Values
 pub mod Width
 pub mod Table
+pub mod Fields
+pub mod Sets
+pub mod Inside
+pub mod Characters
 pub mod Rows
 pub mod Plain
 pub mod Spans

@@ -2,7 +2,7 @@
 use Rattle.std.specs.Prelude.{ℕ, List, Bool, true, false, Option, None, option_map}
 use Rattle.jsgen_syntax.specs.declared.buffer.IndentChar.{IndentChar}
 use Rattle.jsgen_syntax.specs.declared.buffer.IndentChar.TheVariants.{Tab}
-use Rattle.jsgen_tree.specs.Rows.{characters}
+use Rattle.jsgen_tree.specs.Characters.{characters}
 use Rattle.jsgen_tree.specs.declared.options.LegalComment.{LegalComment}
 use Rattle.jsgen_tree.specs.declared.options.LegalComment.TheVariants as legals
 use Rattle.jsgen_tree.specs.declared.options.CommentOptions.{CommentOptions}

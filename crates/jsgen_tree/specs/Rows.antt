@@ -1,26 +1,26 @@
+-- Generated from tools/nodes/table.txt; edit that and run tools/nodes/generate.
 -- The plain data of each struct and set, from that of what nests.
-use Rattle.std.specs.Prelude.{ℕ, List, [], ◌∷◌, map, option_map, String, string_bytes}
-use Rattle.std.specs.Str.{chars}
-use Rattle.std.specs.declared.alloc.Global.{Global}
+use Rattle.std.specs.Prelude.{[], ◌∷◌, map, option_map}
 use Rattle.jsgen_syntax.specs.Units.{js_units}
-use Rattle.jsgen_tree.specs.Tree.{Tree, Atom, no_value, text, units, digits, source_kind, declaration_kind, numeric_kind, Whole, binary_operator, logical_operator, flag, optional, trees, program, directive, expression_statement, variable_declaration, variable_declarator, binding_identifier, identifier_reference, numeric_literal, string_literal, parenthesized, binary, logical, identifier_name, static_member, computed_member, call, block, if_statement, empty_statement}
+use Rattle.jsgen_tree.specs.Characters.{characters, numeric_values}
+use Rattle.jsgen_tree.specs.Tree.{Tree, optional, trees}
+use Rattle.jsgen_tree.specs.Atom.{no_value, text, units, flag, source_kind, declaration_kind, binary_operator, logical_operator}
+use Rattle.jsgen_tree.specs.Nodes.{program, directive, variable_declaration, variable_declarator, binding_identifier, expression_statement, block, if_statement, empty_statement, identifier_reference, numeric_literal, string_literal, parenthesized, binary, logical, identifier_name, static_member, computed_member, call}
 use Rattle.jsgen_tree.specs.declared.nodes.ExpressionNode.{ExpressionNode}
-use Rattle.jsgen_tree.specs.declared.nodes.StatementNode.{StatementNode}
 use Rattle.jsgen_tree.specs.declared.nodes.DeclarationNode.{DeclarationNode}
+use Rattle.jsgen_tree.specs.declared.nodes.StatementNode.{StatementNode}
 use Rattle.jsgen_tree.specs.declared.nodes.BindingPatternNode.{BindingPatternNode}
 use Rattle.jsgen_tree.specs.declared.statements.Program.{Program}
 use Rattle.jsgen_tree.specs.declared.statements.Directive.{Directive}
-use Rattle.jsgen_tree.specs.declared.statements.ExpressionStatement.{ExpressionStatement}
 use Rattle.jsgen_tree.specs.declared.statements.VariableDeclaration.{VariableDeclaration}
 use Rattle.jsgen_tree.specs.declared.statements.VariableDeclarator.{VariableDeclarator}
 use Rattle.jsgen_tree.specs.declared.statements.BindingIdentifier.{BindingIdentifier}
+use Rattle.jsgen_tree.specs.declared.statements.ExpressionStatement.{ExpressionStatement}
 use Rattle.jsgen_tree.specs.declared.statements.BlockStatement.{BlockStatement}
 use Rattle.jsgen_tree.specs.declared.statements.IfStatement.{IfStatement}
 use Rattle.jsgen_tree.specs.declared.statements.EmptyStatement.{EmptyStatement}
 use Rattle.jsgen_tree.specs.declared.expressions.IdentifierReference.{IdentifierReference}
 use Rattle.jsgen_tree.specs.declared.expressions.NumericLiteral.{NumericLiteral}
-use Rattle.jsgen_tree.specs.declared.expressions.NumericValue.{NumericValue}
-use Rattle.jsgen_tree.specs.declared.expressions.NumericValue.TheVariants as numeric
 use Rattle.jsgen_tree.specs.declared.expressions.StringLiteral.{StringLiteral}
 use Rattle.jsgen_tree.specs.declared.expressions.ParenthesizedExpression.{ParenthesizedExpression}
 use Rattle.jsgen_tree.specs.declared.expressions.BinaryExpression.{BinaryExpression}
@@ -29,45 +29,62 @@ use Rattle.jsgen_tree.specs.declared.expressions.IdentifierName.{IdentifierName}
 use Rattle.jsgen_tree.specs.declared.expressions.StaticMemberExpression.{StaticMemberExpression}
 use Rattle.jsgen_tree.specs.declared.expressions.ComputedMemberExpression.{ComputedMemberExpression}
 use Rattle.jsgen_tree.specs.declared.expressions.CallExpression.{CallExpression}
-use Rattle.jsgen_tree.specs.declared.sets.Argument.{Argument}
-use Rattle.jsgen_tree.specs.declared.sets.Argument.TheVariants as argument
 use Rattle.jsgen_tree.specs.declared.sets.Expression.{Expression}
-use Rattle.jsgen_tree.specs.declared.sets.Expression.TheVariants as expression
-use Rattle.jsgen_tree.specs.declared.sets.Statement.{Statement}
-use Rattle.jsgen_tree.specs.declared.sets.Statement.TheVariants as statement
+use Rattle.jsgen_tree.specs.declared.sets.Argument.{Argument}
 use Rattle.jsgen_tree.specs.declared.sets.Declaration.{Declaration}
-use Rattle.jsgen_tree.specs.declared.sets.Declaration.TheVariants as declaration
+use Rattle.jsgen_tree.specs.declared.sets.Statement.{Statement}
 use Rattle.jsgen_tree.specs.declared.sets.BindingPattern.{BindingPattern}
+use Rattle.jsgen_tree.specs.declared.sets.Expression.TheVariants as expression
+use Rattle.jsgen_tree.specs.declared.sets.Argument.TheVariants as argument
+use Rattle.jsgen_tree.specs.declared.sets.Declaration.TheVariants as declaration
+use Rattle.jsgen_tree.specs.declared.sets.Statement.TheVariants as statement
 use Rattle.jsgen_tree.specs.declared.sets.BindingPattern.TheVariants as binding_pattern
-
--- the characters of a text
-abbrev pub characters : String Global → List ℕ
-characters s = chars (string_bytes s)
 
 -- ---- children that nest
 
 abbrev pub in_expression : {N : Type 0} → (N → Tree) → ExpressionNode N → Tree
 in_expression plain n = plain n.node
 
-abbrev pub in_statement : {N : Type 0} → (N → Tree) → StatementNode N → Tree
-in_statement plain n = plain n.node
-
 abbrev pub in_declaration : {N : Type 0} → (N → Tree) → DeclarationNode N → Tree
 in_declaration plain n = plain n.node
+
+abbrev pub in_statement : {N : Type 0} → (N → Tree) → StatementNode N → Tree
+in_statement plain n = plain n.node
 
 abbrev pub in_binding_pattern : {N : Type 0} → (N → Tree) → BindingPatternNode N → Tree
 in_binding_pattern plain n = plain n.node
 
-abbrev pub in_argument : {N : Type 0} → (N → Tree) → Argument N → Tree
-in_argument plain (argument.Expression b) = in_expression plain b.value
+-- ---- structs, and sets that don't nest
 
--- ---- structs
+abbrev pub directive_row : Directive → Tree
+directive_row n = directive (record { span = n.span; values = text (characters n.directive) ∷ [] })
+
+abbrev pub program_row : {N : Type 0} → (N → Tree) → Program N → Tree
+program_row plain n = program (record { span = n.span; values = text (characters n.source) ∷ source_kind n.kind ∷ no_value ∷ no_value ∷ [] }) (trees (map directive_row n.directives.items)) (trees (map (in_statement plain) n.body.items))
+
+abbrev pub variable_declarator_row : {N : Type 0} → (N → Tree) → VariableDeclarator N → Tree
+variable_declarator_row plain n = variable_declarator (record { span = n.span; values = no_value ∷ [] }) (in_binding_pattern plain n.id) (optional (option_map (in_expression plain) n.init))
+
+abbrev pub variable_declaration_row : {N : Type 0} → (N → Tree) → VariableDeclaration N → Tree
+variable_declaration_row plain n = variable_declaration (record { span = n.span; values = declaration_kind n.kind ∷ no_value ∷ [] }) (trees (map (variable_declarator_row plain) n.declarations.items))
+
+abbrev pub binding_identifier_row : BindingIdentifier → Tree
+binding_identifier_row n = binding_identifier (record { span = n.span; values = text (characters n.name) ∷ no_value ∷ [] })
+
+abbrev pub expression_statement_row : {N : Type 0} → (N → Tree) → ExpressionStatement N → Tree
+expression_statement_row plain n = expression_statement (record { span = n.span; values = [] }) (in_expression plain n.expression)
+
+abbrev pub block_statement_row : {N : Type 0} → (N → Tree) → BlockStatement N → Tree
+block_statement_row plain n = block (record { span = n.span; values = [] }) (trees (map (in_statement plain) n.body.items))
+
+abbrev pub if_statement_row : {N : Type 0} → (N → Tree) → IfStatement N → Tree
+if_statement_row plain n = if_statement (record { span = n.span; values = [] }) (in_expression plain n.test) (in_statement plain n.consequent) (optional (option_map (in_statement plain) n.alternate))
+
+abbrev pub empty_statement_row : EmptyStatement → Tree
+empty_statement_row n = empty_statement (record { span = n.span; values = [] })
 
 abbrev pub identifier_reference_row : IdentifierReference → Tree
 identifier_reference_row n = identifier_reference (record { span = n.span; values = text (characters n.name) ∷ no_value ∷ [] })
-
-abbrev pub numeric_values : NumericValue → List Atom
-numeric_values (numeric.Whole n) = numeric_kind Whole ∷ no_value ∷ digits n ∷ no_value ∷ []
 
 abbrev pub numeric_literal_row : NumericLiteral → Tree
 numeric_literal_row n = numeric_literal (record { span = n.span; values = numeric_values n.value })
@@ -93,37 +110,13 @@ static_member_expression_row plain n = static_member (record { span = n.span; va
 abbrev pub computed_member_expression_row : {N : Type 0} → (N → Tree) → ComputedMemberExpression N → Tree
 computed_member_expression_row plain n = computed_member (record { span = n.span; values = no_value ∷ [] }) (in_expression plain n.object) (in_expression plain n.expression)
 
+abbrev pub in_argument : {N : Type 0} → (N → Tree) → Argument N → Tree
+in_argument plain (argument.Expression b) = in_expression plain b.value
+
 abbrev pub call_expression_row : {N : Type 0} → (N → Tree) → CallExpression N → Tree
 call_expression_row plain n = call (record { span = n.span; values = no_value ∷ flag n.pure ∷ [] }) (in_expression plain n.callee) (trees (map (in_argument plain) n.arguments.items))
 
-abbrev pub binding_identifier_row : BindingIdentifier → Tree
-binding_identifier_row n = binding_identifier (record { span = n.span; values = text (characters n.name) ∷ no_value ∷ [] })
-
-abbrev pub variable_declarator_row : {N : Type 0} → (N → Tree) → VariableDeclarator N → Tree
-variable_declarator_row plain n = variable_declarator (record { span = n.span; values = no_value ∷ [] }) (in_binding_pattern plain n.id) (optional (option_map (in_expression plain) n.init))
-
-abbrev pub variable_declaration_row : {N : Type 0} → (N → Tree) → VariableDeclaration N → Tree
-variable_declaration_row plain n = variable_declaration (record { span = n.span; values = declaration_kind n.kind ∷ no_value ∷ [] }) (trees (map (variable_declarator_row plain) n.declarations.items))
-
-abbrev pub expression_statement_row : {N : Type 0} → (N → Tree) → ExpressionStatement N → Tree
-expression_statement_row plain n = expression_statement (record { span = n.span; values = [] }) (in_expression plain n.expression)
-
-abbrev pub block_statement_row : {N : Type 0} → (N → Tree) → BlockStatement N → Tree
-block_statement_row plain n = block (record { span = n.span; values = [] }) (trees (map (in_statement plain) n.body.items))
-
-abbrev pub if_statement_row : {N : Type 0} → (N → Tree) → IfStatement N → Tree
-if_statement_row plain n = if_statement (record { span = n.span; values = [] }) (in_expression plain n.test) (in_statement plain n.consequent) (optional (option_map (in_statement plain) n.alternate))
-
-abbrev pub empty_statement_row : EmptyStatement → Tree
-empty_statement_row n = empty_statement (record { span = n.span; values = [] })
-
-abbrev pub directive_row : Directive → Tree
-directive_row n = directive (record { span = n.span; values = text (characters n.directive) ∷ [] })
-
-abbrev pub program_row : {N : Type 0} → (N → Tree) → Program N → Tree
-program_row plain n = program (record { span = n.span; values = text (characters n.source) ∷ source_kind n.kind ∷ no_value ∷ no_value ∷ [] }) (trees (map directive_row n.directives.items)) (trees (map (in_statement plain) n.body.items))
-
--- ---- sets
+-- ---- sets that nest
 
 abbrev pub expression_plain : {N : Type 0} → (N → Tree) → Expression N → Tree
 expression_plain plain (expression.IdentifierReference b) = identifier_reference_row b.value

@@ -1,14 +1,15 @@
+-- Generated from tools/nodes/table.txt; edit that and run tools/nodes/generate.
 -- The span of a member of a set is the member's own.
 use Rattle.jsgen_syntax.specs.declared.span.Span.{Span}
 use Rattle.jsgen_tree.specs.declared.sets.Expression.{Expression}
-use Rattle.jsgen_tree.specs.declared.sets.Expression.TheVariants as expression
 use Rattle.jsgen_tree.specs.declared.sets.Argument.{Argument}
-use Rattle.jsgen_tree.specs.declared.sets.Argument.TheVariants as argument
-use Rattle.jsgen_tree.specs.declared.sets.Statement.{Statement}
-use Rattle.jsgen_tree.specs.declared.sets.Statement.TheVariants as statement
 use Rattle.jsgen_tree.specs.declared.sets.Declaration.{Declaration}
-use Rattle.jsgen_tree.specs.declared.sets.Declaration.TheVariants as declaration
+use Rattle.jsgen_tree.specs.declared.sets.Statement.{Statement}
 use Rattle.jsgen_tree.specs.declared.sets.BindingPattern.{BindingPattern}
+use Rattle.jsgen_tree.specs.declared.sets.Expression.TheVariants as expression
+use Rattle.jsgen_tree.specs.declared.sets.Argument.TheVariants as argument
+use Rattle.jsgen_tree.specs.declared.sets.Declaration.TheVariants as declaration
+use Rattle.jsgen_tree.specs.declared.sets.Statement.TheVariants as statement
 use Rattle.jsgen_tree.specs.declared.sets.BindingPattern.TheVariants as binding_pattern
 
 abbrev pub expression_span : {N : Type 0} → Expression N → Span

@@ -1,7 +1,7 @@
 -- How wide the numbers of a tree are.
 use Rattle.std.specs.Prelude.{◌^◌, Bool, nat_lt}
-use Rattle.jsgen_tree.specs.declared.expressions.NumericValue.{NumericValue}
-use Rattle.jsgen_tree.specs.declared.expressions.NumericValue.TheVariants as numeric
+use Rattle.jsgen_tree.specs.declared.numbers.NumericValue.{NumericValue}
+use Rattle.jsgen_tree.specs.declared.numbers.NumericValue.TheVariants as numeric
 
 -- its digits are a number of 128 bits
 abbrev pub is_wide : NumericValue → Bool

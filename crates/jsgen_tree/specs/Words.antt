@@ -1,7 +1,8 @@
+-- Generated from tools/nodes/table.txt; edit that and run tools/nodes/generate.
 -- The spelling of the words that nodes hold.
 use Rattle.std.specs.Prelude.{ℕ, List, codes}
 use Rattle.jsgen_tree.specs.declared.statements.VariableDeclarationKind.{VariableDeclarationKind}
-use Rattle.jsgen_tree.specs.declared.statements.VariableDeclarationKind.TheVariants as kinds
+use Rattle.jsgen_tree.specs.declared.statements.VariableDeclarationKind.TheVariants as declaration_kinds
 
 abbrev pub declaration_word : VariableDeclarationKind → List ℕ
-declaration_word kinds.Const = codes "const"
+declaration_word declaration_kinds.Const = codes "const"

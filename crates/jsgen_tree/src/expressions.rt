@@ -1,25 +1,21 @@
+// Generated from tools/nodes/table.txt; edit that and run tools/nodes/generate.
 // Expressions (ECMA-262, clause 13).
 ghost use Rattle.std.specs.Prelude.{IsTrue};
 ghost use Rattle.jsgen_tree.specs.Width.{is_wide};
 
 use crate::nodes::{ExpressionNode, Node};
+use crate::numbers::NumericValue;
 use crate::sets::Argument;
 use jsgen_syntax::{BinaryOperator, JsStr, LogicalOperator, Span};
 
-/// A name that is looked up.
+/// A name that is looked up (ECMA-262, 13.1).
 #[derive(Drop)]
 pub struct IdentifierReference {
     pub span: Span,
     pub name: String,
 }
 
-/// The value of a number.
-#[derive(Clone, Copy, Debug, PartialEq, Eq)]
-pub enum NumericValue {
-    /// A whole number, by its value.
-    Whole { digits: u128 },
-}
-
+/// A number by its value (ECMA-262, 12.9.3).
 #[derive(Drop)]
 pub struct NumericLiteral {
     pub span: Span,
@@ -27,20 +23,21 @@ pub struct NumericLiteral {
     ghost fits: { IsTrue (is_wide value) },
 }
 
-/// A string by its value.
+/// A string by its value (ECMA-262, 12.9.4).
 #[derive(Drop)]
 pub struct StringLiteral {
     pub span: Span,
     pub value: JsStr,
 }
 
-/// An expression in parentheses. They aren't kept: the printer sets its own.
+/// An expression in parentheses. They aren't kept: the printer sets its own (ECMA-262, 13.2.9).
 #[derive(Drop)]
 pub struct ParenthesizedExpression<N = Node> {
     pub span: Span,
     pub expression: ExpressionNode<N>,
 }
 
+/// Two operands, both of which are evaluated (ECMA-262, 13.6 to 13.12).
 #[derive(Drop)]
 pub struct BinaryExpression<N = Node> {
     pub span: Span,
@@ -49,6 +46,7 @@ pub struct BinaryExpression<N = Node> {
     pub right: ExpressionNode<N>,
 }
 
+/// Two operands, of which the second may be left out (ECMA-262, 13.13).
 #[derive(Drop)]
 pub struct LogicalExpression<N = Node> {
     pub span: Span,
@@ -57,14 +55,14 @@ pub struct LogicalExpression<N = Node> {
     pub right: ExpressionNode<N>,
 }
 
-/// A name as it is written: of a member, a label or an export. No renaming changes it.
+/// A name as it is written: of a member, a label or an export. No renaming changes it (ECMA-262, 12.7).
 #[derive(Drop)]
 pub struct IdentifierName {
     pub span: Span,
     pub name: String,
 }
 
-/// A member by its name.
+/// A member by its name (ECMA-262, 13.3.2).
 #[derive(Drop)]
 pub struct StaticMemberExpression<N = Node> {
     pub span: Span,
@@ -72,7 +70,7 @@ pub struct StaticMemberExpression<N = Node> {
     pub property: Box<IdentifierName>,
 }
 
-/// A member by the value of an expression.
+/// A member by the value of an expression (ECMA-262, 13.3.2).
 #[derive(Drop)]
 pub struct ComputedMemberExpression<N = Node> {
     pub span: Span,
@@ -80,6 +78,7 @@ pub struct ComputedMemberExpression<N = Node> {
     pub expression: ExpressionNode<N>,
 }
 
+/// A call of a function (ECMA-262, 13.3.6).
 #[derive(Drop)]
 pub struct CallExpression<N = Node> {
     pub span: Span,

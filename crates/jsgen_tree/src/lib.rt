@@ -1,3 +1,4 @@
+// Generated from tools/nodes/table.txt; edit that and run tools/nodes/generate.
 //! The tree of a program, owned by boxes and lists, and the options of printing it. A field bears the name that
 //! a job gives it.
 //!
@@ -6,8 +7,11 @@
 #![tactic(auto)]
 
 mod expressions;
+mod inside;
 mod laws;
+mod node_type;
 mod nodes;
+mod numbers;
 mod options;
 mod sets;
 mod span;
@@ -16,11 +20,12 @@ mod types;
 
 pub use expressions::{
     BinaryExpression, CallExpression, ComputedMemberExpression, IdentifierName,
-    IdentifierReference, LogicalExpression, NumericLiteral, NumericValue, ParenthesizedExpression,
+    IdentifierReference, LogicalExpression, NumericLiteral, ParenthesizedExpression,
     StaticMemberExpression, StringLiteral,
 };
 pub use laws::fields_are_named;
 pub use nodes::{BindingPatternNode, DeclarationNode, ExpressionNode, Node, StatementNode};
+pub use numbers::NumericValue;
 pub use options::{CodegenOptions, CommentOptions, LegalComment};
 pub use sets::{Argument, BindingPattern, Declaration, Expression, Statement};
 pub use span::GetSpan;

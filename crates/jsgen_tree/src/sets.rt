@@ -1,9 +1,5 @@
+// Generated from tools/nodes/table.txt; edit that and run tools/nodes/generate.
 // Sets: what may stand in one place. A set within a set is one variant of the inner one's name.
-ghost use Rattle.std.specs.Prelude.{◌≡◌, false, MatchOption};
-ghost use Rattle.jsgen_tree.specs.Tree.{type_of};
-ghost use Rattle.jsgen_tree.specs.Table.{is_expression, without_parentheses, IsInside};
-ghost use Rattle.jsgen_tree.specs.Rows.{expression_plain, statement_plain};
-ghost use Rattle.jsgen_tree.specs.Plain.{node_plain};
 
 use crate::expressions::{
     BinaryExpression, CallExpression, ComputedMemberExpression, IdentifierReference,
@@ -52,47 +48,4 @@ pub enum Statement<N = Node> {
 #[derive(Drop)]
 pub enum BindingPattern {
     BindingIdentifier(Box<BindingIdentifier>),
-}
-
-impl Expression {
-    /// What stands within the parentheses that the expression may have round it.
-    #[cycle(inner)]
-    pub fn without_parentheses(&self) -> &Expression
-        ensures { expression_plain node_plain result.now
-            ≡ without_parentheses (expression_plain node_plain self.now) }
-    {
-        match self {
-            Expression::ParenthesizedExpression(outer) => {
-                match outer.expression.get().inner_expression() {
-                    Some(inner) => inner,
-                    None => self,
-                }
-            }
-            Expression::IdentifierReference(_) => self,
-            Expression::NumericLiteral(_) => self,
-            Expression::StringLiteral(_) => self,
-            Expression::BinaryExpression(_) => self,
-            Expression::LogicalExpression(_) => self,
-            Expression::StaticMemberExpression(_) => self,
-            Expression::ComputedMemberExpression(_) => self,
-            Expression::CallExpression(_) => self,
-        }
-    }
-}
-
-impl Statement {
-    // No declaration's wrapper holds an expression, which the proof doesn't know.
-    #[cycle(inner)]
-    pub(crate) fn inner_expression(&self) -> Option<&Expression>
-        ensures { MatchOption result (is_expression (type_of (statement_plain node_plain self.now)) ≡ false)
-            (λ e. IsInside (statement_plain node_plain self.now) (expression_plain node_plain e.now)) }
-    {
-        match self {
-            Statement::Declaration(declaration) => declaration.get().inner_expression(),
-            Statement::ExpressionStatement(_) => None,
-            Statement::BlockStatement(_) => None,
-            Statement::IfStatement(_) => None,
-            Statement::EmptyStatement(_) => None,
-        }
-    }
 }

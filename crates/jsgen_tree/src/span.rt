@@ -1,8 +1,9 @@
+// Generated from tools/nodes/table.txt; edit that and run tools/nodes/generate.
 // The span of each node.
 ghost use Rattle.std.specs.Prelude.{◌≡◌};
 ghost use Rattle.jsgen_tree.specs.Tree.{span_of};
 ghost use Rattle.jsgen_tree.specs.Plain.{node_plain};
-ghost use Rattle.jsgen_tree.specs.Spans.{expression_span, argument_span, statement_span, declaration_span, binding_pattern_span};
+ghost use Rattle.jsgen_tree.specs.Spans.{expression_span, argument_span, declaration_span, statement_span, binding_pattern_span};
 
 use crate::expressions::{
     BinaryExpression, CallExpression, ComputedMemberExpression, IdentifierName,
@@ -43,6 +44,30 @@ impl GetSpan for Directive {
     }
 }
 
+impl<N> GetSpan for VariableDeclaration<N> {
+    ghost own_span = { λ n. n.span };
+
+    fn span(&self) -> Span {
+        self.span
+    }
+}
+
+impl<N> GetSpan for VariableDeclarator<N> {
+    ghost own_span = { λ n. n.span };
+
+    fn span(&self) -> Span {
+        self.span
+    }
+}
+
+impl GetSpan for BindingIdentifier {
+    ghost own_span = { λ n. n.span };
+
+    fn span(&self) -> Span {
+        self.span
+    }
+}
+
 impl<N> GetSpan for ExpressionStatement<N> {
     ghost own_span = { λ n. n.span };
 
@@ -68,30 +93,6 @@ impl<N> GetSpan for IfStatement<N> {
 }
 
 impl GetSpan for EmptyStatement {
-    ghost own_span = { λ n. n.span };
-
-    fn span(&self) -> Span {
-        self.span
-    }
-}
-
-impl<N> GetSpan for VariableDeclaration<N> {
-    ghost own_span = { λ n. n.span };
-
-    fn span(&self) -> Span {
-        self.span
-    }
-}
-
-impl<N> GetSpan for VariableDeclarator<N> {
-    ghost own_span = { λ n. n.span };
-
-    fn span(&self) -> Span {
-        self.span
-    }
-}
-
-impl GetSpan for BindingIdentifier {
     ghost own_span = { λ n. n.span };
 
     fn span(&self) -> Span {
@@ -180,7 +181,7 @@ impl<N> GetSpan for CallExpression<N> {
 }
 
 impl<N> GetSpan for Expression<N> {
-    ghost own_span = { λ e. expression_span e };
+    ghost own_span = { λ n. expression_span n };
 
     fn span(&self) -> Span {
         match self {
@@ -198,17 +199,17 @@ impl<N> GetSpan for Expression<N> {
 }
 
 impl<N: GetSpan> GetSpan for Argument<N> {
-    ghost own_span = { λ a. argument_span N.own_span a };
+    ghost own_span = { λ n. argument_span N.own_span n };
 
     fn span(&self) -> Span {
         match self {
-            Argument::Expression(expression) => expression.get().span(),
+            Argument::Expression(node) => node.get().span(),
         }
     }
 }
 
 impl<N> GetSpan for Declaration<N> {
-    ghost own_span = { λ d. declaration_span d };
+    ghost own_span = { λ n. declaration_span n };
 
     fn span(&self) -> Span {
         match self {
@@ -217,26 +218,26 @@ impl<N> GetSpan for Declaration<N> {
     }
 }
 
-impl GetSpan for BindingPattern {
-    ghost own_span = { λ b. binding_pattern_span b };
-
-    fn span(&self) -> Span {
-        match self {
-            BindingPattern::BindingIdentifier(node) => node.span,
-        }
-    }
-}
-
 impl<N: GetSpan> GetSpan for Statement<N> {
-    ghost own_span = { λ s. statement_span N.own_span s };
+    ghost own_span = { λ n. statement_span N.own_span n };
 
     fn span(&self) -> Span {
         match self {
-            Statement::Declaration(declaration) => declaration.get().span(),
+            Statement::Declaration(node) => node.get().span(),
             Statement::ExpressionStatement(node) => node.span,
             Statement::BlockStatement(node) => node.span,
             Statement::IfStatement(node) => node.span,
             Statement::EmptyStatement(node) => node.span,
+        }
+    }
+}
+
+impl GetSpan for BindingPattern {
+    ghost own_span = { λ n. binding_pattern_span n };
+
+    fn span(&self) -> Span {
+        match self {
+            BindingPattern::BindingIdentifier(node) => node.span,
         }
     }
 }
@@ -247,10 +248,10 @@ impl GetSpan for Node {
     #[cycle(node_span)]
     fn span(&self) -> Span {
         match self {
-            Node::Expression(expression) => expression.span(),
-            Node::Statement(statement) => statement.span(),
-            Node::Declaration(declaration) => declaration.span(),
-            Node::BindingPattern(pattern) => pattern.span(),
+            Node::Expression(node) => node.span(),
+            Node::Declaration(node) => node.span(),
+            Node::Statement(node) => node.span(),
+            Node::BindingPattern(node) => node.span(),
         }
     }
 }

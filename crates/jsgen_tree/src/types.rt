@@ -1,41 +1,42 @@
+// Generated from tools/nodes/table.txt; edit that and run tools/nodes/generate.
 // The types of nodes, and the sets that a field's child may be of.
 ghost use Rattle.std.specs.Prelude.{◌≡◌};
-ghost use Rattle.jsgen_tree.specs.Table.{in_set, is_expression, is_statement};
+ghost use Rattle.jsgen_tree.specs.Sets.{in_set, is_expression, is_statement};
 
 /// The type of a node.
 #[derive(Clone, Copy, Debug, PartialEq, Eq)]
 pub enum NodeType {
     Program,
     Directive,
-    ExpressionStatement,
     VariableDeclaration,
     VariableDeclarator,
     BindingIdentifier,
+    ExpressionStatement,
+    BlockStatement,
+    IfStatement,
+    EmptyStatement,
     IdentifierReference,
     NumericLiteral,
+    StringLiteral,
     ParenthesizedExpression,
     BinaryExpression,
     LogicalExpression,
-    StringLiteral,
     IdentifierName,
     StaticMemberExpression,
     ComputedMemberExpression,
     CallExpression,
-    BlockStatement,
-    IfStatement,
-    EmptyStatement,
 }
 
 /// What the child of a field may be: a member of a set, or a node of one type.
 #[derive(Clone, Copy, Debug, PartialEq, Eq)]
 pub enum NodeSet {
-    Expression,
+    Directive,
     Statement,
-    BindingPattern,
     VariableDeclarator,
+    BindingPattern,
+    Expression,
     IdentifierName,
     Argument,
-    Directive,
 }
 
 impl NodeType {
@@ -44,17 +45,17 @@ impl NodeType {
         ensures { result ≡ in_set set self }
     {
         match set {
-            NodeSet::Expression => self.is_expression(),
+            NodeSet::Directive => matches!(&self, NodeType::Directive),
             NodeSet::Statement => self.is_statement(),
-            NodeSet::BindingPattern => matches!(&self, NodeType::BindingIdentifier),
             NodeSet::VariableDeclarator => matches!(&self, NodeType::VariableDeclarator),
+            NodeSet::BindingPattern => matches!(&self, NodeType::BindingIdentifier),
+            NodeSet::Expression => self.is_expression(),
             NodeSet::IdentifierName => matches!(&self, NodeType::IdentifierName),
             NodeSet::Argument => self.is_expression(),
-            NodeSet::Directive => matches!(&self, NodeType::Directive),
         }
     }
 
-    /// Whether nodes of this type are expressions.
+    /// Whether nodes of this type are in `Expression`.
     pub fn is_expression(self) -> bool
         ensures { result ≡ is_expression self }
     {
@@ -62,24 +63,24 @@ impl NodeType {
             &self,
             NodeType::IdentifierReference
                 | NodeType::NumericLiteral
-                | NodeType::ParenthesizedExpression
+                | NodeType::StringLiteral
                 | NodeType::BinaryExpression
                 | NodeType::LogicalExpression
-                | NodeType::StringLiteral
+                | NodeType::ParenthesizedExpression
                 | NodeType::StaticMemberExpression
                 | NodeType::ComputedMemberExpression
                 | NodeType::CallExpression
         )
     }
 
-    /// Whether nodes of this type are statements, declarations among them.
+    /// Whether nodes of this type are in `Statement`.
     pub fn is_statement(self) -> bool
         ensures { result ≡ is_statement self }
     {
         matches!(
             &self,
-            NodeType::ExpressionStatement
-                | NodeType::VariableDeclaration
+            NodeType::VariableDeclaration
+                | NodeType::ExpressionStatement
                 | NodeType::BlockStatement
                 | NodeType::IfStatement
                 | NodeType::EmptyStatement

@@ -10,7 +10,7 @@ use Rattle.jsgen_syntax.specs.declared.operator.LogicalOperator.TheVariants.{And
 use Rattle.jsgen_tree.specs.declared.types.NodeType.TheVariants as types
 use Rattle.jsgen_tree.specs.Tree.{Tree, node, absent, given, no_trees, more}
 use Rattle.jsgen_tree.specs.Values.{identifier_reference_name, binary_expression_operator, logical_expression_operator}
-use Rattle.jsgen_tree.specs.Tree as tree
+use Rattle.jsgen_tree.specs.Nodes as tree
 use Rattle.jsgen_slow.proofs.normal_samples.Goals as goal
 
 -- ---- tests that tell two trees apart

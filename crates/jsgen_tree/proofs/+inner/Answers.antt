@@ -1,5 +1,5 @@
 use Rattle.std.proofs.Common.{ap, sym, ◌∙◌, rules}
-use Rattle.jsgen_tree.specs.Table.{without_parentheses}
+use Rattle.jsgen_tree.specs.Inside.{without_parentheses}
 use Rattle.jsgen_tree.proofs.Knot.{plain_expression, plain_statement}
 use Rattle.jsgen_tree.proofs.Members.{expression_is_one, declaration_is_none, binding_pattern_is_none}
 use Rattle.jsgen_tree.proofs.+inner.Goals as goal

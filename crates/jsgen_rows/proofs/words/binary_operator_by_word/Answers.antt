@@ -1,5 +1,5 @@
 use Rattle.std.proofs.Common.{◌∙◌}
-use Rattle.jsgen_tree.specs.Table.{binary_operator_words}
+use Rattle.jsgen_tree.specs.Fields.{binary_operator_words}
 use Rattle.jsgen_rows.proofs.WordLengths.{of_length}
 use Rattle.jsgen_rows.proofs.words.binary_operator_by_word.Goals as goal
 

@@ -1,3 +1,5 @@
+-- Generated from tools/nodes/table.txt; edit that and run tools/nodes/generate.
+-- Each by its place in the table.
 use Rattle.std.proofs.Common.{refl}
 use Rattle.jsgen_tree.proofs.laws.fields_are_named.Goals as goal
 
@@ -8,10 +10,10 @@ returns c = record {
   variable_declaration = λ a. refl;
   binding_identifier = λ a. refl;
   identifier_reference = λ a. refl;
-  identifier_name = λ a. refl;
-  numeric_literal = λ a. (refl, refl, refl);
+  numeric_literal = λ a. (refl, refl, refl, refl);
   string_literal = λ a. refl;
   binary_expression = λ a. refl;
   logical_expression = λ a. refl;
+  identifier_name = λ a. refl;
   call_expression = λ a. refl;
 }

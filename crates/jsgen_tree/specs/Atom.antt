@@ -1,0 +1,23 @@
+-- Generated from tools/nodes/table.txt; edit that and run tools/nodes/generate.
+-- A value that a node holds itself.
+use Rattle.std.specs.Prelude.{ℕ, List, Bool}
+use Rattle.jsgen_syntax.specs.declared.span.SourceKind.{SourceKind}
+use Rattle.jsgen_tree.specs.declared.statements.VariableDeclarationKind.{VariableDeclarationKind}
+use Rattle.jsgen_tree.specs.Number.{NumericKind}
+use Rattle.jsgen_syntax.specs.declared.operator.BinaryOperator.{BinaryOperator}
+use Rattle.jsgen_syntax.specs.declared.operator.LogicalOperator.{LogicalOperator}
+
+pub data Atom : Type 0 where
+  -- of a field that is absent
+  no_value : Atom
+  text : List ℕ → Atom
+  -- a string's value, by its units of UTF-16
+  units : List ℕ → Atom
+  digits : ℕ → Atom
+  number : ℕ → Atom
+  flag : Bool → Atom
+  source_kind : SourceKind → Atom
+  declaration_kind : VariableDeclarationKind → Atom
+  numeric_kind : NumericKind → Atom
+  binary_operator : BinaryOperator → Atom
+  logical_operator : LogicalOperator → Atom

@@ -1,0 +1,111 @@
+-- Generated from tools/nodes/table.txt; edit that and run tools/nodes/generate.
+-- For each type of node its fields in their order.
+use Rattle.std.specs.Prelude.{List, [], ◌∷◌, codes, false}
+use Rattle.jsgen_tree.specs.Table.{Word, means, Field, needs, needs_for, may_have, has_by_default, not_yet}
+use Rattle.jsgen_tree.specs.declared.types.NodeType.{NodeType}
+use Rattle.jsgen_tree.specs.declared.types.NodeType.TheVariants as types
+use Rattle.jsgen_tree.specs.declared.types.NodeSet.TheVariants as sets
+use Rattle.jsgen_tree.specs.Table as sorts
+use Rattle.jsgen_tree.specs.Atom as atoms
+use Rattle.jsgen_syntax.specs.declared.span.SourceKind.TheVariants as source_kinds
+use Rattle.jsgen_tree.specs.declared.statements.VariableDeclarationKind.TheVariants as declaration_kinds
+use Rattle.jsgen_tree.specs.Number as numeric_kinds
+use Rattle.jsgen_syntax.specs.declared.operator.BinaryOperator.TheVariants as binary_operators
+use Rattle.jsgen_syntax.specs.declared.operator.LogicalOperator.TheVariants as logical_operators
+
+-- ---- words
+
+abbrev pub source_kind_words : List Word
+source_kind_words = means (codes "module") (atoms.source_kind source_kinds.Module) ∷ []
+
+abbrev pub declaration_kind_words : List Word
+declaration_kind_words = means (codes "const") (atoms.declaration_kind declaration_kinds.Const) ∷ []
+
+abbrev pub numeric_kind_words : List Word
+numeric_kind_words = means (codes "whole") (atoms.numeric_kind numeric_kinds.Whole) ∷ []
+
+abbrev pub binary_operator_words : List Word
+binary_operator_words = means (codes "==") (atoms.binary_operator binary_operators.Equality) ∷ means (codes "!=") (atoms.binary_operator binary_operators.Inequality) ∷ means (codes "===") (atoms.binary_operator binary_operators.StrictEquality) ∷ means (codes "!==") (atoms.binary_operator binary_operators.StrictInequality) ∷ means (codes "<") (atoms.binary_operator binary_operators.LessThan) ∷ means (codes "<=") (atoms.binary_operator binary_operators.LessEqualThan) ∷ means (codes ">") (atoms.binary_operator binary_operators.GreaterThan) ∷ means (codes ">=") (atoms.binary_operator binary_operators.GreaterEqualThan) ∷ means (codes "+") (atoms.binary_operator binary_operators.Addition) ∷ means (codes "-") (atoms.binary_operator binary_operators.Subtraction) ∷ means (codes "*") (atoms.binary_operator binary_operators.Multiplication) ∷ means (codes "/") (atoms.binary_operator binary_operators.Division) ∷ means (codes "%") (atoms.binary_operator binary_operators.Remainder) ∷ means (codes "**") (atoms.binary_operator binary_operators.Exponential) ∷ means (codes "<<") (atoms.binary_operator binary_operators.ShiftLeft) ∷ means (codes ">>") (atoms.binary_operator binary_operators.ShiftRight) ∷ means (codes ">>>") (atoms.binary_operator binary_operators.ShiftRightZeroFill) ∷ means (codes "|") (atoms.binary_operator binary_operators.BitwiseOR) ∷ means (codes "^") (atoms.binary_operator binary_operators.BitwiseXOR) ∷ means (codes "&") (atoms.binary_operator binary_operators.BitwiseAnd) ∷ means (codes "in") (atoms.binary_operator binary_operators.In) ∷ means (codes "instanceof") (atoms.binary_operator binary_operators.Instanceof) ∷ []
+
+abbrev pub logical_operator_words : List Word
+logical_operator_words = means (codes "||") (atoms.logical_operator logical_operators.Or) ∷ means (codes "&&") (atoms.logical_operator logical_operators.And) ∷ means (codes "??") (atoms.logical_operator logical_operators.Coalesce) ∷ []
+
+-- ---- fields: one list for each type, in the order of their numbers, from 2 on
+
+abbrev pub program_fields : List Field
+program_fields = has_by_default (atoms.text []) (codes "source") sorts.text ∷ needs (codes "kind") (sorts.word source_kind_words) ∷ not_yet (codes "jsx") sorts.flag ∷ not_yet (codes "typescript") sorts.flag ∷ not_yet (codes "comments") sorts.unread_child ∷ not_yet (codes "hashbang") sorts.unread_child ∷ may_have (codes "directives") (sorts.children sets.Directive) ∷ may_have (codes "body") (sorts.children sets.Statement) ∷ []
+
+abbrev pub directive_fields : List Field
+directive_fields = needs (codes "directive") sorts.text ∷ []
+
+abbrev pub variable_declaration_fields : List Field
+variable_declaration_fields = needs (codes "kind") (sorts.word declaration_kind_words) ∷ not_yet (codes "declare") sorts.flag ∷ may_have (codes "declarations") (sorts.children sets.VariableDeclarator) ∷ []
+
+abbrev pub variable_declarator_fields : List Field
+variable_declarator_fields = needs (codes "id") (sorts.child sets.BindingPattern) ∷ not_yet (codes "definite") sorts.flag ∷ not_yet (codes "type_annotation") sorts.unread_child ∷ may_have (codes "init") (sorts.child sets.Expression) ∷ []
+
+abbrev pub binding_identifier_fields : List Field
+binding_identifier_fields = needs (codes "name") sorts.text ∷ not_yet (codes "symbol") sorts.number ∷ []
+
+abbrev pub expression_statement_fields : List Field
+expression_statement_fields = needs (codes "expression") (sorts.child sets.Expression) ∷ []
+
+abbrev pub block_statement_fields : List Field
+block_statement_fields = may_have (codes "body") (sorts.children sets.Statement) ∷ []
+
+abbrev pub if_statement_fields : List Field
+if_statement_fields = needs (codes "test") (sorts.child sets.Expression) ∷ needs (codes "consequent") (sorts.child sets.Statement) ∷ may_have (codes "alternate") (sorts.child sets.Statement) ∷ []
+
+abbrev pub empty_statement_fields : List Field
+empty_statement_fields = []
+
+abbrev pub identifier_reference_fields : List Field
+identifier_reference_fields = needs (codes "name") sorts.text ∷ not_yet (codes "reference") sorts.number ∷ []
+
+abbrev pub numeric_literal_fields : List Field
+numeric_literal_fields = needs (codes "kind") (sorts.word numeric_kind_words) ∷ not_yet (codes "negative") sorts.flag ∷ needs_for (codes "whole") (codes "digits") sorts.digits ∷ not_yet (codes "text") sorts.text ∷ []
+
+abbrev pub string_literal_fields : List Field
+string_literal_fields = needs (codes "value") sorts.units ∷ []
+
+abbrev pub parenthesized_expression_fields : List Field
+parenthesized_expression_fields = needs (codes "expression") (sorts.child sets.Expression) ∷ []
+
+abbrev pub binary_expression_fields : List Field
+binary_expression_fields = needs (codes "operator") (sorts.word binary_operator_words) ∷ needs (codes "left") (sorts.child sets.Expression) ∷ needs (codes "right") (sorts.child sets.Expression) ∷ []
+
+abbrev pub logical_expression_fields : List Field
+logical_expression_fields = needs (codes "operator") (sorts.word logical_operator_words) ∷ needs (codes "left") (sorts.child sets.Expression) ∷ needs (codes "right") (sorts.child sets.Expression) ∷ []
+
+abbrev pub identifier_name_fields : List Field
+identifier_name_fields = needs (codes "name") sorts.text ∷ []
+
+abbrev pub static_member_expression_fields : List Field
+static_member_expression_fields = needs (codes "object") (sorts.child sets.Expression) ∷ not_yet (codes "optional") sorts.flag ∷ needs (codes "property") (sorts.child sets.IdentifierName) ∷ []
+
+abbrev pub computed_member_expression_fields : List Field
+computed_member_expression_fields = needs (codes "object") (sorts.child sets.Expression) ∷ not_yet (codes "optional") sorts.flag ∷ needs (codes "expression") (sorts.child sets.Expression) ∷ []
+
+abbrev pub call_expression_fields : List Field
+call_expression_fields = needs (codes "callee") (sorts.child sets.Expression) ∷ not_yet (codes "type_arguments") sorts.unread_child ∷ may_have (codes "arguments") (sorts.children sets.Argument) ∷ not_yet (codes "optional") sorts.flag ∷ has_by_default (atoms.flag false) (codes "pure") sorts.flag ∷ []
+
+abbrev pub fields : NodeType → List Field
+fields types.Program = program_fields
+fields types.Directive = directive_fields
+fields types.VariableDeclaration = variable_declaration_fields
+fields types.VariableDeclarator = variable_declarator_fields
+fields types.BindingIdentifier = binding_identifier_fields
+fields types.ExpressionStatement = expression_statement_fields
+fields types.BlockStatement = block_statement_fields
+fields types.IfStatement = if_statement_fields
+fields types.EmptyStatement = empty_statement_fields
+fields types.IdentifierReference = identifier_reference_fields
+fields types.NumericLiteral = numeric_literal_fields
+fields types.StringLiteral = string_literal_fields
+fields types.ParenthesizedExpression = parenthesized_expression_fields
+fields types.BinaryExpression = binary_expression_fields
+fields types.LogicalExpression = logical_expression_fields
+fields types.IdentifierName = identifier_name_fields
+fields types.StaticMemberExpression = static_member_expression_fields
+fields types.ComputedMemberExpression = computed_member_expression_fields
+fields types.CallExpression = call_expression_fields

@@ -1,0 +1,61 @@
+-- Generated from tools/nodes/table.txt; edit that and run tools/nodes/generate.
+-- The row of each type of node, as a pattern.
+use Rattle.jsgen_tree.specs.Tree.{Tree, Trees, Maybe, Atoms, node, no_slots, one, maybe, many}
+use Rattle.jsgen_tree.specs.declared.types.NodeType.TheVariants as types
+
+pattern abbrev pub program : Atoms → Trees → Trees → Tree
+program a directives body = node types.Program a (many directives (many body no_slots))
+
+pattern abbrev pub directive : Atoms → Tree
+directive a = node types.Directive a no_slots
+
+pattern abbrev pub variable_declaration : Atoms → Trees → Tree
+variable_declaration a declarations = node types.VariableDeclaration a (many declarations no_slots)
+
+pattern abbrev pub variable_declarator : Atoms → Tree → Maybe → Tree
+variable_declarator a id init = node types.VariableDeclarator a (one id (maybe init no_slots))
+
+pattern abbrev pub binding_identifier : Atoms → Tree
+binding_identifier a = node types.BindingIdentifier a no_slots
+
+pattern abbrev pub expression_statement : Atoms → Tree → Tree
+expression_statement a expression = node types.ExpressionStatement a (one expression no_slots)
+
+pattern abbrev pub block : Atoms → Trees → Tree
+block a body = node types.BlockStatement a (many body no_slots)
+
+pattern abbrev pub if_statement : Atoms → Tree → Tree → Maybe → Tree
+if_statement a test consequent alternate = node types.IfStatement a (one test (one consequent (maybe alternate no_slots)))
+
+pattern abbrev pub empty_statement : Atoms → Tree
+empty_statement a = node types.EmptyStatement a no_slots
+
+pattern abbrev pub identifier_reference : Atoms → Tree
+identifier_reference a = node types.IdentifierReference a no_slots
+
+pattern abbrev pub numeric_literal : Atoms → Tree
+numeric_literal a = node types.NumericLiteral a no_slots
+
+pattern abbrev pub string_literal : Atoms → Tree
+string_literal a = node types.StringLiteral a no_slots
+
+pattern abbrev pub parenthesized : Atoms → Tree → Tree
+parenthesized a expression = node types.ParenthesizedExpression a (one expression no_slots)
+
+pattern abbrev pub binary : Atoms → Tree → Tree → Tree
+binary a left right = node types.BinaryExpression a (one left (one right no_slots))
+
+pattern abbrev pub logical : Atoms → Tree → Tree → Tree
+logical a left right = node types.LogicalExpression a (one left (one right no_slots))
+
+pattern abbrev pub identifier_name : Atoms → Tree
+identifier_name a = node types.IdentifierName a no_slots
+
+pattern abbrev pub static_member : Atoms → Tree → Tree → Tree
+static_member a object property = node types.StaticMemberExpression a (one object (one property no_slots))
+
+pattern abbrev pub computed_member : Atoms → Tree → Tree → Tree
+computed_member a object expression = node types.ComputedMemberExpression a (one object (one expression no_slots))
+
+pattern abbrev pub call : Atoms → Tree → Trees → Tree
+call a callee arguments = node types.CallExpression a (one callee (many arguments no_slots))

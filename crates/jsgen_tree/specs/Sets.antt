@@ -1,0 +1,56 @@
+-- Generated from tools/nodes/table.txt; edit that and run tools/nodes/generate.
+-- The types in each set.
+use Rattle.std.specs.Prelude.{Bool, true, false}
+use Rattle.jsgen_tree.specs.declared.types.NodeType.{NodeType}
+use Rattle.jsgen_tree.specs.declared.types.NodeSet.{NodeSet}
+use Rattle.jsgen_tree.specs.declared.types.NodeType.TheVariants as types
+use Rattle.jsgen_tree.specs.declared.types.NodeSet.TheVariants as sets
+
+abbrev pub is_expression : NodeType → Bool
+is_expression types.IdentifierReference = true
+is_expression types.NumericLiteral = true
+is_expression types.StringLiteral = true
+is_expression types.BinaryExpression = true
+is_expression types.LogicalExpression = true
+is_expression types.ParenthesizedExpression = true
+is_expression types.StaticMemberExpression = true
+is_expression types.ComputedMemberExpression = true
+is_expression types.CallExpression = true
+is_expression other = false
+
+abbrev pub is_declaration : NodeType → Bool
+is_declaration types.VariableDeclaration = true
+is_declaration other = false
+
+abbrev pub is_statement : NodeType → Bool
+is_statement types.VariableDeclaration = true
+is_statement types.ExpressionStatement = true
+is_statement types.BlockStatement = true
+is_statement types.IfStatement = true
+is_statement types.EmptyStatement = true
+is_statement other = false
+
+abbrev pub is_binding_pattern : NodeType → Bool
+is_binding_pattern types.BindingIdentifier = true
+is_binding_pattern other = false
+
+abbrev pub is_directive : NodeType → Bool
+is_directive types.Directive = true
+is_directive other = false
+
+abbrev pub is_variable_declarator : NodeType → Bool
+is_variable_declarator types.VariableDeclarator = true
+is_variable_declarator other = false
+
+abbrev pub is_identifier_name : NodeType → Bool
+is_identifier_name types.IdentifierName = true
+is_identifier_name other = false
+
+abbrev pub in_set : NodeSet → NodeType → Bool
+in_set sets.Directive t = is_directive t
+in_set sets.Statement t = is_statement t
+in_set sets.VariableDeclarator t = is_variable_declarator t
+in_set sets.BindingPattern t = is_binding_pattern t
+in_set sets.Expression t = is_expression t
+in_set sets.IdentifierName t = is_identifier_name t
+in_set sets.Argument t = is_expression t

@@ -1,0 +1,93 @@
+// Generated from tools/nodes/table.txt; edit that and run tools/nodes/generate.
+// The type of a member of each set.
+ghost use Rattle.std.specs.Prelude.{◌≡◌};
+ghost use Rattle.jsgen_tree.specs.Tree.{type_of};
+ghost use Rattle.jsgen_tree.specs.Rows.{expression_plain, declaration_plain, statement_plain, binding_pattern_plain, in_argument};
+ghost use Rattle.jsgen_tree.specs.Plain.{node_plain};
+
+use crate::nodes::Node;
+use crate::sets::{Argument, BindingPattern, Declaration, Expression, Statement};
+use crate::types::NodeType;
+
+impl Expression {
+    /// The type of the node.
+    pub fn node_type(&self) -> NodeType
+        ensures { result ≡ type_of (expression_plain node_plain self.now) }
+    {
+        match self {
+            Expression::IdentifierReference(_) => NodeType::IdentifierReference,
+            Expression::NumericLiteral(_) => NodeType::NumericLiteral,
+            Expression::StringLiteral(_) => NodeType::StringLiteral,
+            Expression::BinaryExpression(_) => NodeType::BinaryExpression,
+            Expression::LogicalExpression(_) => NodeType::LogicalExpression,
+            Expression::ParenthesizedExpression(_) => NodeType::ParenthesizedExpression,
+            Expression::StaticMemberExpression(_) => NodeType::StaticMemberExpression,
+            Expression::ComputedMemberExpression(_) => NodeType::ComputedMemberExpression,
+            Expression::CallExpression(_) => NodeType::CallExpression,
+        }
+    }
+}
+
+impl Argument {
+    /// The type of the node.
+    pub fn node_type(&self) -> NodeType
+        ensures { result ≡ type_of (in_argument node_plain self.now) }
+    {
+        match self {
+            Argument::Expression(node) => node.get().node_type(),
+        }
+    }
+}
+
+impl Declaration {
+    /// The type of the node.
+    pub fn node_type(&self) -> NodeType
+        ensures { result ≡ type_of (declaration_plain node_plain self.now) }
+    {
+        match self {
+            Declaration::VariableDeclaration(_) => NodeType::VariableDeclaration,
+        }
+    }
+}
+
+impl Statement {
+    /// The type of the node.
+    #[cycle(node_type)]
+    pub fn node_type(&self) -> NodeType
+        ensures { result ≡ type_of (statement_plain node_plain self.now) }
+    {
+        match self {
+            Statement::Declaration(node) => node.get().node_type(),
+            Statement::ExpressionStatement(_) => NodeType::ExpressionStatement,
+            Statement::BlockStatement(_) => NodeType::BlockStatement,
+            Statement::IfStatement(_) => NodeType::IfStatement,
+            Statement::EmptyStatement(_) => NodeType::EmptyStatement,
+        }
+    }
+}
+
+impl BindingPattern {
+    /// The type of the node.
+    pub fn node_type(&self) -> NodeType
+        ensures { result ≡ type_of (binding_pattern_plain self.now) }
+    {
+        match self {
+            BindingPattern::BindingIdentifier(_) => NodeType::BindingIdentifier,
+        }
+    }
+}
+
+impl Node {
+    /// The type of the node.
+    #[cycle(node_type)]
+    pub fn node_type(&self) -> NodeType
+        ensures { result ≡ type_of (node_plain self.now) }
+    {
+        match self {
+            Node::Expression(node) => node.node_type(),
+            Node::Declaration(node) => node.node_type(),
+            Node::Statement(node) => node.node_type(),
+            Node::BindingPattern(node) => node.node_type(),
+        }
+    }
+}

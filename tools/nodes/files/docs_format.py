@@ -1,0 +1,59 @@
+"""docs/FORMAT.md, between its two lines of comment: the fields of each type, and the sets."""
+
+from names import REPOSITORY
+from table import snake
+
+FIRST, LAST = "<!-- Generated from tools/nodes/table.txt by tools/nodes/generate -->", "<!-- to here -->"
+VALUES = {"text": "a text", "units": "a string", "digits": "the value", "flag": "a flag, false where it is absent"}
+
+
+def write(table):
+    page = (REPOSITORY / "docs/FORMAT.md").read_text()
+    before, _, rest = page.partition(FIRST)
+    _, _, after = rest.partition(LAST)
+    rows = "".join(f"| `{n.name}` | {'; '.join(fields(table, n)) or 'none'} |\n" for n in table.nodes.values())
+    sets = " ".join(f"{plural(s).capitalize()} are {members(table, s)}." for s in table.sets)
+    text = f"{FIRST}\n\n| type | fields, in order |\n|---|---|\n{rows}\n{sets}\n\n{LAST}"
+    return {"docs/FORMAT.md": before + text + after}
+
+
+def fields(table, n):
+    """What is said of each field; fields in a row that aren't read yet together."""
+    said, unread = [], []
+    for f in n.in_format() + [None]:
+        if f and f.unread:
+            unread.append(f"`{f.name}`")
+            continue
+        if unread:
+            said.append(f"{', '.join(unread)} not read yet")
+            unread = []
+        if f:
+            said.append(f"`{f.name}` {value(table, f)}" + (f" ({note(f.doc)})" if f.doc else ""))
+    return said
+
+
+def note(doc):
+    """The sentences of a field's doc, as a remark."""
+    return "; ".join(part[0].lower() + part[1:] for part in doc.rstrip(".").split(". "))
+
+
+def value(table, f):
+    if f.kind in table.words:
+        words = [f"`{w}`".replace("|", r"\|") for w, _ in table.words[f.kind].words]
+        return f"the word {words[0]}" if len(words) == 1 else f"one of the words {' '.join(words)}"
+    if f.kind in VALUES:
+        return VALUES[f.kind] + (", empty where it is absent" if f.default == '""' else "") \
+            + (f", needed where `kind` is `{f.only_for}`" if f.only_for else "")
+    if f.many == "*":
+        return f"a list of {plural(f.kind) if f.kind in table.sets else f'`{f.kind}`'}"
+    name = f"`{f.kind}`" if f.kind in table.nodes else snake(f.kind).replace("_", " ")
+    return f"{'an' if f.kind[0] in 'AEIOU' else 'a'} {name}{', or absent' if f.many == '?' else ''}"
+
+
+def plural(name):
+    return snake(name).replace("_", " ") + "s"
+
+
+def members(table, name):
+    names = [plural(m) if m in table.sets else f"`{m}`" for m in table.sets[name].members]
+    return " and ".join([", ".join(names[:-1])] * (len(names) > 1) + names[-1:])

@@ -1,0 +1,72 @@
+"""specs/Fields.antt: the words and the fields of each type; specs/Sets.antt: which types a set has."""
+
+import layout
+from files.src_types import is_other
+from names import SPECS, TYPES, atoms, types_in_antt, variants_of_words
+from table import snake
+
+
+def write(table):
+    return {"specs/Fields.antt": fields(table), "specs/Sets.antt": sets(table)}
+
+
+def listed(items):
+    return " ∷ ".join(items + ["[]"])
+
+
+def fields(table):
+    parts = ["-- ---- words"]
+    for w in table.words.values():
+        words = [f'means (codes "{word}") (atoms.{w.short} {w.alias}.{variant})' for word, variant in w.words]
+        parts.append(f"abbrev pub {w.short}_words : List Word\n{w.short}_words = {listed(words)}")
+    parts.append("-- ---- fields: one list for each type, in the order of their numbers, from 2 on")
+    for n in table.nodes.values():
+        name = snake(n.name) + "_fields"
+        parts.append(f"abbrev pub {name} : List Field\n{name} = {listed([row(table, f) for f in n.in_format()])}")
+    clauses = "".join(f"\nfields types.{n} = {snake(n)}_fields" for n in table.nodes)
+    parts.append(f"abbrev pub fields : NodeType → List Field{clauses}")
+    homes = [("Rattle.std.specs.Prelude", ["List", "[]", "◌∷◌", "codes", "false"]),
+             (f"{SPECS}.Table", ["Word", "means", "Field", "needs", "needs_for", "may_have", "has_by_default", "not_yet"])]
+    homes += types_in_antt(table)
+    aliases = TYPES + [(f"{SPECS}.Table", "sorts"), (f"{SPECS}.Atom", "atoms")] + variants_of_words(table)
+    return layout.antt("For each type of node its fields in their order.", homes, aliases, "\n\n".join(parts))
+
+
+def row(table, f):
+    name = f'(codes "{f.name}")'
+    if f.unread:
+        return f"not_yet {name} {sort(table, f)}"
+    if f.only_for:
+        return f'needs_for (codes "{f.only_for}") {name} {sort(table, f)}'
+    if f.default is not None or f.kind == "flag":
+        default = "(atoms.text [])" if f.kind == "text" else f"(atoms.flag {f.default or 'false'})"
+        return f"has_by_default {default} {name} {sort(table, f)}"
+    return f"{'needs' if f.required else 'may_have'} {name} {sort(table, f)}"
+
+
+def sort(table, f):
+    if f.kind in table.words:
+        return f"(sorts.word {table.words[f.kind].short}_words)"
+    if table.is_value(f):
+        return f"sorts.{f.kind}"
+    if f.unread:
+        return "sorts.unread_child"
+    return f"(sorts.{'children' if f.many == '*' else 'child'} sets.{f.kind})"
+
+
+def sets(table):
+    parts = []
+    names = list(dict.fromkeys(list(table.sets) + table.child_sets()))
+    for name in names:
+        if not is_other(table, name):
+            test = "is_" + snake(name)
+            clauses = "".join(f"{test} types.{t} = true\n" for t in table.types_in(name))
+            parts.append(f"abbrev pub {test} : NodeType → Bool\n{clauses}{test} other = false")
+    clauses = "".join(f"\nin_set sets.{s} t = {tested(table, s)} t" for s in table.child_sets())
+    parts.append(f"abbrev pub in_set : NodeSet → NodeType → Bool{clauses}")
+    homes = [("Rattle.std.specs.Prelude", ["Bool", "true", "false"])] + types_in_antt(table)
+    return layout.antt("The types in each set.", homes, TYPES, "\n\n".join(parts))
+
+
+def tested(table, name):
+    return tested(table, table.sets[name].members[0]) if is_other(table, name) else "is_" + snake(name)

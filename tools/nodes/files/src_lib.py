@@ -1,0 +1,31 @@
+"""src/lib.rt: the modules, and the names that the crate passes on."""
+
+import re
+
+import layout
+from names import nodes_in_rust
+
+HEAD = """//! The tree of a program, owned by boxes and lists, and the options of printing it. A field bears the name that
+//! a job gives it.
+//!
+//! `Node` is the one type that leads back to itself. A child that nests stands in a wrapper that says its
+//! set, as `ExpressionNode`, and is made by `into()` from a member of that set.
+#![tactic(auto)]
+"""
+
+# What stands in files that are written by hand.
+BY_HAND = {"inside": [], "laws": ["fields_are_named"], "numbers": ["NumericValue"], "options": ["CodegenOptions", "CommentOptions", "LegalComment"]}
+
+
+def write(table):
+    passed = dict(BY_HAND)
+    passed |= {module.removeprefix("crate::"): names for module, names in nodes_in_rust(table)}
+    passed["nodes"] = ["Node"] + [s.name + "Node" for s in table.nesting()]
+    passed["sets"] = list(table.sets)
+    passed["span"] = ["GetSpan"]
+    passed["types"] = ["NodeSet", "NodeType"]
+    passed["node_type"] = []
+    mods = "".join(f"mod {m};\n" for m in sorted(passed))
+    uses = "".join(f"pub use {m}::{{{', '.join(sorted(names))}}};\n" for m, names in sorted(passed.items()) if names)
+    uses = re.sub(r"\{(\w+)\}", r"\1", uses)
+    return {"src/lib.rt": layout.RUST + HEAD + "\n" + mods + "\n" + uses}

@@ -1,0 +1,56 @@
+"""src/nodes.rt: the one recursive type, and a wrapper for each set that nests."""
+
+import layout
+from names import DECLARED, sets_in_rust
+from table import snake
+
+
+def write(table):
+    sets = [s.name for s in table.nesting()]
+    variants = "".join(f"    {s}({s}),\n" for s in sets)
+    body = f"""/// A node at a place where trees nest. It has a variant for each set that children nest through.
+#[derive(Drop)]
+pub enum Node {{
+{variants}}}
+
+""" + "\n\n".join([wrapper(s) for s in sets] + [conversion(s) for s in sets] + [getter(s) for s in sets])
+    about = "Where trees nest: the one recursive type, and the wrappers that say a child's set."
+    ghosts = [("Rattle.std.specs.Prelude", ["◌≡◌"])]
+    aliases = [(f"{DECLARED}.nodes.Node.TheVariants", "nodes")]
+    return {"src/nodes.rt": layout.rust(about, ghosts, aliases, sets_in_rust(table), body)}
+
+
+def spoken(name):
+    words = snake(name).replace("_", " ")
+    return ("an " if words[0] in "aeiou" else "a ") + words
+
+
+def wrapper(s):
+    return f"""/// A child that is {spoken(s)}. It is made from one, and from nothing else.
+#[derive(Drop)]
+pub struct {s}Node<N = Node> {{
+    node: N,
+}}"""
+
+
+def conversion(s):
+    return f"""impl From<{s}> for {s}Node {{
+    ghost from_gives = {{ λ x y. y.node ≡ nodes.{s} x }};
+
+    fn from(member: {s}) -> {s}Node {{
+        {s}Node {{
+            node: Node::{s}(member),
+        }}
+    }}
+}}"""
+
+
+def getter(s):
+    return f"""impl<N> {s}Node<N> {{
+    /// The node inside.
+    pub fn get(&self) -> &N
+        ensures {{ result.now ≡ self.now.node }}
+    {{
+        &self.node
+    }}
+}}"""

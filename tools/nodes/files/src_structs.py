@@ -1,0 +1,66 @@
+"""src/statements.rt, src/expressions.rt: a struct for each type, an enum for each kind of words."""
+
+import layout
+from names import nodes_in_rust, sets_in_rust, wrappers_in_rust
+from table import VALUES
+
+
+def write(table):
+    return {f"src/{file}.rt": one_file(table, file) for file in table.files}
+
+
+def one_file(table, file):
+    parts = [words_enum(w) for w in table.words.values() if w.file == file and not w.home]
+    parts += [struct(table, n) for n in table.nodes.values() if n.file == file]
+    elsewhere = [(m, names) for m, names in nodes_in_rust(table) if m != f"crate::{file}"]
+    homes = elsewhere + wrappers_in_rust(table) + sets_in_rust(table)
+    homes += [("crate::numbers", ["NumericValue"])]
+    syntax = [w.name for w in table.words.values() if (w.home or "").startswith("jsgen_syntax.")]
+    homes += [("jsgen_syntax", syntax + ["JsStr", "Span"])]
+    spellings = [w.spelling for w in table.words.values()]
+    ghosts = [("Rattle.std.specs.Prelude", ["◌≡◌", "IsTrue"]), ("Rattle.jsgen_tree.specs.Words", spellings),
+              ("Rattle.jsgen_tree.specs.Width", ["is_wide"])]
+    return layout.rust(table.files[file], ghosts, [], homes, "\n\n".join(parts))
+
+
+def words_enum(w):
+    variants = "".join(f"    {v},\n" for _, v in w.words)
+    arms = "".join(f'            {w.name}::{v} => "{word}",\n' for word, v in w.words)
+    return f"""/// {w.doc}
+#[derive(Clone, Copy, Debug, PartialEq, Eq)]
+pub enum {w.name} {{
+{variants}}}
+
+impl {w.name} {{
+    /// The spelling.
+    pub fn as_str(self) -> &'static str
+        ensures {{ result.now ≡ {w.spelling} self }}
+    {{
+        match self {{
+{arms}        }}
+    }}
+}}"""
+
+
+def struct(table, n):
+    generic = "<N = Node>" if table.generic(n.name) else ""
+    doc = f"{n.doc.rstrip('.')} (ECMA-262, {n.section.replace('-', ' to ')})."
+    fields = "    pub span: Span,\n"
+    for f in n.in_rust():
+        fields += f"    /// {f.doc}\n" if f.doc else ""
+        fields += f"    pub {f.rust}: {rust_type(table, f)},\n"
+    fields += "".join(f"    {ghost},\n" for ghost in n.ghosts)
+    return f"/// {doc}\n#[derive(Drop)]\npub struct {n.name}{generic} {{\n{fields}}}"
+
+
+def rust_type(table, f):
+    if not table.is_child(f):
+        return VALUES.get(f.kind, f.kind)
+    parameter = "<N>" if table.generic(f.kind) else ""
+    if f.kind in table.sets:
+        one = f"{f.kind}Node<N>" if table.sets[f.kind].nests else f.kind + parameter
+    elif f.many == "*":
+        one = f.kind + parameter
+    else:
+        one = f"Box<{f.kind}{parameter}>"
+    return {"": one, "?": f"Option<{one}>", "*": f"Vec<{one}>"}[f.many]

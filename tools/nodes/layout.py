@@ -1,0 +1,33 @@
+"""How files of Rattle and antt begin: the line that says they are generated, and the `use` lines of the names
+that stand in them."""
+
+import re
+
+RUST = "// Generated from tools/nodes/table.txt; edit that and run tools/nodes/generate.\n"
+ANTT = "-- Generated from tools/nodes/table.txt; edit that and run tools/nodes/generate.\n"
+
+
+def used(body, homes):
+    """Each module of the homes, with those of its names that stand in the body outside comments."""
+    text = re.sub(r"(?m)^\s*(--|//).*$", "", body)
+    there = set(re.findall(r"(?<![\w.:])[^\W\d][\w-]*|\[\]", text)) | {f"◌{sign}◌" for sign in re.findall(r"[≡∷∙]", text)}
+    for module, names in homes:
+        names = [n for n in names if n in there]
+        if names:
+            yield module, names
+
+
+def antt(about, homes, aliases, body):
+    lines = [ANTT + f"-- {about}"]
+    lines += [f"use {m}.{{{', '.join(ns)}}}" for m, ns in used(body, homes)]
+    lines += [f"use {m} as {a}" for m, a in aliases if re.search(rf"(?<![\w.]){a}\.", body)]
+    return "\n".join(lines) + "\n\n" + body.strip() + "\n"
+
+
+def rust(about, ghosts, aliases, homes, body):
+    lines = [RUST + f"// {about}"]
+    lines += [f"ghost use {m}.{{{', '.join(ns)}}};" for m, ns in used(body, ghosts)]
+    lines += [f"ghost use {m} as {a};" for m, a in aliases if re.search(rf"(?<![\w.]){a}\.", body)]
+    uses = [f"use {m}::{{{', '.join(sorted(ns))}}};" for m, ns in sorted(used(body, homes))]
+    uses = [re.sub(r"\{(\w+)\}", r"\1", u) for u in uses]
+    return "\n".join(lines + [""] + uses) + "\n\n" + body.strip() + "\n"

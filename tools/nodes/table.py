@@ -1,0 +1,190 @@
+"""Reads table.txt into lists of nodes, sets and words. The head of table.txt says how it is written."""
+
+import re
+from dataclasses import dataclass, field
+from pathlib import Path
+
+VALUES = {"text": "String", "units": "JsStr", "digits": "u128", "number": "u32", "flag": "bool"}
+
+
+def snake(name):
+    return re.sub(r"(?<=[a-z0-9])(?=[A-Z])", "_", name).lower()
+
+
+@dataclass
+class Field:
+    name: str
+    rust: str
+    kind: str           # a value, or the name of words, a set or a type
+    many: str           # "" one, "?" one or none, "*" a list
+    default: str        # None where it has none
+    only_for: str       # the word of `kind` for which it is required; None where it is one for all
+    unread: bool
+    doc: str
+    other: str = None   # another kind of value that a tree may hold there
+    parts: list = None  # the fields of the format that a field by hand stands for
+
+    @property
+    def required(self):
+        return self.many == "" and self.kind != "flag" and self.default is None
+
+
+@dataclass
+class Node:
+    name: str
+    section: str
+    short: str
+    file: str
+    doc: str = ""
+    fields: list = field(default_factory=list)
+    ghosts: list = field(default_factory=list)
+
+    @property
+    def row(self):
+        return snake(self.name) + "_row"
+
+    def in_rust(self):
+        return [f for f in self.fields if not f.unread]
+
+    def in_format(self):
+        return [g for f in self.fields for g in (f.parts or [f])]
+
+
+@dataclass
+class Words:
+    name: str
+    short: str
+    spelling: str
+    home: str           # the module that it stands in, where it isn't written here
+    file: str
+    doc: str = ""
+    words: list = field(default_factory=list)
+
+    @property
+    def alias(self):
+        return self.short + "s"
+
+
+@dataclass
+class Set:
+    name: str
+    nests: bool
+    doc: str = ""
+    members: list = field(default_factory=list)
+
+    @property
+    def plain(self):
+        return snake(self.name) + "_plain"
+
+
+class Table:
+    def __init__(self, path):
+        self.files, self.nodes, self.words, self.sets = {}, {}, {}, {}
+        self.read(path)
+        self.check()
+
+    def read(self, path):
+        file = at = outer = None
+        for number, line in enumerate(Path(path).read_text().splitlines(), 1):
+            indent, line = len(line) - len(line.lstrip()), line.strip()
+            if not line or line.startswith("# ") or line == "#":
+                continue
+            try:
+                if indent == 0:
+                    head, *rest = line.split()
+                    if head == "file":
+                        file, _, text = line[5:].partition(": ")
+                        self.files[file] = text
+                    elif head == "node":
+                        name, section, *short = rest
+                        at = self.nodes[name] = Node(name, section, (short or [snake(name)])[0], file)
+                    elif head == "words":
+                        name, short, spelling, *home = rest
+                        at = self.words[name] = Words(name, short, spelling, home[1] if home else None, file)
+                    elif head == "set":
+                        at = self.sets[rest[0]] = Set(rest[0], rest[1:] == ["nests"])
+                    else:
+                        raise ValueError("neither file, node, words nor set")
+                elif line.startswith("| ") and not (isinstance(at, Words) and len(line.split()) == 2):
+                    at.doc = line[2:]
+                elif isinstance(at, Words):
+                    word, variant = line.split()
+                    at.words.append((word, variant))
+                elif isinstance(at, Set):
+                    at.members += line.split()
+                elif line.startswith("ghost "):
+                    at.ghosts.append(line)
+                elif indent > 4:
+                    outer.parts.append(read_field(line))
+                else:
+                    outer = read_field(line)
+                    at.fields.append(outer)
+            except (ValueError, AttributeError) as error:
+                raise SystemExit(f"{path}:{number}: {line}: {error}")
+
+    def check(self):
+        for n in self.nodes.values():
+            for f in n.in_format():
+                known = f.kind in VALUES or f.kind in self.words or self.is_child(f)
+                if not f.unread and not known:
+                    raise SystemExit(f"{n.name}.{f.name}: no words, set or type {f.kind}")
+                if f.only_for and not any(g.name == "kind" for g in n.in_format()):
+                    raise SystemExit(f"{n.name}.{f.name}: the type has no field kind")
+                if not f.unread and f.many and not self.is_child(f):
+                    raise SystemExit(f"{n.name}.{f.name}: an optional value has no form yet")
+        for s in self.sets.values():
+            for m in s.members:
+                if m not in self.nodes and not (m in self.sets and self.sets[m].nests):
+                    raise SystemExit(f"set {s.name}: {m} is neither a type nor a set that nests")
+
+    # ---- what follows
+
+    def is_child(self, f):
+        return f.kind in self.sets or f.kind in self.nodes
+
+    def is_value(self, f):
+        return f.kind in VALUES or f.kind in self.words
+
+    def values(self, node):
+        """The fields of the format that hold a value of the node, read or not, in their order."""
+        return [f for f in node.in_format() if self.is_value(f)]
+
+    def children(self, node):
+        return [f for f in node.in_rust() if self.is_child(f)]
+
+    def nesting(self):
+        return [s for s in self.sets.values() if s.nests]
+
+    def generic(self, name):
+        """Whether the type or set has the parameter N: whether anything in it nests."""
+        if name in self.sets:
+            return any(m in self.sets or self.generic(m) for m in self.sets[name].members)
+        kinds = [f.kind for f in self.children(self.nodes[name])]
+        return any(self.sets[k].nests if k in self.sets and self.sets[k].nests else self.generic(k) for k in kinds)
+
+    def types_in(self, name):
+        """The types in a set, those of the sets in it among them; of a type, itself."""
+        if name in self.nodes:
+            return [name]
+        return [t for m in self.sets[name].members for t in self.types_in(m)]
+
+    def child_sets(self):
+        """The sets and types that children are of, in the order of their first use."""
+        return list(dict.fromkeys(f.kind for n in self.nodes.values() for f in self.children(n)))
+
+
+def read_field(line):
+    line, _, doc = line.partition(" | ")
+    line, _, default = line.strip().partition(" = ")
+    line, _, only_for = line.strip().partition(" for ")
+    name, *rest = line.split()
+    rust, parts = name, None
+    if rest[0] == "as":
+        rust, rest = rest[1], rest[2:]
+    if rest[0] == "by":
+        rest, parts = rest[1:], []
+    unread = rest[0] == "unread"
+    kind, _, other = (rest[1] if unread else rest[0]).partition("/")
+    bare = kind.rstrip("?*")
+    return Field(name, rust, bare, kind[len(bare):], default or None, only_for.strip() or None, unread, doc.strip(),
+                 other or None, parts)
