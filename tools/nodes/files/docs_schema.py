@@ -1,0 +1,69 @@
+"""docs/job.schema.json: a JSON Schema (draft 2020-12) of jobs. What it can't say stands in docs/FORMAT.md: which rows a
+child may name, and that the last row is the program."""
+
+import json
+
+OPTIONS = ["minify", "single_quote", "ascii_only"]
+NOT_READ = ["normal", "jsdoc", "annotation", "legal", "legal_path", "source_map_path", "indent_char", "indent_width", "initial_indent"]
+VALUES = {
+    "text": {"type": "string"},
+    "units": {"anyOf": [{"type": "string"}, {"type": "array", "items": {"type": "integer", "minimum": 0, "maximum": 65535}}]},
+    "digits": {"anyOf": [{"type": "integer", "minimum": 0}, {"type": "string", "pattern": "^(0|[1-9][0-9]*)$"}]},
+    "number": {"type": "integer", "minimum": 0, "maximum": 4294967295},
+    "flag": {"type": "boolean"},
+}
+ROW = {"$ref": "#/$defs/row number"}
+
+
+def write(table):
+    flag = or_null({"type": "boolean"})
+    options = {name: flag for name in OPTIONS} | {name: {"type": "null"} for name in NOT_READ}
+    schema = {
+        "$schema": "https://json-schema.org/draft/2020-12/schema",
+        "$comment": "Generated from tools/nodes/table.txt; edit that and run tools/nodes/generate.",
+        "title": "A job of jsgen",
+        "type": "object",
+        "required": ["rows"],
+        "properties": {
+            "options": or_null({"type": "object", "properties": options}),
+            "symbols": {"type": "null"}, "references": {"type": "null"}, "private": {"type": "null"},
+            "rows": {"type": "array", "minItems": 1, "items": {"$ref": "#/$defs/row"}},
+        },
+        "$defs": {"row number": {"type": "integer", "minimum": 0}, "row": any_row(table)}
+        | {n.name: row(table, n) for n in table.nodes.values()},
+    }
+    return {"docs/job.schema.json": json.dumps(schema, indent=1, ensure_ascii=False) + "\n"}
+
+
+def or_null(schema):
+    """A member whose value is null counts as absent."""
+    return {"anyOf": [schema, {"type": "null"}]}
+
+
+def any_row(table):
+    span = {"type": "array", "items": VALUES["number"], "minItems": 2, "maxItems": 2}
+    by_type = [{"if": {"properties": {"type": {"const": n}}}, "then": {"$ref": f"#/$defs/{n}"}} for n in table.nodes]
+    return {
+        "type": "object",
+        "required": ["type"],
+        "properties": {"type": {"enum": list(table.nodes)}, "span": or_null(span)},
+        "allOf": by_type,
+    }
+
+
+def row(table, n):
+    """The fields of a type; one that is required where `kind` is a certain word is required in any case while there is one."""
+    required = [f.name for f in n.in_format() if not f.unread and f.required]
+    properties = {f.name: field(table, f) for f in n.in_format()}
+    return {"description": f"{n.doc} ECMA-262, {n.section}."} | ({"required": required} if required else {}) | {"properties": properties}
+
+
+def field(table, f):
+    if f.unread:
+        return {"type": "null"}
+    schema = value(table, f) if table.is_value(f) else {"type": "array", "items": ROW} if f.many == "*" else ROW
+    return schema if f.required else or_null(schema)
+
+
+def value(table, f):
+    return {"enum": [word for word, _ in table.words[f.kind].words]} if f.kind in table.words else VALUES[f.kind]
