@@ -8,6 +8,7 @@ REPOSITORY = Path(__file__).resolve().parents[2]
 CRATE = REPOSITORY / "crates" / "jsgen_tree"
 SPECS = "Rattle.jsgen_tree.specs"
 DECLARED = SPECS + ".declared"
+MODEL = "Rattle.jsgen_model"
 
 
 def nodes_in_rust(table):

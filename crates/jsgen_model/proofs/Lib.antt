@@ -1,1 +1,3 @@
+pub mod PlainRows
 pub mod Programs
+pub mod PlainPrograms

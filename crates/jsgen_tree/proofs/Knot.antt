@@ -1,7 +1,7 @@
 -- Generated from tools/nodes/table.txt; edit that and run tools/nodes/generate.
 -- The plain data of the recursive type is, set by set, that of what it holds.
-use Rattle.std.specs.declared.alloc.Global.{Global}
-use Rattle.std.proofs.Common.{Box, ◌≡◌, refl, sym, ap, ◌∙◌, None, Some}
+use Rattle.std.proofs.Common.{◌≡◌, refl, sym, ap, ◌∙◌}
+use Rattle.jsgen_tree.proofs.Cases.{with_argument, variable_declarator_by_init, if_statement_by_alternate}
 use Rattle.jsgen_tree.specs.Plain.{node_plain, layer}
 use Rattle.jsgen_tree.specs.Spans.{expression_span, declaration_span, statement_span, binding_pattern_span}
 use Rattle.jsgen_tree.specs.Tree.{Tree, trees, span_of}
@@ -10,18 +10,12 @@ use Rattle.jsgen_tree.proofs.Layers.{map_after, same_slots, same_one, same_many}
 use Rattle.jsgen_tree.specs.declared.nodes.Node.{Node, out-Node, map-Node, fold_out-Node}
 use Rattle.jsgen_tree.specs.declared.nodes.Node.TheVariants.{outs-Expression, outs-Declaration, outs-Statement, outs-BindingPattern}
 use Rattle.jsgen_tree.specs.declared.sets.Expression.{Expression}
-use Rattle.jsgen_tree.specs.declared.sets.Argument.{Argument}
 use Rattle.jsgen_tree.specs.declared.sets.Declaration.{Declaration}
 use Rattle.jsgen_tree.specs.declared.sets.Statement.{Statement}
 use Rattle.jsgen_tree.specs.declared.sets.BindingPattern.{BindingPattern}
-use Rattle.jsgen_tree.specs.declared.nodes.ExpressionNode.{ExpressionNode}
-use Rattle.jsgen_tree.specs.declared.nodes.StatementNode.{StatementNode}
-use Rattle.jsgen_tree.specs.declared.statements.VariableDeclarator.{VariableDeclarator}
-use Rattle.jsgen_tree.specs.declared.statements.IfStatement.{IfStatement}
 use Rattle.jsgen_tree.specs.declared.nodes.Node.TheVariants as nodes
 use Rattle.jsgen_tree.specs.declared.nodes.Node.TheOpen as opened
 use Rattle.jsgen_tree.specs.declared.sets.Expression.TheVariants as expressions
-use Rattle.jsgen_tree.specs.declared.sets.Argument.TheVariants as arguments
 use Rattle.jsgen_tree.specs.declared.sets.Declaration.TheVariants as declarations
 use Rattle.jsgen_tree.specs.declared.sets.Statement.TheVariants as statements
 use Rattle.jsgen_tree.specs.declared.sets.BindingPattern.TheVariants as binding_patterns
@@ -29,19 +23,6 @@ use Rattle.jsgen_tree.specs.declared.sets.BindingPattern.TheVariants as binding_
 pub plain_out : (n : Node) → node_plain n ≡ layer (map-Node Node Tree node_plain (out-Node n))
 unfolding node_plain
 plain_out n = fold_out-Node Tree layer n
-
--- ---- a member of a set that doesn't nest, by its type
-
-with_argument : (P : Argument Node → Type 0) → ((b : Box (ExpressionNode Node) Global) → P (arguments.Expression b)) → (n : Argument Node) → P n
-with_argument P of_expression (arguments.Expression b) = of_expression b
-
--- ---- a struct with an optional child, and without it
-
-variable_declarator_by_init : (P : VariableDeclarator Node → Type 0) → ((n : VariableDeclarator Node) → P (record n { init = None })) → ((c : ExpressionNode Node) (n : VariableDeclarator Node) → P (record n { init = Some c })) → (n : VariableDeclarator Node) → P n
-variable_declarator_by_init P none some n = elim n.init as (λ o. P (record n { init = o })) [ None ↦ none n | Some c ↦ some c n ]
-
-if_statement_by_alternate : (P : IfStatement Node → Type 0) → ((n : IfStatement Node) → P (record n { alternate = None })) → ((c : StatementNode Node) (n : IfStatement Node) → P (record n { alternate = Some c })) → (n : IfStatement Node) → P n
-if_statement_by_alternate P none some n = elim n.alternate as (λ o. P (record n { alternate = o })) [ None ↦ none n | Some c ↦ some c n ]
 
 -- ---- a layer of each set over what its children give
 

@@ -2,58 +2,31 @@
 The lemmas of lists and of rows that it uses are in proofs/Layers.antt, by hand."""
 
 import layout
+from files.proofs_cases import CASES, aliases, lemma_names, needs_steps, opened, to_open, variant
 from files.specs_tree import SLOTS
-from names import DECLARED, SPECS, TREE, nodes_in_antt, row_names, sets_in_antt, wrappers_in_antt
+from names import DECLARED, SPECS, TREE, row_names, sets_in_antt
 from table import snake
-
-
-def aliases(table):
-    """Here the sets' variants go by the plural, beside the definitions on a set, which have the singular."""
-    return [(f"{DECLARED}.sets.{s}.TheVariants", snake(s) + "s") for s in table.sets]
-
-
-def variant(s, m):
-    return f"({snake(s.name)}s.{m} b)"
 
 
 def write(table):
     parts = ["""pub plain_out : (n : Node) → node_plain n ≡ layer (map-Node Node Tree node_plain (out-Node n))
 unfolding node_plain
 plain_out n = fold_out-Node Tree layer n"""]
-    parts += ["-- ---- a member of a set that doesn't nest, by its type"]
-    parts += [by_type(table, s) for s in table.sets.values() if not s.nests and table.generic(s.name)]
-    parts += ["-- ---- a struct with an optional child, and without it"]
-    parts += openings(table)
     parts += ["-- ---- a layer of each set over what its children give"]
     parts += [natural(table, s) for s in table.nesting() if table.generic(s.name)]
     parts += [plain(table, s) for s in table.nesting()]
     parts += ["-- ---- spans"] + [spans(table, s) for s in table.nesting()]
-    homes = [("Rattle.std.specs.declared.alloc.Global", ["Global"]),
-             ("Rattle.std.proofs.Common", ["Box", "◌≡◌", "refl", "sym", "ap", "◌∙◌", "None", "Some"]),
+    homes = [("Rattle.std.proofs.Common", ["◌≡◌", "refl", "sym", "ap", "◌∙◌"]), (CASES, lemma_names(table)),
              (f"{SPECS}.Plain", ["node_plain", "layer"]),
              (f"{SPECS}.Spans", [snake(s) + "_span" for s in table.sets])] + TREE + row_names(table)
     homes += [("Rattle.jsgen_tree.proofs.Layers",
                ["map_after", "same_slots", "same_one", "same_maybe", "same_many"]),
               (f"{DECLARED}.nodes.Node", ["Node", "out-Node", "map-Node", "fold_out-Node"]),
               (f"{DECLARED}.nodes.Node.TheVariants", ["outs-" + s.name for s in table.nesting()])]
-    homes += sets_in_antt(table) + wrappers_in_antt(table) + nodes_in_antt(table)
+    homes += sets_in_antt(table)
     every = [(f"{DECLARED}.nodes.Node.TheVariants", "nodes"), (f"{DECLARED}.nodes.Node.TheOpen", "opened")]
     about = "The plain data of the recursive type is, set by set, that of what it holds."
     return {"proofs/Knot.antt": layout.antt(about, homes, every + aliases(table), "\n\n".join(parts))}
-
-
-def by_type(table, s):
-    name = "with_" + snake(s.name)
-    steps, names, clauses = "", "", ""
-    for m in s.members:
-        held = f"{m}Node" if m in table.sets else m
-        takes = " Node" if m in table.sets or table.generic(m) else ""
-        box = f"Box ({held}{takes}) Global" if takes else f"Box {held} Global"
-        steps += f"((b : {box}) → P ({snake(s.name)}s.{m} b)) → "
-        names += f" of_{snake(m)}"
-    for m in s.members:
-        clauses += f"\n{name} P{names} {variant(s, m)} = of_{snake(m)} b"
-    return f"{name} : (P : {s.name} Node → Type 0) → {steps}(n : {s.name} Node) → P n{clauses}"
 
 
 def natural(table, s):
@@ -69,59 +42,6 @@ def equation(s, n):
 def natural_member(table, s, m):
     of = equation(s, f"({snake(s.name)}s.{m} (record b {{ value = n }}))")
     return same(table, m, "b.value", f"(λ n. {of})")
-
-
-# The recursive type's map gives nothing of a struct before it has seen each optional child that it looks into. So a
-# struct is opened first: with each such child and without it, down through the structs that it holds.
-
-def to_open(table, n):
-    return [f for f in table.children(n) if needs_steps(table, f) and (
-        f.many == "?" or f.many == "" and f.kind in table.nodes and to_open(table, table.nodes[f.kind]))]
-
-
-def opening(table, n, f, boxed):
-    """The lemma that opens a struct at one child, or a box with the struct."""
-    child = f"{f.kind}Node Node" if f.kind in table.sets else f"Box ({f.kind} Node) Global"
-    name, of = f"{snake(n.name)}_by_{f.rust}", f"{n.name} Node"
-    with_child, n_child = "record n {{ {} = {} }}".format(f.rust, "{}"), f"n.{f.rust}"
-    if boxed:
-        name, of, n_child = f"boxed_{name}", f"Box ({of}) Global", f"n.value.{f.rust}"
-        with_child = f"record n {{ value = record n.value {{ {f.rust} = {{}} }} }}"
-
-    def case(text):
-        return f"P ({with_child.replace('{}', text)})"
-
-    if f.many == "":
-        return f"""{name} : (P : {of} → Type 0) → ((c : {child}) (n : {of}) → {case('c')}) → (n : {of}) → P n
-{name} P all n = all {n_child} n"""
-    return f"""{name} : (P : {of} → Type 0) → ((n : {of}) → {case('None')}) → ((c : {child}) (n : {of}) → {case('Some c')}) → (n : {of}) → P n
-{name} P none some n = elim {n_child} as (λ o. {case('o')}) [ None ↦ none n | Some c ↦ some c n ]"""
-
-
-def openings(table):
-    held = {f.kind for n in table.nodes.values() for f in to_open(table, n)}
-    return [opening(table, n, f, boxed) for n in table.nodes.values() for f in to_open(table, n)
-            for boxed in [False, True] if not boxed or n.name in held]
-
-
-def opened(table, n, name, boxed, motive, there, then):
-    """What is so of each struct, from what `then` says in each case. `there` has the opened children by name, with
-    None for one that isn't there."""
-    fields = to_open(table, n)
-
-    def step(i, there):
-        if i == len(fields):
-            return then(there)
-        f, child = fields[i], f"{name}_{fields[i].rust}"
-        by = f"{'boxed_' if boxed else ''}{snake(n.name)}_by_{f.rust} {'_' if i else motive}"
-
-        def each(there):
-            return f"(λ {child}. {step(i + 1, there | {child: child})})"
-
-        given = opened(table, table.nodes[f.kind], child, True, "_", there, each) if f.kind in table.nodes else each(there)
-        return f"({by} {step(i + 1, there | {child: None})} {given})" if f.many == "?" else f"({by} {given})"
-
-    return step(0, there)
 
 
 def same_each(table, n, motive="_"):
@@ -166,11 +86,6 @@ def same_child(table, f, at, name, there):
 def any_steps(table, name):
     members = table.sets[name].members if name in table.sets else [name]
     return any(m in table.nodes and same_each(table, table.nodes[m]) != "(λ n. refl)" for m in members)
-
-
-def needs_steps(table, f):
-    """Whether anything in the child nests."""
-    return table.generic(f.kind) or (f.kind in table.sets and table.sets[f.kind].nests)
 
 
 def same_member(table, name):

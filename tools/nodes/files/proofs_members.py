@@ -1,7 +1,7 @@
 """proofs/Members.antt: whether the members of a set that nests are expressions, where the set itself says it."""
 
 import layout
-from files.proofs_knot import aliases, variant
+from files.proofs_cases import aliases, variant
 from names import DECLARED, SPECS, TREE, row_names, sets_in_antt
 from table import snake
 

@@ -1,0 +1,49 @@
+-- Lists of Rust have no hole, and nodes that are plain by their own values.
+use Rattle.std.proofs.Common.{◌≡◌, true, refl, List, [], ◌∷◌, map}
+use Rattle.jsgen_syntax.proofs.Bytes.{js_units-are_units}
+use Rattle.jsgen_syntax.specs.declared.span.Span.{Span}
+use Rattle.jsgen_syntax.specs.declared.span.SourceKind.{SourceKind}
+use Rattle.jsgen_syntax.specs.declared.span.SourceKind.TheVariants as source_kinds
+use Rattle.jsgen_syntax.specs.declared.js_str.JsStr.{JsStr}
+use Rattle.jsgen_syntax.specs.Units.{js_units}
+use Rattle.jsgen_syntax.specs.Wtf8.{are_units}
+use Rattle.jsgen_tree.specs.Tree.{Tree, trees}
+use Rattle.jsgen_tree.specs.Nodes.{numeric_literal}
+use Rattle.jsgen_tree.specs.Characters.{numeric_values}
+use Rattle.jsgen_tree.specs.Width.{is_wide}
+use Rattle.jsgen_tree.specs.Everywhere.{EverywhereInTrees}
+use Rattle.jsgen_tree.specs.declared.numbers.NumericValue.{NumericValue}
+use Rattle.jsgen_tree.specs.declared.numbers.NumericValue.TheVariants as numeric
+use Rattle.jsgen_model.specs.Plain.{IsPlain, is_plain_row, is_module, has_no_hole}
+
+-- ---- lists
+
+pub no_hole : {A : Type 0} (f : A → Tree) (xs : List A) → has_no_hole (trees (map f xs)) ≡ true
+no_hole f [] = refl
+no_hole f (x ∷ xs) = no_hole f xs
+
+-- each of a list is plain
+pub all_plain : {A : Type 0} (f : A → Tree) → ((x : A) → IsPlain (f x)) → (xs : List A) → EverywhereInTrees is_plain_row (trees (map f xs))
+all_plain f h [] = tt
+all_plain f h (x ∷ xs) = (h x, all_plain f h xs)
+
+-- ---- the same of a list that was changed twice
+
+pub no_hole_changed : {A B C : Type 0} (f : C → Tree) (g : B → C) (k : A → B) (xs : List A) → has_no_hole (trees (map f (map g (map k xs)))) ≡ true
+no_hole_changed f g k [] = refl
+no_hole_changed f g k (x ∷ xs) = no_hole_changed f g k xs
+
+pub all_changed : {A B C : Type 0} (f : C → Tree) (g : B → C) (k : A → B) → ((x : A) → IsPlain (f (g (k x)))) → (xs : List A) → EverywhereInTrees is_plain_row (trees (map f (map g (map k xs))))
+all_changed f g k h [] = tt
+all_changed f g k h (x ∷ xs) = (h x, all_changed f g k h xs)
+
+-- ---- values
+
+pub number_is_plain : (s : Span) (v : NumericValue) → is_wide v ≡ true → is_plain_row (numeric_literal (record { span = s; values = numeric_values v })) ≡ true
+number_is_plain s (numeric.Whole d) w = w
+
+pub string_is_plain : (s : JsStr) → are_units (js_units s) ≡ true
+string_is_plain s = js_units-are_units s
+
+pub module_kind : (k : SourceKind) → is_module k ≡ true
+module_kind source_kinds.Module = refl

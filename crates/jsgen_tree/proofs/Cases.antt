@@ -1,0 +1,23 @@
+-- Generated from tools/nodes/table.txt; edit that and run tools/nodes/generate.
+-- A member of a set that doesn't nest by its type, and a struct with an optional child and without it.
+use Rattle.std.specs.declared.alloc.Global.{Global}
+use Rattle.std.proofs.Common.{Box, None, Some}
+use Rattle.jsgen_tree.specs.declared.sets.Argument.{Argument}
+use Rattle.jsgen_tree.specs.declared.nodes.ExpressionNode.{ExpressionNode}
+use Rattle.jsgen_tree.specs.declared.nodes.StatementNode.{StatementNode}
+use Rattle.jsgen_tree.specs.declared.statements.VariableDeclarator.{VariableDeclarator}
+use Rattle.jsgen_tree.specs.declared.statements.IfStatement.{IfStatement}
+use Rattle.jsgen_tree.specs.declared.sets.Argument.TheVariants as arguments
+
+-- ---- a member of a set that doesn't nest, by its type
+
+pub with_argument : {N : Type 0} (P : Argument N → Type 0) → ((b : Box (ExpressionNode N) Global) → P (arguments.Expression b)) → (n : Argument N) → P n
+with_argument P of_expression (arguments.Expression b) = of_expression b
+
+-- ---- a struct with an optional child, and without it
+
+pub variable_declarator_by_init : {N : Type 0} (P : VariableDeclarator N → Type 0) → ((n : VariableDeclarator N) → P (record n { init = None })) → ((c : ExpressionNode N) (n : VariableDeclarator N) → P (record n { init = Some c })) → (n : VariableDeclarator N) → P n
+variable_declarator_by_init P none some n = elim n.init as (λ o. P (record n { init = o })) [ None ↦ none n | Some c ↦ some c n ]
+
+pub if_statement_by_alternate : {N : Type 0} (P : IfStatement N → Type 0) → ((n : IfStatement N) → P (record n { alternate = None })) → ((c : StatementNode N) (n : IfStatement N) → P (record n { alternate = Some c })) → (n : IfStatement N) → P n
+if_statement_by_alternate P none some n = elim n.alternate as (λ o. P (record n { alternate = o })) [ None ↦ none n | Some c ↦ some c n ]

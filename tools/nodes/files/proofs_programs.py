@@ -1,0 +1,85 @@
+"""proofs/Programs.antt of the crate of definitions: a node of Rust is plain where its children are, set by set. What is
+particular to a type is proved by hand, in PlainRows.antt."""
+
+import layout
+from files.proofs_cases import CASES, aliases, lemma_names, opened, to_open, variant
+from names import DECLARED, MODEL, SPECS, TREE, sets_in_antt
+from table import snake
+
+# The types whose plainness takes more than their children: what is shown of the node itself.
+OWN = {"NumericLiteral": "number_is_plain {}.span {}.value {}.fits", "StringLiteral": "string_is_plain {}.value"}
+
+
+def write(table):
+    clauses = [of_set(table, s) for s in table.nesting()]
+    layer = "".join(f"\n  layer_is_plain (opened.{s.name} n) = {snake(s.name)}_is_plain n" for s in table.nesting())
+    body = "module _ {A : Type 0} (f : A → Node) (h : (a : A) → IsPlain (node_plain (f a))) where\n" + "\n\n".join(clauses) + f"""
+
+  pub layer_is_plain : (y : Node-F A) → IsPlain (layer (map-Node Node Tree node_plain (map-Node A Node f y))){layer}"""
+    homes = [("Rattle.std.proofs.Common", ["refl"]), (f"{SPECS}.Plain", ["node_plain", "layer"]), (CASES, lemma_names(table)),
+             (f"{DECLARED}.nodes.Node", ["Node", "Node-F", "map-Node"])] + TREE + sets_in_antt(table)
+    homes += [(f"{MODEL}.specs.Plain", ["IsPlain"]), (f"{MODEL}.proofs.PlainRows", ["no_hole_changed", "all_changed", "number_is_plain", "string_is_plain"])]
+    every = [(f"{DECLARED}.nodes.Node.TheOpen", "opened")] + aliases(table)
+    about = "A node of Rust is plain where its children are."
+    return {"crates/jsgen_model/proofs/Programs.antt": layout.antt(about, homes, every, body)}
+
+
+def of_set(table, s):
+    name, of = f"{snake(s.name)}_is_plain", s.name + (" A" if table.generic(s.name) else "")
+    clauses = "".join(f"\n  {name} {variant(s, m)} = {member(table, s, m)}" for m in s.members)
+    return f"  {name} : (n : {of}) → {goal(s, 'n')}{clauses}"
+
+
+def goal(s, n):
+    return f"IsPlain (layer (map-Node Node Tree node_plain (map-Node A Node f (opened.{s.name} {n}))))"
+
+
+def member(table, s, name):
+    if name in table.sets:
+        return "h b.value.node"
+    n = table.nodes[name]
+    if not to_open(table, n):
+        return row(table, n, "b.value", "n", {})
+    motive = f"(λ n. {goal(s, f'({snake(s.name)}s.{name} (record b {{ value = n }}))')})"
+    return f"{each(table, n, motive)} b.value"
+
+
+def each(table, n, motive="_"):
+    """Why each struct of the type is plain."""
+    return opened(table, n, "n", False, motive, {}, lambda there: f"(λ n. {row(table, n, 'n', 'n', there)})")
+
+
+def row(table, n, at, name, there):
+    """Why the node at this place is plain, where all optional children are opened: itself, and each child."""
+    proof = "tt"
+    for f in reversed(table.children(n)):
+        proof = f"({child(table, f, f'{at}.{f.rust}', f'{name}_{f.rust}', there)}, {proof})"
+    return f"({itself(table, n, at)}, {proof})"
+
+
+def itself(table, n, at):
+    if n.name in OWN:
+        return OWN[n.name].replace("{}", at)
+    lists = [f for f in table.children(n) if f.many == "*"]
+    if len(lists) > 1:
+        raise SystemExit(f"{n.name}: the plainness of a type with two lists has no form yet")
+    return f"no_hole_changed _ _ _ {at}.{lists[0].rust}.items" if lists else "refl"
+
+
+def child(table, f, at, name, there):
+    if f.many == "*":
+        return f"all_changed _ _ _ {one_of_many(table, f.kind)} {at}.items"
+    if f.many == "?" and not there[name]:
+        return "tt"
+    here = there.get(name) or at
+    return row(table, table.nodes[f.kind], f"{here}.value", name, there) if f.kind in table.nodes else f"h {here}.node"
+
+
+def one_of_many(table, kind):
+    if kind in table.nodes:
+        return each(table, table.nodes[kind])
+    s = table.sets[kind]
+    if s.nests:
+        return "(λ n. h n.node)"
+    inside = "".join(f" (λ b. {'h b.value.node' if m in table.sets else row(table, table.nodes[m], 'b.value', 'n', {})})" for m in s.members)
+    return f"(with_{snake(kind)} _{inside})"
