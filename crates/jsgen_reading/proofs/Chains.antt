@@ -7,10 +7,9 @@ use Rattle.jsgen_syntax.specs.declared.operator.LogicalOperator.{LogicalOperator
 use Rattle.jsgen_syntax.specs.declared.operator.LogicalOperator.TheVariants.{Or, And, Coalesce}
 use Rattle.jsgen_syntax.specs.declared.precedence.Precedence.{Precedence}
 use Rattle.jsgen_syntax.specs.declared.precedence.Precedence.TheVariants as levels
-use Rattle.jsgen_tree.specs.Sets.{is_expression}
 use Rattle.jsgen_tree.specs.Inside.{without_parentheses}
 use Rattle.jsgen_tree.specs.Atom.{logical_operator}
-use Rattle.jsgen_tree.specs.Tree.{Tree, Trees, no_trees, more, hole, Atoms, type_of}
+use Rattle.jsgen_tree.specs.Tree.{Tree, Trees, no_trees, more, hole, Atoms}
 use Rattle.jsgen_tree.specs.Places.{bare}
 use Rattle.jsgen_tree.specs.Values.{logical_expression_operator}
 use Rattle.jsgen_tree.specs.Nodes as tree
@@ -21,13 +20,12 @@ use Rattle.jsgen_model.specs.Layout.{Pen, Start, nowhere, other_end, layout, unl
 use Rattle.jsgen_model.specs.Grammar.{Allowed, Level, ReadsExpression}
 use Rattle.jsgen_model.specs.Grammar as grammar
 use Rattle.jsgen_model.specs.Normal.{normal, chain, links, joined}
-use Rattle.jsgen_model.specs.Spell.{Place, spell, within, left_of, behind, wraps, logical_item, goes_on, logical_wraps, unmixed, mixes, is_or_or_and}
+use Rattle.jsgen_model.specs.Spell.{Place, spell, within, left_of, behind, wraps, logical_item, goes_on, logical_wraps, unmixed, mixes}
 use Rattle.jsgen_lexing.proofs.Last.{Last, After, Ready, Remembers, Knows, NoDot}
 use Rattle.jsgen_lexing.proofs.Writes.{then_assoc}
 use Rattle.jsgen_lexing.proofs.Steps.{wrote_punctuator}
 use Rattle.jsgen_reading.proofs.Levels.{number_of, operation_number, operand_level, level_of, under, looser, read_at, same_rank, lifted, unwrapped}
-use Rattle.jsgen_reading.proofs.Families.{IsExpression}
-use Rattle.jsgen_reading.proofs.Families as family
+use Rattle.jsgen_reading.proofs.Asked.{is_mixed}
 use Rattle.jsgen_reading.proofs.Good.{Good, Printed, Between, good_at, good_since, good_wrapped, good_infix}
 
 -- ---- the token between the operands
@@ -143,11 +141,6 @@ join Coalesce a u line r s = let h = join_coalesce a u line refl r s in (h.0, gr
 
 -- ---- the operands of `??`
 
--- a chain of `||` or `&&`
-abbrev is_mixed : Tree → Bool
-is_mixed (chain a operands) = is_or_or_and (logical_expression_operator a)
-is_mixed t = false
-
 -- what is read as neither may stand in a chain of `??`
 -- by the level at which it is read
 head_at_and : {c : Allowed} {g : Level} {ts : Tokens} {u : Tree} → g ≡ grammar.LogicalAnd → is_mixed (normal u) ≡ false → ReadsExpression c g ts u → ReadsExpression c grammar.CoalesceHead ts u
@@ -167,29 +160,6 @@ head_at_short d h (grammar.a_coalesce r) = grammar.a_coalesced_head r
 head_at_short d h (grammar.a_logical_or r) = head_at_or refl h r
 head_at_short d h (grammar.an_operation o m p k q s t) = absurd (omega (arith, operation_number o, ap number_of d))
 head_at_short d h r = absurd (omega (arith, ap number_of d))
-
-pub an_expression : {c : Allowed} {t : Tree} → IsExpression c t → is_expression (type_of t) ≡ true
-an_expression (family.a_reference h) = refl
-an_expression (family.a_number h) = refl
-an_expression (family.a_string h) = refl
-an_expression (family.in_parentheses v) = refl
-an_expression (family.an_operation v w) = refl
-an_expression (family.a_logical_operation v w) = refl
-an_expression (family.a_named_member v h) = refl
-an_expression (family.a_computed_member v w) = refl
-an_expression (family.a_call v w) = refl
-
--- the normal form tells which operands mix
-pub mixes_so : {c : Allowed} {t : Tree} → IsExpression c t → is_mixed (normal t) ≡ mixes (without_parentheses t)
-mixes_so (family.a_reference h) = refl
-mixes_so (family.a_number h) = refl
-mixes_so (family.a_string h) = refl
-mixes_so (family.in_parentheses {a} {t} v) = mixes_so v ∙ ap (λ b. mixes (cond b (without_parentheses t) (tree.parenthesized a t))) (sym (an_expression v))
-mixes_so (family.an_operation v w) = refl
-mixes_so (family.a_logical_operation v w) = refl
-mixes_so (family.a_named_member v h) = refl
-mixes_so (family.a_computed_member v w) = refl
-mixes_so (family.a_call v w) = refl
 
 -- in parentheses where it mixes
 head_there : (c : Allowed) (t : Tree) (at : Precedence → Place) (start : Start) (level : Precedence) → is_mixed (normal t) ≡ mixes (without_parentheses t) → ((p : Pen) (l : Last) → p.pending_semicolon ≡ false → Ready l → Knows p l → Good p l (layout (spell t (at levels.Prefix)) p) c grammar.Update start t)

@@ -1,7 +1,6 @@
 -- The first statement of a body is read as no directive.
 use Rattle.std.proofs.Common.{◌≡◌, ℕ, Bool, true, false, cond, Option, Some, None, is_some, List, [], ◌∷◌, ◌++◌, refl, sym, ap, ◌∙◌, subst, append_assoc}
 use Rattle.std.proofs.lemmas.Bool.{both_ways}
-use Rattle.std.proofs.lemmas.Option.{same_Some}
 use Rattle.jsgen_syntax.specs.Strings.{quoted, escaped, string_value}
 use Rattle.jsgen_syntax.specs.Wtf8.{are_units}
 use Rattle.jsgen_syntax.specs.declared.quote.Quote.{Quote}
@@ -13,7 +12,6 @@ use Rattle.jsgen_tree.specs.Inside.{without_parentheses}
 use Rattle.jsgen_tree.specs.Atom.{units}
 use Rattle.jsgen_tree.specs.Tree.{Tree, Trees, no_trees, more, Atoms}
 use Rattle.jsgen_tree.specs.Places.{bare}
-use Rattle.jsgen_tree.specs.Values.{string_literal_value}
 use Rattle.jsgen_tree.specs.Nodes as tree
 use Rattle.jsgen_model.specs.Punctuator.{dot, star_star, and_and, or_or, nullish, semicolon, Round, Square, opening, closing}
 use Rattle.jsgen_model.specs.Tokens.{Tokens, done, piece, group, ◌⧺◌, Quoted, Sign}
@@ -29,16 +27,12 @@ use Rattle.jsgen_lexing.proofs.Steps.{gap, none_due, wrote_quoted, within_bracke
 use Rattle.jsgen_reading.proofs.Levels.{from_primary}
 use Rattle.jsgen_reading.proofs.Families.{IsExpression, IsItem, AreStatements}
 use Rattle.jsgen_reading.proofs.Families as family
-use Rattle.jsgen_reading.proofs.Chains.{an_expression}
+use Rattle.jsgen_reading.proofs.Asked.{is_string, asked}
 use Rattle.jsgen_reading.proofs.Lists.{same_more}
 use Rattle.jsgen_reading.proofs.Ends.{Ended, at_brace, ends_itself, ends_since, ended_more}
 use Rattle.jsgen_reading.proofs.Stands.{Stands, Unended, StandsAt, UnendedAt, Listed, SameTree, SameTrees, stands_since, blank_before, whole_line}
 use Rattle.jsgen_reading.proofs.Rows.{GoodRest}
 use Rattle.jsgen_reading.proofs.Statements.{listed, rows}
-
-abbrev is_string : Tree → Bool
-is_string (tree.string_literal a) = true
-is_string t = false
 
 -- ---- what an expression begins with
 
@@ -156,35 +150,6 @@ no_string_first t f n settings p l z y k = stands_since (λ e ts u s r. (r, item
 
 -- ---- a string alone
 
-strings_so : {c : Allowed} {t : Tree} → IsExpression c t → is_string (normal t) ≡ is_some (string_in (without_parentheses t))
-strings_so (family.a_reference h) = refl
-strings_so (family.a_number h) = refl
-strings_so (family.a_string h) = refl
-strings_so (family.in_parentheses {a} {t} v) = strings_so v ∙ ap (λ b. is_some (string_in (cond b (without_parentheses t) (tree.parenthesized a t)))) (sym (an_expression v))
-strings_so (family.an_operation v w) = refl
-strings_so (family.a_logical_operation v w) = refl
-strings_so (family.a_named_member v h) = refl
-strings_so (family.a_computed_member v w) = refl
-strings_so (family.a_call v w) = refl
-
-abbrev IsStringOf : Tree → List ℕ → Type 0
-IsStringOf t us = (are_units us ≡ true) × (normal t ≡ tree.string_literal (bare (units us ∷ [])))
-
-none_is_some : (us : List ℕ) → None ≡ Some us → ⊥
-none_is_some us e = both_ways false refl (ap is_some e)
-
-string_inside : {c : Allowed} {t : Tree} → IsExpression c t → (us : List ℕ) → string_in (without_parentheses t) ≡ Some us → IsStringOf t us
-string_inside (family.a_reference h) us s = absurd (none_is_some us s)
-string_inside (family.a_number h) us s = absurd (none_is_some us s)
-string_inside (family.a_string {a} h) us s = let e = same_Some (string_literal_value a) us s in (subst (λ x. are_units x ≡ true) e h, ap (λ x. tree.string_literal (bare (units x ∷ []))) e)
-string_inside (family.in_parentheses {a} {t} v) us s =
-    subst (λ b. string_in (cond b (without_parentheses t) (tree.parenthesized a t)) ≡ Some us → IsStringOf t us) (sym (an_expression v)) (string_inside v us) s
-string_inside (family.an_operation v w) us s = absurd (none_is_some us s)
-string_inside (family.a_logical_operation v w) us s = absurd (none_is_some us s)
-string_inside (family.a_named_member v h) us s = absurd (none_is_some us s)
-string_inside (family.a_computed_member v w) us s = absurd (none_is_some us s)
-string_inside (family.a_call v w) us s = absurd (none_is_some us s)
-
 -- its tokens: a string in parentheses, or one in backticks
 string_written : (c : Allowed) (a : Atoms) (e : Tree) (us : List ℕ) (settings : Settings) → are_units us ≡ true → normal e ≡ tree.string_literal (bare (units us ∷ [])) → UnendedAt (First c) (SameTree (tree.expression_statement a e)) (first_string us)
 string_written c a e us settings h s p l z y k = go p.style.minified
@@ -240,8 +205,8 @@ first_stated : {c : Allowed} {t : Tree} → IsItem c t → (settings : Settings)
 first_stated {c} (family.a_statement (family.an_expression_statement {a} {e} v)) settings = go (string_in (without_parentheses e)) refl
   where
     go : (o : Option (List ℕ)) → string_in (without_parentheses e) ≡ o → StandsAt (First c) (SameTree (tree.expression_statement a e)) (unless_string o (spell (tree.expression_statement a e) (among_statements settings)))
-    go (Some us) s = let k = string_inside v us s in whole_line (first_string us) (string_written c a e us settings k.0 k.1)
-    go None s = no_string_first (tree.expression_statement a e) (listed (family.a_statement (family.an_expression_statement {a = a} v))) (strings_so v ∙ ap is_some s) settings
+    go (Some us) s = let k = (asked v).inside us s in whole_line (first_string us) (string_written c a e us settings k.0 k.1)
+    go None s = no_string_first (tree.expression_statement a e) (listed (family.a_statement (family.an_expression_statement {a = a} v))) ((asked v).string ∙ ap is_some s) settings
 first_stated {t = t} (family.a_statement v) settings = no_string_first t (listed (family.a_statement v)) refl settings
 first_stated {t = t} (family.a_declaration {a} v) settings = no_string_first t (listed (family.a_declaration {a = a} v)) refl settings
 

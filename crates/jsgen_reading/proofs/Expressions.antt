@@ -27,11 +27,12 @@ use Rattle.jsgen_lexing.proofs.Steps.{wrote_name, wrote_number, wrote_quoted}
 use Rattle.jsgen_reading.proofs.Levels.{level_of, under, from_primary}
 use Rattle.jsgen_reading.proofs.Families.{IsExpression, AreArguments}
 use Rattle.jsgen_reading.proofs.Families as family
+use Rattle.jsgen_reading.proofs.Asked.{asked}
 use Rattle.jsgen_reading.proofs.Names.{free_spelled, free_starts_none}
 use Rattle.jsgen_reading.proofs.Numbers.{decimal_whole}
 use Rattle.jsgen_reading.proofs.Good.{Good, Printed, may_begin}
-use Rattle.jsgen_reading.proofs.Operations.{good_operation, spelled_alike}
-use Rattle.jsgen_reading.proofs.Chains.{good_logical_operation, mixes_so}
+use Rattle.jsgen_reading.proofs.Operations.{good_operation}
+use Rattle.jsgen_reading.proofs.Chains.{good_logical_operation}
 use Rattle.jsgen_reading.proofs.Links.{ArgumentsAt, MoreArgumentsAt, good_named_member, good_computed_member, good_call, no_arguments, first_of_arguments, no_more_arguments, one_more_argument}
 
 -- ---- names and numbers
@@ -129,8 +130,8 @@ mutual
   printed_expression {c} (family.a_number {a} h) = good_number c a h
   printed_expression {c} (family.a_string {a} h) = good_string c a h
   printed_expression {c} (family.in_parentheses {a} {t} v) = good_parenthesized c a t (printed_expression v)
-  printed_expression {c} (family.an_operation {a} {l} {r} v w) = good_operation c a l r (spelled_alike v) (printed_expression v) (printed_expression w)
-  printed_expression {c} (family.a_logical_operation {a} {l} {r} v w) = good_logical_operation c a l r (printed_expression v) (printed_expression w) (mixes_so v) (mixes_so w)
+  printed_expression {c} (family.an_operation {a} {l} {r} v w) = good_operation c a l r (asked v).alike (printed_expression v) (printed_expression w)
+  printed_expression {c} (family.a_logical_operation {a} {l} {r} v w) = good_logical_operation c a l r (printed_expression v) (printed_expression w) (asked v).mixed (asked w).mixed
   printed_expression {c} (family.a_named_member {a} {b} {o} v h) = good_named_member c a b o h (printed_expression v)
   printed_expression {c} (family.a_computed_member {a} {o} {e} v w) = good_computed_member c a o e (printed_expression v) (printed_expression w)
   printed_expression {c} (family.a_call {a} {f} {es} v w) = good_call c a f es (printed_expression v) (printed_arguments w)

@@ -4,6 +4,7 @@ pub mod Numbers
 pub mod Names
 pub mod Good
 pub mod Lists
+pub mod Asked
 pub mod Operations
 pub mod Chains
 pub mod Links

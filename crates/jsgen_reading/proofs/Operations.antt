@@ -2,17 +2,15 @@
 use Rattle.std.proofs.Common.{◌≡◌, ℕ, Bool, true, false, not, cond, codes, List, [], ◌∷◌, refl, sym, ap, subst, bytes_eq, arith}
 use Rattle.std.proofs.lemmas.Bool.{or_parts}
 use Rattle.jsgen_syntax.specs.Name.{spells_name}
-use Rattle.jsgen_syntax.specs.Operator.{binary_level, logical_level, logical_lower_level}
+use Rattle.jsgen_syntax.specs.Operator.{binary_level}
 use Rattle.jsgen_syntax.specs.declared.operator.BinaryOperator.{BinaryOperator}
 use Rattle.jsgen_syntax.specs.declared.operator.BinaryOperator.TheVariants as operators
-use Rattle.jsgen_syntax.specs.declared.operator.LogicalOperator.{LogicalOperator}
-use Rattle.jsgen_syntax.specs.declared.operator.LogicalOperator.TheVariants as logical_operators
 use Rattle.jsgen_syntax.specs.declared.precedence.Precedence.TheVariants as levels
 use Rattle.jsgen_tree.specs.Inside.{without_parentheses}
 use Rattle.jsgen_tree.specs.Atom.{binary_operator}
 use Rattle.jsgen_tree.specs.Tree.{Tree, Atoms}
 use Rattle.jsgen_tree.specs.Places.{bare}
-use Rattle.jsgen_tree.specs.Values.{binary_expression_operator, logical_expression_operator}
+use Rattle.jsgen_tree.specs.Values.{binary_expression_operator}
 use Rattle.jsgen_tree.specs.Nodes as tree
 use Rattle.jsgen_model.specs.Punctuator.{Punctuator}
 use Rattle.jsgen_model.specs.Tokens.{Tokens, piece, ◌⧺◌, Word, Sign}
@@ -21,13 +19,12 @@ use Rattle.jsgen_model.specs.Layout.{Pen, layout, unless_printed}
 use Rattle.jsgen_model.specs.Grammar.{Allowed, Level, ReadsExpression, operation_level, next_level, operator_piece, may_stand}
 use Rattle.jsgen_model.specs.Grammar as grammar
 use Rattle.jsgen_model.specs.Normal.{normal}
-use Rattle.jsgen_model.specs.Spell.{Place, spell, within, left_of, behind, operation, operator_item, logical_item, wraps, is_forbidden, binary_wraps, logical_wraps, left_level, right_level, unmixed, is_number}
+use Rattle.jsgen_model.specs.Spell.{Place, spell, within, left_of, behind, operator_item, wraps, is_forbidden, binary_wraps, left_level, right_level, is_number}
 use Rattle.jsgen_lexing.proofs.Characters.{letters_spelled}
 use Rattle.jsgen_lexing.proofs.Last.{Last, After, Ready, Knows, NoDot}
 use Rattle.jsgen_lexing.proofs.Steps.{wrote_word, wrote_operator}
 use Rattle.jsgen_reading.proofs.Levels.{read_at, under, looser, lifted, unwrapped}
-use Rattle.jsgen_reading.proofs.Families.{IsExpression}
-use Rattle.jsgen_reading.proofs.Families as family
+use Rattle.jsgen_reading.proofs.Asked.{SpelledAlike}
 use Rattle.jsgen_reading.proofs.Good.{Good, Printed, Between, good_at, good_wrapped, good_infix}
 
 -- ---- the token between the operands
@@ -65,32 +62,6 @@ stands_there operators.In c place false e = ap not (or_parts (wraps levels.Compa
 stands_there o c place w e = refl
 
 -- ---- the left operand of `**`
-
--- every operation needs parentheses there, as where an update is read
-same_binary : (o : BinaryOperator) (place : Place) → binary_wraps o (left_of levels.Exponentiation place) ≡ binary_wraps o (left_of levels.Prefix place)
-same_binary operators.Equality place = refl
-same_binary o place = refl
-
-same_logical : (o : LogicalOperator) (place : Place) → logical_wraps o (left_of levels.Exponentiation place) ≡ logical_wraps o (left_of levels.Prefix place)
-same_logical logical_operators.Or place = refl
-same_logical o place = refl
-
--- a call needs none at either
-pub spelled_alike : {c : Allowed} {t : Tree} → IsExpression c t → (place : Place) → spell t (left_of levels.Exponentiation place) ≡ spell t (left_of levels.Prefix place)
-spelled_alike (family.a_reference h) place = refl
-spelled_alike (family.a_number h) place = refl
-spelled_alike (family.a_string h) place = refl
-spelled_alike (family.in_parentheses v) place = spelled_alike v place
-spelled_alike (family.a_named_member v h) place = refl
-spelled_alike (family.a_computed_member v w) place = refl
-spelled_alike (family.a_call v w) place = refl
-spelled_alike (family.an_operation {a} {l = x} {r = y} v w) place =
-    ap (λ b. operation b (operator_item (binary_expression_operator a)) (spell x (left_of (left_level (binary_expression_operator a) x) (within b place))) (spell y (behind (right_level (binary_expression_operator a)) (within b place)))) (same_binary (binary_expression_operator a) place)
-spelled_alike (family.a_logical_operation {a} {l = x} {r = y} v w) place =
-    ap (λ b. operation b (logical_item (logical_expression_operator a)) (spell x (left_of (unmixed (logical_expression_operator a) x (logical_lower_level (logical_expression_operator a))) (within b place))) (spell y (behind (unmixed (logical_expression_operator a) y (logical_level (logical_expression_operator a))) (within b place)))) (same_logical (logical_expression_operator a) place)
-
-abbrev pub SpelledAlike : Tree → Type 0
-SpelledAlike t = (place : Place) → spell t (left_of levels.Exponentiation place) ≡ spell t (left_of levels.Prefix place)
 
 power_left : (c : Allowed) (t : Tree) → SpelledAlike t → Printed c t → (place : Place) (p : Pen) (l : Last) → p.pending_semicolon ≡ false → Ready l → Knows p l → Good p l (layout (spell t (left_of (left_level operators.Exponential t) place)) p) (under place c) grammar.Update place.start t
 power_left c t h f place p l z y k = go (is_number (without_parentheses t))

@@ -5,7 +5,7 @@ use Rattle.jsgen_syntax.specs.Raw.{directive_text, directive_quote, directive_va
 use Rattle.jsgen_syntax.specs.declared.quote.Quote.{Quote}
 use Rattle.jsgen_syntax.proofs.Raw.{directive_text_value, directive_quote_value, directive_quote_plain}
 use Rattle.jsgen_tree.specs.Atom.{units}
-use Rattle.jsgen_tree.specs.Tree.{Tree, Trees, no_trees, more, Atoms}
+use Rattle.jsgen_tree.specs.Tree.{Trees, no_trees, more, Atoms}
 use Rattle.jsgen_tree.specs.Places.{bare}
 use Rattle.jsgen_tree.specs.Values.{as_text, directive_directive}
 use Rattle.jsgen_tree.specs.Nodes as tree
