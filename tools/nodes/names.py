@@ -1,4 +1,4 @@
-"""Where the names of jsgen_tree stand."""
+"""Where the names of jsgen_tree and of the reader stand."""
 
 from pathlib import Path
 
@@ -8,6 +8,7 @@ REPOSITORY = Path(__file__).resolve().parents[2]
 CRATE = REPOSITORY / "crates" / "jsgen_tree"
 SPECS = "Rattle.jsgen_tree.specs"
 DECLARED = SPECS + ".declared"
+READER = "Rattle.jsgen_rows"
 
 
 def nodes_in_rust(table):
