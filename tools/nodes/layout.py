@@ -11,6 +11,7 @@ def used(body, homes):
     """Each module of the homes, with those of its names that stand in the body outside comments."""
     text = re.sub(r"(?m)^\s*(--|//).*$", "", body)
     there = set(re.findall(r"(?<![\w.:])[^\W\d][\w-]*|\[\]", text)) | {f"◌{sign}◌" for sign in re.findall(r"[≡∷∙]", text)}
+    there |= {"if◌then◌else◌"} if re.search(r"\bif .* then ", text) else set()
     for module, names in homes:
         names = [n for n in names if n in there]
         if names:
@@ -28,6 +29,6 @@ def rust(about, ghosts, aliases, homes, body):
     lines = [RUST + f"// {about}"]
     lines += [f"ghost use {m}.{{{', '.join(ns)}}};" for m, ns in used(body, ghosts)]
     lines += [f"ghost use {m} as {a};" for m, a in aliases if re.search(rf"(?<![\w.]){a}\.", body)]
-    uses = [f"use {m}::{{{', '.join(sorted(ns))}}};" for m, ns in sorted(used(body, homes))]
-    uses = [re.sub(r"\{(\w+)\}", r"\1", u) for u in uses]
+    uses = [f"use {m}::{{{', '.join(sorted(ns))}}};" for m, ns in used(body, homes)]
+    uses = sorted(re.sub(r"\{(\w+)\}", r"\1", u) for u in uses)
     return "\n".join(lines + [""] + uses) + "\n\n" + body.strip() + "\n"

@@ -5,7 +5,6 @@ use Rattle.jsgen_tree.specs.Job.{JobData, no_tables}
 use Rattle.jsgen_tree.specs.Options.{Options}
 use Rattle.jsgen_tree.specs.Tree.{Tree}
 use Rattle.jsgen_tree.specs.Tree as tree
-use Rattle.jsgen_tree.specs.declared.types.NodeType.{NodeType}
 use Rattle.jsgen_tree.specs.declared.types.NodeType.TheVariants as types
 use Rattle.jsgen_rows.specs.declared.At.{At}
 use Rattle.jsgen_rows.specs.declared.InputFault.{InputFault}
@@ -13,27 +12,7 @@ use Rattle.jsgen_rows.specs.declared.InputFault.TheVariants.{Wrong}
 use Rattle.jsgen_rows.specs.Values.{after, options_in, rows_in}
 use Rattle.jsgen_rows.specs.Meaning.{is_program, root_tree, root_faults, no_tree, trees_after, faults_after, faults_in, row_marks, row_tree, with_marks, unless, rows_meaning, program_meaning, value_meaning}
 use Rattle.jsgen_rows.specs.Job.{json_of, job_of}
-
-program_type : (t : NodeType) → is_program t ≡ true → t ≡ types.Program
-program_type types.Program h = refl
-program_type types.Directive h = cc
-program_type types.ExpressionStatement h = cc
-program_type types.VariableDeclaration h = cc
-program_type types.VariableDeclarator h = cc
-program_type types.BindingIdentifier h = cc
-program_type types.IdentifierReference h = cc
-program_type types.NumericLiteral h = cc
-program_type types.ParenthesizedExpression h = cc
-program_type types.BinaryExpression h = cc
-program_type types.LogicalExpression h = cc
-program_type types.StringLiteral h = cc
-program_type types.IdentifierName h = cc
-program_type types.StaticMemberExpression h = cc
-program_type types.ComputedMemberExpression h = cc
-program_type types.CallExpression h = cc
-program_type types.BlockStatement h = cc
-program_type types.IfStatement h = cc
-program_type types.EmptyStatement h = cc
+use Rattle.jsgen_rows.proofs.Sets.{program_type}
 
 told : (b : Bool) (a : At) → (if b then [] else Wrong a ∷ []) ≡ [] → b ≡ true
 told true a h = refl

@@ -1,5 +1,6 @@
 pub mod Job
 pub mod Kept
 pub mod Meaning
+pub mod Names
 pub mod Reads
 pub mod Values

@@ -8,12 +8,12 @@ use Rattle.serde_json.specs.Find.{get, as_bool, as_str, as_array, as_number, as_
 use Rattle.serde_json.specs.Written.{has_float}
 use Rattle.jsgen_syntax.specs.declared.span.Span.{Span}
 use Rattle.jsgen_tree.specs.declared.types.NodeType.{NodeType}
-use Rattle.jsgen_tree.specs.declared.types.NodeType.TheVariants as types
 use Rattle.jsgen_tree.specs.Options.{Options, default_options}
 use Rattle.jsgen_tree.specs.Atom.{Atom}
 use Rattle.jsgen_tree.specs.Atom as atoms
 use Rattle.jsgen_tree.specs.Table.{Field, Presence, Sort, Word, needed, needed_for}
 use Rattle.jsgen_tree.specs.Table as sorts
+use Rattle.jsgen_rows.specs.Names.{or_else, type_named}
 use Rattle.jsgen_rows.specs.declared.At.{At}
 use Rattle.jsgen_rows.specs.declared.InputFault.{InputFault}
 use Rattle.jsgen_rows.specs.declared.InputFault.TheVariants.{Json, Float, Missing, Wrong}
@@ -26,10 +26,6 @@ after (Err e) f = Err e
 abbrev pub or_fault : {A : Type 0} → InputFault → Option A → Result A InputFault
 or_fault e None = Err e
 or_fault e (Some a) = Ok a
-
-abbrev pub or_else : {A : Type 0} → Option A → Option A → Option A
-or_else None o = o
-or_else (Some a) o = Some a
 
 -- ---- places
 
@@ -156,42 +152,6 @@ value_in a (sorts.word ws) d = word_in a ws d
 value_in a other d = Err (Wrong a)
 
 -- ---- the type and the span of a row, its fields 0 and 1
-
-unfoldable pub statement_named : List ℕ → Option NodeType
-statement_named s =
-    if bytes_eq s (codes "Program") then Some types.Program
-    else (if bytes_eq s (codes "Directive") then Some types.Directive
-    else (if bytes_eq s (codes "ExpressionStatement") then Some types.ExpressionStatement
-    else (if bytes_eq s (codes "VariableDeclaration") then Some types.VariableDeclaration
-    else (if bytes_eq s (codes "VariableDeclarator") then Some types.VariableDeclarator
-    else (if bytes_eq s (codes "BindingIdentifier") then Some types.BindingIdentifier
-    else (if bytes_eq s (codes "BlockStatement") then Some types.BlockStatement
-    else (if bytes_eq s (codes "IfStatement") then Some types.IfStatement
-    else (if bytes_eq s (codes "EmptyStatement") then Some types.EmptyStatement
-    else None))))))))
-
-unfoldable pub expression_named : List ℕ → Option NodeType
-expression_named s =
-    if bytes_eq s (codes "IdentifierReference") then Some types.IdentifierReference
-    else (if bytes_eq s (codes "NumericLiteral") then Some types.NumericLiteral
-    else (if bytes_eq s (codes "ParenthesizedExpression") then Some types.ParenthesizedExpression
-    else (if bytes_eq s (codes "BinaryExpression") then Some types.BinaryExpression
-    else (if bytes_eq s (codes "LogicalExpression") then Some types.LogicalExpression
-    else (if bytes_eq s (codes "StringLiteral") then Some types.StringLiteral
-    else None)))))
-
--- members and calls
-unfoldable pub link_named : List ℕ → Option NodeType
-link_named s =
-    if bytes_eq s (codes "IdentifierName") then Some types.IdentifierName
-    else (if bytes_eq s (codes "StaticMemberExpression") then Some types.StaticMemberExpression
-    else (if bytes_eq s (codes "ComputedMemberExpression") then Some types.ComputedMemberExpression
-    else (if bytes_eq s (codes "CallExpression") then Some types.CallExpression
-    else None)))
-
--- the type that a name names
-abbrev pub type_named : List ℕ → Option NodeType
-type_named s = or_else (statement_named s) (or_else (expression_named s) (link_named s))
 
 abbrev pub type_given : At → Option Data → Result NodeType InputFault
 type_given a None = Err (Missing a)

@@ -1,90 +1,130 @@
-// The rows that were read, and what becomes of them: a child of a set.
-ghost use Rattle.std.specs.Prelude.{◌≡◌, Some, None, IfOk, option_map, if◌then◌else◌};
+// Generated from tools/nodes/table.txt; edit that and run tools/nodes/generate.
+// The rows that were read, by the set that they are children of.
+ghost use Rattle.std.specs.Prelude.{◌≡◌, Ok, Some, None, option_map, if◌then◌else◌};
 ghost use Rattle.jsgen_tree.specs.Tree.{type_of};
-ghost use Rattle.jsgen_tree.specs.Sets.{is_expression, is_statement, is_binding_pattern, is_variable_declarator, is_identifier_name, is_directive};
-ghost use Rattle.jsgen_tree.specs.Plain.{node_plain, program_plain};
-ghost use Rattle.jsgen_tree.specs.Rows.{in_expression, in_statement, in_binding_pattern, in_declaration, expression_plain, statement_plain, declaration_plain, binding_pattern_plain, variable_declarator_row, identifier_name_row, directive_row};
+ghost use Rattle.jsgen_tree.specs.Plain.{node_plain};
+ghost use Rattle.jsgen_tree.specs.Rows.{expression_plain, declaration_plain, statement_plain, binding_pattern_plain, in_expression, in_declaration, in_statement, in_binding_pattern, program_row};
+ghost use Rattle.jsgen_rows.specs.Job.{Same};
 ghost use Rattle.jsgen_rows.specs.Meaning.{is_program};
 ghost use Rattle.jsgen_rows.specs.Kept.{statement_row_plain, row_plain};
 
+use crate::InputFault;
 use jsgen_pool::Typed;
 use jsgen_tree::{
     BindingPattern, BindingPatternNode, BlockStatement, Declaration, DeclarationNode, Directive,
     EmptyStatement, Expression, ExpressionNode, ExpressionStatement, IdentifierName, IfStatement,
-    NodeType, Program, Statement, StatementNode, VariableDeclarator,
+    Node, NodeType, Program, Statement, StatementNode, VariableDeclarator,
 };
-use std::alloc::{AllocError, Global};
+use std::alloc::Global;
 
-/// A row that was read, by the set that it is a child of.
+/// A row that was read, by the set that it is a child of. Sets are in boxes, so that a row is small whatever
+/// they have.
 #[derive(Drop)]
-pub enum Row {
-    Program(Box<Program>),
+pub enum Row<N = Node> {
+    Program(Box<Program<N>>),
     Directive(Box<Directive>),
-    Statement(StatementRow),
-    Declaration(Declaration),
-    VariableDeclarator(Box<VariableDeclarator>),
-    BindingPattern(BindingPattern),
-    Expression(Expression),
+    Declaration(Box<Declaration<N>>),
+    VariableDeclarator(Box<VariableDeclarator<N>>),
+    BindingPattern(Box<BindingPattern>),
+    Statement(Box<StatementRow<N>>),
+    Expression(Box<Expression<N>>),
     IdentifierName(Box<IdentifierName>),
 }
 
-/// A row that is a statement and no declaration.
+/// A row that is a statement and not a declaration.
 #[derive(Drop)]
-pub enum StatementRow {
-    ExpressionStatement(Box<ExpressionStatement>),
-    BlockStatement(Box<BlockStatement>),
-    IfStatement(Box<IfStatement>),
+pub enum StatementRow<N = Node> {
+    ExpressionStatement(Box<ExpressionStatement<N>>),
+    BlockStatement(Box<BlockStatement<N>>),
+    IfStatement(Box<IfStatement<N>>),
     EmptyStatement(Box<EmptyStatement>),
 }
 
-// ---- the type of a row, set by set
+// ---- what becomes of a row
 
-fn statement_type(statement: &StatementRow) -> NodeType
-    ensures { result ≡ type_of (statement_row_plain statement.now) }
-{
-    match statement {
-        StatementRow::ExpressionStatement(_) => NodeType::ExpressionStatement,
-        StatementRow::BlockStatement(_) => NodeType::BlockStatement,
-        StatementRow::IfStatement(_) => NodeType::IfStatement,
-        StatementRow::EmptyStatement(_) => NodeType::EmptyStatement,
+/// What the reader asks of a node where trees nest. Only `Node` implements it.
+pub trait ReadNode: Sized {
+    ghost use Rattle.jsgen_tree.specs.Tree.{Tree};
+
+    ghost plain: { Self → Tree };
+
+    fn expression_node(expression: Expression<Self>) -> ExpressionNode<Self>
+        ensures { in_expression plain result ≡ expression_plain plain expression };
+
+    fn expression_type(expression: &Expression<Self>) -> NodeType
+        ensures { result ≡ type_of (expression_plain plain expression.now) };
+
+    fn declaration_node(declaration: Declaration<Self>) -> DeclarationNode<Self>
+        ensures { in_declaration plain result ≡ declaration_plain plain declaration };
+
+    fn declaration_type(declaration: &Declaration<Self>) -> NodeType
+        ensures { result ≡ type_of (declaration_plain plain declaration.now) };
+
+    fn statement_node(statement: Statement<Self>) -> StatementNode<Self>
+        ensures { in_statement plain result ≡ statement_plain plain statement };
+
+    fn binding_pattern_node(binding_pattern: BindingPattern) -> BindingPatternNode<Self>
+        ensures { in_binding_pattern plain result ≡ binding_pattern_plain binding_pattern };
+}
+
+impl ReadNode for Node {
+    ghost plain = { λ n. node_plain n };
+
+    #[tactic(auto, using(jsgen_tree::proofs::Knot::plain_expression))]
+    fn expression_node(expression: Expression) -> ExpressionNode
+        ensures { in_expression node_plain result ≡ expression_plain node_plain expression }
+    {
+        expression.into()
+    }
+
+    fn expression_type(expression: &Expression) -> NodeType
+        ensures { result ≡ type_of (expression_plain node_plain expression.now) }
+    {
+        expression.node_type()
+    }
+
+    #[tactic(auto, using(jsgen_tree::proofs::Knot::plain_declaration))]
+    fn declaration_node(declaration: Declaration) -> DeclarationNode
+        ensures { in_declaration node_plain result ≡ declaration_plain node_plain declaration }
+    {
+        declaration.into()
+    }
+
+    fn declaration_type(declaration: &Declaration) -> NodeType
+        ensures { result ≡ type_of (declaration_plain node_plain declaration.now) }
+    {
+        declaration.node_type()
+    }
+
+    #[tactic(auto, using(jsgen_tree::proofs::Knot::plain_statement))]
+    fn statement_node(statement: Statement) -> StatementNode
+        ensures { in_statement node_plain result ≡ statement_plain node_plain statement }
+    {
+        statement.into()
+    }
+
+    #[tactic(auto, using(jsgen_tree::proofs::Knot::plain_binding_pattern))]
+    fn binding_pattern_node(binding_pattern: BindingPattern) -> BindingPatternNode
+        ensures { in_binding_pattern node_plain result ≡ binding_pattern_plain binding_pattern }
+    {
+        binding_pattern.into()
     }
 }
 
-fn declaration_type(declaration: &Declaration) -> NodeType
-    ensures { result ≡ type_of (declaration_plain node_plain declaration.now) }
-{
-    match declaration {
-        Declaration::VariableDeclaration(_) => NodeType::VariableDeclaration,
+impl<N: ReadNode> StatementRow<N> {
+    fn node_type(&self) -> NodeType
+        ensures { result ≡ type_of (statement_row_plain N.plain self.now) }
+    {
+        match self {
+            StatementRow::ExpressionStatement(_) => NodeType::ExpressionStatement,
+            StatementRow::BlockStatement(_) => NodeType::BlockStatement,
+            StatementRow::IfStatement(_) => NodeType::IfStatement,
+            StatementRow::EmptyStatement(_) => NodeType::EmptyStatement,
+        }
     }
-}
 
-fn binding_pattern_type(pattern: &BindingPattern) -> NodeType
-    ensures { result ≡ type_of (binding_pattern_plain pattern.now) }
-{
-    match pattern {
-        BindingPattern::BindingIdentifier(_) => NodeType::BindingIdentifier,
-    }
-}
-
-fn expression_type(expression: &Expression) -> NodeType
-    ensures { result ≡ type_of (expression_plain node_plain expression.now) }
-{
-    match expression {
-        Expression::IdentifierReference(_) => NodeType::IdentifierReference,
-        Expression::NumericLiteral(_) => NodeType::NumericLiteral,
-        Expression::StringLiteral(_) => NodeType::StringLiteral,
-        Expression::BinaryExpression(_) => NodeType::BinaryExpression,
-        Expression::LogicalExpression(_) => NodeType::LogicalExpression,
-        Expression::ParenthesizedExpression(_) => NodeType::ParenthesizedExpression,
-        Expression::StaticMemberExpression(_) => NodeType::StaticMemberExpression,
-        Expression::ComputedMemberExpression(_) => NodeType::ComputedMemberExpression,
-        Expression::CallExpression(_) => NodeType::CallExpression,
-    }
-}
-
-impl StatementRow {
-    pub fn into_statement(self) -> Statement
-        ensures { statement_plain node_plain result ≡ statement_row_plain self }
+    pub fn into_statement(self) -> Statement<N>
+        ensures { statement_plain N.plain result ≡ statement_row_plain N.plain self }
     {
         match self {
             StatementRow::ExpressionStatement(row) => Statement::ExpressionStatement(row),
@@ -95,28 +135,28 @@ impl StatementRow {
     }
 }
 
-impl Typed for Row {
-    ghost plain = { λ row. row_plain row };
+impl<N: ReadNode> Typed for Row<N> {
+    ghost plain = { λ row. row_plain N.plain row };
 
     fn node_type(&self) -> NodeType {
         match self {
             Row::Program(_) => NodeType::Program,
             Row::Directive(_) => NodeType::Directive,
-            Row::Statement(row) => statement_type(row),
-            Row::Declaration(row) => declaration_type(row),
+            Row::Declaration(row) => N::declaration_type(&**row),
             Row::VariableDeclarator(_) => NodeType::VariableDeclarator,
-            Row::BindingPattern(row) => binding_pattern_type(row),
-            Row::Expression(row) => expression_type(row),
+            Row::BindingPattern(row) => (**row).node_type(),
+            Row::Statement(row) => (**row).node_type(),
+            Row::Expression(row) => N::expression_type(&**row),
             Row::IdentifierName(_) => NodeType::IdentifierName,
         }
     }
 }
 
-impl Row {
-    #[tactic(auto, using(crate::proofs::Sets::no_statement_is_a_program, crate::proofs::Sets::no_declaration_is_a_program, crate::proofs::Sets::no_binding_pattern_is_a_program, crate::proofs::Sets::no_expression_is_a_program))]
-    pub fn into_program(self) -> Option<Program>
-        ensures { option_map program_plain result
-            ≡ (if is_program (type_of (row_plain self)) then Some (row_plain self) else None) }
+impl<N: ReadNode + Drop> Row<N> {
+    #[tactic(auto, using(crate::proofs::Sets::takes_programs))]
+    pub fn into_program(self) -> Option<Program<N>>
+        ensures { option_map (program_row N.plain) result
+            ≡ (if is_program (type_of (row_plain N.plain self)) then Some (row_plain N.plain self) else None) }
     {
         match self {
             Row::Program(program) => Some(Box::into_inner(program)),
@@ -125,30 +165,42 @@ impl Row {
     }
 }
 
-#[tactic(auto, using(jsgen_tree::proofs::Knot::plain_expression))]
-pub fn expression_node(expression: Expression) -> ExpressionNode
-    ensures { in_expression node_plain result ≡ expression_plain node_plain expression }
+/// A declaration as a row.
+pub fn declaration_row<N: ReadNode + Drop>(
+    alloc: Global,
+    declaration: Declaration<N>,
+) -> Result<Row<N>, InputFault>
+    ensures { Same (row_plain N.plain) result (Ok (declaration_plain N.plain declaration)) }
 {
-    expression.into()
+    Ok(Row::Declaration(Box::new(alloc, declaration)?))
 }
 
-#[tactic(auto, using(jsgen_tree::proofs::Knot::plain_statement))]
-pub fn statement_node(statement: Statement) -> StatementNode
-    ensures { in_statement node_plain result ≡ statement_plain node_plain statement }
+/// A binding pattern as a row.
+pub fn binding_pattern_row<N: ReadNode + Drop>(
+    alloc: Global,
+    binding_pattern: BindingPattern,
+) -> Result<Row<N>, InputFault>
+    ensures { Same (row_plain N.plain) result (Ok (binding_pattern_plain binding_pattern)) }
 {
-    statement.into()
+    Ok(Row::BindingPattern(Box::new(alloc, binding_pattern)?))
 }
 
-#[tactic(auto, using(jsgen_tree::proofs::Knot::plain_declaration))]
-pub fn declaration_node(declaration: Declaration) -> DeclarationNode
-    ensures { in_declaration node_plain result ≡ declaration_plain node_plain declaration }
+/// A statement as a row.
+pub fn statement_row<N: ReadNode + Drop>(
+    alloc: Global,
+    statement: StatementRow<N>,
+) -> Result<Row<N>, InputFault>
+    ensures { Same (row_plain N.plain) result (Ok (statement_row_plain N.plain statement)) }
 {
-    declaration.into()
+    Ok(Row::Statement(Box::new(alloc, statement)?))
 }
 
-#[tactic(auto, using(jsgen_tree::proofs::Knot::plain_binding_pattern))]
-pub fn binding_pattern_node(pattern: BindingPattern) -> BindingPatternNode
-    ensures { in_binding_pattern node_plain result ≡ binding_pattern_plain pattern }
+/// An expression as a row.
+pub fn expression_row<N: ReadNode + Drop>(
+    alloc: Global,
+    expression: Expression<N>,
+) -> Result<Row<N>, InputFault>
+    ensures { Same (row_plain N.plain) result (Ok (expression_plain N.plain expression)) }
 {
-    pattern.into()
+    Ok(Row::Expression(Box::new(alloc, expression)?))
 }

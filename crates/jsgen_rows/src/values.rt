@@ -1,5 +1,5 @@
 // What stands in a field by itself.
-ghost use Rattle.std.specs.Prelude.{◌≡◌, [], Some, true, false, map, option_map};
+ghost use Rattle.std.specs.Prelude.{◌≡◌, [], suc, Some, true, false, map, option_map};
 ghost use Rattle.std.specs.Str.{bytes_eq};
 ghost use Rattle.serde_json.specs.View.{view};
 ghost use Rattle.jsgen_tree.specs.Characters.{characters};
@@ -9,7 +9,7 @@ ghost use Rattle.jsgen_rows.specs.Job.{Same};
 ghost use Rattle.serde_json.specs.Find.{as_bool};
 ghost use Rattle.jsgen_rows.specs.declared.InputFault.TheVariants.{Wrong};
 ghost use Rattle.jsgen_rows.specs.Reads.{read_value};
-ghost use Rattle.jsgen_rows.specs.Values.{or_fault, field, field_in, not_given, text_in, items_in, starts_plainly, decimal_number, digits_in, value_in, type_of, span_of, offset_in, offsets};
+ghost use Rattle.jsgen_rows.specs.Values.{after, or_fault, at, field, field as value_under, field_in, not_given, text_in, items_in, starts_plainly, decimal_number, digits_in, value_in, type_of, span_of, offset_in, offsets};
 
 use crate::floats::holds_float;
 use crate::names::type_by_name;
@@ -66,6 +66,21 @@ pub fn not_given(at: At, object: &Value, name: &str) -> Result<(), InputFault>
         Some(_) => Err(InputFault::Wrong(at)),
         None => Ok(()),
     }
+}
+
+/// Two fields of a row, one after the other from this number on, neither of which is read yet.
+pub fn neither_given(
+    number: usize,
+    field: u8,
+    row: &Value,
+    name: &str,
+    other: &str,
+) -> Result<(), InputFault>
+    ensures { Same (λ u. u) result (after (not_given (at number field) (value_under name.now (view row.now)))
+        (λ given. not_given (at number (suc field)) (value_under other.now (view row.now)))) }
+{
+    not_given(At::of_row(number, usize::from(field)), row, name)?;
+    not_given(At::of_row(number, usize::from(field) + 1), row, other)
 }
 
 pub fn text_in(at: At, value: &Value) -> Result<&str, InputFault>

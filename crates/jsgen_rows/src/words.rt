@@ -1,13 +1,13 @@
+// Generated from tools/nodes/table.txt; edit that and run tools/nodes/generate.
 // Fields that hold a word.
-ghost use Rattle.std.specs.Prelude.{◌≡◌, true, IfOk, option_map, codes};
+ghost use Rattle.std.specs.Prelude.{◌≡◌, true, option_map};
 ghost use Rattle.serde_json.specs.View.{view};
-ghost use Rattle.jsgen_tree.specs.Atom.{no_value, source_kind, declaration_kind, numeric_kind, binary_operator, logical_operator};
-ghost use Rattle.jsgen_tree.specs.Number.{Whole};
+ghost use Rattle.jsgen_tree.specs.Atom.{no_value, source_kind, declaration_kind, binary_operator, logical_operator};
 ghost use Rattle.jsgen_tree.specs.Table.{word};
-ghost use Rattle.jsgen_tree.specs.Fields.{source_kind_words, declaration_kind_words, numeric_kind_words, binary_operator_words, logical_operator_words};
+ghost use Rattle.jsgen_tree.specs.Fields.{source_kind_words, declaration_kind_words, binary_operator_words, logical_operator_words};
 ghost use Rattle.jsgen_rows.specs.Job.{Same};
 ghost use Rattle.jsgen_rows.specs.Reads.{read_value};
-ghost use Rattle.jsgen_rows.specs.Values.{field, is_of_kind, word_meaning, words_of_length};
+ghost use Rattle.jsgen_rows.specs.Values.{field, word_meaning, words_of_length};
 
 use crate::values::{needed_value, text_in};
 use crate::{At, InputFault};
@@ -17,7 +17,7 @@ use serde_json::Value;
 
 #[tactic(auto, unfolding(crate::specs::Reads::read_value))]
 pub fn needed_source_kind(at: At, row: &Value, name: &str) -> Result<SourceKind, InputFault>
-    ensures { Same (λ k. source_kind k) result
+    ensures { Same (λ o. source_kind o) result
         (read_value at true no_value (word source_kind_words) (field name.now (view row.now))) }
 {
     let value = needed_value(at, row, name)?;
@@ -33,7 +33,7 @@ pub fn needed_declaration_kind(
     row: &Value,
     name: &str,
 ) -> Result<VariableDeclarationKind, InputFault>
-    ensures { Same (λ k. declaration_kind k) result
+    ensures { Same (λ o. declaration_kind o) result
         (read_value at true no_value (word declaration_kind_words) (field name.now (view row.now))) }
 {
     let value = needed_value(at, row, name)?;
@@ -43,23 +43,7 @@ pub fn needed_declaration_kind(
     }
 }
 
-/// The kind of a number, of which there is one yet.
-#[tactic(auto, unfolding(crate::specs::Reads::read_value))]
-pub fn needed_numeric_kind(at: At, row: &Value) -> Result<(), InputFault>
-    ensures reads { Same (λ k. numeric_kind Whole) result
-        (read_value at true no_value (word numeric_kind_words) (field (codes "kind") (view row.now))) }
-    ensures whole { IfOk result (λ k. is_of_kind (codes "whole") (view row.now) ≡ true) }
-{
-    let value = needed_value(at, row, "kind")?;
-    match text_in(at, value)? {
-        "whole" => Ok(()),
-        _ => Err(InputFault::Wrong(at)),
-    }
-}
-
-// ---- operators: those of one length at a time
-
-fn binary_operator_of_one(word: &str) -> Option<BinaryOperator>
+fn binary_operator_of_length_1(word: &str) -> Option<BinaryOperator>
     ensures { option_map binary_operator result ≡ word_meaning (words_of_length 1 binary_operator_words) word.now }
 {
     match word {
@@ -77,7 +61,7 @@ fn binary_operator_of_one(word: &str) -> Option<BinaryOperator>
     }
 }
 
-fn binary_operator_of_two(word: &str) -> Option<BinaryOperator>
+fn binary_operator_of_length_2(word: &str) -> Option<BinaryOperator>
     ensures { option_map binary_operator result ≡ word_meaning (words_of_length 2 binary_operator_words) word.now }
 {
     match word {
@@ -93,7 +77,7 @@ fn binary_operator_of_two(word: &str) -> Option<BinaryOperator>
     }
 }
 
-fn binary_operator_of_three(word: &str) -> Option<BinaryOperator>
+fn binary_operator_of_length_3(word: &str) -> Option<BinaryOperator>
     ensures { option_map binary_operator result ≡ word_meaning (words_of_length 3 binary_operator_words) word.now }
 {
     match word {
@@ -104,7 +88,7 @@ fn binary_operator_of_three(word: &str) -> Option<BinaryOperator>
     }
 }
 
-fn binary_operator_of_ten(word: &str) -> Option<BinaryOperator>
+fn binary_operator_of_length_10(word: &str) -> Option<BinaryOperator>
     ensures { option_map binary_operator result ≡ word_meaning (words_of_length 10 binary_operator_words) word.now }
 {
     match word {
@@ -117,10 +101,10 @@ fn binary_operator_by_word(word: &str) -> Option<BinaryOperator>
     ensures { option_map binary_operator result ≡ word_meaning binary_operator_words word.now }
 {
     match word.len() {
-        1 => binary_operator_of_one(word),
-        2 => binary_operator_of_two(word),
-        3 => binary_operator_of_three(word),
-        10 => binary_operator_of_ten(word),
+        1 => binary_operator_of_length_1(word),
+        2 => binary_operator_of_length_2(word),
+        3 => binary_operator_of_length_3(word),
+        10 => binary_operator_of_length_10(word),
         _ => None,
     }
 }
@@ -132,7 +116,7 @@ pub fn needed_binary_operator(at: At, row: &Value, name: &str) -> Result<BinaryO
 {
     let value = needed_value(at, row, name)?;
     match binary_operator_by_word(text_in(at, value)?) {
-        Some(operator) => Ok(operator),
+        Some(found) => Ok(found),
         None => Err(InputFault::Wrong(at)),
     }
 }

@@ -7,4 +7,4 @@ use Rattle.jsgen_rows.proofs.children.take_all.Given as goal
 -- the values left, after what was taken so far, give the whole
 abbrev pub invariant-loop-value : goal.invariant-loop-value
 invariant-loop-value g l =
-    take_each (take_child l.fn.at g.C.Child.of_set) (map g.C.Child.plain l.children.items) (map view (drop l.value-index l.values)) (entries l.kept.items) ≡ take_each (take_child l.fn.at g.C.Child.of_set) [] (map view l.values) (entries l.fn.kept.items)
+    take_each (take_child l.fn.at g.C.Child.of_set) (map g.C.Child.plain l.children.items) (map view (drop l.value-index l.values)) (entries g.N.ReadNode.plain l.kept.items) ≡ take_each (take_child l.fn.at g.C.Child.of_set) [] (map view l.values) (entries g.N.ReadNode.plain l.fn.kept.items)

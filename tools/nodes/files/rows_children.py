@@ -1,0 +1,167 @@
+"""The reader's src/child_sets.rt: what is made of a row at a place for children of each set; and src/set_fields.rt: the
+readers of fields that hold them."""
+
+import layout
+from files.rows_kept import kept, set_of
+from files.rows_sets import rules_of
+from names import READER, SPECS, TYPES, plain_of, row_names
+from table import snake
+
+CHILD = "ensures {{ IfOk result (λ child. option_map {plain} child\n            ≡ (if in_set sets.{set} (type_of (row_plain N.plain row)) then Some (row_plain N.plain row) else None)) }}"
+
+
+def write(table):
+    return {"crates/jsgen_rows/src/child_sets.rt": impls(table), "crates/jsgen_rows/src/set_fields.rt": readers(table)}
+
+
+def places(table):
+    """Each set or type that children are of, and whether it stands there in a box."""
+    every = {}
+    for n in table.nodes.values():
+        for f in table.children(n):
+            every[f.kind, f.kind in table.nodes and f.many != "*"] = None
+    return list(every)
+
+
+def child_type(table, name, boxed):
+    held = name + ("<N>" if table.generic(name) else "")
+    if name in table.sets and table.sets[name].nests:
+        return f"{name}Node<N>"
+    return f"Box<{held}>" if boxed else held
+
+
+def child_plain(table, name, boxed):
+    """The plain data of a child, as a function."""
+    row, takes = plain_of(table, name)
+    takes = " N.plain" if takes else ""
+    return f"(λ b. {row}{takes} b.value)" if boxed else f"({row}{takes})" if takes else row
+
+
+def plain_at(table, name, boxed, child):
+    row, takes = plain_of(table, name)
+    return f"{row}{' N.plain' if takes else ''} {child}{'.value' if boxed else ''}"
+
+
+# ---- src/child_sets.rt
+
+def impls(table):
+    body = "\n\n".join(impl(table, name, boxed) for name, boxed in places(table))
+    prelude = ["◌≡◌", "IfOk", "Some", "None", "option_map", "if◌then◌else◌"]
+    ghosts = [("Rattle.std.specs.Prelude", prelude), (f"{SPECS}.Tree", ["type_of"]), (f"{SPECS}.Sets", ["in_set"])]
+    ghosts += row_names(table) + [(f"{READER}.specs.Kept", ["row_plain"])]
+    tree = list(table.nodes) + list(table.sets) + [s.name + "Node" for s in table.nesting()] + ["NodeSet"]
+    homes = [("crate::children", ["Child"]), ("crate::kept", ["ReadNode", "Row"]), ("jsgen_tree", tree)]
+    homes += [("std::alloc", ["AllocError", "Global"])]
+    about = "What is made of a row where it is a child: a member of the set that the place is for."
+    return layout.rust(about, ghosts, TYPES, homes, body)
+
+
+def impl(table, name, boxed):
+    of, plain = child_type(table, name, boxed), child_plain(table, name, boxed)
+    arms = made(table, name, boxed)
+    unused = "" if "alloc" in arms else "        let _ = alloc;\n"
+    return f"""impl<N: ReadNode + Drop> Child<N> for {of} {{
+    ghost plain = {{ λ n. {plain_at(table, name, boxed, "n")} }};
+
+    ghost of_set = {{ sets.{name} }};
+
+    fn set() -> NodeSet {{
+        NodeSet::{name}
+    }}
+
+    #[tactic(auto, using(crate::proofs::Sets::{rules_of(table, name)}))]
+    fn from_row(alloc: Global, row: Row<N>) -> Result<Option<{of}>, AllocError>
+        {CHILD.format(plain=plain, set=name)}
+    {{
+{unused}        match row {{
+{arms}            _ => Ok(None),
+        }}
+    }}
+}}"""
+
+
+def made(table, name, boxed):
+    """The arms of the rows that are of the set."""
+    if name in table.nodes:
+        if set_of(table, name):
+            raise SystemExit(f"{name}: a child of one type that is in a set has no form in the reader yet")
+        return f"            Row::{name}(row) => Ok(Some({'row' if boxed else 'Box::into_inner(row)'})),\n"
+    s = table.sets[name]
+    if not s.nests:
+        return "".join(in_plain_set(table, s, m) for m in s.members)
+    direct = "Box::into_inner(row)" + (f".into_{snake(name)}()" if kept(table, s) != name else "")
+    arms = f"            Row::{name}(row) => Ok(Some(N::{snake(name)}_node({direct}))),\n"
+    return arms + "".join(in_set_within(table, s, m) for m in s.members if m in table.sets)
+
+
+def in_set_within(table, s, m):
+    """A member of a set within a set, which stands in a box of its own."""
+    return f"""            Row::{m}(row) => {{
+                let {snake(m)} = Box::new(alloc, N::{snake(m)}_node(Box::into_inner(row)))?;
+                Ok(Some(N::{snake(s.name)}_node({s.name}::{m}({snake(m)}))))
+            }}
+"""
+
+
+def in_plain_set(table, s, m):
+    """A member of a set that doesn't nest."""
+    if m in table.sets and kept(table, table.sets[m]) == m:
+        return f"""            Row::{m}(row) => {{
+                let {snake(m)} = Box::new(alloc, N::{snake(m)}_node(Box::into_inner(row)))?;
+                Ok(Some({s.name}::{m}({snake(m)})))
+            }}
+"""
+    if m in table.nodes and not set_of(table, m):
+        return f"            Row::{m}(row) => Ok(Some({s.name}::{m}(row))),\n"
+    raise SystemExit(f"{s.name}: {m} in a set that doesn't nest has no form in the reader yet")
+
+
+# ---- src/set_fields.rt
+
+FORMS = {
+    "": ("needed_{}", "needed_child", "{}", "λ c. a_child ({})", "true needed (child sets.{})"),
+    "?": ("optional_{}", "optional_child", "Option<{}>", "λ o. a_maybe (optional (option_map {} o))",
+          "false may_be_absent (child sets.{})"),
+    "*": ("{}_list", "children", "Vec<{}>", "λ v. a_list (trees (map {} v.items))", "false may_be_absent (many sets.{})"),
+}
+
+
+def reader_of(f):
+    return FORMS[f.many][0].format(snake(f.kind))
+
+
+def readers(table):
+    fields = {reader_of(f): f for n in table.nodes.values() for f in table.children(n)}
+    body = "\n\n".join(reader(table, f) for f in fields.values())
+    ghosts = [("Rattle.std.specs.Prelude", ["true", "false", "map", "option_map"]),
+              ("Rattle.serde_json.specs.View", ["view"]), (f"{SPECS}.Tree", ["optional", "trees"])]
+    ghosts += [(f"{SPECS}.Table", ["needed", "may_be_absent", "child"])] + row_names(table)
+    ghosts += [(f"{READER}.specs.Values", ["field"]), (f"{READER}.specs.Meaning", ["a_child", "a_maybe", "a_list"]),
+               (f"{READER}.specs.Reads", ["Gives", "read_children"]), (f"{READER}.specs.Kept", ["entries"])]
+    tree = list(table.nodes) + list(table.sets) + [s.name + "Node" for s in table.nesting()]
+    homes = [("crate", ["At", "InputFault"]), ("crate::fields", ["needed_child", "optional_child", "children"]),
+             ("crate::kept", ["ReadNode", "Row"]), ("jsgen_pool", ["Kept"]), ("jsgen_tree", tree)]
+    homes += [("serde_json", ["Value"]), ("std::alloc", ["Global"])]
+    about = "Fields that hold children, by set: a row that calls one of these passes no impl of `Child`, which would be " \
+            "proved at each call."
+    text = layout.rust(about, ghosts, TYPES, homes, body)
+    return text.replace(".{needed, may_be_absent, child}", ".{needed, may_be_absent, child, children as many}")
+
+
+def reader(table, f):
+    name, inner, result, gives, field = FORMS[f.many]
+    boxed = f.kind in table.nodes and f.many != "*"
+    of = result.format(child_type(table, f.kind, boxed))
+    plain = plain_at(table, f.kind, boxed, "c") if f.many == "" else child_plain(table, f.kind, boxed)
+    return f"""pub fn {name.format(snake(f.kind))}<N: ReadNode + Drop>(
+    alloc: Global,
+    kept: &mut Vec<Kept<Row<N>>>,
+    at: At,
+    row: &Value,
+    name: &str,
+) -> Result<{of}, InputFault>
+    ensures {{ Gives ({gives.format(plain)}) result (entries N.plain kept.new.items)
+        (read_children at {field.format(f.kind)} (field name.now (view row.now)) (entries N.plain kept.old.items)) }}
+{{
+    {inner}(alloc, kept, at, row, name)
+}}"""

@@ -1,0 +1,95 @@
+"""The reader's proofs/Sets.antt: which of the sets that children are of hold the rows that are kept by their set."""
+
+import layout
+from files.rows_kept import kept, large, own
+from files.specs_table import tested
+from names import DECLARED, READER, SPECS, TREE, TYPES, row_names, sets_in_antt, types_in_antt
+from table import snake
+
+
+def write(table):
+    parts = ["-- ---- what is so of each type of a set is so of each row of it"]
+    parts += [each_row(table, s) for s in large(table)]
+    parts += ["-- ---- set by set"]
+    parts += [lemma(table, s, test) for test in tests(table) for s in large(table)]
+    parts += [program_alone(table), "-- ---- which rows a place takes"]
+    parts += [rules(table, test) for test in tests(table)]
+    inner = [kept(table, s) for s in large(table) if kept(table, s) != s.name]
+    homes = [("Rattle.std.proofs.Common", ["◌≡◌", "Bool", "true", "false", "refl"])] + TREE + types_in_antt(table)
+    homes += [(f"{SPECS}.Sets", [t for t in tests(table) if t != "is_program"])] + row_names(table)
+    homes += [(f"{READER}.specs.Meaning", ["is_program"])] + sets_in_antt(table)
+    homes += [(f"{READER}.specs.Kept", [snake(name) + "_plain" for name in inner])]
+    homes += [(f"{READER}.specs.declared.kept.{name}", [name]) for name in inner]
+    aliases = TYPES + [(f"{DECLARED}.sets.{s.name}.TheVariants", snake(s.name) + "s") for s in large(table)]
+    aliases += [(f"{READER}.specs.declared.kept.{name}.TheVariants", snake(name) + "s") for name in inner]
+    about = "Which of the sets that children are of hold the rows that are kept by their set."
+    return {"crates/jsgen_rows/proofs/Sets.antt": layout.antt(about, homes, aliases, "\n\n".join(parts))}
+
+
+def tests(table):
+    """What is asked of a type: whether it is a program, and whether it is of a set that children are of."""
+    return ["is_program"] + list(dict.fromkeys(tested(table, s) for s in table.child_sets()))
+
+
+def types_of_test(table, test):
+    if test == "is_program":
+        return ["Program"]
+    return table.types_in(next(s for s in table.child_sets() if tested(table, s) == test))
+
+
+def rules_of(table, name):
+    """The rules for a place that takes children of the set or type."""
+    return "takes_" + tested(table, name).removeprefix("is_") + "s"
+
+
+def bound(table, s):
+    """The arguments that stand for what nests, their names, and the type of a row."""
+    if not table.generic(s.name):
+        return "", "", kept(table, s)
+    return "{N : Type 0} (plain : N → Tree) ", " plain", kept(table, s) + " N"
+
+
+def row(table, s):
+    return f"type_of ({snake(kept(table, s))}_plain{bound(table, s)[1]} r)"
+
+
+def each_row(table, s):
+    of, plain, held = bound(table, s)
+    name, variants = "of_" + snake(s.name), snake(kept(table, s)) + "s"
+    facts = "".join(f"f types.{m} ≡ b → " for m in own(table, s))
+    names = "".join(f" h{i}" for i in range(len(own(table, s))))
+    clauses = "".join(f"\n{name}{plain} f b{names} ({variants}.{m} r) = h{i}" for i, m in enumerate(own(table, s)))
+    return f"{name} : {of}(f : NodeType → Bool) (b : Bool) → {facts}(r : {held}) → f ({row(table, s)}) ≡ b{clauses}"
+
+
+def answer(table, s, test):
+    said = {m in types_of_test(table, test) for m in own(table, s)}
+    if len(said) > 1:
+        raise SystemExit(f"{test}: a place that takes some of {s.name} has no form in the reader yet")
+    return said.pop()
+
+
+def named(table, s, test):
+    said = "each_{}_is_{}" if answer(table, s, test) else "no_{}_is_{}"
+    return said.format(snake(s.name), with_article(test.removeprefix("is_")))
+
+
+def with_article(words):
+    return ("an_" if words[0] in "aeiou" else "a_") + words
+
+
+def lemma(table, s, test):
+    of, plain, held = bound(table, s)
+    name, b = named(table, s, test), "true" if answer(table, s, test) else "false"
+    given = f"{plain} {test} {b}{' refl' * len(own(table, s))} r"
+    return f"pub {name} : {of}(r : {held}) → {test} ({row(table, s)}) ≡ {b}\n{name}{plain} r = of_{snake(s.name)}{given}"
+
+
+def program_alone(table):
+    clauses = "".join(f"\nprogram_type types.{n} h = {'refl' if n == 'Program' else 'cc'}" for n in table.nodes)
+    return f"pub program_type : (t : NodeType) → is_program t ≡ true → t ≡ types.Program{clauses}"
+
+
+def rules(table, test):
+    names = ", ".join(named(table, s, test) for s in large(table))
+    return f"pub ruleset takes_{test.removeprefix('is_')}s = ({names})"
