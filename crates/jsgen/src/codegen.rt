@@ -16,7 +16,8 @@ ghost use Rattle.jsgen.specs.Codegen.{options_of, job_for, has_printed, has_fail
 
 use jsgen_check::check_program;
 use jsgen_model::TreeFault;
-use jsgen_nodes::{Settings, print_program};
+use jsgen_nodes::print_program;
+use jsgen_place::Settings;
 use jsgen_printer::Printer;
 use jsgen_syntax::{CodeBuffer, IndentChar, JsStr, Memory, Quote};
 use jsgen_text::{

@@ -8,9 +8,9 @@ use Rattle.jsgen_model.specs.Layout.{Pen, layout, written, other_end, not, unles
 use Rattle.jsgen_model.specs.Spell as spells
 use Rattle.jsgen_model.specs.Spell.{spell, spell_list, spell_more, in_brackets, among_statements}
 use Rattle.jsgen_model.specs.Printing.{IsPrefix, Stops}
-use Rattle.jsgen_nodes.specs.declared.place.Place.{Place}
-use Rattle.jsgen_nodes.specs.declared.place.Settings.{Settings}
-use Rattle.jsgen_nodes.specs.Place.{settings_of, place_of}
+use Rattle.jsgen_place.specs.declared.place.Place.{Place}
+use Rattle.jsgen_place.specs.declared.place.Settings.{Settings}
+use Rattle.jsgen_place.specs.Place.{settings_of, place_of}
 use Rattle.jsgen_printer.proofs.Prefixes.{whole_prefix, prefix_append, more_prefix, prefix_of_prefix}
 use Rattle.jsgen_printer.proofs.Stops.{stops_within, stops_first, stops_second, layout_appends}
 use Rattle.jsgen_nodes.proofs.Operations.{still_nowhere}

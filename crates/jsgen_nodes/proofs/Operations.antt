@@ -12,8 +12,8 @@ use Rattle.jsgen_model.specs.Items.{Items, ◌⊕◌, soft_space, wrapped}
 use Rattle.jsgen_model.specs.Layout.{Pen, nowhere, layout, written_if, text_if, unless_printed, not}
 use Rattle.jsgen_model.specs.Spell as spells
 use Rattle.jsgen_model.specs.Spell.{spell, left_of, behind, within, left_level, right_level, unmixed, operator_item, logical_item}
-use Rattle.jsgen_nodes.specs.declared.place.Place.{Place}
-use Rattle.jsgen_nodes.specs.Place.{settings_of, context_of, place_of, place_within}
+use Rattle.jsgen_place.specs.declared.place.Place.{Place}
+use Rattle.jsgen_place.specs.Place.{settings_of, context_of, place_of, place_within}
 use Rattle.jsgen_model.specs.Printing.{Reaches, IsPrefix, Stops}
 use Rattle.jsgen_printer.proofs.Prefixes.{whole_prefix, prefix_append, more_prefix}
 use Rattle.jsgen_printer.proofs.Stops.{reaches_last, stops_within, layout_more, appends}

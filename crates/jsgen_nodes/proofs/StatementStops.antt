@@ -11,8 +11,8 @@ use Rattle.jsgen_model.specs.Spell.{spell, behind}
 use Rattle.jsgen_model.specs.Printing.{IsPrefix, Stops, Reaches}
 use Rattle.jsgen_printer.proofs.Prefixes.{whole_prefix}
 use Rattle.jsgen_printer.proofs.Stops.{layout_appends, layout_more, stops_within, stops_second, reaches_last}
-use Rattle.jsgen_nodes.specs.declared.place.Place.{Place}
-use Rattle.jsgen_nodes.specs.Place.{settings_of, context_of, place_of}
+use Rattle.jsgen_place.specs.declared.place.Place.{Place}
+use Rattle.jsgen_place.specs.Place.{settings_of, context_of, place_of}
 
 -- the last step, behind the first items
 pub last_reaches : {T E : Type 0} (r : Result T E) (first rest : Items) (old mid new : Pen) {whole : Pen} → mid ≡ layout first old → layout (first ⊕ rest) old ≡ whole → Reaches r mid new (layout rest mid) → Reaches r old new whole

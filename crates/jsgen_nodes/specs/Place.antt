@@ -1,36 +1,12 @@
--- Places, as print functions are given them.
-use Rattle.std.specs.Prelude.{Bool, true, false}
+-- What is printed at a place.
 use Rattle.jsgen_tree.specs.Tree.{Tree}
-use Rattle.jsgen_tree.specs.Job.{no_tables}
 use Rattle.jsgen_model.specs.Layout.{Pen, layout}
-use Rattle.jsgen_model.specs.Spell as spells
-use Rattle.jsgen_model.specs.Spell.{spell, is_number, mixes}
-use Rattle.jsgen_nodes.specs.declared.place.Context.{Context}
-use Rattle.jsgen_nodes.specs.declared.place.Place.{Place}
-use Rattle.jsgen_nodes.specs.declared.place.Settings.{Settings}
-use Rattle.jsgen_nodes.specs.declared.operands.Operand.{Operand}
+use Rattle.jsgen_model.specs.Spell.{spell}
+use Rattle.jsgen_place.specs.declared.place.Place.{Place}
+use Rattle.jsgen_place.specs.Place.{place_of}
 use Rattle.jsgen_printer.specs.declared.printer.Printer.{Printer}
 use Rattle.jsgen_printer.specs.Printer.{pen_of}
-
-abbrev pub context_of : Context → spells.Context
-context_of context = record { forbids_in = context.forbids_in; forbids_call = context.forbids_call }
-
-abbrev pub settings_of : Settings → spells.Settings
-settings_of settings = record { minified = settings.minified; tables = no_tables }
-
--- what begins with a node is what begins at the pen
-abbrev pub place_of : Place → Pen → spells.Place
-place_of place pen = record { settings = settings_of place.settings; level = place.level; context = context_of place.context; start = pen.start; in_list = place.in_list; left_operand = place.left_operand }
-
--- within parentheses, where the test holds, `in` may stand
-abbrev pub place_within : Bool → Place → Place
-place_within true place = record place { context = record place.context { forbids_in = false } }
-place_within false place = place
 
 -- the pen after a tree
 unfoldable pub pen_after : Tree → Place → Printer → Pen
 pen_after tree place p = layout (spell tree (place_of place (pen_of p))) (pen_of p)
-
--- what matters of an operand
-abbrev pub operand_of : Tree → Operand
-operand_of tree = record { is_number = is_number tree; mixes = mixes tree }

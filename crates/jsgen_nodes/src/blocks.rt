@@ -9,12 +9,14 @@ ghost use Rattle.jsgen_model.specs.Layout.{layout, written, other_end};
 ghost use Rattle.jsgen_model.specs.Spell.{spell, spell_statements, spell_alternate, braces, filled_braces, braces_end, body_end, is_given, in_brackets, among_statements};
 ghost use Rattle.jsgen_model.specs.Printing.{Reaches};
 ghost use Rattle.jsgen_printer.specs.Printer.{pen_of};
-ghost use Rattle.jsgen_nodes.specs.Place.{pen_after, settings_of};
+ghost use Rattle.jsgen_place.specs.Place.{settings_of};
+ghost use Rattle.jsgen_nodes.specs.Place.{pen_after};
 ghost use Rattle.jsgen_nodes.specs.Blocks.{braces_opened, braces_closed, consequent_of, alternate_of, test_ended};
 
 use crate::shapes::Shape;
 use crate::statements::print_statements;
-use crate::{Place, PrintNode, Settings};
+use crate::PrintNode;
+use jsgen_place::{Place, Settings};
 use jsgen_printer::{Bracket, Printer};
 use jsgen_syntax::{Memory, Precedence};
 use jsgen_tree::{BlockStatement, EmptyStatement, ExpressionNode, IfStatement, StatementNode};

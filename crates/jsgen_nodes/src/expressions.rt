@@ -7,10 +7,11 @@ ghost use Rattle.jsgen_model.specs.Layout.{layout};
 ghost use Rattle.jsgen_model.specs.Spell.{spell, left_of, behind, left_level, right_level, unmixed, operator_item, logical_item};
 ghost use Rattle.jsgen_model.specs.Printing.{Reaches};
 ghost use Rattle.jsgen_printer.specs.Printer.{pen_of};
-ghost use Rattle.jsgen_nodes.specs.Place.{pen_after, place_of};
+ghost use Rattle.jsgen_place.specs.Place.{place_of};
+ghost use Rattle.jsgen_nodes.specs.Place.{pen_after};
 
-use crate::operands::{left_level, right_level, unmixed};
-use crate::{Place, PrintNode};
+use crate::PrintNode;
+use jsgen_place::{Place, left_level, right_level, unmixed};
 use jsgen_printer::Printer;
 use jsgen_syntax::{GetPrecedence, Memory};
 use jsgen_tree::{
@@ -96,7 +97,7 @@ fn print_binary_operation<N: PrintNode>(
         (behind (right_level node.now.operator) (place_of place (pen_of p.old))))))) (pen_of p.old)) }
 {
     let left = node.left.get();
-    left.print(p, place.left_operand(left_level(node.operator, left)))?;
+    left.print(p, place.left_operand(left_level(node.operator, left.operand())))?;
     p.print_soft_space()?;
     p.print_operator(node.operator)?;
     p.print_soft_space()?;
@@ -134,12 +135,12 @@ fn print_logical_operation<N: PrintNode>(
         (place_of place (pen_of p.old))))))) (pen_of p.old)) }
 {
     let left = node.left.get();
-    let level = unmixed(node.operator, left, node.operator.lower_precedence());
+    let level = unmixed(node.operator, left.operand(), node.operator.lower_precedence());
     left.print(p, place.left_operand(level))?;
     p.print_soft_space()?;
     p.print_logical_sign(node.operator)?;
     p.print_soft_space()?;
     let right = node.right.get();
-    let level = unmixed(node.operator, right, node.operator.precedence());
+    let level = unmixed(node.operator, right.operand(), node.operator.precedence());
     right.print(p, place.child(level))
 }

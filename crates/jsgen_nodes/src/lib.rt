@@ -5,7 +5,6 @@ mod blocks;
 mod expressions;
 mod links;
 mod operands;
-mod place;
 mod sets;
 mod shapes;
 mod statements;
@@ -19,17 +18,17 @@ ghost use Rattle.jsgen_tree.specs.Plain.{node_plain};
 ghost use Rattle.jsgen_model.specs.Spell.{string_in, string_statement, shape};
 ghost use Rattle.jsgen_model.specs.Printing.{Reaches};
 ghost use Rattle.jsgen_printer.specs.Printer.{pen_of};
-ghost use Rattle.jsgen_nodes.specs.Place.{pen_after, operand_of};
+ghost use Rattle.jsgen_place.specs.Place.{operand_of};
+ghost use Rattle.jsgen_nodes.specs.Place.{pen_after};
 ghost use Rattle.jsgen_nodes.specs.Blocks.{shape_of};
 
+use jsgen_place::{Operand, Place};
 use jsgen_printer::Printer;
 use jsgen_syntax::{JsStr, Memory};
 use jsgen_tree::Node;
-pub use operands::Operand;
 use operands::{
     binding_pattern_operand, declaration_operand, expression_operand, statement_operand,
 };
-pub use place::{Context, Place, Settings};
 use sets::{print_binding_pattern, print_declaration, print_expression, print_statement};
 pub use shapes::Shape;
 use shapes::{

@@ -16,7 +16,8 @@ use crate::links::{
 use crate::statements::{
     print_binding_identifier, print_expression_statement, print_variable_declaration,
 };
-use crate::{Place, PrintNode};
+use crate::PrintNode;
+use jsgen_place::Place;
 use jsgen_printer::Printer;
 use jsgen_syntax::Memory;
 use jsgen_tree::{BindingPattern, Declaration, Expression, Statement};

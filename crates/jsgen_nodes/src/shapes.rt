@@ -21,15 +21,7 @@ pub fn expression_shape<N: PrintNode>(node: &Expression<N>) -> Shape
     ensures { shape_of result ≡ shape (expression_plain N.plain node.now) }
 {
     match node {
-        Expression::IdentifierReference(_) => Shape::Other,
-        Expression::NumericLiteral(_) => Shape::Other,
-        Expression::StringLiteral(_) => Shape::Other,
-        Expression::BinaryExpression(_) => Shape::Other,
-        Expression::LogicalExpression(_) => Shape::Other,
-        Expression::ParenthesizedExpression(_) => Shape::Other,
-        Expression::StaticMemberExpression(_) => Shape::Other,
-        Expression::ComputedMemberExpression(_) => Shape::Other,
-        Expression::CallExpression(_) => Shape::Other,
+        _ => Shape::Other,
     }
 }
 
@@ -38,10 +30,10 @@ pub fn statement_shape<N: PrintNode>(node: &Statement<N>) -> Shape
 {
     match node {
         Statement::Declaration(node) => node.get().shape(),
-        Statement::ExpressionStatement(_) => Shape::Other,
         Statement::BlockStatement(_) => Shape::Block,
         Statement::IfStatement(_) => Shape::If,
         Statement::EmptyStatement(_) => Shape::Empty,
+        _ => Shape::Other,
     }
 }
 
@@ -49,7 +41,7 @@ pub fn declaration_shape<N: PrintNode>(node: &Declaration<N>) -> Shape
     ensures { shape_of result ≡ shape (declaration_plain N.plain node.now) }
 {
     match node {
-        Declaration::VariableDeclaration(_) => Shape::Other,
+        _ => Shape::Other,
     }
 }
 
@@ -57,7 +49,7 @@ pub fn binding_pattern_shape(node: &BindingPattern) -> Shape
     ensures { shape_of result ≡ shape (binding_pattern_plain node.now) }
 {
     match node {
-        BindingPattern::BindingIdentifier(_) => Shape::Other,
+        _ => Shape::Other,
     }
 }
 
@@ -76,15 +68,7 @@ pub fn expression_ends_open<N: PrintNode>(node: &Expression<N>) -> bool
     ensures { result ≡ ends_open (expression_plain N.plain node.now) }
 {
     match node {
-        Expression::IdentifierReference(_) => false,
-        Expression::NumericLiteral(_) => false,
-        Expression::StringLiteral(_) => false,
-        Expression::BinaryExpression(_) => false,
-        Expression::LogicalExpression(_) => false,
-        Expression::ParenthesizedExpression(_) => false,
-        Expression::StaticMemberExpression(_) => false,
-        Expression::ComputedMemberExpression(_) => false,
-        Expression::CallExpression(_) => false,
+        _ => false,
     }
 }
 
@@ -93,10 +77,8 @@ pub fn statement_ends_open<N: PrintNode>(node: &Statement<N>) -> bool
 {
     match node {
         Statement::Declaration(node) => node.get().ends_open(),
-        Statement::ExpressionStatement(_) => false,
-        Statement::BlockStatement(_) => false,
         Statement::IfStatement(node) => if_ends_open(node),
-        Statement::EmptyStatement(_) => false,
+        _ => false,
     }
 }
 
@@ -104,7 +86,7 @@ pub fn declaration_ends_open<N: PrintNode>(node: &Declaration<N>) -> bool
     ensures { result ≡ ends_open (declaration_plain N.plain node.now) }
 {
     match node {
-        Declaration::VariableDeclaration(_) => false,
+        _ => false,
     }
 }
 
@@ -112,6 +94,6 @@ pub fn binding_pattern_ends_open(node: &BindingPattern) -> bool
     ensures { result ≡ ends_open (binding_pattern_plain node.now) }
 {
     match node {
-        BindingPattern::BindingIdentifier(_) => false,
+        _ => false,
     }
 }

@@ -9,9 +9,11 @@ ghost use Rattle.jsgen_model.specs.Layout.{layout};
 ghost use Rattle.jsgen_model.specs.Spell.{spell, spell_list, spell_more, spell_value, spell_directives, spell_body, spell_statements, first_statement, behind, among_statements};
 ghost use Rattle.jsgen_model.specs.Printing.{Reaches};
 ghost use Rattle.jsgen_printer.specs.Printer.{pen_of};
-ghost use Rattle.jsgen_nodes.specs.Place.{pen_after, place_of, settings_of};
+ghost use Rattle.jsgen_place.specs.Place.{place_of, settings_of};
+ghost use Rattle.jsgen_nodes.specs.Place.{pen_after};
 
-use crate::{Place, PrintNode, Settings};
+use crate::PrintNode;
+use jsgen_place::{Place, Settings};
 use jsgen_printer::Printer;
 use jsgen_syntax::{Memory, Precedence};
 use jsgen_tree::{

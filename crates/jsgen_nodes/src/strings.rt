@@ -14,15 +14,9 @@ pub fn expression_string<N: PrintNode>(node: &Expression<N>) -> Option<&JsStr>
     ensures { option_map (λ v. js_units v.now) result ≡ string_in (without_parentheses (expression_plain N.plain node.now)) }
 {
     match node {
-        Expression::IdentifierReference(_) => None,
-        Expression::NumericLiteral(_) => None,
         Expression::StringLiteral(node) => Some(&node.value),
-        Expression::BinaryExpression(_) => None,
-        Expression::LogicalExpression(_) => None,
         Expression::ParenthesizedExpression(node) => node.expression.get().string(),
-        Expression::StaticMemberExpression(_) => None,
-        Expression::ComputedMemberExpression(_) => None,
-        Expression::CallExpression(_) => None,
+        _ => None,
     }
 }
 
@@ -31,10 +25,7 @@ pub fn statement_string<N: PrintNode>(node: &Statement<N>) -> Option<&JsStr>
 {
     match node {
         Statement::Declaration(node) => node.get().string(),
-        Statement::ExpressionStatement(_) => None,
-        Statement::BlockStatement(_) => None,
-        Statement::IfStatement(_) => None,
-        Statement::EmptyStatement(_) => None,
+        _ => None,
     }
 }
 
@@ -42,7 +33,7 @@ pub fn declaration_string<N: PrintNode>(node: &Declaration<N>) -> Option<&JsStr>
     ensures { option_map (λ v. js_units v.now) result ≡ string_in (without_parentheses (declaration_plain N.plain node.now)) }
 {
     match node {
-        Declaration::VariableDeclaration(_) => None,
+        _ => None,
     }
 }
 
@@ -50,7 +41,7 @@ pub fn binding_pattern_string(node: &BindingPattern) -> Option<&JsStr>
     ensures { option_map (λ v. js_units v.now) result ≡ string_in (without_parentheses (binding_pattern_plain node.now)) }
 {
     match node {
-        BindingPattern::BindingIdentifier(_) => None,
+        _ => None,
     }
 }
 
@@ -60,15 +51,7 @@ pub fn expression_as_statement<N: PrintNode>(node: &Expression<N>) -> Option<&Js
     ensures { option_map (λ v. js_units v.now) result ≡ string_statement (expression_plain N.plain node.now) }
 {
     match node {
-        Expression::IdentifierReference(_) => None,
-        Expression::NumericLiteral(_) => None,
-        Expression::StringLiteral(_) => None,
-        Expression::BinaryExpression(_) => None,
-        Expression::LogicalExpression(_) => None,
-        Expression::ParenthesizedExpression(_) => None,
-        Expression::StaticMemberExpression(_) => None,
-        Expression::ComputedMemberExpression(_) => None,
-        Expression::CallExpression(_) => None,
+        _ => None,
     }
 }
 
@@ -76,7 +59,7 @@ pub fn declaration_as_statement<N: PrintNode>(node: &Declaration<N>) -> Option<&
     ensures { option_map (λ v. js_units v.now) result ≡ string_statement (declaration_plain N.plain node.now) }
 {
     match node {
-        Declaration::VariableDeclaration(_) => None,
+        _ => None,
     }
 }
 
@@ -84,7 +67,7 @@ pub fn binding_pattern_as_statement(node: &BindingPattern) -> Option<&JsStr>
     ensures { option_map (λ v. js_units v.now) result ≡ string_statement (binding_pattern_plain node.now) }
 {
     match node {
-        BindingPattern::BindingIdentifier(_) => None,
+        _ => None,
     }
 }
 
@@ -95,8 +78,6 @@ pub fn statement_as_string<N: PrintNode>(node: &Statement<N>) -> Option<&JsStr>
     match node {
         Statement::Declaration(node) => node.get().string_statement(),
         Statement::ExpressionStatement(node) => node.expression.get().string(),
-        Statement::BlockStatement(_) => None,
-        Statement::IfStatement(_) => None,
-        Statement::EmptyStatement(_) => None,
+        _ => None,
     }
 }

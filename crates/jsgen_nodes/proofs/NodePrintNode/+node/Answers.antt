@@ -1,75 +1,74 @@
-use Rattle.std.proofs.Common.{rules}
 use Rattle.jsgen_tree.proofs.Knot.{plain_expression, plain_statement, plain_declaration, plain_binding_pattern}
 use Rattle.jsgen_nodes.proofs.NodePrintNode.+node.Goals as goal
 
 pub print-returns-in-Expression : goal.print-returns-in-Expression
-print-returns-in-Expression t c = search (rules, plain_expression)
+print-returns-in-Expression t c = rw (c.in-Expression.is, plain_expression c.in-Expression.node) c.print_expression.ensures
 
 pub print-returns-in-Statement : goal.print-returns-in-Statement
-print-returns-in-Statement t c = search (rules, plain_statement)
+print-returns-in-Statement t c = rw (c.in-Statement.is, plain_statement c.in-Statement.node) c.print_statement.ensures
 
 pub print-returns-in-Declaration : goal.print-returns-in-Declaration
-print-returns-in-Declaration t c = search (rules, plain_declaration)
+print-returns-in-Declaration t c = rw (c.in-Declaration.is, plain_declaration c.in-Declaration.node) c.print_declaration.ensures
 
 pub print-returns-in-BindingPattern : goal.print-returns-in-BindingPattern
-print-returns-in-BindingPattern t c = search (rules, plain_binding_pattern)
+print-returns-in-BindingPattern t c = rw (c.in-BindingPattern.is, plain_binding_pattern c.in-BindingPattern.node) c.print_binding_pattern.ensures
 
 pub operand-returns-in-Expression : goal.operand-returns-in-Expression
-operand-returns-in-Expression t c = search (rules, plain_expression)
+operand-returns-in-Expression t c = rw (c.in-Expression.is, plain_expression c.in-Expression.node) c.expression_operand.ensures
 
 pub operand-returns-in-Statement : goal.operand-returns-in-Statement
-operand-returns-in-Statement t c = search (rules, plain_statement)
+operand-returns-in-Statement t c = rw (c.in-Statement.is, plain_statement c.in-Statement.node) c.statement_operand.ensures
 
 pub operand-returns-in-Declaration : goal.operand-returns-in-Declaration
-operand-returns-in-Declaration t c = search (rules, plain_declaration)
+operand-returns-in-Declaration t c = rw (c.in-Declaration.is, plain_declaration c.in-Declaration.node) c.declaration_operand.ensures
 
 pub operand-returns-in-BindingPattern : goal.operand-returns-in-BindingPattern
-operand-returns-in-BindingPattern t c = search (rules, plain_binding_pattern)
+operand-returns-in-BindingPattern t c = rw (c.in-BindingPattern.is, plain_binding_pattern c.in-BindingPattern.node) c.binding_pattern_operand.ensures
 
 pub string-returns-in-Expression : goal.string-returns-in-Expression
-string-returns-in-Expression t c = search (rules, plain_expression)
+string-returns-in-Expression t c = rw (c.in-Expression.is, plain_expression c.in-Expression.node) c.expression_string.ensures
 
 pub string-returns-in-Statement : goal.string-returns-in-Statement
-string-returns-in-Statement t c = search (rules, plain_statement)
+string-returns-in-Statement t c = rw (c.in-Statement.is, plain_statement c.in-Statement.node) c.statement_string.ensures
 
 pub string-returns-in-Declaration : goal.string-returns-in-Declaration
-string-returns-in-Declaration t c = search (rules, plain_declaration)
+string-returns-in-Declaration t c = rw (c.in-Declaration.is, plain_declaration c.in-Declaration.node) c.declaration_string.ensures
 
 pub string-returns-in-BindingPattern : goal.string-returns-in-BindingPattern
-string-returns-in-BindingPattern t c = search (rules, plain_binding_pattern)
+string-returns-in-BindingPattern t c = rw (c.in-BindingPattern.is, plain_binding_pattern c.in-BindingPattern.node) c.binding_pattern_string.ensures
 
 pub string_statement-returns-in-Expression : goal.string_statement-returns-in-Expression
-string_statement-returns-in-Expression t c = search (rules, plain_expression)
+string_statement-returns-in-Expression t c = rw (c.in-Expression.is, plain_expression c.in-Expression.node) c.expression_as_statement.ensures
 
 pub string_statement-returns-in-Statement : goal.string_statement-returns-in-Statement
-string_statement-returns-in-Statement t c = search (rules, plain_statement)
+string_statement-returns-in-Statement t c = rw (c.in-Statement.is, plain_statement c.in-Statement.node) c.statement_as_string.ensures
 
 pub string_statement-returns-in-Declaration : goal.string_statement-returns-in-Declaration
-string_statement-returns-in-Declaration t c = search (rules, plain_declaration)
+string_statement-returns-in-Declaration t c = rw (c.in-Declaration.is, plain_declaration c.in-Declaration.node) c.declaration_as_statement.ensures
 
 pub string_statement-returns-in-BindingPattern : goal.string_statement-returns-in-BindingPattern
-string_statement-returns-in-BindingPattern t c = search (rules, plain_binding_pattern)
+string_statement-returns-in-BindingPattern t c = rw (c.in-BindingPattern.is, plain_binding_pattern c.in-BindingPattern.node) c.binding_pattern_as_statement.ensures
 
 pub shape-returns-in-Expression : goal.shape-returns-in-Expression
-shape-returns-in-Expression t c = search (rules, plain_expression)
+shape-returns-in-Expression t c = rw (c.in-Expression.is, plain_expression c.in-Expression.node) c.expression_shape.ensures
 
 pub shape-returns-in-Statement : goal.shape-returns-in-Statement
-shape-returns-in-Statement t c = search (rules, plain_statement)
+shape-returns-in-Statement t c = rw (c.in-Statement.is, plain_statement c.in-Statement.node) c.statement_shape.ensures
 
 pub shape-returns-in-Declaration : goal.shape-returns-in-Declaration
-shape-returns-in-Declaration t c = search (rules, plain_declaration)
+shape-returns-in-Declaration t c = rw (c.in-Declaration.is, plain_declaration c.in-Declaration.node) c.declaration_shape.ensures
 
 pub shape-returns-in-BindingPattern : goal.shape-returns-in-BindingPattern
-shape-returns-in-BindingPattern t c = search (rules, plain_binding_pattern)
+shape-returns-in-BindingPattern t c = rw (c.in-BindingPattern.is, plain_binding_pattern c.in-BindingPattern.node) c.binding_pattern_shape.ensures
 
 pub ends_open-returns-in-Expression : goal.ends_open-returns-in-Expression
-ends_open-returns-in-Expression t c = search (rules, plain_expression)
+ends_open-returns-in-Expression t c = rw (c.in-Expression.is, plain_expression c.in-Expression.node) c.expression_ends_open.ensures
 
 pub ends_open-returns-in-Statement : goal.ends_open-returns-in-Statement
-ends_open-returns-in-Statement t c = search (rules, plain_statement)
+ends_open-returns-in-Statement t c = rw (c.in-Statement.is, plain_statement c.in-Statement.node) c.statement_ends_open.ensures
 
 pub ends_open-returns-in-Declaration : goal.ends_open-returns-in-Declaration
-ends_open-returns-in-Declaration t c = search (rules, plain_declaration)
+ends_open-returns-in-Declaration t c = rw (c.in-Declaration.is, plain_declaration c.in-Declaration.node) c.declaration_ends_open.ensures
 
 pub ends_open-returns-in-BindingPattern : goal.ends_open-returns-in-BindingPattern
-ends_open-returns-in-BindingPattern t c = search (rules, plain_binding_pattern)
+ends_open-returns-in-BindingPattern t c = rw (c.in-BindingPattern.is, plain_binding_pattern c.in-BindingPattern.node) c.binding_pattern_ends_open.ensures

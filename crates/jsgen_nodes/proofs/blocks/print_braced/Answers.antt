@@ -2,7 +2,8 @@ use Rattle.std.proofs.Common.{refl}
 use Rattle.jsgen_model.specs.Items.{◌⊕◌, soft_space}
 use Rattle.jsgen_model.specs.Spell.{spell, filled_braces, braces_end, among_statements}
 use Rattle.jsgen_printer.specs.Printer.{pen_of}
-use Rattle.jsgen_nodes.specs.Place.{pen_after, settings_of}
+use Rattle.jsgen_place.specs.Place.{settings_of}
+use Rattle.jsgen_nodes.specs.Place.{pen_after}
 use Rattle.jsgen_printer.proofs.Stops.{appends, stopped, stops_within, reaches_last, layout_appends}
 use Rattle.jsgen_nodes.proofs.BlockStops.{stops_opening, stops_in_braces, stops_in_braced}
 use Rattle.jsgen_nodes.proofs.blocks.print_braced.Goals as goal

@@ -5,7 +5,7 @@ use Rattle.jsgen_model.specs.Spell.{spell_statements}
 use Rattle.jsgen_printer.specs.Printer.{pen_of}
 use Rattle.jsgen_printer.proofs.Prefixes.{whole_prefix}
 use Rattle.jsgen_printer.proofs.Stops.{reaches_last}
-use Rattle.jsgen_nodes.specs.Place.{settings_of}
+use Rattle.jsgen_place.specs.Place.{settings_of}
 use Rattle.jsgen_nodes.proofs.Braces.{some_braces}
 use Rattle.jsgen_nodes.proofs.blocks.print_braces.Goals as goal
 

@@ -1,6 +1,7 @@
 use Rattle.std.proofs.Common.{refl, sym, ap, ◌∙◌}
 use Rattle.jsgen_nodes.specs.Blocks.{shape_of}
-use Rattle.jsgen_nodes.specs.Place.{pen_after, settings_of}
+use Rattle.jsgen_place.specs.Place.{settings_of}
+use Rattle.jsgen_nodes.specs.Place.{pen_after}
 use Rattle.jsgen_printer.proofs.Stops.{appends, stopped, stops_within, reaches_last}
 use Rattle.jsgen_nodes.proofs.BlockStops.{consequent_is_body}
 use Rattle.jsgen_nodes.proofs.blocks.print_consequent.Goals as goal

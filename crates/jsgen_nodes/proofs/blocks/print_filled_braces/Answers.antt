@@ -2,7 +2,8 @@ use Rattle.std.proofs.Common.{refl, map}
 use Rattle.jsgen_tree.specs.Tree.{trees}
 use Rattle.jsgen_tree.specs.Rows.{in_statement}
 use Rattle.jsgen_model.specs.Spell.{spell_statements}
-use Rattle.jsgen_nodes.specs.Place.{pen_after, settings_of}
+use Rattle.jsgen_place.specs.Place.{settings_of}
+use Rattle.jsgen_nodes.specs.Place.{pen_after}
 use Rattle.jsgen_printer.proofs.Stops.{appends, stopped, reaches_last}
 use Rattle.jsgen_nodes.proofs.BlockStops.{stops_opening, stops_in_braces}
 use Rattle.jsgen_nodes.proofs.blocks.print_filled_braces.Goals as goal

@@ -4,7 +4,8 @@ use Rattle.jsgen_tree.specs.Tree.{optional}
 use Rattle.jsgen_tree.specs.Rows.{in_expression, in_statement}
 use Rattle.jsgen_model.specs.Items.{◌⊕◌}
 use Rattle.jsgen_model.specs.Spell.{spell, spell_alternate, is_given, in_brackets, among_statements}
-use Rattle.jsgen_nodes.specs.Place.{pen_after, settings_of}
+use Rattle.jsgen_place.specs.Place.{settings_of}
+use Rattle.jsgen_nodes.specs.Place.{pen_after}
 use Rattle.jsgen_nodes.specs.Blocks.{consequent_of}
 use Rattle.jsgen_printer.proofs.Stops.{appends, stopped, reaches_last}
 use Rattle.jsgen_nodes.proofs.BlockStops.{stops_in_test, stops_in_consequent}

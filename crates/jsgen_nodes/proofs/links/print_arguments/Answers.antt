@@ -7,7 +7,8 @@ use Rattle.jsgen_model.specs.Layout.{layout}
 use Rattle.jsgen_model.specs.Spell.{spell_list, in_brackets, among_statements}
 use Rattle.jsgen_printer.specs.Printer.{pen_of}
 use Rattle.jsgen_printer.proofs.Stops.{appends, stopped, stops_within, reaches_last}
-use Rattle.jsgen_nodes.specs.Place.{pen_after, settings_of}
+use Rattle.jsgen_place.specs.Place.{settings_of}
+use Rattle.jsgen_nodes.specs.Place.{pen_after}
 use Rattle.jsgen_nodes.proofs.Arguments.{stops_at_first}
 use Rattle.jsgen_nodes.proofs.links.print_arguments.Goals.{in-Some+in_ok-print_argument+in_ok-print_more_arguments, in_default}
 use Rattle.jsgen_nodes.proofs.links.print_arguments.Goals as goal

@@ -6,7 +6,7 @@ use Rattle.jsgen_model.specs.Layout.{layout}
 use Rattle.jsgen_model.specs.Spell.{spell_more, in_brackets, among_statements}
 use Rattle.jsgen_model.specs.Printing.{IsPrefix}
 use Rattle.jsgen_printer.specs.Printer.{pen_of}
-use Rattle.jsgen_nodes.specs.Place.{settings_of}
+use Rattle.jsgen_place.specs.Place.{settings_of}
 use Rattle.jsgen_nodes.proofs.links.print_more_arguments.Given as goal
 
 -- the arguments left, after the code so far, give the whole text, and the code before is kept

@@ -7,7 +7,8 @@ use Rattle.jsgen_model.specs.Spell.{spell, spell_body, spell_statements, first_s
 use Rattle.jsgen_printer.specs.Printer.{pen_of}
 use Rattle.jsgen_printer.proofs.Prefixes.{whole_prefix}
 use Rattle.jsgen_printer.proofs.Stops.{stopped, stops_first}
-use Rattle.jsgen_nodes.specs.Place.{pen_after, settings_of}
+use Rattle.jsgen_place.specs.Place.{settings_of}
+use Rattle.jsgen_nodes.specs.Place.{pen_after}
 use Rattle.jsgen_nodes.proofs.StatementStops.{part_stopped, last_reaches}
 use Rattle.jsgen_nodes.proofs.statements.print_body.Goals as goal
 

@@ -9,7 +9,8 @@ use Rattle.jsgen_model.specs.Spell.{spell, spell_list, spell_more, behind}
 use Rattle.jsgen_printer.specs.Printer.{pen_of}
 use Rattle.jsgen_printer.proofs.Prefixes.{whole_prefix}
 use Rattle.jsgen_printer.proofs.Stops.{stopped, stops_first, stops_second}
-use Rattle.jsgen_nodes.specs.Place.{pen_after, place_of}
+use Rattle.jsgen_place.specs.Place.{place_of}
+use Rattle.jsgen_nodes.specs.Place.{pen_after}
 use Rattle.jsgen_nodes.proofs.StatementStops.{last_reaches, part_stopped, spaced_row, spaced_stopped}
 use Rattle.jsgen_nodes.proofs.statements.print_declarators.Goals as goal
 

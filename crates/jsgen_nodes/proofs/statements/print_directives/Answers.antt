@@ -5,7 +5,8 @@ use Rattle.jsgen_tree.specs.Rows.{directive_row}
 use Rattle.jsgen_model.specs.Spell.{spell, spell_directives, among_statements}
 use Rattle.jsgen_printer.specs.Printer.{pen_of}
 use Rattle.jsgen_printer.proofs.Stops.{stopped, stops_first}
-use Rattle.jsgen_nodes.specs.Place.{pen_after, settings_of}
+use Rattle.jsgen_place.specs.Place.{settings_of}
+use Rattle.jsgen_nodes.specs.Place.{pen_after}
 use Rattle.jsgen_nodes.proofs.StatementStops.{turn_left, part_stopped, turn_done}
 use Rattle.jsgen_nodes.proofs.statements.print_directives.Goals as goal
 

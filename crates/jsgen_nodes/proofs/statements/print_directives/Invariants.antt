@@ -5,7 +5,7 @@ use Rattle.jsgen_model.specs.Layout.{layout}
 use Rattle.jsgen_model.specs.Spell.{spell_directives}
 use Rattle.jsgen_model.specs.Printing.{IsPrefix}
 use Rattle.jsgen_printer.specs.Printer.{pen_of}
-use Rattle.jsgen_nodes.specs.Place.{settings_of}
+use Rattle.jsgen_place.specs.Place.{settings_of}
 use Rattle.jsgen_nodes.proofs.statements.print_directives.Given as goal
 
 -- the code goes on from the code before, and the directives left, after it, give the whole text

@@ -2,7 +2,7 @@ use Rattle.std.proofs.Common.{refl}
 use Rattle.jsgen_syntax.specs.Units.{js_units}
 use Rattle.jsgen_model.specs.Items.{◌⊕◌, due_semicolon, indentation, first_string, statement_end}
 use Rattle.jsgen_printer.specs.Printer.{pen_of}
-use Rattle.jsgen_printer.proofs.Stops.{appends, stopped, stops_within, stops_first, stops_second}
+use Rattle.jsgen_printer.proofs.Stops.{appends, stopped, stops_within, stops_first, stops_second, reaches_last, layout_appends}
 use Rattle.jsgen_nodes.specs.Place.{pen_after}
 use Rattle.jsgen_nodes.proofs.StatementStops.{last_reaches}
 use Rattle.jsgen_nodes.proofs.statements.print_first_statement.Goals as goal
@@ -29,3 +29,9 @@ returns-in_ok-print_first_string-in-Some g c =
     let text = first_string (js_units c.in-Some.value.now) in
     let before = rw (c.in_ok-print_indentation-in-Some.ensures, c.in_ok-print_due_semicolon.ensures) at c.in_ok-print_first_string-in-Some.ensures in
     rw (← c.in-Some.ensures) (last_reaches c.print_statement_end.result (due_semicolon ⊕ (indentation ⊕ text)) statement_end (pen_of c.args.p.now) (pen_of c.print_first_string.new.self) (pen_of c.print_statement_end.new.self) before refl c.print_statement_end.ensures)
+
+pub returns-in-None : goal.returns-in-None
+unfolding pen_after
+returns-in-None g c =
+    let before = pen_of c.args.p.now in
+    rw (← c.in-None.ensures) (reaches_last _ before _ _ _ _ (rw (c.among_statements.ensures, c.in_ok-print_due_semicolon.ensures) at c.print.ensures) (layout_appends due_semicolon before) refl)

@@ -6,7 +6,7 @@ use Rattle.jsgen_model.specs.Layout.{layout}
 use Rattle.jsgen_model.specs.Spell.{spell_more, behind}
 use Rattle.jsgen_model.specs.Printing.{IsPrefix}
 use Rattle.jsgen_printer.specs.Printer.{pen_of}
-use Rattle.jsgen_nodes.specs.Place.{place_of}
+use Rattle.jsgen_place.specs.Place.{place_of}
 use Rattle.jsgen_nodes.proofs.statements.print_more_declarators.Given as goal
 
 -- the code goes on from the code before, and the declarators left, after it, give the whole text

@@ -7,7 +7,8 @@ use Rattle.jsgen_model.specs.Items.{◌⊕◌, word, soft_space, indentation, st
 use Rattle.jsgen_model.specs.Spell.{spell_list, behind}
 use Rattle.jsgen_printer.specs.Printer.{pen_of}
 use Rattle.jsgen_printer.proofs.Stops.{stopped, stops_first, stops_second}
-use Rattle.jsgen_nodes.specs.Place.{pen_after, place_of}
+use Rattle.jsgen_place.specs.Place.{place_of}
+use Rattle.jsgen_nodes.specs.Place.{pen_after}
 use Rattle.jsgen_nodes.proofs.StatementStops.{last_reaches}
 use Rattle.jsgen_nodes.proofs.statements.print_variable_declaration.Goals as goal
 

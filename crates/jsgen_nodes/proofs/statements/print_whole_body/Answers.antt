@@ -5,7 +5,7 @@ use Rattle.jsgen_model.specs.Items.{due_semicolon}
 use Rattle.jsgen_model.specs.Spell.{spell_body}
 use Rattle.jsgen_printer.specs.Printer.{pen_of}
 use Rattle.jsgen_printer.proofs.Stops.{stopped, stops_first}
-use Rattle.jsgen_nodes.specs.Place.{settings_of}
+use Rattle.jsgen_place.specs.Place.{settings_of}
 use Rattle.jsgen_nodes.proofs.StatementStops.{last_reaches}
 use Rattle.jsgen_nodes.proofs.statements.print_whole_body.Goals as goal
 

@@ -2,8 +2,8 @@ use Rattle.std.proofs.Common.{◌≡◌, true, not, ◌&&◌, nat_le, ap, sym, �
 use Rattle.jsgen_syntax.specs.Precedence.{rank}
 use Rattle.jsgen_syntax.specs.Operator.{logical_level}
 use Rattle.jsgen_model.specs.Spell.{wraps, goes_on}
-use Rattle.jsgen_nodes.specs.Place.{place_of}
-use Rattle.jsgen_nodes.proofs.place.Place.wraps_logical.Goals as goal
+use Rattle.jsgen_place.specs.Place.{place_of}
+use Rattle.jsgen_place.proofs.place.Place.wraps_logical.Goals as goal
 
 pub returns-then-wraps : goal.returns-then-wraps
 returns-then-wraps c = λ pen.

@@ -3,7 +3,7 @@ ghost use Rattle.std.specs.Prelude.{◌≡◌, nat_le, false, true};
 ghost use Rattle.jsgen_syntax.specs.Precedence.{rank};
 ghost use Rattle.jsgen_model.specs.Layout.{Pen};
 ghost use Rattle.jsgen_model.specs.Spell.{is_forbidden, binary_wraps, goes_on, logical_wraps, called, call_wraps};
-ghost use Rattle.jsgen_nodes.specs.Place.{place_of, place_within};
+ghost use Rattle.jsgen_place.specs.Place.{place_of, place_within};
 
 use jsgen_syntax::{BinaryOperator, GetPrecedence, LogicalOperator, Precedence};
 

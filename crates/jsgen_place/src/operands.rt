@@ -1,0 +1,80 @@
+// What an operation asks of its operands.
+ghost use Rattle.std.specs.Prelude.{◌≡◌};
+ghost use Rattle.jsgen_syntax.specs.declared.operator.BinaryOperator.TheVariants as operators;
+ghost use Rattle.jsgen_syntax.specs.declared.operator.LogicalOperator.TheVariants as logical_operators;
+ghost use Rattle.jsgen_tree.specs.Tree.{Tree};
+ghost use Rattle.jsgen_tree.specs.Inside.{without_parentheses};
+ghost use Rattle.jsgen_model.specs.Spell.{left_level, right_level, unmixed};
+ghost use Rattle.jsgen_place.specs.Place.{operand_of};
+
+use jsgen_syntax::{BinaryOperator, GetPrecedence, LogicalOperator, Precedence};
+
+/// What matters of an operand, without the parentheses that it may have round it.
+#[derive(Clone, Copy)]
+pub struct Operand {
+    pub is_number: bool,
+    /// An operation by `||` or `&&`.
+    pub mixes: bool,
+}
+
+impl Operand {
+    pub const OTHER: Operand = Operand {
+        is_number: false,
+        mixes: false,
+    };
+
+    pub const NUMBER: Operand = Operand {
+        is_number: true,
+        mixes: false,
+    };
+}
+
+/// Just below the operator's own; but of `**`, which groups to the right, its own, and for a number a call's.
+pub fn left_level(operator: BinaryOperator, left: Operand) -> Precedence
+    ensures { (t : Tree) → left ≡ operand_of (without_parentheses t) → result ≡ left_level operator t }
+{
+    match operator {
+        BinaryOperator::Exponential => base_level(left),
+        _ => operator.lower_precedence(),
+    }
+}
+
+fn base_level(left: Operand) -> Precedence
+    ensures { (t : Tree) → left ≡ operand_of (without_parentheses t) → result ≡ left_level operators.Exponential t }
+{
+    if left.is_number {
+        Precedence::Call
+    } else {
+        Precedence::Exponentiation
+    }
+}
+
+/// The operator's own; but of `**`, which groups to the right, the one below.
+pub fn right_level(operator: BinaryOperator) -> Precedence
+    ensures { result ≡ right_level operator }
+{
+    match operator {
+        BinaryOperator::Exponential => Precedence::Multiply,
+        _ => operator.precedence(),
+    }
+}
+
+/// The level of an operand of `??` is raised, so that `||` and `&&` stand in parentheses there (ECMA-262, 13.13).
+pub fn unmixed(operator: LogicalOperator, operand: Operand, level: Precedence) -> Precedence
+    ensures { (t : Tree) → operand ≡ operand_of (without_parentheses t) → result ≡ unmixed operator t level }
+{
+    match operator {
+        LogicalOperator::Coalesce => coalesced(operand, level),
+        LogicalOperator::Or | LogicalOperator::And => level,
+    }
+}
+
+fn coalesced(operand: Operand, level: Precedence) -> Precedence
+    ensures { (t : Tree) → operand ≡ operand_of (without_parentheses t) → result ≡ unmixed logical_operators.Coalesce t level }
+{
+    if operand.mixes {
+        Precedence::Prefix
+    } else {
+        level
+    }
+}
