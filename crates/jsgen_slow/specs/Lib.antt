@@ -6,3 +6,4 @@ pub mod Samples
 pub mod NumberSamples
 pub mod Form
 pub mod Values
+pub mod Only

@@ -1,74 +1,37 @@
 // Normal forms as plain data.
 use jsgen_syntax::{BinaryOperator, JsStr, LogicalOperator};
-use jsgen_tree::VariableDeclarationKind;
+use jsgen_tree::{NodeType, VariableDeclarationKind};
 
-/// A program in its normal form, or a part of one. Spans, the source and the kind of a program have no place in it.
+/// A program in its normal form, or a node of one. Spans, the source and the kind of a program have no place in it.
 #[derive(Drop, PartialEq, Eq)]
-pub enum Form {
-    Program {
-        directives: Vec<Form>,
-        body: Vec<Form>,
-    },
-    /// By what the raw text stands for: nothing where it is no spelling of a string.
-    Directive {
-        value: JsStr,
-    },
-    ExpressionStatement {
-        expression: Box<Form>,
-    },
-    VariableDeclaration {
-        kind: VariableDeclarationKind,
-        declarations: Vec<Form>,
-    },
-    VariableDeclarator {
-        id: Box<Form>,
-        init: Option<Box<Form>>,
-    },
-    BindingIdentifier {
-        name: String,
-    },
-    IdentifierReference {
-        name: String,
-    },
-    NumericLiteral {
-        digits: u128,
-    },
-    StringLiteral {
-        value: JsStr,
-    },
-    BinaryExpression {
-        operator: BinaryOperator,
-        left: Box<Form>,
-        right: Box<Form>,
-    },
-    /// The operands of one logical operator, from left to right.
-    Chain {
-        operator: LogicalOperator,
-        operands: Vec<Form>,
-    },
-    IdentifierName {
-        name: String,
-    },
-    StaticMemberExpression {
-        object: Box<Form>,
-        property: Box<Form>,
-    },
-    ComputedMemberExpression {
-        object: Box<Form>,
-        expression: Box<Form>,
-    },
-    CallExpression {
-        callee: Box<Form>,
-        arguments: Vec<Form>,
-    },
-    BlockStatement {
-        body: Vec<Form>,
-    },
-    /// A consequent that ends in an `if` without `else` has no braces round it.
-    IfStatement {
-        test: Box<Form>,
-        consequent: Box<Form>,
-        alternate: Option<Box<Form>>,
-    },
-    EmptyStatement,
+pub struct Form {
+    pub node_type: NodeType,
+    /// One for each field that is no child, in the order of the format.
+    pub values: Vec<Value>,
+    /// One for each field of children, in the order of the format.
+    pub slots: Vec<Slot<Form>>,
+}
+
+/// A value that a node holds itself.
+#[derive(Drop, PartialEq, Eq)]
+pub enum Value {
+    /// Of a field that doesn't count.
+    Nothing,
+    Text(String),
+    Units(JsStr),
+    /// A whole number, by the text of its digits.
+    Digits(u128),
+    /// That a number is held by its text.
+    ByText,
+    DeclarationKind(VariableDeclarationKind),
+    BinaryOperator(BinaryOperator),
+    LogicalOperator(LogicalOperator),
+}
+
+/// What a field of children holds.
+#[derive(Drop, PartialEq, Eq)]
+pub enum Slot<F> {
+    One(F),
+    Maybe(Option<F>),
+    Many(Vec<F>),
 }

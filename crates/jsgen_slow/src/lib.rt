@@ -12,19 +12,22 @@ ghost use Rattle.jsgen_slow.specs.Law.{HasNoTokens};
 ghost use Rattle.jsgen_slow.specs.Samples.{GrammarSamples, NormalSamples};
 ghost use Rattle.jsgen_slow.specs.NumberSamples.{NumberSamples};
 
+mod braces;
+mod chain;
 mod characters;
 mod directive;
 mod form;
 mod normal;
 mod punctuator;
 mod row;
+mod shape;
 mod string;
 mod token;
 mod word;
 
 use characters::characters_of;
 pub use directive::directive_value_of;
-pub use form::Form;
+pub use form::{Form, Slot, Value};
 use jsgen_syntax::Memory;
 use jsgen_tree::Program;
 use normal::program_form;

@@ -1,23 +1,26 @@
 // The normal form of each type of node.
 ghost use Rattle.std.specs.Prelude.{◌≡◌, ◌∷◌, [], map, option_map, IfOk};
+ghost use Rattle.jsgen_tree.specs.Atom.{no_value, text};
 ghost use Rattle.jsgen_tree.specs.Tree.{trees, optional};
-ghost use Rattle.jsgen_tree.specs.Nodes.{block};
-ghost use Rattle.jsgen_tree.specs.Rows.{program_row, directive_row, expression_statement_row, block_statement_row, if_statement_row, empty_statement_row, variable_declaration_row, variable_declarator_row, binding_identifier_row, identifier_reference_row, numeric_literal_row, string_literal_row, parenthesized_expression_row, binary_expression_row, logical_expression_row, identifier_name_row, static_member_expression_row, computed_member_expression_row, call_expression_row, expression_plain, statement_plain, declaration_plain, binding_pattern_plain, in_expression, in_statement, in_argument};
+ghost use Rattle.jsgen_tree.specs.Characters.{characters};
+ghost use Rattle.jsgen_tree.specs.Rows.{program_row, directive_row, if_statement_row, variable_declaration_row, variable_declarator_row, numeric_literal_row, string_literal_row, logical_expression_row, identifier_name_row, static_member_expression_row, call_expression_row, expression_plain, statement_plain, declaration_plain, binding_pattern_plain, in_expression, in_statement, in_argument};
 ghost use Rattle.jsgen_tree.specs.Plain.{node_plain};
-ghost use Rattle.jsgen_tree.specs.Inside.{ends_open};
-ghost use Rattle.jsgen_model.specs.Normal.{nothing_of, normal, normal_maybe, normal_trees, joined, links, same_operator, unbraced};
-ghost use Rattle.jsgen_slow.specs.Form.{form_plain, forms_plain, optional_plain};
+ghost use Rattle.jsgen_model.specs.Normal.{normal, normal_maybe, normal_trees, unbraced};
+ghost use Rattle.jsgen_slow.specs.Form.{form_plain, forms_plain, optional_plain, value_plain};
+ghost use Rattle.jsgen_slow.specs.declared.form.Value.TheVariants.{Nothing};
 
+use crate::braces::unbraced;
+use crate::chain::{joined, links};
 use crate::characters::characters_of;
 use crate::directive::directive_units;
-use crate::form::Form;
-use jsgen_syntax::{JsStr, LogicalOperator, Memory};
+use crate::form::{Form, Slot, Value};
+use crate::shape::{leaf, list, pair, single};
+use jsgen_syntax::{JsStr, Memory};
 use jsgen_tree::{
-    Argument, BinaryExpression, BindingIdentifier, BindingPattern, BlockStatement, CallExpression,
-    ComputedMemberExpression, Declaration, Directive, EmptyStatement, Expression, ExpressionNode,
-    ExpressionStatement, IdentifierName, IdentifierReference, IfStatement, LogicalExpression, Node,
-    NumericLiteral, NumericValue, ParenthesizedExpression, Program, Statement, StatementNode,
-    StaticMemberExpression, StringLiteral, VariableDeclaration, VariableDeclarator,
+    Argument, BindingPattern, CallExpression, Declaration, Directive, Expression, ExpressionNode,
+    IdentifierName, IfStatement, LogicalExpression, Node, NodeType, NumericLiteral, NumericValue,
+    Program, Statement, StatementNode, StaticMemberExpression, StringLiteral, VariableDeclaration,
+    VariableDeclarator,
 };
 use std::alloc::Global;
 
@@ -31,12 +34,40 @@ pub trait NormalNode {
         ensures { IfOk result (λ f. form_plain f ≡ normal (plain self.now)) };
 }
 
+// ---- values
+
+// Of a row with one field, which doesn't count.
+fn nothing(alloc: Global) -> Result<Vec<Value>, Memory>
+    ensures { IfOk result (λ v. v.items ≡ Nothing ∷ []) }
+{
+    Ok(vec![in alloc; Value::Nothing]?)
+}
+
+// A name, without the number by which a table knows it.
+fn unnumbered(alloc: Global, name: &String) -> Result<Vec<Value>, Memory>
+    ensures { IfOk result (λ v. map value_plain v.items ≡ text (characters name.now) ∷ no_value ∷ []) }
+{
+    let name = name.clone()?;
+    Ok(vec![in alloc; Value::Text(name), Value::Nothing]?)
+}
+
+// ---- programs and statements
+
+#[tactic(auto, using(crate::proofs::Forms::forms))]
 pub fn program_form<N: NormalNode>(alloc: Global, node: &Program<N>) -> Result<Form, Memory>
     ensures { IfOk result (λ f. form_plain f ≡ normal (program_row N.plain node.now)) }
 {
-    Ok(Form::Program {
-        directives: directive_forms(alloc, &node.directives)?,
-        body: statement_forms(alloc, &node.body)?,
+    let directives = directive_forms(alloc, &node.directives)?;
+    let body = statement_forms(alloc, &node.body)?;
+    Ok(Form {
+        node_type: NodeType::Program,
+        values: vec![in alloc;
+            Value::Nothing,
+            Value::Nothing,
+            Value::Nothing,
+            Value::Nothing,
+        ]?,
+        slots: vec![in alloc; Slot::Many(directives), Slot::Many(body)]?,
     })
 }
 
@@ -50,15 +81,13 @@ fn directive_forms(alloc: Global, directives: &[Directive]) -> Result<Vec<Form>,
     Ok(forms)
 }
 
-#[tactic(auto, using(crate::proofs::Forms::leaves))]
 fn directive_form(alloc: Global, node: &Directive) -> Result<Form, Memory>
     ensures { IfOk result (λ f. form_plain f ≡ normal (directive_row node.now)) }
 {
     let raw = characters_of(alloc, &node.directive)?;
     let units = directive_units(alloc, &raw)?;
-    Ok(Form::Directive {
-        value: JsStr::from_units(alloc, &units)?,
-    })
+    let value = Value::Units(JsStr::from_units(alloc, &units)?);
+    Ok(leaf(alloc, NodeType::Directive, vec![in alloc; value]?))
 }
 
 fn statement_forms<N: NormalNode>(
@@ -74,109 +103,44 @@ fn statement_forms<N: NormalNode>(
     Ok(forms)
 }
 
-fn expression_statement_form<N: NormalNode>(
-    alloc: Global,
-    node: &ExpressionStatement<N>,
-) -> Result<Form, Memory>
-    ensures { IfOk result (λ f. form_plain f ≡ normal (expression_statement_row N.plain node.now)) }
-{
-    Ok(Form::ExpressionStatement {
-        expression: Box::new(alloc, node.expression.get().normal_form(alloc)?)?,
-    })
-}
-
-fn block_statement_form<N: NormalNode>(
-    alloc: Global,
-    node: &BlockStatement<N>,
-) -> Result<Form, Memory>
-    ensures { IfOk result (λ f. form_plain f ≡ normal (block_statement_row N.plain node.now)) }
-{
-    Ok(Form::BlockStatement {
-        body: statement_forms(alloc, &node.body)?,
-    })
-}
-
+#[tactic(auto, using(crate::proofs::Forms::forms))]
 fn if_statement_form<N: NormalNode>(alloc: Global, node: &IfStatement<N>) -> Result<Form, Memory>
     ensures { IfOk result (λ f. form_plain f ≡ normal (if_statement_row N.plain node.now)) }
 {
-    let test = Box::new(alloc, node.test.get().normal_form(alloc)?)?;
+    let test = node.test.get().normal_form(alloc)?;
     let consequent = consequent_form(alloc, &node.consequent)?;
     let alternate = alternate_form(alloc, &node.alternate)?;
-    Ok(Form::IfStatement {
-        test,
-        consequent,
-        alternate,
+    Ok(Form {
+        node_type: NodeType::IfStatement,
+        values: Vec::new(alloc),
+        slots: vec![in alloc;
+            Slot::One(test),
+            Slot::One(consequent),
+            Slot::Maybe(alternate),
+        ]?,
     })
 }
 
 fn consequent_form<N: NormalNode>(
     alloc: Global,
     consequent: &StatementNode<N>,
-) -> Result<Box<Form>, Memory>
-    ensures { IfOk result (λ b. form_plain b.value ≡ unbraced (normal (in_statement N.plain consequent.now))) }
+) -> Result<Form, Memory>
+    ensures { IfOk result (λ f. form_plain f ≡ unbraced (normal (in_statement N.plain consequent.now))) }
 {
     let form = consequent.get().normal_form(alloc)?;
-    Ok(Box::new(alloc, unbraced(form))?)
+    unbraced(alloc, form)
 }
 
 fn alternate_form<N: NormalNode>(
     alloc: Global,
     alternate: &Option<StatementNode<N>>,
-) -> Result<Option<Box<Form>>, Memory>
+) -> Result<Option<Form>, Memory>
     ensures { IfOk result (λ o. optional_plain o ≡ normal_maybe (optional (option_map (in_statement N.plain) alternate.now))) }
 {
     match alternate {
-        Some(alternate) => {
-            let form = alternate.get().normal_form(alloc)?;
-            Ok(Some(Box::new(alloc, form)?))
-        }
+        Some(alternate) => Ok(Some(alternate.get().normal_form(alloc)?)),
         None => Ok(None),
     }
-}
-
-// A block round one statement that ends in an `if` without `else` is that statement.
-fn unbraced(form: Form) -> Form
-    ensures { form_plain result ≡ unbraced (form_plain form) }
-{
-    match form {
-        Form::BlockStatement { body } => unbraced_block(body),
-        other => other,
-    }
-}
-
-fn unbraced_block(mut body: Vec<Form>) -> Form
-    ensures { form_plain result ≡ unbraced (block (nothing_of 0) (forms_plain body.items)) }
-{
-    if body.len() != 1 {
-        return Form::BlockStatement { body };
-    }
-    if ends_open(&body[0]) {
-        body.remove(0)
-    } else {
-        Form::BlockStatement { body }
-    }
-}
-
-// Whether the statement ends in an `if` without `else`.
-fn ends_open(form: &Form) -> bool
-    ensures { result ≡ ends_open (form_plain form.now) }
-{
-    match form {
-        Form::IfStatement { alternate, .. } => {
-            match alternate {
-                Some(alternate) => ends_open(alternate),
-                None => true,
-            }
-        }
-        _ => false,
-    }
-}
-
-#[tactic(auto, using(crate::proofs::Forms::leaves))]
-fn empty_statement_form(_node: &EmptyStatement) -> Form
-    ensures { form_plain result ≡ normal (empty_statement_row _node.now) }
-{
-    Form::EmptyStatement
 }
 
 fn variable_declaration_form<N: NormalNode>(
@@ -185,10 +149,9 @@ fn variable_declaration_form<N: NormalNode>(
 ) -> Result<Form, Memory>
     ensures { IfOk result (λ f. form_plain f ≡ normal (variable_declaration_row N.plain node.now)) }
 {
-    Ok(Form::VariableDeclaration {
-        kind: node.kind,
-        declarations: declarator_forms(alloc, &node.declarations)?,
-    })
+    let declarations = declarator_forms(alloc, &node.declarations)?;
+    let values = vec![in alloc; Value::DeclarationKind(node.kind), Value::Nothing]?;
+    list(alloc, NodeType::VariableDeclaration, values, declarations)
 }
 
 fn declarator_forms<N: NormalNode>(
@@ -204,88 +167,51 @@ fn declarator_forms<N: NormalNode>(
     Ok(forms)
 }
 
+#[tactic(auto, using(crate::proofs::Forms::forms))]
 fn variable_declarator_form<N: NormalNode>(
     alloc: Global,
     node: &VariableDeclarator<N>,
 ) -> Result<Form, Memory>
     ensures { IfOk result (λ f. form_plain f ≡ normal (variable_declarator_row N.plain node.now)) }
 {
-    let id = Box::new(alloc, node.id.get().normal_form(alloc)?)?;
+    let id = node.id.get().normal_form(alloc)?;
     let init = init_form(alloc, &node.init)?;
-    Ok(Form::VariableDeclarator { id, init })
+    Ok(Form {
+        node_type: NodeType::VariableDeclarator,
+        values: nothing(alloc)?,
+        slots: vec![in alloc; Slot::One(id), Slot::Maybe(init)]?,
+    })
 }
 
 fn init_form<N: NormalNode>(
     alloc: Global,
     init: &Option<ExpressionNode<N>>,
-) -> Result<Option<Box<Form>>, Memory>
+) -> Result<Option<Form>, Memory>
     ensures { IfOk result (λ o. optional_plain o ≡ normal_maybe (optional (option_map (in_expression N.plain) init.now))) }
 {
     match init {
-        Some(init) => {
-            let form = init.get().normal_form(alloc)?;
-            Ok(Some(Box::new(alloc, form)?))
-        }
+        Some(init) => Ok(Some(init.get().normal_form(alloc)?)),
         None => Ok(None),
     }
 }
 
-#[tactic(auto, using(crate::proofs::Forms::leaves))]
-fn binding_identifier_form(node: &BindingIdentifier) -> Result<Form, Memory>
-    ensures { IfOk result (λ f. form_plain f ≡ normal (binding_identifier_row node.now)) }
+// ---- expressions
+
+fn numeric_literal_form(alloc: Global, node: &NumericLiteral) -> Result<Form, Memory>
+    ensures { IfOk result (λ f. form_plain f ≡ normal (numeric_literal_row node.now)) }
 {
-    Ok(Form::BindingIdentifier {
-        name: node.name.clone()?,
-    })
+    let digits = match node.value {
+        NumericValue::Whole { digits } => Value::Digits(digits),
+    };
+    let values = vec![in alloc; Value::ByText, Value::Nothing, Value::Nothing, digits]?;
+    Ok(leaf(alloc, NodeType::NumericLiteral, values))
 }
 
-#[tactic(auto, using(crate::proofs::Forms::leaves))]
-fn identifier_reference_form(node: &IdentifierReference) -> Result<Form, Memory>
-    ensures { IfOk result (λ f. form_plain f ≡ normal (identifier_reference_row node.now)) }
-{
-    Ok(Form::IdentifierReference {
-        name: node.name.clone()?,
-    })
-}
-
-#[tactic(auto, using(crate::proofs::Forms::leaves))]
-fn numeric_literal_form(node: &NumericLiteral) -> Form
-    ensures { form_plain result ≡ normal (numeric_literal_row node.now) }
-{
-    match node.value {
-        NumericValue::Whole { digits } => Form::NumericLiteral { digits },
-    }
-}
-
-#[tactic(auto, using(crate::proofs::Forms::leaves))]
-fn string_literal_form(node: &StringLiteral) -> Result<Form, Memory>
+fn string_literal_form(alloc: Global, node: &StringLiteral) -> Result<Form, Memory>
     ensures { IfOk result (λ f. form_plain f ≡ normal (string_literal_row node.now)) }
 {
-    Ok(Form::StringLiteral {
-        value: node.value.try_clone()?,
-    })
-}
-
-fn parenthesized_expression_form<N: NormalNode>(
-    alloc: Global,
-    node: &ParenthesizedExpression<N>,
-) -> Result<Form, Memory>
-    ensures { IfOk result (λ f. form_plain f ≡ normal (parenthesized_expression_row N.plain node.now)) }
-{
-    node.expression.get().normal_form(alloc)
-}
-
-fn binary_expression_form<N: NormalNode>(
-    alloc: Global,
-    node: &BinaryExpression<N>,
-) -> Result<Form, Memory>
-    ensures { IfOk result (λ f. form_plain f ≡ normal (binary_expression_row N.plain node.now)) }
-{
-    Ok(Form::BinaryExpression {
-        operator: node.operator,
-        left: Box::new(alloc, node.left.get().normal_form(alloc)?)?,
-        right: Box::new(alloc, node.right.get().normal_form(alloc)?)?,
-    })
+    let value = Value::Units(node.value.try_clone()?);
+    Ok(leaf(alloc, NodeType::StringLiteral, vec![in alloc; value]?))
 }
 
 fn logical_expression_form<N: NormalNode>(
@@ -298,105 +224,51 @@ fn logical_expression_form<N: NormalNode>(
     let right = node.right.get().normal_form(alloc)?;
     let left = links(alloc, node.operator, left)?;
     let right = links(alloc, node.operator, right)?;
-    Ok(Form::Chain {
-        operator: node.operator,
-        operands: joined(left, right)?,
-    })
+    let values = vec![in alloc; Value::LogicalOperator(node.operator)]?;
+    list(
+        alloc,
+        NodeType::LogicalExpression,
+        values,
+        joined(left, right)?,
+    )
 }
 
-// What an operand adds to a chain of the operator.
-fn links(alloc: Global, operator: LogicalOperator, operand: Form) -> Result<Vec<Form>, Memory>
-    ensures { IfOk result (λ fs. forms_plain fs.items ≡ links operator (form_plain operand)) }
-{
-    match operand {
-        Form::Chain {
-            operator: own,
-            operands,
-        } => {
-            if is_same(operator, own) {
-                Ok(operands)
-            } else {
-                alone(
-                    alloc,
-                    Form::Chain {
-                        operator: own,
-                        operands,
-                    },
-                )
-            }
-        }
-        other => alone(alloc, other),
-    }
-}
-
-fn alone(alloc: Global, form: Form) -> Result<Vec<Form>, Memory>
-    ensures { IfOk result (λ fs. fs.items ≡ form ∷ []) }
-{
-    let mut forms = Vec::new(alloc);
-    forms.push(form)?;
-    Ok(forms)
-}
-
-fn is_same(left: LogicalOperator, right: LogicalOperator) -> bool
-    ensures { result ≡ same_operator left right }
-{
-    match (left, right) {
-        (LogicalOperator::Or, LogicalOperator::Or) => true,
-        (LogicalOperator::And, LogicalOperator::And) => true,
-        (LogicalOperator::Coalesce, LogicalOperator::Coalesce) => true,
-        _ => false,
-    }
-}
-
-fn joined(mut left: Vec<Form>, mut right: Vec<Form>) -> Result<Vec<Form>, Memory>
-    ensures { IfOk result (λ fs. forms_plain fs.items ≡ joined (forms_plain left.items) (forms_plain right.items)) }
-{
-    left.append(&mut right)?;
-    Ok(left)
-}
-
-#[tactic(auto, using(crate::proofs::Forms::leaves))]
-fn identifier_name_form(node: &IdentifierName) -> Result<Form, Memory>
+fn identifier_name_form(alloc: Global, node: &IdentifierName) -> Result<Form, Memory>
     ensures { IfOk result (λ f. form_plain f ≡ normal (identifier_name_row node.now)) }
 {
-    Ok(Form::IdentifierName {
-        name: node.name.clone()?,
-    })
+    let name = Value::Text(node.name.clone()?);
+    Ok(leaf(alloc, NodeType::IdentifierName, vec![in alloc; name]?))
 }
 
+#[tactic(auto, using(crate::proofs::Forms::forms))]
 fn static_member_expression_form<N: NormalNode>(
     alloc: Global,
     node: &StaticMemberExpression<N>,
 ) -> Result<Form, Memory>
     ensures { IfOk result (λ f. form_plain f ≡ normal (static_member_expression_row N.plain node.now)) }
 {
-    Ok(Form::StaticMemberExpression {
-        object: Box::new(alloc, node.object.get().normal_form(alloc)?)?,
-        property: Box::new(alloc, identifier_name_form(&node.property)?)?,
+    let object = node.object.get().normal_form(alloc)?;
+    let property = identifier_name_form(alloc, &node.property)?;
+    Ok(Form {
+        node_type: NodeType::StaticMemberExpression,
+        values: nothing(alloc)?,
+        slots: vec![in alloc; Slot::One(object), Slot::One(property)]?,
     })
 }
 
-fn computed_member_expression_form<N: NormalNode>(
-    alloc: Global,
-    node: &ComputedMemberExpression<N>,
-) -> Result<Form, Memory>
-    ensures { IfOk result (λ f. form_plain f ≡ normal (computed_member_expression_row N.plain node.now)) }
-{
-    Ok(Form::ComputedMemberExpression {
-        object: Box::new(alloc, node.object.get().normal_form(alloc)?)?,
-        expression: Box::new(alloc, node.expression.get().normal_form(alloc)?)?,
-    })
-}
-
+#[tactic(auto, using(crate::proofs::Forms::forms))]
 fn call_expression_form<N: NormalNode>(
     alloc: Global,
     node: &CallExpression<N>,
 ) -> Result<Form, Memory>
     ensures { IfOk result (λ f. form_plain f ≡ normal (call_expression_row N.plain node.now)) }
 {
-    Ok(Form::CallExpression {
-        callee: Box::new(alloc, node.callee.get().normal_form(alloc)?)?,
-        arguments: argument_forms(alloc, &node.arguments)?,
+    let callee = node.callee.get().normal_form(alloc)?;
+    let arguments = argument_forms(alloc, &node.arguments)?;
+    Ok(Form {
+        node_type: NodeType::CallExpression,
+        values: vec![in alloc; Value::Nothing, Value::Nothing]?,
+        slots: vec![in alloc; Slot::One(callee), Slot::Many(arguments)]?,
     })
 }
 
@@ -421,18 +293,40 @@ fn argument_form<N: NormalNode>(alloc: Global, argument: &Argument<N>) -> Result
     }
 }
 
+// ---- sets; a row that the normal form only copies is an arm
+
 fn expression_form<N: NormalNode>(alloc: Global, node: &Expression<N>) -> Result<Form, Memory>
     ensures { IfOk result (λ f. form_plain f ≡ normal (expression_plain N.plain node.now)) }
 {
     match node {
-        Expression::IdentifierReference(node) => identifier_reference_form(node),
-        Expression::NumericLiteral(node) => Ok(numeric_literal_form(node)),
-        Expression::StringLiteral(node) => string_literal_form(node),
-        Expression::BinaryExpression(node) => binary_expression_form(alloc, node),
+        Expression::IdentifierReference(node) => {
+            let name = unnumbered(alloc, &node.name)?;
+            Ok(leaf(alloc, NodeType::IdentifierReference, name))
+        }
+        Expression::NumericLiteral(node) => numeric_literal_form(alloc, node),
+        Expression::StringLiteral(node) => string_literal_form(alloc, node),
+        Expression::BinaryExpression(node) => {
+            let operator = vec![in alloc; Value::BinaryOperator(node.operator)]?;
+            pair(
+                alloc,
+                NodeType::BinaryExpression,
+                operator,
+                node.left.get(),
+                node.right.get(),
+            )
+        }
         Expression::LogicalExpression(node) => logical_expression_form(alloc, node),
-        Expression::ParenthesizedExpression(node) => parenthesized_expression_form(alloc, node),
+        Expression::ParenthesizedExpression(node) => node.expression.get().normal_form(alloc),
         Expression::StaticMemberExpression(node) => static_member_expression_form(alloc, node),
-        Expression::ComputedMemberExpression(node) => computed_member_expression_form(alloc, node),
+        Expression::ComputedMemberExpression(node) => {
+            pair(
+                alloc,
+                NodeType::ComputedMemberExpression,
+                nothing(alloc)?,
+                node.object.get(),
+                node.expression.get(),
+            )
+        }
         Expression::CallExpression(node) => call_expression_form(alloc, node),
     }
 }
@@ -450,18 +344,35 @@ fn statement_form<N: NormalNode>(alloc: Global, node: &Statement<N>) -> Result<F
 {
     match node {
         Statement::Declaration(declaration) => declaration.get().normal_form(alloc),
-        Statement::ExpressionStatement(node) => expression_statement_form(alloc, node),
-        Statement::BlockStatement(node) => block_statement_form(alloc, node),
+        Statement::ExpressionStatement(node) => {
+            single(
+                alloc,
+                NodeType::ExpressionStatement,
+                Vec::new(alloc),
+                node.expression.get(),
+            )
+        }
+        Statement::BlockStatement(node) => {
+            list(
+                alloc,
+                NodeType::BlockStatement,
+                Vec::new(alloc),
+                statement_forms(alloc, &node.body)?,
+            )
+        }
         Statement::IfStatement(node) => if_statement_form(alloc, node),
-        Statement::EmptyStatement(node) => Ok(empty_statement_form(node)),
+        Statement::EmptyStatement(_) => Ok(leaf(alloc, NodeType::EmptyStatement, Vec::new(alloc))),
     }
 }
 
-fn binding_pattern_form(node: &BindingPattern) -> Result<Form, Memory>
+fn binding_pattern_form(alloc: Global, node: &BindingPattern) -> Result<Form, Memory>
     ensures { IfOk result (λ f. form_plain f ≡ normal (binding_pattern_plain node.now)) }
 {
     match node {
-        BindingPattern::BindingIdentifier(node) => binding_identifier_form(node),
+        BindingPattern::BindingIdentifier(node) => {
+            let name = unnumbered(alloc, &node.name)?;
+            Ok(leaf(alloc, NodeType::BindingIdentifier, name))
+        }
     }
 }
 
@@ -475,7 +386,7 @@ impl NormalNode for Node {
             Node::Expression(expression) => expression_form(alloc, expression),
             Node::Statement(statement) => statement_form(alloc, statement),
             Node::Declaration(declaration) => declaration_form(alloc, declaration),
-            Node::BindingPattern(pattern) => binding_pattern_form(pattern),
+            Node::BindingPattern(pattern) => binding_pattern_form(alloc, pattern),
         }
     }
 }
