@@ -163,9 +163,6 @@ pub fn is_expression_higher<N: CheckNode>(node: &Expression<N>, levels: u32) -> 
     ensures { result ≡ nat_lt levels (height (expression_plain N.plain node.now)) }
 {
     match node {
-        Expression::IdentifierReference(_) => levels == 0,
-        Expression::NumericLiteral(_) => levels == 0,
-        Expression::StringLiteral(_) => levels == 0,
         Expression::BinaryExpression(node) => is_binary_expression_higher(node, levels),
         Expression::LogicalExpression(node) => is_logical_expression_higher(node, levels),
         Expression::ParenthesizedExpression(node) => is_parenthesized_expression_higher(
@@ -178,6 +175,7 @@ pub fn is_expression_higher<N: CheckNode>(node: &Expression<N>, levels: u32) -> 
             node, levels,
         ),
         Expression::CallExpression(node) => is_call_expression_higher(node, levels),
+        _ => levels == 0,
     }
 }
 
@@ -224,7 +222,7 @@ pub fn is_statement_higher<N: CheckNode>(node: &Statement<N>, levels: u32) -> bo
         Statement::ExpressionStatement(node) => is_expression_statement_higher(node, levels),
         Statement::BlockStatement(node) => is_block_statement_higher(node, levels),
         Statement::IfStatement(node) => is_if_statement_higher(node, levels),
-        Statement::EmptyStatement(_) => levels == 0,
+        _ => levels == 0,
     }
 }
 
@@ -233,6 +231,6 @@ pub fn is_binding_pattern_higher(node: &BindingPattern, levels: u32) -> bool
     ensures { result ≡ nat_lt levels (height (binding_pattern_plain node.now)) }
 {
     match node {
-        BindingPattern::BindingIdentifier(_) => levels == 0,
+        _ => levels == 0,
     }
 }
