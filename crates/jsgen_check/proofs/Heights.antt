@@ -1,13 +1,11 @@
 -- Whether a height passes a number, taken apart.
-use Rattle.std.proofs.Common.{◌≡◌, ℕ, suc, ◌+◌, ◌-◌, ◌<◌, ◌==◌, max, Bool, true, false, List, [], ◌∷◌, length, map, drop, nat_lt, if◌then◌else◌, refl, sym, ap, ◌∙◌, arith}
+use Rattle.std.proofs.Common.{◌≡◌, ℕ, suc, ◌+◌, ◌-◌, ◌<◌, ◌==◌, max, Bool, true, false, List, ◌∷◌, length, map, drop, nat_lt, if◌then◌else◌, refl, sym, ap, ◌∙◌, arith}
 use Rattle.std.proofs.Math.ListN.{get_or}
 use Rattle.std.proofs.lemmas.List.{at_drop_more}
 use Rattle.std.proofs.Math.Nat.{le-max_left, le-max_right, max-le}
 use Rattle.std.proofs.lemmas.Bool.{ltb-true, ltb-false, lt-ltb, le-ltb}
 use Rattle.std.proofs.lemmas.Bool.Decides.{nat_tests}
 use Rattle.jsgen_tree.specs.Tree.{Tree, trees}
-use Rattle.jsgen_tree.specs.Rows.{directive_row}
-use Rattle.jsgen_tree.specs.declared.statements.Directive.{Directive}
 use Rattle.jsgen_model.specs.Valid.{height, greatest_height}
 
 pub higher_than_none : (n : ℕ) → nat_lt n 0 ≡ false
@@ -38,22 +36,3 @@ turn_higher f xs i x n inside is left h = ap (λ b. if b then true else nat_lt n
 
 pub turn_not_higher : {A : Type 0} {whole : Bool} (f : A → Tree) (xs : List A) (i : ℕ) (x : A) (n : ℕ) → i < length xs → x ≡ get_or xs i x → nat_lt n (greatest_height (trees (map f (drop i xs)))) ≡ whole → false ≡ nat_lt n (height (f x)) → nat_lt n (greatest_height (trees (map f (drop (i + 1) xs)))) ≡ whole
 turn_not_higher f xs i x n inside is left h = ap (λ b. if b then true else nat_lt n (greatest_height (trees (map f (drop (i + 1) xs))))) h ∙ next f xs i x n inside is left
-
--- ---- directives
-
-two_or_one : (n h : ℕ) (b : Bool) → h ≡ (if b then 0 else 1) → max 1 h ≡ (if suc n == 0 then 0 else 1)
-two_or_one n h true e = grind (arith, nat_tests)
-two_or_one n h false e = grind (arith, nat_tests)
-
-one_level : (ds : List Directive) → greatest_height (trees (map directive_row ds)) ≡ (if length ds == 0 then 0 else 1)
-one_level [] = refl
-one_level (d ∷ ds) = two_or_one (length ds) (greatest_height (trees (map directive_row ds))) (length ds == 0) (one_level ds)
-
-passes_one : (n : ℕ) (b : Bool) → nat_lt n (if b then 0 else 1) ≡ (if n == 0 then (if b then false else true) else false)
-passes_one n true = grind (arith, nat_tests)
-passes_one n false = grind (arith, nat_tests)
-
-pub directives_higher : (n : ℕ) (ds : List Directive) → nat_lt n (greatest_height (trees (map directive_row ds))) ≡ (if n == 0 then (if length ds == 0 then false else true) else false)
-directives_higher n ds = ap (nat_lt n) (one_level ds) ∙ passes_one n (length ds == 0)
-
-pub ruleset of_directives = (directives_higher)
