@@ -1,12 +1,12 @@
 -- Whether a height passes a number, taken apart.
-use Rattle.std.proofs.Common.{◌≡◌, ℕ, suc, ◌-◌, ◌==◌, max, Bool, true, false, List, [], ◌∷◌, length, map, nat_lt, if◌then◌else◌, refl, ap, ◌∙◌, arith}
+use Rattle.std.proofs.Common.{◌≡◌, ℕ, suc, ◌+◌, ◌-◌, ◌<◌, ◌==◌, max, Bool, true, false, List, ◌∷◌, length, map, drop, nat_lt, if◌then◌else◌, refl, sym, ap, ◌∙◌, arith}
+use Rattle.std.proofs.Math.ListN.{get_or}
+use Rattle.std.proofs.lemmas.List.{at_drop_more}
 use Rattle.std.proofs.Math.Nat.{le-max_left, le-max_right, max-le}
 use Rattle.std.proofs.lemmas.Bool.{ltb-true, ltb-false, lt-ltb, le-ltb}
 use Rattle.std.proofs.lemmas.Bool.Decides.{nat_tests}
-use Rattle.jsgen_tree.specs.Tree.{trees}
-use Rattle.jsgen_tree.specs.Rows.{directive_row}
-use Rattle.jsgen_tree.specs.declared.statements.Directive.{Directive}
-use Rattle.jsgen_model.specs.Valid.{greatest_height}
+use Rattle.jsgen_tree.specs.Tree.{Tree, trees}
+use Rattle.jsgen_model.specs.Valid.{height, greatest_height}
 
 pub higher_than_none : (n : ℕ) → nat_lt n 0 ≡ false
 higher_than_none n = grind (arith, nat_tests)
@@ -24,21 +24,15 @@ either_higher n a b = of_tests n a b (nat_lt n a) (nat_lt n b) refl refl
 
 pub ruleset heights = (higher_than_none, higher_than_next, either_higher)
 
--- ---- directives
+-- ---- lists: a turn takes the first of the children that are left
 
-two_or_one : (n h : ℕ) (b : Bool) → h ≡ (if b then 0 else 1) → max 1 h ≡ (if suc n == 0 then 0 else 1)
-two_or_one n h true e = grind (arith, nat_tests)
-two_or_one n h false e = grind (arith, nat_tests)
+next : {A : Type 0} {whole : Bool} (f : A → Tree) (xs : List A) (i : ℕ) (x : A) (n : ℕ) → i < length xs → x ≡ get_or xs i x → nat_lt n (greatest_height (trees (map f (drop i xs)))) ≡ whole → (if nat_lt n (height (f x)) then true else nat_lt n (greatest_height (trees (map f (drop (i + 1) xs))))) ≡ whole
+next {A} f xs i x n inside is left =
+    let higher = λ (ys : List A). nat_lt n (greatest_height (trees (map f ys))) in
+    sym (either_higher n (height (f x)) (greatest_height (trees (map f (drop (i + 1) xs))))) ∙ (ap (λ y. higher (y ∷ drop (i + 1) xs)) is ∙ (sym (at_drop_more higher xs i x inside) ∙ left))
 
-one_level : (ds : List Directive) → greatest_height (trees (map directive_row ds)) ≡ (if length ds == 0 then 0 else 1)
-one_level [] = refl
-one_level (d ∷ ds) = two_or_one (length ds) (greatest_height (trees (map directive_row ds))) (length ds == 0) (one_level ds)
+pub turn_higher : {A : Type 0} {whole : Bool} (f : A → Tree) (xs : List A) (i : ℕ) (x : A) (n : ℕ) → i < length xs → x ≡ get_or xs i x → nat_lt n (greatest_height (trees (map f (drop i xs)))) ≡ whole → true ≡ nat_lt n (height (f x)) → true ≡ whole
+turn_higher f xs i x n inside is left h = ap (λ b. if b then true else nat_lt n (greatest_height (trees (map f (drop (i + 1) xs))))) h ∙ next f xs i x n inside is left
 
-passes_one : (n : ℕ) (b : Bool) → nat_lt n (if b then 0 else 1) ≡ (if n == 0 then (if b then false else true) else false)
-passes_one n true = grind (arith, nat_tests)
-passes_one n false = grind (arith, nat_tests)
-
-pub directives_higher : (n : ℕ) (ds : List Directive) → nat_lt n (greatest_height (trees (map directive_row ds))) ≡ (if n == 0 then (if length ds == 0 then false else true) else false)
-directives_higher n ds = ap (nat_lt n) (one_level ds) ∙ passes_one n (length ds == 0)
-
-pub ruleset of_directives = (directives_higher)
+pub turn_not_higher : {A : Type 0} {whole : Bool} (f : A → Tree) (xs : List A) (i : ℕ) (x : A) (n : ℕ) → i < length xs → x ≡ get_or xs i x → nat_lt n (greatest_height (trees (map f (drop i xs)))) ≡ whole → false ≡ nat_lt n (height (f x)) → nat_lt n (greatest_height (trees (map f (drop (i + 1) xs)))) ≡ whole
+turn_not_higher f xs i x n inside is left h = ap (λ b. if b then true else nat_lt n (greatest_height (trees (map f (drop (i + 1) xs))))) h ∙ next f xs i x n inside is left

@@ -1,3 +1,4 @@
 pub mod Declarators
 pub mod Heights
+pub mod Steps
 pub mod Verdicts

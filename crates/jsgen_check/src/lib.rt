@@ -22,9 +22,9 @@ use crate::height::{
 };
 use crate::program::check_program_row;
 use crate::sets::{
-    binding_pattern_type, check_binding_pattern_set, check_declaration_set, check_expression_set,
-    check_statement_set, declaration_type, expression_type, is_binding_pattern_lexical,
-    is_declaration_lexical, is_expression_lexical, is_statement_lexical, statement_type,
+    check_binding_pattern_set, check_declaration_set, check_expression_set, check_statement_set,
+    is_binding_pattern_lexical, is_declaration_lexical, is_expression_lexical,
+    is_statement_lexical,
 };
 pub use crate::surroundings::Surroundings;
 use jsgen_model::TreeFault;
@@ -79,14 +79,8 @@ fn check_child<N: CheckNode>(
 impl CheckNode for Node {
     ghost plain = { λ n. node_plain n };
 
-    #[cycle(node)]
     fn node_type(&self) -> NodeType {
-        match self {
-            Node::Expression(expression) => expression_type(expression),
-            Node::Statement(statement) => statement_type(statement),
-            Node::Declaration(declaration) => declaration_type(declaration),
-            Node::BindingPattern(pattern) => binding_pattern_type(pattern),
-        }
+        self.node_type()
     }
 
     fn start(&self) -> u32 {

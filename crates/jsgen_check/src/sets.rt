@@ -1,6 +1,6 @@
 // What is asked of a member of a set is what its own type asks.
 ghost use Rattle.std.specs.Prelude.{◌≡◌};
-ghost use Rattle.jsgen_tree.specs.Tree.{Tree, type_of};
+ghost use Rattle.jsgen_tree.specs.Tree.{Tree};
 ghost use Rattle.jsgen_tree.specs.Rows.{expression_plain, statement_plain, declaration_plain, binding_pattern_plain};
 ghost use Rattle.jsgen_model.specs.Valid.{is_lexical};
 ghost use Rattle.jsgen_check.specs.Verdict.{tree_verdict};
@@ -16,7 +16,7 @@ use crate::statements::{
 };
 use crate::{CheckNode, Surroundings};
 use jsgen_model::TreeFault;
-use jsgen_tree::{BindingPattern, Declaration, Expression, NodeType, Statement};
+use jsgen_tree::{BindingPattern, Declaration, Expression, Statement};
 
 pub fn check_expression_set<N: CheckNode>(
     node: &Expression<N>,
@@ -39,35 +39,11 @@ pub fn check_expression_set<N: CheckNode>(
     }
 }
 
-pub fn expression_type<N>(node: &Expression<N>) -> NodeType
-    ensures { (plain : N → Tree) → result ≡ type_of (expression_plain plain node.now) }
-{
-    match node {
-        Expression::IdentifierReference(_) => NodeType::IdentifierReference,
-        Expression::NumericLiteral(_) => NodeType::NumericLiteral,
-        Expression::StringLiteral(_) => NodeType::StringLiteral,
-        Expression::BinaryExpression(_) => NodeType::BinaryExpression,
-        Expression::LogicalExpression(_) => NodeType::LogicalExpression,
-        Expression::ParenthesizedExpression(_) => NodeType::ParenthesizedExpression,
-        Expression::StaticMemberExpression(_) => NodeType::StaticMemberExpression,
-        Expression::ComputedMemberExpression(_) => NodeType::ComputedMemberExpression,
-        Expression::CallExpression(_) => NodeType::CallExpression,
-    }
-}
-
 pub fn is_expression_lexical<N>(node: &Expression<N>) -> bool
     ensures { (plain : N → Tree) → result ≡ is_lexical (expression_plain plain node.now) }
 {
     match node {
-        Expression::IdentifierReference(_) => false,
-        Expression::NumericLiteral(_) => false,
-        Expression::StringLiteral(_) => false,
-        Expression::BinaryExpression(_) => false,
-        Expression::LogicalExpression(_) => false,
-        Expression::ParenthesizedExpression(_) => false,
-        Expression::StaticMemberExpression(_) => false,
-        Expression::ComputedMemberExpression(_) => false,
-        Expression::CallExpression(_) => false,
+        _ => false,
     }
 }
 
@@ -86,27 +62,12 @@ pub fn check_statement_set<N: CheckNode>(
     }
 }
 
-pub fn statement_type<N: CheckNode>(node: &Statement<N>) -> NodeType
-    ensures { result ≡ type_of (statement_plain N.plain node.now) }
-{
-    match node {
-        Statement::Declaration(declaration) => declaration.get().node_type(),
-        Statement::ExpressionStatement(_) => NodeType::ExpressionStatement,
-        Statement::BlockStatement(_) => NodeType::BlockStatement,
-        Statement::IfStatement(_) => NodeType::IfStatement,
-        Statement::EmptyStatement(_) => NodeType::EmptyStatement,
-    }
-}
-
 pub fn is_statement_lexical<N: CheckNode>(node: &Statement<N>) -> bool
     ensures { result ≡ is_lexical (statement_plain N.plain node.now) }
 {
     match node {
         Statement::Declaration(declaration) => declaration.get().is_lexical(),
-        Statement::ExpressionStatement(_) => false,
-        Statement::BlockStatement(_) => false,
-        Statement::IfStatement(_) => false,
-        Statement::EmptyStatement(_) => false,
+        _ => false,
     }
 }
 
@@ -118,14 +79,6 @@ pub fn check_declaration_set<N: CheckNode>(
 {
     match node {
         Declaration::VariableDeclaration(node) => check_variable_declaration(node, around),
-    }
-}
-
-pub fn declaration_type<N>(node: &Declaration<N>) -> NodeType
-    ensures { (plain : N → Tree) → result ≡ type_of (declaration_plain plain node.now) }
-{
-    match node {
-        Declaration::VariableDeclaration(_) => NodeType::VariableDeclaration,
     }
 }
 
@@ -148,18 +101,10 @@ pub fn check_binding_pattern_set(
     }
 }
 
-pub fn binding_pattern_type(node: &BindingPattern) -> NodeType
-    ensures { result ≡ type_of (binding_pattern_plain node.now) }
-{
-    match node {
-        BindingPattern::BindingIdentifier(_) => NodeType::BindingIdentifier,
-    }
-}
-
 pub fn is_binding_pattern_lexical(node: &BindingPattern) -> bool
     ensures { result ≡ is_lexical (binding_pattern_plain node.now) }
 {
     match node {
-        BindingPattern::BindingIdentifier(_) => false,
+        _ => false,
     }
 }

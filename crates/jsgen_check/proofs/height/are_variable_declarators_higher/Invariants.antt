@@ -1,0 +1,13 @@
+-- Generated from tools/nodes/table.txt; edit that and run tools/nodes/generate.
+-- What holds in the loop.
+use Rattle.std.proofs.Common.{◌≡◌, map, drop, nat_lt}
+use Rattle.jsgen_tree.specs.Tree.{trees}
+use Rattle.jsgen_tree.specs.Rows.{variable_declarator_row}
+use Rattle.jsgen_model.specs.Valid.{greatest_height}
+use Rattle.jsgen_check.proofs.height.are_variable_declarators_higher.Given as goal
+
+-- the nodes left pass the number where one of them all does
+abbrev pub invariant-loop-node : goal.invariant-loop-node
+invariant-loop-node g l =
+    let higher = λ (ns : _). nat_lt l.levels (greatest_height (trees (map (variable_declarator_row g.N.CheckNode.plain) ns))) in
+    higher (drop l.node-index l.nodes) ≡ higher l.nodes
