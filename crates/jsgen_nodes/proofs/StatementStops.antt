@@ -6,7 +6,6 @@ use Rattle.jsgen_syntax.specs.declared.precedence.Precedence.{Precedence}
 use Rattle.jsgen_tree.specs.Tree.{Tree}
 use Rattle.jsgen_model.specs.Items.{Items, ◌⊕◌, soft_space}
 use Rattle.jsgen_model.specs.Layout.{Pen, nowhere, layout, unless_printed, not}
-use Rattle.jsgen_model.specs.Spell as spells
 use Rattle.jsgen_model.specs.Spell.{spell, behind}
 use Rattle.jsgen_model.specs.Printing.{IsPrefix, Stops, Reaches}
 use Rattle.jsgen_printer.proofs.Prefixes.{whole_prefix}

@@ -1,10 +1,11 @@
-// A set is a match over its members.
-ghost use Rattle.std.specs.Prelude.{◌≡◌};
-ghost use Rattle.jsgen_tree.specs.Rows.{expression_plain, statement_plain, declaration_plain, binding_pattern_plain};
+// Generated from tools/nodes/table.txt; edit that and run tools/nodes/generate.
+// A set prints as its member does.
+ghost use Rattle.jsgen_tree.specs.Rows.{expression_plain, declaration_plain, statement_plain, binding_pattern_plain};
 ghost use Rattle.jsgen_model.specs.Printing.{Reaches};
 ghost use Rattle.jsgen_printer.specs.Printer.{pen_of};
 ghost use Rattle.jsgen_nodes.specs.Place.{pen_after};
 
+use crate::PrintNode;
 use crate::blocks::{print_block_statement, print_empty_statement, print_if_statement};
 use crate::expressions::{
     print_binary_expression, print_identifier_reference, print_logical_expression,
@@ -16,7 +17,6 @@ use crate::links::{
 use crate::statements::{
     print_binding_identifier, print_expression_statement, print_variable_declaration,
 };
-use crate::PrintNode;
 use jsgen_place::Place;
 use jsgen_printer::Printer;
 use jsgen_syntax::Memory;
@@ -44,6 +44,18 @@ pub fn print_expression<N: PrintNode>(
     }
 }
 
+pub fn print_declaration<N: PrintNode>(
+    node: &Declaration<N>,
+    p: &mut Printer,
+    place: Place,
+) -> Result<(), Memory>
+    ensures { Reaches result (pen_of p.old) (pen_of p.new) (pen_after (declaration_plain N.plain node.now) place p.old) }
+{
+    match node {
+        Declaration::VariableDeclaration(node) => print_variable_declaration(node, p, place),
+    }
+}
+
 pub fn print_statement<N: PrintNode>(
     node: &Statement<N>,
     p: &mut Printer,
@@ -57,18 +69,6 @@ pub fn print_statement<N: PrintNode>(
         Statement::BlockStatement(node) => print_block_statement(node, p, place),
         Statement::IfStatement(node) => print_if_statement(node, p, place),
         Statement::EmptyStatement(node) => print_empty_statement(node, p, place),
-    }
-}
-
-pub fn print_declaration<N: PrintNode>(
-    node: &Declaration<N>,
-    p: &mut Printer,
-    place: Place,
-) -> Result<(), Memory>
-    ensures { Reaches result (pen_of p.old) (pen_of p.new) (pen_after (declaration_plain N.plain node.now) place p.old) }
-{
-    match node {
-        Declaration::VariableDeclaration(node) => print_variable_declaration(node, p, place),
     }
 }
 

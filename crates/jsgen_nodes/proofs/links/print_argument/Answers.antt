@@ -1,5 +1,4 @@
 use Rattle.std.proofs.Common.{rules}
-use Rattle.jsgen_nodes.specs.Place.{pen_after}
 use Rattle.jsgen_nodes.proofs.links.print_argument.Goals as goal
 
 pub returns : goal.returns
