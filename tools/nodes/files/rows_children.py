@@ -7,7 +7,8 @@ from files.rows_sets import rules_of
 from names import READER, SPECS, TYPES, plain_of, row_names
 from table import snake
 
-CHILD = "ensures {{ IfOk result (λ child. option_map {plain} child\n            ≡ (if in_set sets.{set} (type_of (row_plain N.plain row)) then Some (row_plain N.plain row) else None)) }}"
+CHILD = """ensures {{ IfOk result (λ child. option_map {plain} child
+            ≡ (if in_set sets.{set} (type_of {row}) then Some {row} else None)) }}"""
 
 
 def write(table):
@@ -52,9 +53,10 @@ def impls(table):
     body = "\n\n".join(bodies)
     prelude = ["◌≡◌", "IfOk", "Some", "None", "option_map", "if◌then◌else◌"]
     ghosts = [("Rattle.std.specs.Prelude", prelude), (f"{SPECS}.Tree", ["type_of"]), (f"{SPECS}.Sets", ["in_set"])]
-    ghosts += row_names(table) + [(f"{READER}.specs.Kept", ["row_plain"] + [snake(kept(table, g)) + "_plain" for g in large(table) if kept(table, g) != g.name])]
+    enums = [kept(table, g) for g in large(table) if kept(table, g) != g.name]
+    ghosts += row_names(table) + [(f"{READER}.specs.Kept", ["row_plain"] + [snake(e) + "_plain" for e in enums])]
     tree = list(table.nodes) + list(table.sets) + [s.name + "Node" for s in table.nesting()] + ["NodeSet"]
-    homes = [("crate::children", ["Child"]), ("crate::kept", ["ReadNode", "Row"] + [kept(table, g) for g in large(table) if kept(table, g) != g.name]), ("jsgen_tree", tree)]
+    homes = [("crate::children", ["Child"]), ("crate::kept", ["ReadNode", "Row"] + enums), ("jsgen_tree", tree)]
     homes += [("std::alloc", ["AllocError", "Global"])]
     about = "What is made of a row where it is a child: a member of the set that the place is for."
     return layout.rust(about, ghosts, TYPES, homes, body)
@@ -75,7 +77,7 @@ def impl(table, name, boxed):
 
     #[tactic(auto, using(crate::proofs::Sets::{rules_of(table, name)}))]
     fn from_row(alloc: Global, row: Row<N>) -> Result<Option<{of}>, AllocError>
-        {CHILD.format(plain=plain, set=name)}
+        {CHILD.format(plain=plain, set=name, row="(row_plain N.plain row)")}
     {{
 {unused}        match row {{
 {arms}            _ => Ok(None),
@@ -94,11 +96,16 @@ def made(table, name, boxed):
         elif g.name == name:
             direct = "Box::into_inner(row)" + (f".into_{snake(name)}()" if kept(table, g) != name else "")
             arms += f"            Row::{name}(row) => Ok(Some(N::{snake(name)}_node({direct}))),\n"
-        elif name in table.sets and g.name in table.sets[name].members and kept(table, g) == g.name:
+        elif is_within(table, name, g):
             arms += set_within(table, table.sets[name], g.name)
         elif some(table, name, g):
             arms += f"            Row::{g.name}(row) => Ok({part(name, g, boxed)}(Box::into_inner(row))),\n"
     return arms
+
+
+def is_within(table, name, g):
+    """Whether the set of rows is a member of the set, as it is kept."""
+    return name in table.sets and g.name in table.sets[name].members and kept(table, g) == g.name
 
 
 def member(table, name, m, boxed):
@@ -133,9 +140,8 @@ def part(name, g, boxed):
 
 def parts(table, name, boxed):
     """The functions that a place has for such sets."""
-    inner = table.sets[name].members if name in table.sets else []
     return [one_part(table, name, g, boxed) for g in large(table)
-            if g.name != name and g.name not in inner and some(table, name, g)]
+            if g.name != name and not is_within(table, name, g) and some(table, name, g)]
 
 
 def one_part(table, name, g, boxed):
