@@ -52,13 +52,13 @@ impl<N: ReadNode + Drop> Child<N> for StatementNode<N> {
             ≡ (if in_set sets.Statement (type_of (row_plain N.plain row)) then Some (row_plain N.plain row) else None)) }
     {
         match row {
-            Row::Statement(row) => Ok(Some(N::statement_node(Box::into_inner(
-                row,
-            ).into_statement()))),
             Row::Declaration(row) => {
                 let declaration = Box::new(alloc, N::declaration_node(Box::into_inner(row)))?;
                 Ok(Some(N::statement_node(Statement::Declaration(declaration))))
             }
+            Row::Statement(row) => Ok(Some(N::statement_node(Box::into_inner(
+                row,
+            ).into_statement()))),
             _ => Ok(None),
         }
     }

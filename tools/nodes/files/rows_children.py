@@ -2,12 +2,13 @@
 readers of fields that hold them."""
 
 import layout
-from files.rows_kept import kept, set_of
+from files.rows_kept import groups, kept, large, own, parameter, plain_of_kept
 from files.rows_sets import rules_of
 from names import READER, SPECS, TYPES, plain_of, row_names
 from table import snake
 
-CHILD = "ensures {{ IfOk result (λ child. option_map {plain} child\n            ≡ (if in_set sets.{set} (type_of (row_plain N.plain row)) then Some (row_plain N.plain row) else None)) }}"
+CHILD = """ensures {{ IfOk result (λ child. option_map {plain} child
+            ≡ (if in_set sets.{set} (type_of {row}) then Some {row} else None)) }}"""
 
 
 def write(table):
@@ -45,12 +46,17 @@ def plain_at(table, name, boxed, child):
 # ---- src/child_sets.rt
 
 def impls(table):
-    body = "\n\n".join(impl(table, name, boxed) for name, boxed in places(table))
+    bodies = [impl(table, name, boxed) for name, boxed in places(table)]
+    of_some = [f for name, boxed in places(table) for f in parts(table, name, boxed)]
+    if of_some:
+        bodies += ["// ---- a place that takes some types of a set"] + of_some
+    body = "\n\n".join(bodies)
     prelude = ["◌≡◌", "IfOk", "Some", "None", "option_map", "if◌then◌else◌"]
     ghosts = [("Rattle.std.specs.Prelude", prelude), (f"{SPECS}.Tree", ["type_of"]), (f"{SPECS}.Sets", ["in_set"])]
-    ghosts += row_names(table) + [(f"{READER}.specs.Kept", ["row_plain"])]
+    enums = [kept(table, g) for g in large(table) if kept(table, g) != g.name]
+    ghosts += row_names(table) + [(f"{READER}.specs.Kept", ["row_plain"] + [snake(e) + "_plain" for e in enums])]
     tree = list(table.nodes) + list(table.sets) + [s.name + "Node" for s in table.nesting()] + ["NodeSet"]
-    homes = [("crate::children", ["Child"]), ("crate::kept", ["ReadNode", "Row"]), ("jsgen_tree", tree)]
+    homes = [("crate::children", ["Child"]), ("crate::kept", ["ReadNode", "Row"] + enums), ("jsgen_tree", tree)]
     homes += [("std::alloc", ["AllocError", "Global"])]
     about = "What is made of a row where it is a child: a member of the set that the place is for."
     return layout.rust(about, ghosts, TYPES, homes, body)
@@ -71,7 +77,7 @@ def impl(table, name, boxed):
 
     #[tactic(auto, using(crate::proofs::Sets::{rules_of(table, name)}))]
     fn from_row(alloc: Global, row: Row<N>) -> Result<Option<{of}>, AllocError>
-        {CHILD.format(plain=plain, set=name)}
+        {CHILD.format(plain=plain, set=name, row="(row_plain N.plain row)")}
     {{
 {unused}        match row {{
 {arms}            _ => Ok(None),
@@ -82,38 +88,77 @@ def impl(table, name, boxed):
 
 def made(table, name, boxed):
     """The arms of the rows that are of the set."""
+    arms = ""
+    for g in groups(table):
+        if isinstance(g, str):
+            if g in table.types_in(name):
+                arms += f"            Row::{g}(row) => Ok(Some({member(table, name, g, boxed)})),\n"
+        elif g.name == name:
+            direct = "Box::into_inner(row)" + (f".into_{snake(name)}()" if kept(table, g) != name else "")
+            arms += f"            Row::{name}(row) => Ok(Some(N::{snake(name)}_node({direct}))),\n"
+        elif is_within(table, name, g):
+            arms += set_within(table, table.sets[name], g.name)
+        elif some(table, name, g):
+            arms += f"            Row::{g.name}(row) => Ok({part(name, g, boxed)}(Box::into_inner(row))),\n"
+    return arms
+
+
+def is_within(table, name, g):
+    """Whether the set of rows is a member of the set, as it is kept."""
+    return name in table.sets and g.name in table.sets[name].members and kept(table, g) == g.name
+
+
+def member(table, name, m, boxed):
+    """A row of the type as a child of the set, or as the type's own."""
     if name in table.nodes:
-        if set_of(table, name):
-            raise SystemExit(f"{name}: a child of one type that is in a set has no form in the reader yet")
-        return f"            Row::{name}(row) => Ok(Some({'row' if boxed else 'Box::into_inner(row)'})),\n"
+        return "row" if boxed else "Box::into_inner(row)"
     s = table.sets[name]
-    if not s.nests:
-        return "".join(in_plain_set(table, s, m) for m in s.members)
-    direct = "Box::into_inner(row)" + (f".into_{snake(name)}()" if kept(table, s) != name else "")
-    arms = f"            Row::{name}(row) => Ok(Some(N::{snake(name)}_node({direct}))),\n"
-    return arms + "".join(in_set_within(table, s, m) for m in s.members if m in table.sets)
+    if m not in s.members:
+        raise SystemExit(f"{name}: {m} in a set within it has no form in the reader yet")
+    return f"N::{snake(name)}_node({name}::{m}(row))" if s.nests else f"{name}::{m}(row)"
 
 
-def in_set_within(table, s, m):
-    """A member of a set within a set, which stands in a box of its own."""
+def set_within(table, s, m):
+    """A member of a set within the set, which stands in a box of its own."""
+    made = f"{s.name}::{m}({snake(m)})"
     return f"""            Row::{m}(row) => {{
                 let {snake(m)} = Box::new(alloc, N::{snake(m)}_node(Box::into_inner(row)))?;
-                Ok(Some(N::{snake(s.name)}_node({s.name}::{m}({snake(m)}))))
+                Ok(Some({f"N::{snake(s.name)}_node({made})" if s.nests else made}))
             }}
 """
 
 
-def in_plain_set(table, s, m):
-    """A member of a set that doesn't nest."""
-    if m in table.sets and kept(table, table.sets[m]) == m:
-        return f"""            Row::{m}(row) => {{
-                let {snake(m)} = Box::new(alloc, N::{snake(m)}_node(Box::into_inner(row)))?;
-                Ok(Some({s.name}::{m}({snake(m)})))
-            }}
-"""
-    if m in table.nodes and not set_of(table, m):
-        return f"            Row::{m}(row) => Ok(Some({s.name}::{m}(row))),\n"
-    raise SystemExit(f"{s.name}: {m} in a set that doesn't nest has no form in the reader yet")
+# ---- a place that takes some types of a set that rows are kept by
+
+def some(table, name, g):
+    return [m for m in own(table, g) if m in table.types_in(name)]
+
+
+def part(name, g, boxed):
+    return f"{snake(name)}_of_{snake(g.name)}" + ("_in_box" if boxed else "")
+
+
+def parts(table, name, boxed):
+    """The functions that a place has for such sets."""
+    return [one_part(table, name, g, boxed) for g in large(table)
+            if g.name != name and not is_within(table, name, g) and some(table, name, g)]
+
+
+def one_part(table, name, g, boxed):
+    of, plain = child_type(table, name, boxed), child_plain(table, name, boxed)
+    held = kept(table, g) + parameter(table, g.name)
+    arms = "".join(f"        {kept(table, g)}::{m}(row) => Some({member(table, name, m, boxed)}),\n"
+                   for m in some(table, name, g))
+    rest = "        _ => None,\n" if len(some(table, name, g)) < len(own(table, g)) else ""
+    row = f"({plain_of_kept(table, g)} row)"
+    nests = "<N: ReadNode + Drop>" if "<N>" in held + of else ""
+    return f"""fn {part(name, g, boxed)}{nests}(row: {held}) -> Option<{of}>
+    ensures {{ option_map {plain} result
+        ≡ (if in_set sets.{name} (type_of {row}) then Some {row} else None) }}
+{{
+    match row {{
+{arms}{rest}    }}
+}}"""
 
 
 # ---- src/set_fields.rt

@@ -7,11 +7,8 @@ from table import snake
 # ---- how each type is kept, for all files of the reader
 
 def set_of(table, name):
-    """The set that a type's rows are kept by: the one that nests and has it; None where there is none."""
-    sets = [s for s in table.nesting() if name in s.members]
-    if len(sets) > 1:
-        raise SystemExit(f"{name}: a type of two sets that nest has no form in the reader yet")
-    return sets[0] if sets else None
+    """The set that a type's rows are kept by: the first that nests and has it; None where there is none."""
+    return next((s for s in table.nesting() if name in s.members), None)
 
 
 def groups(table):
@@ -28,7 +25,7 @@ def large(table):
 
 
 def own(table, s):
-    """The types of a set that are in no set within it."""
+    """The types of a set that it has itself, and no set within it."""
     return [m for m in s.members if m in table.nodes]
 
 

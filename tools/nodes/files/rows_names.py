@@ -1,82 +1,80 @@
-"""The reader's specs/Names.antt and src/names.rt: the types by their names. A chain of tests has at most five."""
+"""The reader's specs/Names.antt and src/names.rt: the types by their names, in tables, and a search. A long table is
+slow to prove, so there may be several."""
 
 import layout
 from names import READER, TYPES, types_in_antt
 
-MOST = 5
+MOST = 50
 
 
 def write(table):
-    levels = grouped(table)
-    return {"crates/jsgen_rows/specs/Names.antt": specs(levels), "crates/jsgen_rows/src/names.rt": rust(levels)}
+    tables = in_tables(list(table.nodes))
+    invariant = {"crates/jsgen_rows/proofs/names/first_named/Invariants.antt": left()}
+    return {"crates/jsgen_rows/specs/Names.antt": specs(tables), "crates/jsgen_rows/src/names.rt": rust(tables)} | invariant
 
 
-def grouped(table):
-    """The groups of types by the group's name, and the groups of groups over them, up to the whole, each with its
-    members."""
-    names = list(table.nodes)
-    leaves = {f"named_{i // MOST + 1}": names[i:i + MOST] for i in range(0, len(names), MOST)}
-    above, level = {}, list(leaves)
-    while len(level) > MOST:
-        groups = [level[i:i + MOST] for i in range(0, len(level), MOST)]
-        within = {f"{g[0]}_to_{g[-1].split('_')[-1]}": g for g in groups}
-        above |= within
-        level = list(within)
-    return leaves, above, level
+def in_tables(types):
+    """The types of each table, by its name."""
+    tables = [types[i:i + MOST] for i in range(0, len(types), MOST)]
+    return {f"type_names{f'_{i}' if i > 1 else ''}": some for i, some in enumerate(tables, 1)}
 
 
-def specs(levels):
-    leaves, above, top = levels
+def specs(tables):
     parts = ["""abbrev pub or_else : {A : Type 0} → Option A → Option A → Option A
 or_else None o = o
-or_else (Some a) o = Some a"""]
-    parts += [chain(name, types) for name, types in leaves.items()]
-    parts += [f"abbrev pub {name} : List ℕ → Option NodeType\n{name} s = {either(groups)}" for name, groups in above.items()]
-    parts += [f"-- the type that a name names\nabbrev pub type_named : List ℕ → Option NodeType\ntype_named s = {either(top)}"]
-    homes = [("Rattle.std.specs.Prelude", ["ℕ", "List", "codes", "Option", "Some", "None", "if◌then◌else◌"]),
+or_else (Some a) o = Some a""", """-- the type whose name the text is
+abbrev pub first_named : List (List ℕ × NodeType) → List ℕ → Option NodeType
+first_named [] s = None
+first_named (n ∷ ns) s = if bytes_eq s n.0 then Some n.1 else first_named ns s"""]
+    for name, types in tables.items():
+        rows = " ∷ ".join([f'(codes "{t}", types.{t})' for t in types] + ["[]"])
+        parts.append(f"abbrev pub {name} : List (List ℕ × NodeType)\n{name} = {rows}")
+    parts.append(f"-- the type that a name names\nunfoldable pub type_named : List ℕ → Option NodeType\ntype_named s = {either(list(tables))}")
+    homes = [("Rattle.std.specs.Prelude", ["ℕ", "List", "[]", "◌∷◌", "codes", "Option", "Some", "None", "if◌then◌else◌"]),
              ("Rattle.std.specs.Str", ["bytes_eq"])] + types_in_antt(None)
-    about = "The types of nodes by their names, in groups."
-    return layout.antt(about, homes, TYPES, "\n\n".join(parts))
+    return layout.antt("The types of nodes by their names.", homes, TYPES, "\n\n".join(parts))
 
 
-def chain(name, types):
-    tests = "\n    else (".join(f'if bytes_eq s (codes "{t}") then Some types.{t}' for t in types)
-    ends = ")" * (len(types) - 1)
-    return f"unfoldable pub {name} : List ℕ → Option NodeType\n{name} s =\n    {tests}\n    else None{ends}"
+def either(tables):
+    first, *rest = tables
+    return f"or_else (first_named {first} s) ({either(rest)})" if rest else f"first_named {first} s"
 
 
-def either(groups):
-    text = f"{groups[-1]} s"
-    for g in reversed(groups[:-1]):
-        text = f"or_else ({g} s) " + (f"({text})" if "(" in text or len(groups) > 1 else text)
-    return text
+def rust(tables):
+    parts = []
+    for name, types in tables.items():
+        rows = "".join(f'    ("{t}", NodeType::{t}),\n' for t in types)
+        parts.append(f"const {name.upper()}: [(&str, NodeType); {len(types)}] = [\n{rows}];")
+    parts += ["""fn first_named(names: &[(&str, NodeType)], name: &str) -> Option<NodeType>
+    ensures { result ≡ first_named (map (λ n. (n.0.now, n.1)) names.now) name.now }
+{
+    for named in names {
+        if name == named.0 {
+            return Some(named.1);
+        }
+    }
+    None
+}""", by_name([name.upper() for name in tables])]
+    ghosts = [("Rattle.std.specs.Prelude", ["◌≡◌", "map"]), (f"{READER}.specs.Names", ["first_named", "type_named"])]
+    return layout.rust("The names of types.", ghosts, [], [("jsgen_tree", ["NodeType"])], "\n\n".join(parts))
 
 
-def rust(levels):
-    leaves, above, top = levels
-    parts = [tests(name, types) for name, types in leaves.items()]
-    parts += [first_of(f"fn {name}", name, groups) for name, groups in above.items()]
-    parts += ["/// The type that a name names.\n" + first_of("pub fn type_by_name", "type_named", top)]
-    ghosts = [("Rattle.std.specs.Prelude", ["◌≡◌"]), (f"{READER}.specs.Names", list(leaves) + list(above) + ["type_named"])]
-    return layout.rust("The names of types, in groups.", ghosts, [], [("jsgen_tree", ["NodeType"])], "\n\n".join(parts))
-
-
-def tests(name, types):
-    chain = " else ".join(f'if name == "{t}" {{\n        Some(NodeType::{t})\n    }}' for t in types)
-    return f"""#[tactic(auto, unfolding(crate::specs::Names::{name}))]
-fn {name}(name: &str) -> Option<NodeType>
-    ensures {{ result ≡ {name} name.now }}
+def by_name(tables):
+    tried = "".join(f"    if let Some(found) = first_named(&{t}, name) {{\n        return Some(found);\n    }}\n" for t in tables[:-1])
+    return f"""/// The type that a name names.
+#[tactic(auto, unfolding(crate::specs::Names::type_named))]
+pub fn type_by_name(name: &str) -> Option<NodeType>
+    ensures {{ result ≡ type_named name.now }}
 {{
-    {chain} else {{
-        None
-    }}
+{tried}    first_named(&{tables[-1]}, name)
 }}"""
 
 
-def first_of(head, spec, groups):
-    tried = "".join(f"    if let Some(found) = {g}(name) {{\n        return Some(found);\n    }}\n" for g in groups[:-1])
-    return f"""{head}(name: &str) -> Option<NodeType>
-    ensures {{ result ≡ {spec} name.now }}
-{{
-{tried}    {groups[-1]}(name)
-}}"""
+def left():
+    whole = "first_named (map (λ n. (n.0.now, n.1)) {}) l.name"
+    body = f"""-- the names left give the whole
+abbrev pub invariant-loop-named : goal.invariant-loop-named
+invariant-loop-named l = {whole.format("(drop l.named-index l.names)")} ≡ {whole.format("l.names")}"""
+    homes = [("Rattle.std.proofs.Common", ["◌≡◌", "map", "drop"]), (f"{READER}.specs.Names", ["first_named"])]
+    aliases = [(f"{READER}.proofs.names.first_named.Given", "goal")]
+    return layout.antt("A search through a table of names.", homes, aliases, body)

@@ -11,7 +11,7 @@ def write(table):
     parts = ["-- ---- what is so of each type of a set is so of each row of it"]
     parts += [each_row(table, s) for s in large(table)]
     parts += ["-- ---- set by set"]
-    parts += [lemma(table, s, test) for test in tests(table) for s in large(table)]
+    parts += [lemma(table, s, test) for test in tests(table) for s in large(table) if alike(table, s, test)]
     parts += [program_alone(table), "-- ---- which rows a place takes"]
     parts += [rules(table, test) for test in tests(table)]
     inner = [kept(table, s) for s in large(table) if kept(table, s) != s.name]
@@ -62,11 +62,17 @@ def each_row(table, s):
     return f"{name} : {of}(f : NodeType → Bool) (b : Bool) → {facts}(r : {held}) → f ({row(table, s)}) ≡ b{clauses}"
 
 
+def answers(table, s, test):
+    """What the test says of the types of a set."""
+    return {m in types_of_test(table, test) for m in own(table, s)}
+
+
+def alike(table, s, test):
+    return len(answers(table, s, test)) == 1
+
+
 def answer(table, s, test):
-    said = {m in types_of_test(table, test) for m in own(table, s)}
-    if len(said) > 1:
-        raise SystemExit(f"{test}: a place that takes some of {s.name} has no form in the reader yet")
-    return said.pop()
+    return True in answers(table, s, test)
 
 
 def named(table, s, test):
@@ -91,5 +97,5 @@ def program_alone(table):
 
 
 def rules(table, test):
-    names = ", ".join(named(table, s, test) for s in large(table))
+    names = ", ".join(named(table, s, test) for s in large(table) if alike(table, s, test))
     return f"pub ruleset takes_{test.removeprefix('is_')}s = ({names})"
