@@ -9,10 +9,11 @@ ghost use Rattle.jsgen_tree.specs.Job.{no_tables};
 ghost use Rattle.jsgen_model.specs.Valid.{height, is_lexical, job_breaches, Judges};
 ghost use Rattle.jsgen_check.specs.Verdict.{tree_verdict, child_verdict};
 
-mod declarations;
+mod children;
 mod expressions;
 mod height;
-mod program;
+mod lexical;
+mod rules;
 mod sets;
 mod statements;
 mod surroundings;
@@ -20,12 +21,13 @@ mod surroundings;
 use crate::height::{
     is_binding_pattern_higher, is_declaration_higher, is_expression_higher, is_statement_higher,
 };
-use crate::program::check_program_row;
+use crate::lexical::{
+    is_binding_pattern_lexical, is_declaration_lexical, is_expression_lexical, is_statement_lexical,
+};
 use crate::sets::{
     check_binding_pattern_set, check_declaration_set, check_expression_set, check_statement_set,
-    is_binding_pattern_lexical, is_declaration_lexical, is_expression_lexical,
-    is_statement_lexical,
 };
+use crate::statements::check_program_row;
 pub use crate::surroundings::Surroundings;
 use jsgen_model::TreeFault;
 use jsgen_rules::check_set;

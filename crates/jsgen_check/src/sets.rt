@@ -1,18 +1,19 @@
-// What is asked of a member of a set is what its own type asks.
+// Generated from tools/nodes/table.txt; edit that and run tools/nodes/generate.
+// A member of a set is checked as its own type is.
+#![tactic(auto, using(crate::proofs::Verdicts::judging))]
+
 ghost use Rattle.std.specs.Prelude.{◌≡◌};
-ghost use Rattle.jsgen_tree.specs.Tree.{Tree};
-ghost use Rattle.jsgen_tree.specs.Rows.{expression_plain, statement_plain, declaration_plain, binding_pattern_plain};
-ghost use Rattle.jsgen_model.specs.Valid.{is_lexical};
+ghost use Rattle.jsgen_tree.specs.Rows.{expression_plain, declaration_plain, statement_plain, binding_pattern_plain};
 ghost use Rattle.jsgen_check.specs.Verdict.{tree_verdict};
 
-use crate::declarations::{check_binding_identifier, check_variable_declaration};
 use crate::expressions::{
     check_binary_expression, check_call_expression, check_computed_member_expression,
     check_identifier_reference, check_logical_expression, check_numeric_literal,
     check_parenthesized_expression, check_static_member_expression, check_string_literal,
 };
 use crate::statements::{
-    check_block_statement, check_empty_statement, check_expression_statement, check_if_statement,
+    check_binding_identifier, check_block_statement, check_empty_statement,
+    check_expression_statement, check_if_statement, check_variable_declaration,
 };
 use crate::{CheckNode, Surroundings};
 use jsgen_model::TreeFault;
@@ -39,38 +40,6 @@ pub fn check_expression_set<N: CheckNode>(
     }
 }
 
-pub fn is_expression_lexical<N>(node: &Expression<N>) -> bool
-    ensures { (plain : N → Tree) → result ≡ is_lexical (expression_plain plain node.now) }
-{
-    match node {
-        _ => false,
-    }
-}
-
-pub fn check_statement_set<N: CheckNode>(
-    node: &Statement<N>,
-    around: Surroundings<'_>,
-) -> Result<(), TreeFault>
-    ensures { result ≡ tree_verdict around.entry (statement_plain N.plain node.now) }
-{
-    match node {
-        Statement::Declaration(declaration) => declaration.get().check(around),
-        Statement::ExpressionStatement(node) => check_expression_statement(node, around),
-        Statement::BlockStatement(node) => check_block_statement(node, around),
-        Statement::IfStatement(node) => check_if_statement(node, around),
-        Statement::EmptyStatement(node) => check_empty_statement(node, around),
-    }
-}
-
-pub fn is_statement_lexical<N: CheckNode>(node: &Statement<N>) -> bool
-    ensures { result ≡ is_lexical (statement_plain N.plain node.now) }
-{
-    match node {
-        Statement::Declaration(declaration) => declaration.get().is_lexical(),
-        _ => false,
-    }
-}
-
 pub fn check_declaration_set<N: CheckNode>(
     node: &Declaration<N>,
     around: Surroundings<'_>,
@@ -82,11 +51,18 @@ pub fn check_declaration_set<N: CheckNode>(
     }
 }
 
-pub fn is_declaration_lexical<N>(node: &Declaration<N>) -> bool
-    ensures { (plain : N → Tree) → result ≡ is_lexical (declaration_plain plain node.now) }
+pub fn check_statement_set<N: CheckNode>(
+    node: &Statement<N>,
+    around: Surroundings<'_>,
+) -> Result<(), TreeFault>
+    ensures { result ≡ tree_verdict around.entry (statement_plain N.plain node.now) }
 {
     match node {
-        Declaration::VariableDeclaration(_) => true,
+        Statement::Declaration(node) => node.get().check(around),
+        Statement::ExpressionStatement(node) => check_expression_statement(node, around),
+        Statement::BlockStatement(node) => check_block_statement(node, around),
+        Statement::IfStatement(node) => check_if_statement(node, around),
+        Statement::EmptyStatement(node) => check_empty_statement(node, around),
     }
 }
 
@@ -98,13 +74,5 @@ pub fn check_binding_pattern_set(
 {
     match node {
         BindingPattern::BindingIdentifier(node) => check_binding_identifier(node, around),
-    }
-}
-
-pub fn is_binding_pattern_lexical(node: &BindingPattern) -> bool
-    ensures { result ≡ is_lexical (binding_pattern_plain node.now) }
-{
-    match node {
-        _ => false,
     }
 }

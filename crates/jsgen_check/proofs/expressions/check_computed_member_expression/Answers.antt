@@ -1,3 +1,5 @@
+-- Generated from tools/nodes/table.txt; edit that and run tools/nodes/generate.
+-- A row's steps, one behind another.
 use Rattle.jsgen_check.proofs.Steps.{broken, found, kept, last, no_rules, of_row}
 use Rattle.jsgen_check.proofs.expressions.check_computed_member_expression.Goals as goal
 

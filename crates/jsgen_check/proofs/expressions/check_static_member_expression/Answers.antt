@@ -1,7 +1,9 @@
+-- Generated from tools/nodes/table.txt; edit that and run tools/nodes/generate.
+-- A row's steps, one behind another.
 use Rattle.std.proofs.Common.{refl, sym, ◌∙◌}
-use Rattle.jsgen_tree.specs.declared.types.NodeSet.TheVariants as sets
 use Rattle.jsgen_check.proofs.Verdicts.{of_right_set}
 use Rattle.jsgen_check.proofs.Steps.{broken, found, kept, last, no_rules, of_row}
+use Rattle.jsgen_tree.specs.declared.types.NodeSet.TheVariants as sets
 use Rattle.jsgen_check.proofs.expressions.check_static_member_expression.Goals as goal
 
 pub returns-in_err-check_span : goal.returns-in_err-check_span
