@@ -28,6 +28,6 @@ def rust(about, ghosts, aliases, homes, body):
     lines = [RUST + f"// {about}"]
     lines += [f"ghost use {m}.{{{', '.join(ns)}}};" for m, ns in used(body, ghosts)]
     lines += [f"ghost use {m} as {a};" for m, a in aliases if re.search(rf"(?<![\w.]){a}\.", body)]
-    uses = [f"use {m}::{{{', '.join(sorted(ns))}}};" for m, ns in sorted(used(body, homes))]
-    uses = [re.sub(r"\{(\w+)\}", r"\1", u) for u in uses]
+    uses = [f"use {m}::{{{', '.join(sorted(ns))}}};" for m, ns in used(body, homes)]
+    uses = sorted(re.sub(r"\{(\w+)\}", r"\1", u) for u in uses)
     return "\n".join(lines + [""] + uses) + "\n\n" + body.strip() + "\n"
