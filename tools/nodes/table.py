@@ -38,6 +38,7 @@ class Node:
     doc: str = ""
     fields: list = field(default_factory=list)
     ghosts: list = field(default_factory=list)
+    rules: bool = False  # whether it has rules of its own, which are checked by hand
 
     @property
     def row(self):
@@ -112,6 +113,8 @@ class Table:
                     at.words.append((word, variant))
                 elif isinstance(at, Set):
                     at.members += line.split()
+                elif line == "rules":
+                    at.rules = True
                 elif line.startswith("ghost "):
                     at.ghosts.append(line)
                 elif indent > 4:

@@ -14,7 +14,7 @@ use Rattle.jsgen_model.specs.declared.fault.TreeFault.{TreeFault}
 use Rattle.jsgen_rules.specs.Verdict.{verdict}
 use Rattle.jsgen_check.specs.declared.surroundings.Surroundings.{Surroundings}
 use Rattle.jsgen_check.specs.Verdict.{surroundings_plain, tree_verdict, child_verdict, children_verdict}
-use Rattle.jsgen_check.proofs.Verdicts.{both, both_kept, both_broken, both_end, both_assoc, of_none, of_two, of_node, of_placed, of_first, slots_verdict}
+use Rattle.jsgen_check.proofs.Verdicts.{both, both_kept, both_broken, both_end, of_none, of_two, of_node, of_placed, of_first, slots_verdict}
 
 -- what the exit of a `?` returns
 pub broken : (r : Result (Unit {0}) TreeFault) (e : TreeFault) → IsErrAnd r (λ y. y ≡ e) → r ≡ Err e
@@ -36,9 +36,13 @@ last {r} {a} h = h ∙ sym (both_end a)
 pub no_rules : {r b : Result (Unit {0}) TreeFault} → r ≡ b → r ≡ both (verdict []) b
 no_rules h = kept (sym of_none) h
 
--- one with two
-pub two_rules : {r : Result (Unit {0}) TreeFault} (a b : List TreeFault) (c : Result (Unit {0}) TreeFault) → r ≡ both (verdict a) (both (verdict b) c) → r ≡ both (verdict (a ++ b)) c
-two_rules {r} a b c h = h ∙ (sym (both_assoc (verdict a) (verdict b) c) ∙ ap (λ q. both q c) (sym (of_two a b)))
+-- a row with neither rules of its own nor children
+pub only_span : {r a : Result (Unit {0}) TreeFault} → r ≡ a → r ≡ both a (both (verdict []) (Ok tt))
+only_span {r} {a} h = last h ∙ ap (both a) (no_rules refl)
+
+-- two rules, one behind the other
+pub two_rules : {r : Result (Unit {0}) TreeFault} (a b : List TreeFault) → r ≡ both (verdict a) (verdict b) → r ≡ verdict (a ++ b)
+two_rules a b h = h ∙ sym (of_two a b)
 
 -- a row: its span, its own rules, and its children
 pub of_row : {r : Result (Unit {0}) TreeFault} (around : Surroundings) (type : NodeType) (a : Atoms) (slots : Slots) → r ≡ both (verdict (span_faults a.span)) (both (verdict (own_faults (surroundings_plain around) (node type a slots))) (slots_verdict around (child_sets (fields type)) slots)) → r ≡ tree_verdict around (node type a slots)

@@ -95,7 +95,7 @@ of_slots around [] slots = refl
 
 -- ---- nodes
 
-pub both_assoc : (a b c : Result (Unit {0}) TreeFault) → both (both a b) c ≡ both a (both b c)
+both_assoc : (a b c : Result (Unit {0}) TreeFault) → both (both a b) c ≡ both a (both b c)
 unfolding both
 both_assoc (Ok u) b c = refl
 both_assoc (Err e) b c = refl

@@ -1,4 +1,4 @@
-// Whether a member of a set is a lexical declaration.
+// Lexical declarations, which stand in a list of statements only.
 ghost use Rattle.std.specs.Prelude.{◌≡◌};
 ghost use Rattle.jsgen_tree.specs.Tree.{Tree};
 ghost use Rattle.jsgen_tree.specs.Rows.{expression_plain, statement_plain, declaration_plain, binding_pattern_plain};

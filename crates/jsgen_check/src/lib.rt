@@ -9,12 +9,13 @@ ghost use Rattle.jsgen_tree.specs.Job.{no_tables};
 ghost use Rattle.jsgen_model.specs.Valid.{height, is_lexical, job_breaches, Judges};
 ghost use Rattle.jsgen_check.specs.Verdict.{tree_verdict, child_verdict};
 
+mod children;
+mod expressions;
 mod height;
 mod lexical;
-mod lists;
-mod own;
-mod rows;
+mod rules;
 mod sets;
+mod statements;
 mod surroundings;
 
 use crate::height::{
@@ -23,10 +24,10 @@ use crate::height::{
 use crate::lexical::{
     is_binding_pattern_lexical, is_declaration_lexical, is_expression_lexical, is_statement_lexical,
 };
-use crate::rows::statements::check_program as check_program_row;
 use crate::sets::{
     check_binding_pattern_set, check_declaration_set, check_expression_set, check_statement_set,
 };
+use crate::statements::check_program_row;
 pub use crate::surroundings::Surroundings;
 use jsgen_model::TreeFault;
 use jsgen_rules::check_set;

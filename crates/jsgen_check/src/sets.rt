@@ -1,15 +1,17 @@
 // Generated from tools/nodes/table.txt; edit that and run tools/nodes/generate.
-// What is asked of a member of a set is what its own type asks.
+// A member of a set is checked as its own type is.
+#![tactic(auto, using(crate::proofs::Verdicts::judging))]
+
 ghost use Rattle.std.specs.Prelude.{◌≡◌};
 ghost use Rattle.jsgen_tree.specs.Rows.{expression_plain, declaration_plain, statement_plain, binding_pattern_plain};
 ghost use Rattle.jsgen_check.specs.Verdict.{tree_verdict};
 
-use crate::rows::expressions::{
+use crate::expressions::{
     check_binary_expression, check_call_expression, check_computed_member_expression,
     check_identifier_reference, check_logical_expression, check_numeric_literal,
     check_parenthesized_expression, check_static_member_expression, check_string_literal,
 };
-use crate::rows::statements::{
+use crate::statements::{
     check_binding_identifier, check_block_statement, check_empty_statement,
     check_expression_statement, check_if_statement, check_variable_declaration,
 };

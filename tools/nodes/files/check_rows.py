@@ -1,238 +1,276 @@
-"""The checker's row functions, lists and sets, with their proofs: the span of a node, the rules of its own, and each
-child at its place. The rules of a type's own are written by hand in src/own.rt, as `check_.._rules`."""
-
-import re
-from collections import Counter
+"""jsgen_check's check functions: a row keeps its span, its own rules, and asks its children, each at its place. What a
+row's own rules are stands by hand in crates/jsgen_check/src/rules.rt, for each type that has `rules` in the table."""
 
 import layout
-from files.check_height import CHECK, child_type, each, kinds_of, nests, plain
-from names import REPOSITORY, SPECS, TYPES, row_names
+from names import SPECS, plain_of, row_names
 from table import snake
 
+CHECK = "crates/jsgen_check"
 PROOFS = "Rattle.jsgen_check.proofs"
-VERDICTS = ["tree_verdict", "child_verdict", "maybe_verdict", "children_verdict"]
-JUDGING = "#![tactic(auto, using(crate::proofs::Verdicts::judging))]\n"
-LISTING = "#[tactic(auto, using(crate::proofs::Verdicts::listing))]\n"
+VERDICT = "Rattle.jsgen_check.specs.Verdict"
+JUDGING = "#![tactic(auto, using(crate::proofs::Verdicts::judging))]\n\n"
 AROUND = "around: Surroundings<'_>"
-ANSWER = "Result<(), TreeFault>"
+RESULT = "Result<(), TreeFault>"
 
 
 def write(table):
-    own = set(re.findall(r"fn (check_\w+_rules)", (REPOSITORY / CHECK / "src/own.rt").read_text()))
     files = {}
     for file, about in table.files.items():
         nodes = [n for n in table.nodes.values() if n.file == file]
-        body = "\n\n".join(of_type(table, n, own) for n in nodes)
-        text = rust(table, f"Checks of rows: {about[0].lower()}{about[1:]}", body, own)
-        head, said, rest = text.split("\n", 2)
-        files[f"{CHECK}/src/rows/{file}.rt"] = f"{head}\n{said}\n{JUDGING}\n{rest}"
+        files[f"{CHECK}/src/{file}.rt"] = rust(table, about, "\n\n".join(of_row(table, n) for n in nodes))
         for n in nodes:
-            if len(steps(table, n, own)) > 1:
-                files[f"{CHECK}/proofs/rows/{file}/{check(n.name)}/Answers.antt"] = proof(table, n, own)
-    lists = kinds_of(table, "*")
-    parts = [of_list(table, k) for k in lists] + [of_optional(table, k) for k in kinds_of(table, "?")]
-    parts += [of_inner_set(table, s) for s in table.sets.values() if not s.nests]
-    files[f"{CHECK}/src/lists.rt"] = rust(table, "Lists, and children that may be absent.", "\n\n".join(parts), own)
+            files[f"{CHECK}/proofs/{file}/{check(n.name)}/Answers.antt"] = row_answers(table, n)
+    lists, optional = kinds_of(table, "*"), kinds_of(table, "?")
+    inner = [s for s in table.sets.values() if not s.nests]
+    parts = [of_list(table, k) for k in lists] + [of_optional(table, k) for k in optional]
+    parts += [of_inner_set(table, s) for s in inner]
+    files[f"{CHECK}/src/children.rt"] = rust(table, "Lists, children that may be absent, and sets that don't nest.", "\n\n".join(parts))
     for k in lists:
-        files[f"{CHECK}/proofs/lists/{checks(k)}/Invariants.antt"] = invariant(table, k)
-        files[f"{CHECK}/proofs/lists/{checks(k)}/Answers.antt"] = turns(table, k)
-    body = "\n\n".join(of_set(table, s) for s in table.nesting())
-    files[f"{CHECK}/src/sets.rt"] = rust(table, "What is asked of a member of a set is what its own type asks.", body, own)
-    mods = "".join(f"pub mod {file};\n" for file in sorted(table.files))
-    files[f"{CHECK}/src/rows/mod.rt"] = layout.RUST + "// Checks of rows, by the file of their types.\n" + mods
+        files[f"{CHECK}/proofs/children/{check_all(k)}/Invariants.antt"] = invariant(table, k)
+        files[f"{CHECK}/proofs/children/{check_all(k)}/Answers.antt"] = list_answers(table, k)
+    sets = "\n\n".join(of_set(table, s) for s in table.nesting())
+    files[f"{CHECK}/src/sets.rt"] = rust(table, "A member of a set is checked as its own type is.", sets)
     return files
+
+
+def rust(table, about, body):
+    ghosts = [("Rattle.std.specs.Prelude", ["◌≡◌", "map", "option_map"]), (f"{SPECS}.Tree", ["optional", "trees"])]
+    ghosts += row_names(table)
+    ghosts += [(VERDICT, ["tree_verdict", "child_verdict", "maybe_verdict", "children_verdict"])]
+    tree = list(table.nodes) + list(table.sets) + [s.name + "Node" for s in table.nesting()] + ["NodeSet"]
+    checks = {f"crate::{f}": [check(n.name) for n in table.nodes.values() if n.file == f] for f in table.files}
+    checks["crate::children"] = [check_all(k) for k in kinds_of(table, "*")]
+    checks["crate::children"] += [check_optional(k) for k in kinds_of(table, "?")]
+    checks["crate::children"] += [check(s.name) for s in table.sets.values() if not s.nests]
+    checks["crate::rules"] = [rules(n) for n in table.nodes.values() if n.rules]
+    here = [(m, [n for n in ns if f"fn {n}(" not in body and f"fn {n}<" not in body]) for m, ns in checks.items()]
+    homes = here + [("crate", ["CheckNode", "Surroundings", "check_child"]), ("jsgen_model", ["TreeFault"]),
+                    ("jsgen_rules", ["check_span"]), ("jsgen_tree", tree)]
+    aliases = [(f"{SPECS}.declared.types.NodeSet.TheVariants", "sets")]
+    text = layout.rust(about, ghosts, aliases, homes, body)
+    head, _, rest = text.partition("ghost use")
+    return head + JUDGING + "ghost use" + rest
 
 
 # ---- names
 
+def kinds_of(table, many):
+    """The sets and types of the children that are lists or optional, in the order of their first use."""
+    return list(dict.fromkeys(f.kind for n in table.nodes.values() for f in table.children(n) if f.many == many))
+
+
+def nests(table, kind):
+    return kind in table.sets and table.sets[kind].nests
+
+
 def check(name):
-    return f"check_{snake(name)}"
+    """`check_program` is the call of the whole checker."""
+    return "check_" + snake(name) + ("_row" if name == "Program" else "")
 
 
-def checks(kind):
-    return check(kind) + "s"
+def rules(n):
+    return f"check_{snake(n.name)}_rules"
 
 
-def row_of(table, name):
-    return plain(table, name) + " node.now"
+def check_all(kind):
+    name = snake(kind)
+    return f"check_{name[:-1] + 'ie' if name.endswith('y') else name + 'e' if name.endswith('s') else name}s"
 
 
-def rust(table, about, body, own):
-    ghosts = [("Rattle.std.specs.Prelude", ["◌≡◌", "map", "option_map"]), (f"{SPECS}.Tree", ["optional", "trees"])]
-    ghosts += row_names(table) + [("Rattle.jsgen_check.specs.Verdict", VERDICTS)]
-    homes = [("crate", ["CheckNode", "Surroundings", "check_child"]), ("crate::own", sorted(own)),
-             ("crate::lists", [checks(k) for k in kinds_of(table, "*")] + [optional(k) for k in kinds_of(table, "?")]
-              + [check(s.name) for s in table.sets.values() if not s.nests])]
-    homes += [(f"crate::rows::{file}", [check(n.name) for n in table.nodes.values() if n.file == file]) for file in table.files]
-    tree = list(table.nodes) + list(table.sets) + [s.name + "Node" for s in table.nesting()] + ["NodeSet"]
-    homes += [("jsgen_model", ["TreeFault"]), ("jsgen_rules", ["check_span"]), ("jsgen_tree", tree)]
-    here = set(re.findall(r"(?m)^(?:pub )?fn (\w+)", body))
-    homes = [(m, [n for n in names if n not in here]) for m, names in homes]
-    return layout.rust(about, ghosts, [TYPES[1]], homes, body)
+def check_optional(kind):
+    return "check_optional_" + snake(kind)
 
 
-def optional(kind):
-    return f"check_optional_{snake(kind)}"
+def typed(table, name):
+    return (f"{name}<N>", "<N: CheckNode>") if table.generic(name) else (name, "")
 
 
-# ---- a row, step by step: the function that is called, its arguments, and what its contract says in the proof
-
-def steps(table, n, own):
-    found = [("check_span", "node.span", "{}")]
-    if f"{check(n.name)}_rules" in own:
-        found.append((f"{check(n.name)}_rules", "node, around", "{}"))
-    return found + [step(table, f) for f in table.children(n)]
+def child_type(table, kind):
+    return (f"{kind}Node<N>", "<N: CheckNode>") if nests(table, kind) else typed(table, kind)
 
 
-def step(table, f):
-    here = f"node.{f.rust}"
-    if f.many == "*":
-        return checks(f.kind), f"&{here}, around", "(rw c.deref#.ensures.value at {})"
-    if f.many == "?":
-        return optional(f.kind), f"&{here}, around", "{}"
-    if nests(table, f.kind):
-        return "check_child", f"{here}.get(), NodeSet::{f.kind}, around", "(rw c.get#.ensures at {})"
-    if f.kind in table.sets:
-        raise SystemExit(f"{f.name}: a child of {f.kind}, which doesn't nest, has no form in {CHECK} yet")
-    return check(f.kind), f"&{here}, around", f"((rw c.deref#.ensures at {{}}) ∙ sym (of_right_set _ sets.{f.kind} _ refl))"
+def plain(table, kind, of="N.plain"):
+    row, takes = plain_of(table, kind)
+    return f"{row} {of}" if takes else row
 
 
-def of_type(table, n, own):
-    parameter = "<N: CheckNode>" if table.generic(n.name) else ""
-    calls = [f"    {name}({arguments})" for name, arguments, _ in steps(table, n, own)]
-    unused = "" if any("around" in c for c in calls) else "    let _ = around;\n"
-    return f"""pub fn {check(n.name)}{parameter}(node: &{n.name}{"<N>" if parameter else ""}, {AROUND}) -> {ANSWER}
-    ensures {{ result ≡ tree_verdict around.entry ({row_of(table, n.name)}) }}
-{{
-{unused}{"?;{}".format(chr(10)).join(calls)}
-}}"""
+def each(table, kind, of="N.plain"):
+    row = plain(table, kind, of)
+    return f"({row})" if " " in row else row
 
 
-def numbered(called, seen):
-    """The name of one call among those of a function: the second of the same has -2 behind it."""
-    seen[called] += 1
-    return called if seen[called] == 1 else f"{called}-{seen[called]}"
+# ---- rows
 
-
-def proof(table, n, own):
-    g = "g " if table.generic(n.name) else ""
-    has_rules = f"{check(n.name)}_rules" in own
-    seen, lemmas, parts, last = Counter(), [], [], len(steps(table, n, own)) - 1
-    for i, (name, _, said) in enumerate(steps(table, n, own)):
-        call = numbered(name, seen)
-        for helper in re.findall(r"c\.(\w+)#", said):
-            said = said.replace(f"c.{helper}#", "c." + numbered(helper, seen))
-        if i < last:
-            exit_of = "c.from_residual" if i == 0 else f"c.from_residual-in_err-{call}"
-            goal = f"returns-in_err-{call}"
-            fault = f"found _ (broken _ _ {exit_of}.ensures.1) {said.format(f'c.in_err-{call}.ensures')}"
-            parts.append(f"pub {goal} : goal.{goal}\n{goal} {g}c = {wrapped(lemmas, fault, has_rules)}")
-            lemmas.append(f"kept {said.format(f'c.in_ok-{call}.ensures')}")
+def steps(table, n):
+    """The calls of a row's check, each with the facts of the calls that give its argument, and whether the child is of
+    a type, so that it is surely of its set."""
+    found = [("check_span", "check_span(node.span)", None, None)]
+    if n.rules:
+        name = rules(n)
+        found.append((name, f"{name}(node, around)", None, None))
+    for f in table.children(n):
+        here = f"node.{f.rust}"
+        if f.many == "*":
+            found.append((check_all(f.kind), f"{check_all(f.kind)}(&{here}, around)", "deref.value", None))
+        elif f.many == "?":
+            found.append((check_optional(f.kind), f"{check_optional(f.kind)}(&{here}, around)", None, None))
+        elif nests(table, f.kind):
+            found.append(("check_child", f"check_child({here}.get(), NodeSet::{f.kind}, around)", "get", None))
         else:
-            end = f"last {said.format(f'c.{call}.ensures')}"
-            parts.append(f"pub returns : goal.returns\nreturns {g}c = {wrapped(lemmas, end, has_rules)}")
-    homes = [("Rattle.std.proofs.Common", ["refl", "sym", "◌∙◌"]), (f"{PROOFS}.Verdicts", ["of_right_set"]),
-             (f"{PROOFS}.Steps", ["broken", "found", "kept", "last", "no_rules", "of_row"])]
-    aliases = [TYPES[1], (f"{PROOFS}.rows.{n.file}.{check(n.name)}.Goals", "goal")]
-    return layout.antt("Step by step.", homes, aliases, "\n\n".join(parts))
+            of_type = f.kind if f.kind in table.nodes else None
+            found.append((check(f.kind), f"{check(f.kind)}(&{here}, around)", "deref", of_type))
+    return found
 
 
-def wrapped(lemmas, inner, has_rules):
-    """The steps before, from the first on; behind the first stand the rules of the node's own, or none."""
-    for i in reversed(range(len(lemmas))):
-        inner = f"no_rules ({inner})" if i == 0 and not has_rules else inner
-        inner = f"{lemmas[i]} ({inner})"
-    return f"of_row _ _ _ _ ({inner})"
+def of_row(table, n):
+    of, parameter = typed(table, n.name)
+    calls = [call for _, call, _, _ in steps(table, n)]
+    unused = "" if any("around" in call for call in calls) else "    let _ = around;\n"
+    body = "".join(f"    {call}?;\n" for call in calls[:-1]) + f"    {calls[-1]}\n"
+    return f"""pub fn {check(n.name)}{parameter}(node: &{of}, {AROUND}) -> {RESULT}
+    ensures {{ result ≡ tree_verdict around.entry ({plain(table, n.name)} node.now) }}
+{{
+{unused}{body}}}"""
 
 
-# ---- lists and sets
+def numbered(names):
+    """The names that calls have in a proof: the second of a name ends in -2."""
+    seen, found = {}, []
+    for name in names:
+        seen[name] = seen.get(name, 0) + 1
+        found.append(name if seen[name] == 1 else f"{name}-{seen[name]}")
+    return found
 
-def asked(table, kind, node):
-    if nests(table, kind):
-        return f"check_child({node}.get(), NodeSet::{kind}, around)"
-    return f"{check(kind)}({node}, around)"
 
+def row_answers(table, n):
+    every = steps(table, n)
+    names = numbered([name for name, _, _, _ in every])
+    given = numbered([(fact or "").split(".")[0] for _, _, fact, _ in every])
+
+    def said(i, arm):
+        _, _, fact, of_type = every[i]
+        text = f"c.{arm}{names[i]}.ensures"
+        if fact:
+            value = ".value" if fact.endswith(".value") else ""
+            text = f"(rw c.{given[i]}.ensures{value} at {text})"
+        return f"({text} ∙ sym (of_right_set _ sets.{of_type} _ refl))" if of_type else text
+
+    def until(at, end, i=0):
+        """The steps from the number on, all kept up to the one that the check ends at."""
+        text = end if i == at else f"kept {said(i, 'in_ok-')} ({until(at, end, i + 1)})"
+        return f"no_rules ({text})" if i == 1 and not n.rules else text
+
+    def term(at):
+        if at == len(every) - 1:
+            return until(at, f"{'only_span' if len(every) == 1 else 'last'} {said(at, '')}")
+        residual = "from_residual" if at == 0 else f"from_residual-in_err-{names[at]}"
+        return until(at, f"found _ (broken _ _ c.{residual}.ensures.1) {said(at, 'in_err-')}")
+
+    g = "g " if table.generic(n.name) else ""
+    parts = []
+    for at, name in enumerate(names):
+        goal = "returns" if at == len(names) - 1 else f"returns-in_err-{name}"
+        parts.append(f"pub {goal} : goal.{goal}\n{goal} {g}c = of_row _ _ _ _ ({term(at)})")
+    homes = [("Rattle.std.proofs.Common", ["◌≡◌", "refl", "sym", "◌∙◌"]), (f"{PROOFS}.Verdicts", ["of_right_set"]),
+             (f"{PROOFS}.Steps", ["broken", "found", "kept", "last", "no_rules", "only_span", "of_row"])]
+    aliases = [(f"{SPECS}.declared.types.NodeSet.TheVariants", "sets"),
+               (f"{PROOFS}.{n.file}.{check(n.name)}.Goals", "goal")]
+    return layout.antt("A row's steps, one behind another.", homes, aliases, "\n\n".join(parts))
+
+
+# ---- children
 
 def of_list(table, kind):
     of, parameter = child_type(table, kind)
-    return f"""{LISTING}pub fn {checks(kind)}{parameter}(nodes: &[{of}], {AROUND}) -> {ANSWER}
+    call = "check_child(node.get(), NodeSet::" + kind + ", around)" if nests(table, kind) else f"{check(kind)}(node, around)"
+    return f"""#[tactic(auto, using(crate::proofs::Verdicts::listing))]
+pub fn {check_all(kind)}{parameter}(nodes: &[{of}], {AROUND}) -> {RESULT}
     ensures {{ result ≡ children_verdict around.entry sets.{kind} (trees (map {each(table, kind)} nodes.now)) }}
 {{
     for node in nodes {{
-        {asked(table, kind, "node")}?;
+        {call}?;
     }}
     Ok(())
 }}"""
 
 
 def of_optional(table, kind):
+    if not nests(table, kind):
+        raise SystemExit(f"{kind}?: an optional child that doesn't nest has no form in {CHECK} yet")
     of, parameter = child_type(table, kind)
-    return f"""pub fn {optional(kind)}{parameter}(node: &Option<{of}>, {AROUND}) -> {ANSWER}
+    return f"""pub fn {check_optional(kind)}{parameter}(node: &Option<{of}>, {AROUND}) -> {RESULT}
     ensures {{ result ≡ maybe_verdict around.entry sets.{kind} (optional (option_map {each(table, kind)} node.now)) }}
 {{
     match node {{
-        Some(node) => {asked(table, kind, "node")},
+        Some(node) => check_child(node.get(), NodeSet::{kind}, around),
         None => Ok(()),
     }}
 }}"""
 
 
 def of_inner_set(table, s):
-    if any(m not in table.sets for m in s.members):
-        raise SystemExit(f"set {s.name}: a member that doesn't nest has no form in {CHECK} yet")
-    arms = "".join(f"        {s.name}::{m}(node) => check_child(node.get(), NodeSet::{s.name}, around),\n" for m in s.members)
-    return f"""fn {check(s.name)}<N: CheckNode>(node: &{s.name}<N>, {AROUND}) -> {ANSWER}
-    ensures {{ result ≡ child_verdict around.entry sets.{s.name} ({row_of(table, s.name)}) }}
+    of, parameter = typed(table, s.name)
+    arms = ""
+    for m in s.members:
+        call = f"check_child(node.get(), NodeSet::{s.name}, around)" if m in table.sets else f"{check(m)}(node, around)"
+        arms += f"        {s.name}::{m}(node) => {call},\n"
+    return f"""pub fn {check(s.name)}{parameter}(node: &{of}, {AROUND}) -> {RESULT}
+    ensures {{ result ≡ child_verdict around.entry sets.{s.name} ({plain(table, s.name)} node.now) }}
 {{
     match node {{
 {arms}    }}
 }}"""
-
-
-def of_set(table, s):
-    parameter = "<N: CheckNode>" if table.generic(s.name) else ""
-    row = s.plain + (" N.plain" if parameter else "")
-    arms = "".join(f"        {s.name}::{m}(node) => {'node.get().check(around)' if m in table.sets else f'{check(m)}(node, around)'},\n"
-                   for m in s.members)
-    return f"""pub fn {check(s.name)}_set{parameter}(node: &{s.name}{"<N>" if parameter else ""}, {AROUND}) -> {ANSWER}
-    ensures {{ result ≡ tree_verdict around.entry ({row} node.now) }}
-{{
-    match node {{
-{arms}    }}
-}}"""
-
-
-# ---- proofs of loops
-
-def over(table, kind):
-    generic = child_type(table, kind)[1] != ""
-    return ("g " if generic else ""), each(table, kind, "g.N.CheckNode.plain")
 
 
 def invariant(table, kind):
-    g, row = over(table, kind)
+    generic = child_type(table, kind)[1] != ""
     body = f"""-- the nodes left are judged as all of them are
 abbrev pub invariant-loop-node : goal.invariant-loop-node
-invariant-loop-node {g}l =
-    let found = λ (ns : _). children_verdict l.around sets.{kind} (trees (map {row} ns)) in
+invariant-loop-node {"g " if generic else ""}l =
+    let found = λ (ns : _). children_verdict l.around sets.{kind} (trees (map {each(table, kind, "g.N.CheckNode.plain")} ns)) in
     found (drop l.node-index l.nodes) ≡ found l.nodes"""
     homes = [("Rattle.std.proofs.Common", ["◌≡◌", "map", "drop"]), (f"{SPECS}.Tree", ["trees"])] + row_names(table)
-    homes += [("Rattle.jsgen_check.specs.Verdict", ["children_verdict"])]
-    return layout.antt("What holds in the loop.", homes, [TYPES[1], (f"{PROOFS}.lists.{checks(kind)}.Given", "goal")], body)
+    homes += [(VERDICT, ["children_verdict"])]
+    aliases = [(f"{SPECS}.declared.types.NodeSet.TheVariants", "sets"),
+               (f"{PROOFS}.children.{check_all(kind)}.Given", "goal")]
+    return layout.antt("What holds in the loop.", homes, aliases, body)
 
 
-def turns(table, kind):
-    g, row = over(table, kind)
+def list_answers(table, kind):
+    g = "g " if child_type(table, kind)[1] else ""
     call = "check_child" if nests(table, kind) else check(kind)
-    told = ("(rw c.get.ensures at {})" if nests(table, kind) else "{}" if kind in table.sets
-            else f"({{}} ∙ sym (of_right_set _ sets.{kind} _ refl))")
-    turn = (f"c.args.around sets.{kind} {row} c.args.nodes.now c.loop-node.node-index c.node-item.result "
-            "c.loop-node-test.true c.node-item.is c.loop-node.invariant")
+
+    def said(arm):
+        text = f"c.{arm}-{call}.ensures"
+        if nests(table, kind):
+            return f"(rw c.get.ensures at {text})"
+        return f"({text} ∙ sym (of_right_set _ sets.{kind} _ refl))" if kind in table.nodes else text
+
+    turn = (f"c.args.around sets.{kind} {each(table, kind, 'g.N.CheckNode.plain')} c.args.nodes.now c.loop-node.node-index "
+            "c.node-item.result c.loop-node-test.true c.node-item.is c.loop-node.invariant")
     body = f"""pub loop-node-preserved : goal.loop-node-preserved
-loop-node-preserved {g}c = turn_kept {turn} {told.format(f'c.in_ok-{call}.ensures')}
+loop-node-preserved {g}c = turn_kept {turn} {said("in_ok")}
 
 pub returns-in_err-{call} : goal.returns-in_err-{call}
-returns-in_err-{call} {g}c = turn_broken {turn} (broken _ _ c.from_residual.ensures.1) {told.format(f'c.in_err-{call}.ensures')}"""
-    homes = [("Rattle.std.proofs.Common", ["refl", "sym", "◌∙◌"])] + row_names(table)
+returns-in_err-{call} {g}c = turn_broken {turn} (broken _ _ c.from_residual.ensures.1) {said("in_err")}"""
+    homes = [("Rattle.std.proofs.Common", ["◌≡◌", "refl", "sym", "◌∙◌"])] + row_names(table)
     homes += [(f"{PROOFS}.Verdicts", ["of_right_set"]), (f"{PROOFS}.Steps", ["broken", "turn_broken", "turn_kept"])]
-    return layout.antt("A turn of the loop.", homes, [TYPES[1], (f"{PROOFS}.lists.{checks(kind)}.Goals", "goal")], body)
+    aliases = [(f"{SPECS}.declared.types.NodeSet.TheVariants", "sets"),
+               (f"{PROOFS}.children.{check_all(kind)}.Goals", "goal")]
+    return layout.antt("A turn of the loop.", homes, aliases, body)
+
+
+# ---- sets
+
+def of_set(table, s):
+    of, parameter = typed(table, s.name)
+    arms = ""
+    for m in s.members:
+        call = "node.get().check(around)" if m in table.sets else f"{check(m)}(node, around)"
+        arms += f"        {s.name}::{m}(node) => {call},\n"
+    return f"""pub fn {check(s.name)}_set{parameter}(node: &{of}, {AROUND}) -> {RESULT}
+    ensures {{ result ≡ tree_verdict around.entry ({s.plain}{" N.plain" if parameter else ""} node.now) }}
+{{
+    match node {{
+{arms}    }}
+}}"""

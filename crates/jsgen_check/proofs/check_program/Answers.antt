@@ -9,4 +9,4 @@ pub returns : goal.returns
 unfolding surroundings_plain
 returns c =
     let job : JobData = record { options = options_plain c.args.options.now; tables = no_tables; program = program_plain c.args.program.now } in
-    rw c.check_program.ensures (of_job (record { options = c.args.options; source = c.as_str-source.result }) job (rw c.as_str-source.ensures.value))
+    rw c.check_program_row.ensures (of_job (record { options = c.args.options; source = c.as_str-source.result }) job (rw c.as_str-source.ensures.value))

@@ -1,0 +1,14 @@
+-- Generated from tools/nodes/table.txt; edit that and run tools/nodes/generate.
+-- What holds in the loop.
+use Rattle.std.proofs.Common.{◌≡◌, map, drop}
+use Rattle.jsgen_tree.specs.Tree.{trees}
+use Rattle.jsgen_tree.specs.Rows.{in_argument}
+use Rattle.jsgen_check.specs.Verdict.{children_verdict}
+use Rattle.jsgen_tree.specs.declared.types.NodeSet.TheVariants as sets
+use Rattle.jsgen_check.proofs.children.check_arguments.Given as goal
+
+-- the nodes left are judged as all of them are
+abbrev pub invariant-loop-node : goal.invariant-loop-node
+invariant-loop-node g l =
+    let found = λ (ns : _). children_verdict l.around sets.Argument (trees (map (in_argument g.N.CheckNode.plain) ns)) in
+    found (drop l.node-index l.nodes) ≡ found l.nodes
