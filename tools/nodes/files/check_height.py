@@ -149,7 +149,8 @@ def of_set(table, s):
             arms += f"        {s.name}::{m}(node) => {asked(table, m, 'node', 'levels')},\n"
     arms += "        _ => levels == 0,\n" if leaves else ""
     row = s.plain if s.nests else "in_" + snake(s.name)
-    return f"""{HEIGHTS if leaves else ""}{"pub " if s.nests else ""}fn {is_higher(s.name)}{parameter}(node: &{of}, levels: u32) -> bool
+    head = (HEIGHTS if leaves else "") + ("pub " if s.nests else "")
+    return f"""{head}fn {is_higher(s.name)}{parameter}(node: &{of}, levels: u32) -> bool
     ensures {{ result ≡ nat_lt levels (height ({row}{" N.plain" if parameter else ""} node.now)) }}
 {{
     match node {{

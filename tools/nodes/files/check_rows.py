@@ -24,7 +24,8 @@ def write(table):
     inner = [s for s in table.sets.values() if not s.nests]
     parts = [of_list(table, k) for k in lists] + [of_optional(table, k) for k in optional]
     parts += [of_inner_set(table, s) for s in inner]
-    files[f"{CHECK}/src/children.rt"] = rust(table, "Lists, children that may be absent, and sets that don't nest.", "\n\n".join(parts))
+    about = "Lists, children that may be absent, and sets that don't nest."
+    files[f"{CHECK}/src/children.rt"] = rust(table, about, "\n\n".join(parts))
     for k in lists:
         files[f"{CHECK}/proofs/children/{check_all(k)}/Invariants.antt"] = invariant(table, k)
         files[f"{CHECK}/proofs/children/{check_all(k)}/Answers.antt"] = list_answers(table, k)
@@ -182,7 +183,9 @@ def row_answers(table, n):
 
 def of_list(table, kind):
     of, parameter = child_type(table, kind)
-    call = "check_child(node.get(), NodeSet::" + kind + ", around)" if nests(table, kind) else f"{check(kind)}(node, around)"
+    call = f"{check(kind)}(node, around)"
+    if nests(table, kind):
+        call = f"check_child(node.get(), NodeSet::{kind}, around)"
     return f"""#[tactic(auto, using(crate::proofs::Verdicts::listing))]
 pub fn {check_all(kind)}{parameter}(nodes: &[{of}], {AROUND}) -> {RESULT}
     ensures {{ result ≡ children_verdict around.entry sets.{kind} (trees (map {each(table, kind)} nodes.now)) }}
@@ -224,10 +227,11 @@ def of_inner_set(table, s):
 
 def invariant(table, kind):
     generic = child_type(table, kind)[1] != ""
+    row = each(table, kind, "g.N.CheckNode.plain")
     body = f"""-- the nodes left are judged as all of them are
 abbrev pub invariant-loop-node : goal.invariant-loop-node
 invariant-loop-node {"g " if generic else ""}l =
-    let found = λ (ns : _). children_verdict l.around sets.{kind} (trees (map {each(table, kind, "g.N.CheckNode.plain")} ns)) in
+    let found = λ (ns : _). children_verdict l.around sets.{kind} (trees (map {row} ns)) in
     found (drop l.node-index l.nodes) ≡ found l.nodes"""
     homes = [("Rattle.std.proofs.Common", ["◌≡◌", "map", "drop"]), (f"{SPECS}.Tree", ["trees"])] + row_names(table)
     homes += [(VERDICT, ["children_verdict"])]
@@ -246,8 +250,9 @@ def list_answers(table, kind):
             return f"(rw c.get.ensures at {text})"
         return f"({text} ∙ sym (of_right_set _ sets.{kind} _ refl))" if kind in table.nodes else text
 
-    turn = (f"c.args.around sets.{kind} {each(table, kind, 'g.N.CheckNode.plain')} c.args.nodes.now c.loop-node.node-index "
-            "c.node-item.result c.loop-node-test.true c.node-item.is c.loop-node.invariant")
+    row = each(table, kind, "g.N.CheckNode.plain")
+    turn = (f"c.args.around sets.{kind} {row} c.args.nodes.now c.loop-node.node-index c.node-item.result "
+            "c.loop-node-test.true c.node-item.is c.loop-node.invariant")
     body = f"""pub loop-node-preserved : goal.loop-node-preserved
 loop-node-preserved {g}c = turn_kept {turn} {said("in_ok")}
 
