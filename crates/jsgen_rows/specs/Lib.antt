@@ -2,5 +2,6 @@ pub mod Job
 pub mod Kept
 pub mod Meaning
 pub mod Names
+pub mod Parts
 pub mod Reads
 pub mod Values

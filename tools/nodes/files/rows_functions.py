@@ -1,9 +1,10 @@
-"""The reader's src/rows: a function for each type, and the choice among them."""
+"""The reader's src/rows: a function for each type, and the choice among them, in parts; and specs/Parts.antt: which
+types are in which part."""
 
 import layout
 from files.rows_children import reader_of
 from files.rows_kept import kept, set_of
-from names import READER, SPECS, TYPES
+from names import READER, SPECS, TYPES, types_in_antt
 from table import snake
 
 FOLDER = "crates/jsgen_rows/src/rows"
@@ -11,8 +12,8 @@ MOST = 15       # functions in a file
 
 
 def write(table):
-    files = {f"{FOLDER}/{name}.rt": one_file(table, table.files[file], nodes) for name, file, nodes in parts(table)}
-    return files | {f"{FOLDER}/mod.rt": choice(table)}
+    files = {f"{FOLDER}/{name}.rt": one_file(table, name, table.files[file], nodes) for name, file, nodes in parts(table)}
+    return files | {f"{FOLDER}/mod.rt": choice(table), "crates/jsgen_rows/specs/Parts.antt": specs(table)}
 
 
 def by_hand(n):
@@ -21,34 +22,52 @@ def by_hand(n):
 
 
 def parts(table):
-    """The files: their names, the table's file, and the types."""
+    """The parts: their names, the table's file, and the types."""
     every = []
     for file in table.files:
-        nodes = [n for n in table.nodes.values() if n.file == file and not by_hand(n)]
+        nodes = [n for n in table.nodes.values() if n.file == file]
         for i in range(0, len(nodes), MOST):
             every.append((file + (f"_{i // MOST + 1}" if i else ""), file, nodes[i:i + MOST]))
     return every
 
 
+def tested(table):
+    """The parts that are asked for; what is in none of them is in the last."""
+    return [(name, nodes) for name, _, nodes in parts(table)[:-1]]
+
+
+def specs(table):
+    each = []
+    for name, nodes in tested(table):
+        clauses = "".join(f"is_in_{name} types.{n.name} = true\n" for n in nodes)
+        each.append(f"abbrev pub is_in_{name} : NodeType → Bool\n{clauses}is_in_{name} other = false")
+    homes = [("Rattle.std.specs.Prelude", ["Bool", "true", "false"])] + types_in_antt(None)
+    return layout.antt("Which types are read in which part; what is in none of these is read in the last.", homes, TYPES,
+                       "\n\n".join(each))
+
+
 def ghosts_of(nodes):
-    return [("Rattle.std.specs.Prelude", ["◌≡◌"]), ("Rattle.serde_json.specs.View", ["view"]),
+    return [("Rattle.std.specs.Prelude", ["◌≡◌", "true", "false"]), ("Rattle.serde_json.specs.View", ["view"]),
             (f"{SPECS}.Fields", [snake(n.name) + "_fields" for n in nodes]),
             (f"{READER}.specs.Reads", ["Gives", "read_node", "read_typed"]), (f"{READER}.specs.Kept", ["entries", "row_plain"])]
 
 
-def one_file(table, text, nodes):
+def one_file(table, name, text, every):
+    nodes = [n for n in every if not by_hand(n)]
     sets = list({s.name: s for n in nodes if (s := set_of(table, n.name))}.values())
     values = ["needed_text", "optional_text", "needed_digits", "optional_flag", "not_given", "neither_given"]
-    homes = [("crate::set_fields", [reader_of(f) for n in nodes for f in table.children(n)]),
+    homes = [("crate::literals", [f"read_{snake(n.name)}" for n in every if by_hand(n)]),
+             ("crate::set_fields", [reader_of(f) for n in nodes for f in table.children(n)]),
              ("crate::fields", ["boxed"]), ("crate::strings", ["needed_units"]), ("crate::values", values),
              ("crate::words", [f"needed_{w.short}" for w in table.words.values()]),
              ("crate::kept", ["ReadNode", "Row"] + [snake(s.name) + "_row" for s in sets] + kept_only(table, sets)),
              ("crate", ["At", "InputFault"]), ("jsgen_pool", ["Kept"]), ("jsgen_syntax", ["Span"]),
-             ("jsgen_tree", list(dict.fromkeys([n.name for n in nodes] + [s.name for s in sets]))),
+             ("jsgen_tree", list(dict.fromkeys(["NodeType"] + [n.name for n in nodes] + [s.name for s in sets]))),
              ("serde_json", ["Value"]), ("std::alloc", ["Global"])]
     homes = [(module, list(dict.fromkeys(names))) for module, names in homes]
-    body = "\n\n".join(function(table, n) for n in nodes)
-    return layout.rust(f"Rows of a job: {text[0].lower()}{text[1:]}", ghosts_of(nodes), TYPES, homes, body)
+    body = "\n\n".join([function(table, n) for n in nodes] + [of_part(table, name, every)])
+    ghosts = ghosts_of(nodes) + [(f"{READER}.specs.Parts", [f"is_in_{part}" for part, _ in tested(table)])]
+    return layout.rust(f"Rows of a job: {text[0].lower()}{text[1:]}", ghosts, TYPES, homes, body)
 
 
 def kept_only(table, sets):
@@ -59,7 +78,7 @@ def function(table, n):
     lines = "".join(f"    let _ = {name};\n" for name in unused(table, n)) + fields(table, n)
     held = "".join(f", {f.rust}" for f in n.in_rust())
     return f"""#[tactic(auto, unfolding(crate::specs::Reads::read_node))]
-pub fn read_{snake(n.name)}<N: ReadNode + Drop>(
+fn read_{snake(n.name)}<N: ReadNode + Drop>(
     alloc: Global,
     kept: &mut Vec<Kept<Row<N>>>,
     number: usize,
@@ -130,11 +149,7 @@ def call(table, n, f, number):
 
 # ---- the choice
 
-def choice(table):
-    mods = "".join(f"mod {name};\n" for name in sorted(name for name, _, _ in parts(table)))
-    arms = "".join(f"        NodeType::{n} => read_{snake(n)}(alloc, kept, number, span, row),\n" for n in table.nodes)
-    body = f"""/// The row of a type.
-pub fn read_typed<N: ReadNode + Drop>(
+HEAD = """<N: ReadNode + Drop>(
     alloc: Global,
     kept: &mut Vec<Kept<Row<N>>>,
     node_type: NodeType,
@@ -142,15 +157,47 @@ pub fn read_typed<N: ReadNode + Drop>(
     span: Span,
     row: &Value,
 ) -> Result<Row<N>, InputFault>
-    ensures {{ Gives (row_plain N.plain) result (entries N.plain kept.new.items)
-        (read_typed number node_type span (view row.now) (entries N.plain kept.old.items)) }}
+"""
+
+GIVES = """    ensures { Gives (row_plain N.plain) result (entries N.plain kept.new.items)
+        (read_typed number node_type span (view row.now) (entries N.plain kept.old.items)) }
+"""
+
+TYPED = "(alloc, kept, node_type, number, span, row)"
+
+
+def of_part(table, name, nodes):
+    """The choice within a part."""
+    others = [part for part, _ in tested(table)]
+    asked = {f"in_{name}": f"is_in_{name} node_type ≡ true"} if name in others else \
+        {f"not_in_{part}": f"is_in_{part} node_type ≡ false" for part in others}
+    requires = "".join(f"    requires {fact + ' ' if len(asked) > 1 else ''}{{ {said} }}\n" for fact, said in asked.items())
+    arms = "".join(f"        NodeType::{n.name} => read_{snake(n.name)}(alloc, kept, number, span, row),\n" for n in nodes)
+    rest = "        _ => unreachable!(),\n" if asked else ""
+    return f"/// The row of a type of this part.\npub fn read_in_{name}{HEAD}{requires}{GIVES}{{\n    match node_type {{\n{arms}{rest}    }}\n}}"
+
+
+def test(name, nodes):
+    types = "\n            | ".join(f"NodeType::{n.name}" for n in nodes)
+    return f"""fn is_in_{name}(node_type: NodeType) -> bool
+    ensures {{ result ≡ is_in_{name} node_type }}
 {{
-    match node_type {{
-{arms}    }}
+    matches!(
+        &node_type,
+        {types}
+    )
 }}"""
-    homes = [(f"crate::rows::{name}", [f"read_{snake(n.name)}" for n in nodes]) for name, _, nodes in parts(table)]
-    homes += [("crate::literals", [f"read_{snake(n.name)}" for n in table.nodes.values() if by_hand(n)])]
+
+
+def choice(table):
+    mods = "".join(f"mod {name};\n" for name in sorted(name for name, _, _ in parts(table)))
+    asked = "".join(f"    if is_in_{name}(node_type) {{\n        return read_in_{name}{TYPED};\n    }}\n" for name, _ in tested(table))
+    last = parts(table)[-1][0]
+    whole = f"/// The row of a type.\npub fn read_typed{HEAD}{GIVES}{{\n{asked}    read_in_{last}{TYPED}\n}}"
+    body = "\n\n".join([test(name, nodes) for name, nodes in tested(table)] + [whole])
+    homes = [(f"crate::rows::{name}", [f"read_in_{name}"]) for name, _, _ in parts(table)]
     homes += [("crate::kept", ["ReadNode", "Row"]), ("crate", ["InputFault"]), ("jsgen_pool", ["Kept"]),
               ("jsgen_syntax", ["Span"]), ("jsgen_tree", ["NodeType"]), ("serde_json", ["Value"]), ("std::alloc", ["Global"])]
-    text = layout.rust("The rows of a job, by their types.", ghosts_of([]), [], homes, body)
+    ghosts = ghosts_of([]) + [(f"{READER}.specs.Parts", [f"is_in_{name}" for name, _ in tested(table)])]
+    text = layout.rust("The rows of a job, by their types.", ghosts, [], homes, body)
     return text.replace("\n\nuse ", f"\n\n{mods}\nuse ", 1)

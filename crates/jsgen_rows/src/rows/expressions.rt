@@ -1,13 +1,16 @@
 // Generated from tools/nodes/table.txt; edit that and run tools/nodes/generate.
 // Rows of a job: expressions (ECMA-262, clause 13).
+ghost use Rattle.std.specs.Prelude.{◌≡◌, false};
 ghost use Rattle.serde_json.specs.View.{view};
 ghost use Rattle.jsgen_tree.specs.Fields.{identifier_reference_fields, string_literal_fields, parenthesized_expression_fields, binary_expression_fields, logical_expression_fields, identifier_name_fields, static_member_expression_fields, computed_member_expression_fields, call_expression_fields};
-ghost use Rattle.jsgen_rows.specs.Reads.{Gives, read_node};
+ghost use Rattle.jsgen_rows.specs.Reads.{Gives, read_node, read_typed};
 ghost use Rattle.jsgen_rows.specs.Kept.{entries, row_plain};
+ghost use Rattle.jsgen_rows.specs.Parts.{is_in_statements};
 ghost use Rattle.jsgen_tree.specs.declared.types.NodeType.TheVariants as types;
 
 use crate::fields::boxed;
 use crate::kept::{ReadNode, Row, expression_row};
+use crate::literals::read_numeric_literal;
 use crate::set_fields::{argument_list, needed_expression, needed_identifier_name};
 use crate::strings::needed_units;
 use crate::values::{needed_text, not_given, optional_flag};
@@ -17,14 +20,14 @@ use jsgen_pool::Kept;
 use jsgen_syntax::Span;
 use jsgen_tree::{
     BinaryExpression, CallExpression, ComputedMemberExpression, Expression, IdentifierName,
-    IdentifierReference, LogicalExpression, ParenthesizedExpression, StaticMemberExpression,
-    StringLiteral,
+    IdentifierReference, LogicalExpression, NodeType, ParenthesizedExpression,
+    StaticMemberExpression, StringLiteral,
 };
 use serde_json::Value;
 use std::alloc::Global;
 
 #[tactic(auto, unfolding(crate::specs::Reads::read_node))]
-pub fn read_identifier_reference<N: ReadNode + Drop>(
+fn read_identifier_reference<N: ReadNode + Drop>(
     alloc: Global,
     kept: &mut Vec<Kept<Row<N>>>,
     number: usize,
@@ -50,7 +53,7 @@ pub fn read_identifier_reference<N: ReadNode + Drop>(
 }
 
 #[tactic(auto, unfolding(crate::specs::Reads::read_node))]
-pub fn read_string_literal<N: ReadNode + Drop>(
+fn read_string_literal<N: ReadNode + Drop>(
     alloc: Global,
     kept: &mut Vec<Kept<Row<N>>>,
     number: usize,
@@ -73,7 +76,7 @@ pub fn read_string_literal<N: ReadNode + Drop>(
 }
 
 #[tactic(auto, unfolding(crate::specs::Reads::read_node))]
-pub fn read_parenthesized_expression<N: ReadNode + Drop>(
+fn read_parenthesized_expression<N: ReadNode + Drop>(
     alloc: Global,
     kept: &mut Vec<Kept<Row<N>>>,
     number: usize,
@@ -101,7 +104,7 @@ pub fn read_parenthesized_expression<N: ReadNode + Drop>(
 }
 
 #[tactic(auto, unfolding(crate::specs::Reads::read_node))]
-pub fn read_binary_expression<N: ReadNode + Drop>(
+fn read_binary_expression<N: ReadNode + Drop>(
     alloc: Global,
     kept: &mut Vec<Kept<Row<N>>>,
     number: usize,
@@ -136,7 +139,7 @@ pub fn read_binary_expression<N: ReadNode + Drop>(
 }
 
 #[tactic(auto, unfolding(crate::specs::Reads::read_node))]
-pub fn read_logical_expression<N: ReadNode + Drop>(
+fn read_logical_expression<N: ReadNode + Drop>(
     alloc: Global,
     kept: &mut Vec<Kept<Row<N>>>,
     number: usize,
@@ -171,7 +174,7 @@ pub fn read_logical_expression<N: ReadNode + Drop>(
 }
 
 #[tactic(auto, unfolding(crate::specs::Reads::read_node))]
-pub fn read_identifier_name<N: ReadNode + Drop>(
+fn read_identifier_name<N: ReadNode + Drop>(
     alloc: Global,
     kept: &mut Vec<Kept<Row<N>>>,
     number: usize,
@@ -194,7 +197,7 @@ pub fn read_identifier_name<N: ReadNode + Drop>(
 }
 
 #[tactic(auto, unfolding(crate::specs::Reads::read_node))]
-pub fn read_static_member_expression<N: ReadNode + Drop>(
+fn read_static_member_expression<N: ReadNode + Drop>(
     alloc: Global,
     kept: &mut Vec<Kept<Row<N>>>,
     number: usize,
@@ -233,7 +236,7 @@ pub fn read_static_member_expression<N: ReadNode + Drop>(
 }
 
 #[tactic(auto, unfolding(crate::specs::Reads::read_node))]
-pub fn read_computed_member_expression<N: ReadNode + Drop>(
+fn read_computed_member_expression<N: ReadNode + Drop>(
     alloc: Global,
     kept: &mut Vec<Kept<Row<N>>>,
     number: usize,
@@ -272,7 +275,7 @@ pub fn read_computed_member_expression<N: ReadNode + Drop>(
 }
 
 #[tactic(auto, unfolding(crate::specs::Reads::read_node))]
-pub fn read_call_expression<N: ReadNode + Drop>(
+fn read_call_expression<N: ReadNode + Drop>(
     alloc: Global,
     kept: &mut Vec<Kept<Row<N>>>,
     number: usize,
@@ -309,5 +312,39 @@ pub fn read_call_expression<N: ReadNode + Drop>(
     match boxed(alloc, node) {
         Ok(node) => expression_row(alloc, Expression::CallExpression(node)),
         Err(fault) => Err(fault),
+    }
+}
+
+/// The row of a type of this part.
+pub fn read_in_expressions<N: ReadNode + Drop>(
+    alloc: Global,
+    kept: &mut Vec<Kept<Row<N>>>,
+    node_type: NodeType,
+    number: usize,
+    span: Span,
+    row: &Value,
+) -> Result<Row<N>, InputFault>
+    requires { is_in_statements node_type ≡ false }
+    ensures { Gives (row_plain N.plain) result (entries N.plain kept.new.items)
+        (read_typed number node_type span (view row.now) (entries N.plain kept.old.items)) }
+{
+    match node_type {
+        NodeType::IdentifierReference => read_identifier_reference(alloc, kept, number, span, row),
+        NodeType::NumericLiteral => read_numeric_literal(alloc, kept, number, span, row),
+        NodeType::StringLiteral => read_string_literal(alloc, kept, number, span, row),
+        NodeType::ParenthesizedExpression => read_parenthesized_expression(
+            alloc, kept, number, span, row,
+        ),
+        NodeType::BinaryExpression => read_binary_expression(alloc, kept, number, span, row),
+        NodeType::LogicalExpression => read_logical_expression(alloc, kept, number, span, row),
+        NodeType::IdentifierName => read_identifier_name(alloc, kept, number, span, row),
+        NodeType::StaticMemberExpression => read_static_member_expression(
+            alloc, kept, number, span, row,
+        ),
+        NodeType::ComputedMemberExpression => read_computed_member_expression(
+            alloc, kept, number, span, row,
+        ),
+        NodeType::CallExpression => read_call_expression(alloc, kept, number, span, row),
+        _ => unreachable!(),
     }
 }

@@ -1,9 +1,11 @@
 // Generated from tools/nodes/table.txt; edit that and run tools/nodes/generate.
 // Rows of a job: programs, statements and declarations (ECMA-262, clauses 14 and 16).
+ghost use Rattle.std.specs.Prelude.{◌≡◌, true};
 ghost use Rattle.serde_json.specs.View.{view};
 ghost use Rattle.jsgen_tree.specs.Fields.{program_fields, directive_fields, variable_declaration_fields, variable_declarator_fields, binding_identifier_fields, expression_statement_fields, block_statement_fields, if_statement_fields, empty_statement_fields};
-ghost use Rattle.jsgen_rows.specs.Reads.{Gives, read_node};
+ghost use Rattle.jsgen_rows.specs.Reads.{Gives, read_node, read_typed};
 ghost use Rattle.jsgen_rows.specs.Kept.{entries, row_plain};
+ghost use Rattle.jsgen_rows.specs.Parts.{is_in_statements};
 ghost use Rattle.jsgen_tree.specs.declared.types.NodeType.TheVariants as types;
 
 use crate::fields::boxed;
@@ -21,13 +23,13 @@ use jsgen_pool::Kept;
 use jsgen_syntax::Span;
 use jsgen_tree::{
     BindingIdentifier, BindingPattern, BlockStatement, Declaration, Directive, EmptyStatement,
-    ExpressionStatement, IfStatement, Program, VariableDeclaration, VariableDeclarator,
+    ExpressionStatement, IfStatement, NodeType, Program, VariableDeclaration, VariableDeclarator,
 };
 use serde_json::Value;
 use std::alloc::Global;
 
 #[tactic(auto, unfolding(crate::specs::Reads::read_node))]
-pub fn read_program<N: ReadNode + Drop>(
+fn read_program<N: ReadNode + Drop>(
     alloc: Global,
     kept: &mut Vec<Kept<Row<N>>>,
     number: usize,
@@ -73,7 +75,7 @@ pub fn read_program<N: ReadNode + Drop>(
 }
 
 #[tactic(auto, unfolding(crate::specs::Reads::read_node))]
-pub fn read_directive<N: ReadNode + Drop>(
+fn read_directive<N: ReadNode + Drop>(
     alloc: Global,
     kept: &mut Vec<Kept<Row<N>>>,
     number: usize,
@@ -96,7 +98,7 @@ pub fn read_directive<N: ReadNode + Drop>(
 }
 
 #[tactic(auto, unfolding(crate::specs::Reads::read_node))]
-pub fn read_variable_declaration<N: ReadNode + Drop>(
+fn read_variable_declaration<N: ReadNode + Drop>(
     alloc: Global,
     kept: &mut Vec<Kept<Row<N>>>,
     number: usize,
@@ -135,7 +137,7 @@ pub fn read_variable_declaration<N: ReadNode + Drop>(
 }
 
 #[tactic(auto, unfolding(crate::specs::Reads::read_node))]
-pub fn read_variable_declarator<N: ReadNode + Drop>(
+fn read_variable_declarator<N: ReadNode + Drop>(
     alloc: Global,
     kept: &mut Vec<Kept<Row<N>>>,
     number: usize,
@@ -164,7 +166,7 @@ pub fn read_variable_declarator<N: ReadNode + Drop>(
 }
 
 #[tactic(auto, unfolding(crate::specs::Reads::read_node))]
-pub fn read_binding_identifier<N: ReadNode + Drop>(
+fn read_binding_identifier<N: ReadNode + Drop>(
     alloc: Global,
     kept: &mut Vec<Kept<Row<N>>>,
     number: usize,
@@ -190,7 +192,7 @@ pub fn read_binding_identifier<N: ReadNode + Drop>(
 }
 
 #[tactic(auto, unfolding(crate::specs::Reads::read_node))]
-pub fn read_expression_statement<N: ReadNode + Drop>(
+fn read_expression_statement<N: ReadNode + Drop>(
     alloc: Global,
     kept: &mut Vec<Kept<Row<N>>>,
     number: usize,
@@ -218,7 +220,7 @@ pub fn read_expression_statement<N: ReadNode + Drop>(
 }
 
 #[tactic(auto, unfolding(crate::specs::Reads::read_node))]
-pub fn read_block_statement<N: ReadNode + Drop>(
+fn read_block_statement<N: ReadNode + Drop>(
     alloc: Global,
     kept: &mut Vec<Kept<Row<N>>>,
     number: usize,
@@ -240,7 +242,7 @@ pub fn read_block_statement<N: ReadNode + Drop>(
 }
 
 #[tactic(auto, unfolding(crate::specs::Reads::read_node))]
-pub fn read_if_statement<N: ReadNode + Drop>(
+fn read_if_statement<N: ReadNode + Drop>(
     alloc: Global,
     kept: &mut Vec<Kept<Row<N>>>,
     number: usize,
@@ -275,7 +277,7 @@ pub fn read_if_statement<N: ReadNode + Drop>(
 }
 
 #[tactic(auto, unfolding(crate::specs::Reads::read_node))]
-pub fn read_empty_statement<N: ReadNode + Drop>(
+fn read_empty_statement<N: ReadNode + Drop>(
     alloc: Global,
     kept: &mut Vec<Kept<Row<N>>>,
     number: usize,
@@ -292,5 +294,32 @@ pub fn read_empty_statement<N: ReadNode + Drop>(
     match boxed(alloc, node) {
         Ok(node) => statement_row(alloc, StatementRow::EmptyStatement(node)),
         Err(fault) => Err(fault),
+    }
+}
+
+/// The row of a type of this part.
+pub fn read_in_statements<N: ReadNode + Drop>(
+    alloc: Global,
+    kept: &mut Vec<Kept<Row<N>>>,
+    node_type: NodeType,
+    number: usize,
+    span: Span,
+    row: &Value,
+) -> Result<Row<N>, InputFault>
+    requires { is_in_statements node_type ≡ true }
+    ensures { Gives (row_plain N.plain) result (entries N.plain kept.new.items)
+        (read_typed number node_type span (view row.now) (entries N.plain kept.old.items)) }
+{
+    match node_type {
+        NodeType::Program => read_program(alloc, kept, number, span, row),
+        NodeType::Directive => read_directive(alloc, kept, number, span, row),
+        NodeType::VariableDeclaration => read_variable_declaration(alloc, kept, number, span, row),
+        NodeType::VariableDeclarator => read_variable_declarator(alloc, kept, number, span, row),
+        NodeType::BindingIdentifier => read_binding_identifier(alloc, kept, number, span, row),
+        NodeType::ExpressionStatement => read_expression_statement(alloc, kept, number, span, row),
+        NodeType::BlockStatement => read_block_statement(alloc, kept, number, span, row),
+        NodeType::IfStatement => read_if_statement(alloc, kept, number, span, row),
+        NodeType::EmptyStatement => read_empty_statement(alloc, kept, number, span, row),
+        _ => unreachable!(),
     }
 }

@@ -1,0 +1,17 @@
+-- Generated from tools/nodes/table.txt; edit that and run tools/nodes/generate.
+-- Which types are read in which part; what is in none of these is read in the last.
+use Rattle.std.specs.Prelude.{Bool, true, false}
+use Rattle.jsgen_tree.specs.declared.types.NodeType.{NodeType}
+use Rattle.jsgen_tree.specs.declared.types.NodeType.TheVariants as types
+
+abbrev pub is_in_statements : NodeType → Bool
+is_in_statements types.Program = true
+is_in_statements types.Directive = true
+is_in_statements types.VariableDeclaration = true
+is_in_statements types.VariableDeclarator = true
+is_in_statements types.BindingIdentifier = true
+is_in_statements types.ExpressionStatement = true
+is_in_statements types.BlockStatement = true
+is_in_statements types.IfStatement = true
+is_in_statements types.EmptyStatement = true
+is_in_statements other = false
