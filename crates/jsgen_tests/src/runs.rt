@@ -1,5 +1,4 @@
 // Runs of the program over devices in memory.
-use jsgen_rows::read_job;
 use jsgen_syntax::Memory;
 use jsgen_tool::{MemSink, MemSource, Status, run};
 use std::alloc::Global;
@@ -50,19 +49,4 @@ pub fn run_over(
     let mut source = MemSource::new(input.to_vec(alloc)?, pulls.to_vec(alloc)?);
     let status = run(alloc, &words, &mut source, &mut out, &mut err);
     Seen::new(alloc, status, out.bytes(), err.bytes())
-}
-
-pub fn printed(alloc: Global, job: &str) -> Result<Seen, Memory> {
-    run_over(alloc, &["print"], job.as_bytes(), &[], &[])
-}
-
-// Whether the job has this first fault, as it is said behind `not a job: `; an empty text stands for none.
-pub fn has_fault(alloc: Global, job: &[u8], fault: &str) -> Result<bool, Memory> {
-    if fault.is_empty() {
-        return Ok(read_job(alloc, job).is_ok());
-    }
-    let mut line = "not a job: ".to_string(alloc)?;
-    line.push_str(fault)?;
-    line.push('\n')?;
-    Ok(run_over(alloc, &["print"], job, &[], &[])?.is(3, "", &line))
 }

@@ -1,0 +1,58 @@
+// What a job gives.
+use crate::line::push_shown;
+use jsgen::{Codegen, read_job};
+use jsgen_syntax::Memory;
+use jsgen_tool::{MemSink, MemSource, run};
+use std::alloc::Global;
+
+/// The status and the text that the program ends with; and what the library prints, where that is another text.
+pub fn push_printed(alloc: Global, job: &str, answer: &mut String) -> Result<(), Memory> {
+    let by_program = program_text(alloc, job)?;
+    let by_library = library_text(alloc, job)?;
+    push_shown(answer, &by_program)?;
+    let is_printed = by_program.starts_with("0 ");
+    if (is_printed || by_library.starts_with("0 ")) && by_library != by_program {
+        answer.push_str(" but the library: ")?;
+        push_shown(answer, &by_library)?;
+    }
+    Ok(())
+}
+
+fn program_text(alloc: Global, job: &str) -> Result<String, Memory> {
+    let mut words = Vec::new(alloc);
+    words.push("print".to_string(alloc)?)?;
+    let mut source = MemSource::new(job.as_bytes().to_vec(alloc)?, Vec::new(alloc));
+    let mut out = MemSink::new(alloc, 1000, Vec::new(alloc))?;
+    let mut err = MemSink::new(alloc, 100, Vec::new(alloc))?;
+    let status = run(alloc, &words, &mut source, &mut out, &mut err);
+    let mut text = format!(in alloc; "{} ", status.code())?;
+    push_bytes(&mut text, out.bytes())?;
+    push_bytes(&mut text, err.bytes())?;
+    Ok(text)
+}
+
+fn push_bytes(text: &mut String, bytes: &[u8]) -> Result<(), Memory> {
+    match str::from_utf8(bytes) {
+        Ok(more) => Ok(text.push_str(more)?),
+        Err(_) => Ok(text.push_str("no UTF-8")?),
+    }
+}
+
+// Behind the status that the program would end with.
+fn library_text(alloc: Global, job: &str) -> Result<String, Memory> {
+    let Ok(job) = read_job(alloc, job.as_bytes()) else {
+        return Ok("3 ".to_string(alloc)?);
+    };
+    let printer = Codegen::new(alloc).with_options(job.options);
+    if printer.check(&job.program).is_err() {
+        return Ok("1 ".to_string(alloc)?);
+    }
+    match printer.build(&job.program) {
+        Ok(printed) => {
+            let mut text = "0 ".to_string(alloc)?;
+            text.push_str(&printed.code)?;
+            Ok(text)
+        }
+        Err(_) => Err(Memory),
+    }
+}

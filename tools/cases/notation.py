@@ -1,0 +1,215 @@
+"""Reads the short notation of a program (tests/README.md tells what it is) as the rows of a job."""
+
+import json
+import re
+import sys
+from pathlib import Path
+
+sys.path.append(str(Path(__file__).resolve().parents[1] / "nodes"))
+
+from table import Table  # noqa: E402
+
+TABLE = Table(Path(__file__).resolve().parents[1] / "nodes" / "table.txt")
+LOGICAL = ("&&", "||", "??")
+SIGN = re.compile(
+    r"""\s*(?:
+    (?P<string>"(?:[^"\\]|\\.)*")
+  | (?P<number>0x[0-9a-fA-F]+|\d+)
+  | (?P<word>[^\W\d]\w*)
+  | (?P<operator>>>>|===|!==|\*\*|<<|>>|<=|>=|==|!=|&&|\|\||\?\?|[-+*/%|^&<>])
+  | (?P<sign>[(){}\[\].,;=])
+  | (?P<end>$)
+)""",
+    re.X,
+)
+
+
+class NotProgram(Exception):
+    """The text is no program in the notation."""
+
+
+class Child:
+    """A node whose row isn't written yet."""
+
+    def __init__(self, node_type, **fields):
+        self.node_type, self.fields = node_type, fields
+
+
+class Reader:
+    def __init__(self, text):
+        self.text, self.at = text, 0
+        self.take()
+
+    # ---- signs
+
+    def take(self):
+        """Goes to the next sign, and gives the one that stood here."""
+        taken = getattr(self, "value", None)
+        found = SIGN.match(self.text, self.at)
+        if not found:
+            raise NotProgram(f"no sign at {self.text[self.at:]!r}")
+        self.at, self.kind = found.end(), found.lastgroup
+        self.value = found.group(self.kind)
+        return taken
+
+    def is_here(self, value):
+        return self.value == value and self.kind != "string"
+
+    def expect(self, value):
+        if not self.is_here(value):
+            raise NotProgram(f"{value!r} is missing before {self.text[self.at - len(self.value):]!r}")
+        self.take()
+
+    def several(self, end, read):
+        """What stands up to the sign `end`, with commas between."""
+        found = []
+        while not self.is_here(end):
+            found.append(read())
+            if not self.is_here(end):
+                self.expect(",")
+        self.take()
+        return found
+
+    # ---- statements
+
+    def program(self):
+        directives, body = [], []
+        while self.kind != "end":
+            statement = self.statement()
+            if statement.node_type == "Program":
+                return statement
+            (directives if statement.node_type == "Directive" else body).append(statement)
+        return Child("Program", kind="module", directives=directives, body=body)
+
+    def statement(self):
+        if self.is_here(";"):
+            self.take()
+            return Child("EmptyStatement")
+        if self.is_here("{"):
+            self.take()
+            body = []
+            while not self.is_here("}"):
+                body.append(self.statement())
+            self.take()
+            return Child("BlockStatement", body=body)
+        if self.is_here("const"):
+            return self.declaration(self.take())
+        node = self.expression()
+        if self.is_here(";"):
+            self.take()
+            return Child("ExpressionStatement", expression=node)
+        return node
+
+    def declaration(self, kind):
+        name = Child("BindingIdentifier", name=self.take())
+        declarator = {"id": name}
+        if self.is_here("="):
+            self.take()
+            declarator["init"] = self.expression()
+        self.expect(";")
+        return Child("VariableDeclaration", kind=kind, declarations=[Child("VariableDeclarator", **declarator)])
+
+    # ---- expressions
+
+    def expression(self):
+        node = self.primary()
+        while True:
+            if self.is_here("."):
+                self.take()
+                name = Child("IdentifierName", name=self.take())
+                node = Child("StaticMemberExpression", object=node, property=name)
+            elif self.is_here("["):
+                self.take()
+                node = Child("ComputedMemberExpression", object=node, expression=self.expression())
+                self.expect("]")
+            elif self.is_here("("):
+                self.take()
+                node = Child("CallExpression", callee=node, arguments=self.several(")", self.expression), pure=False)
+            else:
+                return node
+
+    def primary(self):
+        if self.is_here("("):
+            return self.operation()
+        kind, value = self.kind, self.take()
+        if kind == "string":
+            return Child("StringLiteral", value=json.loads(value))
+        if kind == "number":
+            return Child("NumericLiteral", kind="whole", digits=value)
+        if kind != "word":
+            raise NotProgram(f"no expression begins with {value!r}")
+        if value[0].isupper():
+            return self.by_type(value)
+        return Child("IdentifierReference", name=value)
+
+    def operation(self):
+        self.take()
+        left = self.expression()
+        operator = self.take()
+        right = self.expression()
+        self.expect(")")
+        node_type = "LogicalExpression" if operator in LOGICAL else "BinaryExpression"
+        return Child(node_type, operator=operator, left=left, right=right)
+
+    # ---- a node by its type, with its fields in their order or by their names
+
+    def by_type(self, node_type):
+        if node_type not in TABLE.nodes:
+            raise NotProgram(f"there is no type {node_type}")
+        fields = [field for field in TABLE.nodes[node_type].in_format() if not field.unread]
+        self.expect("(")
+        in_order = iter(fields)
+        return Child(node_type, **dict(self.several(")", lambda: self.field(fields, in_order))))
+
+    def field(self, fields, in_order):
+        """A field's name and what it holds: the field that is named, or else the next one."""
+        by_name = {field.name: field for field in fields}
+        if self.value in by_name and self.text[self.at:].lstrip().startswith("="):
+            field = by_name[self.take()]
+            self.take()
+        else:
+            field = next(in_order, None)
+        if field is None:
+            raise NotProgram(f"there is no field for {self.value!r}")
+        return field.name, self.held(field)
+
+    def held(self, field):
+        is_value = TABLE.is_value(field)
+        if not is_value and self.is_here("["):
+            self.take()
+            return self.several("]", self.statement)
+        if not is_value:
+            return self.statement()
+        if self.is_here("["):
+            self.take()
+            return self.several("]", lambda: int(self.take(), 0))
+        kind, value = self.kind, self.take()
+        if kind == "string":
+            return json.loads(value)
+        return {"true": True, "false": False}.get(value, value)
+
+
+# ---- jobs
+
+
+def rows_of(child, rows):
+    """Appends the rows of the node and of all below it, and gives its own number. Its children are named from the last
+    to the first, since a row may name its fields in any order."""
+    values, children = {}, {}
+    for name, value in child.fields.items():
+        if isinstance(value, Child):
+            children[name] = rows_of(value, rows)
+        elif isinstance(value, list) and all(isinstance(one, Child) for one in value):
+            children[name] = [rows_of(one, rows) for one in value]
+        else:
+            values[name] = value
+    rows.append({"type": child.node_type, **values, **dict(reversed(children.items()))})
+    return len(rows) - 1
+
+
+def job_of(program, options):
+    """The job that prints the program under these options."""
+    rows = []
+    rows_of(Reader(program).program(), rows)
+    job = {"options": {name: True for name in options}, "rows": rows}
+    return json.dumps(job, ensure_ascii=False, separators=(",", ":"))
