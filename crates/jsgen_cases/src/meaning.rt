@@ -1,6 +1,6 @@
 // Whether two programs have one normal form.
 use jsgen::read_job;
-use jsgen_slow::normal_form;
+use jsgen_oracle::normal_form;
 use jsgen_syntax::Memory;
 use std::alloc::Global;
 

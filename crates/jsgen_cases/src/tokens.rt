@@ -1,6 +1,6 @@
 // The tokens of a text.
 use crate::line::shown;
-use jsgen_slow::{Bracket, Piece, Token, tokens_of};
+use jsgen_oracle::{Bracket, Piece, Token, tokens_of};
 use jsgen_syntax::Memory;
 use std::alloc::Global;
 

@@ -1,5 +1,5 @@
 // Spellings whose values ECMA-262, 12.7, 12.9.4, 12.9.6 and 11.2.1, fixes.
-use jsgen_slow::{directive_value_of, string_value_of, word_value_of};
+use jsgen_oracle::{directive_value_of, string_value_of, word_value_of};
 use jsgen_syntax::{Memory, Quote};
 use std::alloc::Global;
 use std::rt::HostRuntime;

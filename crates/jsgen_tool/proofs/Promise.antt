@@ -7,7 +7,7 @@ use Rattle.jsgen_model.specs.Spell.{text_bytes}
 use Rattle.jsgen_model.specs.Valid.{job_breaches}
 use Rattle.jsgen_model.specs.Plain.{IsPlain, IsQuiet}
 use Rattle.jsgen_model.specs.declared.fault.TreeFault.{TreeFault}
-use Rattle.jsgen_reading.proofs.Reading.{bytes_are_read, text_is_utf8}
+use Rattle.jsgen_reading_laws.proofs.Reading.{bytes_are_read, text_is_utf8}
 use Rattle.jsgen_rows.specs.Job.{job_of}
 use Rattle.jsgen_rows.proofs.Program.{job_is_program}
 use Rattle.jsgen_tool.specs.Device.{Rose}

@@ -2,7 +2,7 @@ use Rattle.std.proofs.Common.{◌≡◌, string_bytes, refl, rules}
 use Rattle.jsgen_tree.specs.Plain.{program_plain}
 use Rattle.jsgen_model.specs.Spell.{text_bytes}
 use Rattle.jsgen.specs.Codegen.{job_for}
-use Rattle.jsgen_reading.proofs.Reading.{read_back}
+use Rattle.jsgen_reading_laws.proofs.Reading.{read_back}
 use Rattle.jsgen.proofs.codegen.Codegen.build.Goals as goal
 
 pub returns-clause-reads : goal.returns-clause-reads

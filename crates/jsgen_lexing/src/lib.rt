@@ -1,9 +1,0 @@
-//! Laws on tokens: a text has at most one list of plain ones, and what each step of the layout adds to it.
-#![tactic(auto)]
-
-ghost use Rattle.jsgen_lexing.specs.Law.{OneTokenList};
-
-/// Every text has at most one list of plain tokens.
-pub fn one_token_list()
-    ensures { OneTokenList }
-{}

@@ -1,0 +1,217 @@
+-- The tree of a form.
+use Rattle.std.proofs.Common.{◌≡◌, ◌≤◌, ◌++◌, take, Bool, true, false, length, get_or, arith, ℕ, List, [], ◌∷◌, map, Option, Some, None, refl, sym, ap, ◌∙◌, Vec}
+use Rattle.std.proofs.lemmas.Bool.{both_ways}
+use Rattle.std.proofs.lemmas.List.{take_all}
+use Rattle.jsgen_syntax.specs.declared.operator.LogicalOperator.{LogicalOperator}
+use Rattle.jsgen_syntax.specs.declared.operator.LogicalOperator.TheVariants as operators
+use Rattle.jsgen_tree.specs.Nodes as tree
+use Rattle.jsgen_tree.specs.Values.{logical_expression_operator}
+use Rattle.jsgen_model.specs.Normal.{normal, normal_trees, joined, links, unbraced}
+use Rattle.jsgen_oracle.specs.declared.form.Value.{Value}
+use Rattle.jsgen_oracle.specs.declared.form.Value.TheVariants as values
+use Rattle.jsgen_tree.specs.declared.types.NodeType.{NodeType}
+use Rattle.jsgen_tree.specs.declared.types.NodeType.TheVariants as types
+use Rattle.jsgen_tree.specs.Inside.{ends_open}
+use Rattle.jsgen_tree.specs.Tree.{Atoms, Tree, node, Slots, no_slots, many, trees, no_trees, more}
+use Rattle.jsgen_tree.specs.Places.{bare}
+use Rattle.std.specs.declared.alloc.Global.{Global}
+use Rattle.jsgen_tree.proofs.Layers.{map_after}
+use Rattle.jsgen_oracle.specs.Form.{form_layer, form_plain, forms_plain, before, slots_by, slots_plain, value_plain, is_one, is_list}
+use Rattle.jsgen_oracle.specs.declared.form.Slot.{Slot}
+use Rattle.jsgen_oracle.specs.declared.form.Slot.TheVariants as slots
+use Rattle.jsgen_oracle.specs.declared.form.Form.{Form}
+use Rattle.jsgen_oracle.specs.declared.form.Form.TheOpen.{Form-F}
+use Rattle.jsgen_oracle.specs.declared.form.Form.TheViews.{out-Form, roll-Form}
+use Rattle.jsgen_oracle.specs.declared.form.Form.TheFolds.{map-Form, fold-roll-Form, fold_out-Form}
+
+slots_after : (g : Slot Form → Slot Tree) → ((s : Slot Form) (rest : Slots) → before (λ t. t) (g s) rest ≡ before form_plain s rest) → (ss : List (Slot Form)) → slots_by (λ t. t) (map g ss) ≡ slots_plain ss
+slots_after g e [] = refl
+slots_after g e (s ∷ ss) = e s (slots_by (λ t. t) (map g ss)) ∙ ap (before form_plain s) (slots_after g e ss)
+
+with_slot : (P : Slot Form → Type 0) → ((f : Form) → P (slots.One f)) → P (slots.Maybe None) → ((f : Form) → P (slots.Maybe (Some f))) → ((fs : Vec Form Global) → P (slots.Many fs)) → (s : Slot Form) → P s
+with_slot P of_one of_none of_some of_many (slots.One f) = of_one f
+with_slot P of_one of_none of_some of_many (slots.Maybe None) = of_none
+with_slot P of_one of_none of_some of_many (slots.Maybe (Some f)) = of_some f
+with_slot P of_one of_none of_some of_many (slots.Many fs) = of_many fs
+
+pub layer_plain : (f : Form-F Form) → form_layer (map-Form Form Tree form_plain f) ≡ node f.node_type (bare (map value_plain f.values.items)) (slots_plain f.slots.items)
+layer_plain f = ap (λ s. node f.node_type (bare (map value_plain f.values.items)) s) (slots_after _ (with_slot _ (λ f rest. refl) (λ rest. refl) (λ f rest. refl) (λ fs rest. ap (λ ts. many (trees ts) rest) (map_after _ _ _ (λ f. refl) fs.items))) f.slots.items)
+
+pub of_layer : (f : Form-F Form) → form_plain (roll-Form f) ≡ node f.node_type (bare (map value_plain f.values.items)) (slots_plain f.slots.items)
+unfolding form_plain
+of_layer f = fold-roll-Form Tree form_layer f ∙ layer_plain f
+
+pub plain_out : (f : Form) → form_plain f ≡ node (out-Form f).node_type (bare (map value_plain (out-Form f).values.items)) (slots_plain (out-Form f).slots.items)
+unfolding form_plain
+plain_out f = fold_out-Form Tree form_layer f ∙ layer_plain (out-Form f)
+
+pub ruleset forms = (of_layer)
+
+-- ---- lists
+
+pub normal_list : {A : Type 0} (f : A → Tree) (xs : List A) → normal_trees (trees (map f xs)) ≡ trees (map (λ x. normal (f x)) xs)
+normal_list f [] = refl
+normal_list f (x ∷ xs) = ap (more (normal (f x))) (normal_list f xs)
+
+-- forms of all elements, which a loop made
+pub whole_list : {A : Type 0} (f : A → Tree) (xs : List A) (i : ℕ) (fs : List Form) → length xs ≤ i → map form_plain fs ≡ map (λ x. normal (f x)) (take i xs) → forms_plain fs ≡ normal_trees (trees (map f xs))
+whole_list f xs i fs all e = ap trees (e ∙ ap (map (λ x. normal (f x))) (take_all i xs all)) ∙ sym (normal_list f xs)
+
+pub joined_lists : (fs gs : List Form) → forms_plain (fs ++ gs) ≡ joined (forms_plain fs) (forms_plain gs)
+joined_lists [] gs = refl
+joined_lists (f ∷ fs) gs = ap (more (form_plain f)) (joined_lists fs gs)
+
+-- ---- what is no list of that type
+
+pub other_links : (o : LogicalOperator) (t : NodeType) (a : Atoms) (s : Slots) → (t ≡ types.LogicalExpression → ⊥) → links o (node t a s) ≡ more (node t a s) no_trees
+other_links o types.LogicalExpression a s n = absurd (n refl)
+other_links o t a s n = refl
+
+pub no_list_links : (o : LogicalOperator) (a : Atoms) (ss : List (Slot Form)) → is_list ss ≡ false → links o (node types.LogicalExpression a (slots_plain ss)) ≡ more (node types.LogicalExpression a (slots_plain ss)) no_trees
+no_list_links o a [] n = refl
+no_list_links o a (slots.Many fs ∷ []) n = absurd (both_ways true n refl)
+no_list_links o a (slots.Many fs ∷ slots.One g ∷ ss) n = refl
+no_list_links o a (slots.Many fs ∷ slots.Maybe g ∷ ss) n = refl
+no_list_links o a (slots.Many fs ∷ slots.Many g ∷ ss) n = refl
+no_list_links o a (slots.One f ∷ ss) n = refl
+no_list_links o a (slots.Maybe f ∷ ss) n = refl
+
+pub other_unbraced : (t : NodeType) (a : Atoms) (s : Slots) → (t ≡ types.BlockStatement → ⊥) → unbraced (node t a s) ≡ node t a s
+other_unbraced types.BlockStatement a s n = absurd (n refl)
+other_unbraced t a s n = refl
+
+-- a list before another slot is no block's
+list_and_more : (a : Atoms) (fs : List Form) (s : Slot Form) (rest : Slots) → unbraced (node types.BlockStatement a (many (forms_plain fs) (before form_plain s rest))) ≡ node types.BlockStatement a (many (forms_plain fs) (before form_plain s rest))
+list_and_more a [] s rest = refl
+list_and_more a (f ∷ []) (slots.One g) rest = refl
+list_and_more a (f ∷ []) (slots.Maybe g) rest = refl
+list_and_more a (f ∷ []) (slots.Many g) rest = refl
+list_and_more a (f ∷ g ∷ fs) s rest = refl
+
+pub no_list_unbraced : (a : Atoms) (ss : List (Slot Form)) → is_list ss ≡ false → unbraced (node types.BlockStatement a (slots_plain ss)) ≡ node types.BlockStatement a (slots_plain ss)
+no_list_unbraced a [] n = refl
+no_list_unbraced a (slots.Many fs ∷ []) n = absurd (both_ways true n refl)
+no_list_unbraced a (slots.Many fs ∷ s ∷ ss) n = list_and_more a fs.items s (slots_plain ss)
+no_list_unbraced a (slots.One f ∷ ss) n = refl
+no_list_unbraced a (slots.Maybe f ∷ ss) n = refl
+
+-- ---- a block as a consequent
+
+pub stays_around : (a : Atoms) (fs : List Form) → (length fs ≡ 1 → ⊥) → unbraced (tree.block a (forms_plain fs)) ≡ tree.block a (forms_plain fs)
+stays_around a [] several = refl
+stays_around a (f ∷ []) several = absurd (several refl)
+stays_around a (f ∷ g ∷ fs) several = refl
+
+pub stays_around_one : (a : Atoms) (fs : List Form) (f : Form) → length fs ≡ 1 → f ≡ get_or fs 0 f → ends_open (form_plain f) ≡ false → unbraced (tree.block a (forms_plain fs)) ≡ tree.block a (forms_plain fs)
+stays_around_one a [] f single is ends = refl
+stays_around_one a (g ∷ []) f single is ends = rw (sym is, ends) refl
+stays_around_one a (g ∷ h ∷ fs) f single is ends = refl
+
+-- ---- the operator of a chain
+
+pub no_operator : (vs : List Value) (v : Value) → v ≡ get_or vs 0 v → ((o : LogicalOperator) → v ≡ values.LogicalOperator o → ⊥) → logical_expression_operator (bare (map value_plain vs)) ≡ operators.Or
+no_operator (values.LogicalOperator o ∷ vs) v e n = absurd (n o e)
+no_operator vs v e n = refl
+
+-- ---- what ends in an `if` without `else`
+
+-- whether an `if` with these slots ends so
+abbrev pub open_slots : List (Slot Form) → Bool
+open_slots (slots.One t ∷ slots.One s ∷ slots.Maybe None ∷ []) = true
+open_slots (slots.One t ∷ slots.One s ∷ slots.Maybe (Some f) ∷ []) = ends_open (form_plain f)
+open_slots ss = false
+
+if_ends : (a : Atoms) (ss : List (Slot Form)) → ends_open (node types.IfStatement a (slots_plain ss)) ≡ open_slots ss
+if_ends a (slots.One t ∷ slots.One s ∷ slots.Maybe None ∷ []) = refl
+if_ends a (slots.One t ∷ slots.One s ∷ slots.Maybe (Some f) ∷ []) = refl
+if_ends a (slots.One t ∷ slots.One s ∷ slots.Maybe None ∷ slots.One u ∷ ss) = refl
+if_ends a (slots.One t ∷ slots.One s ∷ slots.Maybe None ∷ slots.Maybe u ∷ ss) = refl
+if_ends a (slots.One t ∷ slots.One s ∷ slots.Maybe None ∷ slots.Many u ∷ ss) = refl
+if_ends a (slots.One t ∷ slots.One s ∷ slots.Maybe (Some f) ∷ slots.One u ∷ ss) = refl
+if_ends a (slots.One t ∷ slots.One s ∷ slots.Maybe (Some f) ∷ slots.Maybe u ∷ ss) = refl
+if_ends a (slots.One t ∷ slots.One s ∷ slots.Maybe (Some f) ∷ slots.Many u ∷ ss) = refl
+if_ends a ss = refl
+
+other_ends : (t : NodeType) (a : Atoms) (s : Slots) → (t ≡ types.IfStatement → ⊥) → ends_open (node t a s) ≡ false
+other_ends types.IfStatement a s n = absurd (n refl)
+other_ends t a s n = refl
+
+pub if_form : (f : Form) → (out-Form f).node_type ≡ types.IfStatement → ends_open (form_plain f) ≡ open_slots (out-Form f).slots.items
+if_form f e =
+    let a = bare (map value_plain (out-Form f).values.items) in
+    let ss = (out-Form f).slots.items in
+    ap ends_open (plain_out f) ∙ (ap (λ t. ends_open (node t a (slots_plain ss))) e ∙ if_ends a ss)
+
+pub other_form : (f : Form) → ((out-Form f).node_type ≡ types.IfStatement → ⊥) → ends_open (form_plain f) ≡ false
+other_form f n = ap ends_open (plain_out f) ∙ other_ends (out-Form f).node_type (bare (map value_plain (out-Form f).values.items)) (slots_plain (out-Form f).slots.items) n
+
+pub not_three : (ss : List (Slot Form)) → (length ss ≡ 3 → ⊥) → open_slots ss ≡ false
+not_three (slots.One t ∷ slots.One s ∷ slots.Maybe None ∷ []) n = absurd (n refl)
+not_three (slots.One t ∷ slots.One s ∷ slots.Maybe (Some f) ∷ []) n = absurd (n refl)
+not_three ss n = refl
+
+pub three : (ss : List (Slot Form)) (x y z : Slot Form) → length ss ≡ 3 → x ≡ get_or ss 0 x → y ≡ get_or ss 1 y → z ≡ get_or ss 2 z → ss ≡ x ∷ y ∷ z ∷ []
+three (u ∷ v ∷ w ∷ []) x y z n d e f = rw (d, e, f) refl
+three [] x y z n d e f = absurd (omega (arith, n))
+three (u ∷ []) x y z n d e f = absurd (omega (arith, n))
+three (u ∷ v ∷ []) x y z n d e f = absurd (omega (arith, n))
+three (u ∷ v ∷ w ∷ o ∷ ss) x y z n d e f = absurd (omega (arith, n))
+
+pub not_first : (ss : List (Slot Form)) (x : Slot Form) → x ≡ get_or ss 0 x → is_one x ≡ false → open_slots ss ≡ false
+not_first (slots.One t ∷ slots.One s ∷ slots.Maybe None ∷ []) x e n = absurd (both_ways (is_one x) n (ap is_one e))
+not_first (slots.One t ∷ slots.One s ∷ slots.Maybe (Some f) ∷ []) x e n = absurd (both_ways (is_one x) n (ap is_one e))
+not_first ss x e n = refl
+
+pub not_second : (ss : List (Slot Form)) (x : Slot Form) → x ≡ get_or ss 1 x → is_one x ≡ false → open_slots ss ≡ false
+not_second (slots.One t ∷ slots.One s ∷ slots.Maybe None ∷ []) x e n = absurd (both_ways (is_one x) n (ap is_one e))
+not_second (slots.One t ∷ slots.One s ∷ slots.Maybe (Some f) ∷ []) x e n = absurd (both_ways (is_one x) n (ap is_one e))
+not_second ss x e n = refl
+
+pub not_third : (ss : List (Slot Form)) (x : Slot Form) → x ≡ get_or ss 2 x → ((o : Option Form) → x ≡ slots.Maybe o → ⊥) → open_slots ss ≡ false
+not_third (slots.One t ∷ slots.One s ∷ slots.Maybe None ∷ []) x e n = absurd (n None e)
+not_third (slots.One t ∷ slots.One s ∷ slots.Maybe (Some f) ∷ []) x e n = absurd (n (Some f) e)
+not_third ss x e n = refl
+
+abbrev pub open_if : Option Form → Bool
+open_if None = true
+open_if (Some f) = ends_open (form_plain f)
+
+pub third : (x y z : Slot Form) (o : Option Form) → is_one x ≡ true → is_one y ≡ true → z ≡ slots.Maybe o → open_slots (x ∷ y ∷ z ∷ []) ≡ open_if o
+third (slots.One t) (slots.One s) z None d e f = rw f refl
+third (slots.One t) (slots.One s) z (Some u) d e f = rw f refl
+third (slots.Maybe p) y z o d e f = absurd (both_ways false refl d)
+third (slots.Many p) y z o d e f = absurd (both_ways false refl d)
+third (slots.One t) (slots.Maybe p) z o d e f = absurd (both_ways false refl e)
+third (slots.One t) (slots.Many p) z o d e f = absurd (both_ways false refl e)
+
+-- ---- a form that is taken apart, and put together again
+
+pub of_out : (f : Form) → form_plain (roll-Form (record { node_type = (out-Form f).node_type; values = (out-Form f).values; slots = (out-Form f).slots })) ≡ form_plain f
+of_out f = of_layer (out-Form f) ∙ sym (plain_out f)
+
+pub other_slots : (f : Form) (ss : Vec (Slot Form) Global) → ss.items ≡ (out-Form f).slots.items → form_plain (roll-Form (record { node_type = (out-Form f).node_type; values = (out-Form f).values; slots = ss })) ≡ form_plain f
+other_slots f ss e = of_layer (record { node_type = (out-Form f).node_type; values = (out-Form f).values; slots = ss }) ∙ (ap (λ x. node (out-Form f).node_type (bare (map value_plain (out-Form f).values.items)) (slots_plain x)) e ∙ sym (plain_out f))
+
+pub as_list : (f : Form) (t : NodeType) (fs : Vec Form Global) → (out-Form f).node_type ≡ t → (out-Form f).slots.items ≡ slots.Many fs ∷ [] → form_plain f ≡ node t (bare (map value_plain (out-Form f).values.items)) (many (forms_plain fs.items) no_slots)
+as_list f t fs d e =
+    let a = bare (map value_plain (out-Form f).values.items) in
+    plain_out f ∙ (ap (λ x. node x a (slots_plain (out-Form f).slots.items)) d ∙ ap (λ x. node t a (slots_plain x)) e)
+
+pub as_type : (f : Form) (t : NodeType) → (out-Form f).node_type ≡ t → form_plain f ≡ node t (bare (map value_plain (out-Form f).values.items)) (slots_plain (out-Form f).slots.items)
+as_type f t e = plain_out f ∙ ap (λ x. node x (bare (map value_plain (out-Form f).values.items)) (slots_plain (out-Form f).slots.items)) e
+
+pub block_without_list : (f : Form) → (out-Form f).node_type ≡ types.BlockStatement → is_list (out-Form f).slots.items ≡ false → unbraced (form_plain f) ≡ form_plain f
+block_without_list f e n =
+    let same = as_type f types.BlockStatement e in
+    ap unbraced same ∙ (no_list_unbraced (bare (map value_plain (out-Form f).values.items)) (out-Form f).slots.items n ∙ sym same)
+
+pub no_block : (f : Form) → ((out-Form f).node_type ≡ types.BlockStatement → ⊥) → unbraced (form_plain f) ≡ form_plain f
+no_block f n = ap unbraced (plain_out f) ∙ (other_unbraced (out-Form f).node_type (bare (map value_plain (out-Form f).values.items)) (slots_plain (out-Form f).slots.items) n ∙ sym (plain_out f))
+
+pub operation_without_list : (o : LogicalOperator) (f : Form) → (out-Form f).node_type ≡ types.LogicalExpression → is_list (out-Form f).slots.items ≡ false → links o (form_plain f) ≡ more (form_plain f) no_trees
+operation_without_list o f e n =
+    let same = as_type f types.LogicalExpression e in
+    ap (links o) same ∙ (no_list_links o (bare (map value_plain (out-Form f).values.items)) (out-Form f).slots.items n ∙ ap (λ t. more t no_trees) (sym same))
+
+pub no_operation : (o : LogicalOperator) (f : Form) → ((out-Form f).node_type ≡ types.LogicalExpression → ⊥) → links o (form_plain f) ≡ more (form_plain f) no_trees
+no_operation o f n = ap (links o) (plain_out f) ∙ (other_links o (out-Form f).node_type (bare (map value_plain (out-Form f).values.items)) (slots_plain (out-Form f).slots.items) n ∙ ap (λ t. more t no_trees) (sym (plain_out f)))

@@ -1,0 +1,168 @@
+-- In each program that is read a name stands behind each dot, and an expression in brackets that need one; and texts where that isn't so.
+use Rattle.std.proofs.Common.{◌≡◌, ℕ, Bool, true, false, ◌&&◌, List, [], codes, refl, sym, subst}
+use Rattle.std.proofs.lemmas.Bool.{both_ways, and_parts, and_from}
+use lib.Utf8.{encode}
+use Rattle.unicode_ident.proofs.Computing.{unicode_ident}
+use Rattle.jsgen_syntax.specs.Escapes.{word_value}
+use Rattle.jsgen_syntax.specs.Name.{is_reserved, is_strict_reserved}
+use Rattle.jsgen_syntax.specs.Strings.{string_value}
+use Rattle.jsgen_syntax.specs.declared.quote.Quote.TheVariants.{Double}
+use Rattle.jsgen_syntax.specs.declared.operator.BinaryOperator.{BinaryOperator}
+use Rattle.jsgen_syntax.specs.declared.operator.BinaryOperator.TheVariants as operators
+use Rattle.jsgen_tree.specs.Tree.{Tree, Trees}
+use Rattle.jsgen_model.specs.Punctuator.{dot, comma, equal, star_star, and_and, or_or, nullish, semicolon, Round, Square, Brace}
+use Rattle.jsgen_model.specs.Tokens.{Tokens, done, piece, group, ◌⧺◌, Word, Quoted, Sign, longer_stands, AreTokensOf}
+use Rattle.jsgen_model.specs.Grammar.{Allowed, Level, operator_piece, ReadsExpression, ReadsArguments, ReadsArgumentList, ReadsBinding, ReadsDeclarator, ReadsDeclarators, ReadsDeclaration, EndsBy, ReadsStatement, ReadsItem, ReadsStatements, ReadsBody, ReadsModule, a_module}
+use Rattle.jsgen_model.specs.Grammar as grammar
+use Rattle.jsgen_token_laws.proofs.Plain.{all_plain}
+use Rattle.jsgen_token_laws.proofs.OneList.{one_token_list}
+use Rattle.jsgen_oracle.specs.Samples.{IsNotRead}
+use Rattle.jsgen_oracle.proofs.Samples.{word, sign}
+use Rattle.jsgen_oracle.proofs.Refused.{begins_with_name, starts_well, named_further, joined, expression_starts}
+
+-- an expression's tokens, or none
+abbrev may_be_given : Tokens → Bool
+may_be_given done = true
+may_be_given ts = starts_well ts
+
+abbrev is_joined : Tokens → Bool
+is_joined done = true
+is_joined (piece m (Sign dot) ts) = begins_with_name ts && is_joined ts
+is_joined (piece m p ts) = is_joined ts
+is_joined (group m Square inside ts) = starts_well inside && is_joined ts
+is_joined (group m Round inside ts) = may_be_given inside && is_joined ts
+is_joined (group m b inside ts) = is_joined ts
+
+behind : (a b : Tokens) → is_joined a ≡ true → is_joined b ≡ true → is_joined (a ⧺ b) ≡ true
+behind done b h g = g
+behind (piece m (Sign dot) ts) b h g = let k = and_parts (begins_with_name ts) (is_joined ts) h in and_from _ _ (named_further ts b k.0) (behind ts b k.1 g)
+behind (piece m p ts) b h g = behind ts b h g
+behind (group m Square inside ts) b h g = let k = and_parts (starts_well inside) (is_joined ts) h in and_from _ _ k.0 (behind ts b k.1 g)
+behind (group m Round inside ts) b h g = let k = and_parts (may_be_given inside) (is_joined ts) h in and_from _ _ k.0 (behind ts b k.1 g)
+behind (group m Brace inside ts) b h g = behind ts b h g
+
+made : (ts a b : Tokens) → ts ≡ a ⧺ b → is_joined a ≡ true → is_joined b ≡ true → is_joined ts ≡ true
+made ts a b e h g = subst (λ x. is_joined x ≡ true) (sym e) (behind a b h g)
+
+operator_joined : (o : BinaryOperator) (m : Bool) (b : Tokens) → is_joined b ≡ true → is_joined (piece m (operator_piece o) b) ≡ true
+operator_joined operators.Addition m b h = h
+operator_joined o m b h = h
+
+given_from : (ts : Tokens) → starts_well ts ≡ true → may_be_given ts ≡ true
+given_from done h = refl
+given_from (piece m p ts) h = h
+given_from (group m b inside ts) h = h
+
+list_starts : {c : Allowed} {ts : Tokens} {es : Trees} → ReadsArgumentList c ts es → starts_well ts ≡ true
+list_starts (grammar.last_argument r) = expression_starts r
+list_starts (grammar.first_argument m e r s) = joined _ _ (piece m (Sign comma) _) refl e (expression_starts r)
+
+arguments_start : {c : Allowed} {ts : Tokens} {es : Trees} → ReadsArguments c ts es → may_be_given ts ≡ true
+arguments_start grammar.no_argument = refl
+arguments_start (grammar.some_arguments {ts = ts} r) = given_from ts (list_starts r)
+arguments_start (grammar.with_last_comma {ts = ts} m e r) = given_from ts (joined _ _ (piece m (Sign comma) done) refl e (list_starts r))
+
+expression_joined : {c : Allowed} {l : Level} {ts : Tokens} {t : Tree} → ReadsExpression c l ts t → is_joined ts ≡ true
+expression_joined (grammar.an_assignment r) = expression_joined r
+expression_joined (grammar.a_conditional r) = expression_joined r
+expression_joined (grammar.a_short_circuit r) = expression_joined r
+expression_joined (grammar.a_logical_or r) = expression_joined r
+expression_joined (grammar.a_logical_and r) = expression_joined r
+expression_joined (grammar.a_bit_or r) = expression_joined r
+expression_joined (grammar.a_bit_xor r) = expression_joined r
+expression_joined (grammar.a_bit_and r) = expression_joined r
+expression_joined (grammar.an_equality r) = expression_joined r
+expression_joined (grammar.a_relation r) = expression_joined r
+expression_joined (grammar.a_shift r) = expression_joined r
+expression_joined (grammar.an_additive r) = expression_joined r
+expression_joined (grammar.a_multiplicative r) = expression_joined r
+expression_joined (grammar.an_exponent r) = expression_joined r
+expression_joined (grammar.a_unary r) = expression_joined r
+expression_joined (grammar.an_update r) = expression_joined r
+expression_joined (grammar.a_left_hand_side r) = expression_joined r
+expression_joined (grammar.a_new r) = expression_joined r
+expression_joined (grammar.a_call r) = expression_joined r
+expression_joined (grammar.a_member r) = expression_joined r
+expression_joined (grammar.a_primary r) = expression_joined r
+expression_joined (grammar.a_called_member r) = expression_joined r
+expression_joined (grammar.a_called_call r) = expression_joined r
+expression_joined (grammar.a_coalesce r) = expression_joined r
+expression_joined (grammar.a_coalesced_head r) = expression_joined r
+expression_joined (grammar.a_bit_or_head r) = expression_joined r
+expression_joined (grammar.a_named_member w m n e v r) = made _ _ (piece m (Sign dot) (piece n (Word _) done)) e (expression_joined r) refl
+expression_joined (grammar.a_named_member_of_call w m n e v r) = made _ _ (piece m (Sign dot) (piece n (Word _) done)) e (expression_joined r) refl
+expression_joined (grammar.a_computed_member {inside = i} m e r s) = made _ _ (group m Square i done) e (expression_joined r) (and_from (starts_well i) true (expression_starts s) refl)
+expression_joined (grammar.a_computed_member_of_call {inside = i} m e r s) = made _ _ (group m Square i done) e (expression_joined r) (and_from (starts_well i) true (expression_starts s) refl)
+expression_joined (grammar.with_arguments {inside = i} m e r s) = made _ _ (group m Round i done) e (expression_joined r) (and_from (may_be_given i) true (arguments_start s) refl)
+expression_joined (grammar.an_operation o m p q e l r) = made _ _ (piece m (operator_piece o) _) e (expression_joined l) (operator_joined o m _ (expression_joined r))
+expression_joined (grammar.a_power m e l r) = made _ _ (piece m (Sign star_star) _) e (expression_joined l) (expression_joined r)
+expression_joined (grammar.a_conjunction m e l r) = made _ _ (piece m (Sign and_and) _) e (expression_joined l) (expression_joined r)
+expression_joined (grammar.a_disjunction m e l r) = made _ _ (piece m (Sign or_or) _) e (expression_joined l) (expression_joined r)
+expression_joined (grammar.a_coalescing m e l r) = made _ _ (piece m (Sign nullish) _) e (expression_joined l) (expression_joined r)
+expression_joined (grammar.a_reference e h) = refl
+expression_joined grammar.a_number = refl
+expression_joined (grammar.a_string e) = refl
+expression_joined (grammar.in_parentheses {ts = ts} r) = and_from (may_be_given ts) true (given_from ts (expression_starts r)) refl
+
+binding_joined : {c : Allowed} {ts : Tokens} {t : Tree} → ReadsBinding c ts t → is_joined ts ≡ true
+binding_joined (grammar.a_bound_name e h) = refl
+
+declarator_joined : {c : Allowed} {ts : Tokens} {t : Tree} → ReadsDeclarator c ts t → is_joined ts ≡ true
+declarator_joined (grammar.without_value r) = binding_joined r
+declarator_joined (grammar.with_value m e r v) = made _ _ (piece m (Sign equal) _) e (binding_joined r) (expression_joined v)
+
+declarators_joined : {c : Allowed} {ts : Tokens} {ds : Trees} → ReadsDeclarators c ts ds → is_joined ts ≡ true
+declarators_joined (grammar.last_declarator r) = declarator_joined r
+declarators_joined (grammar.first_declarator m e r s) = made _ _ (piece m (Sign comma) _) e (declarator_joined r) (declarators_joined s)
+
+declaration_joined : {c : Allowed} {ts : Tokens} {t : Tree} → ReadsDeclaration c ts t → is_joined ts ≡ true
+declaration_joined (grammar.a_const r) = declarators_joined r
+
+ended_joined : {last : Bool} {ts a : Tokens} → EndsBy last ts a → is_joined a ≡ true → is_joined ts ≡ true
+ended_joined (grammar.a_semicolon m e) h = made _ _ (piece m (Sign semicolon) done) e h refl
+ended_joined grammar.the_brace h = h
+
+statement_joined : {c : Allowed} {last before_else : Bool} {ts : Tokens} {s : Tree} → ReadsStatement c last before_else ts s → is_joined ts ≡ true
+statement_joined (grammar.an_expression_statement e h r) = ended_joined e (expression_joined r)
+statement_joined grammar.an_empty_statement = refl
+statement_joined (grammar.a_block r) = refl
+statement_joined (grammar.an_if {test = i} r s) = and_from (may_be_given i) _ (given_from i (expression_starts r)) (statement_joined s)
+statement_joined (grammar.an_if_with_else {test = i} k e r s u) = and_from (may_be_given i) _ (given_from i (expression_starts r)) (made _ _ (piece k (Word (codes "else")) _) e (statement_joined s) (statement_joined u))
+
+item_joined : {c : Allowed} {last : Bool} {ts : Tokens} {s : Tree} → ReadsItem c last ts s → is_joined ts ≡ true
+item_joined (grammar.a_statement r) = statement_joined r
+item_joined (grammar.a_declaration e r) = ended_joined e (declaration_joined r)
+
+statements_joined : {c : Allowed} {last : Bool} {ts : Tokens} {ss : Trees} → ReadsStatements c last ts ss → is_joined ts ≡ true
+statements_joined grammar.no_statement = refl
+statements_joined (grammar.last_statement r) = item_joined r
+statements_joined (grammar.first_statement {ts = ts} {a = a} {b = b} e r s) = made ts a b e (item_joined r) (statements_joined s)
+
+body_joined : {c : Allowed} {last : Bool} {ts : Tokens} {ds ss : Trees} → ReadsBody c last ts ds ss → is_joined ts ≡ true
+body_joined (grammar.a_directive q e d) = body_joined d
+body_joined (grammar.a_last_directive q e) = refl
+body_joined (grammar.statements h r) = statements_joined r
+
+module_joined : {ts : Tokens} {t : Tree} → ReadsModule ts t → is_joined ts ≡ true
+module_joined (a_module r) = body_joined r
+
+refused : (source : List ℕ) (ts : Tokens) → AreTokensOf source ts → is_joined ts ≡ false → IsNotRead source
+refused source ts h f us t g r = both_ways (is_joined ts) f (subst (λ x. is_joined x ≡ true) (one_token_list source us ts g (all_plain us) h (all_plain ts)) (module_joined r))
+
+-- ---- texts
+
+pub member_by_string : IsNotRead (codes "a.\"b\";")
+unfolding unicode_ident longer_stands word_value is_reserved is_strict_reserved encode string_value
+member_by_string = refused (codes "a.\"b\";") (word (codes "a") (sign dot (piece false (Quoted Double (codes "b")) (sign semicolon done)))) ([], codes ".\"b\";", refl, refl, refl, refl, refl, ([], codes "\"b\";", refl, refl, refl, refl, refl, ([], codes ";", refl, refl, refl, refl, refl, ([], [], refl, refl, refl, refl, refl, refl)))) refl
+
+pub no_element : IsNotRead (codes "a[];")
+unfolding unicode_ident longer_stands word_value is_reserved is_strict_reserved encode
+no_element = refused (codes "a[];") (word (codes "a") (group false Square done (sign semicolon done))) ([], codes "[];", refl, refl, refl, refl, refl, ([], [], codes ";", refl, refl, refl, refl, ([], [], refl, refl, refl, refl, refl, refl))) refl
+
+pub no_name : IsNotRead (codes "a.;")
+unfolding unicode_ident longer_stands word_value is_reserved is_strict_reserved encode
+no_name = refused (codes "a.;") (word (codes "a") (sign dot (sign semicolon done))) ([], codes ".;", refl, refl, refl, refl, refl, ([], codes ";", refl, refl, refl, refl, refl, ([], [], refl, refl, refl, refl, refl, refl))) refl
+
+pub no_argument : IsNotRead (codes "a(,);")
+unfolding unicode_ident longer_stands word_value is_reserved is_strict_reserved encode
+no_argument = refused (codes "a(,);") (word (codes "a") (group false Round (sign comma done) (sign semicolon done))) ([], codes "(,);", refl, refl, refl, refl, refl, ([], codes ",", codes ";", refl, refl, refl, ([], [], refl, refl, refl, refl, refl, refl), ([], [], refl, refl, refl, refl, refl, refl))) refl

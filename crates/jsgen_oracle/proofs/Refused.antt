@@ -1,0 +1,429 @@
+-- What every program that the grammar reads has in common, and texts that haven't.
+use Rattle.std.proofs.Common.{◌≡◌, ℕ, Bool, true, false, ◌&&◌, ◌||◌, ◌==◌, List, [], ◌++◌, codes, refl, sym, ap, ◌∙◌, subst}
+use Rattle.std.specs.Prelude.{not}
+use Rattle.std.specs.List.{list_any}
+use Rattle.std.specs.Option.{option_map_or}
+use Rattle.std.specs.Str.{bytes_eq}
+use Rattle.std.proofs.lemmas.Slice.Eq.{bytes_eq-Decides}
+use Rattle.std.proofs.lemmas.Bool.{both_ways, and_parts, and_from, or_left, or_right}
+use lib.Utf8.{encode}
+use Rattle.unicode_ident.proofs.Computing.{unicode_ident}
+use Rattle.jsgen_syntax.specs.Escapes.{word_value}
+use Rattle.jsgen_syntax.specs.Name.{is_reserved, is_strict_reserved, is_free_name}
+use Rattle.jsgen_syntax.specs.Strings.{string_value}
+use Rattle.jsgen_syntax.specs.declared.quote.Quote.TheVariants.{Single, Double}
+use Rattle.jsgen_syntax.specs.declared.operator.BinaryOperator.{BinaryOperator}
+use Rattle.jsgen_syntax.specs.declared.operator.BinaryOperator.TheVariants as operators
+use Rattle.jsgen_tree.specs.Tree.{Tree, Trees}
+use Rattle.jsgen_model.specs.Punctuator.{dot, plus, plus_plus, minus_minus, star_star, and_and, or_or, nullish, semicolon, Bracket, Round, Square, Brace, opening, closing}
+use Rattle.jsgen_model.specs.Numbers.{spells_number}
+use Rattle.jsgen_model.specs.Tokens.{Tokens, done, piece, group, ◌⧺◌, Piece, Word, Number, Quoted, Sign, piece_text, is_blank, longer_stands, longer_number_stands, AreTokensOf}
+use Rattle.jsgen_model.specs.Grammar.{Allowed, Level, operator_piece, ReadsExpression, ReadsBinding, ReadsDeclarator, ReadsDeclarators, ReadsDeclaration, EndsBy, ReadsStatement, ReadsItem, ReadsStatements, ReadsBody, ReadsModule, a_module}
+use Rattle.jsgen_model.specs.Grammar as grammar
+use Rattle.jsgen_token_laws.proofs.Characters.{any_append}
+use Rattle.jsgen_token_laws.proofs.Plain.{all_plain}
+use Rattle.jsgen_token_laws.proofs.OneList.{one_token_list, one_span, piece_stops, piece_or_group, opening_char}
+use Rattle.jsgen_oracle.specs.Samples.{IsNotRead}
+use Rattle.jsgen_oracle.proofs.Samples.{word, sign}
+
+-- ---- a program's last token
+
+-- a semicolon or a brace group stands at the end; of no tokens, as the flag says
+abbrev ends_so : Bool → Tokens → Bool
+ends_so last done = last
+ends_so last (piece m (Sign semicolon) ts) = ends_so true ts
+ends_so last (piece m p ts) = ends_so false ts
+ends_so last (group m Brace inside ts) = ends_so true ts
+ends_so last (group m b inside ts) = ends_so false ts
+
+ends_behind : (v m : Bool) (a b : Tokens) → ends_so true b ≡ true → ends_so v (a ⧺ piece m (Sign semicolon) b) ≡ true
+ends_behind v m done b h = h
+ends_behind v m (piece n (Sign semicolon) a) b h = ends_behind true m a b h
+ends_behind v m (piece n p a) b h = ends_behind false m a b h
+ends_behind v m (group n Brace inside a) b h = ends_behind true m a b h
+ends_behind v m (group n d inside a) b h = ends_behind false m a b h
+
+ends_past : (k : Bool) (w : List ℕ) (a b : Tokens) → ends_so false b ≡ true → (v : Bool) → ends_so v (a ⧺ piece k (Word w) b) ≡ true
+ends_past k w done b h v = h
+ends_past k w (piece n (Sign semicolon) a) b h v = ends_past k w a b h true
+ends_past k w (piece n p a) b h v = ends_past k w a b h false
+ends_past k w (group n Brace inside a) b h v = ends_past k w a b h true
+ends_past k w (group n d inside a) b h v = ends_past k w a b h false
+
+one_more : (m : Bool) (p : Piece) (a b : Tokens) → (a ⧺ piece m p done) ⧺ b ≡ a ⧺ piece m p b
+one_more m p done b = refl
+one_more m p (piece n q a) b = ap (piece n q) (one_more m p a b)
+one_more m p (group n d inside a) b = ap (group n d inside) (one_more m p a b)
+
+in_a_row : (a b d : Tokens) → (a ⧺ b) ⧺ d ≡ a ⧺ (b ⧺ d)
+in_a_row done b d = refl
+in_a_row (piece n q a) b d = ap (piece n q) (in_a_row a b d)
+in_a_row (group n e inside a) b d = ap (group n e inside) (in_a_row a b d)
+
+-- ---- its first two tokens
+
+-- these tokens may stand behind an operand
+abbrev joins : Piece → Bool
+joins (Sign plus_plus) = false
+joins (Sign minus_minus) = false
+joins (Sign s) = true
+joins (Number w) = false
+joins (Quoted q w) = false
+joins (Word w) = bytes_eq w (codes "in") || bytes_eq w (codes "instanceof")
+
+abbrev goes_on : Tokens → Bool
+goes_on done = true
+goes_on (piece m p ts) = joins p
+goes_on (group m Brace inside ts) = false
+goes_on (group m b inside ts) = true
+
+abbrev pub begins_with_name : Tokens → Bool
+begins_with_name (piece m (Word w) ts) = true
+begins_with_name ts = false
+
+-- the word may be a reference
+abbrev is_free_word : List ℕ → Bool
+is_free_word w = option_map_or is_free_name (word_value w) false
+
+-- an operand that a sign, a bracket or nothing follows
+abbrev pub starts_well : Tokens → Bool
+starts_well (piece m (Word w) ts) = is_free_word w && goes_on ts
+starts_well (piece m (Number w) ts) = goes_on ts
+starts_well (piece m (Quoted q w) ts) = goes_on ts
+starts_well (group m Round inside ts) = goes_on ts
+starts_well ts = false
+
+abbrev begins_with_const : Tokens → Bool
+begins_with_const (piece m (Word w) ts) = bytes_eq w (codes "const")
+begins_with_const ts = false
+
+-- a group in parentheses, and something behind it that begins with no `const`
+abbrev goes_to_body : Tokens → Bool
+goes_to_body (group m Round inside done) = false
+goes_to_body (group m Round inside ts) = not (begins_with_const ts)
+goes_to_body ts = false
+
+-- a word before an operand's end, `const` and a name, or `if` and what it needs
+abbrev word_begins_well : List ℕ → Tokens → Bool
+word_begins_well w ts = (is_free_word w && goes_on ts) || ((bytes_eq w (codes "const") && begins_with_name ts) || (bytes_eq w (codes "if") && goes_to_body ts))
+
+-- a statement begins so: with an operand, a declaration, `if`, a semicolon or a brace group
+abbrev begins_well : Tokens → Bool
+begins_well (piece m (Word w) ts) = word_begins_well w ts
+begins_well (piece m (Sign semicolon) ts) = true
+begins_well (group m Brace inside ts) = true
+begins_well ts = starts_well ts
+
+goes_further : (ts b : Tokens) → goes_on b ≡ true → goes_on ts ≡ true → goes_on (ts ⧺ b) ≡ true
+goes_further done b j h = j
+goes_further (piece n q ts) b j h = h
+goes_further (group n Round inside ts) b j h = refl
+goes_further (group n Square inside ts) b j h = refl
+goes_further (group n Brace inside ts) b j h = absurd (both_ways false refl h)
+
+pub named_further : (ts b : Tokens) → begins_with_name ts ≡ true → begins_with_name (ts ⧺ b) ≡ true
+named_further done b h = absurd (both_ways false refl h)
+named_further (piece n (Word w) ts) b h = refl
+named_further (piece n (Number w) ts) b h = absurd (both_ways false refl h)
+named_further (piece n (Quoted q w) ts) b h = absurd (both_ways false refl h)
+named_further (piece n (Sign s) ts) b h = absurd (both_ways false refl h)
+named_further (group n d inside ts) b h = absurd (both_ways false refl h)
+
+starts_further : (ts b : Tokens) → goes_on b ≡ true → starts_well ts ≡ true → starts_well (ts ⧺ b) ≡ true
+starts_further done b j h = absurd (both_ways false refl h)
+starts_further (piece n (Word w) ts) b j h = let k = and_parts (is_free_word w) (goes_on ts) h in and_from _ _ k.0 (goes_further ts b j k.1)
+starts_further (piece n (Number w) ts) b j h = goes_further ts b j h
+starts_further (piece n (Quoted q w) ts) b j h = goes_further ts b j h
+starts_further (piece n (Sign r) ts) b j h = absurd (both_ways false refl h)
+starts_further (group n Round inside ts) b j h = goes_further ts b j h
+starts_further (group n Square inside ts) b j h = absurd (both_ways false refl h)
+starts_further (group n Brace inside ts) b j h = absurd (both_ways false refl h)
+
+operator_joins : (o : BinaryOperator) → joins (operator_piece o) ≡ true
+operator_joins operators.BitwiseOR = refl
+operator_joins operators.BitwiseXOR = refl
+operator_joins operators.BitwiseAnd = refl
+operator_joins operators.Equality = refl
+operator_joins operators.Inequality = refl
+operator_joins operators.StrictEquality = refl
+operator_joins operators.StrictInequality = refl
+operator_joins operators.LessThan = refl
+operator_joins operators.LessEqualThan = refl
+operator_joins operators.GreaterThan = refl
+operator_joins operators.GreaterEqualThan = refl
+operator_joins operators.In = refl
+operator_joins operators.Instanceof = refl
+operator_joins operators.ShiftLeft = refl
+operator_joins operators.ShiftRight = refl
+operator_joins operators.ShiftRightZeroFill = refl
+operator_joins operators.Addition = refl
+operator_joins operators.Subtraction = refl
+operator_joins operators.Multiplication = refl
+operator_joins operators.Division = refl
+operator_joins operators.Remainder = refl
+operator_joins operators.Exponential = refl
+
+-- what goes on behind an operand
+pub joined : (ts a b : Tokens) → goes_on b ≡ true → ts ≡ a ⧺ b → starts_well a ≡ true → starts_well ts ≡ true
+joined ts a b j e h = subst (λ x. starts_well x ≡ true) (sym e) (starts_further a b j h)
+
+pub expression_starts : {c : Allowed} {l : Level} {ts : Tokens} {t : Tree} → ReadsExpression c l ts t → starts_well ts ≡ true
+expression_starts (grammar.an_assignment r) = expression_starts r
+expression_starts (grammar.a_conditional r) = expression_starts r
+expression_starts (grammar.a_short_circuit r) = expression_starts r
+expression_starts (grammar.a_logical_or r) = expression_starts r
+expression_starts (grammar.a_logical_and r) = expression_starts r
+expression_starts (grammar.a_bit_or r) = expression_starts r
+expression_starts (grammar.a_bit_xor r) = expression_starts r
+expression_starts (grammar.a_bit_and r) = expression_starts r
+expression_starts (grammar.an_equality r) = expression_starts r
+expression_starts (grammar.a_relation r) = expression_starts r
+expression_starts (grammar.a_shift r) = expression_starts r
+expression_starts (grammar.an_additive r) = expression_starts r
+expression_starts (grammar.a_multiplicative r) = expression_starts r
+expression_starts (grammar.an_exponent r) = expression_starts r
+expression_starts (grammar.a_unary r) = expression_starts r
+expression_starts (grammar.an_update r) = expression_starts r
+expression_starts (grammar.a_left_hand_side r) = expression_starts r
+expression_starts (grammar.a_new r) = expression_starts r
+expression_starts (grammar.a_call r) = expression_starts r
+expression_starts (grammar.a_member r) = expression_starts r
+expression_starts (grammar.a_primary r) = expression_starts r
+expression_starts (grammar.a_called_member r) = expression_starts r
+expression_starts (grammar.a_called_call r) = expression_starts r
+expression_starts (grammar.a_named_member w m n e v r) = joined _ _ (piece m (Sign dot) _) refl e (expression_starts r)
+expression_starts (grammar.a_computed_member m e r s) = joined _ _ (group m Square _ done) refl e (expression_starts r)
+expression_starts (grammar.with_arguments m e r s) = joined _ _ (group m Round _ done) refl e (expression_starts r)
+expression_starts (grammar.a_named_member_of_call w m n e v r) = joined _ _ (piece m (Sign dot) _) refl e (expression_starts r)
+expression_starts (grammar.a_computed_member_of_call m e r s) = joined _ _ (group m Square _ done) refl e (expression_starts r)
+expression_starts (grammar.an_operation o m p q e l r) = joined _ _ (piece m (operator_piece o) _) (operator_joins o) e (expression_starts l)
+expression_starts (grammar.a_power m e l r) = joined _ _ (piece m (Sign star_star) _) refl e (expression_starts l)
+expression_starts (grammar.a_conjunction m e l r) = joined _ _ (piece m (Sign and_and) _) refl e (expression_starts l)
+expression_starts (grammar.a_disjunction m e l r) = joined _ _ (piece m (Sign or_or) _) refl e (expression_starts l)
+expression_starts (grammar.a_coalesce r) = expression_starts r
+expression_starts (grammar.a_coalescing m e l r) = joined _ _ (piece m (Sign nullish) _) refl e (expression_starts l)
+expression_starts (grammar.a_coalesced_head r) = expression_starts r
+expression_starts (grammar.a_bit_or_head r) = expression_starts r
+expression_starts (grammar.a_reference {w = w} e h) = and_from (is_free_word w) true (ap (λ o. option_map_or is_free_name o false) e ∙ h) refl
+expression_starts grammar.a_number = refl
+expression_starts (grammar.a_string e) = refl
+expression_starts (grammar.in_parentheses r) = refl
+
+binding_starts : {c : Allowed} {ts : Tokens} {t : Tree} → ReadsBinding c ts t → begins_with_name ts ≡ true
+binding_starts (grammar.a_bound_name e h) = refl
+
+declarator_starts : {c : Allowed} {ts : Tokens} {t : Tree} → ReadsDeclarator c ts t → begins_with_name ts ≡ true
+declarator_starts (grammar.without_value r) = binding_starts r
+declarator_starts (grammar.with_value {a = a} m e r v) = subst (λ x. begins_with_name x ≡ true) (sym e) (named_further a _ (binding_starts r))
+
+declarators_start : {c : Allowed} {ts : Tokens} {ds : Trees} → ReadsDeclarators c ts ds → begins_with_name ts ≡ true
+declarators_start (grammar.last_declarator r) = declarator_starts r
+declarators_start (grammar.first_declarator {a = a} m e r s) = subst (λ x. begins_with_name x ≡ true) (sym e) (named_further a _ (declarator_starts r))
+
+-- ---- a statement's first tokens
+
+operand_begins : (ts : Tokens) → starts_well ts ≡ true → begins_well ts ≡ true
+operand_begins done h = absurd (both_ways false refl h)
+operand_begins (piece m (Word w) ts) h = or_left _ _ h
+operand_begins (piece m (Number w) ts) h = h
+operand_begins (piece m (Quoted q w) ts) h = h
+operand_begins (piece m (Sign r) ts) h = absurd (both_ways false refl h)
+operand_begins (group m Round inside ts) h = h
+operand_begins (group m Square inside ts) h = absurd (both_ways false refl h)
+operand_begins (group m Brace inside ts) h = absurd (both_ways false refl h)
+
+declaration_begins : {c : Allowed} {ts : Tokens} {t : Tree} → ReadsDeclaration c ts t → (b : Tokens) → begins_well (ts ⧺ b) ≡ true
+declaration_begins (grammar.a_const {ts = ts} r) b = or_right _ _ (or_left _ _ (named_further ts b (declarators_start r)))
+
+expression_begins : {c : Allowed} {l : Level} {ts : Tokens} {t : Tree} → ReadsExpression c l ts t → (b : Tokens) → goes_on b ≡ true → begins_well (ts ⧺ b) ≡ true
+expression_begins {ts = ts} r b j = operand_begins (ts ⧺ b) (starts_further ts b j (expression_starts r))
+
+-- a statement begins with no `const`
+
+const_is_reserved : is_free_word (codes "const") ≡ false
+unfolding unicode_ident word_value is_reserved is_strict_reserved encode
+const_is_reserved = refl
+
+no_free_name : (w : List ℕ) (x : Bool) → bytes_eq w (codes "const") ≡ x → is_free_word w ≡ true → x ≡ false
+no_free_name w true e h = absurd (both_ways (is_free_word (codes "const")) const_is_reserved (subst (λ v. is_free_word v ≡ true) ((bytes_eq-Decides w (codes "const")).0 e) h))
+no_free_name w false e h = refl
+
+operand_no_const : (ts b : Tokens) → starts_well ts ≡ true → begins_with_const (ts ⧺ b) ≡ false
+operand_no_const done b h = absurd (both_ways false refl h)
+operand_no_const (piece m (Word w) ts) b h = no_free_name w (bytes_eq w (codes "const")) refl (and_parts (is_free_word w) (goes_on ts) h).0
+operand_no_const (piece m (Number w) ts) b h = refl
+operand_no_const (piece m (Quoted q w) ts) b h = refl
+operand_no_const (piece m (Sign r) ts) b h = refl
+operand_no_const (group m d inside ts) b h = refl
+
+statement_no_const : {c : Allowed} {last before_else : Bool} {ts : Tokens} {s : Tree} → ReadsStatement c last before_else ts s → (b : Tokens) → begins_with_const (ts ⧺ b) ≡ false
+statement_no_const (grammar.an_expression_statement {a = a} (grammar.a_semicolon m e) h r) b = subst (λ x. begins_with_const (x ⧺ b) ≡ false) (sym e) (subst (λ x. begins_with_const x ≡ false) (sym (one_more m (Sign semicolon) a b)) (operand_no_const a (piece m (Sign semicolon) b) (expression_starts r)))
+statement_no_const (grammar.an_expression_statement {a = a} grammar.the_brace h r) b = operand_no_const a b (expression_starts r)
+statement_no_const grammar.an_empty_statement b = refl
+statement_no_const (grammar.a_block r) b = refl
+statement_no_const (grammar.an_if r s) b = refl
+statement_no_const (grammar.an_if_with_else k e r s u) b = refl
+
+-- ---- a program
+
+abbrev is_sound : Tokens → Bool
+is_sound done = true
+is_sound ts = begins_well ts && ends_so true ts
+
+sound_from : (ts : Tokens) → begins_well ts ≡ true → ends_so true ts ≡ true → is_sound ts ≡ true
+sound_from done h g = refl
+sound_from (piece m p ts) h g = and_from _ _ h g
+sound_from (group m b inside ts) h g = and_from _ _ h g
+
+sound_ends : (ts : Tokens) → is_sound ts ≡ true → ends_so true ts ≡ true
+sound_ends done h = refl
+sound_ends (piece m p ts) h = (and_parts _ _ h).1
+sound_ends (group m b inside ts) h = (and_parts _ _ h).1
+
+-- what a semicolon ends, before others or at the end of a module
+semicolon_ends : {ts a : Tokens} → EndsBy false ts a → (v : Bool) (b : Tokens) → ends_so true b ≡ true → ends_so v (ts ⧺ b) ≡ true
+semicolon_ends {a = a} (grammar.a_semicolon m e) v b h = subst (λ x. ends_so v (x ⧺ b) ≡ true) (sym e) (subst (λ x. ends_so v x ≡ true) (sym (one_more m (Sign semicolon) a b)) (ends_behind v m a b h))
+
+statement_ends : {c : Allowed} {before_else : Bool} {a : Tokens} {s : Tree} → ReadsStatement c false before_else a s → (v : Bool) (b : Tokens) → ends_so true b ≡ true → ends_so v (a ⧺ b) ≡ true
+statement_ends (grammar.an_expression_statement e h r) v b g = semicolon_ends e v b g
+statement_ends grammar.an_empty_statement v b h = h
+statement_ends (grammar.a_block r) v b h = h
+statement_ends (grammar.an_if r s) v b h = statement_ends s false b h
+statement_ends (grammar.an_if_with_else {a = a} {b = d} k e r s u) v b h =
+    let w : List ℕ = codes "else" in
+    subst (λ x. ends_so false (x ⧺ b) ≡ true) (sym e) (subst (λ x. ends_so false x ≡ true) (sym (in_a_row a (piece k (Word w) d) b)) (ends_past k w a (d ⧺ b) (statement_ends u false b h) false))
+
+-- what stands behind `if` and its test
+body_begins : (next : Bool) (test ts : Tokens) → begins_with_const ts ≡ false → ends_so false ts ≡ true → goes_to_body (group next Round test ts) ≡ true
+body_begins next test done n h = absurd (both_ways false refl h)
+body_begins next test (piece m p ts) n h = ap not n
+body_begins next test (group m d inside ts) n h = ap not n
+
+if_begins : (next : Bool) (test ts : Tokens) → goes_to_body (group next Round test ts) ≡ true → word_begins_well (codes "if") (group next Round test ts) ≡ true
+if_begins next test ts h = or_right (is_free_word (codes "if") && goes_on (group next Round test ts)) _ (or_right (bytes_eq (codes "if") (codes "const") && begins_with_name (group next Round test ts)) _ h)
+
+-- before a semicolon
+semicolon_begins : {ts a : Tokens} → EndsBy false ts a → ((d : Tokens) → goes_on d ≡ true → begins_well (a ⧺ d) ≡ true) → (b : Tokens) → begins_well (ts ⧺ b) ≡ true
+semicolon_begins {a = a} (grammar.a_semicolon m e) h b = subst (λ x. begins_well (x ⧺ b) ≡ true) (sym e) (subst (λ x. begins_well x ≡ true) (sym (one_more m (Sign semicolon) a b)) (h (piece m (Sign semicolon) b) refl))
+
+statement_begins : {c : Allowed} {before_else : Bool} {a : Tokens} {s : Tree} → ReadsStatement c false before_else a s → (b : Tokens) → ends_so true b ≡ true → begins_well (a ⧺ b) ≡ true
+statement_begins (grammar.an_expression_statement e h r) b g = semicolon_begins e (expression_begins r) b
+statement_begins grammar.an_empty_statement b h = refl
+statement_begins (grammar.a_block r) b h = refl
+statement_begins (grammar.an_if {next = next} {test = test} {ts = ts} r s) b h = if_begins next test (ts ⧺ b) (body_begins next test (ts ⧺ b) (statement_no_const s b) (statement_ends s false b h))
+statement_begins (grammar.an_if_with_else {next = next} {test = test} {ts = ts} {a = a} {b = d} k e r s u) b h =
+    let w : List ℕ = codes "else" in
+    if_begins next test (ts ⧺ b) (body_begins next test (ts ⧺ b) (subst (λ x. begins_with_const (x ⧺ b) ≡ false) (sym e) (subst (λ x. begins_with_const x ≡ false) (sym (in_a_row a (piece k (Word w) d) b)) (statement_no_const s (piece k (Word w) (d ⧺ b))))) (subst (λ x. ends_so false (x ⧺ b) ≡ true) (sym e) (subst (λ x. ends_so false x ≡ true) (sym (in_a_row a (piece k (Word w) d) b)) (ends_past k w a (d ⧺ b) (statement_ends u false b h) false))))
+
+item_begins : {c : Allowed} {a : Tokens} {s : Tree} → ReadsItem c false a s → (b : Tokens) → ends_so true b ≡ true → begins_well (a ⧺ b) ≡ true
+item_begins (grammar.a_statement r) b h = statement_begins r b h
+item_begins (grammar.a_declaration e r) b h = semicolon_begins e (λ d j. declaration_begins r d) b
+
+item_ends : {c : Allowed} {a : Tokens} {s : Tree} → ReadsItem c false a s → (v : Bool) (b : Tokens) → ends_so true b ≡ true → ends_so v (a ⧺ b) ≡ true
+item_ends (grammar.a_statement r) v b h = statement_ends r v b h
+item_ends (grammar.a_declaration e r) v b h = semicolon_ends e v b h
+
+item_sound : {c : Allowed} (a : Tokens) {s : Tree} → ReadsItem c false a s → (b : Tokens) → ends_so true b ≡ true → is_sound (a ⧺ b) ≡ true
+item_sound a r b h = sound_from (a ⧺ b) (item_begins r b h) (item_ends r true b h)
+
+end_nothing : (a : Tokens) → a ⧺ done ≡ a
+end_nothing done = refl
+end_nothing (piece m p a) = ap (piece m p) (end_nothing a)
+end_nothing (group m b inside a) = ap (group m b inside) (end_nothing a)
+
+statements_sound : {c : Allowed} {ts : Tokens} {ss : Trees} → ReadsStatements c false ts ss → is_sound ts ≡ true
+statements_sound grammar.no_statement = refl
+statements_sound (grammar.last_statement {ts = ts} r) = subst (λ x. is_sound x ≡ true) (end_nothing ts) (item_sound ts r done refl)
+statements_sound (grammar.first_statement {a = a} {b = b} e r s) = subst (λ x. is_sound x ≡ true) (sym e) (item_sound a r b (sound_ends b (statements_sound s)))
+
+body_sound : {c : Allowed} {ts : Tokens} {ds ss : Trees} → ReadsBody c false ts ds ss → is_sound ts ≡ true
+body_sound (grammar.a_directive {ts = ts} q e r) = sound_ends ts (body_sound r)
+body_sound (grammar.statements h r) = statements_sound r
+
+module_sound : {ts : Tokens} {t : Tree} → ReadsModule ts t → is_sound ts ≡ true
+module_sound (a_module r) = body_sound r
+
+refused : (source : List ℕ) (ts : Tokens) → AreTokensOf source ts → is_sound ts ≡ false → IsNotRead source
+refused source ts h f us t g r = both_ways (is_sound ts) f (subst (λ x. is_sound x ≡ true) (one_token_list source us ts g (all_plain us) h (all_plain ts)) (module_sound r))
+
+-- ---- texts
+
+pub two_names : IsNotRead (codes "a b")
+unfolding unicode_ident longer_stands word_value is_reserved is_strict_reserved encode
+two_names = refused (codes "a b") (word (codes "a") (word (codes "b") done)) ([], codes " b", refl, refl, refl, refl, refl, (codes " ", [], refl, refl, refl, refl, refl, refl)) refl
+
+pub two_numbers : IsNotRead (codes "1 2;")
+unfolding unicode_ident longer_stands longer_number_stands spells_number word_value
+two_numbers = refused (codes "1 2;") (piece false (Number (codes "1")) (piece false (Number (codes "2")) (sign semicolon done))) ([], codes " 2;", refl, refl, refl, refl, refl, (codes " ", codes ";", refl, refl, refl, refl, refl, ([], [], refl, refl, refl, refl, refl, refl))) refl
+
+pub no_right_operand : IsNotRead (codes "a +")
+unfolding unicode_ident longer_stands word_value is_reserved is_strict_reserved encode
+no_right_operand = refused (codes "a +") (word (codes "a") (sign plus done)) ([], codes " +", refl, refl, refl, refl, refl, (codes " ", [], refl, refl, refl, refl, refl, refl)) refl
+
+pub increment_between : IsNotRead (codes "a ++ b;")
+unfolding unicode_ident longer_stands word_value is_reserved is_strict_reserved encode
+increment_between = refused (codes "a ++ b;") (word (codes "a") (sign plus_plus (word (codes "b") (sign semicolon done)))) ([], codes " ++ b;", refl, refl, refl, refl, refl, (codes " ", codes " b;", refl, refl, refl, refl, refl, (codes " ", codes ";", refl, refl, refl, refl, refl, ([], [], refl, refl, refl, refl, refl, refl)))) refl
+
+pub string_behind_name : IsNotRead (codes "a'b';")
+unfolding unicode_ident longer_stands word_value is_reserved is_strict_reserved encode string_value
+string_behind_name = refused (codes "a'b';") (word (codes "a") (piece false (Quoted Single (codes "b")) (sign semicolon done))) ([], codes "'b';", refl, refl, refl, refl, refl, ([], codes ";", refl, refl, refl, refl, refl, ([], [], refl, refl, refl, refl, refl, refl))) refl
+
+pub no_binding : IsNotRead (codes "const;")
+unfolding unicode_ident longer_stands word_value is_reserved is_strict_reserved encode
+no_binding = refused (codes "const;") (word (codes "const") (sign semicolon done)) ([], codes ";", refl, refl, refl, refl, refl, ([], [], refl, refl, refl, refl, refl, refl)) refl
+
+pub reserved_word : IsNotRead (codes "if;")
+unfolding unicode_ident longer_stands word_value is_reserved is_strict_reserved encode
+reserved_word = refused (codes "if;") (word (codes "if") (sign semicolon done)) ([], codes ";", refl, refl, refl, refl, refl, ([], [], refl, refl, refl, refl, refl, refl)) refl
+
+pub escaped_word : IsNotRead (codes "i\\u0066;")
+unfolding unicode_ident longer_stands word_value is_reserved is_strict_reserved encode
+escaped_word = refused (codes "i\\u0066;") (word (codes "i\\u0066") (sign semicolon done)) ([], codes ";", refl, refl, refl, refl, refl, ([], [], refl, refl, refl, refl, refl, refl)) refl
+
+pub unended_directive : IsNotRead (codes "\"a\"")
+unfolding unicode_ident longer_stands word_value string_value
+unended_directive = refused (codes "\"a\"") (piece false (Quoted Double (codes "a")) done) ([], [], refl, refl, refl, refl, refl, refl) refl
+
+pub unended_name : IsNotRead (codes "a")
+unfolding unicode_ident longer_stands word_value is_reserved is_strict_reserved encode
+unended_name = refused (codes "a") (word (codes "a") done) ([], [], refl, refl, refl, refl, refl, refl) refl
+
+pub unended_declaration : IsNotRead (codes "const a")
+unfolding unicode_ident longer_stands word_value is_reserved is_strict_reserved encode
+unended_declaration = refused (codes "const a") (word (codes "const") (word (codes "a") done)) ([], codes " a", refl, refl, refl, refl, refl, (codes " ", [], refl, refl, refl, refl, refl, refl)) refl
+
+pub declaration_behind_if : IsNotRead (codes "if(a)const b;")
+unfolding unicode_ident longer_stands word_value is_reserved is_strict_reserved encode
+declaration_behind_if = refused (codes "if(a)const b;") (word (codes "if") (group false Round (word (codes "a") done) (word (codes "const") (word (codes "b") (sign semicolon done))))) ([], codes "(a)const b;", refl, refl, refl, refl, refl, ([], codes "a", codes "const b;", refl, refl, refl, ([], [], refl, refl, refl, refl, refl, refl), ([], codes " b;", refl, refl, refl, refl, refl, (codes " ", codes ";", refl, refl, refl, refl, refl, ([], [], refl, refl, refl, refl, refl, refl))))) refl
+
+pub else_alone : IsNotRead (codes "else;")
+unfolding unicode_ident longer_stands word_value is_reserved is_strict_reserved encode
+else_alone = refused (codes "else;") (word (codes "else") (sign semicolon done)) ([], codes ";", refl, refl, refl, refl, refl, ([], [], refl, refl, refl, refl, refl, refl)) refl
+
+pub no_consequent : IsNotRead (codes "if(a)")
+unfolding unicode_ident longer_stands word_value is_reserved is_strict_reserved encode
+no_consequent = refused (codes "if(a)") (word (codes "if") (group false Round (word (codes "a") done) done)) ([], codes "(a)", refl, refl, refl, refl, refl, ([], codes "a", [], refl, refl, refl, ([], [], refl, refl, refl, refl, refl, refl), refl)) refl
+
+-- ---- a bracket that isn't closed
+
+abbrev is_closing : ℕ → Bool
+is_closing c = (c == 41) || (c == 93) || (c == 125)
+
+closing_found : (b : Bracket) (x : List ℕ) → list_any is_closing (closing b ++ x) ≡ true
+closing_found Round x = refl
+closing_found Square x = refl
+closing_found Brace x = refl
+
+any_behind : (f : ℕ → Bool) (a b : List ℕ) → list_any f b ≡ true → list_any f (a ++ b) ≡ true
+any_behind f a b h = any_append f a b ∙ or_right (list_any f a) (list_any f b) h
+
+no_tokens : (ts : Tokens) → AreTokensOf (codes "(a") ts → ⊥
+unfolding opening_char
+no_tokens done h = both_ways false refl h
+no_tokens (piece m p ts) h =
+    let k = one_span is_blank [] h.0 (codes "(a") (piece_text p ++ h.1) refl h.2 refl (piece_stops p h.1 h.4) h.6 in
+    piece_or_group p Round h.1 (codes "a") h.4 (sym k.1)
+no_tokens (group m b inside ts) h = both_ways false refl (ap (list_any is_closing) h.5 ∙ any_behind is_closing h.0 _ (any_behind is_closing (opening b) _ (any_behind is_closing h.1 _ (closing_found b h.2))))
+
+pub open_bracket : IsNotRead (codes "(a")
+open_bracket ts t h r = no_tokens ts h

@@ -1,0 +1,392 @@
+// The normal form of each type of node.
+ghost use Rattle.std.specs.Prelude.{◌≡◌, ◌∷◌, [], map, option_map, IfOk};
+ghost use Rattle.jsgen_tree.specs.Atom.{no_value, text};
+ghost use Rattle.jsgen_tree.specs.Tree.{trees, optional};
+ghost use Rattle.jsgen_tree.specs.Characters.{characters};
+ghost use Rattle.jsgen_tree.specs.Rows.{program_row, directive_row, if_statement_row, variable_declaration_row, variable_declarator_row, numeric_literal_row, string_literal_row, logical_expression_row, identifier_name_row, static_member_expression_row, call_expression_row, expression_plain, statement_plain, declaration_plain, binding_pattern_plain, in_expression, in_statement, in_argument};
+ghost use Rattle.jsgen_tree.specs.Plain.{node_plain};
+ghost use Rattle.jsgen_model.specs.Normal.{normal, normal_maybe, normal_trees, unbraced};
+ghost use Rattle.jsgen_oracle.specs.Form.{form_plain, forms_plain, optional_plain, value_plain};
+ghost use Rattle.jsgen_oracle.specs.declared.form.Value.TheVariants.{Nothing};
+
+use crate::braces::unbraced;
+use crate::chain::{joined, links};
+use crate::characters::characters_of;
+use crate::directive::directive_units;
+use crate::form::{Form, Slot, Value};
+use crate::shape::{leaf, list, pair, single};
+use jsgen_syntax::{JsStr, Memory};
+use jsgen_tree::{
+    Argument, BindingPattern, CallExpression, Declaration, Directive, Expression, ExpressionNode,
+    IdentifierName, IfStatement, LogicalExpression, Node, NodeType, NumericLiteral, NumericValue,
+    Program, Statement, StatementNode, StaticMemberExpression, StringLiteral, VariableDeclaration,
+    VariableDeclarator,
+};
+use std::alloc::Global;
+
+/// What the normal form asks of a child. Only `Node` implements it.
+pub trait NormalNode {
+    ghost use Rattle.jsgen_tree.specs.Tree.{Tree};
+
+    ghost plain: { Self → Tree };
+
+    fn normal_form(&self, alloc: Global) -> Result<Form, Memory>
+        ensures { IfOk result (λ f. form_plain f ≡ normal (plain self.now)) };
+}
+
+// ---- values
+
+// Of a row with one field, which doesn't count.
+fn nothing(alloc: Global) -> Result<Vec<Value>, Memory>
+    ensures { IfOk result (λ v. v.items ≡ Nothing ∷ []) }
+{
+    Ok(vec![in alloc; Value::Nothing]?)
+}
+
+// A name, without the number by which a table knows it.
+fn unnumbered(alloc: Global, name: &String) -> Result<Vec<Value>, Memory>
+    ensures { IfOk result (λ v. map value_plain v.items ≡ text (characters name.now) ∷ no_value ∷ []) }
+{
+    let name = name.clone()?;
+    Ok(vec![in alloc; Value::Text(name), Value::Nothing]?)
+}
+
+// ---- programs and statements
+
+#[tactic(auto, using(crate::proofs::Forms::forms))]
+pub fn program_form<N: NormalNode>(alloc: Global, node: &Program<N>) -> Result<Form, Memory>
+    ensures { IfOk result (λ f. form_plain f ≡ normal (program_row N.plain node.now)) }
+{
+    let directives = directive_forms(alloc, &node.directives)?;
+    let body = statement_forms(alloc, &node.body)?;
+    Ok(Form {
+        node_type: NodeType::Program,
+        values: vec![in alloc;
+            Value::Nothing,
+            Value::Nothing,
+            Value::Nothing,
+            Value::Nothing,
+        ]?,
+        slots: vec![in alloc; Slot::Many(directives), Slot::Many(body)]?,
+    })
+}
+
+fn directive_forms(alloc: Global, directives: &[Directive]) -> Result<Vec<Form>, Memory>
+    ensures { IfOk result (λ fs. forms_plain fs.items ≡ normal_trees (trees (map directive_row directives.now))) }
+{
+    let mut forms = Vec::new(alloc);
+    for directive in directives {
+        forms.push(directive_form(alloc, directive)?)?;
+    }
+    Ok(forms)
+}
+
+fn directive_form(alloc: Global, node: &Directive) -> Result<Form, Memory>
+    ensures { IfOk result (λ f. form_plain f ≡ normal (directive_row node.now)) }
+{
+    let raw = characters_of(alloc, &node.directive)?;
+    let units = directive_units(alloc, &raw)?;
+    let value = Value::Units(JsStr::from_units(alloc, &units)?);
+    Ok(leaf(alloc, NodeType::Directive, vec![in alloc; value]?))
+}
+
+fn statement_forms<N: NormalNode>(
+    alloc: Global,
+    statements: &[StatementNode<N>],
+) -> Result<Vec<Form>, Memory>
+    ensures { IfOk result (λ fs. forms_plain fs.items ≡ normal_trees (trees (map (in_statement N.plain) statements.now))) }
+{
+    let mut forms = Vec::new(alloc);
+    for statement in statements {
+        forms.push(statement.get().normal_form(alloc)?)?;
+    }
+    Ok(forms)
+}
+
+#[tactic(auto, using(crate::proofs::Forms::forms))]
+fn if_statement_form<N: NormalNode>(alloc: Global, node: &IfStatement<N>) -> Result<Form, Memory>
+    ensures { IfOk result (λ f. form_plain f ≡ normal (if_statement_row N.plain node.now)) }
+{
+    let test = node.test.get().normal_form(alloc)?;
+    let consequent = consequent_form(alloc, &node.consequent)?;
+    let alternate = alternate_form(alloc, &node.alternate)?;
+    Ok(Form {
+        node_type: NodeType::IfStatement,
+        values: Vec::new(alloc),
+        slots: vec![in alloc;
+            Slot::One(test),
+            Slot::One(consequent),
+            Slot::Maybe(alternate),
+        ]?,
+    })
+}
+
+fn consequent_form<N: NormalNode>(
+    alloc: Global,
+    consequent: &StatementNode<N>,
+) -> Result<Form, Memory>
+    ensures { IfOk result (λ f. form_plain f ≡ unbraced (normal (in_statement N.plain consequent.now))) }
+{
+    let form = consequent.get().normal_form(alloc)?;
+    unbraced(alloc, form)
+}
+
+fn alternate_form<N: NormalNode>(
+    alloc: Global,
+    alternate: &Option<StatementNode<N>>,
+) -> Result<Option<Form>, Memory>
+    ensures { IfOk result (λ o. optional_plain o ≡ normal_maybe (optional (option_map (in_statement N.plain) alternate.now))) }
+{
+    match alternate {
+        Some(alternate) => Ok(Some(alternate.get().normal_form(alloc)?)),
+        None => Ok(None),
+    }
+}
+
+fn variable_declaration_form<N: NormalNode>(
+    alloc: Global,
+    node: &VariableDeclaration<N>,
+) -> Result<Form, Memory>
+    ensures { IfOk result (λ f. form_plain f ≡ normal (variable_declaration_row N.plain node.now)) }
+{
+    let declarations = declarator_forms(alloc, &node.declarations)?;
+    let values = vec![in alloc; Value::DeclarationKind(node.kind), Value::Nothing]?;
+    list(alloc, NodeType::VariableDeclaration, values, declarations)
+}
+
+fn declarator_forms<N: NormalNode>(
+    alloc: Global,
+    declarators: &[VariableDeclarator<N>],
+) -> Result<Vec<Form>, Memory>
+    ensures { IfOk result (λ fs. forms_plain fs.items ≡ normal_trees (trees (map (variable_declarator_row N.plain) declarators.now))) }
+{
+    let mut forms = Vec::new(alloc);
+    for declarator in declarators {
+        forms.push(variable_declarator_form(alloc, declarator)?)?;
+    }
+    Ok(forms)
+}
+
+#[tactic(auto, using(crate::proofs::Forms::forms))]
+fn variable_declarator_form<N: NormalNode>(
+    alloc: Global,
+    node: &VariableDeclarator<N>,
+) -> Result<Form, Memory>
+    ensures { IfOk result (λ f. form_plain f ≡ normal (variable_declarator_row N.plain node.now)) }
+{
+    let id = node.id.get().normal_form(alloc)?;
+    let init = init_form(alloc, &node.init)?;
+    Ok(Form {
+        node_type: NodeType::VariableDeclarator,
+        values: nothing(alloc)?,
+        slots: vec![in alloc; Slot::One(id), Slot::Maybe(init)]?,
+    })
+}
+
+fn init_form<N: NormalNode>(
+    alloc: Global,
+    init: &Option<ExpressionNode<N>>,
+) -> Result<Option<Form>, Memory>
+    ensures { IfOk result (λ o. optional_plain o ≡ normal_maybe (optional (option_map (in_expression N.plain) init.now))) }
+{
+    match init {
+        Some(init) => Ok(Some(init.get().normal_form(alloc)?)),
+        None => Ok(None),
+    }
+}
+
+// ---- expressions
+
+fn numeric_literal_form(alloc: Global, node: &NumericLiteral) -> Result<Form, Memory>
+    ensures { IfOk result (λ f. form_plain f ≡ normal (numeric_literal_row node.now)) }
+{
+    let digits = match node.value {
+        NumericValue::Whole { digits } => Value::Digits(digits),
+    };
+    let values = vec![in alloc; Value::ByText, Value::Nothing, Value::Nothing, digits]?;
+    Ok(leaf(alloc, NodeType::NumericLiteral, values))
+}
+
+fn string_literal_form(alloc: Global, node: &StringLiteral) -> Result<Form, Memory>
+    ensures { IfOk result (λ f. form_plain f ≡ normal (string_literal_row node.now)) }
+{
+    let value = Value::Units(node.value.try_clone()?);
+    Ok(leaf(alloc, NodeType::StringLiteral, vec![in alloc; value]?))
+}
+
+fn logical_expression_form<N: NormalNode>(
+    alloc: Global,
+    node: &LogicalExpression<N>,
+) -> Result<Form, Memory>
+    ensures { IfOk result (λ f. form_plain f ≡ normal (logical_expression_row N.plain node.now)) }
+{
+    let left = node.left.get().normal_form(alloc)?;
+    let right = node.right.get().normal_form(alloc)?;
+    let left = links(alloc, node.operator, left)?;
+    let right = links(alloc, node.operator, right)?;
+    let values = vec![in alloc; Value::LogicalOperator(node.operator)]?;
+    list(
+        alloc,
+        NodeType::LogicalExpression,
+        values,
+        joined(left, right)?,
+    )
+}
+
+fn identifier_name_form(alloc: Global, node: &IdentifierName) -> Result<Form, Memory>
+    ensures { IfOk result (λ f. form_plain f ≡ normal (identifier_name_row node.now)) }
+{
+    let name = Value::Text(node.name.clone()?);
+    Ok(leaf(alloc, NodeType::IdentifierName, vec![in alloc; name]?))
+}
+
+#[tactic(auto, using(crate::proofs::Forms::forms))]
+fn static_member_expression_form<N: NormalNode>(
+    alloc: Global,
+    node: &StaticMemberExpression<N>,
+) -> Result<Form, Memory>
+    ensures { IfOk result (λ f. form_plain f ≡ normal (static_member_expression_row N.plain node.now)) }
+{
+    let object = node.object.get().normal_form(alloc)?;
+    let property = identifier_name_form(alloc, &node.property)?;
+    Ok(Form {
+        node_type: NodeType::StaticMemberExpression,
+        values: nothing(alloc)?,
+        slots: vec![in alloc; Slot::One(object), Slot::One(property)]?,
+    })
+}
+
+#[tactic(auto, using(crate::proofs::Forms::forms))]
+fn call_expression_form<N: NormalNode>(
+    alloc: Global,
+    node: &CallExpression<N>,
+) -> Result<Form, Memory>
+    ensures { IfOk result (λ f. form_plain f ≡ normal (call_expression_row N.plain node.now)) }
+{
+    let callee = node.callee.get().normal_form(alloc)?;
+    let arguments = argument_forms(alloc, &node.arguments)?;
+    Ok(Form {
+        node_type: NodeType::CallExpression,
+        values: vec![in alloc; Value::Nothing, Value::Nothing]?,
+        slots: vec![in alloc; Slot::One(callee), Slot::Many(arguments)]?,
+    })
+}
+
+fn argument_forms<N: NormalNode>(
+    alloc: Global,
+    arguments: &[Argument<N>],
+) -> Result<Vec<Form>, Memory>
+    ensures { IfOk result (λ fs. forms_plain fs.items ≡ normal_trees (trees (map (in_argument N.plain) arguments.now))) }
+{
+    let mut forms = Vec::new(alloc);
+    for argument in arguments {
+        forms.push(argument_form(alloc, argument)?)?;
+    }
+    Ok(forms)
+}
+
+fn argument_form<N: NormalNode>(alloc: Global, argument: &Argument<N>) -> Result<Form, Memory>
+    ensures { IfOk result (λ f. form_plain f ≡ normal (in_argument N.plain argument.now)) }
+{
+    match argument {
+        Argument::Expression(expression) => expression.get().normal_form(alloc),
+    }
+}
+
+// ---- sets; a row that the normal form only copies is an arm
+
+fn expression_form<N: NormalNode>(alloc: Global, node: &Expression<N>) -> Result<Form, Memory>
+    ensures { IfOk result (λ f. form_plain f ≡ normal (expression_plain N.plain node.now)) }
+{
+    match node {
+        Expression::IdentifierReference(node) => {
+            let name = unnumbered(alloc, &node.name)?;
+            Ok(leaf(alloc, NodeType::IdentifierReference, name))
+        }
+        Expression::NumericLiteral(node) => numeric_literal_form(alloc, node),
+        Expression::StringLiteral(node) => string_literal_form(alloc, node),
+        Expression::BinaryExpression(node) => {
+            let operator = vec![in alloc; Value::BinaryOperator(node.operator)]?;
+            pair(
+                alloc,
+                NodeType::BinaryExpression,
+                operator,
+                node.left.get(),
+                node.right.get(),
+            )
+        }
+        Expression::LogicalExpression(node) => logical_expression_form(alloc, node),
+        Expression::ParenthesizedExpression(node) => node.expression.get().normal_form(alloc),
+        Expression::StaticMemberExpression(node) => static_member_expression_form(alloc, node),
+        Expression::ComputedMemberExpression(node) => {
+            pair(
+                alloc,
+                NodeType::ComputedMemberExpression,
+                nothing(alloc)?,
+                node.object.get(),
+                node.expression.get(),
+            )
+        }
+        Expression::CallExpression(node) => call_expression_form(alloc, node),
+    }
+}
+
+fn declaration_form<N: NormalNode>(alloc: Global, node: &Declaration<N>) -> Result<Form, Memory>
+    ensures { IfOk result (λ f. form_plain f ≡ normal (declaration_plain N.plain node.now)) }
+{
+    match node {
+        Declaration::VariableDeclaration(node) => variable_declaration_form(alloc, node),
+    }
+}
+
+fn statement_form<N: NormalNode>(alloc: Global, node: &Statement<N>) -> Result<Form, Memory>
+    ensures { IfOk result (λ f. form_plain f ≡ normal (statement_plain N.plain node.now)) }
+{
+    match node {
+        Statement::Declaration(declaration) => declaration.get().normal_form(alloc),
+        Statement::ExpressionStatement(node) => {
+            single(
+                alloc,
+                NodeType::ExpressionStatement,
+                Vec::new(alloc),
+                node.expression.get(),
+            )
+        }
+        Statement::BlockStatement(node) => {
+            list(
+                alloc,
+                NodeType::BlockStatement,
+                Vec::new(alloc),
+                statement_forms(alloc, &node.body)?,
+            )
+        }
+        Statement::IfStatement(node) => if_statement_form(alloc, node),
+        Statement::EmptyStatement(_) => Ok(leaf(alloc, NodeType::EmptyStatement, Vec::new(alloc))),
+    }
+}
+
+fn binding_pattern_form(alloc: Global, node: &BindingPattern) -> Result<Form, Memory>
+    ensures { IfOk result (λ f. form_plain f ≡ normal (binding_pattern_plain node.now)) }
+{
+    match node {
+        BindingPattern::BindingIdentifier(node) => {
+            let name = unnumbered(alloc, &node.name)?;
+            Ok(leaf(alloc, NodeType::BindingIdentifier, name))
+        }
+    }
+}
+
+/// The knot: the one recursion.
+impl NormalNode for Node {
+    ghost plain = { λ n. node_plain n };
+
+    #[cycle(node)]
+    fn normal_form(&self, alloc: Global) -> Result<Form, Memory> {
+        match self {
+            Node::Expression(expression) => expression_form(alloc, expression),
+            Node::Statement(statement) => statement_form(alloc, statement),
+            Node::Declaration(declaration) => declaration_form(alloc, declaration),
+            Node::BindingPattern(pattern) => binding_pattern_form(alloc, pattern),
+        }
+    }
+}

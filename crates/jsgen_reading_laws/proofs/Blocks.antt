@@ -1,0 +1,102 @@
+-- Braces round rows of statements, and blocks.
+use Rattle.std.proofs.Common.{◌≡◌, ℕ, Bool, true, false, refl, ap, ◌∙◌}
+use Rattle.jsgen_tree.specs.Tree.{Tree, Trees, no_trees, more, hole, Atoms}
+use Rattle.jsgen_tree.specs.Nodes as tree
+use Rattle.jsgen_model.specs.Punctuator.{Brace, opening, closing}
+use Rattle.jsgen_model.specs.Tokens.{Tokens, done, group}
+use Rattle.jsgen_model.specs.Items.{Items, nothing, ◌⊕◌, brackets, soft_line, drop_semicolon}
+use Rattle.jsgen_model.specs.Layout.{Pen, other_end, layout, written, deeper_level}
+use Rattle.jsgen_model.specs.Grammar.{Allowed, ReadsStatements}
+use Rattle.jsgen_model.specs.Grammar as grammar
+use Rattle.jsgen_model.specs.Normal.{nothing_of}
+use Rattle.jsgen_model.specs.Spell.{Settings, spell_statements, filled_braces, braces, block_items}
+use Rattle.jsgen_token_laws.proofs.Last.{Last, Open, line_of, Knows}
+use Rattle.jsgen_token_laws.proofs.Writes.{Writes, wrote_none, wrote_both, wrote_and_none, same_writes}
+use Rattle.jsgen_token_laws.proofs.Steps.{Gap, gap, soft_line_written, indentation_written, within_brackets, brackets_written}
+use Rattle.jsgen_reading_laws.proofs.Ends.{ends_itself, at_brace}
+use Rattle.jsgen_reading_laws.proofs.Stands.{Stands, StandsAt, ReadsClosed, Stated, SameTree, SameTrees, before_blank, indented_line}
+use Rattle.jsgen_reading_laws.proofs.Rows.{RowAt}
+
+-- between two pens stands a brace group, and what is in it is read so
+pub record GoodBraces {X : Type 0} (R : Bool → Tokens → X → Type 0) (Same : X → Type 0) (p : Pen) (l : Last) (q : Pen) : Type 0 where
+  pub tokens : Tokens
+  pub writes : Writes p l q (Open false) (group (line_of l) Brace tokens done)
+  pub semicolon : q.pending_semicolon ≡ false
+  pub reading : X
+  pub reads : R true tokens reading
+  pub same : Same reading
+
+-- the depth doesn't matter
+at_depth : {p : Pen} {l : Last} (depth : ℕ) → Knows p l → Knows (record p { depth = depth }) l
+at_depth depth k = record { indent = k.indent; ending = k.ending }
+
+-- the semicolon that is left is dropped
+dropped : {p q : Pen} {l m : Last} {ts : Tokens} → Writes p l q m ts → Writes p l (layout drop_semicolon q) m ts
+dropped {q = q} {m = m} w = wrote_and_none w (wrote_none q (layout drop_semicolon q) m refl (record { indent = w.knows.indent; ending = w.knows.ending }))
+
+-- from the line end behind the opening brace, what stands within, and the indentation before the closing one
+filled_parts : {X : Type 0} {R : Bool → Tokens → X → Type 0} {Same : X → Type 0} {p p2 p3 p4 p6 : Pen} {l : Last} (depth : ℕ) → (n : Gap (written (opening Brace) other_end p) (Open false) p2) → p3.code ≡ p2.code → (g : Stands R Same p3 n.last p4) → Gap (record p4 { depth = depth }) g.last p6 → GoodBraces R Same p l (layout drop_semicolon (written (closing Brace) other_end p6))
+filled_parts {p = p} {p2} {p3} {p4} {p6} {l} depth n e g i = record {
+  tokens = g.tokens;
+  writes = dropped (brackets_written Brace p p6 l i.last g.tokens (wrote_both n.writes (wrote_and_none (same_writes p2 (record p4 { depth = depth }) e refl (at_depth depth g.writes.knows) g.writes) i.writes)));
+  semicolon = refl;
+  reading = g.reading;
+  reads = g.reads.read true g.tokens (at_brace p4.pending_semicolon g.tokens);
+  same = g.same;
+}
+
+-- round any items
+pub filled_written : {X : Type 0} {R : Bool → Tokens → X → Type 0} {Same : X → Type 0} (items : Items) → StandsAt R Same items → (p : Pen) (l : Last) → p.pending_semicolon ≡ false → Knows p l → GoodBraces R Same p l (layout (filled_braces items) p)
+filled_written items f p l z k =
+    let p1 : Pen = written (opening Brace) other_end p in
+    let p2 : Pen = layout soft_line p1 in
+    let p3 : Pen = record p2 { depth = deeper_level p2.style.minified p2.depth } in
+    let p4 : Pen = layout items p3 in
+    let n = soft_line_written p1 (Open false) (within_brackets Brace p l k) in
+    let g = f p3 n.last (n.semicolon ∙ z) (n.ready tt) (at_depth p3.depth n.writes.knows) in
+    filled_parts p2.depth n refl g (gap (indentation_written (record p4 { depth = p2.depth }) g.last (at_depth p2.depth g.writes.knows)))
+
+-- round nothing
+empty_written : (c : Allowed) (p : Pen) (l : Last) → Knows p l → GoodBraces (ReadsStatements c) (SameTrees no_trees) p l (layout (brackets Brace nothing ⊕ drop_semicolon) p)
+empty_written c p l k =
+    let p1 : Pen = written (opening Brace) other_end p in
+    record {
+      tokens = done;
+      writes = dropped (brackets_written Brace p p1 l (Open false) done (wrote_none p1 p1 (Open false) refl (within_brackets Brace p l k)));
+      semicolon = refl;
+      reading = no_trees;
+      reads = grammar.no_statement;
+      same = refl;
+    }
+
+braces_written : (c : Allowed) (ss : Trees) (settings : Settings) → RowAt c (spell_statements ss settings) ss → (p : Pen) (l : Last) → p.pending_semicolon ≡ false → Knows p l → GoodBraces (ReadsStatements c) (SameTrees ss) p l (layout (braces ss (spell_statements ss settings)) p)
+braces_written c no_trees settings row p l z k = empty_written c p l k
+braces_written c (more s ss) settings row p l z k = filled_written (spell_statements (more s ss) settings) row p l z k
+braces_written c (hole ss) settings row p l z k = filled_written (spell_statements (hole ss) settings) row p l z k
+
+-- ---- blocks
+
+-- the block is read whatever follows it
+pub block_of : {p q : Pen} {l : Last} {c : Allowed} {Same : Trees → Type 0} {Other : Tree → Type 0} (is_open : Bool) → ((ss : Trees) → Same ss → Other (tree.block (nothing_of 0) ss)) → GoodBraces (ReadsStatements c) Same p l q → Stands (ReadsClosed c is_open) Other p l q
+block_of {l = l} is_open h g = record {
+  last = Open false;
+  tokens = group (line_of l) Brace g.tokens done;
+  writes = g.writes;
+  ready = tt;
+  reading = tree.block (nothing_of 0) g.reading;
+  reads = ends_itself g.semicolon (λ e before_else n. grammar.a_block g.reads);
+  same = h g.reading g.same;
+}
+
+pub good_block : (c : Allowed) (a : Atoms) (ss : Trees) → ((settings : Settings) → RowAt c (spell_statements ss settings) ss) → Stated c (tree.block a ss)
+good_block c a ss row place = by place.in_list
+  where
+    items : Items
+    items = braces ss (spell_statements ss place.settings)
+
+    alone : StandsAt (ReadsClosed c false) (SameTree (tree.block a ss)) items
+    alone p l z y k = block_of false (λ us e. ap (λ ts. tree.block (nothing_of 0) ts) e) (braces_written c ss place.settings (row place.settings) p l z k)
+
+    by : (in_list : Bool) → StandsAt (ReadsClosed c false) (SameTree (tree.block a ss)) (block_items in_list items)
+    by false = alone
+    by true = indented_line (items ⊕ soft_line) (before_blank items soft_line alone soft_line_written)

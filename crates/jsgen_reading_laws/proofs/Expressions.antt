@@ -1,0 +1,145 @@
+-- One lemma for each type of expression.
+use Rattle.std.proofs.Common.{◌≡◌, ℕ, Bool, true, false, not, decimal, codes, Some, List, [], ◌∷◌, refl, sym, ap}
+use Rattle.std.proofs.lemmas.Bool.{both_ways, ltb-true}
+use Rattle.jsgen_syntax.specs.Escapes.{name_text, word_value}
+use Rattle.jsgen_syntax.specs.Name.{is_free_name}
+use Rattle.jsgen_syntax.specs.Strings.{escaped, string_value}
+use Rattle.jsgen_syntax.specs.Wtf8.{are_units}
+use Rattle.jsgen_syntax.specs.declared.quote.Quote.{Quote}
+use Rattle.jsgen_syntax.proofs.Escapes.{word_text_value}
+use Rattle.jsgen_syntax.proofs.Strings.{escaped_value}
+use Rattle.jsgen_model.specs.Items.{string}
+use Rattle.jsgen_tree.specs.Atom.{units}
+use Rattle.jsgen_tree.specs.Number.{NumericKind, Whole, Raw}
+use Rattle.jsgen_tree.specs.Tree.{Tree, Trees, Atoms}
+use Rattle.jsgen_tree.specs.Places.{bare}
+use Rattle.jsgen_tree.specs.Values.{identifier_reference_name, numeric_literal_kind, numeric_literal_digits, string_literal_value}
+use Rattle.jsgen_tree.specs.Nodes as tree
+use Rattle.jsgen_model.specs.Tokens.{Tokens, done, piece, Word, Number, Quoted}
+use Rattle.jsgen_model.specs.Layout.{layout, chosen_quote, Start, nowhere, statement, arrow_body, default_export}
+use Rattle.jsgen_model.specs.Grammar.{Allowed, is_word}
+use Rattle.jsgen_model.specs.Grammar as grammar
+use Rattle.jsgen_model.specs.Normal.{unnumbered, by_text, number_text}
+use Rattle.jsgen_model.specs.Plain.{is_whole}
+use Rattle.jsgen_model.specs.Spell.{number_item}
+use Rattle.jsgen_token_laws.proofs.Last.{After, line_of}
+use Rattle.jsgen_token_laws.proofs.Steps.{wrote_name, wrote_number, wrote_quoted}
+use Rattle.jsgen_reading_laws.proofs.Levels.{level_of, under, from_primary}
+use Rattle.jsgen_reading_laws.proofs.Families.{IsExpression, AreArguments}
+use Rattle.jsgen_reading_laws.proofs.Families as family
+use Rattle.jsgen_reading_laws.proofs.Asked.{asked}
+use Rattle.jsgen_reading_laws.proofs.Names.{free_spelled, free_starts_none}
+use Rattle.jsgen_reading_laws.proofs.Numbers.{decimal_whole}
+use Rattle.jsgen_reading_laws.proofs.Good.{Good, Printed, may_begin}
+use Rattle.jsgen_reading_laws.proofs.Operations.{good_operation}
+use Rattle.jsgen_reading_laws.proofs.Chains.{good_logical_operation}
+use Rattle.jsgen_reading_laws.proofs.Links.{ArgumentsAt, MoreArgumentsAt, good_named_member, good_computed_member, good_call, no_arguments, first_of_arguments, no_more_arguments, one_more_argument}
+
+-- ---- names and numbers
+
+name_begins : (start : Start) (line : Bool) (w v : List ℕ) (b : Tokens) → word_value w ≡ Some v → is_free_name v ≡ true → is_word (codes "function") b ≡ false → may_begin start (piece line (Word w) b) ≡ true
+name_begins nowhere line w v b e h n = refl
+name_begins statement line w v b e h n = ap not (free_starts_none w v b e h n)
+name_begins arrow_body line w v b e h n = refl
+name_begins default_export line w v b e h n = ap not (free_starts_none w v b e h n)
+
+pub good_reference : (c : Allowed) (a : Atoms) → is_free_name (identifier_reference_name a) ≡ true → Printed c (tree.identifier_reference a)
+good_reference c a h place p l z y k =
+    let v : List ℕ = identifier_reference_name a in
+    let w : List ℕ = name_text p.style.ascii v in
+    let e : word_value w ≡ Some v = word_text_value p.style.ascii v (free_spelled v h) in
+    record {
+      last = _;
+      tokens = piece (line_of l) (Word w) done;
+      writes = wrote_name v p l (free_spelled v h) k;
+      operand = tt;
+      semicolon = z;
+      begins = λ b n. name_begins place.start (line_of l) w v b e h n;
+      line = λ g. ap not g;
+      tree = tree.identifier_reference (unnumbered v);
+      reads = from_primary place (grammar.a_reference e h);
+      same = refl;
+    }
+
+number_begins : (start : Start) (line : Bool) (w : List ℕ) (b : Tokens) → may_begin start (piece line (Number w) b) ≡ true
+number_begins nowhere line w b = refl
+number_begins statement line w b = refl
+number_begins arrow_body line w b = refl
+number_begins default_export line w b = refl
+
+pub good_number : (c : Allowed) (a : Atoms) → is_whole (numeric_literal_kind a) a ≡ true → Printed c (tree.numeric_literal a)
+good_number c a h place p l z y k = by (numeric_literal_kind a) refl h
+  where
+    w : List ℕ
+    w = decimal (numeric_literal_digits a)
+
+    by : (kind : NumericKind) → numeric_literal_kind a ≡ kind → is_whole kind a ≡ true → Good p l (layout (number_item kind a) p) (under place c) (level_of place) place.start (tree.numeric_literal a)
+    by Whole e h = record {
+      last = _;
+      tokens = piece (line_of l) (Number w) done;
+      writes = wrote_number w p l (decimal_whole (numeric_literal_digits a) (ltb-true (numeric_literal_digits a) _ h)) y k;
+      operand = tt;
+      semicolon = z;
+      begins = λ b n. number_begins place.start (line_of l) w b;
+      line = λ g. ap not g;
+      tree = tree.numeric_literal (by_text w);
+      reads = from_primary place grammar.a_number;
+      same = ap (λ x. tree.numeric_literal (by_text (number_text x a))) (sym e);
+    }
+    by Raw e h = absurd (both_ways false refl h)
+
+-- ---- strings
+
+quoted_begins : (start : Start) (line : Bool) (q : Quote) (w : List ℕ) (b : Tokens) → may_begin start (piece line (Quoted q w) b) ≡ true
+quoted_begins nowhere line q w b = refl
+quoted_begins statement line q w b = refl
+quoted_begins arrow_body line q w b = refl
+quoted_begins default_export line q w b = refl
+
+pub good_string : (c : Allowed) (a : Atoms) → are_units (string_literal_value a) ≡ true → Printed c (tree.string_literal a)
+good_string c a h place p l z y k =
+    let us : List ℕ = string_literal_value a in
+    let q : Quote = chosen_quote p.style true us in
+    let w : List ℕ = escaped q p.style.ascii us in
+    let e : string_value q w ≡ Some us = escaped_value q p.style.ascii us h in
+    record {
+      last = After (Quoted q w);
+      tokens = piece (line_of l) (Quoted q w) done;
+      writes = wrote_quoted q w us p (layout (string true us) p) l e refl refl k;
+      operand = tt;
+      semicolon = z;
+      begins = λ b n. quoted_begins place.start (line_of l) q w b;
+      line = λ g. ap not g;
+      tree = tree.string_literal (bare (units us ∷ []));
+      reads = from_primary place (grammar.a_string e);
+      same = refl;
+    }
+
+-- ---- parentheses, which aren't printed
+
+pub good_parenthesized : (c : Allowed) (a : Atoms) (t : Tree) → Printed c t → Printed c (tree.parenthesized a t)
+good_parenthesized c a t f place p l z y k =
+    let g = f place p l z y k in
+    record { last = g.last; tokens = g.tokens; writes = g.writes; operand = g.operand; semicolon = g.semicolon; begins = g.begins; line = g.line; tree = g.tree; reads = g.reads; same = g.same }
+
+-- ---- the whole
+
+mutual
+  pub printed_expression : {c : Allowed} {t : Tree} → IsExpression c t → Printed c t
+  printed_expression {c} (family.a_reference {a} h) = good_reference c a h
+  printed_expression {c} (family.a_number {a} h) = good_number c a h
+  printed_expression {c} (family.a_string {a} h) = good_string c a h
+  printed_expression {c} (family.in_parentheses {a} {t} v) = good_parenthesized c a t (printed_expression v)
+  printed_expression {c} (family.an_operation {a} {l} {r} v w) = good_operation c a l r (asked v).alike (printed_expression v) (printed_expression w)
+  printed_expression {c} (family.a_logical_operation {a} {l} {r} v w) = good_logical_operation c a l r (printed_expression v) (printed_expression w) (asked v).mixed (asked w).mixed
+  printed_expression {c} (family.a_named_member {a} {b} {o} v h) = good_named_member c a b o h (printed_expression v)
+  printed_expression {c} (family.a_computed_member {a} {o} {e} v w) = good_computed_member c a o e (printed_expression v) (printed_expression w)
+  printed_expression {c} (family.a_call {a} {f} {es} v w) = good_call c a f es (printed_expression v) (printed_arguments w)
+
+  printed_arguments : {c : Allowed} {es : Trees} → AreArguments c es → ArgumentsAt c es
+  printed_arguments {c} family.no_argument = no_arguments c
+  printed_arguments {c} (family.first_argument {e} {es} v w) = first_of_arguments c e es (printed_expression v) (more_arguments w)
+
+  more_arguments : {c : Allowed} {es : Trees} → AreArguments c es → MoreArgumentsAt c es
+  more_arguments {c} family.no_argument = no_more_arguments c
+  more_arguments {c} (family.first_argument {e} {es} v w) = one_more_argument c e es (printed_expression v) (more_arguments w)

@@ -1,0 +1,176 @@
+-- What is carried through the induction for expressions.
+use Rattle.std.proofs.Common.{◌≡◌, Bool, true, false, not, codes, refl, sym, ap, ◌∙◌, subst}
+use Rattle.std.proofs.lemmas.Bool.{both_ways}
+use Rattle.jsgen_tree.specs.Tree.{Tree}
+use Rattle.jsgen_tree.specs.Nodes as tree
+use Rattle.jsgen_model.specs.Punctuator.{Round, Brace, opening, closing}
+use Rattle.jsgen_model.specs.Tokens.{Tokens, done, piece, group, ◌⧺◌, Piece, Word, Number, Quoted, Sign}
+use Rattle.jsgen_model.specs.Items.{Items, ◌⊕◌, soft_space, wrapped}
+use Rattle.jsgen_model.specs.Layout.{Pen, Start, nowhere, statement, arrow_body, default_export, layout, written_if, unless_printed}
+use Rattle.jsgen_model.specs.Grammar.{Allowed, Level, ReadsExpression, with_in, is_word, on_same_line, starts_statement, starts_declaration}
+use Rattle.jsgen_model.specs.Grammar as grammar
+use Rattle.jsgen_model.specs.Normal.{normal, nothing_of}
+use Rattle.jsgen_model.specs.Spell.{Place, spell, within}
+use Rattle.jsgen_token_laws.proofs.Last.{Last, Open, After, line_of, Operand, Ready, Knows}
+use Rattle.jsgen_token_laws.proofs.Writes.{Writes, wrote_both, wrote_and_none, then_assoc}
+use Rattle.jsgen_token_laws.proofs.Steps.{Soft, soft_space_written, opened, unopened, parentheses_written}
+use Rattle.jsgen_reading_laws.proofs.Levels.{level_of, under, from_primary}
+
+abbrev pub no_brace : Tokens → Bool
+no_brace (group mark Brace inside ts) = false
+no_brace ts = true
+
+abbrev pub no_declaration : Tokens → Bool
+no_declaration (piece mark (Word w) ts) = not (starts_declaration w ts)
+no_declaration ts = true
+
+-- the tokens may begin what begins here
+abbrev pub may_begin : Start → Tokens → Bool
+may_begin nowhere ts = true
+may_begin statement ts = starts_statement ts
+may_begin arrow_body ts = no_brace ts
+may_begin default_export ts = no_declaration ts
+
+-- Between two pens stands an expression that is read at the level as a tree of the same normal form. No semicolon was due before, and none is after.
+-- What it may begin it begins with whatever follows, but the word `function`.
+pub record Good (p : Pen) (l : Last) (q : Pen) (c : Allowed) (level : Level) (start : Start) (t : Tree) : Type 0 where
+  pub last : Last
+  pub tokens : Tokens
+  pub writes : Writes p l q last tokens
+  pub operand : Operand last
+  pub semicolon : q.pending_semicolon ≡ false
+  pub begins : (b : Tokens) → is_word (codes "function") b ≡ false → may_begin start (tokens ⧺ b) ≡ true
+  pub line : line_of l ≡ false → on_same_line tokens ≡ true
+  pub tree : Tree
+  pub reads : ReadsExpression c level tokens tree
+  pub same : normal tree ≡ normal t
+
+-- printed at any place from any pen
+abbrev pub Printed : Allowed → Tree → Type 0
+Printed c t = (place : Place) (p : Pen) (l : Last) → p.pending_semicolon ≡ false → Ready l → Knows p l → Good p l (layout (spell t place) p) (under place c) (level_of place) place.start t
+
+pub operand_ready : (l : Last) → Operand l → Ready l
+operand_ready (Open line) o = tt
+operand_ready (After (Word w)) o = tt
+operand_ready (After (Number w)) o = tt
+operand_ready (After (Quoted q w)) o = tt
+operand_ready (After (Sign s)) o = absurd o
+
+-- a row that begins on the same line does so whatever follows
+pub line_then : (a b : Tokens) → on_same_line a ≡ true → on_same_line (a ⧺ b) ≡ true
+line_then done b h = absurd (both_ways false refl h)
+line_then (piece m p ts) b h = h
+line_then (group m k gs ts) b h = h
+
+-- what begins so does so whatever else follows
+pub begins_then : (start : Start) (a rest d : Tokens) → ((b : Tokens) → is_word (codes "function") b ≡ false → may_begin start (a ⧺ b) ≡ true) → is_word (codes "function") (rest ⧺ d) ≡ false → may_begin start ((a ⧺ rest) ⧺ d) ≡ true
+begins_then start a rest d h n = subst (λ ts. may_begin start ts ≡ true) (sym (then_assoc a rest d)) (h (rest ⧺ d) n)
+
+-- the same text, read at another level, for which the normal form may be needed
+pub good_since : {p q : Pen} {l : Last} {c : Allowed} {start : Start} {t : Tree} {g h : Level} → ((ts : Tokens) (u : Tree) → normal u ≡ normal t → ReadsExpression c g ts u → ReadsExpression c h ts u) → Good p l q c g start t → Good p l q c h start t
+good_since lift g = record { last = g.last; tokens = g.tokens; writes = g.writes; operand = g.operand; semicolon = g.semicolon; begins = g.begins; line = g.line; tree = g.tree; reads = lift g.tokens g.tree g.same g.reads; same = g.same }
+
+pub good_at : {p q : Pen} {l : Last} {c : Allowed} {start : Start} {t : Tree} {g h : Level} → ((ts : Tokens) (u : Tree) → ReadsExpression c g ts u → ReadsExpression c h ts u) → Good p l q c g start t → Good p l q c h start t
+good_at lift g = good_since (λ ts u e r. lift ts u r) g
+
+-- blanks, or nothing, round an expression
+pub soft_round : {p q r s : Pen} {l : Last} {c : Allowed} {start : Start} {t : Tree} {level : Level} → (a : Soft p l q) → (g : Good q a.last r c level start t) → Soft r g.last s → Good p l s c level start t
+soft_round a g b = record {
+  last = b.last;
+  tokens = g.tokens;
+  writes = wrote_and_none (wrote_both a.writes g.writes) b.writes;
+  operand = b.operand g.operand;
+  semicolon = b.semicolon ∙ g.semicolon;
+  begins = g.begins;
+  line = λ e. g.line (a.line e);
+  tree = g.tree;
+  reads = g.reads;
+  same = g.same;
+}
+
+-- ---- parentheses
+
+parentheses_begin : (start : Start) (line : Bool) (ts b : Tokens) → may_begin start (group line Round ts b) ≡ true
+parentheses_begin nowhere line ts b = refl
+parentheses_begin statement line ts b = refl
+parentheses_begin arrow_body line ts b = refl
+parentheses_begin default_export line ts b = refl
+
+-- in parentheses an expression is read at every level
+pub good_parentheses : {start : Start} {t : Tree} (c : Allowed) (place : Place) (p q : Pen) (l : Last) → Good (written_if true (opening Round) p) (Open false) q (with_in (under place c)) grammar.Expression start t → Good p l (written_if true (closing Round) q) (under place c) (level_of place) place.start t
+good_parentheses c place p q l g = record {
+  last = Open false;
+  tokens = group (line_of l) Round g.tokens done;
+  writes = parentheses_written p q l g.last g.tokens g.writes;
+  operand = tt;
+  semicolon = g.semicolon;
+  begins = λ b h. parentheses_begin place.start (line_of l) g.tokens b;
+  line = λ e. ap not e;
+  tree = tree.parenthesized (nothing_of 0) g.tree;
+  reads = from_primary place (grammar.in_parentheses g.reads);
+  same = g.same;
+}
+
+unless_not : (start : Start) → unless_printed false start ≡ start
+unless_not nowhere = refl
+unless_not statement = refl
+unless_not arrow_body = refl
+unless_not default_export = refl
+
+-- An operation in parentheses where it has to be. In them nothing is forbidden.
+pub good_wrapped : (c : Allowed) (place : Place) (own : Level) (w : Bool) (items : Bool → Items) (t : Tree) → ((d : Allowed) (ts : Tokens) (u : Tree) → ReadsExpression d own ts u → ReadsExpression d grammar.Expression ts u) → (w ≡ false → (ts : Tokens) (u : Tree) → ReadsExpression (under place c) own ts u → ReadsExpression (under place c) (level_of place) ts u)
+    → ((v : Bool) → w ≡ v → (p : Pen) (l : Last) → p.pending_semicolon ≡ false → Ready l → Knows p l → Good p l (layout (items v) p) (under (within v place) c) own (unless_printed v place.start) t) → (p : Pen) (l : Last) → p.pending_semicolon ≡ false → Ready l → Knows p l → Good p l (layout (wrapped w (items w)) p) (under place c) (level_of place) place.start t
+good_wrapped c place own w items t top lift inner p l z y k = go w refl
+  where
+    go : (v : Bool) → w ≡ v → Good p l (layout (wrapped v (items v)) p) (under place c) (level_of place) place.start t
+    go true e = good_parentheses c place p (layout (items true) (written_if true (opening Round) p)) l (good_at (top (with_in (under place c))) (inner true e (written_if true (opening Round) p) (Open false) z tt (opened p l k)))
+    go false e =
+        let a = unopened p l (opening Round) k in
+        let p1 : Pen = written_if false (opening Round) p in
+        let g = inner false e p1 a.last (a.semicolon ∙ z) (a.ready y) a.writes.knows in
+        let b = unopened (layout (items false) p1) g.last (closing Round) g.writes.knows in
+        subst (λ s. Good p l (written_if false (closing Round) (layout (items false) p1)) (under place c) (level_of place) s t) (unless_not place.start) (good_at (lift e) (soft_round a g b))
+
+-- ---- operators
+
+-- the item writes this one token behind an operand, and an operand may follow
+pub record Between (item : Items) (x : Piece) : Type 0 where
+  pub writes : (p : Pen) (l : Last) → Operand l → Knows p l → Writes p l (layout item p) (After x) (piece (line_of l) x done)
+  pub semicolon : (p : Pen) → (layout item p).pending_semicolon ≡ p.pending_semicolon
+  pub ready : Ready (After x)
+  pub no_function : (line : Bool) (ts : Tokens) → is_word (codes "function") (piece line x ts) ≡ false
+
+-- what has to be built from two operands and a token between
+abbrev pub Joins : Piece → Allowed → Level → Level → Level → Tree → Tree → Tree → Type 0
+Joins x c gl gr g lt rt t = (a b : Tokens) (line : Bool) (u v : Tree) → ReadsExpression c gl a u → ReadsExpression c gr b v → normal u ≡ normal lt → normal v ≡ normal rt → (w : Tree) × ReadsExpression c g (a ⧺ piece line x b) w × (normal w ≡ normal t)
+
+-- from the left operand, a blank, the token, a blank and the right operand
+infix_parts : (item : Items) (x : Piece) (lt rt t : Tree) (c : Allowed) (start : Start) (gl gr g : Level) (p p1 p2 p3 p4 q : Pen) (l : Last) → Between item x → Joins x c gl gr g lt rt t → (a : Good p l p1 c gl start lt) (s : Soft p1 a.last p2) → Writes p2 s.last p3 (After x) (piece (line_of s.last) x done) → (n : Soft p3 (After x) p4) → Good p4 n.last q c gr nowhere rt → Good p l q c g start t
+infix_parts item x lt rt t c start gl gr g p p1 p2 p3 p4 q l between build a s o n b =
+    let w = build a.tokens b.tokens (line_of s.last) a.tree b.tree a.reads b.reads a.same b.same in
+    record {
+      last = b.last;
+      tokens = a.tokens ⧺ piece (line_of s.last) x b.tokens;
+      writes = wrote_both a.writes (wrote_both s.writes (wrote_both o (wrote_both n.writes b.writes)));
+      operand = b.operand;
+      semicolon = b.semicolon;
+      begins = λ d h. begins_then start a.tokens (piece (line_of s.last) x b.tokens) d a.begins (between.no_function (line_of s.last) (b.tokens ⧺ d));
+      line = λ e. line_then a.tokens (piece (line_of s.last) x b.tokens) (a.line e);
+      tree = w.0;
+      reads = w.1;
+      same = w.2;
+    }
+
+pub good_infix : (item : Items) (x : Piece) (li ri : Items) (lt rt t : Tree) (c : Allowed) (start : Start) (gl gr g : Level) → Between item x → Joins x c gl gr g lt rt t → ((p : Pen) (l : Last) → p.pending_semicolon ≡ false → Ready l → Knows p l → Good p l (layout li p) c gl start lt)
+    → ((p : Pen) (l : Last) → p.pending_semicolon ≡ false → Ready l → Knows p l → Good p l (layout ri p) c gr nowhere rt) → (p : Pen) (l : Last) → p.pending_semicolon ≡ false → Ready l → Knows p l → Good p l (layout (li ⊕ (soft_space ⊕ (item ⊕ (soft_space ⊕ ri)))) p) c g start t
+good_infix item x li ri lt rt t c start gl gr g between build left right p l z y k =
+    let p1 : Pen = layout li p in
+    let p2 : Pen = layout soft_space p1 in
+    let p3 : Pen = layout item p2 in
+    let p4 : Pen = layout soft_space p3 in
+    let a = left p l z y k in
+    let s = soft_space_written p1 a.last a.writes.knows in
+    let o = between.writes p2 s.last (s.operand a.operand) s.writes.knows in
+    let n = soft_space_written p3 (After x) o.knows in
+    let b = right p4 n.last (n.semicolon ∙ (between.semicolon p2 ∙ (s.semicolon ∙ a.semicolon))) (n.ready between.ready) n.writes.knows in
+    infix_parts item x lt rt t c start gl gr g p p1 p2 p3 p4 (layout ri p4) l between build a s o n b

@@ -1,0 +1,155 @@
+-- Members and calls.
+use Rattle.std.proofs.Common.{◌≡◌, ℕ, Bool, true, false, Some, List, refl, sym, ap, subst, arith}
+use Rattle.std.proofs.lemmas.Bool.{or_parts}
+use Rattle.jsgen_syntax.specs.Escapes.{name_text, word_value}
+use Rattle.jsgen_syntax.specs.Name.{spells_name}
+use Rattle.jsgen_syntax.proofs.Escapes.{word_text_value}
+use Rattle.jsgen_syntax.specs.declared.precedence.Precedence.TheVariants as levels
+use Rattle.jsgen_tree.specs.Tree.{Tree, Trees, no_trees, more, Atoms}
+use Rattle.jsgen_tree.specs.Values.{identifier_name_name}
+use Rattle.jsgen_tree.specs.Nodes as tree
+use Rattle.jsgen_model.specs.Punctuator.{dot, Round, Square, opening, closing}
+use Rattle.jsgen_model.specs.Tokens.{Tokens, done, piece, group, ◌⧺◌, Word, Sign}
+use Rattle.jsgen_model.specs.Items.{◌⊕◌, brackets, member_dot}
+use Rattle.jsgen_model.specs.Layout.{Pen, Start, other_end, layout, written, unless_printed}
+use Rattle.jsgen_model.specs.Grammar.{Allowed, Level, ReadsExpression, ReadsArguments, ReadsArgumentList, with_in}
+use Rattle.jsgen_model.specs.Grammar as grammar
+use Rattle.jsgen_model.specs.Normal.{normal, normal_trees, nothing_of, named}
+use Rattle.jsgen_model.specs.Spell.{Place, spell, spell_list, within, linked, called, in_brackets, wraps, call_wraps}
+use Rattle.jsgen_token_laws.proofs.Last.{Last, Open, After, line_of, Ready, Knows}
+use Rattle.jsgen_token_laws.proofs.Writes.{wrote_none, wrote_both}
+use Rattle.jsgen_token_laws.proofs.Steps.{wrote_name, wrote_dot, within_brackets, brackets_written}
+use Rattle.jsgen_reading_laws.proofs.Levels.{number_of, operation_number, left_hand_side, level_of, under, lifted, unwrapped, from_left}
+use Rattle.jsgen_reading_laws.proofs.Good.{Good, Printed, begins_then, line_then, good_wrapped}
+use Rattle.jsgen_reading_laws.proofs.Lists.{Elements, ElementAt, MoreAt, Joins, no_more, one_more, whole_list}
+
+-- ---- a link behind a member or a call
+
+behind_callee : {c : Allowed} {g : Level} {a ts : Tokens} {o t : Tree} → g ≡ grammar.Callee → (ReadsExpression c grammar.Member a o → ReadsExpression c grammar.Member ts t) → (ReadsExpression c grammar.Call a o → ReadsExpression c grammar.Call ts t) → ReadsExpression c g a o → ReadsExpression c grammar.Callee ts t
+behind_callee d f h (grammar.a_called_member r) = grammar.a_called_member (f r)
+behind_callee d f h (grammar.a_called_call r) = grammar.a_called_call (h r)
+behind_callee d f h (grammar.an_operation o m p k q s t) = absurd (omega (arith, operation_number o, ap number_of d))
+behind_callee d f h r = absurd (omega (arith, ap number_of d))
+
+linked_read : {c : Allowed} {a ts : Tokens} {o t : Tree} (no_call : Bool) → (ReadsExpression c grammar.Member a o → ReadsExpression c grammar.Member ts t) → (ReadsExpression c grammar.Call a o → ReadsExpression c grammar.Call ts t) → ReadsExpression c (left_hand_side no_call) a o → ReadsExpression c (left_hand_side no_call) ts t
+linked_read true f h r = f r
+linked_read false f h r = behind_callee refl f h r
+
+-- ---- members
+
+pub good_named_member : (c : Allowed) (a b : Atoms) (o : Tree) → spells_name (identifier_name_name b) ≡ true → Printed c o → Printed c (tree.static_member a o (tree.identifier_name b))
+good_named_member c a b o h f place p l z y k =
+    let v : List ℕ = identifier_name_name b in
+    let p1 : Pen = layout (spell o (linked place)) p in
+    let p2 : Pen = layout member_dot p1 in
+    let w : List ℕ = name_text p2.style.ascii v in
+    let x : word_value w ≡ Some v = word_text_value p2.style.ascii v h in
+    let g = f (linked place) p l z y k in
+    let d = wrote_dot p1 g.last g.operand g.writes.knows in
+    let n = wrote_name v p2 (After (Sign dot)) h d.knows in
+    record {
+      last = After (Word w);
+      tokens = g.tokens ⧺ piece (line_of g.last) (Sign dot) (piece false (Word w) done);
+      writes = wrote_both g.writes (wrote_both d n);
+      operand = tt;
+      semicolon = g.semicolon;
+      begins = λ ts i. begins_then place.start g.tokens (piece (line_of g.last) (Sign dot) (piece false (Word w) done)) ts g.begins refl;
+      line = λ e. line_then g.tokens (piece (line_of g.last) (Sign dot) (piece false (Word w) done)) (g.line e);
+      tree = tree.static_member (nothing_of 1) g.tree (tree.identifier_name (named v));
+      reads = from_left place (linked_read place.context.forbids_call (λ r. grammar.a_named_member w (line_of g.last) false refl x r) (λ r. grammar.a_named_member_of_call w (line_of g.last) false refl x r) g.reads);
+      same = ap (λ u. tree.static_member (nothing_of 1) u (tree.identifier_name (named v))) g.same;
+    }
+
+same_member : (u v x y : Tree) → normal u ≡ normal x → normal v ≡ normal y → tree.computed_member (nothing_of 1) (normal u) (normal v) ≡ tree.computed_member (nothing_of 1) (normal x) (normal y)
+same_member u v x y e f = λ i. tree.computed_member (nothing_of 1) (e i) (f i)
+
+computed_parts : (c : Allowed) (a : Atoms) (o x : Tree) (place : Place) (p p1 q : Pen) (l : Last) → (g : Good p l p1 (under place c) (left_hand_side place.context.forbids_call) place.start o) → Good (written (opening Square) other_end p1) (Open false) q (with_in c) grammar.Expression (in_brackets levels.Lowest place).start x → Good p l (written (closing Square) other_end q) (under place c) (level_of place) place.start (tree.computed_member a o x)
+computed_parts c a o x place p p1 q l g h = record {
+  last = Open false;
+  tokens = g.tokens ⧺ group (line_of g.last) Square h.tokens done;
+  writes = wrote_both g.writes (brackets_written Square p1 q g.last h.last h.tokens h.writes);
+  operand = tt;
+  semicolon = h.semicolon;
+  begins = λ ts i. begins_then place.start g.tokens (group (line_of g.last) Square h.tokens done) ts g.begins refl;
+  line = λ e. line_then g.tokens (group (line_of g.last) Square h.tokens done) (g.line e);
+  tree = tree.computed_member (nothing_of 1) g.tree h.tree;
+  reads = from_left place (linked_read place.context.forbids_call (λ r. grammar.a_computed_member (line_of g.last) refl r h.reads) (λ r. grammar.a_computed_member_of_call (line_of g.last) refl r h.reads) g.reads);
+  same = same_member g.tree h.tree o x g.same h.same;
+}
+
+pub good_computed_member : (c : Allowed) (a : Atoms) (o x : Tree) → Printed c o → Printed c x → Printed c (tree.computed_member a o x)
+good_computed_member c a o x f h place p l z y k =
+    let p1 : Pen = layout (spell o (linked place)) p in
+    let p2 : Pen = written (opening Square) other_end p1 in
+    let g = f (linked place) p l z y k in
+    let i = h (in_brackets levels.Lowest place) p2 (Open false) g.semicolon tt (within_brackets Square p1 g.last g.writes.knows) in
+    computed_parts c a o x place p p1 (layout (spell x (in_brackets levels.Lowest place)) p2) l g i
+
+-- ---- arguments
+
+-- behind an opening bracket
+abbrev pub ArgumentsAt : Allowed → Trees → Type 0
+ArgumentsAt c es = (place : Place) (p : Pen) → p.pending_semicolon ≡ false → Knows p (Open false) → Elements (ReadsArguments (with_in c)) p (Open false) (layout (spell_list es (in_brackets levels.Comma place)) p) es
+
+abbrev pub MoreArgumentsAt : Allowed → Trees → Type 0
+MoreArgumentsAt c es = (place : Place) → MoreAt (ReadsExpression (with_in c) grammar.Assignment) (ReadsArgumentList (with_in c)) (in_brackets levels.Comma place) es
+
+arguments_join : (c : Allowed) → Joins (ReadsExpression c grammar.Assignment) (ReadsArgumentList c)
+arguments_join c = record { one = λ ts e r. grammar.last_argument r; first = λ mark a b e es r s. grammar.first_argument mark refl r s }
+
+an_argument : (c : Allowed) (e : Tree) → Printed c e → (place : Place) → ElementAt (ReadsExpression (with_in c) grammar.Assignment) (in_brackets levels.Comma place) e
+an_argument c e f place p l z y k =
+    let g = f (in_brackets levels.Comma place) p l z y k in
+    record { last = g.last; tokens = g.tokens; writes = g.writes; operand = g.operand; semicolon = g.semicolon; tree = g.tree; reads = g.reads; same = g.same }
+
+pub no_arguments : (c : Allowed) → ArgumentsAt c no_trees
+no_arguments c place p z k = record { last = Open false; tokens = done; writes = wrote_none p p (Open false) refl k; operand = tt; semicolon = z; trees = no_trees; reads = grammar.no_argument; same = refl }
+
+pub first_of_arguments : (c : Allowed) (e : Tree) (es : Trees) → Printed c e → MoreArgumentsAt c es → ArgumentsAt c (more e es)
+first_of_arguments c e es f m place p z k =
+    let g = whole_list (ReadsExpression (with_in c) grammar.Assignment) (ReadsArgumentList (with_in c)) (in_brackets levels.Comma place) e es (an_argument c e f place) (m place) p (Open false) z tt k in
+    record { last = g.last; tokens = g.tokens; writes = g.writes; operand = g.operand; semicolon = g.semicolon; trees = g.trees; reads = grammar.some_arguments g.reads; same = g.same }
+
+pub no_more_arguments : (c : Allowed) → MoreArgumentsAt c no_trees
+no_more_arguments c place = no_more (ReadsExpression (with_in c) grammar.Assignment) (ReadsArgumentList (with_in c)) (arguments_join (with_in c)) (in_brackets levels.Comma place)
+
+pub one_more_argument : (c : Allowed) (e : Tree) (es : Trees) → Printed c e → MoreArgumentsAt c es → MoreArgumentsAt c (more e es)
+one_more_argument c e es f m place = one_more (ReadsExpression (with_in c) grammar.Assignment) (ReadsArgumentList (with_in c)) (arguments_join (with_in c)) (in_brackets levels.Comma place) e es (an_argument c e f place) (m place)
+
+-- ---- calls
+
+same_call : (u x : Tree) (us xs : Trees) → normal u ≡ normal x → normal_trees us ≡ normal_trees xs → tree.call (nothing_of 2) (normal u) (normal_trees us) ≡ tree.call (nothing_of 2) (normal x) (normal_trees xs)
+same_call u x us xs e f = λ i. tree.call (nothing_of 2) (e i) (f i)
+
+call_parts : (c : Allowed) (a : Atoms) (t : Tree) (es : Trees) (start : Start) (p p1 q : Pen) (l : Last) → (g : Good p l p1 c grammar.Callee start t) → Elements (ReadsArguments (with_in c)) (written (opening Round) other_end p1) (Open false) q es → Good p l (written (closing Round) other_end q) c grammar.Call start (tree.call a t es)
+call_parts c a t es start p p1 q l g h = record {
+  last = Open false;
+  tokens = g.tokens ⧺ group (line_of g.last) Round h.tokens done;
+  writes = wrote_both g.writes (brackets_written Round p1 q g.last h.last h.tokens h.writes);
+  operand = tt;
+  semicolon = h.semicolon;
+  begins = λ ts i. begins_then start g.tokens (group (line_of g.last) Round h.tokens done) ts g.begins refl;
+  line = λ e. line_then g.tokens (group (line_of g.last) Round h.tokens done) (g.line e);
+  tree = tree.call (nothing_of 2) g.tree h.trees;
+  reads = grammar.with_arguments (line_of g.last) refl g.reads h.reads;
+  same = same_call g.tree t h.trees es g.same h.same;
+}
+
+-- without parentheses calls aren't forbidden
+unwrapped_call : {c : Allowed} {ts : Tokens} {u : Tree} (place : Place) → call_wraps place ≡ false → ReadsExpression c grammar.Call ts u → ReadsExpression c (level_of place) ts u
+unwrapped_call {c} {ts} {u} place e r =
+    let k = or_parts (wraps levels.New place) place.context.forbids_call e in
+    unwrapped levels.New place k.0 (subst (λ b. ReadsExpression c (left_hand_side b) ts u) (sym k.1) (grammar.a_called_call r))
+
+pub good_call : (c : Allowed) (a : Atoms) (t : Tree) (es : Trees) → Printed c t → ArgumentsAt c es → Printed c (tree.call a t es)
+good_call c a t es f h place =
+    good_wrapped c place grammar.Call (call_wraps place) (λ w. spell t (called (within w place)) ⊕ brackets Round (spell_list es (in_brackets levels.Comma place))) (tree.call a t es)
+    (λ d ts u r. lifted false levels.Postfix levels.Lowest (omega arith) (grammar.a_called_call r)) (λ e ts u r. unwrapped_call place e r) inner
+  where
+    inner : (v : Bool) → call_wraps place ≡ v → (p : Pen) (l : Last) → p.pending_semicolon ≡ false → Ready l → Knows p l → Good p l (layout (spell t (called (within v place)) ⊕ brackets Round (spell_list es (in_brackets levels.Comma place))) p) (under (within v place) c) grammar.Call (unless_printed v place.start) (tree.call a t es)
+    inner v e p l z y k =
+        let p1 : Pen = layout (spell t (called (within v place))) p in
+        let p2 : Pen = written (opening Round) other_end p1 in
+        let g = f (called (within v place)) p l z y k in
+        let i = h place p2 g.semicolon (within_brackets Round p1 g.last g.writes.knows) in
+        call_parts (under (within v place) c) a t es (unless_printed v place.start) p p1 (layout (spell_list es (in_brackets levels.Comma place)) p2) l g i

@@ -1,0 +1,114 @@
+-- Lists with commas between their members, whatever the members are.
+use Rattle.std.proofs.Common.{◌≡◌, Bool, false, refl, sym, subst, ◌∙◌}
+use Rattle.jsgen_tree.specs.Tree.{Tree, Trees, no_trees, more}
+use Rattle.jsgen_model.specs.Punctuator.{comma}
+use Rattle.jsgen_model.specs.Tokens.{Tokens, done, piece, ◌⧺◌, Sign}
+use Rattle.jsgen_model.specs.Items.{punctuator, soft_space}
+use Rattle.jsgen_model.specs.Layout.{Pen, layout}
+use Rattle.jsgen_model.specs.Normal.{normal, normal_trees}
+use Rattle.jsgen_model.specs.Spell.{Place, spell, spell_list, spell_more}
+use Rattle.jsgen_token_laws.proofs.Last.{Last, After, line_of, Operand, Ready, Knows}
+use Rattle.jsgen_token_laws.proofs.Writes.{Writes, wrote_none, wrote_both, then_done}
+use Rattle.jsgen_token_laws.proofs.Steps.{Soft, wrote_punctuator, soft_space_written}
+
+-- between two pens stands a member, which is read so
+pub record Element (R : Tokens → Tree → Type 0) (p : Pen) (l : Last) (q : Pen) (t : Tree) : Type 0 where
+  pub last : Last
+  pub tokens : Tokens
+  pub writes : Writes p l q last tokens
+  pub operand : Operand last
+  pub semicolon : q.pending_semicolon ≡ false
+  pub tree : Tree
+  pub reads : R tokens tree
+  pub same : normal tree ≡ normal t
+
+-- between two pens stands a list
+pub record Elements (L : Tokens → Trees → Type 0) (p : Pen) (l : Last) (q : Pen) (ts : Trees) : Type 0 where
+  pub last : Last
+  pub tokens : Tokens
+  pub writes : Writes p l q last tokens
+  pub operand : Operand last
+  pub semicolon : q.pending_semicolon ≡ false
+  pub trees : Trees
+  pub reads : L tokens trees
+  pub same : normal_trees trees ≡ normal_trees ts
+
+-- behind a member that is read stand more
+pub record MoreElements (R : Tokens → Tree → Type 0) (L : Tokens → Trees → Type 0) (p : Pen) (l : Last) (q : Pen) (ts : Trees) : Type 0 where
+  pub last : Last
+  pub tokens : Tokens
+  pub writes : Writes p l q last tokens
+  pub operand : Operand last
+  pub semicolon : q.pending_semicolon ≡ false
+  pub trees : Trees
+  pub reads : (a : Tokens) (t : Tree) → R a t → L (a ⧺ tokens) (more t trees)
+  pub same : normal_trees trees ≡ normal_trees ts
+
+-- a list is one member, or a member, a comma and a list
+pub record Joins (R : Tokens → Tree → Type 0) (L : Tokens → Trees → Type 0) : Type 0 where
+  pub one : (ts : Tokens) (t : Tree) → R ts t → L ts (more t no_trees)
+  pub first : (mark : Bool) (a b : Tokens) (t : Tree) (us : Trees) → R a t → L b us → L (a ⧺ piece mark (Sign comma) b) (more t us)
+
+-- printed at one place from any pen
+abbrev pub ElementAt : (Tokens → Tree → Type 0) → Place → Tree → Type 0
+ElementAt R place t = (p : Pen) (l : Last) → p.pending_semicolon ≡ false → Ready l → Knows p l → Element R p l (layout (spell t place) p) t
+
+abbrev pub ElementsAt : (Tokens → Trees → Type 0) → Place → Trees → Type 0
+ElementsAt L place ts = (p : Pen) (l : Last) → p.pending_semicolon ≡ false → Ready l → Knows p l → Elements L p l (layout (spell_list ts place) p) ts
+
+abbrev pub MoreAt : (Tokens → Tree → Type 0) → (Tokens → Trees → Type 0) → Place → Trees → Type 0
+MoreAt R L place ts = (p : Pen) (l : Last) → p.pending_semicolon ≡ false → Operand l → Knows p l → MoreElements R L p l (layout (spell_more ts place) p) ts
+
+pub no_more : (R : Tokens → Tree → Type 0) (L : Tokens → Trees → Type 0) → Joins R L → (place : Place) → MoreAt R L place no_trees
+no_more R L j place p l z o k = record {
+  last = l;
+  tokens = done;
+  writes = wrote_none p p l refl k;
+  operand = o;
+  semicolon = z;
+  trees = no_trees;
+  reads = λ a t r. subst (λ ts. L ts (more t no_trees)) (sym (then_done a)) (j.one a t r);
+  same = refl;
+}
+
+pub same_more : (t u : Tree) (ts us : Trees) → normal t ≡ normal u → normal_trees ts ≡ normal_trees us → more (normal t) (normal_trees ts) ≡ more (normal u) (normal_trees us)
+same_more t u ts us e f = λ i. more (e i) (f i)
+
+more_parts : (R : Tokens → Tree → Type 0) (L : Tokens → Trees → Type 0) → Joins R L → (t : Tree) (ts : Trees) (p p1 p2 p3 q : Pen) (l : Last) → Writes p l p1 (After (Sign comma)) (piece (line_of l) (Sign comma) done) → (n : Soft p1 (After (Sign comma)) p2) (g : Element R p2 n.last p3 t) → MoreElements R L p3 g.last q ts → MoreElements R L p l q (more t ts)
+more_parts R L j t ts p p1 p2 p3 q l o n g m = record {
+  last = m.last;
+  tokens = piece (line_of l) (Sign comma) (g.tokens ⧺ m.tokens);
+  writes = wrote_both o (wrote_both n.writes (wrote_both g.writes m.writes));
+  operand = m.operand;
+  semicolon = m.semicolon;
+  trees = more g.tree m.trees;
+  reads = λ a u r. j.first (line_of l) a (g.tokens ⧺ m.tokens) u (more g.tree m.trees) r (m.reads g.tokens g.tree g.reads);
+  same = same_more g.tree t m.trees ts g.same m.same;
+}
+
+pub one_more : (R : Tokens → Tree → Type 0) (L : Tokens → Trees → Type 0) → Joins R L → (place : Place) (t : Tree) (ts : Trees) → ElementAt R place t → MoreAt R L place ts → MoreAt R L place (more t ts)
+one_more R L j place t ts f h p l z o k =
+    let p1 : Pen = layout (punctuator comma) p in
+    let p2 : Pen = layout soft_space p1 in
+    let p3 : Pen = layout (spell t place) p2 in
+    let w = wrote_punctuator comma p l tt tt o k in
+    let n = soft_space_written p1 (After (Sign comma)) w.knows in
+    let g = f p2 n.last (n.semicolon ∙ z) (n.ready tt) n.writes.knows in
+    let m = h p3 g.last g.semicolon g.operand g.writes.knows in
+    more_parts R L j t ts p p1 p2 p3 (layout (spell_more ts place) p3) l w n g m
+
+pub whole_list : (R : Tokens → Tree → Type 0) (L : Tokens → Trees → Type 0) (place : Place) (t : Tree) (ts : Trees) → ElementAt R place t → MoreAt R L place ts → ElementsAt L place (more t ts)
+whole_list R L place t ts f h p l z y k =
+    let p1 : Pen = layout (spell t place) p in
+    let g = f p l z y k in
+    let m = h p1 g.last g.semicolon g.operand g.writes.knows in
+    record {
+      last = m.last;
+      tokens = g.tokens ⧺ m.tokens;
+      writes = wrote_both g.writes m.writes;
+      operand = m.operand;
+      semicolon = m.semicolon;
+      trees = more g.tree m.trees;
+      reads = m.reads g.tokens g.tree g.reads;
+      same = same_more g.tree t m.trees ts g.same m.same;
+    }

@@ -1,0 +1,94 @@
+-- Binary operations.
+use Rattle.std.proofs.Common.{◌≡◌, ℕ, Bool, true, false, not, cond, codes, List, [], ◌∷◌, refl, sym, ap, subst, bytes_eq, arith}
+use Rattle.std.proofs.lemmas.Bool.{or_parts}
+use Rattle.jsgen_syntax.specs.Name.{spells_name}
+use Rattle.jsgen_syntax.specs.Operator.{binary_level}
+use Rattle.jsgen_syntax.specs.declared.operator.BinaryOperator.{BinaryOperator}
+use Rattle.jsgen_syntax.specs.declared.operator.BinaryOperator.TheVariants as operators
+use Rattle.jsgen_syntax.specs.declared.precedence.Precedence.TheVariants as levels
+use Rattle.jsgen_tree.specs.Inside.{without_parentheses}
+use Rattle.jsgen_tree.specs.Atom.{binary_operator}
+use Rattle.jsgen_tree.specs.Tree.{Tree, Atoms}
+use Rattle.jsgen_tree.specs.Places.{bare}
+use Rattle.jsgen_tree.specs.Values.{binary_expression_operator}
+use Rattle.jsgen_tree.specs.Nodes as tree
+use Rattle.jsgen_model.specs.Punctuator.{Punctuator}
+use Rattle.jsgen_model.specs.Tokens.{Tokens, piece, ◌⧺◌, Word, Sign}
+use Rattle.jsgen_model.specs.Items.{◌⊕◌, soft_space, word, operator}
+use Rattle.jsgen_model.specs.Layout.{Pen, layout, unless_printed}
+use Rattle.jsgen_model.specs.Grammar.{Allowed, Level, ReadsExpression, operation_level, next_level, operator_piece, may_stand}
+use Rattle.jsgen_model.specs.Grammar as grammar
+use Rattle.jsgen_model.specs.Normal.{normal}
+use Rattle.jsgen_model.specs.Spell.{Place, spell, within, left_of, behind, operator_item, wraps, is_forbidden, binary_wraps, left_level, right_level, is_number}
+use Rattle.jsgen_token_laws.proofs.Characters.{letters_spelled}
+use Rattle.jsgen_token_laws.proofs.Last.{Last, After, Ready, Knows, NoDot}
+use Rattle.jsgen_token_laws.proofs.Steps.{wrote_word, wrote_operator}
+use Rattle.jsgen_reading_laws.proofs.Levels.{read_at, under, looser, lifted, unwrapped}
+use Rattle.jsgen_reading_laws.proofs.Asked.{SpelledAlike}
+use Rattle.jsgen_reading_laws.proofs.Good.{Good, Printed, Between, good_at, good_wrapped, good_infix}
+
+-- ---- the token between the operands
+
+sign_between : (s : Punctuator) → NoDot s → Ready (After (Sign s)) → Between (operator s) (Sign s)
+sign_between s n y = record { writes = λ p l o k. wrote_operator s p l n o k; semicolon = λ p. refl; ready = y; no_function = λ line ts. refl }
+
+word_between : (w : List ℕ) → spells_name w ≡ true → bytes_eq w (codes "function") ≡ false → Between (word w) (Word w)
+word_between w h n = record { writes = λ p l o k. wrote_word w p l h k; semicolon = λ p. refl; ready = tt; no_function = λ line ts. n }
+
+operator_between : (o : BinaryOperator) → Between (operator_item o) (operator_piece o)
+operator_between operators.In = word_between (codes "in") (letters_spelled 105 (codes "n") refl) refl
+operator_between operators.Instanceof = word_between (codes "instanceof") (letters_spelled 105 (codes "nstanceof") refl) refl
+operator_between o = sign_between _ tt tt
+
+-- ---- the levels
+
+-- a left operand is read at the operation's own level, but of `**` as an update
+abbrev left_goal : BinaryOperator → Level
+left_goal operators.Exponential = grammar.Update
+left_goal o = operation_level o
+
+own_level : {c : Allowed} {ts : Tokens} {u : Tree} (no_call : Bool) (o : BinaryOperator) → ReadsExpression c (operation_level o) ts u → ReadsExpression c (read_at no_call (looser (binary_level o))) ts u
+own_level no_call operators.Equality r = r
+own_level no_call o r = r
+
+operation_reads : {c : Allowed} {a b : Tokens} {u v : Tree} (o : BinaryOperator) (line : Bool) → may_stand c o ≡ true → ReadsExpression c (left_goal o) a u → ReadsExpression c (next_level (operation_level o)) b v → ReadsExpression c (operation_level o) (a ⧺ piece line (operator_piece o) b) (tree.binary (bare (binary_operator o ∷ [])) u v)
+operation_reads operators.Exponential line m r s = grammar.a_power line refl r s
+operation_reads o line m r s = grammar.an_operation o line refl m refl r s
+
+-- without parentheses `in` stands where it is allowed, and within them it is
+stands_there : (o : BinaryOperator) (c : Allowed) (place : Place) (w : Bool) → binary_wraps o place ≡ w → may_stand (under (within w place) c) o ≡ true
+stands_there operators.In c place true e = refl
+stands_there operators.In c place false e = ap not (or_parts (wraps levels.Compare place) place.context.forbids_in e).1
+stands_there o c place w e = refl
+
+-- ---- the left operand of `**`
+
+power_left : (c : Allowed) (t : Tree) → SpelledAlike t → Printed c t → (place : Place) (p : Pen) (l : Last) → p.pending_semicolon ≡ false → Ready l → Knows p l → Good p l (layout (spell t (left_of (left_level operators.Exponential t) place)) p) (under place c) grammar.Update place.start t
+power_left c t h f place p l z y k = go (is_number (without_parentheses t))
+  where
+    go : (b : Bool) → Good p l (layout (spell t (left_of (cond b levels.Call levels.Exponentiation) place)) p) (under place c) grammar.Update place.start t
+    go true = good_at (λ ts u. lifted place.context.forbids_call levels.Call levels.Prefix (omega arith)) (f (left_of levels.Call place) p l z y k)
+    go false = subst (λ items. Good p l (layout items p) (under place c) grammar.Update place.start t) (sym (h place)) (f (left_of levels.Prefix place) p l z y k)
+
+-- ---- the operands
+
+left_operand : (o : BinaryOperator) (c : Allowed) (t : Tree) → SpelledAlike t → Printed c t → (place : Place) (p : Pen) (l : Last) → p.pending_semicolon ≡ false → Ready l → Knows p l → Good p l (layout (spell t (left_of (left_level o t) place)) p) (under place c) (left_goal o) place.start t
+left_operand operators.Exponential c t h f place = power_left c t h f place
+left_operand o c t h f place = f (left_of (left_level o t) place)
+
+right_operand : (o : BinaryOperator) (c : Allowed) (t : Tree) → Printed c t → (place : Place) (p : Pen) (l : Last) → p.pending_semicolon ≡ false → Ready l → Knows p l → Good p l (layout (spell t (behind (right_level o) place)) p) (under place c) (next_level (operation_level o)) (behind (right_level o) place).start t
+right_operand operators.Exponential c t f place = f (behind levels.Multiply place)
+right_operand o c t f place = f (behind (right_level o) place)
+
+-- ---- the whole
+
+same_operation : (o : BinaryOperator) (u v x y : Tree) → normal u ≡ normal x → normal v ≡ normal y → tree.binary (bare (binary_operator o ∷ [])) (normal u) (normal v) ≡ tree.binary (bare (binary_operator o ∷ [])) (normal x) (normal y)
+same_operation o u v x y e f = λ i. tree.binary (bare (binary_operator o ∷ [])) (e i) (f i)
+
+pub good_operation : (c : Allowed) (a : Atoms) (x y : Tree) → SpelledAlike x → Printed c x → Printed c y → Printed c (tree.binary a x y)
+good_operation c a x y h f g place =
+    let o : BinaryOperator = binary_expression_operator a in
+    good_wrapped c place (operation_level o) (binary_wraps o place) (λ w. spell x (left_of (left_level o x) (within w place)) ⊕ (soft_space ⊕ (operator_item o ⊕ (soft_space ⊕ spell y (behind (right_level o) (within w place)))))) (tree.binary a x y)
+    (λ d ts u r. lifted false (looser (binary_level o)) levels.Lowest (omega arith) (own_level false o r)) (λ e ts u r. unwrapped (binary_level o) place (or_parts (wraps (binary_level o) place) (is_forbidden o place) e).0 (own_level place.context.forbids_call o r))
+    (λ v e. good_infix (operator_item o) (operator_piece o) (spell x (left_of (left_level o x) (within v place))) (spell y (behind (right_level o) (within v place))) x y (tree.binary a x y) (under (within v place) c) (unless_printed v place.start) (left_goal o) (next_level (operation_level o)) (operation_level o) (operator_between o)
+    (λ ts us line u w ru rw eu ew. (tree.binary (bare (binary_operator o ∷ [])) u w, operation_reads o line (stands_there o c place v e) ru rw, same_operation o u w x y eu ew)) (left_operand o c x h f (within v place)) (right_operand o c y g (within v place)))

@@ -1,0 +1,71 @@
+-- The whole path: from a valid job to its text, the text's tokens and their reading.
+use Rattle.std.proofs.Common.{◌≡◌, ℕ, true, false, List, chars, encode_utf8_all, refl, sym, ap, ◌∙◌, subst}
+use Rattle.std.specs.Str.{IsUtf8}
+use Rattle.std.proofs.lemmas.Str.{chars-encodes}
+use Rattle.jsgen_tree.specs.declared.types.NodeType.TheVariants as types
+use Rattle.jsgen_tree.specs.Options.{Options}
+use Rattle.jsgen_tree.specs.Job.{Tables, no_tables, JobData}
+use Rattle.jsgen_tree.specs.Tree.{Tree, type_of}
+use Rattle.jsgen_tree.specs.Nodes as tree
+use Rattle.jsgen_model.specs.Tokens.{◌⧺◌}
+use Rattle.jsgen_model.specs.Items.{◌⊕◌, due_semicolon}
+use Rattle.jsgen_model.specs.Layout.{Pen, layout, empty_pen, style_of}
+use Rattle.jsgen_model.specs.Grammar as grammar
+use Rattle.jsgen_model.specs.Normal.{normal, nothing_of}
+use Rattle.jsgen_model.specs.Renamed.{renamed}
+use Rattle.jsgen_model.specs.Spell.{Settings, spell_body, spell_directives, settings_of, printed, text_bytes}
+use Rattle.jsgen_model.specs.Valid.{IsValid, surroundings_of}
+use Rattle.jsgen_model.specs.Plain.{IsPlain, IsQuiet}
+use Rattle.jsgen_model.specs.Reading.{IsReadAs}
+use Rattle.jsgen_token_laws.proofs.Last.{Open, is_indent}
+use Rattle.jsgen_token_laws.proofs.Writes.{wrote_both, all_tokens}
+use Rattle.jsgen_token_laws.proofs.Plain.{all_plain}
+use Rattle.jsgen_token_laws.proofs.Scalars.{tokens_scalars}
+use Rattle.jsgen_reading_laws.proofs.Families.{IsProgram, is_program, program_valid}
+use Rattle.jsgen_reading_laws.proofs.Families as family
+use Rattle.jsgen_reading_laws.proofs.Ends.{due_ends}
+use Rattle.jsgen_reading_laws.proofs.Prologue.{whole_body}
+
+-- the indentation of a job's options is of spaces or of tabs
+style_indents : (options : Options) → is_indent (style_of options).indent ≡ true
+style_indents options = refl
+
+-- no name is printed otherwise
+renamed_so : (tables : Tables) (t : Tree) → renamed tables t ≡ t
+renamed_so no_tables t = refl
+
+-- ---- the whole
+
+read_as : (options : Options) (tables : Tables) (t : Tree) → IsProgram t → let job : JobData = record { options = options; tables = tables; program = t } in IsReadAs (printed job) job
+read_as options tables t (family.a_program {a} {directives} {body} v w) =
+    let settings : Settings = settings_of (record { options = options; tables = tables; program = t }) in
+    let p : Pen = empty_pen (style_of options) 0 in
+    let q : Pen = layout (spell_directives directives settings ⊕ spell_body body settings) p in
+    let b = whole_body v w settings p (Open false) refl tt (record { indent = style_indents options; ending = tt }) in
+    let d = due_ends q b.last b.ready b.writes.knows in
+    record {
+      tokens = b.tokens ⧺ d.tokens;
+      are_tokens = all_tokens p (layout due_semicolon q) d.last (b.tokens ⧺ d.tokens) refl (wrote_both b.writes d.writes);
+      plain = all_plain (b.tokens ⧺ d.tokens);
+      reading = tree.program (nothing_of 4) b.reading.0 b.reading.1;
+      reads = grammar.a_module (b.reads.read false (b.tokens ⧺ d.tokens) (d.ends b.tokens));
+      same = (λ i. tree.program (nothing_of 4) (b.same.0 i) (b.same.1 i)) ∙ ap normal (sym (renamed_so tables (tree.program a directives body)));
+    }
+
+pub printed_is_read : (job : JobData) → type_of job.program ≡ types.Program → IsValid job → IsPlain job.program → IsQuiet job → IsReadAs (printed job) job
+printed_is_read job s v p q = read_as job.options job.tables job.program (program_valid (surroundings_of job) job.program p (ap is_program s) v)
+
+-- the bytes spell the characters that they were made of
+on_bytes : (text : List ℕ) (job : JobData) → IsReadAs text job → IsReadAs (chars (encode_utf8_all text)) job
+on_bytes text job r = subst (λ x. IsReadAs x job) (sym (chars-encodes text (tokens_scalars text r.tokens r.are_tokens))) r
+
+pub bytes_are_read : (job : JobData) → type_of job.program ≡ types.Program → IsValid job → IsPlain job.program → IsQuiet job → IsReadAs (chars (text_bytes job)) job
+bytes_are_read job s v p q = on_bytes (printed job) job (printed_is_read job s v p q)
+
+-- for bytes that are known to be the text's
+pub read_back : (job : JobData) (bytes : List ℕ) → bytes ≡ text_bytes job → type_of job.program ≡ types.Program → IsValid job → IsPlain job.program → IsQuiet job → IsReadAs (chars bytes) job
+read_back job bytes e s v p q = subst (λ b. IsReadAs (chars b) job) (sym e) (bytes_are_read job s v p q)
+
+-- the bytes are a text in UTF-8
+pub text_is_utf8 : (job : JobData) → type_of job.program ≡ types.Program → IsValid job → IsPlain job.program → IsQuiet job → IsUtf8 (text_bytes job)
+text_is_utf8 job s v p q = let r = printed_is_read job s v p q in (printed job, (tokens_scalars (printed job) r.tokens r.are_tokens, refl))

@@ -1,0 +1,134 @@
+-- What is carried through the induction for statements, declarations and rows of them.
+use Rattle.std.proofs.Common.{◌≡◌, Bool, true, false, refl, sym, ◌∙◌, subst}
+use Rattle.std.proofs.lemmas.Bool.{both_ways}
+use Rattle.jsgen_tree.specs.Inside.{ends_open}
+use Rattle.jsgen_tree.specs.Tree.{Tree, Trees}
+use Rattle.jsgen_model.specs.Punctuator.{semicolon}
+use Rattle.jsgen_model.specs.Tokens.{Tokens, done, piece, ◌⧺◌, Sign}
+use Rattle.jsgen_model.specs.Items.{Items, ◌⊕◌, indentation, statement_end}
+use Rattle.jsgen_model.specs.Layout.{Pen, layout, end_statement}
+use Rattle.jsgen_model.specs.Grammar.{Allowed, ReadsStatement, ReadsItem}
+use Rattle.jsgen_model.specs.Grammar as grammar
+use Rattle.jsgen_model.specs.Normal.{normal, normal_trees}
+use Rattle.jsgen_model.specs.Spell.{Settings, Place, spell, among_statements}
+use Rattle.jsgen_token_laws.proofs.Last.{Last, Open, line_of, Ready, Knows}
+use Rattle.jsgen_token_laws.proofs.Writes.{Writes, wrote_both, wrote_and_none}
+use Rattle.jsgen_token_laws.proofs.Steps.{Gap, gap, indentation_written, end_written, end_left}
+use Rattle.jsgen_reading_laws.proofs.Ends.{Ends, ends_since, ends_behind, semicolon_behind}
+
+-- Between two pens stand tokens that are read as `R` says, however they end. `Same` holds of what they are read as.
+pub record Stands {X : Type 0} (R : Bool → Tokens → X → Type 0) (Same : X → Type 0) (p : Pen) (l : Last) (q : Pen) : Type 0 where
+  pub last : Last
+  pub tokens : Tokens
+  pub writes : Writes p l q last tokens
+  pub ready : Ready last
+  pub reading : X
+  pub reads : Ends (λ e ts. R e ts reading) q.pending_semicolon tokens
+  pub same : Same reading
+
+-- the same without its end
+pub record Unended {X : Type 0} (R : Bool → Tokens → X → Type 0) (Same : X → Type 0) (p : Pen) (l : Last) (q : Pen) : Type 0 where
+  pub last : Last
+  pub tokens : Tokens
+  pub writes : Writes p l q last tokens
+  pub ready : Ready last
+  pub semicolon : q.pending_semicolon ≡ false
+  pub reading : X
+  pub reads : Ends (λ e ts. R e ts reading) true tokens
+  pub same : Same reading
+
+-- these items are printed so from any pen
+abbrev pub StandsAt : {X : Type 0} → (Bool → Tokens → X → Type 0) → (X → Type 0) → Items → Type 0
+StandsAt R Same items = (p : Pen) (l : Last) → p.pending_semicolon ≡ false → Ready l → Knows p l → Stands R Same p l (layout items p)
+
+abbrev pub UnendedAt : {X : Type 0} → (Bool → Tokens → X → Type 0) → (X → Type 0) → Items → Type 0
+UnendedAt R Same items = (p : Pen) (l : Last) → p.pending_semicolon ≡ false → Ready l → Knows p l → Unended R Same p l (layout items p)
+
+-- the normal form is that of the tree, or of the trees
+abbrev pub SameTree : Tree → Tree → Type 0
+SameTree t u = normal u ≡ normal t
+
+abbrev pub SameTrees : Trees → Trees → Type 0
+SameTrees ts us = normal_trees us ≡ normal_trees ts
+
+-- ---- steps
+
+-- read otherwise
+pub stands_since : {X : Type 0} {R S : Bool → Tokens → X → Type 0} {Same Other : X → Type 0} {p q : Pen} {l : Last} → ((e : Bool) (ts : Tokens) (x : X) → Same x → R e ts x → S e ts x) → ((x : X) → Same x → Other x) → Stands R Same p l q → Stands S Other p l q
+stands_since f h g = record { last = g.last; tokens = g.tokens; writes = g.writes; ready = g.ready; reading = g.reading; reads = ends_since (λ e ts r. f e ts g.reading g.same r) g.reads; same = h g.reading g.same }
+
+-- tokens before it, with which it is read as something more
+pub behind_tokens : {X Y : Type 0} {R : Bool → Tokens → X → Type 0} {S : Bool → Tokens → Y → Type 0} {Same : X → Type 0} {Other : Y → Type 0} {p q r : Pen} {l m : Last} (a : Tokens) (whole : X → Y) → Writes p l q m a → ((e : Bool) (ts : Tokens) (x : X) → R e ts x → S e (a ⧺ ts) (whole x)) → ((x : X) → Same x → Other (whole x)) → Stands R Same q m r → Stands S Other p l r
+behind_tokens a whole w f h g = record { last = g.last; tokens = a ⧺ g.tokens; writes = wrote_both w g.writes; ready = g.ready; reading = whole g.reading; reads = ends_behind a (λ e ts r. f e ts g.reading r) g.reads; same = h g.reading g.same }
+
+-- blanks before it, and behind it
+pub blank_before : {X : Type 0} {R : Bool → Tokens → X → Type 0} {Same : X → Type 0} {p q r : Pen} {l : Last} → (s : Gap p l q) → Stands R Same q s.last r → Stands R Same p l r
+blank_before s g = record { last = g.last; tokens = g.tokens; writes = wrote_both s.writes g.writes; ready = g.ready; reading = g.reading; reads = g.reads; same = g.same }
+
+pub blank_behind : {X : Type 0} {R : Bool → Tokens → X → Type 0} {Same : X → Type 0} {p q r : Pen} {l : Last} → (g : Stands R Same p l q) → Gap q g.last r → Stands R Same p l r
+blank_behind {R = R} g s = record {
+  last = s.last;
+  tokens = g.tokens;
+  writes = wrote_and_none g.writes s.writes;
+  ready = s.ready g.ready;
+  reading = g.reading;
+  reads = subst (λ left. Ends (λ e ts. R e ts g.reading) left g.tokens) (sym s.semicolon) g.reads;
+  same = g.same;
+}
+
+pub blank_before_unended : {X : Type 0} {R : Bool → Tokens → X → Type 0} {Same : X → Type 0} {p q r : Pen} {l : Last} → (s : Gap p l q) → Unended R Same q s.last r → Unended R Same p l r
+blank_before_unended s g = record { last = g.last; tokens = g.tokens; writes = wrote_both s.writes g.writes; ready = g.ready; semicolon = g.semicolon; reading = g.reading; reads = g.reads; same = g.same }
+
+-- a semicolon behind it, or one that is left
+ended_so : {X : Type 0} {R : Bool → Tokens → X → Type 0} {Same : X → Type 0} {p q : Pen} {l : Last} (minified : Bool) → Unended R Same p l q → Stands R Same p l (end_statement minified q)
+ended_so {q = q} true g = record { last = g.last; tokens = g.tokens; writes = wrote_and_none g.writes (end_left q g.last g.writes.knows); ready = g.ready; reading = g.reading; reads = g.reads; same = g.same }
+ended_so {R = R} {q = q} false g = record {
+  last = Open true;
+  tokens = g.tokens ⧺ piece (line_of g.last) (Sign semicolon) done;
+  writes = wrote_both g.writes (end_written q g.last g.writes.knows);
+  ready = tt;
+  reading = g.reading;
+  reads = subst (λ left. Ends (λ e ts. R e ts g.reading) left (g.tokens ⧺ piece (line_of g.last) (Sign semicolon) done)) (sym g.semicolon) (semicolon_behind (line_of g.last) g.reads);
+  same = g.same;
+}
+
+-- ---- items
+
+-- these items are blank, or print nothing
+abbrev pub BlankAt : Items → Type 0
+BlankAt items = (p : Pen) (l : Last) → Knows p l → Gap p l (layout items p)
+
+pub behind_blank : {X : Type 0} {R : Bool → Tokens → X → Type 0} {Same : X → Type 0} (blank items : Items) → BlankAt blank → StandsAt R Same items → StandsAt R Same (blank ⊕ items)
+behind_blank blank items b f p l z y k =
+    let s = b p l k in
+    blank_before s (f (layout blank p) s.last (s.semicolon ∙ z) (s.ready y) s.writes.knows)
+
+pub before_blank : {X : Type 0} {R : Bool → Tokens → X → Type 0} {Same : X → Type 0} (items blank : Items) → StandsAt R Same items → BlankAt blank → StandsAt R Same (items ⊕ blank)
+before_blank items blank f b p l z y k =
+    let g = f p l z y k in
+    blank_behind g (b (layout items p) g.last g.writes.knows)
+
+-- indentation before it
+pub indented_line : {X : Type 0} {R : Bool → Tokens → X → Type 0} {Same : X → Type 0} (items : Items) → StandsAt R Same items → StandsAt R Same (indentation ⊕ items)
+indented_line items f = behind_blank indentation items (λ p l k. gap (indentation_written p l k)) f
+
+-- and its end behind it
+pub whole_line : {X : Type 0} {R : Bool → Tokens → X → Type 0} {Same : X → Type 0} (items : Items) → UnendedAt R Same items → StandsAt R Same (indentation ⊕ (items ⊕ statement_end))
+whole_line items f = indented_line (items ⊕ statement_end) (λ p l z y k. ended_so (layout items p).style.minified (f p l z y k))
+
+-- ---- statements and declarations
+
+-- read before `else` too, unless it ends open
+abbrev pub ReadsClosed : Allowed → Bool → Bool → Tokens → Tree → Type 0
+ReadsClosed c is_open last ts t = (before_else : Bool) → (before_else ≡ true → is_open ≡ false) → ReadsStatement c last before_else ts t
+
+-- a statement, printed at any place
+abbrev pub Stated : Allowed → Tree → Type 0
+Stated c t = (place : Place) → StandsAt (ReadsClosed c (ends_open t)) (SameTree t) (spell t place)
+
+-- a statement or a declaration, printed among statements
+abbrev pub Listed : Allowed → Tree → Type 0
+Listed c t = (settings : Settings) → StandsAt (ReadsItem c) (SameTree t) (spell t (among_statements settings))
+
+pub listed_statement : {c : Allowed} (t : Tree) → Stated c t → Listed c t
+listed_statement t f settings p l z y k = stands_since (λ e ts u s r. grammar.a_statement (r false (λ h. absurd (both_ways false refl h)))) (λ u s. s) (f (among_statements settings) p l z y k)

@@ -1,0 +1,19 @@
+//! The reading law: what is printed reads back. It goes over definitions alone, and mentions no printer.
+#![tactic(auto)]
+
+ghost use Rattle.jsgen_reading_laws.specs.Law.{PrintedIsRead, BytesAreRead, NormalIsNormal};
+
+/// The characters of a job's text are read as its program.
+pub fn printed_is_read()
+    ensures { PrintedIsRead }
+{}
+
+/// So are the characters of its bytes in UTF-8.
+pub fn bytes_are_read()
+    ensures { BytesAreRead }
+{}
+
+/// A normal form is its own.
+pub fn normal_is_normal()
+    ensures { NormalIsNormal }
+{}

@@ -1,9 +1,0 @@
-use Rattle.std.proofs.Common.{◌≡◌, map, take}
-use Rattle.jsgen_tree.specs.Rows.{in_statement}
-use Rattle.jsgen_model.specs.Normal.{normal}
-use Rattle.jsgen_slow.specs.Form.{form_plain}
-use Rattle.jsgen_slow.proofs.normal.statement_forms.Given as goal
-
--- the forms so far are those of the statements so far
-abbrev pub invariant-loop-statement : goal.invariant-loop-statement
-invariant-loop-statement g l = map form_plain l.forms.items ≡ map (λ x. normal (in_statement g.N.NormalNode.plain x)) (take l.statement-index l.statements)

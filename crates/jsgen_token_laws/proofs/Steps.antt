@@ -1,0 +1,323 @@
+-- What each item of a layout writes.
+use Rattle.std.proofs.Common.{◌≡◌, ℕ, zero, suc, ◌*◌, Bool, true, false, not, ◌||◌, ◌==◌, ◌⊎◌, inl, inr, Some, is_some, List, [], ◌∷◌, ◌++◌, codes, replicate, refl, sym, ap, ◌∙◌, subst, subst₂, append_assoc, append-nil}
+use Rattle.std.specs.Char.{is_ascii_digit}
+use Rattle.std.specs.List.{list_all}
+use Rattle.std.proofs.lemmas.Bool.{both_ways, and_parts, and_from, or_from, or_cases, or_left, or_right, eqb-true}
+use Rattle.jsgen_syntax.specs.Name.{spells_name, goes_in_word}
+use Rattle.jsgen_syntax.specs.Strings.{quote_char, string_value}
+use Rattle.jsgen_syntax.specs.Escapes.{name_text, has_escapes}
+use Rattle.jsgen_syntax.specs.declared.quote.Quote.{Quote}
+use Rattle.jsgen_model.specs.Punctuator.{Punctuator, Bracket, punctuator_text, plus, minus, dot, semicolon, Round, opening, closing}
+use Rattle.jsgen_model.specs.Tokens.{longer_stands, Tokens, done, piece, group, Word, Number, Quoted, Sign, is_spelled, is_blank, is_line_terminator, has_line_end, spells_whole}
+use Rattle.jsgen_model.specs.Items.{member_dot, word, name, number, punctuator, operator, soft_space, soft_line, hard_space, body_space, indentation, due_semicolon, statement_begins}
+use Rattle.jsgen_model.specs.Layout.{Pen, Ending, other_end, operator_end, layout, written, written_if, text_if, ending_unless, is_apart, ends_in_escapes, name_ending, space_if, joins, dot_joins, indented, indent_or_space, at_indentation, end_statement}
+use Rattle.jsgen_token_laws.proofs.Characters.{ends_in_word_behind, all_goes, whole_digits, digit_goes, all_follow}
+use Rattle.jsgen_token_laws.proofs.Words.{word_begins, unescaped, name_spelled, spelled_name}
+use Rattle.jsgen_token_laws.proofs.Last.{Last, Open, After, line_of, Clear, Operand, Ready, Remembers, Ended, is_indent, Knows, NoDot, word_ends, clear_apart, clear_quote, clear_quoted, clear_space, clear_operator, clear_word, clear_digit}
+use Rattle.jsgen_token_laws.proofs.Writes.{Writes, wrote_none, wrote_and_none, wrote_blank, wrote_piece, wrote_brackets}
+
+-- ---- gaps
+
+space_blank : (b : Bool) → list_all is_blank (space_if b) ≡ true
+space_blank true = refl
+space_blank false = refl
+
+-- a space ends no line
+space_mark : (b line : Bool) → line ≡ (line || has_line_end (space_if b))
+space_mark true true = refl
+space_mark true false = refl
+space_mark false true = refl
+space_mark false false = refl
+
+-- ---- words and numbers
+
+-- a word of this spelling, behind which the code is so
+written_word : (w : List ℕ) (p q : Pen) (l : Last) → is_spelled (Word w) ≡ true → q.code ≡ p.code ++ (space_if (is_apart p.ending p.code) ++ w) → Knows p l → Knows q (After (Word w)) → Writes p l q (After (Word w)) (piece (line_of l) (Word w) done)
+written_word w p q l h e k m =
+    let b : Bool = is_apart p.ending p.code in
+    let i = word_begins w h in
+    wrote_piece p q l (space_if b) (Word w) (line_of l) (space_blank b) (space_mark b (line_of l)) h
+    (λ r. subst (λ t. Clear l (space_if b ++ (t ++ r))) (sym i.text) (clear_word p.code p.ending l i.head (i.tail ++ r) k.ending i.starts)) e m
+
+-- what ends in a name is apart from a word
+ends_apart : (e : Ending) (code gap w : List ℕ) → spells_name w ≡ true → is_apart e (code ++ (gap ++ w)) ≡ true
+ends_apart e code gap [] h = absurd (both_ways false refl h)
+ends_apart e code gap (c ∷ w) h = or_right (ends_in_escapes e) _ (ends_in_word_behind code gap c w (all_goes (c ∷ w) h))
+
+pub wrote_word : (w : List ℕ) (p : Pen) (l : Last) → spells_name w ≡ true → Knows p l → Writes p l (layout (word w) p) (After (Word w)) (piece (line_of l) (Word w) done)
+wrote_word w p l h k = written_word w p (layout (word w) p) l (spelled_name w h) refl k (record { indent = k.indent; ending = ends_apart other_end p.code (space_if (is_apart p.ending p.code)) w h })
+
+-- a name may be printed with escapes
+name_apart : (ascii : Bool) (code gap w : List ℕ) → spells_name w ≡ true → (b : Bool) → has_escapes ascii w ≡ b → is_apart (name_ending b) (code ++ (gap ++ name_text ascii w)) ≡ true
+name_apart ascii code gap w h true e = refl
+name_apart ascii code gap w h false e = subst (λ t. is_apart other_end (code ++ (gap ++ t)) ≡ true) (sym (unescaped ascii w e)) (ends_apart other_end code gap w h)
+
+pub wrote_name : (w : List ℕ) (p : Pen) (l : Last) → spells_name w ≡ true → Knows p l → Writes p l (layout (name w) p) (After (Word (name_text p.style.ascii w))) (piece (line_of l) (Word (name_text p.style.ascii w)) done)
+wrote_name w p l h k = written_word (name_text p.style.ascii w) p (layout (name w) p) l (name_spelled p.style.ascii w h) refl k (record { indent = k.indent; ending = name_apart p.style.ascii p.code (space_if (is_apart p.ending p.code)) w h (has_escapes p.style.ascii w) refl })
+
+pub wrote_number : (w : List ℕ) (p : Pen) (l : Last) → spells_whole w ≡ true → Ready l → Knows p l → Writes p l (layout (number true w) p) (After (Number w)) (piece (line_of l) (Number w) done)
+wrote_number [] p l h y k = absurd (both_ways false refl h)
+wrote_number (c ∷ w) p l h y k =
+    let b : Bool = is_apart p.ending p.code in
+    let d = whole_digits (c ∷ w) h in
+    wrote_piece p (layout (number true (c ∷ w)) p) l (space_if b) (Number (c ∷ w)) (line_of l) (space_blank b) (space_mark b (line_of l)) h
+    (λ r. clear_digit p.code p.ending l c (w ++ r) k.ending y (and_parts (is_ascii_digit c) (list_all is_ascii_digit w) d).0) refl
+    (record { indent = k.indent; ending = (ends_in_word_behind p.code (space_if b) c w (all_follow is_ascii_digit goes_in_word digit_goes (c ∷ w) d), refl, h) })
+
+-- ---- strings, behind anything
+
+-- any spelling of a string
+pub wrote_quoted : (q : Quote) (w us : List ℕ) (p r : Pen) (l : Last) → string_value q w ≡ Some us → r.code ≡ p.code ++ (quote_char q ∷ (w ++ quote_char q ∷ [])) → r.style ≡ p.style → Knows p l → Writes p l r (After (Quoted q w)) (piece (line_of l) (Quoted q w) done)
+wrote_quoted q w us p r l h e f k =
+    wrote_piece p r l [] (Quoted q w) (line_of l) refl (space_mark false (line_of l)) (ap is_some h) (λ x. clear_quote q l _) e
+    (record { indent = subst (λ s. is_indent s.indent ≡ true) (sym f) k.indent; ending = tt })
+
+-- ---- punctuators behind an operand
+
+pub wrote_punctuator : (s : Punctuator) (p : Pen) (l : Last) → NoDot s → Remembers s other_end → Operand l → Knows p l → Writes p l (layout (punctuator s) p) (After (Sign s)) (piece (line_of l) (Sign s) done)
+wrote_punctuator s p l i m o k = wrote_piece p (layout (punctuator s) p) l [] (Sign s) (line_of l) refl (space_mark false (line_of l)) refl (λ r. clear_operator s p.code p.ending l r i o k.ending) refl (record { indent = k.indent; ending = m })
+
+remembered : (s : Punctuator) → Remembers s (operator_end s)
+remembered plus = refl
+remembered minus = refl
+remembered s = tt
+
+spaced_operator : (s : Punctuator) (code : List ℕ) (e : Ending) (l : Last) (b : Bool) (r : List ℕ) → NoDot s → Operand l → Ended code e l → Clear l (space_if b ++ (punctuator_text s ++ r))
+spaced_operator s code e l true r i o k = clear_space l (punctuator_text s ++ r)
+spaced_operator s code e l false r i o k = clear_operator s code e l r i o k
+
+pub wrote_operator : (s : Punctuator) (p : Pen) (l : Last) → NoDot s → Operand l → Knows p l → Writes p l (layout (operator s) p) (After (Sign s)) (piece (line_of l) (Sign s) done)
+wrote_operator s p l i o k =
+    let b : Bool = joins p.ending p.code s in
+    wrote_piece p (layout (operator s) p) l (space_if b) (Sign s) (line_of l) (space_blank b) (space_mark b (line_of l)) refl (λ r. spaced_operator s p.code p.ending l b r i o k.ending) refl (record { indent = k.indent; ending = remembered s })
+
+-- a semicolon may stand behind anything
+pub wrote_semicolon : (p q : Pen) (l : Last) → q.code ≡ p.code ++ codes ";" → q.style ≡ p.style → Knows p l → Writes p l q (After (Sign semicolon)) (piece (line_of l) (Sign semicolon) done)
+wrote_semicolon p q l e f k = wrote_piece p q l [] (Sign semicolon) (line_of l) refl (space_mark false (line_of l)) refl (λ r. clear_apart l 59 r refl refl refl) e (record { indent = subst (λ s. is_indent s.indent ≡ true) (sym f) k.indent; ending = tt })
+
+-- ---- blanks
+
+-- blanks, or nothing
+pub record Soft (p : Pen) (l : Last) (q : Pen) : Type 0 where
+  pub last : Last
+  pub writes : Writes p l q last done
+  pub operand : Operand l → Operand last
+  pub ready : Ready l → Ready last
+  pub line : line_of l ≡ false → line_of last ≡ false
+  pub semicolon : q.pending_semicolon ≡ p.pending_semicolon
+
+-- the pen goes on with the same code
+pub no_soft : (p q : Pen) (l : Last) → q.code ≡ p.code → q.ending ≡ p.ending → q.style ≡ p.style → q.pending_semicolon ≡ p.pending_semicolon → Knows p l → Soft p l q
+no_soft p q l e f g h k = record { last = l; writes = wrote_none p q l e (knows_so l k.ending); operand = λ o. o; ready = λ y. y; line = λ z. z; semicolon = h }
+  where
+    knows_so : (l : Last) → Ended p.code p.ending l → Knows q l
+    knows_so l z = record { indent = subst (λ s. is_indent s.indent ≡ true) (sym g) k.indent; ending = subst₂ (λ x y. Ended x y l) (sym e) (sym f) z }
+
+indent_cases : (c : ℕ) → is_indent c ≡ true → (c ≡ 32) ⊎ (c ≡ 9)
+indent_cases c h = go (or_cases (c == 32) (c == 9) h)
+  where
+    go : ((c == 32) ≡ true) ⊎ ((c == 9) ≡ true) → (c ≡ 32) ⊎ (c ≡ 9)
+    go (inl e) = inl (eqb-true c 32 e)
+    go (inr e) = inr (eqb-true c 9 e)
+
+-- spaces and tabs are blanks that end no line, and may stand anywhere
+indent_blank : (c : ℕ) → is_indent c ≡ true → is_blank c ≡ true
+indent_blank c h = or_left (is_indent c) (is_line_terminator c) h
+
+indent_no_line : (c : ℕ) → is_indent c ≡ true → is_line_terminator c ≡ false
+indent_no_line c h = go (indent_cases c h)
+  where
+    go : (c ≡ 32) ⊎ (c ≡ 9) → is_line_terminator c ≡ false
+    go (inl e) = subst (λ x. is_line_terminator x ≡ false) (sym e) refl
+    go (inr e) = subst (λ x. is_line_terminator x ≡ false) (sym e) refl
+
+indents_no_line : (gap : List ℕ) → list_all is_indent gap ≡ true → has_line_end gap ≡ false
+indents_no_line [] h = refl
+indents_no_line (c ∷ gap) h = let k = and_parts (is_indent c) (list_all is_indent gap) h in or_from (is_line_terminator c) (has_line_end gap) (indent_no_line c k.0) (indents_no_line gap k.1)
+
+clear_indent : (l : Last) (c : ℕ) (r : List ℕ) → is_indent c ≡ true → Clear l (c ∷ r)
+clear_indent l c r h = go (indent_cases c h)
+  where
+    go : (c ≡ 32) ⊎ (c ≡ 9) → Clear l (c ∷ r)
+    go (inl e) = subst (λ x. Clear l (x ∷ r)) (sym e) (clear_apart l 32 r refl refl refl)
+    go (inr e) = subst (λ x. Clear l (x ∷ r)) (sym e) (clear_apart l 9 r refl refl refl)
+
+indents : (n c : ℕ) → is_indent c ≡ true → list_all is_indent (replicate n c) ≡ true
+indents zero c h = refl
+indents (suc n) c h = and_from (is_indent c) (list_all is_indent (replicate n c)) h (indents n c h)
+
+-- spaces or tabs
+soft_blank : (p q : Pen) (l : Last) (gap : List ℕ) → list_all is_indent gap ≡ true → ((r : List ℕ) → Clear l (gap ++ r)) → q.code ≡ p.code ++ gap → q.style ≡ p.style → q.pending_semicolon ≡ p.pending_semicolon → Knows p l → Soft p l q
+soft_blank p q l gap h clear e f g k = record {
+  last = Open (line_of l || has_line_end gap);
+  writes = wrote_blank p q l gap (all_follow is_indent is_blank indent_blank gap h) clear e (record { indent = subst (λ s. is_indent s.indent ≡ true) (sym f) k.indent; ending = tt });
+  operand = λ o. tt;
+  ready = λ y. tt;
+  line = λ z. or_from (line_of l) (has_line_end gap) z (indents_no_line gap h);
+  semicolon = g;
+}
+
+pub soft_space_written : (p : Pen) (l : Last) → Knows p l → Soft p l (layout soft_space p)
+soft_space_written p l k = go p.style.minified
+  where
+    go : (b : Bool) → Soft p l (written_if (not b) (codes " ") p)
+    go true = no_soft p (written_if false (codes " ") p) l (append-nil p.code) refl refl refl k
+    go false = soft_blank p (written_if true (codes " ") p) l (codes " ") refl (λ r. clear_space l r) refl refl refl k
+
+pub indentation_written : (p : Pen) (l : Last) → Knows p l → Soft p l (layout indentation p)
+indentation_written p l k = by_style p.style.minified
+  where
+    indented_so : (n : ℕ) → Soft p l (indented (replicate n p.style.indent) p)
+    indented_so zero = no_soft p p l refl refl refl refl k
+    indented_so (suc n) = soft_blank p (indented (replicate (suc n) p.style.indent) p) l (replicate (suc n) p.style.indent) (indents (suc n) p.style.indent k.indent) (λ r. clear_indent l p.style.indent (replicate n p.style.indent ++ r) k.indent) refl refl refl k
+
+    by_space : (b : Bool) → Soft p l (indent_or_space b p)
+    by_space true = soft_blank p (indent_or_space true p) l (codes " ") refl (λ r. clear_space l r) refl refl refl k
+    by_space false = indented_so (p.depth * p.style.width)
+
+    by_style : (b : Bool) → Soft p l (at_indentation b p)
+    by_style true = no_soft p p l refl refl refl refl k
+    by_style false = by_space p.pending_space
+
+pub begins_written : (p : Pen) (l : Last) → Knows p l → Soft p l (layout statement_begins p)
+begins_written p l k = no_soft p (layout statement_begins p) l refl refl refl refl k
+
+pub hard_space_written : (p : Pen) (l : Last) → Knows p l → Soft p l (layout hard_space p)
+hard_space_written p l k = soft_blank p (layout hard_space p) l (codes " ") refl (λ r. clear_space l r) refl refl refl k
+
+pub body_space_written : (p : Pen) (l : Last) → Knows p l → Soft p l (layout body_space p)
+body_space_written p l k = no_soft p (layout body_space p) l refl refl refl refl k
+
+-- blanks that may end a line, or nothing
+pub record Gap (p : Pen) (l : Last) (q : Pen) : Type 0 where
+  pub last : Last
+  pub writes : Writes p l q last done
+  pub ready : Ready l → Ready last
+  pub semicolon : q.pending_semicolon ≡ p.pending_semicolon
+
+abbrev pub gap : {p q : Pen} {l : Last} → Soft p l q → Gap p l q
+gap s = record { last = s.last; writes = s.writes; ready = s.ready; semicolon = s.semicolon }
+
+pub soft_line_written : (p : Pen) (l : Last) → Knows p l → Gap p l (layout soft_line p)
+soft_line_written p l k = go p.style.minified
+  where
+    go : (b : Bool) → Gap p l (written_if (not b) (codes "\n") p)
+    go true = gap (no_soft p (written_if false (codes "\n") p) l (append-nil p.code) refl refl refl k)
+    go false = record {
+      last = Open (line_of l || has_line_end (codes "\n"));
+      writes = wrote_blank p (written_if true (codes "\n") p) l (codes "\n") refl (λ r. clear_apart l 10 r refl refl refl) refl (record { indent = k.indent; ending = tt });
+      ready = λ y. tt;
+      semicolon = refl;
+    }
+
+-- the pen goes on with the same code
+pub no_gap : (p q : Pen) (l : Last) → q.code ≡ p.code → q.ending ≡ p.ending → q.style ≡ p.style → q.pending_semicolon ≡ p.pending_semicolon → Knows p l → Gap p l q
+no_gap p q l e f g h k = gap (no_soft p q l e f g h k)
+
+-- ---- semicolons
+
+-- pretty, a statement ends in a semicolon and a line end
+pub end_written : (p : Pen) (l : Last) → Knows p l → Writes p l (end_statement false p) (Open true) (piece (line_of l) (Sign semicolon) done)
+end_written p l k =
+    let q : Pen = written (codes ";") other_end p in
+    let s : Pen = end_statement false p in
+    let a = wrote_semicolon p q l refl refl k in
+    let b = wrote_blank q s (After (Sign semicolon)) (codes "\n") refl (λ r. clear_apart (After (Sign semicolon)) 10 r refl refl refl) (sym (append_assoc p.code (codes ";") (codes "\n"))) (record { indent = k.indent; ending = tt }) in
+    wrote_and_none a b
+
+-- minified, it is left
+pub end_left : (p : Pen) (l : Last) → Knows p l → Writes p l (end_statement true p) l done
+end_left p l k = wrote_none p (end_statement true p) l refl (record { indent = k.indent; ending = k.ending })
+
+pub due_written : (p : Pen) (l : Last) → p.pending_semicolon ≡ true → Knows p l → Writes p l (layout due_semicolon p) (After (Sign semicolon)) (piece (line_of l) (Sign semicolon) done)
+due_written p l e k = wrote_semicolon p (layout due_semicolon p) l (ap (λ b. p.code ++ text_if b (codes ";")) e) refl k
+
+pub none_due : (p : Pen) (l : Last) → p.pending_semicolon ≡ false → Knows p l → Soft p l (layout due_semicolon p)
+none_due p l e k = no_soft p (layout due_semicolon p) l (ap (λ b. p.code ++ text_if b (codes ";")) e ∙ append-nil p.code) (ap (λ b. ending_unless b p.ending) e) refl (sym e) k
+
+-- ---- parentheses
+
+pub opened : (p : Pen) (l : Last) → Knows p l → Knows (written_if true (opening Round) p) (Open false)
+opened p l k = record { indent = k.indent; ending = tt }
+
+pub parentheses_written : (p q : Pen) (l m : Last) (ts : Tokens) → Writes (written_if true (opening Round) p) (Open false) q m ts → Writes p l (written_if true (closing Round) q) (Open false) (group (line_of l) Round ts done)
+parentheses_written p q l m ts w = wrote_brackets Round p (written_if true (opening Round) p) q (written_if true (closing Round) q) l m ts refl refl (record { indent = w.knows.indent; ending = tt }) w
+
+-- brackets that are always there
+pub within_brackets : (b : Bracket) (p : Pen) (l : Last) → Knows p l → Knows (written (opening b) other_end p) (Open false)
+within_brackets b p l k = record { indent = k.indent; ending = tt }
+
+pub brackets_written : (b : Bracket) (p q : Pen) (l m : Last) (ts : Tokens) → Writes (written (opening b) other_end p) (Open false) q m ts → Writes p l (written (closing b) other_end q) (Open false) (group (line_of l) b ts done)
+brackets_written b p q l m ts w = wrote_brackets b p (written (opening b) other_end p) q (written (closing b) other_end q) l m ts refl refl (record { indent = w.knows.indent; ending = tt }) w
+
+-- where none are printed
+pub unopened : (p : Pen) (l : Last) → (text : List ℕ) → Knows p l → Soft p l (written_if false text p)
+unopened p l text k = no_soft p (written_if false text p) l (append-nil p.code) refl refl refl k
+
+-- ---- a sign before its operand, behind anything
+
+abbrev NoPlus : Punctuator → Type 0
+NoPlus plus = ⊥
+NoPlus s = Unit {0}
+
+abbrev NoMinus : Punctuator → Type 0
+NoMinus minus = ⊥
+NoMinus s = Unit {0}
+
+plus_behind : (s : Punctuator) (r : List ℕ) → NoPlus s → Clear (After (Sign s)) (43 ∷ r)
+unfolding longer_stands
+plus_behind plus r n = absurd n
+plus_behind s r n = refl
+
+minus_behind : (s : Punctuator) (r : List ℕ) → NoMinus s → Clear (After (Sign s)) (45 ∷ r)
+unfolding longer_stands
+minus_behind minus r n = absurd n
+minus_behind s r n = refl
+
+spaced_or : (l : Last) (b : Bool) (r : List ℕ) → Clear l r → Clear l (space_if b ++ r)
+spaced_or l true r h = clear_space l r
+spaced_or l false r h = h
+
+spaced_since : (l : Last) (b : Bool) (r : List ℕ) → b ≡ true → Clear l (space_if b ++ r)
+spaced_since l true r e = clear_space l r
+spaced_since l false r e = absurd (both_ways false refl e)
+
+plus_clear : (code : List ℕ) (e : Ending) (l : Last) (r : List ℕ) → Ended code e l → Clear l (space_if (joins e code plus) ++ (43 ∷ r))
+plus_clear code e (Open line) r k = tt
+plus_clear code e (After (Word w)) r k = spaced_operator plus code e (After (Word w)) (joins e code plus) r tt tt k
+plus_clear code e (After (Number w)) r k = spaced_operator plus code e (After (Number w)) (joins e code plus) r tt tt k
+plus_clear code e (After (Quoted q w)) r k = clear_quoted q w (space_if (joins e code plus) ++ (43 ∷ r))
+plus_clear code e (After (Sign plus)) r k = spaced_since (After (Sign plus)) (joins e code plus) (43 ∷ r) (ap (λ x. joins x code plus) k)
+plus_clear code e (After (Sign s)) r k = spaced_or (After (Sign s)) (joins e code plus) (43 ∷ r) (plus_behind s r tt)
+
+minus_clear : (code : List ℕ) (e : Ending) (l : Last) (r : List ℕ) → Ended code e l → Clear l (space_if (joins e code minus) ++ (45 ∷ r))
+minus_clear code e (Open line) r k = tt
+minus_clear code e (After (Word w)) r k = spaced_operator minus code e (After (Word w)) (joins e code minus) r tt tt k
+minus_clear code e (After (Number w)) r k = spaced_operator minus code e (After (Number w)) (joins e code minus) r tt tt k
+minus_clear code e (After (Quoted q w)) r k = clear_quoted q w (space_if (joins e code minus) ++ (45 ∷ r))
+minus_clear code e (After (Sign minus)) r k = spaced_since (After (Sign minus)) (joins e code minus) (45 ∷ r) (ap (λ x. joins x code minus) k)
+minus_clear code e (After (Sign s)) r k = spaced_or (After (Sign s)) (joins e code minus) (45 ∷ r) (minus_behind s r tt)
+
+pub wrote_plus : (p : Pen) (l : Last) → Knows p l → Writes p l (layout (operator plus) p) (After (Sign plus)) (piece (line_of l) (Sign plus) done)
+wrote_plus p l k =
+    let b : Bool = joins p.ending p.code plus in
+    wrote_piece p (layout (operator plus) p) l (space_if b) (Sign plus) (line_of l) (space_blank b) (space_mark b (line_of l)) refl (λ r. plus_clear p.code p.ending l r k.ending) refl (record { indent = k.indent; ending = refl })
+
+pub wrote_minus : (p : Pen) (l : Last) → Knows p l → Writes p l (layout (operator minus) p) (After (Sign minus)) (piece (line_of l) (Sign minus) done)
+wrote_minus p l k =
+    let b : Bool = joins p.ending p.code minus in
+    wrote_piece p (layout (operator minus) p) l (space_if b) (Sign minus) (line_of l) (space_blank b) (space_mark b (line_of l)) refl (λ r. minus_clear p.code p.ending l r k.ending) refl (record { indent = k.indent; ending = refl })
+
+-- ---- the dot of a member, behind an operand
+
+dot_apart : (l : Last) (e : Ending) (code : List ℕ) (r : List ℕ) → Operand l → Ended code e l → Clear l (space_if (dot_joins e) ++ (46 ∷ r))
+dot_apart (Open line) e code r o k = tt
+dot_apart (After (Word w)) e code r o k = spaced_or (After (Word w)) (dot_joins e) (46 ∷ r) (word_ends w 46 r refl refl)
+dot_apart (After (Number w)) e code r o k = spaced_since (After (Number w)) (dot_joins e) (46 ∷ r) (ap dot_joins k.1)
+dot_apart (After (Quoted q w)) e code r o k = clear_quoted q w (space_if (dot_joins e) ++ (46 ∷ r))
+dot_apart (After (Sign s)) e code r o k = absurd o
+
+pub wrote_dot : (p : Pen) (l : Last) → Operand l → Knows p l → Writes p l (layout member_dot p) (After (Sign dot)) (piece (line_of l) (Sign dot) done)
+wrote_dot p l o k =
+    let b : Bool = dot_joins p.ending in
+    wrote_piece p (layout member_dot p) l (space_if b) (Sign dot) (line_of l) (space_blank b) (space_mark b (line_of l)) refl (λ r. dot_apart l p.ending p.code r o k.ending) refl (record { indent = k.indent; ending = tt })
