@@ -13,9 +13,9 @@ ghost use Rattle.jsgen_place.specs.Place.{settings_of};
 ghost use Rattle.jsgen_nodes.specs.Place.{pen_after};
 ghost use Rattle.jsgen_nodes.specs.Blocks.{braces_opened, braces_closed, consequent_of, alternate_of, test_ended};
 
+use crate::PrintNode;
 use crate::shapes::Shape;
 use crate::statements::print_statements;
-use crate::PrintNode;
 use jsgen_place::{Place, Settings};
 use jsgen_printer::{Bracket, Printer};
 use jsgen_syntax::{Memory, Precedence};

@@ -97,7 +97,10 @@ fn print_binary_operation<N: PrintNode>(
         (behind (right_level node.now.operator) (place_of place (pen_of p.old))))))) (pen_of p.old)) }
 {
     let left = node.left.get();
-    left.print(p, place.left_operand(left_level(node.operator, left.operand())))?;
+    left.print(
+        p,
+        place.left_operand(left_level(node.operator, left.operand())),
+    )?;
     p.print_soft_space()?;
     p.print_operator(node.operator)?;
     p.print_soft_space()?;
@@ -135,7 +138,11 @@ fn print_logical_operation<N: PrintNode>(
         (place_of place (pen_of p.old))))))) (pen_of p.old)) }
 {
     let left = node.left.get();
-    let level = unmixed(node.operator, left.operand(), node.operator.lower_precedence());
+    let level = unmixed(
+        node.operator,
+        left.operand(),
+        node.operator.lower_precedence(),
+    );
     left.print(p, place.left_operand(level))?;
     p.print_soft_space()?;
     p.print_logical_sign(node.operator)?;

@@ -5,6 +5,7 @@ ghost use Rattle.jsgen_model.specs.Printing.{Reaches};
 ghost use Rattle.jsgen_printer.specs.Printer.{pen_of};
 ghost use Rattle.jsgen_nodes.specs.Place.{pen_after};
 
+use crate::PrintNode;
 use crate::blocks::{print_block_statement, print_empty_statement, print_if_statement};
 use crate::expressions::{
     print_binary_expression, print_identifier_reference, print_logical_expression,
@@ -16,7 +17,6 @@ use crate::links::{
 use crate::statements::{
     print_binding_identifier, print_expression_statement, print_variable_declaration,
 };
-use crate::PrintNode;
 use jsgen_place::Place;
 use jsgen_printer::Printer;
 use jsgen_syntax::Memory;
