@@ -3,7 +3,7 @@
 #![tactic(auto, using(crate::proofs::Verdicts::judging))]
 
 ghost use Rattle.std.specs.Prelude.{◌≡◌};
-ghost use Rattle.jsgen_tree.specs.Rows.{identifier_reference_row, numeric_literal_row, string_literal_row, parenthesized_expression_row, binary_expression_row, logical_expression_row, identifier_name_row, static_member_expression_row, computed_member_expression_row, call_expression_row};
+ghost use Rattle.jsgen_tree.specs.Rows.{identifier_reference_row, this_expression_row, numeric_literal_row, string_literal_row, parenthesized_expression_row, binary_expression_row, logical_expression_row, identifier_name_row, static_member_expression_row, computed_member_expression_row, call_expression_row};
 ghost use Rattle.jsgen_check.specs.Verdict.{tree_verdict};
 
 use crate::children::check_arguments;
@@ -14,7 +14,7 @@ use jsgen_rules::check_span;
 use jsgen_tree::{
     BinaryExpression, CallExpression, ComputedMemberExpression, IdentifierName,
     IdentifierReference, LogicalExpression, NodeSet, NumericLiteral, ParenthesizedExpression,
-    StaticMemberExpression, StringLiteral,
+    StaticMemberExpression, StringLiteral, ThisExpression,
 };
 
 pub fn check_identifier_reference(
@@ -25,6 +25,16 @@ pub fn check_identifier_reference(
 {
     check_span(node.span)?;
     check_identifier_reference_rules(node, around)
+}
+
+pub fn check_this_expression(
+    node: &ThisExpression,
+    around: Surroundings<'_>,
+) -> Result<(), TreeFault>
+    ensures { result ≡ tree_verdict around.entry (this_expression_row node.now) }
+{
+    let _ = around;
+    check_span(node.span)
 }
 
 pub fn check_numeric_literal(

@@ -10,6 +10,7 @@ use crate::expressions::{
     check_binary_expression, check_call_expression, check_computed_member_expression,
     check_identifier_reference, check_logical_expression, check_numeric_literal,
     check_parenthesized_expression, check_static_member_expression, check_string_literal,
+    check_this_expression,
 };
 use crate::statements::{
     check_binding_identifier, check_block_statement, check_empty_statement,
@@ -27,6 +28,7 @@ pub fn check_expression_set<N: CheckNode>(
 {
     match node {
         Expression::IdentifierReference(node) => check_identifier_reference(node, around),
+        Expression::ThisExpression(node) => check_this_expression(node, around),
         Expression::NumericLiteral(node) => check_numeric_literal(node, around),
         Expression::StringLiteral(node) => check_string_literal(node, around),
         Expression::BinaryExpression(node) => check_binary_expression(node, around),

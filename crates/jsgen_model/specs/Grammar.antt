@@ -190,6 +190,7 @@ mutual
     a_coalesced_head : {c : Allowed} {ts : Tokens} {t : Tree} → ReadsExpression c Coalesced ts t → ReadsExpression c CoalesceHead ts t
     a_bit_or_head : {c : Allowed} {ts : Tokens} {t : Tree} → ReadsExpression c BitOr ts t → ReadsExpression c CoalesceHead ts t
     a_reference : {c : Allowed} {mark : Bool} {w v : List ℕ} → word_value w ≡ Some v → is_free_name v ≡ true → ReadsExpression c Primary (piece mark (Word w) done) (tree.identifier_reference (unnumbered v))
+    a_this : {c : Allowed} {mark : Bool} → ReadsExpression c Primary (piece mark (Word (codes "this")) done) (tree.this_expression (nothing_of 0))
     a_number : {c : Allowed} {mark : Bool} {w : List ℕ} → ReadsExpression c Primary (piece mark (Number w) done) (tree.numeric_literal (by_text w))
     a_string : {c : Allowed} {mark : Bool} {q : Quote} {w us : List ℕ} → string_value q w ≡ Some us → ReadsExpression c Primary (piece mark (Quoted q w) done) (tree.string_literal (bare (units us ∷ [])))
     in_parentheses : {c : Allowed} {mark : Bool} {ts : Tokens} {t : Tree} → ReadsExpression (with_in c) Expression ts t → ReadsExpression c Primary (group mark Round ts done) (tree.parenthesized (nothing_of 0) t)

@@ -87,6 +87,7 @@ abbrev mutual
   normal (tree.variable_declarator a id init) = tree.variable_declarator (nothing_of 1) (normal id) (normal_maybe init)
   normal (tree.binding_identifier a) = tree.binding_identifier (unnumbered (binding_identifier_name a))
   normal (tree.identifier_reference a) = tree.identifier_reference (unnumbered (identifier_reference_name a))
+  normal (tree.this_expression a) = tree.this_expression (nothing_of 0)
   normal (tree.numeric_literal a) = tree.numeric_literal (by_text (number_text (numeric_literal_kind a) a))
   normal (tree.string_literal a) = tree.string_literal (bare (units (string_literal_value a) ∷ []))
   normal (tree.parenthesized a expression) = normal expression

@@ -39,6 +39,7 @@ is_plain_row (tree.variable_declaration a declarations) = has_no_hole declaratio
 is_plain_row (tree.variable_declarator a id init) = true
 is_plain_row (tree.binding_identifier a) = true
 is_plain_row (tree.identifier_reference a) = true
+is_plain_row (tree.this_expression a) = true
 is_plain_row (tree.numeric_literal a) = is_whole (numeric_literal_kind a) a
 is_plain_row (tree.string_literal a) = are_units (string_literal_value a)
 is_plain_row (tree.parenthesized a expression) = true

@@ -276,6 +276,7 @@ abbrev mutual
   spell (tree.variable_declarator a id init) place = spell id (in_front Lowest place) ⊕ spell_value init (behind Comma place)
   spell (tree.binding_identifier a) place = name (binding_identifier_name a)
   spell (tree.identifier_reference a) place = name (identifier_reference_name a)
+  spell (tree.this_expression a) place = word (codes "this")
   spell (tree.numeric_literal a) place = number_item (numeric_literal_kind a) a
   spell (tree.string_literal a) place = string true (string_literal_value a)
   spell (tree.parenthesized a expression) place = spell expression place

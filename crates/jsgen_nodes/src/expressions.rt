@@ -1,7 +1,7 @@
 // Expressions (ECMA-262, clause 13), one function for each row.
 ghost use Rattle.std.specs.Prelude.{◌≡◌};
 ghost use Rattle.jsgen_syntax.specs.Operator.{logical_level, logical_lower_level};
-ghost use Rattle.jsgen_tree.specs.Rows.{identifier_reference_row, numeric_literal_row, string_literal_row, parenthesized_expression_row, binary_expression_row, logical_expression_row, in_expression};
+ghost use Rattle.jsgen_tree.specs.Rows.{identifier_reference_row, this_expression_row, numeric_literal_row, string_literal_row, parenthesized_expression_row, binary_expression_row, logical_expression_row, in_expression};
 ghost use Rattle.jsgen_model.specs.Items.{◌⊕◌, soft_space};
 ghost use Rattle.jsgen_model.specs.Layout.{layout};
 ghost use Rattle.jsgen_model.specs.Spell.{spell, left_of, behind, left_level, right_level, unmixed, operator_item, logical_item};
@@ -16,7 +16,7 @@ use jsgen_printer::Printer;
 use jsgen_syntax::{GetPrecedence, Memory};
 use jsgen_tree::{
     BinaryExpression, IdentifierReference, LogicalExpression, NumericLiteral, NumericValue,
-    ParenthesizedExpression, StringLiteral,
+    ParenthesizedExpression, StringLiteral, ThisExpression,
 };
 
 #[tactic(auto, unfolding(crate::specs::Place::pen_after))]
@@ -29,6 +29,19 @@ pub fn print_identifier_reference(
 {
     let _ = place;
     p.print_name(node.name.as_str())
+}
+
+#[tactic(auto, unfolding(crate::specs::Place::pen_after))]
+pub fn print_this_expression(
+    node: &ThisExpression,
+    p: &mut Printer,
+    place: Place,
+) -> Result<(), Memory>
+    ensures { Reaches result (pen_of p.old) (pen_of p.new) (pen_after (this_expression_row node.now) place p.old) }
+{
+    let _ = node;
+    let _ = place;
+    p.print_word("this")
 }
 
 #[tactic(auto, unfolding(crate::specs::Place::pen_after))]

@@ -10,6 +10,7 @@ use crate::blocks::{print_block_statement, print_empty_statement, print_if_state
 use crate::expressions::{
     print_binary_expression, print_identifier_reference, print_logical_expression,
     print_numeric_literal, print_parenthesized_expression, print_string_literal,
+    print_this_expression,
 };
 use crate::links::{
     print_call_expression, print_computed_member_expression, print_static_member_expression,
@@ -31,6 +32,7 @@ pub fn print_expression<N: PrintNode>(
 {
     match node {
         Expression::IdentifierReference(node) => print_identifier_reference(node, p, place),
+        Expression::ThisExpression(node) => print_this_expression(node, p, place),
         Expression::NumericLiteral(node) => print_numeric_literal(node, p, place),
         Expression::StringLiteral(node) => print_string_literal(node, p, place),
         Expression::BinaryExpression(node) => print_binary_expression(node, p, place),

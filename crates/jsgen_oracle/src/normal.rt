@@ -303,6 +303,7 @@ fn expression_form<N: NormalNode>(alloc: Global, node: &Expression<N>) -> Result
             let name = unnumbered(alloc, &node.name)?;
             Ok(leaf(alloc, NodeType::IdentifierReference, name))
         }
+        Expression::ThisExpression(_) => Ok(leaf(alloc, NodeType::ThisExpression, Vec::new(alloc))),
         Expression::NumericLiteral(node) => numeric_literal_form(alloc, node),
         Expression::StringLiteral(node) => string_literal_form(alloc, node),
         Expression::BinaryExpression(node) => {

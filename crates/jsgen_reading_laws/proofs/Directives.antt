@@ -105,6 +105,7 @@ opens (grammar.with_arguments {a = a} {f = f} m e r s) = opens_behind _ a (group
 opens (grammar.a_named_member_of_call {a = a} {o = o} w m n e v r) = opens_behind _ a (piece m (Sign dot) _) o _ e (opens r) tt
 opens (grammar.a_computed_member_of_call {a = a} {o = o} m e r s) = opens_behind _ a (group m Square _ done) o _ e (opens r) tt
 opens (grammar.a_reference e h) = tt
+opens grammar.a_this = tt
 opens grammar.a_number = tt
 opens (grammar.a_string e) = refl
 opens (grammar.in_parentheses r) = tt

@@ -19,11 +19,12 @@ use Rattle.jsgen_model.specs.Tokens.{Tokens, done, piece, Word, Number, Quoted}
 use Rattle.jsgen_model.specs.Layout.{layout, chosen_quote, Start, nowhere, statement, arrow_body, default_export}
 use Rattle.jsgen_model.specs.Grammar.{Allowed, is_word}
 use Rattle.jsgen_model.specs.Grammar as grammar
-use Rattle.jsgen_model.specs.Normal.{unnumbered, by_text, number_text}
+use Rattle.jsgen_model.specs.Normal.{nothing_of, unnumbered, by_text, number_text}
 use Rattle.jsgen_model.specs.Plain.{is_whole}
 use Rattle.jsgen_model.specs.Spell.{number_item}
+use Rattle.jsgen_token_laws.proofs.Characters.{letters_spelled}
 use Rattle.jsgen_token_laws.proofs.Last.{After, line_of}
-use Rattle.jsgen_token_laws.proofs.Steps.{wrote_name, wrote_number, wrote_quoted}
+use Rattle.jsgen_token_laws.proofs.Steps.{wrote_word, wrote_name, wrote_number, wrote_quoted}
 use Rattle.jsgen_reading_laws.proofs.Levels.{level_of, under, from_primary}
 use Rattle.jsgen_reading_laws.proofs.Families.{IsExpression, AreArguments}
 use Rattle.jsgen_reading_laws.proofs.Families as family
@@ -60,6 +61,26 @@ good_reference c a h place p l z y k =
       reads = from_primary place (grammar.a_reference e h);
       same = refl;
     }
+
+this_begins : (start : Start) (line : Bool) (b : Tokens) → may_begin start (piece line (Word (codes "this")) b) ≡ true
+this_begins nowhere line b = refl
+this_begins statement line b = refl
+this_begins arrow_body line b = refl
+this_begins default_export line b = refl
+
+pub good_this : (c : Allowed) (a : Atoms) → Printed c (tree.this_expression a)
+good_this c a place p l z y k = record {
+  last = _;
+  tokens = piece (line_of l) (Word (codes "this")) done;
+  writes = wrote_word (codes "this") p l (letters_spelled 116 (codes "his") refl) k;
+  operand = tt;
+  semicolon = z;
+  begins = λ b n. this_begins place.start (line_of l) b;
+  line = λ g. ap not g;
+  tree = tree.this_expression (nothing_of 0);
+  reads = from_primary place grammar.a_this;
+  same = refl;
+}
 
 number_begins : (start : Start) (line : Bool) (w : List ℕ) (b : Tokens) → may_begin start (piece line (Number w) b) ≡ true
 number_begins nowhere line w b = refl
@@ -127,6 +148,7 @@ good_parenthesized c a t f place p l z y k =
 mutual
   pub printed_expression : {c : Allowed} {t : Tree} → IsExpression c t → Printed c t
   printed_expression {c} (family.a_reference {a} h) = good_reference c a h
+  printed_expression {c} (family.a_this {a}) = good_this c a
   printed_expression {c} (family.a_number {a} h) = good_number c a h
   printed_expression {c} (family.a_string {a} h) = good_string c a h
   printed_expression {c} (family.in_parentheses {a} {t} v) = good_parenthesized c a t (printed_expression v)

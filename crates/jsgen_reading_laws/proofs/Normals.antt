@@ -68,6 +68,7 @@ mutual
   normal_again (tree.variable_declarator a id init) = let e = normal_again id in let f = normal_maybe_again init in λ i. tree.variable_declarator (nothing_of 1) (e i) (f i)
   normal_again (tree.binding_identifier a) = refl
   normal_again (tree.identifier_reference a) = refl
+  normal_again (tree.this_expression a) = refl
   normal_again (tree.numeric_literal a) = refl
   normal_again (tree.string_literal a) = refl
   normal_again (tree.parenthesized a expression) = normal_again expression

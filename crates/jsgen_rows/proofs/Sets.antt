@@ -31,16 +31,17 @@ of_statement plain f b h0 h1 h2 h3 (statement_rows.BlockStatement r) = h1
 of_statement plain f b h0 h1 h2 h3 (statement_rows.IfStatement r) = h2
 of_statement plain f b h0 h1 h2 h3 (statement_rows.EmptyStatement r) = h3
 
-of_expression : {N : Type 0} (plain : N → Tree) (f : NodeType → Bool) (b : Bool) → f types.IdentifierReference ≡ b → f types.NumericLiteral ≡ b → f types.StringLiteral ≡ b → f types.BinaryExpression ≡ b → f types.LogicalExpression ≡ b → f types.ParenthesizedExpression ≡ b → f types.StaticMemberExpression ≡ b → f types.ComputedMemberExpression ≡ b → f types.CallExpression ≡ b → (r : Expression N) → f (type_of (expression_plain plain r)) ≡ b
-of_expression plain f b h0 h1 h2 h3 h4 h5 h6 h7 h8 (expressions.IdentifierReference r) = h0
-of_expression plain f b h0 h1 h2 h3 h4 h5 h6 h7 h8 (expressions.NumericLiteral r) = h1
-of_expression plain f b h0 h1 h2 h3 h4 h5 h6 h7 h8 (expressions.StringLiteral r) = h2
-of_expression plain f b h0 h1 h2 h3 h4 h5 h6 h7 h8 (expressions.BinaryExpression r) = h3
-of_expression plain f b h0 h1 h2 h3 h4 h5 h6 h7 h8 (expressions.LogicalExpression r) = h4
-of_expression plain f b h0 h1 h2 h3 h4 h5 h6 h7 h8 (expressions.ParenthesizedExpression r) = h5
-of_expression plain f b h0 h1 h2 h3 h4 h5 h6 h7 h8 (expressions.StaticMemberExpression r) = h6
-of_expression plain f b h0 h1 h2 h3 h4 h5 h6 h7 h8 (expressions.ComputedMemberExpression r) = h7
-of_expression plain f b h0 h1 h2 h3 h4 h5 h6 h7 h8 (expressions.CallExpression r) = h8
+of_expression : {N : Type 0} (plain : N → Tree) (f : NodeType → Bool) (b : Bool) → f types.IdentifierReference ≡ b → f types.ThisExpression ≡ b → f types.NumericLiteral ≡ b → f types.StringLiteral ≡ b → f types.BinaryExpression ≡ b → f types.LogicalExpression ≡ b → f types.ParenthesizedExpression ≡ b → f types.StaticMemberExpression ≡ b → f types.ComputedMemberExpression ≡ b → f types.CallExpression ≡ b → (r : Expression N) → f (type_of (expression_plain plain r)) ≡ b
+of_expression plain f b h0 h1 h2 h3 h4 h5 h6 h7 h8 h9 (expressions.IdentifierReference r) = h0
+of_expression plain f b h0 h1 h2 h3 h4 h5 h6 h7 h8 h9 (expressions.ThisExpression r) = h1
+of_expression plain f b h0 h1 h2 h3 h4 h5 h6 h7 h8 h9 (expressions.NumericLiteral r) = h2
+of_expression plain f b h0 h1 h2 h3 h4 h5 h6 h7 h8 h9 (expressions.StringLiteral r) = h3
+of_expression plain f b h0 h1 h2 h3 h4 h5 h6 h7 h8 h9 (expressions.BinaryExpression r) = h4
+of_expression plain f b h0 h1 h2 h3 h4 h5 h6 h7 h8 h9 (expressions.LogicalExpression r) = h5
+of_expression plain f b h0 h1 h2 h3 h4 h5 h6 h7 h8 h9 (expressions.ParenthesizedExpression r) = h6
+of_expression plain f b h0 h1 h2 h3 h4 h5 h6 h7 h8 h9 (expressions.StaticMemberExpression r) = h7
+of_expression plain f b h0 h1 h2 h3 h4 h5 h6 h7 h8 h9 (expressions.ComputedMemberExpression r) = h8
+of_expression plain f b h0 h1 h2 h3 h4 h5 h6 h7 h8 h9 (expressions.CallExpression r) = h9
 
 -- ---- set by set
 
@@ -54,7 +55,7 @@ pub no_statement_is_a_program : {N : Type 0} (plain : N → Tree) (r : Statement
 no_statement_is_a_program plain r = of_statement plain is_program false refl refl refl refl r
 
 pub no_expression_is_a_program : {N : Type 0} (plain : N → Tree) (r : Expression N) → is_program (type_of (expression_plain plain r)) ≡ false
-no_expression_is_a_program plain r = of_expression plain is_program false refl refl refl refl refl refl refl refl refl r
+no_expression_is_a_program plain r = of_expression plain is_program false refl refl refl refl refl refl refl refl refl refl r
 
 pub no_declaration_is_a_directive : {N : Type 0} (plain : N → Tree) (r : Declaration N) → is_directive (type_of (declaration_plain plain r)) ≡ false
 no_declaration_is_a_directive plain r = of_declaration plain is_directive false refl r
@@ -66,7 +67,7 @@ pub no_statement_is_a_directive : {N : Type 0} (plain : N → Tree) (r : Stateme
 no_statement_is_a_directive plain r = of_statement plain is_directive false refl refl refl refl r
 
 pub no_expression_is_a_directive : {N : Type 0} (plain : N → Tree) (r : Expression N) → is_directive (type_of (expression_plain plain r)) ≡ false
-no_expression_is_a_directive plain r = of_expression plain is_directive false refl refl refl refl refl refl refl refl refl r
+no_expression_is_a_directive plain r = of_expression plain is_directive false refl refl refl refl refl refl refl refl refl refl r
 
 pub each_declaration_is_a_statement : {N : Type 0} (plain : N → Tree) (r : Declaration N) → is_statement (type_of (declaration_plain plain r)) ≡ true
 each_declaration_is_a_statement plain r = of_declaration plain is_statement true refl r
@@ -78,7 +79,7 @@ pub each_statement_is_a_statement : {N : Type 0} (plain : N → Tree) (r : State
 each_statement_is_a_statement plain r = of_statement plain is_statement true refl refl refl refl r
 
 pub no_expression_is_a_statement : {N : Type 0} (plain : N → Tree) (r : Expression N) → is_statement (type_of (expression_plain plain r)) ≡ false
-no_expression_is_a_statement plain r = of_expression plain is_statement false refl refl refl refl refl refl refl refl refl r
+no_expression_is_a_statement plain r = of_expression plain is_statement false refl refl refl refl refl refl refl refl refl refl r
 
 pub no_declaration_is_a_variable_declarator : {N : Type 0} (plain : N → Tree) (r : Declaration N) → is_variable_declarator (type_of (declaration_plain plain r)) ≡ false
 no_declaration_is_a_variable_declarator plain r = of_declaration plain is_variable_declarator false refl r
@@ -90,7 +91,7 @@ pub no_statement_is_a_variable_declarator : {N : Type 0} (plain : N → Tree) (r
 no_statement_is_a_variable_declarator plain r = of_statement plain is_variable_declarator false refl refl refl refl r
 
 pub no_expression_is_a_variable_declarator : {N : Type 0} (plain : N → Tree) (r : Expression N) → is_variable_declarator (type_of (expression_plain plain r)) ≡ false
-no_expression_is_a_variable_declarator plain r = of_expression plain is_variable_declarator false refl refl refl refl refl refl refl refl refl r
+no_expression_is_a_variable_declarator plain r = of_expression plain is_variable_declarator false refl refl refl refl refl refl refl refl refl refl r
 
 pub no_declaration_is_a_binding_pattern : {N : Type 0} (plain : N → Tree) (r : Declaration N) → is_binding_pattern (type_of (declaration_plain plain r)) ≡ false
 no_declaration_is_a_binding_pattern plain r = of_declaration plain is_binding_pattern false refl r
@@ -102,7 +103,7 @@ pub no_statement_is_a_binding_pattern : {N : Type 0} (plain : N → Tree) (r : S
 no_statement_is_a_binding_pattern plain r = of_statement plain is_binding_pattern false refl refl refl refl r
 
 pub no_expression_is_a_binding_pattern : {N : Type 0} (plain : N → Tree) (r : Expression N) → is_binding_pattern (type_of (expression_plain plain r)) ≡ false
-no_expression_is_a_binding_pattern plain r = of_expression plain is_binding_pattern false refl refl refl refl refl refl refl refl refl r
+no_expression_is_a_binding_pattern plain r = of_expression plain is_binding_pattern false refl refl refl refl refl refl refl refl refl refl r
 
 pub no_declaration_is_an_expression : {N : Type 0} (plain : N → Tree) (r : Declaration N) → is_expression (type_of (declaration_plain plain r)) ≡ false
 no_declaration_is_an_expression plain r = of_declaration plain is_expression false refl r
@@ -114,7 +115,7 @@ pub no_statement_is_an_expression : {N : Type 0} (plain : N → Tree) (r : State
 no_statement_is_an_expression plain r = of_statement plain is_expression false refl refl refl refl r
 
 pub each_expression_is_an_expression : {N : Type 0} (plain : N → Tree) (r : Expression N) → is_expression (type_of (expression_plain plain r)) ≡ true
-each_expression_is_an_expression plain r = of_expression plain is_expression true refl refl refl refl refl refl refl refl refl r
+each_expression_is_an_expression plain r = of_expression plain is_expression true refl refl refl refl refl refl refl refl refl refl r
 
 pub no_declaration_is_an_identifier_name : {N : Type 0} (plain : N → Tree) (r : Declaration N) → is_identifier_name (type_of (declaration_plain plain r)) ≡ false
 no_declaration_is_an_identifier_name plain r = of_declaration plain is_identifier_name false refl r
@@ -126,7 +127,7 @@ pub no_statement_is_an_identifier_name : {N : Type 0} (plain : N → Tree) (r : 
 no_statement_is_an_identifier_name plain r = of_statement plain is_identifier_name false refl refl refl refl r
 
 pub no_expression_is_an_identifier_name : {N : Type 0} (plain : N → Tree) (r : Expression N) → is_identifier_name (type_of (expression_plain plain r)) ≡ false
-no_expression_is_an_identifier_name plain r = of_expression plain is_identifier_name false refl refl refl refl refl refl refl refl refl r
+no_expression_is_an_identifier_name plain r = of_expression plain is_identifier_name false refl refl refl refl refl refl refl refl refl refl r
 
 pub program_type : (t : NodeType) → is_program t ≡ true → t ≡ types.Program
 program_type types.Program h = refl
@@ -139,6 +140,7 @@ program_type types.BlockStatement h = cc
 program_type types.IfStatement h = cc
 program_type types.EmptyStatement h = cc
 program_type types.IdentifierReference h = cc
+program_type types.ThisExpression h = cc
 program_type types.NumericLiteral h = cc
 program_type types.StringLiteral h = cc
 program_type types.ParenthesizedExpression h = cc

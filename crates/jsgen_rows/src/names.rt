@@ -5,7 +5,7 @@ ghost use Rattle.jsgen_rows.specs.Names.{first_named, type_named};
 
 use jsgen_tree::NodeType;
 
-const TYPE_NAMES: [(&str, NodeType); 19] = [
+const TYPE_NAMES: [(&str, NodeType); 20] = [
     ("Program", NodeType::Program),
     ("Directive", NodeType::Directive),
     ("VariableDeclaration", NodeType::VariableDeclaration),
@@ -16,6 +16,7 @@ const TYPE_NAMES: [(&str, NodeType); 19] = [
     ("IfStatement", NodeType::IfStatement),
     ("EmptyStatement", NodeType::EmptyStatement),
     ("IdentifierReference", NodeType::IdentifierReference),
+    ("ThisExpression", NodeType::ThisExpression),
     ("NumericLiteral", NodeType::NumericLiteral),
     ("StringLiteral", NodeType::StringLiteral),
     ("ParenthesizedExpression", NodeType::ParenthesizedExpression),

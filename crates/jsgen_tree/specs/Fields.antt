@@ -62,6 +62,9 @@ empty_statement_fields = []
 abbrev pub identifier_reference_fields : List Field
 identifier_reference_fields = needs (codes "name") sorts.text ∷ not_yet (codes "reference") sorts.number ∷ []
 
+abbrev pub this_expression_fields : List Field
+this_expression_fields = []
+
 abbrev pub numeric_literal_fields : List Field
 numeric_literal_fields = needs (codes "kind") (sorts.word numeric_kind_words) ∷ not_yet (codes "negative") sorts.flag ∷ needs_for (codes "whole") (codes "digits") sorts.digits ∷ not_yet (codes "text") sorts.text ∷ []
 
@@ -100,6 +103,7 @@ fields types.BlockStatement = block_statement_fields
 fields types.IfStatement = if_statement_fields
 fields types.EmptyStatement = empty_statement_fields
 fields types.IdentifierReference = identifier_reference_fields
+fields types.ThisExpression = this_expression_fields
 fields types.NumericLiteral = numeric_literal_fields
 fields types.StringLiteral = string_literal_fields
 fields types.ParenthesizedExpression = parenthesized_expression_fields

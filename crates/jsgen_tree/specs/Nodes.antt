@@ -33,6 +33,9 @@ empty_statement a = node types.EmptyStatement a no_slots
 pattern abbrev pub identifier_reference : Atoms → Tree
 identifier_reference a = node types.IdentifierReference a no_slots
 
+pattern abbrev pub this_expression : Atoms → Tree
+this_expression a = node types.ThisExpression a no_slots
+
 pattern abbrev pub numeric_literal : Atoms → Tree
 numeric_literal a = node types.NumericLiteral a no_slots
 

@@ -15,6 +15,12 @@ pub struct IdentifierReference {
     pub name: String,
 }
 
+/// The keyword `this` (ECMA-262, 13.2.1).
+#[derive(Drop)]
+pub struct ThisExpression {
+    pub span: Span,
+}
+
 /// A number by its value (ECMA-262, 12.9.3).
 #[derive(Drop)]
 pub struct NumericLiteral {

@@ -21,7 +21,7 @@ mod types;
 pub use expressions::{
     BinaryExpression, CallExpression, ComputedMemberExpression, IdentifierName,
     IdentifierReference, LogicalExpression, NumericLiteral, ParenthesizedExpression,
-    StaticMemberExpression, StringLiteral,
+    StaticMemberExpression, StringLiteral, ThisExpression,
 };
 pub use laws::fields_are_named;
 pub use nodes::{BindingPatternNode, DeclarationNode, ExpressionNode, Node, StatementNode};

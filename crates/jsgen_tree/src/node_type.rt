@@ -16,6 +16,7 @@ impl Expression {
     {
         match self {
             Expression::IdentifierReference(_) => NodeType::IdentifierReference,
+            Expression::ThisExpression(_) => NodeType::ThisExpression,
             Expression::NumericLiteral(_) => NodeType::NumericLiteral,
             Expression::StringLiteral(_) => NodeType::StringLiteral,
             Expression::BinaryExpression(_) => NodeType::BinaryExpression,

@@ -4,7 +4,7 @@
 use crate::expressions::{
     BinaryExpression, CallExpression, ComputedMemberExpression, IdentifierReference,
     LogicalExpression, NumericLiteral, ParenthesizedExpression, StaticMemberExpression,
-    StringLiteral,
+    StringLiteral, ThisExpression,
 };
 use crate::nodes::{DeclarationNode, ExpressionNode, Node};
 use crate::statements::{
@@ -15,6 +15,7 @@ use crate::statements::{
 #[derive(Drop)]
 pub enum Expression<N = Node> {
     IdentifierReference(Box<IdentifierReference>),
+    ThisExpression(Box<ThisExpression>),
     NumericLiteral(Box<NumericLiteral>),
     StringLiteral(Box<StringLiteral>),
     BinaryExpression(Box<BinaryExpression<N>>),

@@ -8,7 +8,7 @@ ghost use Rattle.jsgen_tree.specs.Spans.{expression_span, argument_span, declara
 use crate::expressions::{
     BinaryExpression, CallExpression, ComputedMemberExpression, IdentifierName,
     IdentifierReference, LogicalExpression, NumericLiteral, ParenthesizedExpression,
-    StaticMemberExpression, StringLiteral,
+    StaticMemberExpression, StringLiteral, ThisExpression,
 };
 use crate::nodes::Node;
 use crate::sets::{Argument, BindingPattern, Declaration, Expression, Statement};
@@ -108,6 +108,14 @@ impl GetSpan for IdentifierReference {
     }
 }
 
+impl GetSpan for ThisExpression {
+    ghost own_span = { λ n. n.span };
+
+    fn span(&self) -> Span {
+        self.span
+    }
+}
+
 impl GetSpan for NumericLiteral {
     ghost own_span = { λ n. n.span };
 
@@ -186,6 +194,7 @@ impl<N> GetSpan for Expression<N> {
     fn span(&self) -> Span {
         match self {
             Expression::IdentifierReference(node) => node.span,
+            Expression::ThisExpression(node) => node.span,
             Expression::NumericLiteral(node) => node.span,
             Expression::StringLiteral(node) => node.span,
             Expression::BinaryExpression(node) => node.span,

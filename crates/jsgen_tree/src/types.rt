@@ -16,6 +16,7 @@ pub enum NodeType {
     IfStatement,
     EmptyStatement,
     IdentifierReference,
+    ThisExpression,
     NumericLiteral,
     StringLiteral,
     ParenthesizedExpression,
@@ -62,6 +63,7 @@ impl NodeType {
         matches!(
             &self,
             NodeType::IdentifierReference
+                | NodeType::ThisExpression
                 | NodeType::NumericLiteral
                 | NodeType::StringLiteral
                 | NodeType::BinaryExpression

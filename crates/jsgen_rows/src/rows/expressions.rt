@@ -2,7 +2,7 @@
 // Rows of a job: expressions (ECMA-262, clause 13).
 ghost use Rattle.std.specs.Prelude.{◌≡◌, false};
 ghost use Rattle.serde_json.specs.View.{view};
-ghost use Rattle.jsgen_tree.specs.Fields.{identifier_reference_fields, string_literal_fields, parenthesized_expression_fields, binary_expression_fields, logical_expression_fields, identifier_name_fields, static_member_expression_fields, computed_member_expression_fields, call_expression_fields};
+ghost use Rattle.jsgen_tree.specs.Fields.{identifier_reference_fields, this_expression_fields, string_literal_fields, parenthesized_expression_fields, binary_expression_fields, logical_expression_fields, identifier_name_fields, static_member_expression_fields, computed_member_expression_fields, call_expression_fields};
 ghost use Rattle.jsgen_rows.specs.Reads.{Gives, read_node, read_typed};
 ghost use Rattle.jsgen_rows.specs.Kept.{entries, row_plain};
 ghost use Rattle.jsgen_rows.specs.Parts.{is_in_statements};
@@ -21,7 +21,7 @@ use jsgen_syntax::Span;
 use jsgen_tree::{
     BinaryExpression, CallExpression, ComputedMemberExpression, Expression, IdentifierName,
     IdentifierReference, LogicalExpression, NodeType, ParenthesizedExpression,
-    StaticMemberExpression, StringLiteral,
+    StaticMemberExpression, StringLiteral, ThisExpression,
 };
 use serde_json::Value;
 use std::alloc::Global;
@@ -48,6 +48,27 @@ fn read_identifier_reference<N: ReadNode + Drop>(
     let node = IdentifierReference { span, name };
     match boxed(alloc, node) {
         Ok(node) => expression_row(alloc, Expression::IdentifierReference(node)),
+        Err(fault) => Err(fault),
+    }
+}
+
+#[tactic(auto, unfolding(crate::specs::Reads::read_node))]
+fn read_this_expression<N: ReadNode + Drop>(
+    alloc: Global,
+    kept: &mut Vec<Kept<Row<N>>>,
+    number: usize,
+    span: Span,
+    row: &Value,
+) -> Result<Row<N>, InputFault>
+    ensures { Gives (row_plain N.plain) result (entries N.plain kept.new.items)
+        (read_node number types.ThisExpression this_expression_fields span (view row.now) (entries N.plain kept.old.items)) }
+{
+    let _ = kept;
+    let _ = number;
+    let _ = row;
+    let node = ThisExpression { span };
+    match boxed(alloc, node) {
+        Ok(node) => expression_row(alloc, Expression::ThisExpression(node)),
         Err(fault) => Err(fault),
     }
 }
@@ -330,6 +351,7 @@ pub fn read_in_expressions<N: ReadNode + Drop>(
 {
     match node_type {
         NodeType::IdentifierReference => read_identifier_reference(alloc, kept, number, span, row),
+        NodeType::ThisExpression => read_this_expression(alloc, kept, number, span, row),
         NodeType::NumericLiteral => read_numeric_literal(alloc, kept, number, span, row),
         NodeType::StringLiteral => read_string_literal(alloc, kept, number, span, row),
         NodeType::ParenthesizedExpression => read_parenthesized_expression(
