@@ -29,15 +29,22 @@ first_named (n ∷ ns) s = if bytes_eq s n.0 then Some n.1 else first_named ns s
     for name, types in tables.items():
         rows = " ∷ ".join([f'(codes "{t}", types.{t})' for t in types] + ["[]"])
         parts.append(f"abbrev pub {name} : List (List ℕ × NodeType)\n{name} = {rows}")
-    parts.append(f"-- the type that a name names\nunfoldable pub type_named : List ℕ → Option NodeType\ntype_named s = {either(list(tables))}")
+    if len(tables) > 1:
+        parts += [f"unfoldable pub in_{t} : List ℕ → Option NodeType\nin_{t} s = first_named {t} s" for t in tables]
+    whole = "abbrev" if len(tables) > 1 else "unfoldable"
+    parts.append(f"-- the type that a name names\n{whole} pub type_named : List ℕ → Option NodeType\ntype_named s = {either(list(tables))}")
     homes = [("Rattle.std.specs.Prelude", ["ℕ", "List", "[]", "◌∷◌", "codes", "Option", "Some", "None", "if◌then◌else◌"]),
              ("Rattle.std.specs.Str", ["bytes_eq"])] + types_in_antt(None)
     return layout.antt("The types of nodes by their names.", homes, TYPES, "\n\n".join(parts))
 
 
 def either(tables):
-    first, *rest = tables
-    return f"or_else (first_named {first} s) ({either(rest)})" if rest else f"first_named {first} s"
+    if len(tables) == 1:
+        return f"first_named {tables[0]} s"
+    text = f"in_{tables[-1]} s"
+    for t in reversed(tables[:-1]):
+        text = f"or_else (in_{t} s) ({text})"
+    return text
 
 
 def rust(tables):
@@ -54,19 +61,29 @@ def rust(tables):
         }
     }
     None
-}""", by_name([name.upper() for name in tables])]
-    ghosts = [("Rattle.std.specs.Prelude", ["◌≡◌", "map"]), (f"{READER}.specs.Names", ["first_named", "type_named"])]
+}""", by_name(list(tables))]
+    ghosts = [("Rattle.std.specs.Prelude", ["◌≡◌", "map"]), (f"{READER}.specs.Names", ["first_named", "type_named"] + [f"in_{t}" for t in tables])]
     return layout.rust("The names of types.", ghosts, [], [("jsgen_tree", ["NodeType"])], "\n\n".join(parts))
 
 
 def by_name(tables):
-    tried = "".join(f"    if let Some(found) = first_named(&{t}, name) {{\n        return Some(found);\n    }}\n" for t in tables[:-1])
-    return f"""/// The type that a name names.
-#[tactic(auto, unfolding(crate::specs::Names::type_named))]
+    if len(tables) == 1:
+        return search("/// The type that a name names.\n", "pub fn type_by_name", "type_named", tables[0])
+    tried = "".join(f"    if let Some(found) = in_{t}(name) {{\n        return Some(found);\n    }}\n" for t in tables[:-1])
+    return "\n\n".join([search("", f"fn in_{t}", f"in_{t}", t) for t in tables] + [f"""/// The type that a name names.
 pub fn type_by_name(name: &str) -> Option<NodeType>
     ensures {{ result ≡ type_named name.now }}
 {{
-{tried}    first_named(&{tables[-1]}, name)
+{tried}    in_{tables[-1]}(name)
+}}"""])
+
+
+def search(doc, head, definition, table):
+    return f"""{doc}#[tactic(auto, unfolding(crate::specs::Names::{definition}))]
+{head}(name: &str) -> Option<NodeType>
+    ensures {{ result ≡ {definition} name.now }}
+{{
+    first_named(&{table.upper()}, name)
 }}"""
 
 
