@@ -1,7 +1,8 @@
 """jsgen_check's src/height.rt: whether a tree is higher than a number, with the proofs of its loops."""
 
 import layout
-from names import SPECS, plain_of, row_names
+from children import child_type, each, kinds_of, nests, plain, plural
+from names import SPECS, row_names
 from table import snake
 
 CHECK = "crates/jsgen_check"
@@ -32,18 +33,9 @@ def write(table):
 
 # ---- what the table says of children
 
-def kinds_of(table, many):
-    """The sets and types of the children that are lists or optional, in the order of their first use."""
-    return list(dict.fromkeys(f.kind for n in table.nodes.values() for f in table.children(n) if f.many == many))
-
-
 def is_held(table, name):
     """Whether the type is itself the kind of a child."""
     return any(f.kind == name for n in table.nodes.values() for f in table.children(n))
-
-
-def nests(table, kind):
-    return kind in table.sets and table.sets[kind].nests
 
 
 # ---- names and types
@@ -53,26 +45,7 @@ def is_higher(kind):
 
 
 def are_higher(kind):
-    name = snake(kind)
-    return f"are_{name[:-1] + 'ie' if name.endswith('y') else name + 'e' if name.endswith('s') else name}s_higher"
-
-
-def child_type(table, kind):
-    """The type of a child in Rust, and the parameter of a function over it."""
-    if nests(table, kind):
-        return f"{kind}Node<N>", "<N: CheckNode>"
-    return (f"{kind}<N>", "<N: CheckNode>") if table.generic(kind) else (kind, "")
-
-
-def plain(table, kind, of="N.plain"):
-    """The function that gives a child's plain data."""
-    row, takes = plain_of(table, kind)
-    return f"{row} {of}" if takes else row
-
-
-def each(table, kind, of="N.plain"):
-    row = plain(table, kind, of)
-    return f"({row})" if " " in row else row
+    return f"are_{plural(kind)}_higher"
 
 
 def asked(table, kind, node, levels):

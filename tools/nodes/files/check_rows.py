@@ -2,7 +2,8 @@
 row's own rules are stands by hand in crates/jsgen_check/src/rules.rt, for each type that has `rules` in the table."""
 
 import layout
-from names import SPECS, plain_of, row_names
+from children import child_type, each, kinds_of, nests, plain, plural, typed
+from names import SPECS, row_names
 from table import snake
 
 CHECK = "crates/jsgen_check"
@@ -55,15 +56,6 @@ def rust(table, about, body):
 
 # ---- names
 
-def kinds_of(table, many):
-    """The sets and types of the children that are lists or optional, in the order of their first use."""
-    return list(dict.fromkeys(f.kind for n in table.nodes.values() for f in table.children(n) if f.many == many))
-
-
-def nests(table, kind):
-    return kind in table.sets and table.sets[kind].nests
-
-
 def check(name):
     """`check_program` is the call of the whole checker."""
     return "check_" + snake(name) + ("_row" if name == "Program" else "")
@@ -74,30 +66,11 @@ def rules(n):
 
 
 def check_all(kind):
-    name = snake(kind)
-    return f"check_{name[:-1] + 'ie' if name.endswith('y') else name + 'e' if name.endswith('s') else name}s"
+    return f"check_{plural(kind)}"
 
 
 def check_optional(kind):
     return "check_optional_" + snake(kind)
-
-
-def typed(table, name):
-    return (f"{name}<N>", "<N: CheckNode>") if table.generic(name) else (name, "")
-
-
-def child_type(table, kind):
-    return (f"{kind}Node<N>", "<N: CheckNode>") if nests(table, kind) else typed(table, kind)
-
-
-def plain(table, kind, of="N.plain"):
-    row, takes = plain_of(table, kind)
-    return f"{row} {of}" if takes else row
-
-
-def each(table, kind, of="N.plain"):
-    row = plain(table, kind, of)
-    return f"({row})" if " " in row else row
 
 
 # ---- rows
