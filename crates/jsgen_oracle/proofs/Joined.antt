@@ -100,6 +100,7 @@ expression_joined (grammar.a_conjunction m e l r) = made _ _ (piece m (Sign and_
 expression_joined (grammar.a_disjunction m e l r) = made _ _ (piece m (Sign or_or) _) e (expression_joined l) (expression_joined r)
 expression_joined (grammar.a_coalescing m e l r) = made _ _ (piece m (Sign nullish) _) e (expression_joined l) (expression_joined r)
 expression_joined (grammar.a_reference e h) = refl
+expression_joined grammar.a_this = refl
 expression_joined grammar.a_number = refl
 expression_joined (grammar.a_string e) = refl
 expression_joined (grammar.in_parentheses {ts = ts} r) = and_from (may_be_given ts) true (given_from ts (expression_starts r)) refl

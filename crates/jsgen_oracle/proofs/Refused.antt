@@ -81,13 +81,13 @@ abbrev pub begins_with_name : Tokens → Bool
 begins_with_name (piece m (Word w) ts) = true
 begins_with_name ts = false
 
--- the word may be a reference
-abbrev is_free_word : List ℕ → Bool
-is_free_word w = option_map_or is_free_name (word_value w) false
+-- the word may be an operand: `this`, or a reference
+abbrev is_operand_word : List ℕ → Bool
+is_operand_word w = bytes_eq w (codes "this") || option_map_or is_free_name (word_value w) false
 
 -- an operand that a sign, a bracket or nothing follows
 abbrev pub starts_well : Tokens → Bool
-starts_well (piece m (Word w) ts) = is_free_word w && goes_on ts
+starts_well (piece m (Word w) ts) = is_operand_word w && goes_on ts
 starts_well (piece m (Number w) ts) = goes_on ts
 starts_well (piece m (Quoted q w) ts) = goes_on ts
 starts_well (group m Round inside ts) = goes_on ts
@@ -105,7 +105,7 @@ goes_to_body ts = false
 
 -- a word before an operand's end, `const` and a name, or `if` and what it needs
 abbrev word_begins_well : List ℕ → Tokens → Bool
-word_begins_well w ts = (is_free_word w && goes_on ts) || ((bytes_eq w (codes "const") && begins_with_name ts) || (bytes_eq w (codes "if") && goes_to_body ts))
+word_begins_well w ts = (is_operand_word w && goes_on ts) || ((bytes_eq w (codes "const") && begins_with_name ts) || (bytes_eq w (codes "if") && goes_to_body ts))
 
 -- a statement begins so: with an operand, a declaration, `if`, a semicolon or a brace group
 abbrev begins_well : Tokens → Bool
@@ -131,7 +131,7 @@ named_further (group n d inside ts) b h = absurd (both_ways false refl h)
 
 starts_further : (ts b : Tokens) → goes_on b ≡ true → starts_well ts ≡ true → starts_well (ts ⧺ b) ≡ true
 starts_further done b j h = absurd (both_ways false refl h)
-starts_further (piece n (Word w) ts) b j h = let k = and_parts (is_free_word w) (goes_on ts) h in and_from _ _ k.0 (goes_further ts b j k.1)
+starts_further (piece n (Word w) ts) b j h = let k = and_parts (is_operand_word w) (goes_on ts) h in and_from _ _ k.0 (goes_further ts b j k.1)
 starts_further (piece n (Number w) ts) b j h = goes_further ts b j h
 starts_further (piece n (Quoted q w) ts) b j h = goes_further ts b j h
 starts_further (piece n (Sign r) ts) b j h = absurd (both_ways false refl h)
@@ -204,7 +204,8 @@ expression_starts (grammar.a_coalesce r) = expression_starts r
 expression_starts (grammar.a_coalescing m e l r) = joined _ _ (piece m (Sign nullish) _) refl e (expression_starts l)
 expression_starts (grammar.a_coalesced_head r) = expression_starts r
 expression_starts (grammar.a_bit_or_head r) = expression_starts r
-expression_starts (grammar.a_reference {w = w} e h) = and_from (is_free_word w) true (ap (λ o. option_map_or is_free_name o false) e ∙ h) refl
+expression_starts (grammar.a_reference {w = w} e h) = and_from (is_operand_word w) true (or_right (bytes_eq w (codes "this")) _ (ap (λ o. option_map_or is_free_name o false) e ∙ h)) refl
+expression_starts grammar.a_this = refl
 expression_starts grammar.a_number = refl
 expression_starts (grammar.a_string e) = refl
 expression_starts (grammar.in_parentheses r) = refl
@@ -240,17 +241,17 @@ expression_begins {ts = ts} r b j = operand_begins (ts ⧺ b) (starts_further ts
 
 -- a statement begins with no `const`
 
-const_is_reserved : is_free_word (codes "const") ≡ false
+const_is_reserved : is_operand_word (codes "const") ≡ false
 unfolding unicode_ident word_value is_reserved is_strict_reserved encode
 const_is_reserved = refl
 
-no_free_name : (w : List ℕ) (x : Bool) → bytes_eq w (codes "const") ≡ x → is_free_word w ≡ true → x ≡ false
-no_free_name w true e h = absurd (both_ways (is_free_word (codes "const")) const_is_reserved (subst (λ v. is_free_word v ≡ true) ((bytes_eq-Decides w (codes "const")).0 e) h))
+no_free_name : (w : List ℕ) (x : Bool) → bytes_eq w (codes "const") ≡ x → is_operand_word w ≡ true → x ≡ false
+no_free_name w true e h = absurd (both_ways (is_operand_word (codes "const")) const_is_reserved (subst (λ v. is_operand_word v ≡ true) ((bytes_eq-Decides w (codes "const")).0 e) h))
 no_free_name w false e h = refl
 
 operand_no_const : (ts b : Tokens) → starts_well ts ≡ true → begins_with_const (ts ⧺ b) ≡ false
 operand_no_const done b h = absurd (both_ways false refl h)
-operand_no_const (piece m (Word w) ts) b h = no_free_name w (bytes_eq w (codes "const")) refl (and_parts (is_free_word w) (goes_on ts) h).0
+operand_no_const (piece m (Word w) ts) b h = no_free_name w (bytes_eq w (codes "const")) refl (and_parts (is_operand_word w) (goes_on ts) h).0
 operand_no_const (piece m (Number w) ts) b h = refl
 operand_no_const (piece m (Quoted q w) ts) b h = refl
 operand_no_const (piece m (Sign r) ts) b h = refl
@@ -300,7 +301,7 @@ body_begins next test (piece m p ts) n h = ap not n
 body_begins next test (group m d inside ts) n h = ap not n
 
 if_begins : (next : Bool) (test ts : Tokens) → goes_to_body (group next Round test ts) ≡ true → word_begins_well (codes "if") (group next Round test ts) ≡ true
-if_begins next test ts h = or_right (is_free_word (codes "if") && goes_on (group next Round test ts)) _ (or_right (bytes_eq (codes "if") (codes "const") && begins_with_name (group next Round test ts)) _ h)
+if_begins next test ts h = or_right (is_operand_word (codes "if") && goes_on (group next Round test ts)) _ (or_right (bytes_eq (codes "if") (codes "const") && begins_with_name (group next Round test ts)) _ h)
 
 -- before a semicolon
 semicolon_begins : {ts a : Tokens} → EndsBy false ts a → ((d : Tokens) → goes_on d ≡ true → begins_well (a ⧺ d) ≡ true) → (b : Tokens) → begins_well (ts ⧺ b) ≡ true
