@@ -11,6 +11,12 @@ def snake(name):
     return re.sub(r"(?<=[a-z0-9])(?=[A-Z])", "_", name).lower()
 
 
+def spoken(name):
+    """The name in words, with its article."""
+    words = snake(name).replace("_", " ")
+    return ("an " if words[0] in "aeiou" else "a ") + words
+
+
 @dataclass
 class Field:
     name: str

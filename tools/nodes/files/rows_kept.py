@@ -2,7 +2,7 @@
 
 import layout
 from names import READER, SPECS, row_names
-from table import snake
+from table import snake, spoken
 
 # ---- how each type is kept, for all files of the reader
 
@@ -86,11 +86,6 @@ def own_enum(table, s):
 #[derive(Drop)]
 pub enum {kept(table, s)}<N = Node> {{
 {variants}}}"""
-
-
-def spoken(name):
-    words = snake(name).replace("_", " ")
-    return ("an " if words[0] in "aeiou" else "a ") + words
 
 
 def signatures(table, s):

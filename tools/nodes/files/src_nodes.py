@@ -2,7 +2,7 @@
 
 import layout
 from names import DECLARED, sets_in_rust
-from table import snake
+from table import spoken
 
 
 def write(table):
@@ -18,11 +18,6 @@ pub enum Node {{
     ghosts = [("Rattle.std.specs.Prelude", ["◌≡◌"])]
     aliases = [(f"{DECLARED}.nodes.Node.TheVariants", "nodes")]
     return {"src/nodes.rt": layout.rust(about, ghosts, aliases, sets_in_rust(table), body)}
-
-
-def spoken(name):
-    words = snake(name).replace("_", " ")
-    return ("an " if words[0] in "aeiou" else "a ") + words
 
 
 def wrapper(s):
