@@ -9,10 +9,12 @@ use Rattle.jsgen_syntax.specs.declared.operator.BinaryOperator.{BinaryOperator}
 use Rattle.jsgen_syntax.specs.declared.operator.BinaryOperator.TheVariants as operators
 use Rattle.jsgen_syntax.specs.declared.operator.LogicalOperator.{LogicalOperator}
 use Rattle.jsgen_syntax.specs.declared.operator.LogicalOperator.TheVariants as logical_operators
+use Rattle.jsgen_tree.specs.declared.types.NodeType.{NodeType}
+use Rattle.jsgen_tree.specs.declared.types.NodeType.TheVariants as types
 use Rattle.jsgen_tree.specs.Inside.{without_parentheses, ends_open}
 use Rattle.jsgen_tree.specs.Words.{declaration_word}
 use Rattle.jsgen_tree.specs.Number.{NumericKind, Whole, Raw}
-use Rattle.jsgen_tree.specs.Tree.{Tree, Maybe, absent, given, Trees, no_trees, more, hole, Atoms}
+use Rattle.jsgen_tree.specs.Tree.{Tree, Maybe, absent, given, Trees, no_trees, more, hole, Atoms, type_of}
 use Rattle.jsgen_tree.specs.Values.{as_text, directive_directive, variable_declaration_kind, binding_identifier_name, identifier_reference_name, identifier_name_name, numeric_literal_kind, numeric_literal_digits, string_literal_value, binary_expression_operator, logical_expression_operator}
 use Rattle.jsgen_tree.specs.Job.{Tables, JobData}
 use Rattle.jsgen_tree.specs.Nodes as tree
@@ -226,11 +228,14 @@ block_items false items = items
 pub data Shape : Type 0 where
   a_block an_if an_empty other : Shape
 
+abbrev pub shape_of_type : NodeType → Shape
+shape_of_type types.BlockStatement = a_block
+shape_of_type types.IfStatement = an_if
+shape_of_type types.EmptyStatement = an_empty
+shape_of_type type = other
+
 abbrev pub shape : Tree → Shape
-shape (tree.block a body) = a_block
-shape (tree.if_statement a test consequent alternate) = an_if
-shape (tree.empty_statement a) = an_empty
-shape t = other
+shape t = shape_of_type (type_of t)
 
 -- behind braces, and behind another body: whether `else` follows
 abbrev pub braces_end : Bool → Items

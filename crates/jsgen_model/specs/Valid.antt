@@ -5,6 +5,8 @@ use Rattle.jsgen_syntax.specs.Name.{spells_name, is_free_name}
 use Rattle.jsgen_syntax.specs.Raw.{directive_value}
 use Rattle.jsgen_syntax.specs.declared.span.Span.{Span}
 use Rattle.jsgen_tree.specs.declared.types.NodeSet.{NodeSet}
+use Rattle.jsgen_tree.specs.declared.types.NodeType.{NodeType}
+use Rattle.jsgen_tree.specs.declared.types.NodeType.TheVariants as types
 use Rattle.jsgen_tree.specs.Options.{Options}
 use Rattle.jsgen_tree.specs.Job.{Tables, JobData}
 use Rattle.jsgen_tree.specs.Table.{child_sets}
@@ -59,9 +61,12 @@ declaration_faults s no_trees = faults.Place s.start ∷ []
 declaration_faults s ts = []
 
 -- what `if` and `else` are followed by is no lexical declaration (ECMA-262, 14.6)
+abbrev pub is_lexical_type : NodeType → Bool
+is_lexical_type types.VariableDeclaration = true
+is_lexical_type type = false
+
 abbrev pub is_lexical : Tree → Bool
-is_lexical (tree.variable_declaration a declarations) = true
-is_lexical t = false
+is_lexical t = is_lexical_type (type_of t)
 
 abbrev pub body_faults : Tree → List TreeFault
 body_faults t = fault_if (is_lexical t) (faults.Place (span_of t).start)

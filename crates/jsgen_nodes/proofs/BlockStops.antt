@@ -8,8 +8,8 @@ use Rattle.jsgen_model.specs.Layout.{Pen, layout, written, other_end}
 use Rattle.jsgen_model.specs.Spell.{Settings, spell, shape, consequent_items, filled_braces, body_end, within_statement, among_statements}
 use Rattle.jsgen_model.specs.Printing.{IsPrefix, Stops}
 use Rattle.jsgen_nodes.specs.Blocks.{shape_of, braces_opened, braces_closed, consequent_of, test_ended}
-use Rattle.jsgen_nodes.specs.declared.shapes.Shape.{Shape}
-use Rattle.jsgen_nodes.specs.declared.shapes.Shape.TheVariants as shapes
+use Rattle.jsgen_nodes.specs.declared.shapes.BodyShape.{BodyShape}
+use Rattle.jsgen_nodes.specs.declared.shapes.BodyShape.TheVariants as shapes
 use Rattle.jsgen_printer.specs.Printer.{at_depth}
 use Rattle.jsgen_printer.proofs.Prefixes.{whole_prefix, prefix_append, more_prefix, prefix_of_prefix}
 use Rattle.jsgen_printer.proofs.Stops.{layout_appends, layout_more, stops_within}
@@ -36,11 +36,11 @@ stops_in_braced items end {old} s = stops_within s (layout_appends soft_space ol
 
 -- ---- a consequent that is neither a block nor empty
 
-body_items : (s : Shape) (inner whole : Items) (else_follows : Bool) → (s ≡ shapes.If) ⊎ (s ≡ shapes.Other) → consequent_items (shape_of s) false inner whole else_follows ≡ body_space ⊕ (whole ⊕ body_end else_follows)
+body_items : (s : BodyShape) (inner whole : Items) (else_follows : Bool) → (s ≡ shapes.If) ⊎ (s ≡ shapes.Other) → consequent_items (shape_of s) false inner whole else_follows ≡ body_space ⊕ (whole ⊕ body_end else_follows)
 body_items s inner whole else_follows (inl h) = rw h refl
 body_items s inner whole else_follows (inr h) = rw h refl
 
-pub consequent_is_body : (s : Shape) (t : Tree) (settings : Settings) (else_follows : Bool) → (s ≡ shapes.If) ⊎ (s ≡ shapes.Other) → shape_of s ≡ shape t → ends_open t ≡ false → consequent_of t settings else_follows ≡ body_space ⊕ (spell t (among_statements settings) ⊕ body_end else_follows)
+pub consequent_is_body : (s : BodyShape) (t : Tree) (settings : Settings) (else_follows : Bool) → (s ≡ shapes.If) ⊎ (s ≡ shapes.Other) → shape_of s ≡ shape t → ends_open t ≡ false → consequent_of t settings else_follows ≡ body_space ⊕ (spell t (among_statements settings) ⊕ body_end else_follows)
 consequent_is_body s t settings else_follows either hs closed =
     rw (closed, ← hs) (body_items s (spell t (within_statement settings)) (spell t (among_statements settings)) else_follows either)
 

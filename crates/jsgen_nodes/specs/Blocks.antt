@@ -7,11 +7,11 @@ use Rattle.jsgen_model.specs.Items.{Items, soft_line, indentation, drop_semicolo
 use Rattle.jsgen_model.specs.Layout.{Pen, layout, written, other_end}
 use Rattle.jsgen_model.specs.Spell as spells
 use Rattle.jsgen_model.specs.Spell.{spell, shape, consequent_items, alternate_items, within_statement, among_statements}
-use Rattle.jsgen_nodes.specs.declared.shapes.Shape.{Shape}
-use Rattle.jsgen_nodes.specs.declared.shapes.Shape.TheVariants as shapes
+use Rattle.jsgen_nodes.specs.declared.shapes.BodyShape.{BodyShape}
+use Rattle.jsgen_nodes.specs.declared.shapes.BodyShape.TheVariants as shapes
 use Rattle.jsgen_printer.specs.Printer.{deepened, at_depth}
 
-abbrev pub shape_of : Shape → spells.Shape
+abbrev pub shape_of : BodyShape → spells.Shape
 shape_of shapes.Block = spells.a_block
 shape_of shapes.If = spells.an_if
 shape_of shapes.Empty = spells.an_empty

@@ -14,7 +14,7 @@ ghost use Rattle.jsgen_nodes.specs.Place.{pen_after};
 ghost use Rattle.jsgen_nodes.specs.Blocks.{braces_opened, braces_closed, consequent_of, alternate_of, test_ended};
 
 use crate::PrintNode;
-use crate::shapes::Shape;
+use crate::shapes::{BodyShape, shape};
 use crate::statements::print_statements;
 use jsgen_place::{Place, Settings};
 use jsgen_printer::{Bracket, Printer};
@@ -169,14 +169,14 @@ fn print_consequent<N: PrintNode>(
     if consequent.ends_open() {
         return print_braced(consequent, p, settings, else_follows);
     }
-    match consequent.shape() {
-        Shape::Block => {
+    match shape(consequent) {
+        BodyShape::Block => {
             p.print_soft_space()?;
             consequent.print(p, Place::within_statement(settings))?;
             print_braces_end(p, else_follows)
         }
-        Shape::Empty => print_empty_body(p, else_follows),
-        Shape::If | Shape::Other => {
+        BodyShape::Empty => print_empty_body(p, else_follows),
+        BodyShape::If | BodyShape::Other => {
             p.begin_body();
             consequent.print(p, Place::among_statements(settings))?;
             print_body_end(p, else_follows)
@@ -257,21 +257,21 @@ fn print_else<N: PrintNode>(
     ensures { Reaches result (pen_of p.old) (pen_of p.new) (layout (word (codes "else") ⊕ alternate_of (N.plain alternate.now) (settings_of settings)) (pen_of p.old)) }
 {
     p.print_word("else")?;
-    match alternate.shape() {
-        Shape::Block => {
+    match shape(alternate) {
+        BodyShape::Block => {
             p.print_soft_space()?;
             alternate.print(p, Place::within_statement(settings))?;
             p.print_soft_line()
         }
-        Shape::If => {
+        BodyShape::If => {
             p.print_hard_space()?;
             alternate.print(p, Place::within_statement(settings))
         }
-        Shape::Empty => {
+        BodyShape::Empty => {
             p.print_semicolon()?;
             p.print_soft_line()
         }
-        Shape::Other => {
+        BodyShape::Other => {
             p.begin_body();
             alternate.print(p, Place::among_statements(settings))
         }

@@ -12,28 +12,25 @@ mod strings;
 
 ghost use Rattle.std.specs.Prelude.{◌≡◌, option_map};
 ghost use Rattle.jsgen_syntax.specs.Units.{js_units};
-ghost use Rattle.jsgen_tree.specs.Tree.{Tree};
+ghost use Rattle.jsgen_tree.specs.Tree.{Tree, type_of};
 ghost use Rattle.jsgen_tree.specs.Inside.{without_parentheses, ends_open};
 ghost use Rattle.jsgen_tree.specs.Plain.{node_plain};
-ghost use Rattle.jsgen_model.specs.Spell.{string_in, string_statement, shape};
+ghost use Rattle.jsgen_model.specs.Spell.{string_in, string_statement};
 ghost use Rattle.jsgen_model.specs.Printing.{Reaches};
 ghost use Rattle.jsgen_printer.specs.Printer.{pen_of};
 ghost use Rattle.jsgen_place.specs.Place.{operand_of};
 ghost use Rattle.jsgen_nodes.specs.Place.{pen_after};
-ghost use Rattle.jsgen_nodes.specs.Blocks.{shape_of};
 
 use jsgen_place::{Operand, Place};
 use jsgen_printer::Printer;
 use jsgen_syntax::{JsStr, Memory};
-use jsgen_tree::Node;
+use jsgen_tree::{Node, NodeType};
 use operands::{
     binding_pattern_operand, declaration_operand, expression_operand, statement_operand,
 };
 use sets::{print_binding_pattern, print_declaration, print_expression, print_statement};
-pub use shapes::Shape;
 use shapes::{
-    binding_pattern_ends_open, binding_pattern_shape, declaration_ends_open, declaration_shape,
-    expression_ends_open, expression_shape, statement_ends_open, statement_shape,
+    binding_pattern_ends_open, declaration_ends_open, expression_ends_open, statement_ends_open,
 };
 pub use statements::print_program;
 use strings::{
@@ -45,6 +42,9 @@ use strings::{
 /// Where trees nest: what the print functions ask of a child. Only `Node` implements it.
 pub trait PrintNode {
     ghost plain: { Self → Tree };
+
+    fn node_type(&self) -> NodeType
+        ensures { result ≡ type_of (plain self.now) };
 
     fn print(&self, p: &mut Printer, place: Place) -> Result<(), Memory>
         ensures { Reaches result (pen_of p.old) (pen_of p.new) (pen_after (plain self.now) place p.old) };
@@ -61,10 +61,6 @@ pub trait PrintNode {
     fn string_statement(&self) -> Option<&JsStr>
         ensures { option_map (λ v. js_units v.now) result ≡ string_statement (plain self.now) };
 
-    /// What it is as what `if` or `else` is followed by.
-    fn shape(&self) -> Shape
-        ensures { shape_of result ≡ shape (plain self.now) };
-
     /// Whether it ends in an `if` without `else`.
     fn ends_open(&self) -> bool
         ensures { result ≡ ends_open (plain self.now) };
@@ -73,6 +69,10 @@ pub trait PrintNode {
 /// The knot: the one recursion.
 impl PrintNode for Node {
     ghost plain = { λ n. node_plain n };
+
+    fn node_type(&self) -> NodeType {
+        self.node_type()
+    }
 
     #[cycle(node)]
     fn print(&self, p: &mut Printer, place: Place) -> Result<(), Memory> {
@@ -111,16 +111,6 @@ impl PrintNode for Node {
             Node::Statement(node) => statement_as_string(node),
             Node::Declaration(node) => declaration_as_statement(node),
             Node::BindingPattern(node) => binding_pattern_as_statement(node),
-        }
-    }
-
-    #[cycle(node)]
-    fn shape(&self) -> Shape {
-        match self {
-            Node::Expression(node) => expression_shape(node),
-            Node::Statement(node) => statement_shape(node),
-            Node::Declaration(node) => declaration_shape(node),
-            Node::BindingPattern(node) => binding_pattern_shape(node),
         }
     }
 

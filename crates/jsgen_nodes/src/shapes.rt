@@ -2,55 +2,36 @@
 ghost use Rattle.std.specs.Prelude.{◌≡◌};
 ghost use Rattle.jsgen_tree.specs.Inside.{ends_open};
 ghost use Rattle.jsgen_tree.specs.Rows.{if_statement_row, expression_plain, statement_plain, declaration_plain, binding_pattern_plain};
-ghost use Rattle.jsgen_model.specs.Spell.{shape};
+ghost use Rattle.jsgen_model.specs.Spell.{shape, shape_of_type};
 ghost use Rattle.jsgen_nodes.specs.Blocks.{shape_of};
 
 use crate::PrintNode;
-use jsgen_tree::{BindingPattern, Declaration, Expression, IfStatement, Statement};
+use jsgen_tree::{BindingPattern, Declaration, Expression, IfStatement, NodeType, Statement};
 
 /// What stands on the line of its `if` or `else`, and what is a line of its own.
 #[derive(Clone, Copy)]
-pub enum Shape {
+pub enum BodyShape {
     Block,
     If,
     Empty,
     Other,
 }
 
-pub fn expression_shape<N: PrintNode>(node: &Expression<N>) -> Shape
-    ensures { shape_of result ≡ shape (expression_plain N.plain node.now) }
+fn shape_of_type(node_type: NodeType) -> BodyShape
+    ensures { shape_of result ≡ shape_of_type node_type }
 {
-    match node {
-        _ => Shape::Other,
+    match node_type {
+        NodeType::BlockStatement => BodyShape::Block,
+        NodeType::IfStatement => BodyShape::If,
+        NodeType::EmptyStatement => BodyShape::Empty,
+        _ => BodyShape::Other,
     }
 }
 
-pub fn statement_shape<N: PrintNode>(node: &Statement<N>) -> Shape
-    ensures { shape_of result ≡ shape (statement_plain N.plain node.now) }
+pub fn shape<N: PrintNode>(statement: &N) -> BodyShape
+    ensures { shape_of result ≡ shape (N.plain statement.now) }
 {
-    match node {
-        Statement::Declaration(node) => node.get().shape(),
-        Statement::BlockStatement(_) => Shape::Block,
-        Statement::IfStatement(_) => Shape::If,
-        Statement::EmptyStatement(_) => Shape::Empty,
-        _ => Shape::Other,
-    }
-}
-
-pub fn declaration_shape<N: PrintNode>(node: &Declaration<N>) -> Shape
-    ensures { shape_of result ≡ shape (declaration_plain N.plain node.now) }
-{
-    match node {
-        _ => Shape::Other,
-    }
-}
-
-pub fn binding_pattern_shape(node: &BindingPattern) -> Shape
-    ensures { shape_of result ≡ shape (binding_pattern_plain node.now) }
-{
-    match node {
-        _ => Shape::Other,
-    }
+    shape_of_type(statement.node_type())
 }
 
 // ---- an `if` without `else` at the end

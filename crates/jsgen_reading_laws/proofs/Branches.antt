@@ -42,11 +42,8 @@ pub good_empty : (c : Allowed) (a : Atoms) → Stated c (tree.empty_statement a)
 good_empty c a place = indented_line (punctuator semicolon ⊕ soft_line) (before_blank (punctuator semicolon) soft_line (good_semicolon c false refl) soft_line_written)
 
 -- what is spelled as an empty statement is one
-empty_shape : (t : Tree) → shape t ≡ an_empty → normal t ≡ tree.empty_statement (nothing_of 0)
-empty_shape (tree.empty_statement a) e = refl
-empty_shape (tree.block a body) e = absurd (cc)
-empty_shape (tree.if_statement a test consequent alternate) e = absurd (cc)
-empty_shape t e = absurd (cc)
+abbrev pub EmptyAlone : Tree → Type 0
+EmptyAlone t = shape t ≡ an_empty → normal t ≡ tree.empty_statement (nothing_of 0)
 
 -- ---- blanks round a body
 
@@ -94,8 +91,8 @@ braced : (s : Shape) (inner whole : Items) (else_follows : Bool) → consequent_
 braced a_block inner whole e = refl
 braced s inner whole e = refl
 
-good_consequent : (c : Allowed) (t : Tree) (settings : Settings) (else_follows : Bool) → ends_open (normal t) ≡ ends_open t → Stated c t → ConsequentAt c else_follows t (consequent_items (shape t) (ends_open t) (spell t (within_statement settings)) (spell t (among_statements settings)) else_follows)
-good_consequent c t settings e n f = by (ends_open t) refl
+good_consequent : (c : Allowed) (t : Tree) (settings : Settings) (else_follows : Bool) → ends_open (normal t) ≡ ends_open t → EmptyAlone t → Stated c t → ConsequentAt c else_follows t (consequent_items (shape t) (ends_open t) (spell t (within_statement settings)) (spell t (among_statements settings)) else_follows)
+good_consequent c t settings e n m f = by (ends_open t) refl
   where
     inner : Items
     inner = spell t (within_statement settings)
@@ -109,7 +106,7 @@ good_consequent c t settings e n f = by (ends_open t) refl
     by_shape : (s : Shape) → shape t ≡ s → ends_open t ≡ false → ConsequentAt c e t (consequent_items s false inner whole e)
     by_shape a_block i o = behind_blank soft_space (inner ⊕ braces_end e) soft_blank (before_blank inner (braces_end e) (as_it_is inner o (f (within_statement settings))) (braces_end_blank e))
     by_shape an_empty i o =
-        let g = before_blank (punctuator semicolon) soft_line (good_semicolon c (ends_open t) (sym (empty_shape t i))) soft_line_written in
+        let g = before_blank (punctuator semicolon) soft_line (good_semicolon c (ends_open t) (sym (m i))) soft_line_written in
         before_blank (punctuator semicolon ⊕ soft_line) (body_end e) (as_it_is (punctuator semicolon ⊕ soft_line) o g) (body_end_blank e)
     by_shape s i o = behind_blank body_space (whole ⊕ body_end e) body_blank (before_blank whole (body_end e) (as_it_is whole o (f (among_statements settings))) (body_end_blank e))
 
@@ -121,8 +118,8 @@ good_consequent c t settings e n f = by (ends_open t) refl
 
 -- ---- alternates
 
-good_alternate : (c : Allowed) (t : Tree) (settings : Settings) → Stated c t → StandsAt (ReadsClosed c (ends_open t)) (SameTree t) (alternate_items (shape t) (spell t (within_statement settings)) (spell t (among_statements settings)))
-good_alternate c t settings f = by_shape (shape t) refl
+good_alternate : (c : Allowed) (t : Tree) (settings : Settings) → EmptyAlone t → Stated c t → StandsAt (ReadsClosed c (ends_open t)) (SameTree t) (alternate_items (shape t) (spell t (within_statement settings)) (spell t (among_statements settings)))
+good_alternate c t settings m f = by_shape (shape t) refl
   where
     inner : Items
     inner = spell t (within_statement settings)
@@ -133,7 +130,7 @@ good_alternate c t settings f = by_shape (shape t) refl
     by_shape : (s : Shape) → shape t ≡ s → StandsAt (ReadsClosed c (ends_open t)) (SameTree t) (alternate_items s inner whole)
     by_shape a_block i = behind_blank soft_space (inner ⊕ soft_line) soft_blank (before_blank inner soft_line (f (within_statement settings)) soft_line_written)
     by_shape an_if i = behind_blank hard_space inner hard_blank (f (within_statement settings))
-    by_shape an_empty i = before_blank (punctuator semicolon) soft_line (good_semicolon c (ends_open t) (sym (empty_shape t i))) soft_line_written
+    by_shape an_empty i = before_blank (punctuator semicolon) soft_line (good_semicolon c (ends_open t) (sym (m i))) soft_line_written
     by_shape other i = behind_blank body_space whole body_blank (f (among_statements settings))
 
 -- ---- a keyword, and an expression in parentheses
@@ -186,14 +183,14 @@ if_items t s else_follows place others = word (codes "if") ⊕ (soft_space ⊕ (
 if_head : (c : Allowed) (t : Tree) → Printed c t → (place : Place) (p : Pen) (l : Last) → p.pending_semicolon ≡ false → Knows p l → GoodHead (codes "if") p l (layout (head_items (codes "if") t place) p) c t
 if_head = good_head (codes "if") (letters_spelled 105 (codes "f") refl)
 
-pub good_if : (c : Allowed) (a : Atoms) (t s : Tree) → Printed c t → ends_open (normal s) ≡ ends_open s → Stated c s → Stated c (tree.if_statement a t s absent)
-good_if c a t s f n g place = among_or_not place.in_list (if_items t s false place nothing) inside
+pub good_if : (c : Allowed) (a : Atoms) (t s : Tree) → Printed c t → ends_open (normal s) ≡ ends_open s → EmptyAlone s → Stated c s → Stated c (tree.if_statement a t s absent)
+good_if c a t s f n o g place = among_or_not place.in_list (if_items t s false place nothing) inside
   where
     inside : StandsAt (ReadsClosed c true) (SameTree (tree.if_statement a t s absent)) (if_items t s false place nothing)
     inside p l z y k =
         let h = if_head c t f place p l z k in
         behind_tokens (piece (line_of l) (Word (codes "if")) (group h.next Round h.tokens done)) (λ u. tree.if_statement (nothing_of 0) h.tree u absent) h.writes (λ e ts u r. if_reads h.reads r) (λ u m i. tree.if_statement (nothing_of 0) (h.same i) (m i) absent)
-        (good_consequent c s place.settings false n g (layout (head_items (codes "if") t place) p) (Open false) h.semicolon tt h.writes.knows)
+        (good_consequent c s place.settings false n o g (layout (head_items (codes "if") t place) p) (Open false) h.semicolon tt h.writes.knows)
 
 -- ---- `else`
 
@@ -204,15 +201,15 @@ else_parts {l = l} c a t s u h b d o r =
     behind_tokens (piece (line_of l) (Word (codes "if")) (group h.next Round h.tokens ((b.tokens ⧺ d.tokens) ⧺ piece (line_of d.last) (Word (codes "else")) done))) (λ v. tree.if_statement (nothing_of 0) h.tree b.reading (given v)) (wrote_both h.writes (wrote_both (wrote_both b.writes d.writes) o))
     (λ e ts v x before_else n. grammar.an_if_with_else (line_of d.last) (then_assoc (b.tokens ⧺ d.tokens) (piece (line_of d.last) (Word (codes "else")) done) ts) h.reads (b.reads.read false (b.tokens ⧺ d.tokens) (d.ends b.tokens)) (x before_else n)) (λ v m i. tree.if_statement (nothing_of 0) (h.same i) (b.same i) (given (m i))) r
 
-pub good_if_with_else : (c : Allowed) (a : Atoms) (t s u : Tree) → Printed c t → ends_open (normal s) ≡ ends_open s → Stated c s → Stated c u → Stated c (tree.if_statement a t s (given u))
-good_if_with_else c a t s u f n g v place = among_or_not place.in_list (if_items t s true place (spell_alternate (given u) place.settings)) inside
+pub good_if_with_else : (c : Allowed) (a : Atoms) (t s u : Tree) → Printed c t → ends_open (normal s) ≡ ends_open s → EmptyAlone s → Stated c s → EmptyAlone u → Stated c u → Stated c (tree.if_statement a t s (given u))
+good_if_with_else c a t s u f n m g w v place = among_or_not place.in_list (if_items t s true place (spell_alternate (given u) place.settings)) inside
   where
     inside : StandsAt (ReadsClosed c (ends_open u)) (SameTree (tree.if_statement a t s (given u))) (if_items t s true place (spell_alternate (given u) place.settings))
     inside p l z y k =
         let p1 : Pen = layout (if_items t s true place nothing) p in
         let p2 : Pen = layout due_semicolon p1 in
         let h = if_head c t f place p l z k in
-        let b = good_consequent c s place.settings true n g (layout (head_items (codes "if") t place) p) (Open false) h.semicolon tt h.writes.knows in
+        let b = good_consequent c s place.settings true n m g (layout (head_items (codes "if") t place) p) (Open false) h.semicolon tt h.writes.knows in
         let d = due_ends p1 b.last b.ready b.writes.knows in
         let o = wrote_word (codes "else") p2 d.last (letters_spelled 101 (codes "lse") refl) d.writes.knows in
-        else_parts c a t s u h b d o (good_alternate c u place.settings v (layout (word (codes "else")) p2) (After (Word (codes "else"))) d.semicolon tt o.knows)
+        else_parts c a t s u h b d o (good_alternate c u place.settings w v (layout (word (codes "else")) p2) (After (Word (codes "else"))) d.semicolon tt o.knows)

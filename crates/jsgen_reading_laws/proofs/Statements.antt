@@ -21,7 +21,7 @@ use Rattle.jsgen_reading_laws.proofs.Declarations.{listed_declaration}
 use Rattle.jsgen_reading_laws.proofs.Stands.{Unended, UnendedAt, ReadsClosed, Stated, Listed, SameTree, blank_before_unended, whole_line, listed_statement}
 use Rattle.jsgen_reading_laws.proofs.Rows.{RowAt, RestAt, row_none, row_more, rest_none, rest_more}
 use Rattle.jsgen_reading_laws.proofs.Blocks.{good_block}
-use Rattle.jsgen_reading_laws.proofs.Branches.{good_empty, good_if, good_if_with_else}
+use Rattle.jsgen_reading_laws.proofs.Branches.{EmptyAlone, good_empty, good_if, good_if_with_else}
 
 -- ---- expression statements
 
@@ -56,13 +56,18 @@ normal_open (family.a_block v) = refl
 normal_open (family.an_if v w) = refl
 normal_open (family.an_if_with_else v w u) = normal_open u
 
+-- of all statements an empty one alone is spelled as one
+empty_alone : {c : Allowed} {t : Tree} → IsStatement c t → EmptyAlone t
+empty_alone family.an_empty_statement e = refl
+empty_alone v e = absurd (cc)
+
 mutual
   pub stated : {c : Allowed} {t : Tree} → IsStatement c t → Stated c t
   stated {c} (family.an_expression_statement {a} {e} v) = good_expression_statement c a e (printed_expression v)
   stated {c} (family.an_empty_statement {a}) = good_empty c a
   stated {c} (family.a_block {a} {ss} v) = good_block c a ss (λ settings. (rows v settings).0)
-  stated {c} (family.an_if {a} {t} {s} v w) = good_if c a t s (printed_expression v) (normal_open w) (stated w)
-  stated {c} (family.an_if_with_else {a} {t} {s} {u} v w x) = good_if_with_else c a t s u (printed_expression v) (normal_open w) (stated w) (stated x)
+  stated {c} (family.an_if {a} {t} {s} v w) = good_if c a t s (printed_expression v) (normal_open w) (empty_alone w) (stated w)
+  stated {c} (family.an_if_with_else {a} {t} {s} {u} v w x) = good_if_with_else c a t s u (printed_expression v) (normal_open w) (empty_alone w) (stated w) (empty_alone x) (stated x)
 
   pub listed : {c : Allowed} {t : Tree} → IsItem c t → Listed c t
   listed {t = t} (family.a_statement v) = listed_statement t (stated v)

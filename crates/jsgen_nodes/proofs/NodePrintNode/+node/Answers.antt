@@ -49,18 +49,6 @@ string_statement-returns-in-Declaration t c = rw (c.in-Declaration.is, plain_dec
 pub string_statement-returns-in-BindingPattern : goal.string_statement-returns-in-BindingPattern
 string_statement-returns-in-BindingPattern t c = rw (c.in-BindingPattern.is, plain_binding_pattern c.in-BindingPattern.node) c.binding_pattern_as_statement.ensures
 
-pub shape-returns-in-Expression : goal.shape-returns-in-Expression
-shape-returns-in-Expression t c = rw (c.in-Expression.is, plain_expression c.in-Expression.node) c.expression_shape.ensures
-
-pub shape-returns-in-Statement : goal.shape-returns-in-Statement
-shape-returns-in-Statement t c = rw (c.in-Statement.is, plain_statement c.in-Statement.node) c.statement_shape.ensures
-
-pub shape-returns-in-Declaration : goal.shape-returns-in-Declaration
-shape-returns-in-Declaration t c = rw (c.in-Declaration.is, plain_declaration c.in-Declaration.node) c.declaration_shape.ensures
-
-pub shape-returns-in-BindingPattern : goal.shape-returns-in-BindingPattern
-shape-returns-in-BindingPattern t c = rw (c.in-BindingPattern.is, plain_binding_pattern c.in-BindingPattern.node) c.binding_pattern_shape.ensures
-
 pub ends_open-returns-in-Expression : goal.ends_open-returns-in-Expression
 ends_open-returns-in-Expression t c = rw (c.in-Expression.is, plain_expression c.in-Expression.node) c.expression_ends_open.ensures
 

@@ -1,0 +1,229 @@
+#!/usr/bin/env python3
+"""What a further type of node costs the gate: `grow.py N` proves two copies of the repository from nothing, one as it is and one
+with N synthetic types of three shapes in turn, and prints the processor seconds and the peak memory of each crate in both, and
+the functions of the printer and the reader that take more than a tenth longer.
+
+The shapes are an expression of two children (a copy of ComputedMemberExpression), an expression of a child and a list (of
+CallExpression), and a statement with a list and a child that may be absent (of BlockStatement). A synthetic type is an entry of
+tools/nodes/table.txt and the places by hand that docs/ARCHITECTURE.md lists, each made from the line of the type that it copies.
+Two things it has not: it is spelled as that type and stands for it in the normal form, so it needs no production of its own and
+no lemma for one; and no program that tests print has it. The copies have no must-fail edits."""
+import re
+import shutil
+import subprocess
+import sys
+import tempfile
+from pathlib import Path
+
+from gate import TOP, measured
+
+PARTS = (".ci", "HANDLES", "crates", "crates.txt", "docs", "tools", "tests")
+
+
+def code(number):
+    """A word of two letters for a number below 676."""
+    return chr(97 + number // 26) + chr(97 + number % 26)
+
+
+class Copy:
+    """The texts of a copy of the repository, which a synthetic type is added to."""
+
+    def __init__(self, folder):
+        self.folder = folder
+
+    def change(self, name, change):
+        path = self.folder / name
+        path.write_text(change(path.read_text()))
+
+    def behind_clause(self, name, start, text):
+        """Puts text behind the clause that begins so: a line, and the deeper ones below it. `{0}` in text is that clause."""
+
+        def change(old):
+            found = re.search(rf"^([ ]*){re.escape(start)}.*\n(?:\1[ ]+.*\n)*", old, re.M)
+            assert found, (name, start)
+            return old[: found.end()] + (text(found[0]) if callable(text) else text) + old[found.end() :]
+
+        self.change(name, change)
+
+    def copy_clause(self, name, start, *changes):
+        """Copies the clause that begins so, with each old text made new in the copy, once."""
+
+        def copied(clause):
+            for old, new in changes:
+                assert old in clause, (name, start, old)
+                clause = clause.replace(old, new, 1)
+            return clause
+
+        self.behind_clause(name, start, copied)
+
+    def copy_function(self, name, function, *changes):
+        """Copies a function of Rust with its attributes, and its answers, with each old text made new wherever it stands."""
+
+        def changed(text):
+            for old, new in changes:
+                text = re.sub(rf"\b{old}\b", new, text)
+            return text
+
+        def change(old):
+            found = re.search(rf"^#\[tactic.*\n(?:pub )?fn {function}\b(?:.*\n)+?\}}\n", old, re.M)
+            assert found, (name, function)
+            return old[: found.end()] + "\n" + changed(found[0]) + old[found.end() :]
+
+        self.change(name, change)
+        proofs = (self.folder / name.replace("/src/", "/proofs/")).with_suffix("")
+        if (proofs / function).is_dir():
+            shutil.copytree(proofs / function, proofs / changed(function))
+            for path in (proofs / changed(function)).rglob("*.antt"):
+                path.write_text(changed(path.read_text()))
+
+    def imports(self, name, line):
+        self.change(name, lambda old: re.sub(r"^(?=(?:ghost )?use )", line + "\n", old, count=1, flags=re.M))
+
+
+MODEL, LAWS, NODES = "crates/jsgen_model/specs/", "crates/jsgen_reading_laws/proofs/", "crates/jsgen_nodes/src/"
+NORMAL = "crates/jsgen_oracle/src/normal.rt"
+TABLE = "tools/nodes/table.txt"
+
+
+def everywhere(copy, pattern, old, new, kind):
+    """The definitions that say of each type what it is: copies of the clauses of the type that is copied."""
+    short = (f"tree.{old} ", f"tree.{new} ")
+    fields = (f"({pattern[0]})", f"({pattern[1]})")
+    for name, start in (("Spell.antt", "spell"), ("Normal.antt", "normal"), ("Plain.antt", "is_plain_row")):
+        copy.copy_clause(MODEL + name, f"{start} {fields[0]}", fields)
+    copy.copy_clause(LAWS + "Normals.antt", f"normal_again {fields[0]}", fields)
+    copy.copy_clause(LAWS + "Families.antt", f"a_{kind} :", (f"a_{kind} :", f"a_{new} :"), short)
+
+
+def pair(copy, k):
+    old, new, name = "computed_member", f"pair_{k}", f"Pair{k.title()}Expression"
+    copy.behind_clause(TABLE, "node CallExpression", f"\nnode {name} 13.3.2 {new}\n    | A member by the value of an expression.\n    object              Expression\n    optional            unread flag\n    expression          Expression\n")
+    copy.behind_clause(TABLE, "set Expression", lambda clause: f"    {name}\n")
+    everywhere(copy, (f"tree.{old} a object expression", f"tree.{new} a object expression"), old, new, old)
+    copy.copy_clause(LAWS + "Families.antt", f"expression_valid c around (tree.{old} ", (f"tree.{old} ", f"tree.{new} "), (f"a_{old} (", f"a_{new} ("))
+    copy.copy_clause(LAWS + "Asked.antt", f"asked (family.a_{old} ", (f"a_{old} ", f"a_{new} "))
+    copy.copy_clause(LAWS + "Expressions.antt", f"printed_expression {{c}} (family.a_{old} ", (f"a_{old} ", f"a_{new} "))
+    row = f"pair_{k}_expression"
+    copy.copy_function(NODES + "links.rt", "print_computed_member_expression", ("print_computed_member_expression", f"print_{row}"), ("computed_member_expression_row", f"{row}_row"), ("ComputedMemberExpression", name))
+    copy.imports(NODES + "links.rt", f"ghost use Rattle.jsgen_tree.specs.Rows.{{{row}_row}};\nuse jsgen_tree::{name};")
+    copy.copy_clause(NORMAL, "Expression::ComputedMemberExpression(node) => {", ("Expression::ComputedMember", f"Expression::Pair{k.title()}"))
+    close(copy)
+
+
+def call(copy, k):
+    old, new, name = "call", f"call_{k}", f"Call{k.title()}Expression"
+    copy.behind_clause(TABLE, "node CallExpression", f"\nnode {name} 13.3.6 {new}\n    | A call of a function.\n    callee              Expression\n    arguments           Argument*\n    optional            unread flag\n    pure                flag\n")
+    copy.behind_clause(TABLE, "set Expression", lambda clause: f"    {name}\n")
+    everywhere(copy, (f"tree.{old} a callee arguments", f"tree.{new} a callee arguments"), old, new, old)
+    copy.copy_clause(LAWS + "Families.antt", f"expression_valid c around (tree.{old} ", (f"tree.{old} ", f"tree.{new} "), (f"a_{old} (", f"a_{new} ("))
+    copy.copy_clause(LAWS + "Asked.antt", f"asked (family.a_{old} ", (f"a_{old} ", f"a_{new} "))
+    copy.copy_clause(LAWS + "Expressions.antt", f"printed_expression {{c}} (family.a_{old} ", (f"a_{old} ", f"a_{new} "))
+    row = f"call_{k}_expression"
+    changes = (("print_call_expression", f"print_{row}"), ("print_call", f"print_call_{k}"), ("call_expression_row", f"{row}_row"), ("CallExpression", name), (r"(from_residual-in_err|in_ok|in_err|c)([-.])print_call", rf"\1\2print_call_{k}"))
+    copy.copy_function(NODES + "links.rt", "print_call", *changes[1:4])
+    copy.copy_function(NODES + "links.rt", "print_call_expression", *changes[:4])
+    copy.imports(NODES + "links.rt", f"ghost use Rattle.jsgen_tree.specs.Rows.{{{row}_row}};\nuse jsgen_tree::{name};")
+    copy.copy_clause(NORMAL, "Expression::CallExpression(node) =>", ("Expression::Call", f"Expression::Call{k.title()}"), ("call_expression_form", f"{row}_form"))
+    copy.change(NORMAL, lambda text: copied_form(text, "call_expression_form", row, name))
+
+
+def copied_form(text, function, row, name):
+    found = re.search(rf"^fn {function}\b(?:.*\n)+?\}}\n", text, re.M)
+    made = found[0].replace(function, f"{row}_form").replace("&CallExpression<", f"&{name}<").replace("call_expression_row", f"{row}_row")
+    text = text[: found.end()] + "\n" + made + text[found.end() :]
+    return re.sub(r"^(?=ghost use )", f"ghost use Rattle.jsgen_tree.specs.Rows.{{{row}_row}};\n", text, count=1, flags=re.M).replace("use jsgen_tree::{", f"use jsgen_tree::{name};\nuse jsgen_tree::{{", 1)
+
+
+def close(copy):
+    """A copied arm of several lines takes its brace with it."""
+
+    def change(text):
+        return re.sub(r"(^        Expression::ComputedMemberExpression\(node\) => \{\n(?:            .*\n)+)(        Expression::Pair\w+\(node\) => \{\n(?:            .*\n)+)(        \}\n)", r"\1\3\2\3", text, flags=re.M)
+
+    copy.change(NORMAL, change)
+
+
+def group(copy, k):
+    new, name = f"group_{k}", f"Group{k.title()}Statement"
+    copy.behind_clause(TABLE, "node EmptyStatement", f"\nnode {name} 14.2 {new}\n    | Statements in braces, and what nobody prints.\n    extra               Expression?\n    body                Statement*\n")
+    copy.behind_clause(TABLE, "set Statement", lambda clause: f"    {name}\n")
+    everywhere(copy, ("tree.block a body", f"tree.{new} a extra body"), "block", new, "block")
+    copy.change(LAWS + "Families.antt", lambda text: text.replace(f"(tree.{new} a ss)", f"(tree.{new} a m ss)").replace(f"a_{new} : {{c : Allowed}} {{a : Atoms}} {{ss", f"a_{new} : {{c : Allowed}} {{a : Atoms}} {{m : Maybe}} {{ss"))
+    copy.behind_clause(LAWS + "Families.antt", "item_valid c around (tree.block a ss) p s e =", f"""  item_valid c around (tree.{new} a m ss) p s e =
+      let h = none_both (in_maybe around (place_of sets.Expression around ∷ place_of sets.Statement around ∷ []) m) _ (parts (span_faults a.span) [] _ e).1 in
+      let k = none_both (in_trees around (place_of sets.Statement around ∷ []) ss) [] h.1 in
+      a_statement (a_{new} (items_valid c around ss p.0 p.1.1.0 k.0))
+""")
+    copy.copy_clause(LAWS + "Statements.antt", "normal_open (family.a_block ", ("a_block ", f"a_{new} "))
+    copy.copy_clause(LAWS + "Statements.antt", "stated {c} (family.a_block ", ("a_block ", f"a_{new} "))
+    row = f"group_{k}_statement"
+    copy.copy_function(NODES + "blocks.rt", "print_block_statement", ("print_block_statement", f"print_{row}"), ("block_statement_row", f"{row}_row"), ("BlockStatement", name))
+    copy.imports(NODES + "blocks.rt", f"ghost use Rattle.jsgen_tree.specs.Rows.{{{row}_row}};\nuse jsgen_tree::{name};")
+    copy.change(NORMAL, lambda text: re.sub(r"(        Statement::BlockStatement)(\(node\) => \{\n(?:            .*\n)+        \}\n)", rf"\1\2        Statement::{name}\2", text, count=1))
+
+
+def grown(folder, number):
+    copy = Copy(folder)
+    for at in range(number):
+        (pair, call, group)[at % 3](copy, code(at // 3))
+    subprocess.run([folder / "tools/nodes/generate"], check=True, stdout=subprocess.DEVNULL)
+    for crate in sorted(p.parent for p in (folder / "crates").glob("*/src")):
+        subprocess.run(["rt", "fmt"], cwd=crate, check=True, stdout=subprocess.DEVNULL)
+
+
+def copied(folder):
+    for part in PARTS:
+        if (Path(TOP) / part).is_dir():
+            shutil.copytree(Path(TOP) / part, folder / part, ignore=shutil.ignore_patterns("out", "must-fail", "__pycache__"))
+        else:
+            shutil.copy2(Path(TOP) / part, folder / part)
+
+
+def by_function(folder, crate):
+    """The seconds of each function's proof, from nothing and one after the other: the check writes a file behind each."""
+    kept, work = folder / "crates" / crate / "out" / "incremental", tempfile.mkdtemp()
+    kept.parent.mkdir(exist_ok=True)
+    kept.symlink_to(work)
+    subprocess.run(["rt", "check", "--jobs", "1"], cwd=folder / "crates" / crate, check=True, stdout=subprocess.DEVNULL)
+    files = sorted(Path(work).rglob("*.oantt"), key=lambda it: it.stat().st_mtime)
+    times, last = {}, None
+    for file in files:
+        at = file.stat().st_mtime
+        function = str(file.parent.relative_to(work)).split("/", 1)[-1]
+        times[function] = times.get(function, 0) + (at - last if last else 0)
+        last = at
+    shutil.rmtree(work)
+    return times
+
+
+def main(number):
+    work = Path(tempfile.mkdtemp(prefix="jsgen-grow-"))
+    results = []
+    for name in ("before", "after"):
+        folder = work / name
+        folder.mkdir()
+        copied(folder)
+        if name == "after":
+            grown(folder, number)
+        with open(work / f"{name}.log", "wb") as log:
+            results.append(measured(["rt", "ci", "--anew"], folder, log))
+        if results[-1][3]:
+            sys.exit(f"{name}: not proved; see {work}/{name}.log")
+    (sums, peaks, whole, _), (more, higher, all_of, _) = results
+    print(f"| crate | seconds | with {number} types | a type | peak, MB | with {number} types | a type |")
+    print("|---" * 7 + "|")
+    for crate, of in sums.items():
+        one, two = sum(of.values()), sum(more[crate].values())
+        print(f"| `{crate}` | {one:.0f} | {two:.0f} | {(two - one) / number:.2f} | {peaks[crate]} | {higher[crate]} | {(higher[crate] - peaks[crate]) / number:.1f} |")
+    print(f"| all | {whole:.0f} | {all_of:.0f} | {(all_of - whole) / number:.2f} | | | |")
+    for crate in ("jsgen_printer", "jsgen_nodes", "jsgen_rows"):
+        before, after = by_function(work / "before", crate), by_function(work / "after", crate)
+        for function, seconds in sorted(before.items()):
+            if after.get(function, 0) > 1.1 * seconds + 0.1:
+                print(f"{function}: {seconds:.2f} s, with {number} types {after[function]:.2f} s")
+    shutil.rmtree(work)
+
+
+if len(sys.argv) != 2 or not sys.argv[1].isdigit():
+    sys.exit("usage: bench/grow.sh N")
+main(int(sys.argv[1]))
