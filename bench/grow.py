@@ -95,6 +95,20 @@ def everywhere(copy, pattern, old, new, kind):
     copy.copy_clause(LAWS + "Families.antt", f"a_{kind} :", (f"a_{kind} :", f"a_{new} :"), short)
 
 
+RECORD = "last = g.last; tokens = g.tokens; writes = g.writes; operand = g.operand; semicolon = g.semicolon; begins = g.begins; line = g.line; tree = g.tree; reads = g.reads; same = g.same"
+
+
+def read_as(copy, old, new, children, premises):
+    """The lemma that what is printed is read: by that of the type that is copied."""
+    words = " ".join(children)
+    copy.change(LAWS + "Expressions.antt", lambda text: text.replace("-- ---- the whole\n", f"""good_{new} : (c : Allowed) (a : Atoms) {" → ".join(premises)} → Printed c (tree.{new} a {words})
+good_{new} c a {words} f h place p l z y k = let g = good_{old} c a {words} f h place p l z y k in record {{ {RECORD} }}
+
+-- ---- the whole
+""", 1))
+    copy.copy_clause(LAWS + "Expressions.antt", f"printed_expression {{c}} (family.a_{old} ", (f"a_{old} ", f"a_{new} "), (f"good_{old} ", f"good_{new} "))
+
+
 def pair(copy, k):
     old, new, name = "computed_member", f"pair_{k}", f"Pair{k.title()}Expression"
     copy.behind_clause(TABLE, "node CallExpression", f"\nnode {name} 13.3.2 {new}\n    | A member by the value of an expression.\n    object              Expression\n    optional            unread flag\n    expression          Expression\n")
@@ -102,7 +116,7 @@ def pair(copy, k):
     everywhere(copy, (f"tree.{old} a object expression", f"tree.{new} a object expression"), old, new, old)
     copy.copy_clause(LAWS + "Families.antt", f"expression_valid c around (tree.{old} ", (f"tree.{old} ", f"tree.{new} "), (f"a_{old} (", f"a_{new} ("))
     copy.copy_clause(LAWS + "Asked.antt", f"asked (family.a_{old} ", (f"a_{old} ", f"a_{new} "))
-    copy.copy_clause(LAWS + "Expressions.antt", f"printed_expression {{c}} (family.a_{old} ", (f"a_{old} ", f"a_{new} "))
+    read_as(copy, old, new, ("o", "x"), ("(o x : Tree)", "Printed c o", "Printed c x"))
     row = f"pair_{k}_expression"
     copy.copy_function(NODES + "links.rt", "print_computed_member_expression", ("print_computed_member_expression", f"print_{row}"), ("computed_member_expression_row", f"{row}_row"), ("ComputedMemberExpression", name))
     copy.imports(NODES + "links.rt", f"ghost use Rattle.jsgen_tree.specs.Rows.{{{row}_row}};\nuse jsgen_tree::{name};")
@@ -117,7 +131,7 @@ def call(copy, k):
     everywhere(copy, (f"tree.{old} a callee arguments", f"tree.{new} a callee arguments"), old, new, old)
     copy.copy_clause(LAWS + "Families.antt", f"expression_valid c around (tree.{old} ", (f"tree.{old} ", f"tree.{new} "), (f"a_{old} (", f"a_{new} ("))
     copy.copy_clause(LAWS + "Asked.antt", f"asked (family.a_{old} ", (f"a_{old} ", f"a_{new} "))
-    copy.copy_clause(LAWS + "Expressions.antt", f"printed_expression {{c}} (family.a_{old} ", (f"a_{old} ", f"a_{new} "))
+    read_as(copy, old, new, ("t", "es"), ("(t : Tree) (es : Trees)", "Printed c t", "ArgumentsAt c es"))
     row = f"call_{k}_expression"
     changes = (("print_call_expression", f"print_{row}"), ("print_call", f"print_call_{k}"), ("call_expression_row", f"{row}_row"), ("CallExpression", name), (r"(from_residual-in_err|in_ok|in_err|c)([-.])print_call", rf"\1\2print_call_{k}"))
     copy.copy_function(NODES + "links.rt", "print_call", *changes[1:4])
