@@ -65,7 +65,7 @@ class Copy:
             return text
 
         def change(old):
-            found = re.search(rf"^#\[tactic.*\n(?:pub )?fn {function}\b(?:.*\n)+?\}}\n", old, re.M)
+            found = re.search(rf"^(?:#\[.*\n)*(?:pub )?fn {function}\b(?:.*\n)+?\}}\n", old, re.M)
             assert found, (name, function)
             return old[: found.end()] + "\n" + changed(found[0]) + old[found.end() :]
 
@@ -138,14 +138,8 @@ def call(copy, k):
     copy.copy_function(NODES + "links.rt", "print_call_expression", *changes[:4])
     copy.imports(NODES + "links.rt", f"ghost use Rattle.jsgen_tree.specs.Rows.{{{row}_row}};\nuse jsgen_tree::{name};")
     copy.copy_clause(NORMAL, "Expression::CallExpression(node) =>", ("Expression::Call", f"Expression::Call{k.title()}"), ("call_expression_form", f"{row}_form"))
-    copy.change(NORMAL, lambda text: copied_form(text, "call_expression_form", row, name))
-
-
-def copied_form(text, function, row, name):
-    found = re.search(rf"^fn {function}\b(?:.*\n)+?\}}\n", text, re.M)
-    made = found[0].replace(function, f"{row}_form").replace("&CallExpression<", f"&{name}<").replace("call_expression_row", f"{row}_row")
-    text = text[: found.end()] + "\n" + made + text[found.end() :]
-    return re.sub(r"^(?=ghost use )", f"ghost use Rattle.jsgen_tree.specs.Rows.{{{row}_row}};\n", text, count=1, flags=re.M).replace("use jsgen_tree::{", f"use jsgen_tree::{name};\nuse jsgen_tree::{{", 1)
+    copy.copy_function(NORMAL, "call_expression_form", ("call_expression_form", f"{row}_form"), ("call_expression_row", f"{row}_row"), ("CallExpression(?=<)", name))
+    copy.imports(NORMAL, f"ghost use Rattle.jsgen_tree.specs.Rows.{{{row}_row}};\nuse jsgen_tree::{name};")
 
 
 def close(copy):
