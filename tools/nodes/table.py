@@ -102,6 +102,8 @@ class Table:
                     if head == "file":
                         file, _, text = line[5:].partition(": ")
                         self.files[file] = text
+                    elif head in ("node", "words", "set") and rest[0] in {**self.nodes, **self.words, **self.sets}:
+                        raise ValueError("the name comes twice")
                     elif head == "node":
                         name, section, *short = rest
                         at = self.nodes[name] = Node(name, section, (short or [snake(name)])[0], file)
@@ -113,6 +115,8 @@ class Table:
                     else:
                         raise ValueError("neither file, node, words nor set")
                 elif line.startswith("| ") and not (isinstance(at, Words) and len(line.split()) == 2):
+                    if at.doc:
+                        raise ValueError("a second sentence")
                     at.doc = line[2:]
                 elif isinstance(at, Words):
                     word, variant = line.split()
@@ -133,15 +137,22 @@ class Table:
 
     def check(self):
         for n in self.nodes.values():
+            once(n.name, [f.name for f in n.in_format()])
             for f in n.in_format():
-                known = f.kind in VALUES or f.kind in self.words or self.is_child(f)
-                if not f.unread and not known:
+                # a child of a type that isn't read yet may stand in no table
+                known = f.kind in VALUES or f.kind in self.words or self.is_child(f) or f.unread and f.kind[0].isupper()
+                if not known:
                     raise SystemExit(f"{n.name}.{f.name}: no words, set or type {f.kind}")
-                if f.only_for and not any(g.name == "kind" for g in n.in_format()):
-                    raise SystemExit(f"{n.name}.{f.name}: the type has no field kind")
+                kinds = [g for g in n.in_format() if g.name == "kind" and g.kind in self.words]
+                if f.only_for and f.only_for not in [w for g in kinds for w, _ in self.words[g.kind].words]:
+                    raise SystemExit(f"{n.name}.{f.name}: the type has no field kind with the word {f.only_for}")
                 if not f.unread and f.many and not self.is_child(f):
                     raise SystemExit(f"{n.name}.{f.name}: an optional value has no form yet")
+        for w in self.words.values():
+            once(w.name, [word for word, _ in w.words])
+            once(w.name, [variant for _, variant in w.words])
         for s in self.sets.values():
+            once(s.name, s.members)
             for m in s.members:
                 if m not in self.nodes and not (m in self.sets and self.sets[m].nests):
                     raise SystemExit(f"set {s.name}: {m} is neither a type nor a set that nests")
@@ -180,6 +191,11 @@ class Table:
     def child_sets(self):
         """The sets and types that children are of, in the order of their first use."""
         return list(dict.fromkeys(f.kind for n in self.nodes.values() for f in self.children(n)))
+
+
+def once(name, names):
+    for twice in {it for it in names if names.count(it) > 1}:
+        raise SystemExit(f"{name}: {twice} comes twice")
 
 
 def read_field(line):

@@ -1,4 +1,4 @@
--- The grammar (ECMA-262, clauses 13 to 16): which rows of tokens are read as which tree, one production a line.
+-- The grammar (ECMA-262, clauses 13 to 16): which lists of tokens are read as which tree, one production a line.
 use Rattle.std.specs.Prelude.{◌≡◌, ℕ, List, [], ◌∷◌, Bool, true, false, not, ◌&&◌, ◌||◌, Some, codes}
 use Rattle.std.specs.Str.{bytes_eq}
 use Rattle.jsgen_syntax.specs.Escapes.{word_value}

@@ -19,13 +19,13 @@ pub data Piece : Type 0 where
   Quoted : Quote → List ℕ → Piece
   Sign : Punctuator → Piece
 
--- A row of tokens. The mark tells that a line end stands before the token. Brackets that match make a group, as `${` and `}` will.
+-- A list of tokens. The mark tells that a line end stands before the token. Brackets that match make a group, as `${` and `}` will.
 pub data Tokens : Type 0 where
   done : Tokens
   piece : Bool → Piece → Tokens → Tokens
   group : Bool → Bracket → Tokens → Tokens → Tokens
 
--- one row after the other
+-- one list after the other
 infixr 60 ◌⧺◌
 abbrev pub ◌⧺◌ : Tokens → Tokens → Tokens
 done ⧺ us = us

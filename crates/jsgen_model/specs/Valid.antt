@@ -43,7 +43,7 @@ fault_if false f = []
 abbrev pub span_faults : Span → List TreeFault
 span_faults s = fault_if (nat_lt s.end s.start) (faults.Span s.start)
 
--- a name that strict code may look up or bind (ECMA-262, 13.1)
+-- a name that is an identifier in strict code (ECMA-262, 13.1); that `eval` and `arguments` may not be bound is no rule yet
 abbrev pub name_faults : Span → List ℕ → List TreeFault
 name_faults s name = fault_if (not (is_free_name name)) (faults.Name s.start)
 

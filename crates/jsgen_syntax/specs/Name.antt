@@ -29,7 +29,7 @@ is_name bytes = spells_name (chars bytes)
 abbrev pub is_among : List ℕ → List (List ℕ) → Bool
 is_among text words = list_any (λ word. bytes_eq word text) words
 
--- ReservedWord (12.7.2), and `enum`
+-- ReservedWord (12.7.2)
 abbrev pub reserved_words : List (List ℕ)
 reserved_words = codes "await" ∷ codes "break" ∷ codes "case" ∷ codes "catch" ∷ codes "class" ∷ codes "const" ∷ codes "continue" ∷ codes "debugger" ∷ codes "default" ∷ codes "delete" ∷ codes "do" ∷ codes "else" ∷ codes "enum" ∷ codes "export" ∷ codes "extends" ∷ codes "false" ∷ codes "finally" ∷ codes "for" ∷ codes "function" ∷ codes "if" ∷ codes "import" ∷ codes "in" ∷ codes "instanceof" ∷ codes "new" ∷ codes "null" ∷ codes "return" ∷ codes "super" ∷ codes "switch" ∷ codes "this" ∷ codes "throw" ∷ codes "true" ∷ codes "try" ∷ codes "typeof" ∷ codes "var" ∷ codes "void" ∷ codes "while" ∷ codes "with" ∷ codes "yield" ∷ []
 

@@ -36,7 +36,7 @@ abbrev pub stands_bare : Quote → ℕ → List ℕ → Bool
 stands_bare q c rest = scalar c && not (c == 92) && not (c == quote_char q)
     && (if is_backtick q then not ((c == 36) && begins_with 123 rest) else not ((c == 10) || (c == 13)))
 
--- the units of a character that stands for itself. A template has CR and CR LF as one LF (12.9.6.1, TRV)
+-- the units of a character that stands for itself. A template has CR and CR LF as one LF (12.9.6.2, TRV)
 abbrev pub bare_units : ℕ → List ℕ → List ℕ
 bare_units c rest = if c == 13 then (if begins_with 10 rest then [] else 10 ∷ []) else encode_utf16 c
 

@@ -79,7 +79,7 @@ fn push_line<K: Sink>(sink: &mut K, text: &[u8], spot: Spot) -> Result<(), Faile
     sink.push(b"\n")
 }
 
-/// Says the line of a status. A failure changes nothing.
+/// Says the line of a status. A failure leaves the status as it is.
 pub fn say<K: Sink>(err: &mut K, status: Status)
     ensures { Says (K.got err.old) (K.got err.new) (K.faults err.old) (K.faults err.new) (line_of status) }
 {

@@ -110,9 +110,9 @@ impl Default for CommentOptions {
 /// How a program is printed. So far `single_quote`, `minify` and `ascii_only` change the text; the others are kept.
 #[derive(Debug, PartialEq, Eq, Drop)]
 pub struct CodegenOptions {
-    /// Strings of pretty text stand in single quotes.
+    /// Strings of pretty text, and directives, stand in single quotes.
     pub single_quote: bool,
-    /// No space, no line end and no semicolon that can be left out.
+    /// No space and no line end that can be left out, and no semicolon that ends a statement before a closing brace.
     pub minify: bool,
     /// Other characters are written with escapes.
     pub ascii_only: bool,

@@ -1,10 +1,12 @@
 """docs/FORMAT.md, between its two lines of comment: the fields of each type, and the sets."""
 
+from children import plural as plural_in_snake_case
 from names import REPOSITORY
 from table import snake
 
 FIRST, LAST = "<!-- Generated from tools/nodes/table.txt by tools/nodes/generate -->", "<!-- to here -->"
-VALUES = {"text": "a text", "units": "a string", "digits": "the value", "flag": "a flag, false where it is absent"}
+VALUES = {"text": "a text", "units": "a string", "digits": "the value", "number": "a whole number below 2^32",
+          "flag": "a flag, false where it is absent"}
 
 
 def write(table):
@@ -51,7 +53,7 @@ def value(table, f):
 
 
 def plural(name):
-    return snake(name).replace("_", " ") + "s"
+    return plural_in_snake_case(name).replace("_", " ")
 
 
 def members(table, name):

@@ -8,7 +8,7 @@ NOT_READ = ["normal", "jsdoc", "annotation", "legal", "legal_path", "source_map_
 VALUES = {
     "text": {"type": "string"},
     "units": {"anyOf": [{"type": "string"}, {"type": "array", "items": {"type": "integer", "minimum": 0, "maximum": 65535}}]},
-    "digits": {"anyOf": [{"type": "integer", "minimum": 0}, {"type": "string", "pattern": "^(0|[1-9][0-9]*)$"}]},
+    "digits": {"anyOf": [{"type": "integer", "minimum": 0, "maximum": 2**64 - 1}, {"type": "string", "pattern": "^(0|[1-9][0-9]{0,38})$"}]},
     "number": {"type": "integer", "minimum": 0, "maximum": 4294967295},
     "flag": {"type": "boolean"},
 }
