@@ -1,6 +1,6 @@
 // Generated from tools/nodes/table.txt; edit that and run tools/nodes/generate.
 //! The tree of a program, owned by boxes and lists, and the options of printing it. A field bears the name that
-//! a job gives it.
+//! a job gives it, but `value` of a number, which stands for several.
 //!
 //! `Node` is the one type that leads back to itself. A child that nests stands in a wrapper that says its
 //! set, as `ExpressionNode`, and is made by `into()` from a member of that set.
