@@ -5,7 +5,7 @@ use Rattle.jsgen_tree.specs.Number.{NumericKind, Whole, Raw}
 use Rattle.jsgen_tree.specs.Tree.{Tree, node, Slots, no_slots, one, maybe, many, maybe_many, Maybe, absent, given, Trees, no_trees, more, hole, MaybeTrees, no_list, listed, Atoms}
 use Rattle.jsgen_tree.specs.declared.types.NodeType.TheVariants as types
 use Rattle.jsgen_tree.specs.Places.{bare, absent_values}
-use Rattle.jsgen_tree.specs.Values.{directive_directive, variable_declaration_kind, binding_identifier_name, identifier_reference_name, identifier_name_name, numeric_literal_kind, numeric_literal_digits, numeric_literal_text, string_literal_value, binary_expression_operator, logical_expression_operator}
+use Rattle.jsgen_tree.specs.Values.{directive_directive, variable_declaration_kind, binding_identifier_name, identifier_reference_name, identifier_name_name, numeric_literal_kind, numeric_literal_digits, numeric_literal_text, string_literal_value, binary_expression_operator, logical_expression_operator, variable_declaration_declare, variable_declarator_definite, static_member_expression_optional, computed_member_expression_optional, call_expression_optional}
 use Rattle.jsgen_syntax.specs.Raw.{directive_value}
 use Rattle.jsgen_syntax.specs.declared.operator.LogicalOperator.{LogicalOperator}
 use Rattle.jsgen_syntax.specs.declared.operator.LogicalOperator.TheVariants.{Or, And, Coalesce}
@@ -83,8 +83,8 @@ abbrev mutual
   normal (tree.program a directives body) = tree.program (nothing_of 4) (normal_trees directives) (normal_trees body)
   normal (tree.directive a) = tree.directive (bare (units (directive_units (directive_directive a)) ∷ []))
   normal (tree.expression_statement a expression) = tree.expression_statement (nothing_of 0) (normal expression)
-  normal (tree.variable_declaration a declarations) = tree.variable_declaration (declared_as (variable_declaration_kind a)) (normal_trees declarations)
-  normal (tree.variable_declarator a id init) = tree.variable_declarator (nothing_of 1) (normal id) (normal_maybe init)
+  normal (tree.variable_declaration a declarations) = tree.variable_declaration (bare (declaration_kind (variable_declaration_kind a) ∷ variable_declaration_declare a ∷ [])) (normal_trees declarations)
+  normal (tree.variable_declarator a id init) = tree.variable_declarator (bare (variable_declarator_definite a ∷ [])) (normal id) (normal_maybe init)
   normal (tree.binding_identifier a) = tree.binding_identifier (unnumbered (binding_identifier_name a))
   normal (tree.identifier_reference a) = tree.identifier_reference (unnumbered (identifier_reference_name a))
   normal (tree.this_expression a) = tree.this_expression (nothing_of 0)
@@ -97,9 +97,9 @@ abbrev mutual
   normal (tree.if_statement a test consequent alternate) = tree.if_statement (nothing_of 0) (normal test) (unbraced (normal consequent)) (normal_maybe alternate)
   normal (tree.empty_statement a) = tree.empty_statement (nothing_of 0)
   normal (tree.identifier_name a) = tree.identifier_name (named (identifier_name_name a))
-  normal (tree.static_member a object property) = tree.static_member (nothing_of 1) (normal object) (normal property)
-  normal (tree.computed_member a object expression) = tree.computed_member (nothing_of 1) (normal object) (normal expression)
-  normal (tree.call a callee arguments) = tree.call (nothing_of 2) (normal callee) (normal_trees arguments)
+  normal (tree.static_member a object property) = tree.static_member (bare (static_member_expression_optional a ∷ [])) (normal object) (normal property)
+  normal (tree.computed_member a object expression) = tree.computed_member (bare (computed_member_expression_optional a ∷ [])) (normal object) (normal expression)
+  normal (tree.call a callee arguments) = tree.call (bare (call_expression_optional a ∷ no_value ∷ [])) (normal callee) (normal_trees arguments)
   normal (node type a slots) = node type (bare a.values) (normal_slots slots)
 
   pub normal_slots : Slots → Slots

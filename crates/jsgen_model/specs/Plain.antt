@@ -1,13 +1,15 @@
 -- The trees of which a reading is promised.
-use Rattle.std.specs.Prelude.{◌≡◌, ◌^◌, ◌&&◌, ◌⊎◌, Bool, true, false, not, nat_lt}
+use Rattle.std.specs.Prelude.{◌≡◌, ◌^◌, ◌&&◌, ◌⊎◌, Bool, true, false, not, nat_lt, codes}
 use Rattle.jsgen_syntax.specs.Wtf8.{are_units}
 use Rattle.jsgen_syntax.specs.declared.span.SourceKind.{SourceKind}
 use Rattle.jsgen_syntax.specs.declared.span.SourceKind.TheVariants as source_kinds
-use Rattle.jsgen_tree.specs.Atom.{Atom, text}
+use Rattle.jsgen_tree.specs.Atom.{Atom, no_value, text}
 use Rattle.jsgen_tree.specs.Number.{NumericKind, Whole, Raw}
-use Rattle.jsgen_tree.specs.Tree.{Tree, Trees, no_trees, more, hole, Atoms}
+use Rattle.jsgen_tree.specs.Tree.{Tree, node, Trees, no_trees, more, hole, Atoms}
 use Rattle.jsgen_tree.specs.Nodes as tree
-use Rattle.jsgen_tree.specs.Values.{program_kind, directive_directive, numeric_literal_kind, numeric_literal_digits, string_literal_value, call_expression_pure}
+use Rattle.jsgen_tree.specs.Table.{value_named}
+use Rattle.jsgen_tree.specs.Fields.{fields}
+use Rattle.jsgen_tree.specs.Values.{as_flag, program_kind, directive_directive, numeric_literal_kind, numeric_literal_digits, string_literal_value, variable_declaration_declare, variable_declarator_definite, static_member_expression_optional, computed_member_expression_optional, call_expression_optional}
 use Rattle.jsgen_tree.specs.Everywhere.{Everywhere}
 use Rattle.jsgen_tree.specs.Options.{Comments, is_none}
 use Rattle.jsgen_tree.specs.Job.{JobData}
@@ -25,18 +27,23 @@ abbrev pub is_raw : Atom → Bool
 is_raw (text raw) = true
 is_raw v = false
 
+-- a field that isn't read yet holds nothing
+abbrev pub is_absent : Atom → Bool
+is_absent no_value = true
+is_absent v = false
+
 abbrev pub has_no_hole : Trees → Bool
 has_no_hole no_trees = true
 has_no_hole (more t ts) = has_no_hole ts
 has_no_hole (hole ts) = false
 
--- The node is of one of these types, with the children that its type has; a program is a module, a number is whole, a string is of units of 16 bits, and a directive has its raw text.
+-- The node is of one of these types, with the children that its type has; a program is a module, a number is whole, a string is of units of 16 bits, a directive has its raw text, and a field that isn't read yet holds nothing where the normal form keeps it.
 abbrev pub is_plain_row : Tree → Bool
 is_plain_row (tree.program a directives body) = is_module (program_kind a) && has_no_hole directives && has_no_hole body
 is_plain_row (tree.directive a) = is_raw (directive_directive a)
 is_plain_row (tree.expression_statement a expression) = true
-is_plain_row (tree.variable_declaration a declarations) = has_no_hole declarations
-is_plain_row (tree.variable_declarator a id init) = true
+is_plain_row (tree.variable_declaration a declarations) = is_absent (variable_declaration_declare a) && has_no_hole declarations
+is_plain_row (tree.variable_declarator a id init) = is_absent (variable_declarator_definite a)
 is_plain_row (tree.binding_identifier a) = true
 is_plain_row (tree.identifier_reference a) = true
 is_plain_row (tree.this_expression a) = true
@@ -49,9 +56,9 @@ is_plain_row (tree.block a body) = has_no_hole body
 is_plain_row (tree.if_statement a test consequent alternate) = true
 is_plain_row (tree.empty_statement a) = true
 is_plain_row (tree.identifier_name a) = true
-is_plain_row (tree.static_member a object property) = true
-is_plain_row (tree.computed_member a object expression) = true
-is_plain_row (tree.call a callee arguments) = has_no_hole arguments
+is_plain_row (tree.static_member a object property) = is_absent (static_member_expression_optional a)
+is_plain_row (tree.computed_member a object expression) = is_absent (computed_member_expression_optional a)
+is_plain_row (tree.call a callee arguments) = is_absent (call_expression_optional a) && has_no_hole arguments
 is_plain_row t = false
 
 abbrev pub IsPlain : Tree → Type 0
@@ -61,8 +68,7 @@ IsPlain t = Everywhere is_plain_row t
 
 -- the node is no comment and has no `pure` mark; comments aren't read yet
 abbrev pub is_quiet_row : Tree → Bool
-is_quiet_row (tree.call a callee arguments) = not (call_expression_pure a)
-is_quiet_row t = true
+is_quiet_row (node type a slots) = not (as_flag (value_named (codes "pure") (fields type) a.values))
 
 -- no comment is printed, whatever the program holds
 abbrev pub are_off : Comments → Bool

@@ -1,5 +1,5 @@
 -- Bindings, declarators and declarations.
-use Rattle.std.proofs.Common.{◌≡◌, ℕ, Bool, true, false, codes, List, refl, ap, ◌∙◌}
+use Rattle.std.proofs.Common.{◌≡◌, ℕ, Bool, true, false, codes, List, [], ◌∷◌, refl, sym, ap, ◌∙◌}
 use Rattle.jsgen_syntax.specs.declared.precedence.Precedence.TheVariants as levels
 use Rattle.jsgen_syntax.specs.Escapes.{name_text}
 use Rattle.jsgen_syntax.specs.Name.{spells_name, is_free_name}
@@ -8,7 +8,9 @@ use Rattle.jsgen_tree.specs.declared.statements.VariableDeclarationKind.{Variabl
 use Rattle.jsgen_tree.specs.declared.statements.VariableDeclarationKind.TheVariants as kinds
 use Rattle.jsgen_tree.specs.Words.{declaration_word}
 use Rattle.jsgen_tree.specs.Tree.{Tree, Maybe, absent, given, Trees, no_trees, more, Atoms}
-use Rattle.jsgen_tree.specs.Values.{binding_identifier_name, variable_declaration_kind}
+use Rattle.jsgen_tree.specs.Values.{binding_identifier_name, variable_declaration_kind, variable_declaration_declare, variable_declarator_definite}
+use Rattle.jsgen_tree.specs.Places.{bare}
+use Rattle.jsgen_tree.specs.Atom.{no_value, declaration_kind}
 use Rattle.jsgen_tree.specs.Nodes as tree
 use Rattle.jsgen_model.specs.Punctuator.{equal}
 use Rattle.jsgen_model.specs.Tokens.{Tokens, done, piece, ◌⧺◌, Word, Sign}
@@ -73,11 +75,11 @@ ListDeclaredAt c place ds = ElementsAt (ReadsDeclarators (under place c)) place 
 abbrev MoreDeclaredAt : Allowed → Place → Trees → Type 0
 MoreDeclaredAt c place ds = MoreAt (ReadsDeclarator (under place c)) (ReadsDeclarators (under place c)) place ds
 
-same_declarator : (b u : Tree) (m n : Maybe) → normal b ≡ normal u → normal_maybe m ≡ normal_maybe n → normal (tree.variable_declarator (nothing_of 1) b m) ≡ tree.variable_declarator (nothing_of 1) (normal u) (normal_maybe n)
-same_declarator b u m n e f = λ i. tree.variable_declarator (nothing_of 1) (e i) (f i)
+same_declarator : (a : Atoms) (b u : Tree) (m n : Maybe) → variable_declarator_definite a ≡ no_value → normal b ≡ normal u → normal_maybe m ≡ normal_maybe n → normal (tree.variable_declarator (nothing_of 1) b m) ≡ normal (tree.variable_declarator a u n)
+same_declarator a b u m n h e f = λ i. tree.variable_declarator (bare (sym h i ∷ [])) (e i) (f i)
 
-good_without_value : (c : Allowed) (a : Atoms) (b : Tree) → Bound c b → (place : Place) → DeclaredAt c place (tree.variable_declarator a b absent)
-good_without_value c a b f place p l z y k =
+good_without_value : (c : Allowed) (a : Atoms) (b : Tree) → variable_declarator_definite a ≡ no_value → Bound c b → (place : Place) → DeclaredAt c place (tree.variable_declarator a b absent)
+good_without_value c a b m f place p l z y k =
     let g = f (in_front levels.Lowest place) p l z y k in
     record {
       last = g.last;
@@ -87,12 +89,12 @@ good_without_value c a b f place p l z y k =
       semicolon = g.semicolon;
       tree = tree.variable_declarator (nothing_of 1) g.tree absent;
       reads = grammar.without_value g.reads;
-      same = same_declarator g.tree b absent absent g.same refl;
+      same = same_declarator a g.tree b absent absent m g.same refl;
     }
 
 -- from the binding, a blank, the sign, a blank and the value
-value_parts : (c : Allowed) (a : Atoms) (b v : Tree) (start : Start) (p p1 p2 p3 p4 q : Pen) (l : Last) → (g : GoodBinding p l p1 c b) (x : Soft p1 g.last p2) → Writes p2 x.last p3 (After (Sign equal)) (piece (line_of x.last) (Sign equal) done) → (n : Soft p3 (After (Sign equal)) p4) → Good p4 n.last q c grammar.Assignment start v → Element (ReadsDeclarator c) p l q (tree.variable_declarator a b (given v))
-value_parts c a b v start p p1 p2 p3 p4 q l g x o n e = record {
+value_parts : (c : Allowed) (a : Atoms) (b v : Tree) (start : Start) (p p1 p2 p3 p4 q : Pen) (l : Last) → variable_declarator_definite a ≡ no_value → (g : GoodBinding p l p1 c b) (x : Soft p1 g.last p2) → Writes p2 x.last p3 (After (Sign equal)) (piece (line_of x.last) (Sign equal) done) → (n : Soft p3 (After (Sign equal)) p4) → Good p4 n.last q c grammar.Assignment start v → Element (ReadsDeclarator c) p l q (tree.variable_declarator a b (given v))
+value_parts c a b v start p p1 p2 p3 p4 q l m g x o n e = record {
   last = e.last;
   tokens = g.tokens ⧺ piece (line_of x.last) (Sign equal) e.tokens;
   writes = wrote_both g.writes (wrote_both x.writes (wrote_both o (wrote_both n.writes e.writes)));
@@ -100,11 +102,11 @@ value_parts c a b v start p p1 p2 p3 p4 q l g x o n e = record {
   semicolon = e.semicolon;
   tree = tree.variable_declarator (nothing_of 1) g.tree (given e.tree);
   reads = grammar.with_value (line_of x.last) refl g.reads e.reads;
-  same = same_declarator g.tree b (given e.tree) (given v) g.same (ap (λ t. given t) e.same);
+  same = same_declarator a g.tree b (given e.tree) (given v) m g.same (ap (λ t. given t) e.same);
 }
 
-good_with_value : (c : Allowed) (a : Atoms) (b v : Tree) → Bound c b → Printed c v → (place : Place) → DeclaredAt c place (tree.variable_declarator a b (given v))
-good_with_value c a b v f h place p l z y k =
+good_with_value : (c : Allowed) (a : Atoms) (b v : Tree) → variable_declarator_definite a ≡ no_value → Bound c b → Printed c v → (place : Place) → DeclaredAt c place (tree.variable_declarator a b (given v))
+good_with_value c a b v m f h place p l z y k =
     let p1 : Pen = layout (spell b (in_front levels.Lowest place)) p in
     let p2 : Pen = layout soft_space p1 in
     let p3 : Pen = layout (punctuator equal) p2 in
@@ -114,7 +116,7 @@ good_with_value c a b v f h place p l z y k =
     let o = wrote_punctuator equal p2 x.last tt tt (x.operand g.operand) x.writes.knows in
     let n = soft_space_written p3 (After (Sign equal)) o.knows in
     let e = h (behind levels.Comma place) p4 n.last (n.semicolon ∙ (x.semicolon ∙ g.semicolon)) (n.ready tt) n.writes.knows in
-    value_parts (under place c) a b v (behind levels.Comma place).start p p1 p2 p3 p4 (layout (spell v (behind levels.Comma place)) p4) l g x o n e
+    value_parts (under place c) a b v (behind levels.Comma place).start p p1 p2 p3 p4 (layout (spell v (behind levels.Comma place)) p4) l m g x o n e
 
 declarators_join : (c : Allowed) → Joins (ReadsDeclarator c) (ReadsDeclarators c)
 declarators_join c = record { one = λ ts d r. grammar.last_declarator r; first = λ mark a b d ds r s. grammar.first_declarator mark refl r s }
@@ -128,9 +130,9 @@ kind_spelled kinds.Const = letters_spelled 99 (codes "onst") refl
 kind_reads : (k : VariableDeclarationKind) (c : Allowed) (line : Bool) (ts : Tokens) (ds : Trees) → ReadsDeclarators c ts ds → ReadsDeclaration c (piece line (Word (declaration_word k)) ts) (tree.variable_declaration (declared_as k) ds)
 kind_reads kinds.Const c line ts ds r = grammar.a_const r
 
-declaration_parts : (c : Allowed) (a : Atoms) (ds : Trees) (p p1 p2 q : Pen) (l : Last) → Writes p l p1 (After (Word (declaration_word (variable_declaration_kind a)))) (piece (line_of l) (Word (declaration_word (variable_declaration_kind a))) done) → (n : Soft p1 (After (Word (declaration_word (variable_declaration_kind a)))) p2) → Elements (ReadsDeclarators (with_in c)) p2 n.last q ds
+declaration_parts : (c : Allowed) (a : Atoms) (ds : Trees) (p p1 p2 q : Pen) (l : Last) → variable_declaration_declare a ≡ no_value → Writes p l p1 (After (Word (declaration_word (variable_declaration_kind a)))) (piece (line_of l) (Word (declaration_word (variable_declaration_kind a))) done) → (n : Soft p1 (After (Word (declaration_word (variable_declaration_kind a)))) p2) → Elements (ReadsDeclarators (with_in c)) p2 n.last q ds
     → Unended (ReadsItem c) (SameTree (tree.variable_declaration a ds)) p l q
-declaration_parts c a ds p p1 p2 q l o n g = record {
+declaration_parts c a ds p p1 p2 q l m o n g = record {
   last = g.last;
   tokens = piece (line_of l) (Word (declaration_word (variable_declaration_kind a))) g.tokens;
   writes = wrote_both o (wrote_both n.writes g.writes);
@@ -138,33 +140,33 @@ declaration_parts c a ds p p1 p2 q l o n g = record {
   semicolon = g.semicolon;
   reading = tree.variable_declaration (declared_as (variable_declaration_kind a)) g.trees;
   reads = record { read = λ e ts h. grammar.a_declaration h (kind_reads (variable_declaration_kind a) (with_in c) (line_of l) g.tokens g.trees g.reads) };
-  same = ap (λ ts. tree.variable_declaration (declared_as (variable_declaration_kind a)) ts) g.same;
+  same = λ i. tree.variable_declaration (bare (declaration_kind (variable_declaration_kind a) ∷ sym m i ∷ [])) (g.same i);
 }
 
 abbrev declaration_items : Atoms → Trees → Place → Items
 declaration_items a ds place = word (declaration_word (variable_declaration_kind a)) ⊕ (soft_space ⊕ spell_list ds (behind levels.Lowest place))
 
-declaration_unended : (c : Allowed) (a : Atoms) (ds : Trees) (settings : Settings) → ListDeclaredAt c (behind levels.Lowest (among_statements settings)) ds → UnendedAt (ReadsItem c) (SameTree (tree.variable_declaration a ds)) (declaration_items a ds (among_statements settings))
-declaration_unended c a ds settings f p l z y k =
+declaration_unended : (c : Allowed) (a : Atoms) (ds : Trees) (settings : Settings) → variable_declaration_declare a ≡ no_value → ListDeclaredAt c (behind levels.Lowest (among_statements settings)) ds → UnendedAt (ReadsItem c) (SameTree (tree.variable_declaration a ds)) (declaration_items a ds (among_statements settings))
+declaration_unended c a ds settings m f p l z y k =
     let w : List ℕ = declaration_word (variable_declaration_kind a) in
     let p1 : Pen = layout (word w) p in
     let p2 : Pen = layout soft_space p1 in
     let o = wrote_word w p l (kind_spelled (variable_declaration_kind a)) k in
     let n = soft_space_written p1 (After (Word w)) o.knows in
     let g = f p2 n.last (n.semicolon ∙ z) (n.ready tt) n.writes.knows in
-    declaration_parts c a ds p p1 p2 (layout (spell_list ds (behind levels.Lowest (among_statements settings))) p2) l o n g
+    declaration_parts c a ds p p1 p2 (layout (spell_list ds (behind levels.Lowest (among_statements settings))) p2) l m o n g
 
 -- ---- the families
 
 bound : {c : Allowed} {t : Tree} → IsBinding c t → Bound c t
 bound {c} (family.a_bound_name {a} h) = good_bound_name c a h
 
-valued : {c : Allowed} {m : Maybe} (a : Atoms) (b : Tree) → Bound c b → IsValue c m → (place : Place) → DeclaredAt c place (tree.variable_declarator a b m)
-valued {c} a b f family.no_value place = good_without_value c a b f place
-valued {c} a b f (family.a_value {t} v) place = good_with_value c a b t f (printed_expression v) place
+valued : {c : Allowed} {m : Maybe} (a : Atoms) (b : Tree) → variable_declarator_definite a ≡ no_value → Bound c b → IsValue c m → (place : Place) → DeclaredAt c place (tree.variable_declarator a b m)
+valued {c} a b m f family.no_value place = good_without_value c a b m f place
+valued {c} a b m f (family.a_value {t} v) place = good_with_value c a b t m f (printed_expression v) place
 
 declared : {c : Allowed} {t : Tree} → IsDeclarator c t → (place : Place) → DeclaredAt c place t
-declared (family.a_declarator {a} {b} v w) place = valued a b (bound v) w place
+declared (family.a_declarator {a} {b} m v w) place = valued a b m (bound v) w place
 
 -- as a list, and as more of one
 list_declared : {c : Allowed} {ds : Trees} → AreDeclarators c ds → (place : Place) → ListDeclaredAt c place ds × MoreDeclaredAt c place ds
@@ -179,5 +181,5 @@ list_declared {c} (family.first_declarator {d} {e} {ds} v w) place =
     let m = (list_declared w place).1 in
     (whole_list (ReadsDeclarator d1) (ReadsDeclarators d1) place d (more e ds) f m, one_more (ReadsDeclarator d1) (ReadsDeclarators d1) (declarators_join d1) place d (more e ds) f m)
 
-pub listed_declaration : {c : Allowed} {ds : Trees} (a : Atoms) → AreDeclarators c ds → Listed c (tree.variable_declaration a ds)
-listed_declaration {c} {ds} a v settings = whole_line (declaration_items a ds (among_statements settings)) (declaration_unended c a ds settings (list_declared v (behind levels.Lowest (among_statements settings))).0)
+pub listed_declaration : {c : Allowed} {ds : Trees} (a : Atoms) → variable_declaration_declare a ≡ no_value → AreDeclarators c ds → Listed c (tree.variable_declaration a ds)
+listed_declaration {c} {ds} a m v settings = whole_line (declaration_items a ds (among_statements settings)) (declaration_unended c a ds settings m (list_declared v (behind levels.Lowest (among_statements settings))).0)

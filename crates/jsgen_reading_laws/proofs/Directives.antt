@@ -209,7 +209,7 @@ first_stated {c} (family.a_statement (family.an_expression_statement {a} {e} v))
     go (Some us) s = let k = (asked v).inside us s in whole_line (first_string us) (string_written c a e us settings k.0 k.1)
     go None s = no_string_first (tree.expression_statement a e) (listed (family.a_statement (family.an_expression_statement {a = a} v))) ((asked v).string ∙ ap is_some s) settings
 first_stated {t = t} (family.a_statement v) settings = no_string_first t (listed (family.a_statement v)) refl settings
-first_stated {t = t} (family.a_declaration {a} v) settings = no_string_first t (listed (family.a_declaration {a = a} v)) refl settings
+first_stated {t = t} (family.a_declaration {a} m v) settings = no_string_first t (listed (family.a_declaration {a = a} m v)) refl settings
 
 -- ---- the statements of a body
 

@@ -154,9 +154,9 @@ mutual
   printed_expression {c} (family.in_parentheses {a} {t} v) = good_parenthesized c a t (printed_expression v)
   printed_expression {c} (family.an_operation {a} {l} {r} v w) = good_operation c a l r (asked v).alike (printed_expression v) (printed_expression w)
   printed_expression {c} (family.a_logical_operation {a} {l} {r} v w) = good_logical_operation c a l r (printed_expression v) (printed_expression w) (asked v).mixed (asked w).mixed
-  printed_expression {c} (family.a_named_member {a} {b} {o} v h) = good_named_member c a b o h (printed_expression v)
-  printed_expression {c} (family.a_computed_member {a} {o} {e} v w) = good_computed_member c a o e (printed_expression v) (printed_expression w)
-  printed_expression {c} (family.a_call {a} {f} {es} v w) = good_call c a f es (printed_expression v) (printed_arguments w)
+  printed_expression {c} (family.a_named_member {a} {b} {o} m v h) = good_named_member c a b o m h (printed_expression v)
+  printed_expression {c} (family.a_computed_member {a} {o} {e} m v w) = good_computed_member c a o e m (printed_expression v) (printed_expression w)
+  printed_expression {c} (family.a_call {a} {f} {es} m v w) = good_call c a f es m (printed_expression v) (printed_arguments w)
 
   printed_arguments : {c : Allowed} {es : Trees} → AreArguments c es → ArgumentsAt c es
   printed_arguments {c} family.no_argument = no_arguments c

@@ -2,9 +2,10 @@
 use Rattle.std.proofs.Common.{◌≡◌, ℕ, Bool, true, false, not, ◌&&◌, ◌++◌, List, [], ◌∷◌, Option, Some, None, is_some, refl, ap}
 use Rattle.std.proofs.lemmas.Bool.{both_ways, and_parts}
 use Rattle.jsgen_tree.specs.Atom.{Atom, text}
+use Rattle.jsgen_tree.specs.Atom as atoms
 use Rattle.jsgen_tree.specs.Tree.{Tree, Maybe, absent, given, Trees, no_trees, more, hole, Atoms, type_of, span_of}
 use Rattle.jsgen_tree.specs.Nodes as tree
-use Rattle.jsgen_tree.specs.Values.{as_text, program_kind, directive_directive, binding_identifier_name, identifier_reference_name, identifier_name_name, numeric_literal_kind, string_literal_value}
+use Rattle.jsgen_tree.specs.Values.{as_text, program_kind, directive_directive, binding_identifier_name, identifier_reference_name, identifier_name_name, numeric_literal_kind, string_literal_value, variable_declaration_declare, variable_declarator_definite, static_member_expression_optional, computed_member_expression_optional, call_expression_optional}
 use Rattle.jsgen_tree.specs.Everywhere.{EverywhereIfGiven, EverywhereInTrees}
 use Rattle.jsgen_tree.specs.Sets.{in_set, is_expression, is_statement, is_binding_pattern, is_variable_declarator, is_identifier_name, is_directive}
 use Rattle.jsgen_tree.specs.declared.types.NodeType.{NodeType}
@@ -17,7 +18,7 @@ use Rattle.jsgen_syntax.specs.Wtf8.{are_units}
 use Rattle.jsgen_model.specs.declared.fault.TreeFault.{TreeFault}
 use Rattle.jsgen_model.specs.declared.fault.TreeFault.TheVariants as faults
 use Rattle.jsgen_model.specs.Grammar.{Allowed, in_module}
-use Rattle.jsgen_model.specs.Plain.{IsPlain, is_plain_row, is_module, is_whole, is_raw, has_no_hole}
+use Rattle.jsgen_model.specs.Plain.{IsPlain, is_plain_row, is_module, is_whole, is_raw, is_absent, has_no_hole}
 use Rattle.jsgen_model.specs.Normal.{or_none, directive_units}
 use Rattle.jsgen_model.specs.Valid.{Surroundings, ChildPlace, breaches, in_maybe, in_trees, fault_if, set_faults, span_faults, own_faults, body_faults, name_faults, directive_faults, written_name_faults, declaration_faults}
 
@@ -28,9 +29,9 @@ mutual
     a_number : {c : Allowed} {a : Atoms} → is_whole (numeric_literal_kind a) a ≡ true → IsExpression c (tree.numeric_literal a)
     a_string : {c : Allowed} {a : Atoms} → are_units (string_literal_value a) ≡ true → IsExpression c (tree.string_literal a)
     in_parentheses : {c : Allowed} {a : Atoms} {t : Tree} → IsExpression c t → IsExpression c (tree.parenthesized a t)
-    a_named_member : {c : Allowed} {a b : Atoms} {o : Tree} → IsExpression c o → spells_name (identifier_name_name b) ≡ true → IsExpression c (tree.static_member a o (tree.identifier_name b))
-    a_computed_member : {c : Allowed} {a : Atoms} {o e : Tree} → IsExpression c o → IsExpression c e → IsExpression c (tree.computed_member a o e)
-    a_call : {c : Allowed} {a : Atoms} {f : Tree} {es : Trees} → IsExpression c f → AreArguments c es → IsExpression c (tree.call a f es)
+    a_named_member : {c : Allowed} {a b : Atoms} {o : Tree} → static_member_expression_optional a ≡ atoms.no_value → IsExpression c o → spells_name (identifier_name_name b) ≡ true → IsExpression c (tree.static_member a o (tree.identifier_name b))
+    a_computed_member : {c : Allowed} {a : Atoms} {o e : Tree} → computed_member_expression_optional a ≡ atoms.no_value → IsExpression c o → IsExpression c e → IsExpression c (tree.computed_member a o e)
+    a_call : {c : Allowed} {a : Atoms} {f : Tree} {es : Trees} → call_expression_optional a ≡ atoms.no_value → IsExpression c f → AreArguments c es → IsExpression c (tree.call a f es)
     an_operation : {c : Allowed} {a : Atoms} {l r : Tree} → IsExpression c l → IsExpression c r → IsExpression c (tree.binary a l r)
     a_logical_operation : {c : Allowed} {a : Atoms} {l r : Tree} → IsExpression c l → IsExpression c r → IsExpression c (tree.logical a l r)
 
@@ -46,7 +47,7 @@ mutual
     a_value : {c : Allowed} {t : Tree} → IsExpression c t → IsValue c (given t)
 
   pub data IsDeclarator : Allowed → Tree → Type 0 where
-    a_declarator : {c : Allowed} {a : Atoms} {b : Tree} {m : Maybe} → IsBinding c b → IsValue c m → IsDeclarator c (tree.variable_declarator a b m)
+    a_declarator : {c : Allowed} {a : Atoms} {b : Tree} {m : Maybe} → variable_declarator_definite a ≡ atoms.no_value → IsBinding c b → IsValue c m → IsDeclarator c (tree.variable_declarator a b m)
 
   pub data AreDeclarators : Allowed → Trees → Type 0 where
     last_declarator : {c : Allowed} {d : Tree} → IsDeclarator c d → AreDeclarators c (more d no_trees)
@@ -63,7 +64,7 @@ mutual
   -- a statement or a declaration
   pub data IsItem : Allowed → Tree → Type 0 where
     a_statement : {c : Allowed} {s : Tree} → IsStatement c s → IsItem c s
-    a_declaration : {c : Allowed} {a : Atoms} {ds : Trees} → AreDeclarators c ds → IsItem c (tree.variable_declaration a ds)
+    a_declaration : {c : Allowed} {a : Atoms} {ds : Trees} → variable_declaration_declare a ≡ atoms.no_value → AreDeclarators c ds → IsItem c (tree.variable_declaration a ds)
 
   pub data AreStatements : Allowed → Trees → Type 0 where
     no_statement : {c : Allowed} → AreStatements c no_trees
@@ -108,11 +109,16 @@ place_of s around = record { set = s; around = around }
 no_truth : false ≡ true → ⊥
 no_truth e = both_ways false refl e
 
+-- a field that holds nothing
+holds_nothing : (v : Atom) → is_absent v ≡ true → v ≡ atoms.no_value
+holds_nothing atoms.no_value e = refl
+holds_nothing v e = absurd (no_truth e)
+
 -- ---- the rows of expressions
 
-member_valid : (c : Allowed) (around : Surroundings) (a : Atoms) (o n : Tree) → IsExpression c o → IsPlain n → is_identifier_name (type_of n) ≡ true → breaches around n ≡ [] → IsExpression c (tree.static_member a o n)
-member_valid c around a o (tree.identifier_name b) v p s e = a_named_member v (none_unless (spells_name (identifier_name_name b)) (faults.Name b.span.start) (parts (span_faults b.span) (written_name_faults b.span (identifier_name_name b)) [] e).0)
-member_valid c around a o n v p s e = absurd (search no_truth)
+member_valid : (c : Allowed) (around : Surroundings) (a : Atoms) (o n : Tree) → static_member_expression_optional a ≡ atoms.no_value → IsExpression c o → IsPlain n → is_identifier_name (type_of n) ≡ true → breaches around n ≡ [] → IsExpression c (tree.static_member a o n)
+member_valid c around a o (tree.identifier_name b) m v p s e = a_named_member m v (none_unless (spells_name (identifier_name_name b)) (faults.Name b.span.start) (parts (span_faults b.span) (written_name_faults b.span (identifier_name_name b)) [] e).0)
+member_valid c around a o n m v p s e = absurd (search no_truth)
 
 mutual
   pub expression_valid : (c : Allowed) (around : Surroundings) (t : Tree) → IsPlain t → is_expression (type_of t) ≡ true → breaches around t ≡ [] → IsExpression c t
@@ -134,15 +140,16 @@ mutual
   expression_valid c around (tree.static_member a o n) p s e =
       let k = placed around sets.Expression o _ (parts (span_faults a.span) [] _ e).1 in
       let j = placed around sets.IdentifierName n [] k.2 in
-      member_valid c around a o n (expression_valid c around o p.1.0 k.0 k.1) p.1.1.0 j.0 j.1
+      member_valid c around a o n (holds_nothing (static_member_expression_optional a) p.0) (expression_valid c around o p.1.0 k.0 k.1) p.1.1.0 j.0 j.1
   expression_valid c around (tree.computed_member a o x) p s e =
       let k = placed around sets.Expression o _ (parts (span_faults a.span) [] _ e).1 in
       let j = placed around sets.Expression x [] k.2 in
-      a_computed_member (expression_valid c around o p.1.0 k.0 k.1) (expression_valid c around x p.1.1.0 j.0 j.1)
+      a_computed_member (holds_nothing (computed_member_expression_optional a) p.0) (expression_valid c around o p.1.0 k.0 k.1) (expression_valid c around x p.1.1.0 j.0 j.1)
   expression_valid c around (tree.call a f es) p s e =
       let k = placed around sets.Expression f _ (parts (span_faults a.span) [] _ e).1 in
       let j = none_both (in_trees around (place_of sets.Argument around ∷ []) es) [] k.2 in
-      a_call (expression_valid c around f p.1.0 k.0 k.1) (arguments_valid c around es p.0 p.1.1.0 j.0)
+      let h = and_parts (is_absent (call_expression_optional a)) (has_no_hole es) p.0 in
+      a_call (holds_nothing (call_expression_optional a) h.0) (expression_valid c around f p.1.0 k.0 k.1) (arguments_valid c around es h.1 p.1.1.0 j.0)
   expression_valid c around t p s e = absurd (search no_truth)
 
   arguments_valid : (c : Allowed) (around : Surroundings) (es : Trees) → has_no_hole es ≡ true → EverywhereInTrees is_plain_row es → in_trees around (place_of sets.Argument around ∷ []) es ≡ [] → AreArguments c es
@@ -166,7 +173,7 @@ declarator_valid : (c : Allowed) (around : Surroundings) (t : Tree) → IsPlain 
 declarator_valid c around (tree.variable_declarator a b m) p s e =
     let k = placed around sets.BindingPattern b _ (parts (span_faults a.span) [] _ e).1 in
     let j = none_both (in_maybe around (place_of sets.Expression around ∷ []) m) [] k.2 in
-    a_declarator (binding_valid c around b p.1.0 k.0 k.1) (value_valid c around m p.1.1.0 j.0)
+    a_declarator (holds_nothing (variable_declarator_definite a) p.0) (binding_valid c around b p.1.0 k.0 k.1) (value_valid c around m p.1.1.0 j.0)
 declarator_valid c around t p s e = absurd (search no_truth)
 
 -- a declaration has a declarator
@@ -184,14 +191,15 @@ declarators_valid c around a (hole ds) n p f e = absurd (no_truth n)
 -- where no declaration may stand
 body_valid : {c : Allowed} (t : Tree) → body_faults t ≡ [] → IsItem c t → IsStatement c t
 body_valid t e (a_statement v) = v
-body_valid t e (a_declaration v) = absurd (cc)
+body_valid t e (a_declaration m v) = absurd (cc)
 
 mutual
   item_valid : (c : Allowed) (around : Surroundings) (t : Tree) → IsPlain t → is_statement (type_of t) ≡ true → breaches around t ≡ [] → IsItem c t
   item_valid c around (tree.variable_declaration a ds) p s e =
       let h = parts (span_faults a.span) (declaration_faults a.span ds) _ e in
       let k = none_both (in_trees around (place_of sets.VariableDeclarator around ∷ []) ds) [] h.1 in
-      a_declaration (declarators_valid c around a ds p.0 p.1.0 h.0 k.0)
+      let m = and_parts (is_absent (variable_declaration_declare a)) (has_no_hole ds) p.0 in
+      a_declaration (holds_nothing (variable_declaration_declare a) m.0) (declarators_valid c around a ds m.1 p.1.0 h.0 k.0)
   item_valid c around (tree.expression_statement a t) p s e =
       let k = placed around sets.Expression t [] (parts (span_faults a.span) [] _ e).1 in
       a_statement (an_expression_statement (expression_valid c around t p.1.0 k.0 k.1))

@@ -1,12 +1,14 @@
 -- Members and calls.
-use Rattle.std.proofs.Common.{◌≡◌, ℕ, Bool, true, false, Some, List, refl, sym, ap, subst, arith}
+use Rattle.std.proofs.Common.{◌≡◌, ℕ, Bool, true, false, Some, List, [], ◌∷◌, refl, sym, ap, subst, arith}
 use Rattle.std.proofs.lemmas.Bool.{or_parts}
 use Rattle.jsgen_syntax.specs.Escapes.{name_text, word_value}
 use Rattle.jsgen_syntax.specs.Name.{spells_name}
 use Rattle.jsgen_syntax.proofs.Escapes.{word_text_value}
 use Rattle.jsgen_syntax.specs.declared.precedence.Precedence.TheVariants as levels
+use Rattle.jsgen_tree.specs.Atom.{no_value}
 use Rattle.jsgen_tree.specs.Tree.{Tree, Trees, no_trees, more, Atoms}
-use Rattle.jsgen_tree.specs.Values.{identifier_name_name}
+use Rattle.jsgen_tree.specs.Places.{bare}
+use Rattle.jsgen_tree.specs.Values.{identifier_name_name, static_member_expression_optional, computed_member_expression_optional, call_expression_optional}
 use Rattle.jsgen_tree.specs.Nodes as tree
 use Rattle.jsgen_model.specs.Punctuator.{dot, Round, Square, opening, closing}
 use Rattle.jsgen_model.specs.Tokens.{Tokens, done, piece, group, ◌⧺◌, Word, Sign}
@@ -37,8 +39,8 @@ linked_read false f h r = behind_callee refl f h r
 
 -- ---- members
 
-pub good_named_member : (c : Allowed) (a b : Atoms) (o : Tree) → spells_name (identifier_name_name b) ≡ true → Printed c o → Printed c (tree.static_member a o (tree.identifier_name b))
-good_named_member c a b o h f place p l z y k =
+pub good_named_member : (c : Allowed) (a b : Atoms) (o : Tree) → static_member_expression_optional a ≡ no_value → spells_name (identifier_name_name b) ≡ true → Printed c o → Printed c (tree.static_member a o (tree.identifier_name b))
+good_named_member c a b o m h f place p l z y k =
     let v : List ℕ = identifier_name_name b in
     let p1 : Pen = layout (spell o (linked place)) p in
     let p2 : Pen = layout member_dot p1 in
@@ -57,14 +59,14 @@ good_named_member c a b o h f place p l z y k =
       line = λ e. line_then g.tokens (piece (line_of g.last) (Sign dot) (piece false (Word w) done)) (g.line e);
       tree = tree.static_member (nothing_of 1) g.tree (tree.identifier_name (named v));
       reads = from_left place (linked_read place.context.forbids_call (λ r. grammar.a_named_member w (line_of g.last) false refl x r) (λ r. grammar.a_named_member_of_call w (line_of g.last) false refl x r) g.reads);
-      same = ap (λ u. tree.static_member (nothing_of 1) u (tree.identifier_name (named v))) g.same;
+      same = λ i. tree.static_member (bare (sym m i ∷ [])) (g.same i) (tree.identifier_name (named v));
     }
 
-same_member : (u v x y : Tree) → normal u ≡ normal x → normal v ≡ normal y → tree.computed_member (nothing_of 1) (normal u) (normal v) ≡ tree.computed_member (nothing_of 1) (normal x) (normal y)
-same_member u v x y e f = λ i. tree.computed_member (nothing_of 1) (e i) (f i)
+same_member : (a : Atoms) (u v x y : Tree) → computed_member_expression_optional a ≡ no_value → normal u ≡ normal x → normal v ≡ normal y → normal (tree.computed_member (nothing_of 1) u v) ≡ normal (tree.computed_member a x y)
+same_member a u v x y m e f = λ i. tree.computed_member (bare (sym m i ∷ [])) (e i) (f i)
 
-computed_parts : (c : Allowed) (a : Atoms) (o x : Tree) (place : Place) (p p1 q : Pen) (l : Last) → (g : Good p l p1 (under place c) (left_hand_side place.context.forbids_call) place.start o) → Good (written (opening Square) other_end p1) (Open false) q (with_in c) grammar.Expression (in_brackets levels.Lowest place).start x → Good p l (written (closing Square) other_end q) (under place c) (level_of place) place.start (tree.computed_member a o x)
-computed_parts c a o x place p p1 q l g h = record {
+computed_parts : (c : Allowed) (a : Atoms) (o x : Tree) (place : Place) (p p1 q : Pen) (l : Last) → computed_member_expression_optional a ≡ no_value → (g : Good p l p1 (under place c) (left_hand_side place.context.forbids_call) place.start o) → Good (written (opening Square) other_end p1) (Open false) q (with_in c) grammar.Expression (in_brackets levels.Lowest place).start x → Good p l (written (closing Square) other_end q) (under place c) (level_of place) place.start (tree.computed_member a o x)
+computed_parts c a o x place p p1 q l m g h = record {
   last = Open false;
   tokens = g.tokens ⧺ group (line_of g.last) Square h.tokens done;
   writes = wrote_both g.writes (brackets_written Square p1 q g.last h.last h.tokens h.writes);
@@ -74,16 +76,16 @@ computed_parts c a o x place p p1 q l g h = record {
   line = λ e. line_then g.tokens (group (line_of g.last) Square h.tokens done) (g.line e);
   tree = tree.computed_member (nothing_of 1) g.tree h.tree;
   reads = from_left place (linked_read place.context.forbids_call (λ r. grammar.a_computed_member (line_of g.last) refl r h.reads) (λ r. grammar.a_computed_member_of_call (line_of g.last) refl r h.reads) g.reads);
-  same = same_member g.tree h.tree o x g.same h.same;
+  same = same_member a g.tree h.tree o x m g.same h.same;
 }
 
-pub good_computed_member : (c : Allowed) (a : Atoms) (o x : Tree) → Printed c o → Printed c x → Printed c (tree.computed_member a o x)
-good_computed_member c a o x f h place p l z y k =
+pub good_computed_member : (c : Allowed) (a : Atoms) (o x : Tree) → computed_member_expression_optional a ≡ no_value → Printed c o → Printed c x → Printed c (tree.computed_member a o x)
+good_computed_member c a o x m f h place p l z y k =
     let p1 : Pen = layout (spell o (linked place)) p in
     let p2 : Pen = written (opening Square) other_end p1 in
     let g = f (linked place) p l z y k in
     let i = h (in_brackets levels.Lowest place) p2 (Open false) g.semicolon tt (within_brackets Square p1 g.last g.writes.knows) in
-    computed_parts c a o x place p p1 (layout (spell x (in_brackets levels.Lowest place)) p2) l g i
+    computed_parts c a o x place p p1 (layout (spell x (in_brackets levels.Lowest place)) p2) l m g i
 
 -- ---- arguments
 
@@ -118,11 +120,11 @@ one_more_argument c e es f m place = one_more (ReadsExpression (with_in c) gramm
 
 -- ---- calls
 
-same_call : (u x : Tree) (us xs : Trees) → normal u ≡ normal x → normal_trees us ≡ normal_trees xs → tree.call (nothing_of 2) (normal u) (normal_trees us) ≡ tree.call (nothing_of 2) (normal x) (normal_trees xs)
-same_call u x us xs e f = λ i. tree.call (nothing_of 2) (e i) (f i)
+same_call : (a : Atoms) (u x : Tree) (us xs : Trees) → call_expression_optional a ≡ no_value → normal u ≡ normal x → normal_trees us ≡ normal_trees xs → normal (tree.call (nothing_of 2) u us) ≡ normal (tree.call a x xs)
+same_call a u x us xs m e f = λ i. tree.call (bare (sym m i ∷ no_value ∷ [])) (e i) (f i)
 
-call_parts : (c : Allowed) (a : Atoms) (t : Tree) (es : Trees) (start : Start) (p p1 q : Pen) (l : Last) → (g : Good p l p1 c grammar.Callee start t) → Elements (ReadsArguments (with_in c)) (written (opening Round) other_end p1) (Open false) q es → Good p l (written (closing Round) other_end q) c grammar.Call start (tree.call a t es)
-call_parts c a t es start p p1 q l g h = record {
+call_parts : (c : Allowed) (a : Atoms) (t : Tree) (es : Trees) (start : Start) (p p1 q : Pen) (l : Last) → call_expression_optional a ≡ no_value → (g : Good p l p1 c grammar.Callee start t) → Elements (ReadsArguments (with_in c)) (written (opening Round) other_end p1) (Open false) q es → Good p l (written (closing Round) other_end q) c grammar.Call start (tree.call a t es)
+call_parts c a t es start p p1 q l m g h = record {
   last = Open false;
   tokens = g.tokens ⧺ group (line_of g.last) Round h.tokens done;
   writes = wrote_both g.writes (brackets_written Round p1 q g.last h.last h.tokens h.writes);
@@ -132,7 +134,7 @@ call_parts c a t es start p p1 q l g h = record {
   line = λ e. line_then g.tokens (group (line_of g.last) Round h.tokens done) (g.line e);
   tree = tree.call (nothing_of 2) g.tree h.trees;
   reads = grammar.with_arguments (line_of g.last) refl g.reads h.reads;
-  same = same_call g.tree t h.trees es g.same h.same;
+  same = same_call a g.tree t h.trees es m g.same h.same;
 }
 
 -- without parentheses calls aren't forbidden
@@ -141,8 +143,8 @@ unwrapped_call {c} {ts} {u} place e r =
     let k = or_parts (wraps levels.New place) place.context.forbids_call e in
     unwrapped levels.New place k.0 (subst (λ b. ReadsExpression c (left_hand_side b) ts u) (sym k.1) (grammar.a_called_call r))
 
-pub good_call : (c : Allowed) (a : Atoms) (t : Tree) (es : Trees) → Printed c t → ArgumentsAt c es → Printed c (tree.call a t es)
-good_call c a t es f h place =
+pub good_call : (c : Allowed) (a : Atoms) (t : Tree) (es : Trees) → call_expression_optional a ≡ no_value → Printed c t → ArgumentsAt c es → Printed c (tree.call a t es)
+good_call c a t es m f h place =
     good_wrapped c place grammar.Call (call_wraps place) (λ w. spell t (called (within w place)) ⊕ brackets Round (spell_list es (in_brackets levels.Comma place))) (tree.call a t es)
     (λ d ts u r. lifted false levels.Postfix levels.Lowest (omega arith) (grammar.a_called_call r)) (λ e ts u r. unwrapped_call place e r) inner
   where
@@ -152,4 +154,4 @@ good_call c a t es f h place =
         let p2 : Pen = written (opening Round) other_end p1 in
         let g = f (called (within v place)) p l z y k in
         let i = h place p2 g.semicolon (within_brackets Round p1 g.last g.writes.knows) in
-        call_parts (under (within v place) c) a t es (unless_printed v place.start) p p1 (layout (spell_list es (in_brackets levels.Comma place)) p2) l g i
+        call_parts (under (within v place) c) a t es (unless_printed v place.start) p p1 (layout (spell_list es (in_brackets levels.Comma place)) p2) l m g i

@@ -1,10 +1,10 @@
 -- A normal form is its own.
 use Rattle.std.proofs.Common.{◌≡◌, Bool, true, false, cond, [], ◌∷◌, refl, ap, ◌∙◌}
 use Rattle.jsgen_syntax.specs.declared.operator.LogicalOperator.{LogicalOperator}
-use Rattle.jsgen_tree.specs.Atom.{binary_operator, logical_operator}
+use Rattle.jsgen_tree.specs.Atom.{no_value, declaration_kind, binary_operator, logical_operator}
 use Rattle.jsgen_tree.specs.Tree.{Tree, node, Slots, no_slots, one, maybe, many, maybe_many, Maybe, absent, given, Trees, no_trees, more, hole, MaybeTrees, no_list, listed}
 use Rattle.jsgen_tree.specs.Places.{bare}
-use Rattle.jsgen_tree.specs.Values.{variable_declaration_kind, binary_expression_operator, logical_expression_operator}
+use Rattle.jsgen_tree.specs.Values.{variable_declaration_kind, variable_declaration_declare, variable_declarator_definite, static_member_expression_optional, computed_member_expression_optional, call_expression_optional, binary_expression_operator, logical_expression_operator}
 use Rattle.jsgen_tree.specs.Inside.{ends_open}
 use Rattle.jsgen_tree.specs.Nodes as tree
 use Rattle.std.proofs.lemmas.Bool.{both_ways}
@@ -64,8 +64,8 @@ mutual
   normal_again (tree.program a directives body) = let e = normal_trees_again directives in let f = normal_trees_again body in λ i. tree.program (nothing_of 4) (e i) (f i)
   normal_again (tree.directive a) = refl
   normal_again (tree.expression_statement a expression) = ap (λ e. tree.expression_statement (nothing_of 0) e) (normal_again expression)
-  normal_again (tree.variable_declaration a declarations) = ap (λ ts. tree.variable_declaration (declared_as (variable_declaration_kind a)) ts) (normal_trees_again declarations)
-  normal_again (tree.variable_declarator a id init) = let e = normal_again id in let f = normal_maybe_again init in λ i. tree.variable_declarator (nothing_of 1) (e i) (f i)
+  normal_again (tree.variable_declaration a declarations) = ap (λ ts. tree.variable_declaration (bare (declaration_kind (variable_declaration_kind a) ∷ variable_declaration_declare a ∷ [])) ts) (normal_trees_again declarations)
+  normal_again (tree.variable_declarator a id init) = let e = normal_again id in let f = normal_maybe_again init in λ i. tree.variable_declarator (bare (variable_declarator_definite a ∷ [])) (e i) (f i)
   normal_again (tree.binding_identifier a) = refl
   normal_again (tree.identifier_reference a) = refl
   normal_again (tree.this_expression a) = refl
@@ -78,9 +78,9 @@ mutual
   normal_again (tree.if_statement a test consequent alternate) = let e = normal_again test in let f = unbraced_again (normal consequent) (normal_again consequent) in let g = normal_maybe_again alternate in λ i. tree.if_statement (nothing_of 0) (e i) (f i) (g i)
   normal_again (tree.empty_statement a) = refl
   normal_again (tree.identifier_name a) = refl
-  normal_again (tree.static_member a object property) = let e = normal_again object in let f = normal_again property in λ i. tree.static_member (nothing_of 1) (e i) (f i)
-  normal_again (tree.computed_member a object expression) = let e = normal_again object in let f = normal_again expression in λ i. tree.computed_member (nothing_of 1) (e i) (f i)
-  normal_again (tree.call a callee arguments) = let e = normal_again callee in let f = normal_trees_again arguments in λ i. tree.call (nothing_of 2) (e i) (f i)
+  normal_again (tree.static_member a object property) = let e = normal_again object in let f = normal_again property in λ i. tree.static_member (bare (static_member_expression_optional a ∷ [])) (e i) (f i)
+  normal_again (tree.computed_member a object expression) = let e = normal_again object in let f = normal_again expression in λ i. tree.computed_member (bare (computed_member_expression_optional a ∷ [])) (e i) (f i)
+  normal_again (tree.call a callee arguments) = let e = normal_again callee in let f = normal_trees_again arguments in λ i. tree.call (bare (call_expression_optional a ∷ no_value ∷ [])) (e i) (f i)
   normal_again (node type a slots) = ap (λ s. node type (bare a.values) s) (normal_slots_again slots)
 
   normal_slots_again : (s : Slots) → normal_slots (normal_slots s) ≡ normal_slots s

@@ -71,7 +71,7 @@ mutual
 
   pub listed : {c : Allowed} {t : Tree} → IsItem c t → Listed c t
   listed {t = t} (family.a_statement v) = listed_statement t (stated v)
-  listed (family.a_declaration {a} v) = listed_declaration a v
+  listed (family.a_declaration {a} m v) = listed_declaration a m v
 
   -- as a whole row, and as the rest of one
   pub rows : {c : Allowed} {ss : Trees} → AreStatements c ss → (settings : Settings) → RowAt c (spell_statements ss settings) ss × RestAt c (spell_statements ss settings) ss

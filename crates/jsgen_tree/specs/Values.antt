@@ -61,6 +61,14 @@ program_source a = as_text (value_at 0 a.values)
 abbrev pub program_kind : Atoms → SourceKind
 program_kind a = as_source_kind (value_at 1 a.values)
 
+-- not read yet
+abbrev pub program_jsx : Atoms → Atom
+program_jsx a = value_at 2 a.values
+
+-- not read yet
+abbrev pub program_typescript : Atoms → Atom
+program_typescript a = value_at 3 a.values
+
 -- the field's text, or the units that it was read as
 abbrev pub directive_directive : Atoms → Atom
 directive_directive a = value_at 0 a.values
@@ -68,11 +76,27 @@ directive_directive a = value_at 0 a.values
 abbrev pub variable_declaration_kind : Atoms → VariableDeclarationKind
 variable_declaration_kind a = as_declaration_kind (value_at 0 a.values)
 
+-- not read yet
+abbrev pub variable_declaration_declare : Atoms → Atom
+variable_declaration_declare a = value_at 1 a.values
+
+-- not read yet
+abbrev pub variable_declarator_definite : Atoms → Atom
+variable_declarator_definite a = value_at 0 a.values
+
 abbrev pub binding_identifier_name : Atoms → List ℕ
 binding_identifier_name a = as_text (value_at 0 a.values)
 
+-- not read yet
+abbrev pub binding_identifier_symbol : Atoms → Atom
+binding_identifier_symbol a = value_at 1 a.values
+
 abbrev pub identifier_reference_name : Atoms → List ℕ
 identifier_reference_name a = as_text (value_at 0 a.values)
+
+-- not read yet
+abbrev pub identifier_reference_reference : Atoms → Atom
+identifier_reference_reference a = value_at 1 a.values
 
 abbrev pub numeric_literal_kind : Atoms → NumericKind
 numeric_literal_kind a = as_numeric_kind (value_at 0 a.values)
@@ -97,6 +121,18 @@ logical_expression_operator a = as_logical_operator (value_at 0 a.values)
 
 abbrev pub identifier_name_name : Atoms → List ℕ
 identifier_name_name a = as_text (value_at 0 a.values)
+
+-- not read yet
+abbrev pub static_member_expression_optional : Atoms → Atom
+static_member_expression_optional a = value_at 0 a.values
+
+-- not read yet
+abbrev pub computed_member_expression_optional : Atoms → Atom
+computed_member_expression_optional a = value_at 0 a.values
+
+-- not read yet
+abbrev pub call_expression_optional : Atoms → Atom
+call_expression_optional a = value_at 0 a.values
 
 abbrev pub call_expression_pure : Atoms → Bool
 call_expression_pure a = as_flag (value_at 1 a.values)

@@ -14,15 +14,19 @@ def write(table):
 
 def kinds(table):
     """Each kind of value that a named field has: its name, what it holds, and what stands for a value of another kind."""
-    used = {f.kind for n in table.nodes.values() for f in named(table, n)}
+    used = {f.kind for n in table.nodes.values() for f in table.values(n) if is_read(n, f)}
     every = [(k, *HELD[k]) for k in VALUES if k in used]
     return every + [(w.short, w.name, f"{w.alias}.{w.words[0][1]}") for w in table.words.values() if w.name in used]
 
 
-def named(table, n):
-    """The fields whose values have a definition: those that are read, and those of one that is written by hand."""
-    by_hand = {f.name for outer in n.fields for f in outer.parts or []}
-    return [f for f in table.values(n) if not f.unread or f.name in by_hand]
+def is_read(n, f):
+    """Whether the field's value has its kind: those of a field that is written by hand have, also where they aren't read yet."""
+    return not f.unread or f.name in {it.name for outer in n.fields for it in outer.parts or []}
+
+
+def is_whole(n, f):
+    """Whether the value is given as it stands, since it may be of two kinds, or isn't read yet."""
+    return bool(f.other) or not is_read(n, f)
 
 
 def kind_of(table, f):
@@ -39,10 +43,11 @@ def values(table):
     parts += [f"abbrev pub as_{k} : Atom → {h}\nas_{k} ({k} x) = x\nas_{k} v = {other}" for k, h, other in kinds(table)]
     parts += ["-- ---- fields, by the type of the node and the field's name"]
     for n in table.nodes.values():
-        for f in named(table, n):
+        for f in table.values(n):
             k, at = kind_of(table, f), f"value_at {table.values(n).index(f)} a.values"
-            result, body = ("Atom", at) if f.other else (held[k], f"as_{k} ({at})")
+            result, body = ("Atom", at) if is_whole(n, f) else (held[k], f"as_{k} ({at})")
             doc = f"-- the field's {f.kind}, or the {f.other} that it was read as\n" if f.other else ""
+            doc = doc if is_read(n, f) else "-- not read yet\n"
             parts.append(f"{doc}abbrev pub {reader(n, f)} : Atoms → {result}\n{reader(n, f)} a = {body}")
     homes = [("Rattle.std.specs.Prelude", ["ℕ", "List", "[]", "Bool", "false"])] + words_in_antt(table) + atoms(table) + TREE
     homes += [(f"{SPECS}.Places", ["value_at"])]
@@ -55,14 +60,14 @@ def law(table):
     lines = ""
     for n in table.nodes.values():
         facts = []
-        for f in named(table, n):
+        for f in table.values(n):
             value = f'value_named (codes "{f.name}") (fields types.{n.name}) a.values'
-            facts.append(f"{reader(n, f)} a ≡ {value if f.other else f'as_{kind_of(table, f)} ({value})'}")
+            facts.append(f"{reader(n, f)} a ≡ {value if is_whole(n, f) else f'as_{kind_of(table, f)} ({value})'}")
         if facts:
             said = facts[0] if len(facts) == 1 else " × ".join(f"({fact})" for fact in facts)
             lines += f"  pub {snake(n.name)} : (a : Atoms) → {said}\n"
     body = f"-- each value is that of the field of its name\npub record FieldsAreNamed : Type 0 where\n{lines}"
-    readers = [reader(n, f) for n in table.nodes.values() for f in named(table, n)]
+    readers = [reader(n, f) for n in table.nodes.values() for f in table.values(n)]
     homes = [("Rattle.std.specs.Prelude", ["◌≡◌", "codes"])] + TREE
     homes += [(f"{SPECS}.Table", ["value_named"]), (f"{SPECS}.Fields", ["fields"]),
               (f"{SPECS}.Values", [f"as_{k}" for k, _, _ in kinds(table)] + readers)]
@@ -72,7 +77,7 @@ def law(table):
 def proof(table):
     lines = ""
     for n in table.nodes.values():
-        count = len(named(table, n))
+        count = len(table.values(n))
         if count:
             lines += f"  {snake(n.name)} = λ a. {'refl' if count == 1 else '(' + ', '.join(['refl'] * count) + ')'};\n"
     body = f"pub returns : goal.returns\nreturns c = record {{\n{lines}}}"

@@ -5,15 +5,18 @@ use Rattle.jsgen_tree.proofs.laws.fields_are_named.Goals as goal
 
 pub returns : goal.returns
 returns c = record {
-  program = λ a. (refl, refl);
+  program = λ a. (refl, refl, refl, refl);
   directive = λ a. refl;
-  variable_declaration = λ a. refl;
-  binding_identifier = λ a. refl;
-  identifier_reference = λ a. refl;
+  variable_declaration = λ a. (refl, refl);
+  variable_declarator = λ a. refl;
+  binding_identifier = λ a. (refl, refl);
+  identifier_reference = λ a. (refl, refl);
   numeric_literal = λ a. (refl, refl, refl, refl);
   string_literal = λ a. refl;
   binary_expression = λ a. refl;
   logical_expression = λ a. refl;
   identifier_name = λ a. refl;
-  call_expression = λ a. refl;
+  static_member_expression = λ a. refl;
+  computed_member_expression = λ a. refl;
+  call_expression = λ a. (refl, refl);
 }
