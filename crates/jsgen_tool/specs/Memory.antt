@@ -1,12 +1,12 @@
 -- What the devices in memory show of themselves, and what a call does to them.
-use Rattle.std.specs.Prelude.{◌≡◌, ℕ, ◌+◌, ◌-◌, ◌^◌, ◌↔◌, min, Bool, true, List, [], ◌∷◌, ◌++◌, length, take, drop, nat_eq, nat_lt, if◌then◌else◌, Option, Some, None, Result, Contains, IsErr, IsTrue, IfOk}
+use Rattle.std.specs.Prelude.{◌≡◌, ℕ, ◌+◌, ◌-◌, ◌^◌, ◌↔◌, min, Bool, true, List, [], ◌∷◌, ◌++◌, length, take, drop, nat_eq, nat_lt, if◌then◌else◌, Option, Some, None, Result, Contains, IsErr, IsTrue, IfOk, OnErr}
 use Rattle.jsgen_tool.specs.declared.device.Failed.{Failed}
 use Rattle.jsgen_tool.specs.declared.memory.MemSource.{MemSource}
 use Rattle.jsgen_tool.specs.declared.memory.SureSource.{SureSource}
 use Rattle.jsgen_tool.specs.declared.memory.MemSink.{MemSink}
 use Rattle.jsgen_tool.specs.declared.memory.SureSink.{SureSink}
 
--- the number of the call behind this many calls; the counter stops at its last value
+-- what a counter says behind one more; it stops at its last value
 abbrev pub next_call : ℕ → ℕ
 next_call calls = min (calls + 1) (2 ^ 64 - 1)
 
@@ -34,6 +34,7 @@ pub record Pulls (old new : MemSource) (room : ℕ) (result : Result ℕ Failed)
   pub list : source_list new ≡ source_list old
   pub failed : IsErr result ↔ Contains (source_list old) (source_calls new)
   pub count : IfOk result (λ n. n ≡ min room (length (source_left old)))
+  pub faults : OnErr result (source_faults new ≡ next_call (source_faults old))
 
 -- the bytes still to come
 abbrev pub sure_left : SureSource → List ℕ
@@ -86,6 +87,7 @@ pub record Pushes (old new : MemSink) (piece : List ℕ) (result : Result (Unit 
   pub room : sink_room new ≡ sink_room old
   pub got : sink_got new ≡ sink_got old ++ take (taken_of (listed (sink_list old) (sink_calls new)) (length piece) (room_left old)) piece
   pub failed : IsErr result ↔ IsTrue (fails (listed (sink_list old) (sink_calls new)) (length piece) (room_left old))
+  pub faults : OnErr result (sink_faults new ≡ next_call (sink_faults old))
 
 -- the bytes taken
 abbrev pub sure_got : SureSink → List ℕ
@@ -107,3 +109,4 @@ pub record SurelyPushes (old new : SureSink) (piece : List ℕ) (result : Result
   pub room : sure_room new ≡ sure_room old
   pub got : sure_got new ≡ sure_got old ++ take (taken_of None (length piece) (sure_room_left old)) piece
   pub failed : IsErr result ↔ IsTrue (nat_lt (sure_room_left old) (length piece))
+  pub faults : OnErr result (sure_faults new ≡ next_call (sure_faults old))

@@ -102,7 +102,12 @@ impl Source for SureSource {
 
     ghost faults = { λ s. 0 };
 
-    fn pull(&mut self, into: &mut [u8]) -> Result<usize, Failed> {
+    fn pull(&mut self, into: &mut [u8]) -> Result<usize, Failed>
+        ensures bound { ReadsAtMost result into.new }
+        ensures bytes { ReadConsumes (Some (sure_left self.old)) (Some (sure_left self.new)) result into.new }
+        ensures cause { HasCause 0 0 result }
+        ensures exact { IfOk result (λ n. n ≡ min (length into.old) (length (sure_left self.old))) }
+    {
         let count = take_into(&self.bytes, self.at, into);
         self.at += count;
         Ok(count)
