@@ -98,15 +98,22 @@ def everywhere(copy, pattern, old, new, kind):
 RECORD = "last = g.last; tokens = g.tokens; writes = g.writes; operand = g.operand; semicolon = g.semicolon; begins = g.begins; line = g.line; tree = g.tree; reads = g.reads; same = g.same"
 
 
-def read_as(copy, old, new, children, premises):
-    """The lemma that what is printed is read: by that of the type that is copied."""
-    words = " ".join(children)
-    copy.change(LAWS + "Expressions.antt", lambda text: text.replace("-- ---- the whole\n", f"""good_{new} : (c : Allowed) (a : Atoms) {" → ".join(premises)} → Printed c (tree.{new} a {words})
-good_{new} c a {words} f h place p l z y k = let g = good_{old} c a {words} f h place p l z y k in record {{ {RECORD} }}
+def read_as(copy, old, new, children, kinds):
+    """The lemma that what is printed is read: since it is so of the type that is copied, whose line is copied too."""
+    of_old, of_new = f"tree.{old} a {children}", f"tree.{new} a {children}"
+    lemma = f"""good_{new} : (c : Allowed) (a : Atoms) {kinds} → Printed c ({of_old}) → Printed c ({of_new})
+good_{new} c a {children} f place p l z y k = let g = f place p l z y k in record {{ {RECORD} }}
 
 -- ---- the whole
-""", 1))
-    copy.copy_clause(LAWS + "Expressions.antt", f"printed_expression {{c}} (family.a_{old} ", (f"a_{old} ", f"a_{new} "), (f"good_{old} ", f"good_{new} "))
+"""
+    copy.change(LAWS + "Expressions.antt", lambda text: text.replace("-- ---- the whole\n", lemma, 1))
+
+    def line(clause):
+        left, right = clause.rstrip("\n").split(" = ", 1)
+        words = right.split(" ")
+        return f"{left.replace(f'a_{old} ', f'a_{new} ')} = good_{new} {' '.join(words[1:5])} ({right})\n"
+
+    copy.behind_clause(LAWS + "Expressions.antt", f"printed_expression {{c}} (family.a_{old} ", line)
 
 
 def pair(copy, k):
@@ -116,7 +123,7 @@ def pair(copy, k):
     everywhere(copy, (f"tree.{old} a object expression", f"tree.{new} a object expression"), old, new, old)
     copy.copy_clause(LAWS + "Families.antt", f"expression_valid c around (tree.{old} ", (f"tree.{old} ", f"tree.{new} "), (f"a_{old} (", f"a_{new} ("))
     copy.copy_clause(LAWS + "Asked.antt", f"asked (family.a_{old} ", (f"a_{old} ", f"a_{new} "))
-    read_as(copy, old, new, ("o", "x"), ("(o x : Tree)", "Printed c o", "Printed c x"))
+    read_as(copy, old, new, "o x", "(o x : Tree)")
     row = f"pair_{k}_expression"
     copy.copy_function(NODES + "links.rt", "print_computed_member_expression", ("print_computed_member_expression", f"print_{row}"), ("computed_member_expression_row", f"{row}_row"), ("ComputedMemberExpression", name))
     copy.imports(NODES + "links.rt", f"ghost use Rattle.jsgen_tree.specs.Rows.{{{row}_row}};\nuse jsgen_tree::{name};")
@@ -131,7 +138,7 @@ def call(copy, k):
     everywhere(copy, (f"tree.{old} a callee arguments", f"tree.{new} a callee arguments"), old, new, old)
     copy.copy_clause(LAWS + "Families.antt", f"expression_valid c around (tree.{old} ", (f"tree.{old} ", f"tree.{new} "), (f"a_{old} (", f"a_{new} ("))
     copy.copy_clause(LAWS + "Asked.antt", f"asked (family.a_{old} ", (f"a_{old} ", f"a_{new} "))
-    read_as(copy, old, new, ("t", "es"), ("(t : Tree) (es : Trees)", "Printed c t", "ArgumentsAt c es"))
+    read_as(copy, old, new, "t es", "(t : Tree) (es : Trees)")
     row = f"call_{k}_expression"
     changes = (("print_call_expression", f"print_{row}"), ("print_call", f"print_call_{k}"), ("call_expression_row", f"{row}_row"), ("CallExpression", name), (r"(from_residual-in_err|in_ok|in_err|c)([-.])print_call", rf"\1\2print_call_{k}"))
     copy.copy_function(NODES + "links.rt", "print_call", *changes[1:4])
