@@ -18,3 +18,4 @@ pub mod Options
 pub mod Job
 pub mod Everywhere
 pub mod Law
+pub mod Signs
