@@ -13,5 +13,3 @@ not_none n = grind (arith, nat_tests)
 pub declaration_faults-count : {A : Type 0} (s : Span) (f : A → Tree) (xs : List A) → declaration_faults s (trees (map f xs)) ≡ (if (length xs == 0) then faults.Place s.start ∷ [] else [])
 declaration_faults-count s f [] = refl
 declaration_faults-count s f (x ∷ xs) = ap (λ b. if b then faults.Place s.start ∷ [] else []) (not_none (length xs))
-
-pub ruleset counted = (declaration_faults-count)

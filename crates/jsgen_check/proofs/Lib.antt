@@ -1,4 +1,4 @@
 pub mod Declarators
-pub mod Heights
+pub mod Programs
 pub mod Steps
 pub mod Verdicts

@@ -1,8 +1,8 @@
--- What a check answers, step by step: the first fault, or what the steps behind find.
-use Rattle.std.proofs.Common.{◌≡◌, ℕ, ◌+◌, ◌<◌, List, [], ◌∷◌, ◌++◌, map, drop, length, Result, Ok, Err, sym, ap, refl, ◌∙◌}
+-- What a check answers, from the answers of its steps.
+use Rattle.std.proofs.Common.{◌≡◌, ℕ, ◌+◌, ◌<◌, ◌≤◌, List, [], ◌∷◌, ◌++◌, map, drop, length, Result, Ok, Err, sym, ap, refl, ◌∙◌, arith}
 use Rattle.std.specs.Result.{IsErrAnd}
 use Rattle.std.proofs.Math.ListN.{get_or}
-use Rattle.std.proofs.lemmas.List.{at_drop_more}
+use Rattle.std.proofs.lemmas.List.{at_drop_all, at_drop_more}
 use Rattle.std.proofs.lemmas.Result.{err_from_is_err_and}
 use Rattle.jsgen_tree.specs.declared.types.NodeSet.{NodeSet}
 use Rattle.jsgen_tree.specs.declared.types.NodeType.{NodeType}
@@ -13,54 +13,82 @@ use Rattle.jsgen_model.specs.Valid.{span_faults, own_faults, set_faults}
 use Rattle.jsgen_model.specs.declared.fault.TreeFault.{TreeFault}
 use Rattle.jsgen_rules.specs.Verdict.{verdict}
 use Rattle.jsgen_check.specs.declared.surroundings.Surroundings.{Surroundings}
-use Rattle.jsgen_check.specs.Verdict.{surroundings_plain, tree_verdict, child_verdict, children_verdict}
-use Rattle.jsgen_check.proofs.Verdicts.{both, both_kept, both_broken, both_end, of_none, of_two, of_node, of_placed, of_first, slots_verdict}
+use Rattle.jsgen_check.specs.Verdict.{surroundings_plain, tree_verdict, child_verdict, children_verdict, both, higher, raised}
+use Rattle.jsgen_check.proofs.Verdicts.{higher_same, of_both, of_node, of_placed, of_no_children, of_first, slots_verdict}
 
 -- what the exit of a `?` returns
-pub broken : (r : Result (Unit {0}) TreeFault) (e : TreeFault) → IsErrAnd r (λ y. y ≡ e) → r ≡ Err e
-broken r e h = let p = err_from_is_err_and r h in p.1 ∙ ap (λ y. Err y) p.2
+pub broken : {A : Type 0} {r v : Result A TreeFault} {e : TreeFault} → IsErrAnd r (λ y. y ≡ e) → Err e ≡ v → r ≡ v
+broken {A} {r} h is = let p = err_from_is_err_and r h in p.1 ∙ (ap (λ y. Err y) p.2 ∙ is)
 
--- a step that finds a fault ends the check
-pub found : {r a : Result (Unit {0}) TreeFault} {e : TreeFault} (b : Result (Unit {0}) TreeFault) → r ≡ Err e → Err e ≡ a → r ≡ both a b
-found {r} {a} {e} b is h = is ∙ (sym (both_broken e b) ∙ ap (λ q. both q b) h)
+-- ---- rules, one behind another
 
--- one that finds none leaves it to those behind
-pub kept : {r a b : Result (Unit {0}) TreeFault} {u : Unit {0}} → Ok u ≡ a → r ≡ b → r ≡ both a b
-kept {r} {a} {b} {u} h behind = behind ∙ (sym (both_kept u b) ∙ ap (λ q. both q b) h)
+-- a rule that is broken ends the check
+pub found : {A : Type 0} {a : Result (Unit {0}) TreeFault} {e : TreeFault} (b : Result A TreeFault) → Err e ≡ a → Err e ≡ both a b
+unfolding both
+found b h = ap (λ q. both q b) h
 
--- the last step
-pub last : {r a : Result (Unit {0}) TreeFault} → r ≡ a → r ≡ both a (Ok tt)
-last {r} {a} h = h ∙ sym (both_end a)
-
--- a row without rules of its own
-pub no_rules : {r b : Result (Unit {0}) TreeFault} → r ≡ b → r ≡ both (verdict []) b
-no_rules h = kept (sym of_none) h
-
--- a row with neither rules of its own nor children
-pub only_span : {r a : Result (Unit {0}) TreeFault} → r ≡ a → r ≡ both a (both (verdict []) (Ok tt))
-only_span {r} {a} h = last h ∙ ap (both a) (no_rules refl)
+-- one that is kept leaves it to those behind
+pub kept : {A : Type 0} {r b : Result A TreeFault} {a : Result (Unit {0}) TreeFault} {u : Unit {0}} → Ok u ≡ a → r ≡ b → r ≡ both a b
+unfolding both
+kept {A} {r} {b} h behind = behind ∙ ap (λ q. both q b) h
 
 -- two rules, one behind the other
 pub two_rules : {r : Result (Unit {0}) TreeFault} (a b : List TreeFault) → r ≡ both (verdict a) (verdict b) → r ≡ verdict (a ++ b)
-two_rules a b h = h ∙ sym (of_two a b)
+two_rules a b h = h ∙ sym (of_both a b)
+
+-- ---- rows
+
+-- a row without rules of its own
+pub no_rules : Ok tt ≡ verdict []
+unfolding verdict
+no_rules = refl
+
+-- children one behind another, up to the last
+pub two_children : {r a b p q : Result ℕ TreeFault} → r ≡ higher p q → p ≡ a → q ≡ b → r ≡ higher a b
+two_children h first second = h ∙ higher_same first second
+
+none_behind : (r : Result ℕ TreeFault) → r ≡ higher r (Ok 0)
+unfolding higher
+none_behind (Ok n) = ap (λ k. Ok k) (omega arith)
+none_behind (Err e) = refl
+
+pub last_child : {r a : Result ℕ TreeFault} → r ≡ a → r ≡ higher a (Ok 0)
+last_child {r} {a} h = h ∙ none_behind a
 
 -- a row: its span, its own rules, and its children
-pub of_row : {r : Result (Unit {0}) TreeFault} (around : Surroundings) (type : NodeType) (a : Atoms) (slots : Slots) → r ≡ both (verdict (span_faults a.span)) (both (verdict (own_faults (surroundings_plain around) (node type a slots))) (slots_verdict around (child_sets (fields type)) slots)) → r ≡ tree_verdict around (node type a slots)
-of_row around type a slots h = h ∙ sym (of_node around type a slots)
+pub of_row : {r q : Result ℕ TreeFault} {p : Result (Unit {0}) TreeFault} (around : Surroundings) (type : NodeType) (a : Atoms) (slots : Slots) → r ≡ both (verdict (span_faults a.span)) (both p (raised q)) → p ≡ verdict (own_faults (surroundings_plain around) (node type a slots)) → q ≡ slots_verdict around (child_sets (fields type)) slots → r ≡ tree_verdict around (node type a slots)
+of_row {r} {q} around type a slots h own below =
+    let span = verdict (span_faults a.span) in
+    let rules = verdict (own_faults (surroundings_plain around) (node type a slots)) in
+    h ∙ (ap (λ x. both span (both x (raised q))) own ∙ ap (λ x. both span (both rules (raised x))) below) ∙ sym (of_node around type a slots)
 
 -- a child: its set, and what it is by itself
-pub of_child_of_set : {r : Result (Unit {0}) TreeFault} (around : Surroundings) (set : NodeSet) (t : Tree) → r ≡ both (verdict (set_faults set t)) (tree_verdict around t) → r ≡ child_verdict around set t
+pub of_child_of_set : {r : Result ℕ TreeFault} (around : Surroundings) (set : NodeSet) (t : Tree) → r ≡ both (verdict (set_faults set t)) (tree_verdict around t) → r ≡ child_verdict around set t
 of_child_of_set around set t h = h ∙ sym (of_placed around set t)
 
 -- ---- lists: a turn takes the first of the children that are left
 
-next : {A : Type 0} {whole : Result (Unit {0}) TreeFault} (around : Surroundings) (set : NodeSet) (f : A → Tree) (xs : List A) (i : ℕ) (x : A) → i < length xs → x ≡ get_or xs i x → children_verdict around set (trees (map f (drop i xs))) ≡ whole → both (child_verdict around set (f x)) (children_verdict around set (trees (map f (drop (i + 1) xs)))) ≡ whole
-next {A} around set f xs i x inside is left =
-    let answer = λ (ys : List A). children_verdict around set (trees (map f ys)) in
-    sym (of_first around set (f x) (trees (map f (drop (i + 1) xs)))) ∙ (ap (λ y. answer (y ∷ drop (i + 1) xs)) is ∙ (sym (at_drop_more answer xs i x inside) ∙ left))
+associated : (a b c : Result ℕ TreeFault) → higher (higher a b) c ≡ higher a (higher b c)
+unfolding higher
+associated (Ok l) (Ok m) (Ok n) = ap (λ k. Ok k) (omega arith)
+associated (Ok l) (Ok m) (Err e) = refl
+associated (Ok l) (Err e) c = refl
+associated (Err e) b c = refl
 
-pub turn_broken : {A : Type 0} {r whole : Result (Unit {0}) TreeFault} {e : TreeFault} (around : Surroundings) (set : NodeSet) (f : A → Tree) (xs : List A) (i : ℕ) (x : A) → i < length xs → x ≡ get_or xs i x → children_verdict around set (trees (map f (drop i xs))) ≡ whole → r ≡ Err e → Err e ≡ child_verdict around set (f x) → r ≡ whole
-turn_broken around set f xs i x inside is left returned h = found _ returned h ∙ next around set f xs i x inside is left
+pub none_before : (r : Result ℕ TreeFault) → higher (Ok 0) r ≡ r
+unfolding higher
+none_before (Ok n) = ap (λ k. Ok k) (omega arith)
+none_before (Err e) = refl
 
-pub turn_kept : {A : Type 0} {whole : Result (Unit {0}) TreeFault} {u : Unit {0}} (around : Surroundings) (set : NodeSet) (f : A → Tree) (xs : List A) (i : ℕ) (x : A) → i < length xs → x ≡ get_or xs i x → children_verdict around set (trees (map f (drop i xs))) ≡ whole → Ok u ≡ child_verdict around set (f x) → children_verdict around set (trees (map f (drop (i + 1) xs))) ≡ whole
-turn_kept around set f xs i x inside is left h = kept h refl ∙ next around set f xs i x inside is left
+next : {A : Type 0} {whole : Result ℕ TreeFault} (so_far : Result ℕ TreeFault) (around : Surroundings) (set : NodeSet) (f : A → Tree) (xs : List A) (i : ℕ) (x : A) → i < length xs → x ≡ get_or xs i x → higher so_far (children_verdict around set (trees (map f (drop i xs)))) ≡ whole → higher (higher so_far (child_verdict around set (f x))) (children_verdict around set (trees (map f (drop (i + 1) xs)))) ≡ whole
+next {A} so_far around set f xs i x inside is left =
+    let answer = λ (ys : List A). higher so_far (children_verdict around set (trees (map f ys))) in
+    associated so_far _ _ ∙ ap (higher so_far) (sym (of_first around set (f x) (trees (map f (drop (i + 1) xs))))) ∙ (ap (λ y. answer (y ∷ drop (i + 1) xs)) is ∙ (sym (at_drop_more answer xs i x inside) ∙ left))
+
+pub turn : {A : Type 0} {whole r found : Result ℕ TreeFault} (so_far : Result ℕ TreeFault) (around : Surroundings) (set : NodeSet) (f : A → Tree) (xs : List A) (i : ℕ) (x : A) → i < length xs → x ≡ get_or xs i x → higher so_far (children_verdict around set (trees (map f (drop i xs)))) ≡ whole → r ≡ higher so_far found → found ≡ child_verdict around set (f x) → higher r (children_verdict around set (trees (map f (drop (i + 1) xs)))) ≡ whole
+turn so_far around set f xs i x inside is left both_of this = ap (λ r. higher r (children_verdict around set (trees (map f (drop (i + 1) xs))))) (two_children both_of refl this) ∙ next so_far around set f xs i x inside is left
+
+pub turns_end : {A : Type 0} {whole : Result ℕ TreeFault} (r : Result ℕ TreeFault) (around : Surroundings) (set : NodeSet) (f : A → Tree) (xs : List A) (i : ℕ) → length xs ≤ i → higher r (children_verdict around set (trees (map f (drop i xs)))) ≡ whole → r ≡ whole
+turns_end {A} r around set f xs i outside left =
+    let answer = λ (ys : List A). higher r (children_verdict around set (trees (map f ys))) in
+    none_behind r ∙ (ap (higher r) (sym (of_no_children around set)) ∙ (sym (at_drop_all answer xs i outside) ∙ left))

@@ -1,31 +1,69 @@
--- What the checker answers about a tree: Ok where it keeps each rule, else the first rule that it breaks.
-use Rattle.std.specs.Prelude.{[], ◌∷◌, ◌++◌, Result, Ok}
+-- What the checker answers about a tree: Ok with its height where it keeps each rule, else the first rule that it breaks.
+use Rattle.std.specs.Prelude.{ℕ, suc, ◌==◌, min, max, Bool, false, List, [], ◌∷◌, ◌++◌, Result, Ok, Err, if◌then◌else◌}
 use Rattle.std.specs.Str.{chars}
+use Rattle.jsgen_syntax.specs.declared.span.Span.{Span}
 use Rattle.jsgen_tree.specs.declared.types.NodeSet.{NodeSet}
 use Rattle.jsgen_tree.specs.Tree.{Tree, Maybe, absent, given, Trees}
 use Rattle.jsgen_tree.specs.Options.{options_plain}
 use Rattle.jsgen_tree.specs.Job.{no_tables}
 use Rattle.jsgen_model.specs.Valid as valid
-use Rattle.jsgen_model.specs.Valid.{breaches, set_faults, in_trees}
+use Rattle.jsgen_model.specs.Valid.{breaches, set_faults, in_trees, height, greatest_height, fault_if}
 use Rattle.jsgen_model.specs.declared.fault.TreeFault.{TreeFault}
+use Rattle.jsgen_model.specs.declared.fault.TreeFault.TheVariants as faults
 use Rattle.jsgen_rules.specs.Verdict.{verdict}
 use Rattle.jsgen_check.specs.declared.surroundings.Surroundings.{Surroundings}
 
 unfoldable pub surroundings_plain : Surroundings → valid.Surroundings
 surroundings_plain around = record { options = options_plain around.options.now; tables = no_tables; source = chars around.source.now }
 
-unfoldable pub tree_verdict : Surroundings → Tree → Result (Unit {0}) TreeFault
-tree_verdict around t = verdict (breaches (surroundings_plain around) t)
+-- a height, counted up to what 32 bits hold
+abbrev pub capped : ℕ → ℕ
+capped height = min height 4294967295
+
+-- Ok with this height where there is no fault, else the first
+unfoldable pub measured : ℕ → List TreeFault → Result ℕ TreeFault
+measured height [] = Ok (capped height)
+measured height (f ∷ fs) = Err f
+
+-- the first fault of two checks
+unfoldable pub both : {A : Type 0} → Result (Unit {0}) TreeFault → Result A TreeFault → Result A TreeFault
+both (Ok done) r = r
+both (Err e) r = Err e
+
+-- the first fault of two checks, else the greater height
+unfoldable pub higher : Result ℕ TreeFault → Result ℕ TreeFault → Result ℕ TreeFault
+higher (Ok m) (Ok n) = Ok (max m n)
+higher (Ok m) (Err e) = Err e
+higher (Err e) r = Err e
+
+-- a fault of the children of a node, else its height
+unfoldable pub raised : Result ℕ TreeFault → Result ℕ TreeFault
+raised (Ok n) = Ok (capped (suc n))
+raised (Err e) = Err e
+
+-- what a program breaks by its height, from that of its children: it passes 32 bits where theirs fills them
+abbrev pub height_faults : Bool → Span → ℕ → List TreeFault
+height_faults minified s below = fault_if (if minified then false else (below == 4294967295)) (faults.Indent s.start)
+
+-- a fault of the children of a program, else of its height
+unfoldable pub ended : Bool → Span → Result ℕ TreeFault → Result (Unit {0}) TreeFault
+ended minified s (Ok n) = verdict (height_faults minified s n)
+ended minified s (Err e) = Err e
+
+-- ---- trees
+
+unfoldable pub tree_verdict : Surroundings → Tree → Result ℕ TreeFault
+tree_verdict around t = measured (height t) (breaches (surroundings_plain around) t)
 
 -- of a child, at a place that asks for this set
-unfoldable pub child_verdict : Surroundings → NodeSet → Tree → Result (Unit {0}) TreeFault
-child_verdict around set t = verdict (set_faults set t ++ breaches (surroundings_plain around) t)
+unfoldable pub child_verdict : Surroundings → NodeSet → Tree → Result ℕ TreeFault
+child_verdict around set t = measured (height t) (set_faults set t ++ breaches (surroundings_plain around) t)
 
 -- of a child that may be absent
-abbrev pub maybe_verdict : Surroundings → NodeSet → Maybe → Result (Unit {0}) TreeFault
-maybe_verdict around set absent = Ok tt
+abbrev pub maybe_verdict : Surroundings → NodeSet → Maybe → Result ℕ TreeFault
+maybe_verdict around set absent = Ok 0
 maybe_verdict around set (given t) = child_verdict around set t
 
--- of a list of children, each at a place that asks for this set
-unfoldable pub children_verdict : Surroundings → NodeSet → Trees → Result (Unit {0}) TreeFault
-children_verdict around set ts = verdict (in_trees (surroundings_plain around) (record { set = set; around = surroundings_plain around } ∷ []) ts)
+-- of a list of children, each at a place that asks for this set: Ok with the greatest height
+unfoldable pub children_verdict : Surroundings → NodeSet → Trees → Result ℕ TreeFault
+children_verdict around set ts = measured (greatest_height ts) (in_trees (surroundings_plain around) (record { set = set; around = surroundings_plain around } ∷ []) ts)

@@ -1,95 +1,98 @@
 // Generated from tools/nodes/table.txt; edit that and run tools/nodes/generate.
 // Lists, children that may be absent, and sets that don't nest.
-#![tactic(auto, using(crate::proofs::Verdicts::judging))]
-
 ghost use Rattle.std.specs.Prelude.{◌≡◌, map, option_map};
 ghost use Rattle.jsgen_tree.specs.Tree.{optional, trees};
 ghost use Rattle.jsgen_tree.specs.Rows.{in_expression, in_argument, in_statement, directive_row, variable_declarator_row};
 ghost use Rattle.jsgen_check.specs.Verdict.{child_verdict, maybe_verdict, children_verdict};
 ghost use Rattle.jsgen_tree.specs.declared.types.NodeSet.TheVariants as sets;
 
+use crate::heights::higher;
 use crate::statements::{check_directive, check_variable_declarator};
 use crate::{CheckNode, Surroundings, check_child};
 use jsgen_model::TreeFault;
 use jsgen_tree::{Argument, Directive, ExpressionNode, NodeSet, StatementNode, VariableDeclarator};
 
-#[tactic(auto, using(crate::proofs::Verdicts::listing))]
-pub fn check_directives(nodes: &[Directive], around: Surroundings<'_>) -> Result<(), TreeFault>
+pub fn check_directives(nodes: &[Directive], around: Surroundings<'_>) -> Result<u32, TreeFault>
     ensures { result ≡ children_verdict around.entry sets.Directive (trees (map directive_row nodes.now)) }
 {
+    let mut below = Ok(0);
     for node in nodes {
-        check_directive(node, around)?;
+        let found = check_directive(node, around);
+        below = higher(below, found);
     }
-    Ok(())
+    below
 }
 
-#[tactic(auto, using(crate::proofs::Verdicts::listing))]
 pub fn check_statements<N: CheckNode>(
     nodes: &[StatementNode<N>],
     around: Surroundings<'_>,
-) -> Result<(), TreeFault>
+) -> Result<u32, TreeFault>
     ensures { result ≡ children_verdict around.entry sets.Statement (trees (map (in_statement N.plain) nodes.now)) }
 {
+    let mut below = Ok(0);
     for node in nodes {
-        check_child(node.get(), NodeSet::Statement, around)?;
+        let found = check_child(node.get(), NodeSet::Statement, around);
+        below = higher(below, found);
     }
-    Ok(())
+    below
 }
 
-#[tactic(auto, using(crate::proofs::Verdicts::listing))]
 pub fn check_variable_declarators<N: CheckNode>(
     nodes: &[VariableDeclarator<N>],
     around: Surroundings<'_>,
-) -> Result<(), TreeFault>
+) -> Result<u32, TreeFault>
     ensures { result ≡ children_verdict around.entry sets.VariableDeclarator (trees (map (variable_declarator_row N.plain) nodes.now)) }
 {
+    let mut below = Ok(0);
     for node in nodes {
-        check_variable_declarator(node, around)?;
+        let found = check_variable_declarator(node, around);
+        below = higher(below, found);
     }
-    Ok(())
+    below
 }
 
-#[tactic(auto, using(crate::proofs::Verdicts::listing))]
 pub fn check_arguments<N: CheckNode>(
     nodes: &[Argument<N>],
     around: Surroundings<'_>,
-) -> Result<(), TreeFault>
+) -> Result<u32, TreeFault>
     ensures { result ≡ children_verdict around.entry sets.Argument (trees (map (in_argument N.plain) nodes.now)) }
 {
+    let mut below = Ok(0);
     for node in nodes {
-        check_argument(node, around)?;
+        let found = check_argument(node, around);
+        below = higher(below, found);
     }
-    Ok(())
+    below
 }
 
 pub fn check_optional_expression<N: CheckNode>(
     node: &Option<ExpressionNode<N>>,
     around: Surroundings<'_>,
-) -> Result<(), TreeFault>
+) -> Result<u32, TreeFault>
     ensures { result ≡ maybe_verdict around.entry sets.Expression (optional (option_map (in_expression N.plain) node.now)) }
 {
     match node {
         Some(node) => check_child(node.get(), NodeSet::Expression, around),
-        None => Ok(()),
+        None => Ok(0),
     }
 }
 
 pub fn check_optional_statement<N: CheckNode>(
     node: &Option<StatementNode<N>>,
     around: Surroundings<'_>,
-) -> Result<(), TreeFault>
+) -> Result<u32, TreeFault>
     ensures { result ≡ maybe_verdict around.entry sets.Statement (optional (option_map (in_statement N.plain) node.now)) }
 {
     match node {
         Some(node) => check_child(node.get(), NodeSet::Statement, around),
-        None => Ok(()),
+        None => Ok(0),
     }
 }
 
 pub fn check_argument<N: CheckNode>(
     node: &Argument<N>,
     around: Surroundings<'_>,
-) -> Result<(), TreeFault>
+) -> Result<u32, TreeFault>
     ensures { result ≡ child_verdict around.entry sets.Argument (in_argument N.plain node.now) }
 {
     match node {

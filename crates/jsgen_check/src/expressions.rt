@@ -1,16 +1,14 @@
 // Generated from tools/nodes/table.txt; edit that and run tools/nodes/generate.
 // Expressions (ECMA-262, clause 13).
-#![tactic(auto, using(crate::proofs::Verdicts::judging))]
-
 ghost use Rattle.std.specs.Prelude.{◌≡◌};
 ghost use Rattle.jsgen_tree.specs.Rows.{identifier_reference_row, this_expression_row, numeric_literal_row, string_literal_row, parenthesized_expression_row, binary_expression_row, logical_expression_row, identifier_name_row, static_member_expression_row, computed_member_expression_row, call_expression_row};
 ghost use Rattle.jsgen_check.specs.Verdict.{tree_verdict};
 
 use crate::children::check_arguments;
+use crate::heights::{check_node, higher};
 use crate::rules::{check_identifier_name_rules, check_identifier_reference_rules};
 use crate::{CheckNode, Surroundings, check_child};
 use jsgen_model::TreeFault;
-use jsgen_rules::check_span;
 use jsgen_tree::{
     BinaryExpression, CallExpression, ComputedMemberExpression, IdentifierName,
     IdentifierReference, LogicalExpression, NodeSet, NumericLiteral, ParenthesizedExpression,
@@ -20,111 +18,114 @@ use jsgen_tree::{
 pub fn check_identifier_reference(
     node: &IdentifierReference,
     around: Surroundings<'_>,
-) -> Result<(), TreeFault>
+) -> Result<u32, TreeFault>
     ensures { result ≡ tree_verdict around.entry (identifier_reference_row node.now) }
 {
-    check_span(node.span)?;
-    check_identifier_reference_rules(node, around)
+    let rules = check_identifier_reference_rules(node, around);
+    check_node(node.span, rules, Ok(0))
 }
 
 pub fn check_this_expression(
     node: &ThisExpression,
     around: Surroundings<'_>,
-) -> Result<(), TreeFault>
+) -> Result<u32, TreeFault>
     ensures { result ≡ tree_verdict around.entry (this_expression_row node.now) }
 {
     let _ = around;
-    check_span(node.span)
+    check_node(node.span, Ok(()), Ok(0))
 }
 
 pub fn check_numeric_literal(
     node: &NumericLiteral,
     around: Surroundings<'_>,
-) -> Result<(), TreeFault>
+) -> Result<u32, TreeFault>
     ensures { result ≡ tree_verdict around.entry (numeric_literal_row node.now) }
 {
     let _ = around;
-    check_span(node.span)
+    check_node(node.span, Ok(()), Ok(0))
 }
 
-pub fn check_string_literal(node: &StringLiteral, around: Surroundings<'_>) -> Result<(), TreeFault>
+pub fn check_string_literal(
+    node: &StringLiteral,
+    around: Surroundings<'_>,
+) -> Result<u32, TreeFault>
     ensures { result ≡ tree_verdict around.entry (string_literal_row node.now) }
 {
     let _ = around;
-    check_span(node.span)
+    check_node(node.span, Ok(()), Ok(0))
 }
 
 pub fn check_parenthesized_expression<N: CheckNode>(
     node: &ParenthesizedExpression<N>,
     around: Surroundings<'_>,
-) -> Result<(), TreeFault>
+) -> Result<u32, TreeFault>
     ensures { result ≡ tree_verdict around.entry (parenthesized_expression_row N.plain node.now) }
 {
-    check_span(node.span)?;
-    check_child(node.expression.get(), NodeSet::Expression, around)
+    let expression = check_child(node.expression.get(), NodeSet::Expression, around);
+    check_node(node.span, Ok(()), expression)
 }
 
 pub fn check_binary_expression<N: CheckNode>(
     node: &BinaryExpression<N>,
     around: Surroundings<'_>,
-) -> Result<(), TreeFault>
+) -> Result<u32, TreeFault>
     ensures { result ≡ tree_verdict around.entry (binary_expression_row N.plain node.now) }
 {
-    check_span(node.span)?;
-    check_child(node.left.get(), NodeSet::Expression, around)?;
-    check_child(node.right.get(), NodeSet::Expression, around)
+    let left = check_child(node.left.get(), NodeSet::Expression, around);
+    let right = check_child(node.right.get(), NodeSet::Expression, around);
+    check_node(node.span, Ok(()), higher(left, right))
 }
 
 pub fn check_logical_expression<N: CheckNode>(
     node: &LogicalExpression<N>,
     around: Surroundings<'_>,
-) -> Result<(), TreeFault>
+) -> Result<u32, TreeFault>
     ensures { result ≡ tree_verdict around.entry (logical_expression_row N.plain node.now) }
 {
-    check_span(node.span)?;
-    check_child(node.left.get(), NodeSet::Expression, around)?;
-    check_child(node.right.get(), NodeSet::Expression, around)
+    let left = check_child(node.left.get(), NodeSet::Expression, around);
+    let right = check_child(node.right.get(), NodeSet::Expression, around);
+    check_node(node.span, Ok(()), higher(left, right))
 }
 
 pub fn check_identifier_name(
     node: &IdentifierName,
     around: Surroundings<'_>,
-) -> Result<(), TreeFault>
+) -> Result<u32, TreeFault>
     ensures { result ≡ tree_verdict around.entry (identifier_name_row node.now) }
 {
-    check_span(node.span)?;
-    check_identifier_name_rules(node, around)
+    let rules = check_identifier_name_rules(node, around);
+    check_node(node.span, rules, Ok(0))
 }
 
 pub fn check_static_member_expression<N: CheckNode>(
     node: &StaticMemberExpression<N>,
     around: Surroundings<'_>,
-) -> Result<(), TreeFault>
+) -> Result<u32, TreeFault>
     ensures { result ≡ tree_verdict around.entry (static_member_expression_row N.plain node.now) }
 {
-    check_span(node.span)?;
-    check_child(node.object.get(), NodeSet::Expression, around)?;
-    check_identifier_name(&node.property, around)
+    let object = check_child(node.object.get(), NodeSet::Expression, around);
+    let property = check_identifier_name(&node.property, around);
+    check_node(node.span, Ok(()), higher(object, property))
 }
 
 pub fn check_computed_member_expression<N: CheckNode>(
     node: &ComputedMemberExpression<N>,
     around: Surroundings<'_>,
-) -> Result<(), TreeFault>
+) -> Result<u32, TreeFault>
     ensures { result ≡ tree_verdict around.entry (computed_member_expression_row N.plain node.now) }
 {
-    check_span(node.span)?;
-    check_child(node.object.get(), NodeSet::Expression, around)?;
-    check_child(node.expression.get(), NodeSet::Expression, around)
+    let object = check_child(node.object.get(), NodeSet::Expression, around);
+    let expression = check_child(node.expression.get(), NodeSet::Expression, around);
+    check_node(node.span, Ok(()), higher(object, expression))
 }
 
 pub fn check_call_expression<N: CheckNode>(
     node: &CallExpression<N>,
     around: Surroundings<'_>,
-) -> Result<(), TreeFault>
+) -> Result<u32, TreeFault>
     ensures { result ≡ tree_verdict around.entry (call_expression_row N.plain node.now) }
 {
-    check_span(node.span)?;
-    check_child(node.callee.get(), NodeSet::Expression, around)?;
-    check_arguments(&node.arguments, around)
+    let callee = check_child(node.callee.get(), NodeSet::Expression, around);
+    let arguments = check_arguments(&node.arguments, around);
+    check_node(node.span, Ok(()), higher(callee, arguments))
 }

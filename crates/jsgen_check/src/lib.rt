@@ -1,33 +1,28 @@
-//! Validity: Ok exactly where no rule is broken, else a rule that is. It takes no memory.
+//! Validity: Ok exactly where no rule is broken, else a rule that is. One walk finds faults and the height, and takes no
+//! memory.
 #![tactic(auto)]
 
-ghost use Rattle.std.specs.Prelude.{◌≡◌, nat_lt};
+ghost use Rattle.std.specs.Prelude.{◌≡◌};
 ghost use Rattle.jsgen_tree.specs.Tree.{Tree, type_of, span_of};
 ghost use Rattle.jsgen_tree.specs.Plain.{node_plain, program_plain};
 ghost use Rattle.jsgen_tree.specs.Options.{options_plain};
 ghost use Rattle.jsgen_tree.specs.Job.{no_tables};
-ghost use Rattle.jsgen_model.specs.Valid.{height, is_lexical, job_breaches, Judges};
+ghost use Rattle.jsgen_model.specs.Valid.{job_breaches, Judges};
 ghost use Rattle.jsgen_check.specs.Verdict.{tree_verdict, child_verdict};
 
 mod children;
 mod expressions;
-mod height;
-mod lexical;
+mod heights;
+mod program;
 mod rules;
 mod sets;
 mod statements;
 mod surroundings;
 
-use crate::height::{
-    is_binding_pattern_higher, is_declaration_higher, is_expression_higher, is_statement_higher,
-};
-use crate::lexical::{
-    is_binding_pattern_lexical, is_declaration_lexical, is_expression_lexical, is_statement_lexical,
-};
+use crate::program::check_program_row;
 use crate::sets::{
     check_binding_pattern_set, check_declaration_set, check_expression_set, check_statement_set,
 };
-use crate::statements::check_program_row;
 pub use crate::surroundings::Surroundings;
 use jsgen_model::TreeFault;
 use jsgen_rules::check_set;
@@ -45,16 +40,9 @@ pub trait CheckNode {
     fn start(&self) -> u32
         ensures { result ≡ (span_of (plain self.now)).start };
 
-    /// Whether it is a lexical declaration, which stands in a list of statements only.
-    fn is_lexical(&self) -> bool
-        ensures { result ≡ is_lexical (plain self.now) };
-
-    fn check(&self, around: Surroundings<'_>) -> Result<(), TreeFault>
+    /// Where no rule is broken, how many nodes stand on the longest way down, counted up to what 32 bits hold.
+    fn check(&self, around: Surroundings<'_>) -> Result<u32, TreeFault>
         ensures { result ≡ tree_verdict around.entry (plain self.now) };
-
-    /// Whether the longest way down holds more nodes than `levels`, this one among them.
-    fn is_higher_than(&self, levels: u32) -> bool
-        ensures { result ≡ nat_lt levels (height (plain self.now)) };
 }
 
 /// Says Ok exactly where a program that is printed under these options keeps each rule, and otherwise a rule that it breaks.
@@ -65,12 +53,11 @@ pub fn check_program(options: &CodegenOptions, program: &Program) -> Result<(), 
     check_program_row(program, Surroundings { options, source })
 }
 
-#[tactic(auto, using(crate::proofs::Verdicts::placing))]
 fn check_child<N: CheckNode>(
     child: &N,
     set: NodeSet,
     around: Surroundings<'_>,
-) -> Result<(), TreeFault>
+) -> Result<u32, TreeFault>
     ensures { result ≡ child_verdict around.entry set (N.plain child.now) }
 {
     check_set(child.node_type(), set, child.start())?;
@@ -90,32 +77,12 @@ impl CheckNode for Node {
     }
 
     #[cycle(node)]
-    fn is_lexical(&self) -> bool {
-        match self {
-            Node::Expression(expression) => is_expression_lexical(expression),
-            Node::Statement(statement) => is_statement_lexical(statement),
-            Node::Declaration(declaration) => is_declaration_lexical(declaration),
-            Node::BindingPattern(pattern) => is_binding_pattern_lexical(pattern),
-        }
-    }
-
-    #[cycle(node)]
-    fn check(&self, around: Surroundings<'_>) -> Result<(), TreeFault> {
+    fn check(&self, around: Surroundings<'_>) -> Result<u32, TreeFault> {
         match self {
             Node::Expression(expression) => check_expression_set(expression, around),
             Node::Statement(statement) => check_statement_set(statement, around),
             Node::Declaration(declaration) => check_declaration_set(declaration, around),
             Node::BindingPattern(pattern) => check_binding_pattern_set(pattern, around),
-        }
-    }
-
-    #[cycle(node)]
-    fn is_higher_than(&self, levels: u32) -> bool {
-        match self {
-            Node::Expression(expression) => is_expression_higher(expression, levels),
-            Node::Statement(statement) => is_statement_higher(statement, levels),
-            Node::Declaration(declaration) => is_declaration_higher(declaration, levels),
-            Node::BindingPattern(pattern) => is_binding_pattern_higher(pattern, levels),
         }
     }
 }

@@ -3,42 +3,19 @@
 
 ghost use Rattle.std.specs.Prelude.{◌≡◌, map, option_map};
 ghost use Rattle.jsgen_tree.specs.Tree.{optional, trees};
-ghost use Rattle.jsgen_tree.specs.Rows.{program_row, directive_row, variable_declaration_row, variable_declarator_row, binding_identifier_row, if_statement_row, identifier_reference_row, identifier_name_row, in_statement};
-ghost use Rattle.jsgen_model.specs.Valid.{own_faults, body_faults, alternate_faults, declaration_faults, indent_faults};
+ghost use Rattle.jsgen_tree.specs.Rows.{directive_row, variable_declaration_row, variable_declarator_row, binding_identifier_row, if_statement_row, identifier_reference_row, identifier_name_row, in_statement};
+ghost use Rattle.jsgen_model.specs.Valid.{own_faults, body_faults, alternate_faults, declaration_faults, is_lexical_type};
 ghost use Rattle.jsgen_rules.specs.Verdict.{verdict};
 ghost use Rattle.jsgen_check.specs.Verdict.{surroundings_plain};
 
-use crate::height::is_program_higher;
 use crate::{CheckNode, Surroundings};
 use jsgen_model::TreeFault;
-use jsgen_rules::{check_name, check_raw, check_source, check_written_name};
+use jsgen_rules::{check_name, check_raw, check_written_name};
 use jsgen_syntax::Span;
 use jsgen_tree::{
-    BindingIdentifier, Directive, IdentifierName, IdentifierReference, IfStatement, Program,
+    BindingIdentifier, Directive, IdentifierName, IdentifierReference, IfStatement, NodeType,
     StatementNode, VariableDeclaration, VariableDeclarator,
 };
-
-fn check_height<N: CheckNode>(minified: bool, node: &Program<N>) -> Result<(), TreeFault>
-    ensures { result ≡ verdict (indent_faults minified (program_row N.plain node.now)) }
-{
-    if !minified && is_program_higher(node, 4_294_967_295) {
-        return Err(TreeFault::Indent {
-            start: node.span.start,
-        });
-    }
-    Ok(())
-}
-
-#[tactic(auto)]
-pub fn check_program_rules<N: CheckNode>(
-    node: &Program<N>,
-    around: Surroundings<'_>,
-) -> Result<(), TreeFault>
-    ensures { result ≡ verdict (own_faults (surroundings_plain around.entry) (program_row N.plain node.now)) }
-{
-    check_source(around.source, node.span)?;
-    check_height(around.options.minify, node)
-}
 
 #[tactic(auto)]
 pub fn check_directive_rules(node: &Directive, around: Surroundings<'_>) -> Result<(), TreeFault>
@@ -48,7 +25,7 @@ pub fn check_directive_rules(node: &Directive, around: Surroundings<'_>) -> Resu
     check_raw(&node.directive, node.span)
 }
 
-#[tactic(auto, using(crate::proofs::Declarators::counted), unfolding(jsgen_rules::specs::Verdict::verdict))]
+#[tactic(auto)]
 fn check_count<N: CheckNode>(
     declarators: &[VariableDeclarator<N>],
     span: Span,
@@ -105,11 +82,18 @@ pub fn check_identifier_name_rules(
     check_written_name(&node.name, node.span)
 }
 
+/// Whether nodes of this type are lexical declarations, which stand in a list of statements only.
+fn is_lexical(node_type: NodeType) -> bool
+    ensures { result ≡ is_lexical_type node_type }
+{
+    matches!(node_type, NodeType::VariableDeclaration)
+}
+
 /// No lexical declaration stands behind `if` or `else`.
 fn check_body<N: CheckNode>(body: &N) -> Result<(), TreeFault>
     ensures { result ≡ verdict (body_faults (N.plain body.now)) }
 {
-    if body.is_lexical() {
+    if is_lexical(body.node_type()) {
         return Err(TreeFault::Place {
             start: body.start(),
         });

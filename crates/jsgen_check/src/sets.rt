@@ -1,7 +1,5 @@
 // Generated from tools/nodes/table.txt; edit that and run tools/nodes/generate.
 // A member of a set is checked as its own type is.
-#![tactic(auto, using(crate::proofs::Verdicts::judging))]
-
 ghost use Rattle.std.specs.Prelude.{◌≡◌};
 ghost use Rattle.jsgen_tree.specs.Rows.{expression_plain, declaration_plain, statement_plain, binding_pattern_plain};
 ghost use Rattle.jsgen_check.specs.Verdict.{tree_verdict};
@@ -23,7 +21,7 @@ use jsgen_tree::{BindingPattern, Declaration, Expression, Statement};
 pub fn check_expression_set<N: CheckNode>(
     node: &Expression<N>,
     around: Surroundings<'_>,
-) -> Result<(), TreeFault>
+) -> Result<u32, TreeFault>
     ensures { result ≡ tree_verdict around.entry (expression_plain N.plain node.now) }
 {
     match node {
@@ -45,7 +43,7 @@ pub fn check_expression_set<N: CheckNode>(
 pub fn check_declaration_set<N: CheckNode>(
     node: &Declaration<N>,
     around: Surroundings<'_>,
-) -> Result<(), TreeFault>
+) -> Result<u32, TreeFault>
     ensures { result ≡ tree_verdict around.entry (declaration_plain N.plain node.now) }
 {
     match node {
@@ -56,7 +54,7 @@ pub fn check_declaration_set<N: CheckNode>(
 pub fn check_statement_set<N: CheckNode>(
     node: &Statement<N>,
     around: Surroundings<'_>,
-) -> Result<(), TreeFault>
+) -> Result<u32, TreeFault>
     ensures { result ≡ tree_verdict around.entry (statement_plain N.plain node.now) }
 {
     match node {
@@ -71,7 +69,7 @@ pub fn check_statement_set<N: CheckNode>(
 pub fn check_binding_pattern_set(
     node: &BindingPattern,
     around: Surroundings<'_>,
-) -> Result<(), TreeFault>
+) -> Result<u32, TreeFault>
     ensures { result ≡ tree_verdict around.entry (binding_pattern_plain node.now) }
 {
     match node {

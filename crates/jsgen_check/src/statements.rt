@@ -1,117 +1,107 @@
 // Generated from tools/nodes/table.txt; edit that and run tools/nodes/generate.
 // Programs, statements and declarations (ECMA-262, clauses 14 and 16).
-#![tactic(auto, using(crate::proofs::Verdicts::judging))]
-
 ghost use Rattle.std.specs.Prelude.{◌≡◌};
-ghost use Rattle.jsgen_tree.specs.Rows.{program_row, directive_row, variable_declaration_row, variable_declarator_row, binding_identifier_row, expression_statement_row, block_statement_row, if_statement_row, empty_statement_row};
+ghost use Rattle.jsgen_tree.specs.Rows.{directive_row, variable_declaration_row, variable_declarator_row, binding_identifier_row, expression_statement_row, block_statement_row, if_statement_row, empty_statement_row};
 ghost use Rattle.jsgen_check.specs.Verdict.{tree_verdict};
 
 use crate::children::{
-    check_directives, check_optional_expression, check_optional_statement, check_statements,
+    check_optional_expression, check_optional_statement, check_statements,
     check_variable_declarators,
 };
+use crate::heights::{check_node, higher};
 use crate::rules::{
     check_binding_identifier_rules, check_directive_rules, check_if_statement_rules,
-    check_program_rules, check_variable_declaration_rules,
+    check_variable_declaration_rules,
 };
 use crate::{CheckNode, Surroundings, check_child};
 use jsgen_model::TreeFault;
-use jsgen_rules::check_span;
 use jsgen_tree::{
     BindingIdentifier, BlockStatement, Directive, EmptyStatement, ExpressionStatement, IfStatement,
-    NodeSet, Program, VariableDeclaration, VariableDeclarator,
+    NodeSet, VariableDeclaration, VariableDeclarator,
 };
 
-pub fn check_program_row<N: CheckNode>(
-    node: &Program<N>,
-    around: Surroundings<'_>,
-) -> Result<(), TreeFault>
-    ensures { result ≡ tree_verdict around.entry (program_row N.plain node.now) }
-{
-    check_span(node.span)?;
-    check_program_rules(node, around)?;
-    check_directives(&node.directives, around)?;
-    check_statements(&node.body, around)
-}
-
-pub fn check_directive(node: &Directive, around: Surroundings<'_>) -> Result<(), TreeFault>
+pub fn check_directive(node: &Directive, around: Surroundings<'_>) -> Result<u32, TreeFault>
     ensures { result ≡ tree_verdict around.entry (directive_row node.now) }
 {
-    check_span(node.span)?;
-    check_directive_rules(node, around)
+    let rules = check_directive_rules(node, around);
+    check_node(node.span, rules, Ok(0))
 }
 
 pub fn check_variable_declaration<N: CheckNode>(
     node: &VariableDeclaration<N>,
     around: Surroundings<'_>,
-) -> Result<(), TreeFault>
+) -> Result<u32, TreeFault>
     ensures { result ≡ tree_verdict around.entry (variable_declaration_row N.plain node.now) }
 {
-    check_span(node.span)?;
-    check_variable_declaration_rules(node, around)?;
-    check_variable_declarators(&node.declarations, around)
+    let rules = check_variable_declaration_rules(node, around);
+    let declarations = check_variable_declarators(&node.declarations, around);
+    check_node(node.span, rules, declarations)
 }
 
 pub fn check_variable_declarator<N: CheckNode>(
     node: &VariableDeclarator<N>,
     around: Surroundings<'_>,
-) -> Result<(), TreeFault>
+) -> Result<u32, TreeFault>
     ensures { result ≡ tree_verdict around.entry (variable_declarator_row N.plain node.now) }
 {
-    check_span(node.span)?;
-    check_child(node.id.get(), NodeSet::BindingPattern, around)?;
-    check_optional_expression(&node.init, around)
+    let id = check_child(node.id.get(), NodeSet::BindingPattern, around);
+    let init = check_optional_expression(&node.init, around);
+    check_node(node.span, Ok(()), higher(id, init))
 }
 
 pub fn check_binding_identifier(
     node: &BindingIdentifier,
     around: Surroundings<'_>,
-) -> Result<(), TreeFault>
+) -> Result<u32, TreeFault>
     ensures { result ≡ tree_verdict around.entry (binding_identifier_row node.now) }
 {
-    check_span(node.span)?;
-    check_binding_identifier_rules(node, around)
+    let rules = check_binding_identifier_rules(node, around);
+    check_node(node.span, rules, Ok(0))
 }
 
 pub fn check_expression_statement<N: CheckNode>(
     node: &ExpressionStatement<N>,
     around: Surroundings<'_>,
-) -> Result<(), TreeFault>
+) -> Result<u32, TreeFault>
     ensures { result ≡ tree_verdict around.entry (expression_statement_row N.plain node.now) }
 {
-    check_span(node.span)?;
-    check_child(node.expression.get(), NodeSet::Expression, around)
+    let expression = check_child(node.expression.get(), NodeSet::Expression, around);
+    check_node(node.span, Ok(()), expression)
 }
 
 pub fn check_block_statement<N: CheckNode>(
     node: &BlockStatement<N>,
     around: Surroundings<'_>,
-) -> Result<(), TreeFault>
+) -> Result<u32, TreeFault>
     ensures { result ≡ tree_verdict around.entry (block_statement_row N.plain node.now) }
 {
-    check_span(node.span)?;
-    check_statements(&node.body, around)
+    let body = check_statements(&node.body, around);
+    check_node(node.span, Ok(()), body)
 }
 
 pub fn check_if_statement<N: CheckNode>(
     node: &IfStatement<N>,
     around: Surroundings<'_>,
-) -> Result<(), TreeFault>
+) -> Result<u32, TreeFault>
     ensures { result ≡ tree_verdict around.entry (if_statement_row N.plain node.now) }
 {
-    check_span(node.span)?;
-    check_if_statement_rules(node, around)?;
-    check_child(node.test.get(), NodeSet::Expression, around)?;
-    check_child(node.consequent.get(), NodeSet::Statement, around)?;
-    check_optional_statement(&node.alternate, around)
+    let rules = check_if_statement_rules(node, around);
+    let test = check_child(node.test.get(), NodeSet::Expression, around);
+    let consequent = check_child(node.consequent.get(), NodeSet::Statement, around);
+    let alternate = check_optional_statement(&node.alternate, around);
+    check_node(
+        node.span,
+        rules,
+        higher(test, higher(consequent, alternate)),
+    )
 }
 
 pub fn check_empty_statement(
     node: &EmptyStatement,
     around: Surroundings<'_>,
-) -> Result<(), TreeFault>
+) -> Result<u32, TreeFault>
     ensures { result ≡ tree_verdict around.entry (empty_statement_row node.now) }
 {
     let _ = around;
-    check_span(node.span)
+    check_node(node.span, Ok(()), Ok(0))
 }

@@ -1,5 +1,6 @@
-"""jsgen_check's check functions: a row keeps its span, its own rules, and asks its children, each at its place. What a
-row's own rules are stands by hand in crates/jsgen_check/src/rules.rt, for each type that has `rules` in the table."""
+"""jsgen_check's check functions: what is found of a row, its first fault or its height, from its span, its own rules and
+its children, each at its place. What a row's own rules are stands by hand in crates/jsgen_check/src/rules.rt, for each
+type that has `rules` in the table."""
 
 import layout
 from children import child_type, each, kinds_of, nests, plain, plural, typed
@@ -9,15 +10,16 @@ from table import snake
 CHECK = "crates/jsgen_check"
 PROOFS = "Rattle.jsgen_check.proofs"
 VERDICT = "Rattle.jsgen_check.specs.Verdict"
-JUDGING = "#![tactic(auto, using(crate::proofs::Verdicts::judging))]\n\n"
 AROUND = "around: Surroundings<'_>"
-RESULT = "Result<(), TreeFault>"
+STEPS = ["no_rules", "two_children", "last_child", "of_row", "none_before", "turn", "turns_end"]
+PROGRAM = "Program"  # its row stands by hand, in crates/jsgen_check/src/program.rt
+RESULT = "Result<u32, TreeFault>"
 
 
 def write(table):
     files = {}
     for file, about in table.files.items():
-        nodes = [n for n in table.nodes.values() if n.file == file]
+        nodes = [n for n in table.nodes.values() if n.file == file and n.name != PROGRAM]
         files[f"{CHECK}/src/{file}.rt"] = rust(table, about, "\n\n".join(of_row(table, n) for n in nodes))
         for n in nodes:
             files[f"{CHECK}/proofs/{file}/{check(n.name)}/Answers.antt"] = row_answers(table, n)
@@ -46,19 +48,16 @@ def rust(table, about, body):
     checks["crate::children"] += [check(s.name) for s in table.sets.values() if not s.nests]
     checks["crate::rules"] = [rules(n) for n in table.nodes.values() if n.rules]
     here = [(m, [n for n in ns if f"fn {n}(" not in body and f"fn {n}<" not in body]) for m, ns in checks.items()]
-    homes = here + [("crate", ["CheckNode", "Surroundings", "check_child"]), ("jsgen_model", ["TreeFault"]),
-                    ("jsgen_rules", ["check_span"]), ("jsgen_tree", tree)]
+    homes = here + [("crate", ["CheckNode", "Surroundings", "check_child"]), ("crate::heights", ["check_node", "higher"]),
+                    ("jsgen_model", ["TreeFault"]), ("jsgen_tree", tree)]
     aliases = [(f"{SPECS}.declared.types.NodeSet.TheVariants", "sets")]
-    text = layout.rust(about, ghosts, aliases, homes, body)
-    head, _, rest = text.partition("ghost use")
-    return head + JUDGING + "ghost use" + rest
+    return layout.rust(about, ghosts, aliases, homes, body)
 
 
 # ---- names
 
 def check(name):
-    """`check_program` is the call of the whole checker."""
-    return "check_" + snake(name) + ("_row" if name == "Program" else "")
+    return "check_" + snake(name)
 
 
 def rules(n):
@@ -75,81 +74,72 @@ def check_optional(kind):
 
 # ---- rows
 
-def steps(table, n):
-    """The calls of a row's check, each with the facts of the calls that give its argument, and whether the child is of
-    a type, so that it is surely of its set."""
-    found = [("check_span", "check_span(node.span)", None, None)]
-    if n.rules:
-        name = rules(n)
-        found.append((name, f"{name}(node, around)", None, None))
+def calls(table, n):
+    """The checks of a row's children: the field, the call, the fact of the call that gives its argument, and whether the
+    child is of a type, so that it is surely of its set."""
+    found = []
     for f in table.children(n):
         here = f"node.{f.rust}"
         if f.many == "*":
-            found.append((check_all(f.kind), f"{check_all(f.kind)}(&{here}, around)", "deref.value", None))
+            found.append((f.rust, f"{check_all(f.kind)}(&{here}, around)", "deref.value", None))
         elif f.many == "?":
-            found.append((check_optional(f.kind), f"{check_optional(f.kind)}(&{here}, around)", None, None))
+            found.append((f.rust, f"{check_optional(f.kind)}(&{here}, around)", None, None))
         elif nests(table, f.kind):
-            found.append(("check_child", f"check_child({here}.get(), NodeSet::{f.kind}, around)", "get", None))
+            found.append((f.rust, f"check_child({here}.get(), NodeSet::{f.kind}, around)", "get", None))
         else:
             of_type = f.kind if f.kind in table.nodes else None
-            found.append((check(f.kind), f"{check(f.kind)}(&{here}, around)", "deref", of_type))
+            found.append((f.rust, f"{check(f.kind)}(&{here}, around)", "deref", of_type))
     return found
+
+
+def highest(names):
+    """What is found of children, each under the name of its field."""
+    return names[0] if len(names) == 1 else f"higher({names[0]}, {highest(names[1:])})"
 
 
 def of_row(table, n):
     of, parameter = typed(table, n.name)
-    calls = [call for _, call, _, _ in steps(table, n)]
-    unused = "" if any("around" in call for call in calls) else "    let _ = around;\n"
-    body = "".join(f"    {call}?;\n" for call in calls[:-1]) + f"    {calls[-1]}\n"
+    below = calls(table, n)
+    body = "" if n.rules or below else "    let _ = around;\n"
+    body += f"    let rules = {rules(n)}(node, around);\n" if n.rules else ""
+    body += "".join(f"    let {name} = {call};\n" for name, call, _, _ in below)
+    own = "rules" if n.rules else "Ok(())"
+    children = highest([name for name, _, _, _ in below]) if below else "Ok(0)"
     return f"""pub fn {check(n.name)}{parameter}(node: &{of}, {AROUND}) -> {RESULT}
     ensures {{ result ≡ tree_verdict around.entry ({plain(table, n.name)} node.now) }}
 {{
-{unused}{body}}}"""
+{body}    check_node(node.span, {own}, {children})
+}}"""
 
 
-def numbered(names):
-    """The names that calls have in a proof: the second of a name ends in -2."""
-    seen, found = {}, []
-    for name in names:
-        seen[name] = seen.get(name, 0) + 1
-        found.append(name if seen[name] == 1 else f"{name}-{seen[name]}")
-    return found
+def numbered(name, at):
+    """The name that the call at this place among those of its name has in a proof."""
+    return name if at == 0 else f"{name}-{at + 1}"
 
 
 def row_answers(table, n):
-    every = steps(table, n)
-    names = numbered([name for name, _, _, _ in every])
-    given = numbered([(fact or "").split(".")[0] for _, _, fact, _ in every])
-
-    def said(i, arm):
-        _, _, fact, of_type = every[i]
-        text = f"c.{arm}{names[i]}.ensures"
+    below, counts, said = calls(table, n), {}, []
+    for name, call, fact, of_type in below:
+        text = f"c.{call[:call.index('(')]}-{name}.ensures"
         if fact:
-            value = ".value" if fact.endswith(".value") else ""
-            text = f"(rw c.{given[i]}.ensures{value} at {text})"
-        return f"({text} ∙ sym (of_right_set _ sets.{of_type} _ refl))" if of_type else text
+            given, _, clause = fact.partition(".")
+            text = f"(rw c.{numbered(given, counts.get(given, 0))}.ensures{clause and '.' + clause} at {text})"
+            counts[given] = counts.get(given, 0) + 1
+        said.append(f"({text} ∙ sym (of_right_set _ sets.{of_type} _ refl))" if of_type else text)
 
-    def until(at, end, i=0):
-        """The steps from the number on, all kept up to the one that the check ends at."""
-        text = end if i == at else f"kept {said(i, 'in_ok-')} ({until(at, end, i + 1)})"
-        return f"no_rules ({text})" if i == 1 and not n.rules else text
+    def children(at):
+        if at == len(below) - 1:
+            return f"last_child {said[at]}"
+        return f"two_children c.{numbered('higher', len(below) - 2 - at)}.ensures {said[at]} ({children(at + 1)})"
 
-    def term(at):
-        if at == len(every) - 1:
-            return until(at, f"{'only_span' if len(every) == 1 else 'last'} {said(at, '')}")
-        residual = "from_residual" if at == 0 else f"from_residual-in_err-{names[at]}"
-        return until(at, f"found _ (broken _ _ c.{residual}.ensures.1) {said(at, 'in_err-')}")
-
-    g = "g " if table.generic(n.name) else ""
-    parts = []
-    for at, name in enumerate(names):
-        goal = "returns" if at == len(names) - 1 else f"returns-in_err-{name}"
-        parts.append(f"pub {goal} : goal.{goal}\n{goal} {g}c = of_row _ _ _ _ ({term(at)})")
+    own = f"c.{rules(n)}-rules.ensures" if n.rules else "no_rules"
+    end = f"c.check_node.ensures {own} " + (f"({children(0)})" if below else "refl")
+    body = f"pub returns : goal.returns\nreturns {'g ' if table.generic(n.name) else ''}c = of_row _ _ _ _ {end}"
     homes = [("Rattle.std.proofs.Common", ["◌≡◌", "refl", "sym", "◌∙◌"]), (f"{PROOFS}.Verdicts", ["of_right_set"]),
-             (f"{PROOFS}.Steps", ["broken", "found", "kept", "last", "no_rules", "only_span", "of_row"])]
+             (f"{PROOFS}.Steps", STEPS)]
     aliases = [(f"{SPECS}.declared.types.NodeSet.TheVariants", "sets"),
                (f"{PROOFS}.{n.file}.{check(n.name)}.Goals", "goal")]
-    return layout.antt("A row's steps, one behind another.", homes, aliases, "\n\n".join(parts))
+    return layout.antt("What is found of a row, from its parts.", homes, aliases, body)
 
 
 # ---- children
@@ -159,14 +149,15 @@ def of_list(table, kind):
     call = f"{check(kind)}(node, around)"
     if nests(table, kind):
         call = f"check_child(node.get(), NodeSet::{kind}, around)"
-    return f"""#[tactic(auto, using(crate::proofs::Verdicts::listing))]
-pub fn {check_all(kind)}{parameter}(nodes: &[{of}], {AROUND}) -> {RESULT}
+    return f"""pub fn {check_all(kind)}{parameter}(nodes: &[{of}], {AROUND}) -> {RESULT}
     ensures {{ result ≡ children_verdict around.entry sets.{kind} (trees (map {each(table, kind)} nodes.now)) }}
 {{
+    let mut below = Ok(0);
     for node in nodes {{
-        {call}?;
+        let found = {call};
+        below = higher(below, found);
     }}
-    Ok(())
+    below
 }}"""
 
 
@@ -179,7 +170,7 @@ def of_optional(table, kind):
 {{
     match node {{
         Some(node) => check_child(node.get(), NodeSet::{kind}, around),
-        None => Ok(()),
+        None => Ok(0),
     }}
 }}"""
 
@@ -201,13 +192,13 @@ def of_inner_set(table, s):
 def invariant(table, kind):
     generic = child_type(table, kind)[1] != ""
     row = each(table, kind, "g.N.CheckNode.plain")
-    body = f"""-- the nodes left are judged as all of them are
+    body = f"""-- what is found so far, and of the nodes left, is what is found of all of them
 abbrev pub invariant-loop-node : goal.invariant-loop-node
 invariant-loop-node {"g " if generic else ""}l =
     let found = λ (ns : _). children_verdict l.around sets.{kind} (trees (map {row} ns)) in
-    found (drop l.node-index l.nodes) ≡ found l.nodes"""
+    higher l.below (found (drop l.node-index l.nodes)) ≡ found l.nodes"""
     homes = [("Rattle.std.proofs.Common", ["◌≡◌", "map", "drop"]), (f"{SPECS}.Tree", ["trees"])] + row_names(table)
-    homes += [(VERDICT, ["children_verdict"])]
+    homes += [(VERDICT, ["children_verdict", "higher"])]
     aliases = [(f"{SPECS}.declared.types.NodeSet.TheVariants", "sets"),
                (f"{PROOFS}.children.{check_all(kind)}.Given", "goal")]
     return layout.antt("What holds in the loop.", homes, aliases, body)
@@ -215,27 +206,27 @@ invariant-loop-node {"g " if generic else ""}l =
 
 def list_answers(table, kind):
     g = "g " if child_type(table, kind)[1] else ""
-    call = "check_child" if nests(table, kind) else check(kind)
-
-    def said(arm):
-        text = f"c.{arm}-{call}.ensures"
-        if nests(table, kind):
-            return f"(rw c.get.ensures at {text})"
-        return f"({text} ∙ sym (of_right_set _ sets.{kind} _ refl))" if kind in table.nodes else text
-
+    said = "c.check_child-found.ensures" if nests(table, kind) else f"c.{check(kind)}-found.ensures"
+    if nests(table, kind):
+        said = f"(rw c.get.ensures at {said})"
+    elif kind in table.nodes:
+        said = f"({said} ∙ sym (of_right_set _ sets.{kind} _ refl))"
     row = each(table, kind, "g.N.CheckNode.plain")
-    turn = (f"c.args.around sets.{kind} {row} c.args.nodes.now c.loop-node.node-index c.node-item.result "
-            "c.loop-node-test.true c.node-item.is c.loop-node.invariant")
-    body = f"""pub loop-node-preserved : goal.loop-node-preserved
-loop-node-preserved {g}c = turn_kept {turn} {said("in_ok")}
+    every = f"c.loop-node.below c.args.around sets.{kind} {row} c.args.nodes.now c.loop-node.node-index"
+    item = "c.node-item.result c.loop-node-test.true c.node-item.is"
+    body = f"""pub loop-node-init : goal.loop-node-init
+loop-node-init {g}c = none_before _
 
-pub returns-in_err-{call} : goal.returns-in_err-{call}
-returns-in_err-{call} {g}c = turn_broken {turn} (broken _ _ c.from_residual.ensures.1) {said("in_err")}"""
+pub loop-node-preserved : goal.loop-node-preserved
+loop-node-preserved {g}c = turn {every} {item} c.loop-node.invariant c.higher-below.ensures {said}
+
+pub returns : goal.returns
+returns {g}c = turns_end {every} c.loop-node-test.false c.loop-node.invariant"""
     homes = [("Rattle.std.proofs.Common", ["◌≡◌", "refl", "sym", "◌∙◌"])] + row_names(table)
-    homes += [(f"{PROOFS}.Verdicts", ["of_right_set"]), (f"{PROOFS}.Steps", ["broken", "turn_broken", "turn_kept"])]
+    homes += [(f"{PROOFS}.Verdicts", ["of_right_set"]), (f"{PROOFS}.Steps", STEPS)]
     aliases = [(f"{SPECS}.declared.types.NodeSet.TheVariants", "sets"),
                (f"{PROOFS}.children.{check_all(kind)}.Goals", "goal")]
-    return layout.antt("A turn of the loop.", homes, aliases, body)
+    return layout.antt("The loop, turn by turn.", homes, aliases, body)
 
 
 # ---- sets

@@ -1,14 +1,17 @@
 -- Generated from tools/nodes/table.txt; edit that and run tools/nodes/generate.
--- A turn of the loop.
+-- The loop, turn by turn.
 use Rattle.std.proofs.Common.{refl, sym, ◌∙◌}
 use Rattle.jsgen_tree.specs.Rows.{directive_row}
 use Rattle.jsgen_check.proofs.Verdicts.{of_right_set}
-use Rattle.jsgen_check.proofs.Steps.{broken, turn_broken, turn_kept}
+use Rattle.jsgen_check.proofs.Steps.{none_before, turn, turns_end}
 use Rattle.jsgen_tree.specs.declared.types.NodeSet.TheVariants as sets
 use Rattle.jsgen_check.proofs.children.check_directives.Goals as goal
 
-pub loop-node-preserved : goal.loop-node-preserved
-loop-node-preserved c = turn_kept c.args.around sets.Directive directive_row c.args.nodes.now c.loop-node.node-index c.node-item.result c.loop-node-test.true c.node-item.is c.loop-node.invariant (c.in_ok-check_directive.ensures ∙ sym (of_right_set _ sets.Directive _ refl))
+pub loop-node-init : goal.loop-node-init
+loop-node-init c = none_before _
 
-pub returns-in_err-check_directive : goal.returns-in_err-check_directive
-returns-in_err-check_directive c = turn_broken c.args.around sets.Directive directive_row c.args.nodes.now c.loop-node.node-index c.node-item.result c.loop-node-test.true c.node-item.is c.loop-node.invariant (broken _ _ c.from_residual.ensures.1) (c.in_err-check_directive.ensures ∙ sym (of_right_set _ sets.Directive _ refl))
+pub loop-node-preserved : goal.loop-node-preserved
+loop-node-preserved c = turn c.loop-node.below c.args.around sets.Directive directive_row c.args.nodes.now c.loop-node.node-index c.node-item.result c.loop-node-test.true c.node-item.is c.loop-node.invariant c.higher-below.ensures (c.check_directive-found.ensures ∙ sym (of_right_set _ sets.Directive _ refl))
+
+pub returns : goal.returns
+returns c = turns_end c.loop-node.below c.args.around sets.Directive directive_row c.args.nodes.now c.loop-node.node-index c.loop-node-test.false c.loop-node.invariant

@@ -1,12 +1,15 @@
 -- Generated from tools/nodes/table.txt; edit that and run tools/nodes/generate.
--- A turn of the loop.
+-- The loop, turn by turn.
 use Rattle.jsgen_tree.specs.Rows.{in_statement}
-use Rattle.jsgen_check.proofs.Steps.{broken, turn_broken, turn_kept}
+use Rattle.jsgen_check.proofs.Steps.{none_before, turn, turns_end}
 use Rattle.jsgen_tree.specs.declared.types.NodeSet.TheVariants as sets
 use Rattle.jsgen_check.proofs.children.check_statements.Goals as goal
 
-pub loop-node-preserved : goal.loop-node-preserved
-loop-node-preserved g c = turn_kept c.args.around sets.Statement (in_statement g.N.CheckNode.plain) c.args.nodes.now c.loop-node.node-index c.node-item.result c.loop-node-test.true c.node-item.is c.loop-node.invariant (rw c.get.ensures at c.in_ok-check_child.ensures)
+pub loop-node-init : goal.loop-node-init
+loop-node-init g c = none_before _
 
-pub returns-in_err-check_child : goal.returns-in_err-check_child
-returns-in_err-check_child g c = turn_broken c.args.around sets.Statement (in_statement g.N.CheckNode.plain) c.args.nodes.now c.loop-node.node-index c.node-item.result c.loop-node-test.true c.node-item.is c.loop-node.invariant (broken _ _ c.from_residual.ensures.1) (rw c.get.ensures at c.in_err-check_child.ensures)
+pub loop-node-preserved : goal.loop-node-preserved
+loop-node-preserved g c = turn c.loop-node.below c.args.around sets.Statement (in_statement g.N.CheckNode.plain) c.args.nodes.now c.loop-node.node-index c.node-item.result c.loop-node-test.true c.node-item.is c.loop-node.invariant c.higher-below.ensures (rw c.get.ensures at c.check_child-found.ensures)
+
+pub returns : goal.returns
+returns g c = turns_end c.loop-node.below c.args.around sets.Statement (in_statement g.N.CheckNode.plain) c.args.nodes.now c.loop-node.node-index c.loop-node-test.false c.loop-node.invariant

@@ -3,12 +3,12 @@
 use Rattle.std.proofs.Common.{◌≡◌, map, drop}
 use Rattle.jsgen_tree.specs.Tree.{trees}
 use Rattle.jsgen_tree.specs.Rows.{variable_declarator_row}
-use Rattle.jsgen_check.specs.Verdict.{children_verdict}
+use Rattle.jsgen_check.specs.Verdict.{children_verdict, higher}
 use Rattle.jsgen_tree.specs.declared.types.NodeSet.TheVariants as sets
 use Rattle.jsgen_check.proofs.children.check_variable_declarators.Given as goal
 
--- the nodes left are judged as all of them are
+-- what is found so far, and of the nodes left, is what is found of all of them
 abbrev pub invariant-loop-node : goal.invariant-loop-node
 invariant-loop-node g l =
     let found = λ (ns : _). children_verdict l.around sets.VariableDeclarator (trees (map (variable_declarator_row g.N.CheckNode.plain) ns)) in
-    found (drop l.node-index l.nodes) ≡ found l.nodes
+    higher l.below (found (drop l.node-index l.nodes)) ≡ found l.nodes

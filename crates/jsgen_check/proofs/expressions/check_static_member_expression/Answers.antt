@@ -1,16 +1,10 @@
 -- Generated from tools/nodes/table.txt; edit that and run tools/nodes/generate.
--- A row's steps, one behind another.
+-- What is found of a row, from its parts.
 use Rattle.std.proofs.Common.{refl, sym, ◌∙◌}
 use Rattle.jsgen_check.proofs.Verdicts.{of_right_set}
-use Rattle.jsgen_check.proofs.Steps.{broken, found, kept, last, no_rules, of_row}
+use Rattle.jsgen_check.proofs.Steps.{no_rules, two_children, last_child, of_row}
 use Rattle.jsgen_tree.specs.declared.types.NodeSet.TheVariants as sets
 use Rattle.jsgen_check.proofs.expressions.check_static_member_expression.Goals as goal
 
-pub returns-in_err-check_span : goal.returns-in_err-check_span
-returns-in_err-check_span g c = of_row _ _ _ _ (found _ (broken _ _ c.from_residual.ensures.1) c.in_err-check_span.ensures)
-
-pub returns-in_err-check_child : goal.returns-in_err-check_child
-returns-in_err-check_child g c = of_row _ _ _ _ (kept c.in_ok-check_span.ensures (no_rules (found _ (broken _ _ c.from_residual-in_err-check_child.ensures.1) (rw c.get.ensures at c.in_err-check_child.ensures))))
-
 pub returns : goal.returns
-returns g c = of_row _ _ _ _ (kept c.in_ok-check_span.ensures (no_rules (kept (rw c.get.ensures at c.in_ok-check_child.ensures) (last ((rw c.deref.ensures at c.check_identifier_name.ensures) ∙ sym (of_right_set _ sets.IdentifierName _ refl))))))
+returns g c = of_row _ _ _ _ c.check_node.ensures no_rules (two_children c.higher.ensures (rw c.get.ensures at c.check_child-object.ensures) (last_child ((rw c.deref.ensures at c.check_identifier_name-property.ensures) ∙ sym (of_right_set _ sets.IdentifierName _ refl))))

@@ -1,7 +1,8 @@
 -- Generated from tools/nodes/table.txt; edit that and run tools/nodes/generate.
--- A row's steps, one behind another.
-use Rattle.jsgen_check.proofs.Steps.{only_span, of_row}
+-- What is found of a row, from its parts.
+use Rattle.std.proofs.Common.{refl}
+use Rattle.jsgen_check.proofs.Steps.{no_rules, of_row}
 use Rattle.jsgen_check.proofs.statements.check_empty_statement.Goals as goal
 
 pub returns : goal.returns
-returns c = of_row _ _ _ _ (only_span c.check_span.ensures)
+returns c = of_row _ _ _ _ c.check_node.ensures no_rules refl

@@ -1,19 +1,7 @@
 -- Generated from tools/nodes/table.txt; edit that and run tools/nodes/generate.
--- A row's steps, one behind another.
-use Rattle.jsgen_check.proofs.Steps.{broken, found, kept, last, of_row}
+-- What is found of a row, from its parts.
+use Rattle.jsgen_check.proofs.Steps.{two_children, last_child, of_row}
 use Rattle.jsgen_check.proofs.statements.check_if_statement.Goals as goal
 
-pub returns-in_err-check_span : goal.returns-in_err-check_span
-returns-in_err-check_span g c = of_row _ _ _ _ (found _ (broken _ _ c.from_residual.ensures.1) c.in_err-check_span.ensures)
-
-pub returns-in_err-check_if_statement_rules : goal.returns-in_err-check_if_statement_rules
-returns-in_err-check_if_statement_rules g c = of_row _ _ _ _ (kept c.in_ok-check_span.ensures (found _ (broken _ _ c.from_residual-in_err-check_if_statement_rules.ensures.1) c.in_err-check_if_statement_rules.ensures))
-
-pub returns-in_err-check_child : goal.returns-in_err-check_child
-returns-in_err-check_child g c = of_row _ _ _ _ (kept c.in_ok-check_span.ensures (kept c.in_ok-check_if_statement_rules.ensures (found _ (broken _ _ c.from_residual-in_err-check_child.ensures.1) (rw c.get.ensures at c.in_err-check_child.ensures))))
-
-pub returns-in_err-check_child-2 : goal.returns-in_err-check_child-2
-returns-in_err-check_child-2 g c = of_row _ _ _ _ (kept c.in_ok-check_span.ensures (kept c.in_ok-check_if_statement_rules.ensures (kept (rw c.get.ensures at c.in_ok-check_child.ensures) (found _ (broken _ _ c.from_residual-in_err-check_child-2.ensures.1) (rw c.get-2.ensures at c.in_err-check_child-2.ensures)))))
-
 pub returns : goal.returns
-returns g c = of_row _ _ _ _ (kept c.in_ok-check_span.ensures (kept c.in_ok-check_if_statement_rules.ensures (kept (rw c.get.ensures at c.in_ok-check_child.ensures) (kept (rw c.get-2.ensures at c.in_ok-check_child-2.ensures) (last c.check_optional_statement.ensures)))))
+returns g c = of_row _ _ _ _ c.check_node.ensures c.check_if_statement_rules-rules.ensures (two_children c.higher-2.ensures (rw c.get.ensures at c.check_child-test.ensures) (two_children c.higher.ensures (rw c.get-2.ensures at c.check_child-consequent.ensures) (last_child c.check_optional_statement-alternate.ensures)))

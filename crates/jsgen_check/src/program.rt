@@ -1,0 +1,24 @@
+// Programs, whose height is judged behind their children.
+ghost use Rattle.jsgen_tree.specs.Rows.{program_row};
+ghost use Rattle.jsgen_model.specs.Valid.{breaches, Judges};
+ghost use Rattle.jsgen_check.specs.Verdict.{surroundings_plain};
+
+use crate::children::{check_directives, check_statements};
+use crate::heights::{check_program_parts, higher};
+use crate::{CheckNode, Surroundings};
+use jsgen_model::TreeFault;
+use jsgen_rules::check_source;
+use jsgen_tree::Program;
+
+pub fn check_program_row<N: CheckNode>(
+    node: &Program<N>,
+    around: Surroundings<'_>,
+) -> Result<(), TreeFault>
+    ensures { Judges (breaches (surroundings_plain around.entry) (program_row N.plain node.now)) result }
+{
+    let source = check_source(around.source, node.span);
+    let directives = check_directives(&node.directives, around);
+    let body = check_statements(&node.body, around);
+    let below = higher(directives, body);
+    check_program_parts(around.options.minify, node.span, source, below)
+}
