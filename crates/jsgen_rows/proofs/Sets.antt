@@ -4,18 +4,19 @@ use Rattle.std.proofs.Common.{◌≡◌, Bool, true, false, refl}
 use Rattle.jsgen_tree.specs.Tree.{Tree, type_of}
 use Rattle.jsgen_tree.specs.declared.types.NodeType.{NodeType}
 use Rattle.jsgen_tree.specs.Sets.{is_directive, is_statement, is_variable_declarator, is_binding_pattern, is_expression, is_identifier_name}
-use Rattle.jsgen_tree.specs.Rows.{expression_plain, declaration_plain, binding_pattern_plain}
+use Rattle.jsgen_tree.specs.Rows.{expression_plain, declaration_plain, statement_plain, binding_pattern_plain}
 use Rattle.jsgen_rows.specs.Meaning.{is_program}
 use Rattle.jsgen_tree.specs.declared.sets.Expression.{Expression}
 use Rattle.jsgen_tree.specs.declared.sets.Declaration.{Declaration}
+use Rattle.jsgen_tree.specs.declared.sets.Statement.{Statement}
 use Rattle.jsgen_tree.specs.declared.sets.BindingPattern.{BindingPattern}
-use Rattle.jsgen_rows.specs.Kept.{statement_row_plain}
-use Rattle.jsgen_rows.specs.declared.kept.StatementRow.{StatementRow}
+use Rattle.jsgen_rows.specs.Others.{is_other_statement}
+use Rattle.jsgen_rows.specs.declared.others.OtherStatement.{OtherStatement}
 use Rattle.jsgen_tree.specs.declared.types.NodeType.TheVariants as types
 use Rattle.jsgen_tree.specs.declared.sets.Declaration.TheVariants as declarations
 use Rattle.jsgen_tree.specs.declared.sets.BindingPattern.TheVariants as binding_patterns
+use Rattle.jsgen_tree.specs.declared.sets.Statement.TheVariants as statements
 use Rattle.jsgen_tree.specs.declared.sets.Expression.TheVariants as expressions
-use Rattle.jsgen_rows.specs.declared.kept.StatementRow.TheVariants as statement_rows
 
 -- ---- what is so of each type of a set is so of each row of it
 
@@ -25,11 +26,12 @@ of_declaration plain f b h0 (declarations.VariableDeclaration r) = h0
 of_binding_pattern : (f : NodeType → Bool) (b : Bool) → f types.BindingIdentifier ≡ b → (r : BindingPattern) → f (type_of (binding_pattern_plain r)) ≡ b
 of_binding_pattern f b h0 (binding_patterns.BindingIdentifier r) = h0
 
-of_statement : {N : Type 0} (plain : N → Tree) (f : NodeType → Bool) (b : Bool) → f types.ExpressionStatement ≡ b → f types.BlockStatement ≡ b → f types.IfStatement ≡ b → f types.EmptyStatement ≡ b → (r : StatementRow N) → f (type_of (statement_row_plain plain r)) ≡ b
-of_statement plain f b h0 h1 h2 h3 (statement_rows.ExpressionStatement r) = h0
-of_statement plain f b h0 h1 h2 h3 (statement_rows.BlockStatement r) = h1
-of_statement plain f b h0 h1 h2 h3 (statement_rows.IfStatement r) = h2
-of_statement plain f b h0 h1 h2 h3 (statement_rows.EmptyStatement r) = h3
+of_statement : {N : Type 0} (plain : N → Tree) (f : NodeType → Bool) (b : Bool) → f types.ExpressionStatement ≡ b → f types.BlockStatement ≡ b → f types.IfStatement ≡ b → f types.EmptyStatement ≡ b → (r : Statement N) → is_other_statement r ≡ true → f (type_of (statement_plain plain r)) ≡ b
+of_statement plain f b h0 h1 h2 h3 (statements.Declaration r) o = cc
+of_statement plain f b h0 h1 h2 h3 (statements.ExpressionStatement r) o = h0
+of_statement plain f b h0 h1 h2 h3 (statements.BlockStatement r) o = h1
+of_statement plain f b h0 h1 h2 h3 (statements.IfStatement r) o = h2
+of_statement plain f b h0 h1 h2 h3 (statements.EmptyStatement r) o = h3
 
 of_expression : {N : Type 0} (plain : N → Tree) (f : NodeType → Bool) (b : Bool) → f types.IdentifierReference ≡ b → f types.ThisExpression ≡ b → f types.NumericLiteral ≡ b → f types.StringLiteral ≡ b → f types.BinaryExpression ≡ b → f types.LogicalExpression ≡ b → f types.ParenthesizedExpression ≡ b → f types.StaticMemberExpression ≡ b → f types.ComputedMemberExpression ≡ b → f types.CallExpression ≡ b → (r : Expression N) → f (type_of (expression_plain plain r)) ≡ b
 of_expression plain f b h0 h1 h2 h3 h4 h5 h6 h7 h8 h9 (expressions.IdentifierReference r) = h0
@@ -51,8 +53,8 @@ no_declaration_is_a_program plain r = of_declaration plain is_program false refl
 pub no_binding_pattern_is_a_program : (r : BindingPattern) → is_program (type_of (binding_pattern_plain r)) ≡ false
 no_binding_pattern_is_a_program r = of_binding_pattern is_program false refl r
 
-pub no_statement_is_a_program : {N : Type 0} (plain : N → Tree) (r : StatementRow N) → is_program (type_of (statement_row_plain plain r)) ≡ false
-no_statement_is_a_program plain r = of_statement plain is_program false refl refl refl refl r
+pub no_statement_is_a_program : {N : Type 0} (plain : N → Tree) (r : OtherStatement N) → is_program (type_of (statement_plain plain r.statement)) ≡ false
+no_statement_is_a_program plain r = of_statement plain is_program false refl refl refl refl r.statement r.other
 
 pub no_expression_is_a_program : {N : Type 0} (plain : N → Tree) (r : Expression N) → is_program (type_of (expression_plain plain r)) ≡ false
 no_expression_is_a_program plain r = of_expression plain is_program false refl refl refl refl refl refl refl refl refl refl r
@@ -63,8 +65,8 @@ no_declaration_is_a_directive plain r = of_declaration plain is_directive false 
 pub no_binding_pattern_is_a_directive : (r : BindingPattern) → is_directive (type_of (binding_pattern_plain r)) ≡ false
 no_binding_pattern_is_a_directive r = of_binding_pattern is_directive false refl r
 
-pub no_statement_is_a_directive : {N : Type 0} (plain : N → Tree) (r : StatementRow N) → is_directive (type_of (statement_row_plain plain r)) ≡ false
-no_statement_is_a_directive plain r = of_statement plain is_directive false refl refl refl refl r
+pub no_statement_is_a_directive : {N : Type 0} (plain : N → Tree) (r : OtherStatement N) → is_directive (type_of (statement_plain plain r.statement)) ≡ false
+no_statement_is_a_directive plain r = of_statement plain is_directive false refl refl refl refl r.statement r.other
 
 pub no_expression_is_a_directive : {N : Type 0} (plain : N → Tree) (r : Expression N) → is_directive (type_of (expression_plain plain r)) ≡ false
 no_expression_is_a_directive plain r = of_expression plain is_directive false refl refl refl refl refl refl refl refl refl refl r
@@ -75,8 +77,8 @@ each_declaration_is_a_statement plain r = of_declaration plain is_statement true
 pub no_binding_pattern_is_a_statement : (r : BindingPattern) → is_statement (type_of (binding_pattern_plain r)) ≡ false
 no_binding_pattern_is_a_statement r = of_binding_pattern is_statement false refl r
 
-pub each_statement_is_a_statement : {N : Type 0} (plain : N → Tree) (r : StatementRow N) → is_statement (type_of (statement_row_plain plain r)) ≡ true
-each_statement_is_a_statement plain r = of_statement plain is_statement true refl refl refl refl r
+pub each_statement_is_a_statement : {N : Type 0} (plain : N → Tree) (r : OtherStatement N) → is_statement (type_of (statement_plain plain r.statement)) ≡ true
+each_statement_is_a_statement plain r = of_statement plain is_statement true refl refl refl refl r.statement r.other
 
 pub no_expression_is_a_statement : {N : Type 0} (plain : N → Tree) (r : Expression N) → is_statement (type_of (expression_plain plain r)) ≡ false
 no_expression_is_a_statement plain r = of_expression plain is_statement false refl refl refl refl refl refl refl refl refl refl r
@@ -87,8 +89,8 @@ no_declaration_is_a_variable_declarator plain r = of_declaration plain is_variab
 pub no_binding_pattern_is_a_variable_declarator : (r : BindingPattern) → is_variable_declarator (type_of (binding_pattern_plain r)) ≡ false
 no_binding_pattern_is_a_variable_declarator r = of_binding_pattern is_variable_declarator false refl r
 
-pub no_statement_is_a_variable_declarator : {N : Type 0} (plain : N → Tree) (r : StatementRow N) → is_variable_declarator (type_of (statement_row_plain plain r)) ≡ false
-no_statement_is_a_variable_declarator plain r = of_statement plain is_variable_declarator false refl refl refl refl r
+pub no_statement_is_a_variable_declarator : {N : Type 0} (plain : N → Tree) (r : OtherStatement N) → is_variable_declarator (type_of (statement_plain plain r.statement)) ≡ false
+no_statement_is_a_variable_declarator plain r = of_statement plain is_variable_declarator false refl refl refl refl r.statement r.other
 
 pub no_expression_is_a_variable_declarator : {N : Type 0} (plain : N → Tree) (r : Expression N) → is_variable_declarator (type_of (expression_plain plain r)) ≡ false
 no_expression_is_a_variable_declarator plain r = of_expression plain is_variable_declarator false refl refl refl refl refl refl refl refl refl refl r
@@ -99,8 +101,8 @@ no_declaration_is_a_binding_pattern plain r = of_declaration plain is_binding_pa
 pub each_binding_pattern_is_a_binding_pattern : (r : BindingPattern) → is_binding_pattern (type_of (binding_pattern_plain r)) ≡ true
 each_binding_pattern_is_a_binding_pattern r = of_binding_pattern is_binding_pattern true refl r
 
-pub no_statement_is_a_binding_pattern : {N : Type 0} (plain : N → Tree) (r : StatementRow N) → is_binding_pattern (type_of (statement_row_plain plain r)) ≡ false
-no_statement_is_a_binding_pattern plain r = of_statement plain is_binding_pattern false refl refl refl refl r
+pub no_statement_is_a_binding_pattern : {N : Type 0} (plain : N → Tree) (r : OtherStatement N) → is_binding_pattern (type_of (statement_plain plain r.statement)) ≡ false
+no_statement_is_a_binding_pattern plain r = of_statement plain is_binding_pattern false refl refl refl refl r.statement r.other
 
 pub no_expression_is_a_binding_pattern : {N : Type 0} (plain : N → Tree) (r : Expression N) → is_binding_pattern (type_of (expression_plain plain r)) ≡ false
 no_expression_is_a_binding_pattern plain r = of_expression plain is_binding_pattern false refl refl refl refl refl refl refl refl refl refl r
@@ -111,8 +113,8 @@ no_declaration_is_an_expression plain r = of_declaration plain is_expression fal
 pub no_binding_pattern_is_an_expression : (r : BindingPattern) → is_expression (type_of (binding_pattern_plain r)) ≡ false
 no_binding_pattern_is_an_expression r = of_binding_pattern is_expression false refl r
 
-pub no_statement_is_an_expression : {N : Type 0} (plain : N → Tree) (r : StatementRow N) → is_expression (type_of (statement_row_plain plain r)) ≡ false
-no_statement_is_an_expression plain r = of_statement plain is_expression false refl refl refl refl r
+pub no_statement_is_an_expression : {N : Type 0} (plain : N → Tree) (r : OtherStatement N) → is_expression (type_of (statement_plain plain r.statement)) ≡ false
+no_statement_is_an_expression plain r = of_statement plain is_expression false refl refl refl refl r.statement r.other
 
 pub each_expression_is_an_expression : {N : Type 0} (plain : N → Tree) (r : Expression N) → is_expression (type_of (expression_plain plain r)) ≡ true
 each_expression_is_an_expression plain r = of_expression plain is_expression true refl refl refl refl refl refl refl refl refl refl r
@@ -123,8 +125,8 @@ no_declaration_is_an_identifier_name plain r = of_declaration plain is_identifie
 pub no_binding_pattern_is_an_identifier_name : (r : BindingPattern) → is_identifier_name (type_of (binding_pattern_plain r)) ≡ false
 no_binding_pattern_is_an_identifier_name r = of_binding_pattern is_identifier_name false refl r
 
-pub no_statement_is_an_identifier_name : {N : Type 0} (plain : N → Tree) (r : StatementRow N) → is_identifier_name (type_of (statement_row_plain plain r)) ≡ false
-no_statement_is_an_identifier_name plain r = of_statement plain is_identifier_name false refl refl refl refl r
+pub no_statement_is_an_identifier_name : {N : Type 0} (plain : N → Tree) (r : OtherStatement N) → is_identifier_name (type_of (statement_plain plain r.statement)) ≡ false
+no_statement_is_an_identifier_name plain r = of_statement plain is_identifier_name false refl refl refl refl r.statement r.other
 
 pub no_expression_is_an_identifier_name : {N : Type 0} (plain : N → Tree) (r : Expression N) → is_identifier_name (type_of (expression_plain plain r)) ≡ false
 no_expression_is_an_identifier_name plain r = of_expression plain is_identifier_name false refl refl refl refl refl refl refl refl refl refl r

@@ -2,6 +2,7 @@ pub mod Job
 pub mod Kept
 pub mod Meaning
 pub mod Names
+pub mod Others
 pub mod Parts
 pub mod Reads
 pub mod Values

@@ -56,9 +56,7 @@ impl<N: ReadNode + Drop> Child<N> for StatementNode<N> {
                 let declaration = Box::new(alloc, N::declaration_node(Box::into_inner(row)))?;
                 Ok(Some(N::statement_node(Statement::Declaration(declaration))))
             }
-            Row::Statement(row) => Ok(Some(N::statement_node(Box::into_inner(
-                row,
-            ).into_statement()))),
+            Row::Statement(row) => Ok(Some(N::statement_node(Box::into_inner(row).statement))),
             _ => Ok(None),
         }
     }

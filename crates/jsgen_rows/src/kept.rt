@@ -6,14 +6,15 @@ ghost use Rattle.jsgen_tree.specs.Plain.{node_plain};
 ghost use Rattle.jsgen_tree.specs.Rows.{expression_plain, declaration_plain, statement_plain, binding_pattern_plain, in_expression, in_declaration, in_statement, in_binding_pattern, program_row};
 ghost use Rattle.jsgen_rows.specs.Job.{Same};
 ghost use Rattle.jsgen_rows.specs.Meaning.{is_program};
-ghost use Rattle.jsgen_rows.specs.Kept.{statement_row_plain, row_plain};
+ghost use Rattle.jsgen_rows.specs.Kept.{row_plain};
 
 use crate::InputFault;
+use crate::others::OtherStatement;
 use jsgen_pool::Typed;
 use jsgen_tree::{
-    BindingPattern, BindingPatternNode, BlockStatement, Declaration, DeclarationNode, Directive,
-    EmptyStatement, Expression, ExpressionNode, ExpressionStatement, IdentifierName, IfStatement,
-    Node, NodeType, Program, Statement, StatementNode, VariableDeclarator,
+    BindingPattern, BindingPatternNode, Declaration, DeclarationNode, Directive, Expression,
+    ExpressionNode, IdentifierName, Node, NodeType, Program, Statement, StatementNode,
+    VariableDeclarator,
 };
 use std::alloc::Global;
 
@@ -26,18 +27,9 @@ pub enum Row<N = Node> {
     Declaration(Box<Declaration<N>>),
     VariableDeclarator(Box<VariableDeclarator<N>>),
     BindingPattern(Box<BindingPattern>),
-    Statement(Box<StatementRow<N>>),
+    Statement(Box<OtherStatement<N>>),
     Expression(Box<Expression<N>>),
     IdentifierName(Box<IdentifierName>),
-}
-
-/// A row that is a statement and not a declaration.
-#[derive(Drop)]
-pub enum StatementRow<N = Node> {
-    ExpressionStatement(Box<ExpressionStatement<N>>),
-    BlockStatement(Box<BlockStatement<N>>),
-    IfStatement(Box<IfStatement<N>>),
-    EmptyStatement(Box<EmptyStatement>),
 }
 
 // ---- what becomes of a row
@@ -62,6 +54,9 @@ pub trait ReadNode: Sized {
 
     fn statement_node(statement: Statement<Self>) -> StatementNode<Self>
         ensures { in_statement plain result ≡ statement_plain plain statement };
+
+    fn statement_type(statement: &Statement<Self>) -> NodeType
+        ensures { result ≡ type_of (statement_plain plain statement.now) };
 
     fn binding_pattern_node(binding_pattern: BindingPattern) -> BindingPatternNode<Self>
         ensures { in_binding_pattern plain result ≡ binding_pattern_plain binding_pattern };
@@ -103,35 +98,17 @@ impl ReadNode for Node {
         statement.into()
     }
 
+    fn statement_type(statement: &Statement) -> NodeType
+        ensures { result ≡ type_of (statement_plain node_plain statement.now) }
+    {
+        statement.node_type()
+    }
+
     #[tactic(auto, using(jsgen_tree::proofs::Knot::plain_binding_pattern))]
     fn binding_pattern_node(binding_pattern: BindingPattern) -> BindingPatternNode
         ensures { in_binding_pattern node_plain result ≡ binding_pattern_plain binding_pattern }
     {
         binding_pattern.into()
-    }
-}
-
-impl<N: ReadNode> StatementRow<N> {
-    fn node_type(&self) -> NodeType
-        ensures { result ≡ type_of (statement_row_plain N.plain self.now) }
-    {
-        match self {
-            StatementRow::ExpressionStatement(_) => NodeType::ExpressionStatement,
-            StatementRow::BlockStatement(_) => NodeType::BlockStatement,
-            StatementRow::IfStatement(_) => NodeType::IfStatement,
-            StatementRow::EmptyStatement(_) => NodeType::EmptyStatement,
-        }
-    }
-
-    pub fn into_statement(self) -> Statement<N>
-        ensures { statement_plain N.plain result ≡ statement_row_plain N.plain self }
-    {
-        match self {
-            StatementRow::ExpressionStatement(row) => Statement::ExpressionStatement(row),
-            StatementRow::BlockStatement(row) => Statement::BlockStatement(row),
-            StatementRow::IfStatement(row) => Statement::IfStatement(row),
-            StatementRow::EmptyStatement(row) => Statement::EmptyStatement(row),
-        }
     }
 }
 
@@ -145,7 +122,7 @@ impl<N: ReadNode> Typed for Row<N> {
             Row::Declaration(row) => N::declaration_type(&**row),
             Row::VariableDeclarator(_) => NodeType::VariableDeclarator,
             Row::BindingPattern(row) => (**row).node_type(),
-            Row::Statement(row) => (**row).node_type(),
+            Row::Statement(row) => N::statement_type(&(**row).statement),
             Row::Expression(row) => N::expression_type(&**row),
             Row::IdentifierName(_) => NodeType::IdentifierName,
         }
@@ -188,11 +165,11 @@ pub fn binding_pattern_row<N: ReadNode + Drop>(
 /// A statement as a row.
 pub fn statement_row<N: ReadNode + Drop>(
     alloc: Global,
-    statement: StatementRow<N>,
+    other: OtherStatement<N>,
 ) -> Result<Row<N>, InputFault>
-    ensures { Same (row_plain N.plain) result (Ok (statement_row_plain N.plain statement)) }
+    ensures { Same (row_plain N.plain) result (Ok (statement_plain N.plain other.statement)) }
 {
-    Ok(Row::Statement(Box::new(alloc, statement)?))
+    Ok(Row::Statement(Box::new(alloc, other)?))
 }
 
 /// An expression as a row.

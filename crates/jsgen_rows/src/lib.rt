@@ -18,6 +18,7 @@ mod kept;
 mod literals;
 mod names;
 mod options;
+mod others;
 mod rows;
 mod set_fields;
 mod steps;

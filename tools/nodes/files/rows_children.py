@@ -2,7 +2,7 @@
 readers of fields that hold them."""
 
 import layout
-from files.rows_kept import groups, kept, large, own, parameter, plain_of_kept
+from files.rows_kept import groups, held, inner, kept, large, outer, own, parameter, plain_of_set
 from files.rows_sets import rules_of
 from names import READER, SPECS, TYPES, plain_of, row_names
 from table import snake
@@ -53,11 +53,11 @@ def impls(table):
     body = "\n\n".join(bodies)
     prelude = ["◌≡◌", "IfOk", "Some", "None", "option_map", "if◌then◌else◌"]
     ghosts = [("Rattle.std.specs.Prelude", prelude), (f"{SPECS}.Tree", ["type_of"]), (f"{SPECS}.Sets", ["in_set"])]
-    enums = [kept(table, g) for g in large(table) if kept(table, g) != g.name]
-    ghosts += row_names(table) + [(f"{READER}.specs.Kept", ["row_plain"] + [snake(e) + "_plain" for e in enums])]
+    ghosts += row_names(table) + [(f"{READER}.specs.Kept", ["row_plain"])]
     tree = list(table.nodes) + list(table.sets) + [s.name + "Node" for s in table.nesting()] + ["NodeSet"]
-    homes = [("crate::children", ["Child"]), ("crate::kept", ["ReadNode", "Row"] + enums), ("jsgen_tree", tree)]
-    homes += [("std::alloc", ["AllocError", "Global"])]
+    homes = [("crate::children", ["Child"]), ("crate::kept", ["ReadNode", "Row"]),
+             ("crate::others", [kept(table, s) for s in outer(table)]), ("jsgen_tree", tree),
+             ("std::alloc", ["AllocError", "Global"])]
     about = "What is made of a row where it is a child: a member of the set that the place is for."
     return layout.rust(about, ghosts, TYPES, homes, body)
 
@@ -94,18 +94,18 @@ def made(table, name, boxed):
             if g in table.types_in(name):
                 arms += f"            Row::{g}(row) => Ok(Some({member(table, name, g, boxed)})),\n"
         elif g.name == name:
-            direct = "Box::into_inner(row)" + (f".into_{snake(name)}()" if kept(table, g) != name else "")
+            direct = held(table, g, "Box::into_inner(row)")
             arms += f"            Row::{name}(row) => Ok(Some(N::{snake(name)}_node({direct}))),\n"
         elif is_within(table, name, g):
-            arms += set_within(table, table.sets[name], g.name)
+            arms += set_within(table, table.sets[name], g)
         elif some(table, name, g):
             arms += f"            Row::{g.name}(row) => Ok({part(name, g, boxed)}(Box::into_inner(row))),\n"
     return arms
 
 
 def is_within(table, name, g):
-    """Whether the set of rows is a member of the set, as it is kept."""
-    return name in table.sets and g.name in table.sets[name].members and kept(table, g) == g.name
+    """Whether the set of rows is a member of the set."""
+    return name in table.sets and g.name in table.sets[name].members
 
 
 def member(table, name, m, boxed):
@@ -118,11 +118,12 @@ def member(table, name, m, boxed):
     return f"N::{snake(name)}_node({name}::{m}(row))" if s.nests else f"{name}::{m}(row)"
 
 
-def set_within(table, s, m):
+def set_within(table, s, g):
     """A member of a set within the set, which stands in a box of its own."""
+    m, direct = g.name, held(table, g, "Box::into_inner(row)")
     made = f"{s.name}::{m}({snake(m)})"
     return f"""            Row::{m}(row) => {{
-                let {snake(m)} = Box::new(alloc, N::{snake(m)}_node(Box::into_inner(row)))?;
+                let {snake(m)} = Box::new(alloc, N::{snake(m)}_node({direct}))?;
                 Ok(Some({f"N::{snake(s.name)}_node({made})" if s.nests else made}))
             }}
 """
@@ -146,17 +147,16 @@ def parts(table, name, boxed):
 
 def one_part(table, name, g, boxed):
     of, plain = child_type(table, name, boxed), child_plain(table, name, boxed)
-    held = kept(table, g) + parameter(table, g.name)
-    arms = "".join(f"        {kept(table, g)}::{m}(row) => Some({member(table, name, m, boxed)}),\n"
-                   for m in some(table, name, g))
-    rest = "        _ => None,\n" if len(some(table, name, g)) < len(own(table, g)) else ""
-    row = f"({plain_of_kept(table, g)} row)"
-    nests = "<N: ReadNode + Drop>" if "<N>" in held + of else ""
-    return f"""fn {part(name, g, boxed)}{nests}(row: {held}) -> Option<{of}>
+    row_type = kept(table, g) + parameter(table, g.name)
+    arms = "".join(f"        {g.name}::{m}(row) => Some({member(table, name, m, boxed)}),\n" for m in some(table, name, g))
+    rest = "        _ => None,\n" if len(some(table, name, g)) < len(own(table, g)) + len(inner(table, g)) else ""
+    row = f"({plain_of_set(table, g)} {held(table, g, 'row')})"
+    nests = "<N: ReadNode + Drop>" if "<N>" in row_type + of else ""
+    return f"""fn {part(name, g, boxed)}{nests}(row: {row_type}) -> Option<{of}>
     ensures {{ option_map {plain} result
         ≡ (if in_set sets.{name} (type_of {row}) then Some {row} else None) }}
 {{
-    match row {{
+    match {held(table, g, "row")} {{
 {arms}{rest}    }}
 }}"""
 

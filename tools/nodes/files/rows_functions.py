@@ -3,7 +3,7 @@ types are in which part."""
 
 import layout
 from files.rows_children import reader_of
-from files.rows_kept import kept, set_of
+from files.rows_kept import inner, kept, made_of, set_of
 from names import READER, SPECS, TYPES, types_in_antt
 from table import snake
 
@@ -60,7 +60,8 @@ def one_file(table, name, text, every):
              ("crate::set_fields", [reader_of(f) for n in nodes for f in table.children(n)]),
              ("crate::fields", ["boxed"]), ("crate::strings", ["needed_units"]), ("crate::values", values),
              ("crate::words", [f"needed_{w.short}" for w in table.words.values()]),
-             ("crate::kept", ["ReadNode", "Row"] + [snake(s.name) + "_row" for s in sets] + kept_only(table, sets)),
+             ("crate::kept", ["ReadNode", "Row"] + [snake(s.name) + "_row" for s in sets]),
+             ("crate::others", [kept(table, s) for s in sets if inner(table, s)]),
              ("crate", ["At", "InputFault"]), ("jsgen_pool", ["Kept"]), ("jsgen_syntax", ["Span"]),
              ("jsgen_tree", list(dict.fromkeys(["NodeType"] + [n.name for n in nodes] + [s.name for s in sets]))),
              ("serde_json", ["Value"]), ("std::alloc", ["Global"])]
@@ -68,10 +69,6 @@ def one_file(table, name, text, every):
     body = "\n\n".join([function(table, n) for n in nodes] + [of_part(table, name, every)])
     ghosts = ghosts_of(nodes) + [(f"{READER}.specs.Parts", [f"is_in_{part}" for part, _ in tested(table)])]
     return layout.rust(f"Rows of a job: {text[0].lower()}{text[1:]}", ghosts, TYPES, homes, body)
-
-
-def kept_only(table, sets):
-    return [kept(table, s) for s in sets if kept(table, s) != s.name]
 
 
 def function(table, n):
@@ -102,7 +99,7 @@ def unused(table, n):
 
 def as_row(table, n):
     s = set_of(table, n.name)
-    return f"{snake(s.name)}_row(alloc, {kept(table, s)}::{n.name}(node))" if s else f"Ok(Row::{n.name}(node))"
+    return f"{snake(s.name)}_row(alloc, {made_of(table, s, f'{s.name}::{n.name}(node)')})" if s else f"Ok(Row::{n.name}(node))"
 
 
 def fields(table, n):

@@ -1,7 +1,8 @@
-"""The reader's src/kept.rt and specs/Kept.antt: the rows that were read, by the set that they are children of."""
+"""The reader's src/kept.rt and specs/Kept.antt: the rows that were read, by the set that they are children of; and its
+src/others.rt and specs/Others.antt: the members of a set that are in no set within it."""
 
 import layout
-from names import READER, SPECS, row_names
+from names import READER, SPECS, row_names, sets_in_antt, variants_of_sets
 from table import snake, spoken
 
 # ---- how each type is kept, for all files of the reader
@@ -29,40 +30,57 @@ def own(table, s):
     return [m for m in s.members if m in table.nodes]
 
 
+def inner(table, s):
+    """The sets within a set."""
+    return [m for m in s.members if m in table.sets]
+
+
+def outer(table):
+    """The sets of rows with a set within them."""
+    return [s for s in large(table) if inner(table, s)]
+
+
 def kept(table, s):
-    """The enum that holds a set's rows: the set, or one of its own types alone where a set is within it."""
-    return s.name + "Row" if any(m in table.sets for m in s.members) else s.name
+    """What holds a set's rows: the set, or where a set is within it a member that isn't of that one."""
+    return "Other" + s.name if inner(table, s) else s.name
+
+
+def held(table, s, row):
+    """The member of the set that a row of it holds."""
+    return f"{row}.{snake(s.name)}" if inner(table, s) else row
+
+
+def made_of(table, s, member):
+    """A member as a row is made of it."""
+    return f"{kept(table, s)} {{ {snake(s.name)}: {member} }}" if inner(table, s) else member
 
 
 def parameter(table, name):
     return "<N>" if table.generic(name) else ""
 
 
-def plain_of_kept(table, s):
-    name = snake(kept(table, s)) + "_plain"
-    return name + (" N.plain" if table.generic(s.name) else "")
+def plain_of_set(table, s):
+    return s.plain + (" N.plain" if table.generic(s.name) else "")
 
 
 # ---- src/kept.rt
 
 def write(table):
-    return {"crates/jsgen_rows/src/kept.rt": rust(table), "crates/jsgen_rows/specs/Kept.antt": specs(table)}
+    return {"crates/jsgen_rows/src/kept.rt": rust(table), "crates/jsgen_rows/specs/Kept.antt": specs(table),
+            "crates/jsgen_rows/src/others.rt": others(table), "crates/jsgen_rows/specs/Others.antt": others_specs(table)}
 
 
 def rust(table):
-    inner = [s for s in large(table) if kept(table, s) != s.name]
-    parts = [rows_enum(table)] + [own_enum(table, s) for s in inner]
-    parts += ["// ---- what becomes of a row", read_node(table)]
-    parts += [own_methods(table, s) for s in inner]
+    parts = [rows_enum(table), "// ---- what becomes of a row", read_node(table)]
     parts += [typed(table), into_program()] + [row_of(table, s) for s in large(table)]
     plains = [s.plain for s in table.nesting()] + ["in_" + snake(s.name) for s in table.nesting()]
     ghosts = [("Rattle.std.specs.Prelude", ["◌≡◌", "Ok", "Some", "None", "option_map", "if◌then◌else◌"]),
               (f"{SPECS}.Tree", ["type_of"]), (f"{SPECS}.Plain", ["node_plain"]),
               (f"{SPECS}.Rows", plains + ["program_row"]), (f"{READER}.specs.Job", ["Same"]),
-              (f"{READER}.specs.Meaning", ["is_program"]),
-              (f"{READER}.specs.Kept", [snake(s.name) + "_row_plain" for s in inner] + ["row_plain"])]
+              (f"{READER}.specs.Meaning", ["is_program"]), (f"{READER}.specs.Kept", ["row_plain"])]
     tree = list(table.nodes) + list(table.sets) + [s.name + "Node" for s in table.nesting()] + ["Node", "NodeType"]
-    homes = [("crate", ["InputFault"]), ("jsgen_pool", ["Typed"]), ("jsgen_tree", tree), ("std::alloc", ["Global"])]
+    homes = [("crate", ["InputFault"]), ("crate::others", [kept(table, s) for s in outer(table)]), ("jsgen_pool", ["Typed"]),
+             ("jsgen_tree", tree), ("std::alloc", ["Global"])]
     about = "The rows that were read, by the set that they are children of."
     return layout.rust(about, ghosts, [], homes, "\n\n".join(parts))
 
@@ -70,8 +88,8 @@ def rust(table):
 def rows_enum(table):
     variants = ""
     for g in groups(table):
-        name, held = (g, g) if isinstance(g, str) else (g.name, kept(table, g))
-        variants += f"    {name}(Box<{held}{parameter(table, name)}>),\n"
+        name, of = (g, g) if isinstance(g, str) else (g.name, kept(table, g))
+        variants += f"    {name}(Box<{of}{parameter(table, name)}>),\n"
     return f"""/// A row that was read, by the set that it is a child of. Sets are in boxes, so that a row is small whatever
 /// they have.
 #[derive(Drop)]
@@ -79,23 +97,14 @@ pub enum Row<N = Node> {{
 {variants}}}"""
 
 
-def own_enum(table, s):
-    variants = "".join(f"    {m}(Box<{m}{parameter(table, m)}>),\n" for m in own(table, s))
-    inner = " or ".join(spoken(m) for m in s.members if m in table.sets)
-    return f"""/// A row that is {spoken(s.name)} and not {inner}.
-#[derive(Drop)]
-pub enum {kept(table, s)}<N = Node> {{
-{variants}}}"""
-
-
 def signatures(table, s):
     """What the reader asks of a node for a set: its wrapper, and the type of a member."""
-    name, held = snake(s.name), s.name + (f"<{{}}>" if table.generic(s.name) else "")
+    name, member = snake(s.name), s.name + (f"<{{}}>" if table.generic(s.name) else "")
     plain = s.plain + (" {}" if table.generic(s.name) else "")
-    wrapper = (f"fn {name}_node({name}: {held}) -> {s.name}Node<{{}}>",
+    wrapper = (f"fn {name}_node({name}: {member}) -> {s.name}Node<{{}}>",
                f"in_{name} {{}} result ≡ {plain} {name}")
-    asked = (f"fn {name}_type({name}: &{held}) -> NodeType", f"result ≡ type_of ({plain} {name}.now)")
-    return [wrapper, asked] if table.generic(s.name) and kept(table, s) == s.name else [wrapper]
+    asked = (f"fn {name}_type({name}: &{member}) -> NodeType", f"result ≡ type_of ({plain} {name}.now)")
+    return [wrapper, asked] if table.generic(s.name) else [wrapper]
 
 
 def read_node(table):
@@ -118,34 +127,13 @@ impl ReadNode for Node {{
 {given}}}"""
 
 
-def own_methods(table, s):
-    name, row = snake(s.name), kept(table, s)
-    types = "".join(f"            {row}::{m}(_) => NodeType::{m},\n" for m in own(table, s))
-    members = "".join(f"            {row}::{m}(row) => {s.name}::{m}(row),\n" for m in own(table, s))
-    return f"""impl<N: ReadNode> {row}<N> {{
-    fn node_type(&self) -> NodeType
-        ensures {{ result ≡ type_of ({name}_row_plain N.plain self.now) }}
-    {{
-        match self {{
-{types}        }}
-    }}
-
-    pub fn into_{name}(self) -> {s.name}<N>
-        ensures {{ {s.plain} N.plain result ≡ {name}_row_plain N.plain self }}
-    {{
-        match self {{
-{members}        }}
-    }}
-}}"""
-
-
 def typed(table):
     arms = ""
     for g in groups(table):
         if isinstance(g, str):
             arms += f"            Row::{g}(_) => NodeType::{g},\n"
-        elif table.generic(g.name) and kept(table, g) == g.name:
-            arms += f"            Row::{g.name}(row) => N::{snake(g.name)}_type(&**row),\n"
+        elif table.generic(g.name):
+            arms += f"            Row::{g.name}(row) => N::{snake(g.name)}_type(&{held(table, g, '(**row)' if inner(table, g) else '**row')}),\n"
         else:
             arms += f"            Row::{g.name}(row) => (**row).node_type(),\n"
     return f"""impl<N: ReadNode> Typed for Row<N> {{
@@ -174,47 +162,65 @@ def into_program():
 
 
 def row_of(table, s):
-    name, held = snake(s.name), kept(table, s) + parameter(table, s.name)
+    name, of = snake(s.name), kept(table, s) + parameter(table, s.name)
+    given = "other" if inner(table, s) else name
     return f"""/// {spoken(s.name).capitalize()} as a row.
-pub fn {name}_row<N: ReadNode + Drop>(alloc: Global, {name}: {held}) -> Result<Row<N>, InputFault>
-    ensures {{ Same (row_plain N.plain) result (Ok ({plain_of_kept(table, s)} {name})) }}
+pub fn {name}_row<N: ReadNode + Drop>(alloc: Global, {given}: {of}) -> Result<Row<N>, InputFault>
+    ensures {{ Same (row_plain N.plain) result (Ok ({plain_of_set(table, s)} {held(table, s, given)})) }}
 {{
-    Ok(Row::{s.name}(Box::new(alloc, {name})?))
+    Ok(Row::{s.name}(Box::new(alloc, {given})?))
 }}"""
+
+
+# ---- src/others.rt and specs/Others.antt
+
+def others(table):
+    body = "\n\n".join(other(table, s) for s in outer(table))
+    ghosts = [("Rattle.std.specs.Prelude", ["◌≡◌", "true"]),
+              (f"{READER}.specs.Others", ["is_" + snake(kept(table, s)) for s in outer(table)])]
+    homes = [("jsgen_tree", ["Node"] + list(table.sets))]
+    return layout.rust("The members of a set that are in no set within it.", ghosts, [], homes, body)
+
+
+def other(table, s):
+    name = snake(s.name)
+    return f"""/// {spoken(s.name).capitalize()} that is no {" and no ".join(snake(m).replace("_", " ") for m in inner(table, s))}.
+#[derive(Drop)]
+pub struct {kept(table, s)}<N = Node> {{
+    pub {name}: {s.name}<N>,
+    pub ghost other: {{ is_{snake(kept(table, s))} {name} ≡ true }},
+}}"""
+
+
+def others_specs(table):
+    parts = []
+    for s in outer(table):
+        name = "is_" + snake(kept(table, s))
+        clauses = "".join(f"\n{name} ({snake(s.name)}.{m} b) = false" for m in inner(table, s))
+        parts.append(f"abbrev pub {name} : {{N : Type 0}} → {s.name} N → Bool{clauses}\n{name} s = true")
+    homes = [("Rattle.std.specs.Prelude", ["Bool", "true", "false"])] + sets_in_antt(table)
+    return layout.antt("Which members of a set are in no set within it.", homes, variants_of_sets(table), "\n\n".join(parts))
 
 
 # ---- specs/Kept.antt
 
 def specs(table):
-    parts = [own_plain(table, s) for s in large(table) if kept(table, s) != s.name] + [row_plain(table)]
-    parts += ["""abbrev pub entry : {N : Type 0} → (N → Tree) → Kept (Row N) → Entry
+    parts = [row_plain(table), """abbrev pub entry : {N : Type 0} → (N → Tree) → Kept (Row N) → Entry
 entry plain k = pool.entry (row_plain plain) k
 
 abbrev pub entries : {N : Type 0} → (N → Tree) → List (Kept (Row N)) → List Entry
 entries plain ks = pool.entries (row_plain plain) ks"""]
-    inner = [kept(table, s) for s in large(table) if kept(table, s) != s.name]
     homes = [("Rattle.std.specs.Prelude", ["List"]), (f"{SPECS}.Tree", ["Tree"])] + row_names(table)
     homes += [("Rattle.jsgen_pool.specs.Pool", ["Entry"]), ("Rattle.jsgen_pool.specs.declared.Kept", ["Kept"])]
-    homes += [(f"{READER}.specs.declared.kept.{name}", [name]) for name in ["Row"] + inner]
+    homes += [(f"{READER}.specs.declared.kept.Row", ["Row"])]
     aliases = [("Rattle.jsgen_pool.specs.Pool", "pool"), (f"{READER}.specs.declared.kept.Row.TheVariants", "rows")]
-    aliases += [(f"{READER}.specs.declared.kept.{name}.TheVariants", snake(name)) for name in inner]
     return layout.antt("The plain data of what the reader keeps.", homes, aliases, "\n\n".join(parts))
-
-
-def takes(table, name):
-    return " plain" if table.generic(name) else ""
-
-
-def own_plain(table, s):
-    name = snake(kept(table, s))
-    clauses = "".join(f"\n{name}_plain plain ({name}.{m} b) = {table.nodes[m].row}{takes(table, m)} b.value"
-                      for m in own(table, s))
-    return f"abbrev pub {name}_plain : {{N : Type 0}} → (N → Tree) → {kept(table, s)} N → Tree{clauses}"
 
 
 def row_plain(table):
     clauses = ""
     for g in groups(table):
-        name, plain = (g, table.nodes[g].row) if isinstance(g, str) else (g.name, snake(kept(table, g)) + "_plain")
-        clauses += f"\nrow_plain plain (rows.{name} b) = {plain}{takes(table, name)} b.value"
+        name, plain = (g, table.nodes[g].row) if isinstance(g, str) else (g.name, g.plain)
+        row = "b.value" if isinstance(g, str) else held(table, g, "b.value")
+        clauses += f"\nrow_plain plain (rows.{name} b) = {plain}{' plain' if table.generic(name) else ''} {row}"
     return f"abbrev pub row_plain : {{N : Type 0}} → (N → Tree) → Row N → Tree{clauses}"

@@ -1,7 +1,7 @@
 """The reader's proofs/Sets.antt: which of the sets that children are of hold the rows that are kept by their set."""
 
 import layout
-from files.rows_kept import kept, large, own
+from files.rows_kept import held, inner, kept, large, outer, own
 from files.specs_table import tested
 from names import DECLARED, READER, SPECS, TREE, TYPES, row_names, sets_in_antt, types_in_antt
 from table import snake
@@ -14,14 +14,12 @@ def write(table):
     parts += [lemma(table, s, test) for test in tests(table) for s in large(table) if alike(table, s, test)]
     parts += [program_alone(table), "-- ---- which rows a place takes"]
     parts += [rules(table, test) for test in tests(table)]
-    inner = [kept(table, s) for s in large(table) if kept(table, s) != s.name]
     homes = [("Rattle.std.proofs.Common", ["◌≡◌", "Bool", "true", "false", "refl"])] + TREE + types_in_antt(table)
     homes += [(f"{SPECS}.Sets", [t for t in tests(table) if t != "is_program"])] + row_names(table)
     homes += [(f"{READER}.specs.Meaning", ["is_program"])] + sets_in_antt(table)
-    homes += [(f"{READER}.specs.Kept", [snake(name) + "_plain" for name in inner])]
-    homes += [(f"{READER}.specs.declared.kept.{name}", [name]) for name in inner]
+    homes += [(f"{READER}.specs.Others", ["is_" + snake(kept(table, s)) for s in outer(table)])]
+    homes += [(f"{READER}.specs.declared.others.{kept(table, s)}", [kept(table, s)]) for s in outer(table)]
     aliases = TYPES + [(f"{DECLARED}.sets.{s.name}.TheVariants", snake(s.name) + "s") for s in large(table)]
-    aliases += [(f"{READER}.specs.declared.kept.{name}.TheVariants", snake(name) + "s") for name in inner]
     about = "Which of the sets that children are of hold the rows that are kept by their set."
     return {"crates/jsgen_rows/proofs/Sets.antt": layout.antt(about, homes, aliases, "\n\n".join(parts))}
 
@@ -42,24 +40,28 @@ def rules_of(table, name):
     return "takes_" + tested(table, name).removeprefix("is_") + "s"
 
 
-def bound(table, s):
-    """The arguments that stand for what nests, their names, and the type of a row."""
+def bound(table, s, of):
+    """The arguments that stand for what nests, their names, and the type of a row or of a member."""
     if not table.generic(s.name):
-        return "", "", kept(table, s)
-    return "{N : Type 0} (plain : N → Tree) ", " plain", kept(table, s) + " N"
+        return "", "", of
+    return "{N : Type 0} (plain : N → Tree) ", " plain", of + " N"
 
 
-def row(table, s):
-    return f"type_of ({snake(kept(table, s))}_plain{bound(table, s)[1]} r)"
+def type_of(table, s, member):
+    return f"type_of ({s.plain}{' plain' if table.generic(s.name) else ''} {member})"
 
 
 def each_row(table, s):
-    of, plain, held = bound(table, s)
-    name, variants = "of_" + snake(s.name), snake(kept(table, s)) + "s"
+    of, plain, member = bound(table, s, s.name)
+    name, variants = "of_" + snake(s.name), snake(s.name) + "s"
     facts = "".join(f"f types.{m} ≡ b → " for m in own(table, s))
     names = "".join(f" h{i}" for i in range(len(own(table, s))))
-    clauses = "".join(f"\n{name}{plain} f b{names} ({variants}.{m} r) = h{i}" for i, m in enumerate(own(table, s)))
-    return f"{name} : {of}(f : NodeType → Bool) (b : Bool) → {facts}(r : {held}) → f ({row(table, s)}) ≡ b{clauses}"
+    other = f"is_{snake(kept(table, s))} r ≡ true → " if inner(table, s) else ""
+    o = " o" if other else ""
+    clauses = "".join(f"\n{name}{plain} f b{names} ({variants}.{m} r){o} = cc" for m in inner(table, s))
+    clauses += "".join(f"\n{name}{plain} f b{names} ({variants}.{m} r){o} = h{i}" for i, m in enumerate(own(table, s)))
+    said = f"{facts}(r : {member}) → {other}f ({type_of(table, s, 'r')}) ≡ b"
+    return f"{name} : {of}(f : NodeType → Bool) (b : Bool) → {said}{clauses}"
 
 
 def answers(table, s, test):
@@ -85,10 +87,12 @@ def with_article(words):
 
 
 def lemma(table, s, test):
-    of, plain, held = bound(table, s)
+    of, plain, row = bound(table, s, kept(table, s))
     name, b = named(table, s, test), "true" if answer(table, s, test) else "false"
-    given = f"{plain} {test} {b}{' refl' * len(own(table, s))} r"
-    return f"pub {name} : {of}(r : {held}) → {test} ({row(table, s)}) ≡ {b}\n{name}{plain} r = of_{snake(s.name)}{given}"
+    member = held(table, s, "r")
+    given = f"{plain} {test} {b}{' refl' * len(own(table, s))} {member}{' r.other' if inner(table, s) else ''}"
+    said = f"(r : {row}) → {test} ({type_of(table, s, member)}) ≡ {b}"
+    return f"pub {name} : {of}{said}\n{name}{plain} r = of_{snake(s.name)}{given}"
 
 
 def program_alone(table):

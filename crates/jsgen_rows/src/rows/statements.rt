@@ -9,9 +9,8 @@ ghost use Rattle.jsgen_rows.specs.Parts.{is_in_statements};
 ghost use Rattle.jsgen_tree.specs.declared.types.NodeType.TheVariants as types;
 
 use crate::fields::boxed;
-use crate::kept::{
-    ReadNode, Row, StatementRow, binding_pattern_row, declaration_row, statement_row,
-};
+use crate::kept::{ReadNode, Row, binding_pattern_row, declaration_row, statement_row};
+use crate::others::OtherStatement;
 use crate::set_fields::{
     directive_list, needed_binding_pattern, needed_expression, needed_statement,
     optional_expression, optional_statement, statement_list, variable_declarator_list,
@@ -23,7 +22,8 @@ use jsgen_pool::Kept;
 use jsgen_syntax::Span;
 use jsgen_tree::{
     BindingIdentifier, BindingPattern, BlockStatement, Declaration, Directive, EmptyStatement,
-    ExpressionStatement, IfStatement, NodeType, Program, VariableDeclaration, VariableDeclarator,
+    ExpressionStatement, IfStatement, NodeType, Program, Statement, VariableDeclaration,
+    VariableDeclarator,
 };
 use serde_json::Value;
 use std::alloc::Global;
@@ -214,7 +214,12 @@ fn read_expression_statement<N: ReadNode + Drop>(
     };
     let node = ExpressionStatement { span, expression };
     match boxed(alloc, node) {
-        Ok(node) => statement_row(alloc, StatementRow::ExpressionStatement(node)),
+        Ok(node) => statement_row(
+            alloc,
+            OtherStatement {
+                statement: Statement::ExpressionStatement(node),
+            },
+        ),
         Err(fault) => Err(fault),
     }
 }
@@ -236,7 +241,12 @@ fn read_block_statement<N: ReadNode + Drop>(
     };
     let node = BlockStatement { span, body };
     match boxed(alloc, node) {
-        Ok(node) => statement_row(alloc, StatementRow::BlockStatement(node)),
+        Ok(node) => statement_row(
+            alloc,
+            OtherStatement {
+                statement: Statement::BlockStatement(node),
+            },
+        ),
         Err(fault) => Err(fault),
     }
 }
@@ -271,7 +281,12 @@ fn read_if_statement<N: ReadNode + Drop>(
         alternate,
     };
     match boxed(alloc, node) {
-        Ok(node) => statement_row(alloc, StatementRow::IfStatement(node)),
+        Ok(node) => statement_row(
+            alloc,
+            OtherStatement {
+                statement: Statement::IfStatement(node),
+            },
+        ),
         Err(fault) => Err(fault),
     }
 }
@@ -292,7 +307,12 @@ fn read_empty_statement<N: ReadNode + Drop>(
     let _ = row;
     let node = EmptyStatement { span };
     match boxed(alloc, node) {
-        Ok(node) => statement_row(alloc, StatementRow::EmptyStatement(node)),
+        Ok(node) => statement_row(
+            alloc,
+            OtherStatement {
+                statement: Statement::EmptyStatement(node),
+            },
+        ),
         Err(fault) => Err(fault),
     }
 }
