@@ -3,15 +3,15 @@
 ghost use Rattle.std.specs.Prelude.{◌≡◌, IfOk, Some, None, option_map, if◌then◌else◌};
 ghost use Rattle.jsgen_tree.specs.Tree.{type_of};
 ghost use Rattle.jsgen_tree.specs.Sets.{in_set};
-ghost use Rattle.jsgen_tree.specs.Rows.{in_expression, in_argument, in_statement, in_binding_pattern, directive_row, variable_declarator_row, identifier_name_row};
+ghost use Rattle.jsgen_tree.specs.Rows.{in_expression, in_argument, in_declaration, in_statement, in_binding_pattern, directive_row, variable_declarator_row, identifier_name_row};
 ghost use Rattle.jsgen_rows.specs.Kept.{row_plain};
 ghost use Rattle.jsgen_tree.specs.declared.types.NodeSet.TheVariants as sets;
 
 use crate::children::Child;
 use crate::kept::{ReadNode, Row};
 use jsgen_tree::{
-    Argument, BindingPatternNode, Directive, ExpressionNode, IdentifierName, NodeSet, Statement,
-    StatementNode, VariableDeclarator,
+    Argument, BindingPatternNode, DeclarationNode, Directive, ExpressionNode, IdentifierName,
+    NodeSet, Statement, StatementNode, VariableDeclarator,
 };
 use std::alloc::{AllocError, Global};
 
@@ -52,10 +52,10 @@ impl<N: ReadNode + Drop> Child<N> for StatementNode<N> {
             ≡ (if in_set sets.Statement (type_of (row_plain N.plain row)) then Some (row_plain N.plain row) else None)) }
     {
         match row {
-            Row::Declaration(row) => {
-                let declaration = Box::new(alloc, N::declaration_node(Box::into_inner(row)))?;
-                Ok(Some(N::statement_node(Statement::Declaration(declaration))))
-            }
+            Row::Declaration(row) => statement_of_declaration(
+                alloc,
+                N::declaration_node(Box::into_inner(row)),
+            ),
             Row::Statement(row) => Ok(Some(N::statement_node(Box::into_inner(row).statement))),
             _ => Ok(None),
         }
@@ -165,11 +165,33 @@ impl<N: ReadNode + Drop> Child<N> for Argument<N> {
             ≡ (if in_set sets.Argument (type_of (row_plain N.plain row)) then Some (row_plain N.plain row) else None)) }
     {
         match row {
-            Row::Expression(row) => {
-                let expression = Box::new(alloc, N::expression_node(Box::into_inner(row)))?;
-                Ok(Some(Argument::Expression(expression)))
-            }
+            Row::Expression(row) => argument_of_expression(
+                alloc,
+                N::expression_node(Box::into_inner(row)),
+            ),
             _ => Ok(None),
         }
     }
+}
+
+// ---- a member of a set within the set, which stands in a box of its own
+
+fn statement_of_declaration<N: ReadNode + Drop>(
+    alloc: Global,
+    declaration: DeclarationNode<N>,
+) -> Result<Option<StatementNode<N>>, AllocError>
+    ensures { IfOk result (λ child. option_map (in_statement N.plain) child ≡ Some (in_declaration N.plain declaration)) }
+{
+    let declaration = Box::new(alloc, declaration)?;
+    Ok(Some(N::statement_node(Statement::Declaration(declaration))))
+}
+
+fn argument_of_expression<N: ReadNode + Drop>(
+    alloc: Global,
+    expression: ExpressionNode<N>,
+) -> Result<Option<Argument<N>>, AllocError>
+    ensures { IfOk result (λ child. option_map (in_argument N.plain) child ≡ Some (in_expression N.plain expression)) }
+{
+    let expression = Box::new(alloc, expression)?;
+    Ok(Some(Argument::Expression(expression)))
 }

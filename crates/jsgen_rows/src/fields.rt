@@ -4,7 +4,7 @@ ghost use Rattle.serde_json.specs.View.{view};
 ghost use Rattle.jsgen_tree.specs.Tree.{optional, trees};
 ghost use Rattle.jsgen_tree.specs.Table.{needed, may_be_absent, child, children};
 ghost use Rattle.jsgen_rows.specs.Job.{Same};
-ghost use Rattle.jsgen_rows.specs.Values.{field};
+ghost use Rattle.jsgen_rows.specs.Values.{at, field as value_under};
 ghost use Rattle.jsgen_rows.specs.Meaning.{a_child, a_maybe, a_list};
 ghost use Rattle.jsgen_rows.specs.Reads.{Gives, read_children};
 ghost use Rattle.jsgen_rows.specs.Kept.{entries};
@@ -21,13 +21,15 @@ use std::alloc::Global;
 pub fn needed_child<N: ReadNode + Drop, C: Child<N> + Drop>(
     alloc: Global,
     kept: &mut Vec<Kept<Row<N>>>,
-    at: At,
+    number: usize,
+    field: usize,
     row: &Value,
     name: &str,
 ) -> Result<C, InputFault>
     ensures { Gives (λ c. a_child (C.plain c)) result (entries N.plain kept.new.items)
-        (read_children at true needed (child C.of_set) (field name.now (view row.now)) (entries N.plain kept.old.items)) }
+        (read_children (at number field) true needed (child C.of_set) (value_under name.now (view row.now)) (entries N.plain kept.old.items)) }
 {
+    let at = At::of_row(number, field);
     let value = needed_value(at, row, name)?;
     take_as(alloc, kept, at, value)
 }
@@ -36,13 +38,15 @@ pub fn needed_child<N: ReadNode + Drop, C: Child<N> + Drop>(
 pub fn optional_child<N: ReadNode + Drop, C: Child<N> + Drop>(
     alloc: Global,
     kept: &mut Vec<Kept<Row<N>>>,
-    at: At,
+    number: usize,
+    field: usize,
     row: &Value,
     name: &str,
 ) -> Result<Option<C>, InputFault>
     ensures { Gives (λ o. a_maybe (optional (option_map C.plain o))) result (entries N.plain kept.new.items)
-        (read_children at false may_be_absent (child C.of_set) (field name.now (view row.now)) (entries N.plain kept.old.items)) }
+        (read_children (at number field) false may_be_absent (child C.of_set) (value_under name.now (view row.now)) (entries N.plain kept.old.items)) }
 {
+    let at = At::of_row(number, field);
     let Some(value) = optional_value(at, row, name)? else {
         return Ok(None);
     };
@@ -55,13 +59,15 @@ pub fn optional_child<N: ReadNode + Drop, C: Child<N> + Drop>(
 pub fn children<N: ReadNode + Drop, C: Child<N> + Drop>(
     alloc: Global,
     kept: &mut Vec<Kept<Row<N>>>,
-    at: At,
+    number: usize,
+    field: usize,
     row: &Value,
     name: &str,
 ) -> Result<Vec<C>, InputFault>
     ensures { Gives (λ v. a_list (trees (map C.plain v.items))) result (entries N.plain kept.new.items)
-        (read_children at false may_be_absent (children C.of_set) (field name.now (view row.now)) (entries N.plain kept.old.items)) }
+        (read_children (at number field) false may_be_absent (children C.of_set) (value_under name.now (view row.now)) (entries N.plain kept.old.items)) }
 {
+    let at = At::of_row(number, field);
     let Some(value) = optional_value(at, row, name)? else {
         return Ok(Vec::new(alloc));
     };

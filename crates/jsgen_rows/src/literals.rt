@@ -8,12 +8,12 @@ ghost use Rattle.jsgen_tree.specs.Table.{word};
 ghost use Rattle.jsgen_tree.specs.Fields.{numeric_kind_words, numeric_literal_fields};
 ghost use Rattle.jsgen_rows.specs.Job.{Same};
 ghost use Rattle.jsgen_rows.specs.Reads.{Gives, read_node, read_value};
-ghost use Rattle.jsgen_rows.specs.Values.{field, is_of_kind};
+ghost use Rattle.jsgen_rows.specs.Values.{at, field as value_under, is_of_kind};
 ghost use Rattle.jsgen_rows.specs.Kept.{entries, row_plain};
 
 use crate::fields::boxed;
 use crate::kept::{ReadNode, Row, expression_row};
-use crate::values::{needed_digits, needed_value, not_given, text_in};
+use crate::values::{field_not_given, needed_digits, needed_value, text_in};
 use crate::{At, InputFault};
 use jsgen_pool::Kept;
 use jsgen_syntax::Span;
@@ -23,11 +23,12 @@ use std::alloc::Global;
 
 /// The kind of a number, of which there is one yet.
 #[tactic(auto, unfolding(crate::specs::Reads::read_value))]
-fn needed_numeric_kind(at: At, row: &Value) -> Result<(), InputFault>
+fn needed_numeric_kind(number: usize, field: usize, row: &Value) -> Result<(), InputFault>
     ensures reads { Same (λ k. numeric_kind Whole) result
-        (read_value at true no_value (word numeric_kind_words) (field (codes "kind") (view row.now))) }
+        (read_value (at number field) true no_value (word numeric_kind_words) (value_under (codes "kind") (view row.now))) }
     ensures whole { IfOk result (λ k. is_of_kind (codes "whole") (view row.now) ≡ true) }
 {
+    let at = At::of_row(number, field);
     let value = needed_value(at, row, "kind")?;
     match text_in(at, value)? {
         "whole" => Ok(()),
@@ -47,17 +48,17 @@ pub fn read_numeric_literal<N: ReadNode + Drop>(
         (read_node number types.NumericLiteral numeric_literal_fields span (view row.now) (entries N.plain kept.old.items)) }
 {
     let _ = kept;
-    if let Err(fault) = needed_numeric_kind(At::of_row(number, 2), row) {
+    if let Err(fault) = needed_numeric_kind(number, 2, row) {
         return Err(fault);
     }
-    if let Err(fault) = not_given(At::of_row(number, 3), row, "negative") {
+    if let Err(fault) = field_not_given(number, 3, row, "negative") {
         return Err(fault);
     }
-    let digits = match needed_digits(At::of_row(number, 4), row, "digits") {
+    let digits = match needed_digits(number, 4, row, "digits") {
         Ok(digits) => digits,
         Err(fault) => return Err(fault),
     };
-    if let Err(fault) = not_given(At::of_row(number, 5), row, "text") {
+    if let Err(fault) = field_not_given(number, 5, row, "text") {
         return Err(fault);
     }
     let value = NumericValue::Whole { digits };

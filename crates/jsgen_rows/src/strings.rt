@@ -6,7 +6,7 @@ ghost use Rattle.jsgen_tree.specs.Atom.{no_value, units as units_atom};
 ghost use Rattle.jsgen_tree.specs.Table.{units};
 ghost use Rattle.jsgen_rows.specs.Job.{Same};
 ghost use Rattle.jsgen_rows.specs.Reads.{read_value};
-ghost use Rattle.jsgen_rows.specs.Values.{field, unit_in, units_listed, units_in};
+ghost use Rattle.jsgen_rows.specs.Values.{at, field as value_under, unit_in, units_listed, units_in};
 
 use crate::values::{items_in, needed_value};
 use crate::{At, InputFault};
@@ -52,9 +52,17 @@ fn units_in(alloc: Global, at: At, value: &Value) -> Result<JsStr, InputFault>
 }
 
 #[tactic(auto, unfolding(crate::specs::Reads::read_value))]
-pub fn needed_units(alloc: Global, at: At, row: &Value, name: &str) -> Result<JsStr, InputFault>
-    ensures { Same (λ s. units_atom (js_units s)) result (read_value at true no_value units (field name.now (view row.now))) }
+pub fn needed_units(
+    alloc: Global,
+    number: usize,
+    field: usize,
+    row: &Value,
+    name: &str,
+) -> Result<JsStr, InputFault>
+    ensures { Same (λ s. units_atom (js_units s)) result
+        (read_value (at number field) true no_value units (value_under name.now (view row.now))) }
 {
+    let at = At::of_row(number, field);
     let value = needed_value(at, row, name)?;
     units_in(alloc, at, value)
 }

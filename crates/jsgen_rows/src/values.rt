@@ -68,6 +68,18 @@ pub fn not_given(at: At, object: &Value, name: &str) -> Result<(), InputFault>
     }
 }
 
+/// A field of a row that isn't read yet.
+pub fn field_not_given(
+    number: usize,
+    field: usize,
+    row: &Value,
+    name: &str,
+) -> Result<(), InputFault>
+    ensures { Same (λ u. u) result (not_given (at number field) (value_under name.now (view row.now))) }
+{
+    not_given(At::of_row(number, field), row, name)
+}
+
 /// Two fields of a row, one after the other from this number on, neither of which is read yet.
 pub fn neither_given(
     number: usize,
@@ -156,18 +168,34 @@ fn no_text(alloc: Global) -> String
 }
 
 #[tactic(auto, unfolding(crate::specs::Reads::read_value))]
-pub fn needed_text(alloc: Global, at: At, row: &Value, name: &str) -> Result<String, InputFault>
-    ensures { Same (λ s. text_atom (characters s)) result (read_value at true no_value text (field name.now (view row.now))) }
+pub fn needed_text(
+    alloc: Global,
+    number: usize,
+    field: usize,
+    row: &Value,
+    name: &str,
+) -> Result<String, InputFault>
+    ensures { Same (λ s. text_atom (characters s)) result
+        (read_value (at number field) true no_value text (value_under name.now (view row.now))) }
 {
+    let at = At::of_row(number, field);
     let value = needed_value(at, row, name)?;
     text_value(alloc, at, value)
 }
 
 /// A text that is empty where it is absent.
 #[tactic(auto, unfolding(crate::specs::Reads::read_value))]
-pub fn optional_text(alloc: Global, at: At, row: &Value, name: &str) -> Result<String, InputFault>
-    ensures { Same (λ s. text_atom (characters s)) result (read_value at false (text_atom []) text (field name.now (view row.now))) }
+pub fn optional_text(
+    alloc: Global,
+    number: usize,
+    field: usize,
+    row: &Value,
+    name: &str,
+) -> Result<String, InputFault>
+    ensures { Same (λ s. text_atom (characters s)) result
+        (read_value (at number field) false (text_atom []) text (value_under name.now (view row.now))) }
 {
+    let at = At::of_row(number, field);
     match optional_value(at, row, name)? {
         Some(value) => text_value(alloc, at, value),
         None => Ok(no_text(alloc)),
@@ -175,9 +203,16 @@ pub fn optional_text(alloc: Global, at: At, row: &Value, name: &str) -> Result<S
 }
 
 #[tactic(auto, unfolding(crate::specs::Reads::read_value))]
-pub fn needed_digits(at: At, row: &Value, name: &str) -> Result<u128, InputFault>
-    ensures { Same (λ n. digits_atom n) result (read_value at true no_value digits (field name.now (view row.now))) }
+pub fn needed_digits(
+    number: usize,
+    field: usize,
+    row: &Value,
+    name: &str,
+) -> Result<u128, InputFault>
+    ensures { Same (λ n. digits_atom n) result
+        (read_value (at number field) true no_value digits (value_under name.now (view row.now))) }
 {
+    let at = At::of_row(number, field);
     let value = needed_value(at, row, name)?;
     digits_in(at, value)
 }
@@ -193,9 +228,16 @@ fn flag_in(at: At, value: &Value) -> Result<bool, InputFault>
 
 /// A flag that is false where it is absent.
 #[tactic(auto, unfolding(crate::specs::Reads::read_value))]
-pub fn optional_flag(at: At, row: &Value, name: &str) -> Result<bool, InputFault>
-    ensures { Same (λ b. flag_atom b) result (read_value at false (flag_atom false) flag (field name.now (view row.now))) }
+pub fn optional_flag(
+    number: usize,
+    field: usize,
+    row: &Value,
+    name: &str,
+) -> Result<bool, InputFault>
+    ensures { Same (λ b. flag_atom b) result
+        (read_value (at number field) false (flag_atom false) flag (value_under name.now (view row.now))) }
 {
+    let at = At::of_row(number, field);
     match optional_value(at, row, name)? {
         Some(value) => flag_in(at, value),
         None => Ok(false),

@@ -7,7 +7,7 @@ ghost use Rattle.jsgen_tree.specs.Table.{word};
 ghost use Rattle.jsgen_tree.specs.Fields.{source_kind_words, declaration_kind_words, binary_operator_words, logical_operator_words};
 ghost use Rattle.jsgen_rows.specs.Job.{Same};
 ghost use Rattle.jsgen_rows.specs.Reads.{read_value};
-ghost use Rattle.jsgen_rows.specs.Values.{field, word_meaning, words_of_length};
+ghost use Rattle.jsgen_rows.specs.Values.{at, field as value_under, word_meaning, words_of_length};
 
 use crate::values::{needed_value, text_in};
 use crate::{At, InputFault};
@@ -16,10 +16,16 @@ use jsgen_tree::VariableDeclarationKind;
 use serde_json::Value;
 
 #[tactic(auto, unfolding(crate::specs::Reads::read_value))]
-pub fn needed_source_kind(at: At, row: &Value, name: &str) -> Result<SourceKind, InputFault>
+pub fn needed_source_kind(
+    number: usize,
+    field: usize,
+    row: &Value,
+    name: &str,
+) -> Result<SourceKind, InputFault>
     ensures { Same (λ o. source_kind o) result
-        (read_value at true no_value (word source_kind_words) (field name.now (view row.now))) }
+        (read_value (at number field) true no_value (word source_kind_words) (value_under name.now (view row.now))) }
 {
+    let at = At::of_row(number, field);
     let value = needed_value(at, row, name)?;
     match text_in(at, value)? {
         "module" => Ok(SourceKind::Module),
@@ -29,13 +35,15 @@ pub fn needed_source_kind(at: At, row: &Value, name: &str) -> Result<SourceKind,
 
 #[tactic(auto, unfolding(crate::specs::Reads::read_value))]
 pub fn needed_declaration_kind(
-    at: At,
+    number: usize,
+    field: usize,
     row: &Value,
     name: &str,
 ) -> Result<VariableDeclarationKind, InputFault>
     ensures { Same (λ o. declaration_kind o) result
-        (read_value at true no_value (word declaration_kind_words) (field name.now (view row.now))) }
+        (read_value (at number field) true no_value (word declaration_kind_words) (value_under name.now (view row.now))) }
 {
+    let at = At::of_row(number, field);
     let value = needed_value(at, row, name)?;
     match text_in(at, value)? {
         "const" => Ok(VariableDeclarationKind::Const),
@@ -110,10 +118,16 @@ fn binary_operator_by_word(word: &str) -> Option<BinaryOperator>
 }
 
 #[tactic(auto, unfolding(crate::specs::Reads::read_value))]
-pub fn needed_binary_operator(at: At, row: &Value, name: &str) -> Result<BinaryOperator, InputFault>
+pub fn needed_binary_operator(
+    number: usize,
+    field: usize,
+    row: &Value,
+    name: &str,
+) -> Result<BinaryOperator, InputFault>
     ensures { Same (λ o. binary_operator o) result
-        (read_value at true no_value (word binary_operator_words) (field name.now (view row.now))) }
+        (read_value (at number field) true no_value (word binary_operator_words) (value_under name.now (view row.now))) }
 {
+    let at = At::of_row(number, field);
     let value = needed_value(at, row, name)?;
     match binary_operator_by_word(text_in(at, value)?) {
         Some(found) => Ok(found),
@@ -123,13 +137,15 @@ pub fn needed_binary_operator(at: At, row: &Value, name: &str) -> Result<BinaryO
 
 #[tactic(auto, unfolding(crate::specs::Reads::read_value))]
 pub fn needed_logical_operator(
-    at: At,
+    number: usize,
+    field: usize,
     row: &Value,
     name: &str,
 ) -> Result<LogicalOperator, InputFault>
     ensures { Same (λ o. logical_operator o) result
-        (read_value at true no_value (word logical_operator_words) (field name.now (view row.now))) }
+        (read_value (at number field) true no_value (word logical_operator_words) (value_under name.now (view row.now))) }
 {
+    let at = At::of_row(number, field);
     let value = needed_value(at, row, name)?;
     match text_in(at, value)? {
         "||" => Ok(LogicalOperator::Or),

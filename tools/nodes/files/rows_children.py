@@ -47,6 +47,9 @@ def plain_at(table, name, boxed, child):
 
 def impls(table):
     bodies = [impl(table, name, boxed) for name, boxed in places(table)]
+    inside = [one_within(table, name, g) for name, _ in places(table) for g in large(table) if is_within(table, name, g)]
+    if inside:
+        bodies += ["// ---- a member of a set within the set, which stands in a box of its own"] + inside
     of_some = [f for name, boxed in places(table) for f in parts(table, name, boxed)]
     if of_some:
         bodies += ["// ---- a place that takes some types of a set"] + of_some
@@ -97,7 +100,8 @@ def made(table, name, boxed):
             direct = held(table, g, "Box::into_inner(row)")
             arms += f"            Row::{name}(row) => Ok(Some(N::{snake(name)}_node({direct}))),\n"
         elif is_within(table, name, g):
-            arms += set_within(table, table.sets[name], g)
+            direct = held(table, g, "Box::into_inner(row)")
+            arms += f"            Row::{g.name}(row) => {within(name, g)}(alloc, N::{snake(g.name)}_node({direct})),\n"
         elif some(table, name, g):
             arms += f"            Row::{g.name}(row) => Ok({part(name, g, boxed)}(Box::into_inner(row))),\n"
     return arms
@@ -118,15 +122,25 @@ def member(table, name, m, boxed):
     return f"N::{snake(name)}_node({name}::{m}(row))" if s.nests else f"{name}::{m}(row)"
 
 
-def set_within(table, s, g):
-    """A member of a set within the set, which stands in a box of its own."""
-    m, direct = g.name, held(table, g, "Box::into_inner(row)")
-    made = f"{s.name}::{m}({snake(m)})"
-    return f"""            Row::{m}(row) => {{
-                let {snake(m)} = Box::new(alloc, N::{snake(m)}_node({direct}))?;
-                Ok(Some({f"N::{snake(s.name)}_node({made})" if s.nests else made}))
-            }}
-"""
+# ---- a member of a set within the set, which stands in a box of its own
+
+def within(name, g):
+    return f"{snake(name)}_of_{snake(g.name)}"
+
+
+def one_within(table, name, g):
+    m, of = snake(g.name), child_type(table, name, False)
+    made = f"{name}::{g.name}({m})"
+    made = f"N::{snake(name)}_node({made})" if table.sets[name].nests else made
+    return f"""fn {within(name, g)}<N: ReadNode + Drop>(
+    alloc: Global,
+    {m}: {g.name}Node<N>,
+) -> Result<Option<{of}>, AllocError>
+    ensures {{ IfOk result (λ child. option_map {child_plain(table, name, False)} child ≡ Some (in_{m} N.plain {m})) }}
+{{
+    let {m} = Box::new(alloc, {m})?;
+    Ok(Some({made}))
+}}"""
 
 
 # ---- a place that takes some types of a set that rows are kept by
@@ -180,17 +194,16 @@ def readers(table):
     body = "\n\n".join(reader(table, f) for f in fields.values())
     ghosts = [("Rattle.std.specs.Prelude", ["true", "false", "map", "option_map"]),
               ("Rattle.serde_json.specs.View", ["view"]), (f"{SPECS}.Tree", ["optional", "trees"])]
-    ghosts += [(f"{SPECS}.Table", ["needed", "may_be_absent", "child"])] + row_names(table)
-    ghosts += [(f"{READER}.specs.Values", ["field"]), (f"{READER}.specs.Meaning", ["a_child", "a_maybe", "a_list"]),
+    ghosts += [(f"{SPECS}.Table", ["needed", "may_be_absent", "child", "children as many"])] + row_names(table)
+    ghosts += [(f"{READER}.specs.Values", ["at", "field as value_under"]), (f"{READER}.specs.Meaning", ["a_child", "a_maybe", "a_list"]),
                (f"{READER}.specs.Reads", ["Gives", "read_children"]), (f"{READER}.specs.Kept", ["entries"])]
     tree = list(table.nodes) + list(table.sets) + [s.name + "Node" for s in table.nesting()]
-    homes = [("crate", ["At", "InputFault"]), ("crate::fields", ["needed_child", "optional_child", "children"]),
+    homes = [("crate", ["InputFault"]), ("crate::fields", ["needed_child", "optional_child", "children"]),
              ("crate::kept", ["ReadNode", "Row"]), ("jsgen_pool", ["Kept"]), ("jsgen_tree", tree)]
     homes += [("serde_json", ["Value"]), ("std::alloc", ["Global"])]
     about = "Fields that hold children, by set: a row that calls one of these passes no impl of `Child`, which would be " \
             "proved at each call."
-    text = layout.rust(about, ghosts, TYPES, homes, body)
-    return text.replace(".{needed, may_be_absent, child}", ".{needed, may_be_absent, child, children as many}")
+    return layout.rust(about, ghosts, TYPES, homes, body)
 
 
 def reader(table, f):
@@ -201,12 +214,13 @@ def reader(table, f):
     return f"""pub fn {name.format(snake(f.kind))}<N: ReadNode + Drop>(
     alloc: Global,
     kept: &mut Vec<Kept<Row<N>>>,
-    at: At,
+    number: usize,
+    field: usize,
     row: &Value,
     name: &str,
 ) -> Result<{of}, InputFault>
     ensures {{ Gives ({gives.format(plain)}) result (entries N.plain kept.new.items)
-        (read_children at {field.format(f.kind)} (field name.now (view row.now)) (entries N.plain kept.old.items)) }}
+        (read_children (at number field) {field.format(f.kind)} (value_under name.now (view row.now)) (entries N.plain kept.old.items)) }}
 {{
-    {inner}(alloc, kept, at, row, name)
+    {inner}(alloc, kept, number, field, row, name)
 }}"""

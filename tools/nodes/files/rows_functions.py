@@ -55,14 +55,14 @@ def ghosts_of(nodes):
 def one_file(table, name, text, every):
     nodes = [n for n in every if not by_hand(n)]
     sets = list({s.name: s for n in nodes if (s := set_of(table, n.name))}.values())
-    values = ["needed_text", "optional_text", "needed_digits", "optional_flag", "not_given", "neither_given"]
+    values = ["needed_text", "optional_text", "needed_digits", "optional_flag", "field_not_given", "neither_given"]
     homes = [("crate::literals", [f"read_{snake(n.name)}" for n in every if by_hand(n)]),
              ("crate::set_fields", [reader_of(f) for n in nodes for f in table.children(n)]),
              ("crate::fields", ["boxed"]), ("crate::strings", ["needed_units"]), ("crate::values", values),
              ("crate::words", [f"needed_{w.short}" for w in table.words.values()]),
              ("crate::kept", ["ReadNode", "Row"] + [snake(s.name) + "_row" for s in sets]),
              ("crate::others", [kept(table, s) for s in sets if inner(table, s)]),
-             ("crate", ["At", "InputFault"]), ("jsgen_pool", ["Kept"]), ("jsgen_syntax", ["Span"]),
+             ("crate", ["InputFault"]), ("jsgen_pool", ["Kept"]), ("jsgen_syntax", ["Span"]),
              ("jsgen_tree", list(dict.fromkeys(["NodeType"] + [n.name for n in nodes] + [s.name for s in sets]))),
              ("serde_json", ["Value"]), ("std::alloc", ["Global"])]
     homes = [(module, list(dict.fromkeys(names))) for module, names in homes]
@@ -111,15 +111,11 @@ def fields(table, n):
             pending = None
             continue
         if pending:
-            lines += refused(f"not_given({at(pending[0])}, row, \"{pending[1].name}\")")
+            lines += refused(f"field_not_given(number, {pending[0]}, row, \"{pending[1].name}\")")
         pending = (number, f) if f and f.unread else None
         if f and not f.unread:
             lines += read(f.rust, call(table, n, f, number))
     return lines
-
-
-def at(number):
-    return f"At::of_row(number, {number})"
 
 
 def refused(call):
@@ -131,7 +127,7 @@ def read(name, call):
 
 
 def call(table, n, f, number):
-    field = f"{at(number)}, row, \"{f.name}\""
+    field = f"number, {number}, row, \"{f.name}\""
     if table.is_child(f):
         return f"{reader_of(f)}(alloc, kept, {field})"
     if f.kind in table.words and f.required:

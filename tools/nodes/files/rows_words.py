@@ -23,7 +23,7 @@ def rust(words):
     ghosts += [(f"{SPECS}.Atom", ["no_value"] + [w.short for w in words]), (f"{SPECS}.Table", ["word"])]
     ghosts += [(f"{SPECS}.Fields", [f"{w.short}_words" for w in words]), (f"{READER}.specs.Job", ["Same"])]
     ghosts += [(f"{READER}.specs.Reads", ["read_value"]),
-               (f"{READER}.specs.Values", ["field", "word_meaning", "words_of_length"])]
+               (f"{READER}.specs.Values", ["at", "field as value_under", "word_meaning", "words_of_length"])]
     homes = [("crate::values", ["needed_value", "text_in"]), ("crate", ["At", "InputFault"]), ("serde_json", ["Value"])]
     homes += [("jsgen_syntax" if w.home else "jsgen_tree", [w.name]) for w in words]
     return layout.rust("Fields that hold a word.", ghosts, [], joined(homes), "\n\n".join(parts))
@@ -72,10 +72,11 @@ def reader(w):
         arms = "".join(f'        "{word}" => Ok({w.name}::{variant}),\n' for word, variant in w.words)
         body = f"    match text_in(at, value)? {{\n{arms}        _ => Err(InputFault::Wrong(at)),\n    }}"
     return f"""#[tactic(auto, unfolding(crate::specs::Reads::read_value))]
-pub fn needed_{w.short}(at: At, row: &Value, name: &str) -> Result<{w.name}, InputFault>
+pub fn needed_{w.short}(number: usize, field: usize, row: &Value, name: &str) -> Result<{w.name}, InputFault>
     ensures {{ Same (λ o. {w.short} o) result
-        (read_value at true no_value (word {w.short}_words) (field name.now (view row.now))) }}
+        (read_value (at number field) true no_value (word {w.short}_words) (value_under name.now (view row.now))) }}
 {{
+    let at = At::of_row(number, field);
     let value = needed_value(at, row, name)?;
 {body}
 }}"""

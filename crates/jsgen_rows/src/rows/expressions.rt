@@ -8,14 +8,14 @@ ghost use Rattle.jsgen_rows.specs.Kept.{entries, row_plain};
 ghost use Rattle.jsgen_rows.specs.Parts.{is_in_statements};
 ghost use Rattle.jsgen_tree.specs.declared.types.NodeType.TheVariants as types;
 
+use crate::InputFault;
 use crate::fields::boxed;
 use crate::kept::{ReadNode, Row, expression_row};
 use crate::literals::read_numeric_literal;
 use crate::set_fields::{argument_list, needed_expression, needed_identifier_name};
 use crate::strings::needed_units;
-use crate::values::{needed_text, not_given, optional_flag};
+use crate::values::{field_not_given, needed_text, optional_flag};
 use crate::words::{needed_binary_operator, needed_logical_operator};
-use crate::{At, InputFault};
 use jsgen_pool::Kept;
 use jsgen_syntax::Span;
 use jsgen_tree::{
@@ -38,11 +38,11 @@ fn read_identifier_reference<N: ReadNode + Drop>(
         (read_node number types.IdentifierReference identifier_reference_fields span (view row.now) (entries N.plain kept.old.items)) }
 {
     let _ = kept;
-    let name = match needed_text(alloc, At::of_row(number, 2), row, "name") {
+    let name = match needed_text(alloc, number, 2, row, "name") {
         Ok(name) => name,
         Err(fault) => return Err(fault),
     };
-    if let Err(fault) = not_given(At::of_row(number, 3), row, "reference") {
+    if let Err(fault) = field_not_given(number, 3, row, "reference") {
         return Err(fault);
     }
     let node = IdentifierReference { span, name };
@@ -85,7 +85,7 @@ fn read_string_literal<N: ReadNode + Drop>(
         (read_node number types.StringLiteral string_literal_fields span (view row.now) (entries N.plain kept.old.items)) }
 {
     let _ = kept;
-    let value = match needed_units(alloc, At::of_row(number, 2), row, "value") {
+    let value = match needed_units(alloc, number, 2, row, "value") {
         Ok(value) => value,
         Err(fault) => return Err(fault),
     };
@@ -107,13 +107,7 @@ fn read_parenthesized_expression<N: ReadNode + Drop>(
     ensures { Gives (row_plain N.plain) result (entries N.plain kept.new.items)
         (read_node number types.ParenthesizedExpression parenthesized_expression_fields span (view row.now) (entries N.plain kept.old.items)) }
 {
-    let expression = match needed_expression(
-        alloc,
-        kept,
-        At::of_row(number, 2),
-        row,
-        "expression",
-    ) {
+    let expression = match needed_expression(alloc, kept, number, 2, row, "expression") {
         Ok(expression) => expression,
         Err(fault) => return Err(fault),
     };
@@ -135,15 +129,15 @@ fn read_binary_expression<N: ReadNode + Drop>(
     ensures { Gives (row_plain N.plain) result (entries N.plain kept.new.items)
         (read_node number types.BinaryExpression binary_expression_fields span (view row.now) (entries N.plain kept.old.items)) }
 {
-    let operator = match needed_binary_operator(At::of_row(number, 2), row, "operator") {
+    let operator = match needed_binary_operator(number, 2, row, "operator") {
         Ok(operator) => operator,
         Err(fault) => return Err(fault),
     };
-    let left = match needed_expression(alloc, kept, At::of_row(number, 3), row, "left") {
+    let left = match needed_expression(alloc, kept, number, 3, row, "left") {
         Ok(left) => left,
         Err(fault) => return Err(fault),
     };
-    let right = match needed_expression(alloc, kept, At::of_row(number, 4), row, "right") {
+    let right = match needed_expression(alloc, kept, number, 4, row, "right") {
         Ok(right) => right,
         Err(fault) => return Err(fault),
     };
@@ -170,15 +164,15 @@ fn read_logical_expression<N: ReadNode + Drop>(
     ensures { Gives (row_plain N.plain) result (entries N.plain kept.new.items)
         (read_node number types.LogicalExpression logical_expression_fields span (view row.now) (entries N.plain kept.old.items)) }
 {
-    let operator = match needed_logical_operator(At::of_row(number, 2), row, "operator") {
+    let operator = match needed_logical_operator(number, 2, row, "operator") {
         Ok(operator) => operator,
         Err(fault) => return Err(fault),
     };
-    let left = match needed_expression(alloc, kept, At::of_row(number, 3), row, "left") {
+    let left = match needed_expression(alloc, kept, number, 3, row, "left") {
         Ok(left) => left,
         Err(fault) => return Err(fault),
     };
-    let right = match needed_expression(alloc, kept, At::of_row(number, 4), row, "right") {
+    let right = match needed_expression(alloc, kept, number, 4, row, "right") {
         Ok(right) => right,
         Err(fault) => return Err(fault),
     };
@@ -206,7 +200,7 @@ fn read_identifier_name<N: ReadNode + Drop>(
         (read_node number types.IdentifierName identifier_name_fields span (view row.now) (entries N.plain kept.old.items)) }
 {
     let _ = kept;
-    let name = match needed_text(alloc, At::of_row(number, 2), row, "name") {
+    let name = match needed_text(alloc, number, 2, row, "name") {
         Ok(name) => name,
         Err(fault) => return Err(fault),
     };
@@ -228,20 +222,14 @@ fn read_static_member_expression<N: ReadNode + Drop>(
     ensures { Gives (row_plain N.plain) result (entries N.plain kept.new.items)
         (read_node number types.StaticMemberExpression static_member_expression_fields span (view row.now) (entries N.plain kept.old.items)) }
 {
-    let object = match needed_expression(alloc, kept, At::of_row(number, 2), row, "object") {
+    let object = match needed_expression(alloc, kept, number, 2, row, "object") {
         Ok(object) => object,
         Err(fault) => return Err(fault),
     };
-    if let Err(fault) = not_given(At::of_row(number, 3), row, "optional") {
+    if let Err(fault) = field_not_given(number, 3, row, "optional") {
         return Err(fault);
     }
-    let property = match needed_identifier_name(
-        alloc,
-        kept,
-        At::of_row(number, 4),
-        row,
-        "property",
-    ) {
+    let property = match needed_identifier_name(alloc, kept, number, 4, row, "property") {
         Ok(property) => property,
         Err(fault) => return Err(fault),
     };
@@ -267,20 +255,14 @@ fn read_computed_member_expression<N: ReadNode + Drop>(
     ensures { Gives (row_plain N.plain) result (entries N.plain kept.new.items)
         (read_node number types.ComputedMemberExpression computed_member_expression_fields span (view row.now) (entries N.plain kept.old.items)) }
 {
-    let object = match needed_expression(alloc, kept, At::of_row(number, 2), row, "object") {
+    let object = match needed_expression(alloc, kept, number, 2, row, "object") {
         Ok(object) => object,
         Err(fault) => return Err(fault),
     };
-    if let Err(fault) = not_given(At::of_row(number, 3), row, "optional") {
+    if let Err(fault) = field_not_given(number, 3, row, "optional") {
         return Err(fault);
     }
-    let expression = match needed_expression(
-        alloc,
-        kept,
-        At::of_row(number, 4),
-        row,
-        "expression",
-    ) {
+    let expression = match needed_expression(alloc, kept, number, 4, row, "expression") {
         Ok(expression) => expression,
         Err(fault) => return Err(fault),
     };
@@ -306,21 +288,21 @@ fn read_call_expression<N: ReadNode + Drop>(
     ensures { Gives (row_plain N.plain) result (entries N.plain kept.new.items)
         (read_node number types.CallExpression call_expression_fields span (view row.now) (entries N.plain kept.old.items)) }
 {
-    let callee = match needed_expression(alloc, kept, At::of_row(number, 2), row, "callee") {
+    let callee = match needed_expression(alloc, kept, number, 2, row, "callee") {
         Ok(callee) => callee,
         Err(fault) => return Err(fault),
     };
-    if let Err(fault) = not_given(At::of_row(number, 3), row, "type_arguments") {
+    if let Err(fault) = field_not_given(number, 3, row, "type_arguments") {
         return Err(fault);
     }
-    let arguments = match argument_list(alloc, kept, At::of_row(number, 4), row, "arguments") {
+    let arguments = match argument_list(alloc, kept, number, 4, row, "arguments") {
         Ok(arguments) => arguments,
         Err(fault) => return Err(fault),
     };
-    if let Err(fault) = not_given(At::of_row(number, 5), row, "optional") {
+    if let Err(fault) = field_not_given(number, 5, row, "optional") {
         return Err(fault);
     }
-    let pure = match optional_flag(At::of_row(number, 6), row, "pure") {
+    let pure = match optional_flag(number, 6, row, "pure") {
         Ok(pure) => pure,
         Err(fault) => return Err(fault),
     };

@@ -8,6 +8,7 @@ ghost use Rattle.jsgen_rows.specs.Kept.{entries, row_plain};
 ghost use Rattle.jsgen_rows.specs.Parts.{is_in_statements};
 ghost use Rattle.jsgen_tree.specs.declared.types.NodeType.TheVariants as types;
 
+use crate::InputFault;
 use crate::fields::boxed;
 use crate::kept::{ReadNode, Row, binding_pattern_row, declaration_row, statement_row};
 use crate::others::OtherStatement;
@@ -15,9 +16,8 @@ use crate::set_fields::{
     directive_list, needed_binding_pattern, needed_expression, needed_statement,
     optional_expression, optional_statement, statement_list, variable_declarator_list,
 };
-use crate::values::{needed_text, neither_given, not_given, optional_text};
+use crate::values::{field_not_given, needed_text, neither_given, optional_text};
 use crate::words::{needed_declaration_kind, needed_source_kind};
-use crate::{At, InputFault};
 use jsgen_pool::Kept;
 use jsgen_syntax::Span;
 use jsgen_tree::{
@@ -39,11 +39,11 @@ fn read_program<N: ReadNode + Drop>(
     ensures { Gives (row_plain N.plain) result (entries N.plain kept.new.items)
         (read_node number types.Program program_fields span (view row.now) (entries N.plain kept.old.items)) }
 {
-    let source = match optional_text(alloc, At::of_row(number, 2), row, "source") {
+    let source = match optional_text(alloc, number, 2, row, "source") {
         Ok(source) => source,
         Err(fault) => return Err(fault),
     };
-    let kind = match needed_source_kind(At::of_row(number, 3), row, "kind") {
+    let kind = match needed_source_kind(number, 3, row, "kind") {
         Ok(kind) => kind,
         Err(fault) => return Err(fault),
     };
@@ -53,11 +53,11 @@ fn read_program<N: ReadNode + Drop>(
     if let Err(fault) = neither_given(number, 6, row, "comments", "hashbang") {
         return Err(fault);
     }
-    let directives = match directive_list(alloc, kept, At::of_row(number, 8), row, "directives") {
+    let directives = match directive_list(alloc, kept, number, 8, row, "directives") {
         Ok(directives) => directives,
         Err(fault) => return Err(fault),
     };
-    let body = match statement_list(alloc, kept, At::of_row(number, 9), row, "body") {
+    let body = match statement_list(alloc, kept, number, 9, row, "body") {
         Ok(body) => body,
         Err(fault) => return Err(fault),
     };
@@ -86,7 +86,7 @@ fn read_directive<N: ReadNode + Drop>(
         (read_node number types.Directive directive_fields span (view row.now) (entries N.plain kept.old.items)) }
 {
     let _ = kept;
-    let directive = match needed_text(alloc, At::of_row(number, 2), row, "directive") {
+    let directive = match needed_text(alloc, number, 2, row, "directive") {
         Ok(directive) => directive,
         Err(fault) => return Err(fault),
     };
@@ -108,20 +108,14 @@ fn read_variable_declaration<N: ReadNode + Drop>(
     ensures { Gives (row_plain N.plain) result (entries N.plain kept.new.items)
         (read_node number types.VariableDeclaration variable_declaration_fields span (view row.now) (entries N.plain kept.old.items)) }
 {
-    let kind = match needed_declaration_kind(At::of_row(number, 2), row, "kind") {
+    let kind = match needed_declaration_kind(number, 2, row, "kind") {
         Ok(kind) => kind,
         Err(fault) => return Err(fault),
     };
-    if let Err(fault) = not_given(At::of_row(number, 3), row, "declare") {
+    if let Err(fault) = field_not_given(number, 3, row, "declare") {
         return Err(fault);
     }
-    let declarations = match variable_declarator_list(
-        alloc,
-        kept,
-        At::of_row(number, 4),
-        row,
-        "declarations",
-    ) {
+    let declarations = match variable_declarator_list(alloc, kept, number, 4, row, "declarations") {
         Ok(declarations) => declarations,
         Err(fault) => return Err(fault),
     };
@@ -147,14 +141,14 @@ fn read_variable_declarator<N: ReadNode + Drop>(
     ensures { Gives (row_plain N.plain) result (entries N.plain kept.new.items)
         (read_node number types.VariableDeclarator variable_declarator_fields span (view row.now) (entries N.plain kept.old.items)) }
 {
-    let id = match needed_binding_pattern(alloc, kept, At::of_row(number, 2), row, "id") {
+    let id = match needed_binding_pattern(alloc, kept, number, 2, row, "id") {
         Ok(id) => id,
         Err(fault) => return Err(fault),
     };
     if let Err(fault) = neither_given(number, 3, row, "definite", "type_annotation") {
         return Err(fault);
     }
-    let init = match optional_expression(alloc, kept, At::of_row(number, 5), row, "init") {
+    let init = match optional_expression(alloc, kept, number, 5, row, "init") {
         Ok(init) => init,
         Err(fault) => return Err(fault),
     };
@@ -177,11 +171,11 @@ fn read_binding_identifier<N: ReadNode + Drop>(
         (read_node number types.BindingIdentifier binding_identifier_fields span (view row.now) (entries N.plain kept.old.items)) }
 {
     let _ = kept;
-    let name = match needed_text(alloc, At::of_row(number, 2), row, "name") {
+    let name = match needed_text(alloc, number, 2, row, "name") {
         Ok(name) => name,
         Err(fault) => return Err(fault),
     };
-    if let Err(fault) = not_given(At::of_row(number, 3), row, "symbol") {
+    if let Err(fault) = field_not_given(number, 3, row, "symbol") {
         return Err(fault);
     }
     let node = BindingIdentifier { span, name };
@@ -202,13 +196,7 @@ fn read_expression_statement<N: ReadNode + Drop>(
     ensures { Gives (row_plain N.plain) result (entries N.plain kept.new.items)
         (read_node number types.ExpressionStatement expression_statement_fields span (view row.now) (entries N.plain kept.old.items)) }
 {
-    let expression = match needed_expression(
-        alloc,
-        kept,
-        At::of_row(number, 2),
-        row,
-        "expression",
-    ) {
+    let expression = match needed_expression(alloc, kept, number, 2, row, "expression") {
         Ok(expression) => expression,
         Err(fault) => return Err(fault),
     };
@@ -235,7 +223,7 @@ fn read_block_statement<N: ReadNode + Drop>(
     ensures { Gives (row_plain N.plain) result (entries N.plain kept.new.items)
         (read_node number types.BlockStatement block_statement_fields span (view row.now) (entries N.plain kept.old.items)) }
 {
-    let body = match statement_list(alloc, kept, At::of_row(number, 2), row, "body") {
+    let body = match statement_list(alloc, kept, number, 2, row, "body") {
         Ok(body) => body,
         Err(fault) => return Err(fault),
     };
@@ -262,15 +250,15 @@ fn read_if_statement<N: ReadNode + Drop>(
     ensures { Gives (row_plain N.plain) result (entries N.plain kept.new.items)
         (read_node number types.IfStatement if_statement_fields span (view row.now) (entries N.plain kept.old.items)) }
 {
-    let test = match needed_expression(alloc, kept, At::of_row(number, 2), row, "test") {
+    let test = match needed_expression(alloc, kept, number, 2, row, "test") {
         Ok(test) => test,
         Err(fault) => return Err(fault),
     };
-    let consequent = match needed_statement(alloc, kept, At::of_row(number, 3), row, "consequent") {
+    let consequent = match needed_statement(alloc, kept, number, 3, row, "consequent") {
         Ok(consequent) => consequent,
         Err(fault) => return Err(fault),
     };
-    let alternate = match optional_statement(alloc, kept, At::of_row(number, 4), row, "alternate") {
+    let alternate = match optional_statement(alloc, kept, number, 4, row, "alternate") {
         Ok(alternate) => alternate,
         Err(fault) => return Err(fault),
     };
