@@ -1,4 +1,5 @@
 pub mod Digits
+pub mod Gives
 pub mod JobLaw
 pub mod Json
 pub mod LastRow

@@ -103,23 +103,27 @@ def as_row(table, n):
 
 
 def fields(table, n):
-    """The fields in their order; two in a row that aren't read yet are one call."""
-    lines, pending = "", None
+    return "".join(read(name, call) if name else refused(call) for name, call in calls(table, n))
+
+
+def calls(table, n):
+    """The variable and the call of each field, in their order; two in a row that aren't read yet are one call."""
+    every, pending = [], None
     for number, f in list(enumerate(n.in_format(), 2)) + [(None, None)]:
         if pending and f and f.unread:
-            lines += refused(f"neither_given(number, {pending[0]}, row, \"{pending[1].name}\", \"{f.name}\")")
+            every.append((None, f"neither_given(number, {pending[0]}, row, \"{pending[1].name}\", \"{f.name}\")"))
             pending = None
             continue
         if pending:
-            lines += refused(f"field_not_given(number, {pending[0]}, row, \"{pending[1].name}\")")
+            every.append((None, f"field_not_given(number, {pending[0]}, row, \"{pending[1].name}\")"))
         pending = (number, f) if f and f.unread else None
         if f and not f.unread:
-            lines += read(f.rust, call(table, n, f, number))
-    return lines
+            every.append((f.rust, call(table, n, f, number)))
+    return every
 
 
 def refused(call):
-    return f"    if let Err(fault) = {call} {{\n        return Err(fault);\n    }}\n"
+    return f"    match {call} {{\n        Ok(()) => {{}}\n        Err(fault) => return Err(fault),\n    }}\n"
 
 
 def read(name, call):

@@ -42,8 +42,9 @@ fn read_identifier_reference<N: ReadNode + Drop>(
         Ok(name) => name,
         Err(fault) => return Err(fault),
     };
-    if let Err(fault) = field_not_given(number, 3, row, "reference") {
-        return Err(fault);
+    match field_not_given(number, 3, row, "reference") {
+        Ok(()) => {}
+        Err(fault) => return Err(fault),
     }
     let node = IdentifierReference { span, name };
     match boxed(alloc, node) {
@@ -226,8 +227,9 @@ fn read_static_member_expression<N: ReadNode + Drop>(
         Ok(object) => object,
         Err(fault) => return Err(fault),
     };
-    if let Err(fault) = field_not_given(number, 3, row, "optional") {
-        return Err(fault);
+    match field_not_given(number, 3, row, "optional") {
+        Ok(()) => {}
+        Err(fault) => return Err(fault),
     }
     let property = match needed_identifier_name(alloc, kept, number, 4, row, "property") {
         Ok(property) => property,
@@ -259,8 +261,9 @@ fn read_computed_member_expression<N: ReadNode + Drop>(
         Ok(object) => object,
         Err(fault) => return Err(fault),
     };
-    if let Err(fault) = field_not_given(number, 3, row, "optional") {
-        return Err(fault);
+    match field_not_given(number, 3, row, "optional") {
+        Ok(()) => {}
+        Err(fault) => return Err(fault),
     }
     let expression = match needed_expression(alloc, kept, number, 4, row, "expression") {
         Ok(expression) => expression,
@@ -292,15 +295,17 @@ fn read_call_expression<N: ReadNode + Drop>(
         Ok(callee) => callee,
         Err(fault) => return Err(fault),
     };
-    if let Err(fault) = field_not_given(number, 3, row, "type_arguments") {
-        return Err(fault);
+    match field_not_given(number, 3, row, "type_arguments") {
+        Ok(()) => {}
+        Err(fault) => return Err(fault),
     }
     let arguments = match argument_list(alloc, kept, number, 4, row, "arguments") {
         Ok(arguments) => arguments,
         Err(fault) => return Err(fault),
     };
-    if let Err(fault) = field_not_given(number, 5, row, "optional") {
-        return Err(fault);
+    match field_not_given(number, 5, row, "optional") {
+        Ok(()) => {}
+        Err(fault) => return Err(fault),
     }
     let pure = match optional_flag(number, 6, row, "pure") {
         Ok(pure) => pure,

@@ -47,11 +47,13 @@ fn read_program<N: ReadNode + Drop>(
         Ok(kind) => kind,
         Err(fault) => return Err(fault),
     };
-    if let Err(fault) = neither_given(number, 4, row, "jsx", "typescript") {
-        return Err(fault);
+    match neither_given(number, 4, row, "jsx", "typescript") {
+        Ok(()) => {}
+        Err(fault) => return Err(fault),
     }
-    if let Err(fault) = neither_given(number, 6, row, "comments", "hashbang") {
-        return Err(fault);
+    match neither_given(number, 6, row, "comments", "hashbang") {
+        Ok(()) => {}
+        Err(fault) => return Err(fault),
     }
     let directives = match directive_list(alloc, kept, number, 8, row, "directives") {
         Ok(directives) => directives,
@@ -112,8 +114,9 @@ fn read_variable_declaration<N: ReadNode + Drop>(
         Ok(kind) => kind,
         Err(fault) => return Err(fault),
     };
-    if let Err(fault) = field_not_given(number, 3, row, "declare") {
-        return Err(fault);
+    match field_not_given(number, 3, row, "declare") {
+        Ok(()) => {}
+        Err(fault) => return Err(fault),
     }
     let declarations = match variable_declarator_list(alloc, kept, number, 4, row, "declarations") {
         Ok(declarations) => declarations,
@@ -145,8 +148,9 @@ fn read_variable_declarator<N: ReadNode + Drop>(
         Ok(id) => id,
         Err(fault) => return Err(fault),
     };
-    if let Err(fault) = neither_given(number, 3, row, "definite", "type_annotation") {
-        return Err(fault);
+    match neither_given(number, 3, row, "definite", "type_annotation") {
+        Ok(()) => {}
+        Err(fault) => return Err(fault),
     }
     let init = match optional_expression(alloc, kept, number, 5, row, "init") {
         Ok(init) => init,
@@ -175,8 +179,9 @@ fn read_binding_identifier<N: ReadNode + Drop>(
         Ok(name) => name,
         Err(fault) => return Err(fault),
     };
-    if let Err(fault) = field_not_given(number, 3, row, "symbol") {
-        return Err(fault);
+    match field_not_given(number, 3, row, "symbol") {
+        Ok(()) => {}
+        Err(fault) => return Err(fault),
     }
     let node = BindingIdentifier { span, name };
     match boxed(alloc, node) {

@@ -1,0 +1,20 @@
+-- What the last step of a row's function gives.
+use Rattle.std.proofs.Common.{◌≡◌, List, Result, Ok, Err}
+use Rattle.jsgen_pool.specs.Pool.{Entry}
+use Rattle.jsgen_rows.specs.declared.InputFault.{InputFault}
+use Rattle.jsgen_rows.specs.Job.{Same}
+use Rattle.jsgen_rows.specs.Reads.{Gives, Read}
+
+-- the node n is put in a box as m
+abbrev Boxed : {X : Type 0} → X → X → Type 0
+Boxed {X} n m = ◌≡◌ {A = Result X InputFault} (Ok n) (Ok m)
+
+-- and the row r is made of that
+pub gives_row : {T V X : Type 0} (plain : T → V) (r : Result T InputFault) (kept : List Entry) (row : X → V) (n m : X)
+    → Boxed n m → Same plain r (Ok (row m)) → Gives plain r kept (Ok (row n, kept))
+gives_row plain (Ok x) kept row n m e h = cc
+gives_row plain (Err f) kept row n m e h = λ told. let q = h told in cc
+
+-- and is the row
+pub gives_held : {V X : Type 0} (kept : List Entry) (row : X → V) (n m : X) → Boxed n m → ◌≡◌ {A = Read V} (Ok (row n, kept)) (Ok (row m, kept))
+gives_held kept row n m e = cc
