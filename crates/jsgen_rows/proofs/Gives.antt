@@ -1,9 +1,23 @@
--- What the last step of a row's function gives.
-use Rattle.std.proofs.Common.{◌≡◌, List, Result, Ok, Err}
+-- What the steps of a row's function give.
+use Rattle.std.proofs.Common.{◌≡◌, List, Result, Ok, Err, refl}
+use Rattle.std.specs.Prelude.{⊤}
 use Rattle.jsgen_pool.specs.Pool.{Entry}
 use Rattle.jsgen_rows.specs.declared.InputFault.{InputFault}
 use Rattle.jsgen_rows.specs.Job.{Same}
 use Rattle.jsgen_rows.specs.Reads.{Gives, Read}
+use Rattle.jsgen_rows.specs.Values.{after}
+
+-- ---- two fields of which neither is given
+
+pub first_of_two : {u : ⊤} (x y : Result ⊤ InputFault) → after x (λ nothing. y) ≡ Ok u → x ≡ Ok tt
+first_of_two (Ok v) y e = refl
+first_of_two (Err f) y e = cc
+
+pub second_of_two : {u : ⊤} (x y : Result ⊤ InputFault) → after x (λ nothing. y) ≡ Ok u → y ≡ Ok tt
+second_of_two (Ok v) y e = e
+second_of_two (Err f) y e = cc
+
+-- ---- the last step
 
 -- the node n is put in a box as m
 abbrev Boxed : {X : Type 0} → X → X → Type 0

@@ -1,5 +1,7 @@
 """The reader's proofs/rows: the answers of a row's function, which name what its calls ensure, one after another."""
 
+import re
+
 import layout
 from files.rows_functions import FOLDER, by_hand, calls, parts
 from files.rows_kept import set_of
@@ -11,13 +13,7 @@ PROOFS = FOLDER.replace("/src/", "/proofs/")
 
 def write(table):
     return {f"{PROOFS}/{part}/read_{snake(n.name)}/Answers.antt": answers(table, part, n)
-            for part, _, nodes in parts(table) for n in nodes if not by_hand(n) and steps(table, n)}
-
-
-def steps(table, n):
-    """The steps of the fields, by the calls' names; none where one call is of two fields, whose proof is searched for."""
-    names = [call.split("(")[0] for _, call in calls(table, n)]
-    return [] if "neither_given" in names else suffixes(names)
+            for part, _, nodes in parts(table) for n in nodes if not by_hand(n) and n.fields}
 
 
 def suffixes(names):
@@ -31,15 +27,27 @@ def suffixes(names):
 
 def answers(table, part, n):
     function = f"{READER}.proofs.rows.{part}.read_{snake(n.name)}"
-    ends = steps(table, n)
-    read = [f"c.in-Ok{end}.ensures" for end in ends]
-    parts = []
-    for i, end in enumerate(ends):
-        equations = ", ".join(read[:i] + [f"c.in-Err{end}.ensures told"])
-        parts.append(answer(f"returns-in-Err{end}", f"λ told. rw ({equations})"))
-    parts.append(answer("returns-in-Ok-boxed", f"rw ({', '.join(read)}) ({last(table, n)})"))
-    homes = [(f"{READER}.specs.Reads", ["read_node"]), (f"{READER}.proofs.Gives", ["gives_row", "gives_held"])] + row_names(table)
-    return layout.antt("What each call ensures, one after another.", homes, [(f"{function}.Goals", "goal")], "\n\n".join(parts))
+    every = [call for _, call in calls(table, n)]
+    each, read = [], []
+    for call, end in zip(every, suffixes([call.split("(")[0] for call in every])):
+        if call.startswith("neither_given"):    # the proof that one of two fields is refused is searched for
+            read += of_two(call, f"c.in-Ok{end}.ensures")
+        else:
+            each.append(answer(f"returns-in-Err{end}", f"λ told. rw ({', '.join(read + [f'c.in-Err{end}.ensures told'])})"))
+            read.append(f"c.in-Ok{end}.ensures")
+    each.append(answer("returns-in-Ok-boxed", f"rw ({', '.join(read)}) ({last(table, n)})"))
+    homes = [("Rattle.std.specs.Prelude", ["codes"]), ("Rattle.serde_json.specs.View", ["view"]),
+             (f"{READER}.specs.Reads", ["read_node"]), (f"{READER}.specs.Values", ["at", "field", "not_given"])]
+    homes += [(f"{READER}.proofs.Gives", ["first_of_two", "second_of_two", "gives_row", "gives_held"])] + row_names(table)
+    return layout.antt("What each call ensures, one after another.", homes, [(f"{function}.Goals", "goal")], "\n\n".join(each))
+
+
+def of_two(call, fact):
+    """What the call that refuses two fields ensures of each."""
+    number, names = int(re.findall(r"\d+", call)[0]), re.findall(r'"(\w+)"', call)
+    unread = " ".join(f'(not_given (at c.args.number {i}) (field (codes "{name}") (view c.args.row.now)))'
+                      for i, name in enumerate(names, number))
+    return [f"{lemma} {unread} {fact}" for lemma in ("first_of_two", "second_of_two")]
 
 
 def answer(goal, said):
