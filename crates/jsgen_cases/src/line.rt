@@ -1,5 +1,6 @@
 // Texts on one line.
 use jsgen_syntax::Memory;
+use std::alloc::Global;
 
 /// A line feed and a tab have signs of their own.
 pub fn shown(c: char) -> char {
@@ -15,4 +16,36 @@ pub fn push_shown(answer: &mut String, text: &str) -> Result<(), Memory> {
         answer.push(shown(c))?;
     }
     Ok(())
+}
+
+fn meant(c: char) -> char {
+    match c {
+        '⏎' => '\n',
+        '⇥' => '\t',
+        other => other,
+    }
+}
+
+/// The text that a line shows.
+pub fn text_of(alloc: Global, line: &str) -> Result<String, Memory> {
+    let mut text = String::new(alloc);
+    for c in line.chars() {
+        text.push(meant(c))?;
+    }
+    Ok(text)
+}
+
+/// The same, by its characters.
+pub fn characters_of(alloc: Global, line: &str) -> Result<Vec<char>, Memory> {
+    let mut characters = Vec::new(alloc);
+    for c in line.chars() {
+        characters.push(meant(c))?;
+    }
+    Ok(characters)
+}
+
+/// A space, and the number in hexadecimal digits.
+pub fn push_number(alloc: Global, answer: &mut String, number: u32) -> Result<(), Memory> {
+    let digits = format!(in alloc; " {number:x}")?;
+    Ok(answer.push_str(&digits)?)
 }

@@ -1,26 +1,57 @@
 // Answers each line of standard input by a line of standard output: what the library and the program print for a job,
-// whether two programs have one normal form, and which tokens a text has. tools/cases/generate writes both files.
+// whether two programs have one normal form, and what the definitions and the library say of a text, a word or a string.
+// tools/cases/generate writes both files.
 #![tactic(auto)]
 
 mod line;
 mod meaning;
 mod printed;
+mod raw;
+mod string;
 mod tokens;
+mod value;
+mod word;
 
 use jsgen_syntax::Memory;
 use meaning::push_comparison;
 use printed::push_printed;
+use raw::push_raw;
 use std::alloc::Global;
 use std::io::{self, BufRead, BufReader, BufWriter, Write};
+use string::{push_cheapest, push_kept, push_printed_string, push_same};
 use tokens::push_row;
+use value::{push_directive, push_string, push_word};
+use word::push_name;
+
+fn push_answer(
+    alloc: Global,
+    question: &str,
+    rest: &str,
+    answer: &mut String,
+) -> Result<(), Memory> {
+    match question {
+        "print" => push_printed(alloc, rest, answer),
+        "compare" => push_comparison(alloc, rest, answer),
+        "tokens" => push_row(alloc, rest, answer),
+        "string" => push_string(alloc, rest, answer),
+        "word" => push_word(alloc, rest, answer),
+        "directive" => push_directive(alloc, rest, answer),
+        "kept" => push_kept(alloc, rest, answer),
+        "same" => push_same(alloc, rest, answer),
+        "cheapest" => push_cheapest(alloc, rest, false, answer),
+        "cheapest_with_backticks" => push_cheapest(alloc, rest, true, answer),
+        "spell" => push_printed_string(alloc, rest, answer),
+        "raw" => push_raw(alloc, rest, answer),
+        "name" => push_name(rest, answer),
+        _ => Ok(answer.push_str("no question")?),
+    }
+}
 
 fn answer(alloc: Global, line: &str) -> Result<String, Memory> {
     let mut answer = String::new(alloc);
     match line.split_once(' ') {
-        Some(("print", job)) => push_printed(alloc, job, &mut answer)?,
-        Some(("compare", jobs)) => push_comparison(alloc, jobs, &mut answer)?,
-        Some(("tokens", text)) => push_row(alloc, text, &mut answer)?,
-        _ => answer.push_str("no question")?,
+        Some((question, rest)) => push_answer(alloc, question, rest, &mut answer)?,
+        None => answer.push_str("no question")?,
     }
     answer.push('\n')?;
     Ok(answer)

@@ -1,22 +1,36 @@
 // Whether two programs have one normal form.
-use jsgen::read_job;
-use jsgen_oracle::normal_form;
+use jsgen::{Job, read_job};
+use jsgen_oracle::{Form, normal_form};
 use jsgen_syntax::Memory;
 use std::alloc::Global;
 
 /// `same` where the jobs, with a tab between, have one normal form, and `other` where they have two.
 pub fn push_comparison(alloc: Global, jobs: &str, answer: &mut String) -> Result<(), Memory> {
-    let Some((left, right)) = jobs.split_once('\t') else {
-        return Ok(answer.push_str("no second job")?);
+    let said = match jobs.split_once('\t') {
+        Some((left, right)) => comparison(alloc, left, right)?,
+        None => "no second job",
     };
-    let (Ok(left), Ok(right)) = (
-        read_job(alloc, left.as_bytes()),
-        read_job(alloc, right.as_bytes()),
-    ) else {
-        return Ok(answer.push_str("no job")?);
-    };
-    let left = normal_form(alloc, &left.program)?;
-    let right = normal_form(alloc, &right.program)?;
-    answer.push_str(if left == right { "same" } else { "other" })?;
-    Ok(())
+    Ok(answer.push_str(said)?)
+}
+
+fn comparison(alloc: Global, left: &str, right: &str) -> Result<&'static str, Memory> {
+    let left = form_of(alloc, left)?;
+    let right = form_of(alloc, right)?;
+    Ok(match (&left, &right) {
+        (Some(left), Some(right)) => { if left == right { "same" } else { "other" } }
+        _ => "no job",
+    })
+}
+
+// The normal form of a job's program.
+fn form_of(alloc: Global, job: &str) -> Result<Option<Form>, Memory> {
+    match read_job(alloc, job.as_bytes()) {
+        Ok(job) => Ok(Some(form_of_job(alloc, job)?)),
+        Err(_) => Ok(None),
+    }
+}
+
+// Here alone the tree is let go of, so that this is proved once.
+fn form_of_job(alloc: Global, job: Job) -> Result<Form, Memory> {
+    normal_form(alloc, &job.program)
 }

@@ -1,8 +1,12 @@
 // What a job gives.
+ghost use Rattle.std.specs.Prelude.{◌≡◌, false};
+ghost use Rattle.jsgen.specs.Codegen.{has_printed};
+
 use crate::line::push_shown;
-use jsgen::{Codegen, read_job};
+use jsgen::{Codegen, Job, read_job};
 use jsgen_syntax::Memory;
 use jsgen_tool::{MemSink, MemSource, run};
+use jsgen_tree::Program;
 use std::alloc::Global;
 
 /// The status and the text that the program ends with; and what the library prints, where that is another text.
@@ -40,14 +44,25 @@ fn push_bytes(text: &mut String, bytes: &[u8]) -> Result<(), Memory> {
 
 // Behind the status that the program would end with.
 fn library_text(alloc: Global, job: &str) -> Result<String, Memory> {
-    let Ok(job) = read_job(alloc, job.as_bytes()) else {
-        return Ok("3 ".to_string(alloc)?);
-    };
-    let printer = Codegen::new(alloc).with_options(job.options);
-    if printer.check(&job.program).is_err() {
+    match read_job(alloc, job.as_bytes()) {
+        Ok(job) => text_of_job(alloc, job),
+        Err(_) => Ok("3 ".to_string(alloc)?),
+    }
+}
+
+// Here alone the tree is let go of, so that this is proved once.
+fn text_of_job(alloc: Global, job: Job) -> Result<String, Memory> {
+    let Job { options, program } = job;
+    text_by(alloc, Codegen::new(alloc).with_options(options), &program)
+}
+
+fn text_by<'a>(alloc: Global, printer: Codegen<'a>, program: &'a Program) -> Result<String, Memory>
+    requires unprinted { has_printed printer ≡ false }
+{
+    if printer.check(program).is_err() {
         return Ok("1 ".to_string(alloc)?);
     }
-    match printer.build(&job.program) {
+    match printer.build(program) {
         Ok(printed) => {
             let mut text = "0 ".to_string(alloc)?;
             text.push_str(&printed.code)?;

@@ -1,5 +1,5 @@
 // The tokens of a text.
-use crate::line::shown;
+use crate::line::{shown, text_of};
 use jsgen_oracle::{Bracket, Piece, Token, tokens_of};
 use jsgen_syntax::Memory;
 use std::alloc::Global;
@@ -7,14 +7,7 @@ use std::alloc::Global;
 /// The text's tokens with a space between each two and an arrow before each that a line end precedes, or `none`. In the
 /// line of a text a line feed and a tab have signs of their own.
 pub fn push_row(alloc: Global, line: &str, answer: &mut String) -> Result<(), Memory> {
-    let mut text = String::new(alloc);
-    for c in line.chars() {
-        text.push(match c {
-            '⏎' => '\n',
-            '⇥' => '\t',
-            other => other,
-        })?;
-    }
+    let text = text_of(alloc, line)?;
     match tokens_of(alloc, &text)? {
         Some(tokens) => push_tokens(answer, true, &tokens),
         None => Ok(answer.push_str("none")?),

@@ -1,12 +1,10 @@
 // The normal form of each type of node.
 ghost use Rattle.std.specs.Prelude.{◌≡◌, ◌∷◌, [], map, option_map, IfOk};
-ghost use Rattle.jsgen_tree.specs.Atom.{no_value, text};
 ghost use Rattle.jsgen_tree.specs.Tree.{trees, optional};
-ghost use Rattle.jsgen_tree.specs.Characters.{characters};
-ghost use Rattle.jsgen_tree.specs.Rows.{program_row, directive_row, if_statement_row, variable_declaration_row, variable_declarator_row, numeric_literal_row, string_literal_row, logical_expression_row, identifier_name_row, static_member_expression_row, call_expression_row, expression_plain, statement_plain, declaration_plain, binding_pattern_plain, in_expression, in_statement, in_argument};
+ghost use Rattle.jsgen_tree.specs.Rows.{program_row, directive_row, block_statement_row, if_statement_row, variable_declaration_row, variable_declarator_row, numeric_literal_row, string_literal_row, logical_expression_row, identifier_name_row, static_member_expression_row, call_expression_row, expression_plain, statement_plain, declaration_plain, binding_pattern_plain, in_expression, in_statement, in_argument};
 ghost use Rattle.jsgen_tree.specs.Plain.{node_plain};
-ghost use Rattle.jsgen_model.specs.Normal.{normal, normal_maybe, normal_trees, unbraced};
-ghost use Rattle.jsgen_oracle.specs.Form.{form_plain, forms_plain, optional_plain, value_plain};
+ghost use Rattle.jsgen_model.specs.Normal.{normal, normal_maybe, normal_trees, links, unbraced};
+ghost use Rattle.jsgen_oracle.specs.Form.{form_plain, forms_plain, optional_plain};
 ghost use Rattle.jsgen_oracle.specs.declared.form.Value.TheVariants.{Nothing};
 
 use crate::braces::unbraced;
@@ -14,13 +12,15 @@ use crate::chain::{joined, links};
 use crate::characters::characters_of;
 use crate::directive::directive_units;
 use crate::form::{Form, Slot, Value};
-use crate::shape::{leaf, list, pair, single};
-use jsgen_syntax::{JsStr, Memory};
+use crate::shape::{
+    identifier, leaf, list, literal, one_value, pair, row_of_two, single, two_values,
+};
+use jsgen_syntax::{JsStr, LogicalOperator, Memory};
 use jsgen_tree::{
-    Argument, BindingPattern, CallExpression, Declaration, Directive, Expression, ExpressionNode,
-    IdentifierName, IfStatement, LogicalExpression, Node, NodeType, NumericLiteral, NumericValue,
-    Program, Statement, StatementNode, StaticMemberExpression, StringLiteral, VariableDeclaration,
-    VariableDeclarator,
+    Argument, BindingPattern, BlockStatement, CallExpression, Declaration, Directive, Expression,
+    ExpressionNode, IdentifierName, IfStatement, LogicalExpression, Node, NodeType, NumericLiteral,
+    NumericValue, Program, Statement, StatementNode, StaticMemberExpression, StringLiteral,
+    VariableDeclaration, VariableDeclarator,
 };
 use std::alloc::Global;
 
@@ -34,41 +34,33 @@ pub trait NormalNode {
         ensures { IfOk result (λ f. form_plain f ≡ normal (plain self.now)) };
 }
 
-// ---- values
-
-// Of a row with one field, which doesn't count.
-fn nothing(alloc: Global) -> Result<Vec<Value>, Memory>
-    ensures { IfOk result (λ v. v.items ≡ Nothing ∷ []) }
-{
-    Ok(vec![in alloc; Value::Nothing]?)
-}
-
-// A name, without the number by which a table knows it.
-fn unnumbered(alloc: Global, name: &String) -> Result<Vec<Value>, Memory>
-    ensures { IfOk result (λ v. map value_plain v.items ≡ text (characters name.now) ∷ no_value ∷ []) }
-{
-    let name = name.clone()?;
-    Ok(vec![in alloc; Value::Text(name), Value::Nothing]?)
-}
-
 // ---- programs and statements
 
-#[tactic(auto, using(crate::proofs::Forms::forms))]
+// The values of a program, none of which counts.
+fn nothing(alloc: Global) -> Result<Vec<Value>, Memory>
+    ensures { IfOk result (λ v. v.items ≡ Nothing ∷ Nothing ∷ Nothing ∷ Nothing ∷ []) }
+{
+    Ok(vec![in alloc;
+        Value::Nothing,
+        Value::Nothing,
+        Value::Nothing,
+        Value::Nothing,
+    ]?)
+}
+
 pub fn program_form<N: NormalNode>(alloc: Global, node: &Program<N>) -> Result<Form, Memory>
     ensures { IfOk result (λ f. form_plain f ≡ normal (program_row N.plain node.now)) }
 {
+    let values = nothing(alloc)?;
     let directives = directive_forms(alloc, &node.directives)?;
     let body = statement_forms(alloc, &node.body)?;
-    Ok(Form {
-        node_type: NodeType::Program,
-        values: vec![in alloc;
-            Value::Nothing,
-            Value::Nothing,
-            Value::Nothing,
-            Value::Nothing,
-        ]?,
-        slots: vec![in alloc; Slot::Many(directives), Slot::Many(body)]?,
-    })
+    row_of_two(
+        alloc,
+        NodeType::Program,
+        values,
+        Slot::Many(directives),
+        Slot::Many(body),
+    )
 }
 
 fn directive_forms(alloc: Global, directives: &[Directive]) -> Result<Vec<Form>, Memory>
@@ -86,8 +78,8 @@ fn directive_form(alloc: Global, node: &Directive) -> Result<Form, Memory>
 {
     let raw = characters_of(alloc, &node.directive)?;
     let units = directive_units(alloc, &raw)?;
-    let value = Value::Units(JsStr::from_units(alloc, &units)?);
-    Ok(leaf(alloc, NodeType::Directive, vec![in alloc; value]?))
+    let value = JsStr::from_units(alloc, &units)?;
+    literal(alloc, NodeType::Directive, Value::Units(value))
 }
 
 fn statement_forms<N: NormalNode>(
@@ -101,6 +93,16 @@ fn statement_forms<N: NormalNode>(
         forms.push(statement.get().normal_form(alloc)?)?;
     }
     Ok(forms)
+}
+
+fn block_statement_form<N: NormalNode>(
+    alloc: Global,
+    node: &BlockStatement<N>,
+) -> Result<Form, Memory>
+    ensures { IfOk result (λ f. form_plain f ≡ normal (block_statement_row N.plain node.now)) }
+{
+    let body = statement_forms(alloc, &node.body)?;
+    list(alloc, NodeType::BlockStatement, Vec::new(alloc), body)
 }
 
 #[tactic(auto, using(crate::proofs::Forms::forms))]
@@ -149,8 +151,8 @@ fn variable_declaration_form<N: NormalNode>(
 ) -> Result<Form, Memory>
     ensures { IfOk result (λ f. form_plain f ≡ normal (variable_declaration_row N.plain node.now)) }
 {
+    let values = two_values(alloc, Value::DeclarationKind(node.kind), Value::Nothing)?;
     let declarations = declarator_forms(alloc, &node.declarations)?;
-    let values = vec![in alloc; Value::DeclarationKind(node.kind), Value::Nothing]?;
     list(alloc, NodeType::VariableDeclaration, values, declarations)
 }
 
@@ -167,20 +169,22 @@ fn declarator_forms<N: NormalNode>(
     Ok(forms)
 }
 
-#[tactic(auto, using(crate::proofs::Forms::forms))]
 fn variable_declarator_form<N: NormalNode>(
     alloc: Global,
     node: &VariableDeclarator<N>,
 ) -> Result<Form, Memory>
     ensures { IfOk result (λ f. form_plain f ≡ normal (variable_declarator_row N.plain node.now)) }
 {
+    let values = one_value(alloc, Value::Nothing)?;
     let id = node.id.get().normal_form(alloc)?;
     let init = init_form(alloc, &node.init)?;
-    Ok(Form {
-        node_type: NodeType::VariableDeclarator,
-        values: nothing(alloc)?,
-        slots: vec![in alloc; Slot::One(id), Slot::Maybe(init)]?,
-    })
+    row_of_two(
+        alloc,
+        NodeType::VariableDeclarator,
+        values,
+        Slot::One(id),
+        Slot::Maybe(init),
+    )
 }
 
 fn init_form<N: NormalNode>(
@@ -210,8 +214,8 @@ fn numeric_literal_form(alloc: Global, node: &NumericLiteral) -> Result<Form, Me
 fn string_literal_form(alloc: Global, node: &StringLiteral) -> Result<Form, Memory>
     ensures { IfOk result (λ f. form_plain f ≡ normal (string_literal_row node.now)) }
 {
-    let value = Value::Units(node.value.try_clone()?);
-    Ok(leaf(alloc, NodeType::StringLiteral, vec![in alloc; value]?))
+    let value = node.value.try_clone()?;
+    literal(alloc, NodeType::StringLiteral, Value::Units(value))
 }
 
 fn logical_expression_form<N: NormalNode>(
@@ -220,56 +224,66 @@ fn logical_expression_form<N: NormalNode>(
 ) -> Result<Form, Memory>
     ensures { IfOk result (λ f. form_plain f ≡ normal (logical_expression_row N.plain node.now)) }
 {
-    let left = node.left.get().normal_form(alloc)?;
-    let right = node.right.get().normal_form(alloc)?;
-    let left = links(alloc, node.operator, left)?;
-    let right = links(alloc, node.operator, right)?;
-    let values = vec![in alloc; Value::LogicalOperator(node.operator)]?;
-    list(
-        alloc,
-        NodeType::LogicalExpression,
-        values,
-        joined(left, right)?,
-    )
+    let values = one_value(alloc, Value::LogicalOperator(node.operator))?;
+    let left = operands_of(alloc, node.operator, node.left.get())?;
+    let right = operands_of(alloc, node.operator, node.right.get())?;
+    let operands = joined(left, right)?;
+    list(alloc, NodeType::LogicalExpression, values, operands)
+}
+
+// What an operand adds to a chain of the operator.
+fn operands_of<N: NormalNode>(
+    alloc: Global,
+    operator: LogicalOperator,
+    operand: &N,
+) -> Result<Vec<Form>, Memory>
+    ensures { IfOk result (λ fs. forms_plain fs.items ≡ links operator (normal (N.plain operand.now))) }
+{
+    let form = operand.normal_form(alloc)?;
+    links(alloc, operator, form)
 }
 
 fn identifier_name_form(alloc: Global, node: &IdentifierName) -> Result<Form, Memory>
     ensures { IfOk result (λ f. form_plain f ≡ normal (identifier_name_row node.now)) }
 {
-    let name = Value::Text(node.name.clone()?);
-    Ok(leaf(alloc, NodeType::IdentifierName, vec![in alloc; name]?))
+    let name = node.name.clone()?;
+    literal(alloc, NodeType::IdentifierName, Value::Text(name))
 }
 
-#[tactic(auto, using(crate::proofs::Forms::forms))]
 fn static_member_expression_form<N: NormalNode>(
     alloc: Global,
     node: &StaticMemberExpression<N>,
 ) -> Result<Form, Memory>
     ensures { IfOk result (λ f. form_plain f ≡ normal (static_member_expression_row N.plain node.now)) }
 {
+    let values = one_value(alloc, Value::Nothing)?;
     let object = node.object.get().normal_form(alloc)?;
     let property = identifier_name_form(alloc, &node.property)?;
-    Ok(Form {
-        node_type: NodeType::StaticMemberExpression,
-        values: nothing(alloc)?,
-        slots: vec![in alloc; Slot::One(object), Slot::One(property)]?,
-    })
+    row_of_two(
+        alloc,
+        NodeType::StaticMemberExpression,
+        values,
+        Slot::One(object),
+        Slot::One(property),
+    )
 }
 
-#[tactic(auto, using(crate::proofs::Forms::forms))]
 fn call_expression_form<N: NormalNode>(
     alloc: Global,
     node: &CallExpression<N>,
 ) -> Result<Form, Memory>
     ensures { IfOk result (λ f. form_plain f ≡ normal (call_expression_row N.plain node.now)) }
 {
+    let values = two_values(alloc, Value::Nothing, Value::Nothing)?;
     let callee = node.callee.get().normal_form(alloc)?;
     let arguments = argument_forms(alloc, &node.arguments)?;
-    Ok(Form {
-        node_type: NodeType::CallExpression,
-        values: vec![in alloc; Value::Nothing, Value::Nothing]?,
-        slots: vec![in alloc; Slot::One(callee), Slot::Many(arguments)]?,
-    })
+    row_of_two(
+        alloc,
+        NodeType::CallExpression,
+        values,
+        Slot::One(callee),
+        Slot::Many(arguments),
+    )
 }
 
 fn argument_forms<N: NormalNode>(
@@ -300,18 +314,16 @@ fn expression_form<N: NormalNode>(alloc: Global, node: &Expression<N>) -> Result
 {
     match node {
         Expression::IdentifierReference(node) => {
-            let name = unnumbered(alloc, &node.name)?;
-            Ok(leaf(alloc, NodeType::IdentifierReference, name))
+            identifier(alloc, NodeType::IdentifierReference, &node.name)
         }
         Expression::ThisExpression(_) => Ok(leaf(alloc, NodeType::ThisExpression, Vec::new(alloc))),
         Expression::NumericLiteral(node) => numeric_literal_form(alloc, node),
         Expression::StringLiteral(node) => string_literal_form(alloc, node),
         Expression::BinaryExpression(node) => {
-            let operator = vec![in alloc; Value::BinaryOperator(node.operator)]?;
             pair(
                 alloc,
                 NodeType::BinaryExpression,
-                operator,
+                Value::BinaryOperator(node.operator),
                 node.left.get(),
                 node.right.get(),
             )
@@ -323,7 +335,7 @@ fn expression_form<N: NormalNode>(alloc: Global, node: &Expression<N>) -> Result
             pair(
                 alloc,
                 NodeType::ComputedMemberExpression,
-                nothing(alloc)?,
+                Value::Nothing,
                 node.object.get(),
                 node.expression.get(),
             )
@@ -346,21 +358,9 @@ fn statement_form<N: NormalNode>(alloc: Global, node: &Statement<N>) -> Result<F
     match node {
         Statement::Declaration(declaration) => declaration.get().normal_form(alloc),
         Statement::ExpressionStatement(node) => {
-            single(
-                alloc,
-                NodeType::ExpressionStatement,
-                Vec::new(alloc),
-                node.expression.get(),
-            )
+            single(alloc, NodeType::ExpressionStatement, node.expression.get())
         }
-        Statement::BlockStatement(node) => {
-            list(
-                alloc,
-                NodeType::BlockStatement,
-                Vec::new(alloc),
-                statement_forms(alloc, &node.body)?,
-            )
-        }
+        Statement::BlockStatement(node) => block_statement_form(alloc, node),
         Statement::IfStatement(node) => if_statement_form(alloc, node),
         Statement::EmptyStatement(_) => Ok(leaf(alloc, NodeType::EmptyStatement, Vec::new(alloc))),
     }
@@ -371,8 +371,7 @@ fn binding_pattern_form(alloc: Global, node: &BindingPattern) -> Result<Form, Me
 {
     match node {
         BindingPattern::BindingIdentifier(node) => {
-            let name = unnumbered(alloc, &node.name)?;
-            Ok(leaf(alloc, NodeType::BindingIdentifier, name))
+            identifier(alloc, NodeType::BindingIdentifier, &node.name)
         }
     }
 }

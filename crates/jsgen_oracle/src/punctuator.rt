@@ -8,7 +8,7 @@ ghost use Rattle.jsgen_oracle.specs.Signs.{punctuator_plain};
 ghost use Rattle.jsgen_oracle.specs.Steps.{HasNoSign, IsSignAt};
 
 /// A token that is neither a word nor a number nor a bracket.
-#[derive(Clone, Copy, Debug, PartialEq, Eq)]
+#[derive(Clone, Copy)]
 pub enum Punctuator {
     Dot,
     Ellipsis,

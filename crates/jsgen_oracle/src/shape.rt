@@ -1,9 +1,11 @@
 // Nodes by the shape of their rows, and nodes taken apart.
-ghost use Rattle.std.specs.Prelude.{◌≡◌, map, IfOk};
+ghost use Rattle.std.specs.Prelude.{◌≡◌, [], ◌∷◌, map, IfOk};
+ghost use Rattle.jsgen_tree.specs.Atom.{no_value, text};
+ghost use Rattle.jsgen_tree.specs.Characters.{characters};
 ghost use Rattle.jsgen_tree.specs.Tree.{node, no_slots, one, many};
 ghost use Rattle.jsgen_tree.specs.Places.{bare};
 ghost use Rattle.jsgen_model.specs.Normal.{normal};
-ghost use Rattle.jsgen_oracle.specs.Form.{form_plain, forms_plain, value_plain, is_list};
+ghost use Rattle.jsgen_oracle.specs.Form.{form_plain, forms_plain, value_plain, before, is_list};
 ghost use Rattle.jsgen_oracle.specs.Only.{slots_again, is_told_list};
 
 use crate::form::{Form, Slot, Value};
@@ -11,6 +13,20 @@ use crate::normal::NormalNode;
 use jsgen_syntax::Memory;
 use jsgen_tree::NodeType;
 use std::alloc::Global;
+
+/// The values of a row that has one.
+pub(crate) fn one_value(alloc: Global, value: Value) -> Result<Vec<Value>, Memory>
+    ensures { IfOk result (λ v. v.items ≡ value ∷ []) }
+{
+    Ok(vec![in alloc; value]?)
+}
+
+/// The values of a row that has two.
+pub(crate) fn two_values(alloc: Global, first: Value, second: Value) -> Result<Vec<Value>, Memory>
+    ensures { IfOk result (λ v. v.items ≡ first ∷ second ∷ []) }
+{
+    Ok(vec![in alloc; first, second]?)
+}
 
 /// A row without children.
 #[tactic(auto, using(crate::proofs::Forms::forms))]
@@ -24,46 +40,95 @@ pub(crate) fn leaf(alloc: Global, node_type: NodeType, values: Vec<Value>) -> Fo
     }
 }
 
-/// A row of one child.
+/// A row of one value, without children.
+pub(crate) fn literal(alloc: Global, node_type: NodeType, value: Value) -> Result<Form, Memory>
+    ensures { IfOk result (λ f. form_plain f ≡ node node_type (bare (value_plain value ∷ [])) no_slots) }
+{
+    let values = one_value(alloc, value)?;
+    Ok(leaf(alloc, node_type, values))
+}
+
+/// A row of one name, without the number by which a table knows it.
+pub(crate) fn identifier(alloc: Global, node_type: NodeType, name: &String) -> Result<Form, Memory>
+    ensures { IfOk result (λ f. form_plain f ≡ node node_type (bare (text (characters name.now) ∷ no_value ∷ [])) no_slots) }
+{
+    let name = name.clone()?;
+    let values = two_values(alloc, Value::Text(name), Value::Nothing)?;
+    Ok(leaf(alloc, node_type, values))
+}
+
+/// A row of one field of children.
 #[tactic(auto, using(crate::proofs::Forms::forms))]
+pub(crate) fn row(
+    alloc: Global,
+    node_type: NodeType,
+    values: Vec<Value>,
+    slot: Slot<Form>,
+) -> Result<Form, Memory>
+    ensures { IfOk result (λ f. form_plain f ≡ node node_type (bare (map value_plain values.items)) (before form_plain slot no_slots)) }
+{
+    let slots = vec![in alloc; slot]?;
+    Ok(Form {
+        node_type,
+        values,
+        slots,
+    })
+}
+
+/// A row of two fields of children.
+#[tactic(auto, using(crate::proofs::Forms::forms))]
+pub(crate) fn row_of_two(
+    alloc: Global,
+    node_type: NodeType,
+    values: Vec<Value>,
+    first: Slot<Form>,
+    second: Slot<Form>,
+) -> Result<Form, Memory>
+    ensures { IfOk result (λ f. form_plain f ≡ node node_type (bare (map value_plain values.items)) (before form_plain first (before form_plain second no_slots))) }
+{
+    let slots = vec![in alloc; first, second]?;
+    Ok(Form {
+        node_type,
+        values,
+        slots,
+    })
+}
+
+/// A row of one child.
 pub(crate) fn single<N: NormalNode>(
     alloc: Global,
     node_type: NodeType,
-    values: Vec<Value>,
     child: &N,
 ) -> Result<Form, Memory>
-    ensures { IfOk result (λ f. form_plain f ≡ node node_type (bare (map value_plain values.items)) (one (normal (N.plain child.now)) no_slots)) }
+    ensures { IfOk result (λ f. form_plain f ≡ node node_type (bare []) (one (normal (N.plain child.now)) no_slots)) }
 {
     let child = child.normal_form(alloc)?;
-    Ok(Form {
-        node_type,
-        values,
-        slots: vec![in alloc; Slot::One(child)]?,
-    })
+    row(alloc, node_type, Vec::new(alloc), Slot::One(child))
 }
 
-/// A row of two children.
-#[tactic(auto, using(crate::proofs::Forms::forms))]
+/// A row of one value and two children.
 pub(crate) fn pair<N: NormalNode>(
     alloc: Global,
     node_type: NodeType,
-    values: Vec<Value>,
+    value: Value,
     first: &N,
     second: &N,
 ) -> Result<Form, Memory>
-    ensures { IfOk result (λ f. form_plain f ≡ node node_type (bare (map value_plain values.items)) (one (normal (N.plain first.now)) (one (normal (N.plain second.now)) no_slots))) }
+    ensures { IfOk result (λ f. form_plain f ≡ node node_type (bare (value_plain value ∷ [])) (one (normal (N.plain first.now)) (one (normal (N.plain second.now)) no_slots))) }
 {
+    let values = one_value(alloc, value)?;
     let first = first.normal_form(alloc)?;
     let second = second.normal_form(alloc)?;
-    Ok(Form {
+    row_of_two(
+        alloc,
         node_type,
         values,
-        slots: vec![in alloc; Slot::One(first), Slot::One(second)]?,
-    })
+        Slot::One(first),
+        Slot::One(second),
+    )
 }
 
 /// A row of one list.
-#[tactic(auto, using(crate::proofs::Forms::forms))]
 pub(crate) fn list(
     alloc: Global,
     node_type: NodeType,
@@ -72,11 +137,7 @@ pub(crate) fn list(
 ) -> Result<Form, Memory>
     ensures { IfOk result (λ f. form_plain f ≡ node node_type (bare (map value_plain values.items)) (many (forms_plain items.items) no_slots)) }
 {
-    Ok(Form {
-        node_type,
-        values,
-        slots: vec![in alloc; Slot::Many(items)]?,
-    })
+    row(alloc, node_type, values, Slot::Many(items))
 }
 
 // ---- nodes taken apart

@@ -15,7 +15,7 @@ use crate::word::{count_word, is_word};
 use jsgen_syntax::{Memory, Quote};
 use std::alloc::Global;
 
-#[derive(Clone, Copy, Debug, PartialEq, Eq)]
+#[derive(Clone, Copy)]
 pub enum Bracket {
     Round,
     Square,

@@ -8,8 +8,6 @@ mod run_tests;
 #[cfg(test)]
 mod runs;
 #[cfg(test)]
-mod string_tests;
-#[cfg(test)]
 mod syntax_tests;
 #[cfg(test)]
 mod text_tests;

@@ -1,120 +1,12 @@
-// Names and words, operators and levels, and the buffer.
+// Operators and levels, and the buffer.
 ghost use Rattle.std.specs.Prelude.{◌≡◌, ◌*◌, ◌^◌, ◌<◌};
 ghost use Rattle.jsgen_syntax.specs.Buffer.{indent_width};
 
 use jsgen_syntax::{
     BinaryOperator, BinaryOperator as B, CodeBuffer, GetPrecedence, IndentChar, LogicalOperator,
-    Memory, Precedence, Precedence as P, is_name, is_reserved, is_strict_reserved,
+    Memory, Precedence, Precedence as P,
 };
 use std::alloc::Global;
-
-// Texts, and whether they are names.
-const NAMES: [(&str, bool); 15] = [
-    ("a", true),
-    ("$", true),
-    ("_x1", true),
-    ("é", true),
-    ("日本", true),
-    ("a\u{200C}b", true),
-    ("a\u{200D}", true),
-    ("if", true),
-    ("", false),
-    ("1a", false),
-    ("a-b", false),
-    ("#a", false),
-    ("a b", false),
-    ("\u{200C}a", false),
-    ("é-", false),
-];
-
-fn are_as_said(rows: &[(&str, bool)]) -> bool {
-    let mut as_said = true;
-    for (text, wanted) in rows {
-        as_said = as_said && is_name(text) == *wanted;
-    }
-    as_said
-}
-
-// Words that are always reserved, those that strict code reserves, and some that nothing does.
-const ALWAYS: [&str; 38] = [
-    "await",
-    "break",
-    "case",
-    "catch",
-    "class",
-    "const",
-    "continue",
-    "debugger",
-    "default",
-    "delete",
-    "do",
-    "else",
-    "enum",
-    "export",
-    "extends",
-    "false",
-    "finally",
-    "for",
-    "function",
-    "if",
-    "import",
-    "in",
-    "instanceof",
-    "new",
-    "null",
-    "return",
-    "super",
-    "switch",
-    "this",
-    "throw",
-    "true",
-    "try",
-    "typeof",
-    "var",
-    "void",
-    "while",
-    "with",
-    "yield",
-];
-
-const STRICT: [&str; 8] = [
-    "let",
-    "static",
-    "implements",
-    "interface",
-    "package",
-    "private",
-    "protected",
-    "public",
-];
-
-const FREE: [&str; 9] = [
-    "async",
-    "of",
-    "get",
-    "arguments",
-    "eval",
-    "If",
-    "iff",
-    "i",
-    "",
-];
-
-fn are_reserved(words: &[&str], always: bool, strict: bool) -> bool {
-    let mut as_said = true;
-    for word in words {
-        as_said = as_said && is_reserved(word) == always && is_strict_reserved(word) == strict;
-    }
-    as_said
-}
-
-#[test]
-fn names_and_reserved_words(rt: HostRuntime) {
-    assert!(rt; are_as_said(&NAMES));
-    assert!(rt; are_reserved(&ALWAYS, true, false));
-    assert!(rt; are_reserved(&STRICT, false, true));
-    assert!(rt; are_reserved(&FREE, false, false));
-}
 
 // Operators, with their spelling, level and the level below.
 const BINARY: [(BinaryOperator, &str, Precedence, Precedence); 22] = [

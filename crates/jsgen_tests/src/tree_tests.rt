@@ -1,5 +1,5 @@
 // Spans and parentheses of a tree, the sets of its types, and options.
-use jsgen_rows::read_job;
+use jsgen_rows::{Job, read_job};
 use jsgen_syntax::Span;
 use jsgen_tree::{
     CodegenOptions, CommentOptions, GetSpan, LegalComment, Node, NodeSet, NodeType, Program,
@@ -22,13 +22,6 @@ const JOB: &str = "{\"rows\":[\
     {\"type\":\"VariableDeclaration\",\"span\":[11,22],\"kind\":\"const\",\"declarations\":[8]},\
     {\"type\":\"Program\",\"span\":[0,22],\"kind\":\"module\",\"body\":[3,9]}]}";
 
-fn program(alloc: Global) -> Option<Program> {
-    match read_job(alloc, JOB.as_bytes()) {
-        Ok(job) => Some(job.program),
-        Err(_) => None,
-    }
-}
-
 fn is_at(span: Span, start: u32, end: u32) -> bool {
     span == Span { start, end }
 }
@@ -49,26 +42,39 @@ fn is_parenthesized(statement: &StatementNode) -> bool {
     }
 }
 
-#[test]
-fn parentheses_are_taken_off(rt: HostRuntime) {
-    let program = program(rt.alloc());
-    let Some(program) = program else {
-        panic!(rt; "no job");
-    };
-    assert!(rt; program.body.len() == 2 && is_parenthesized(&program.body[0]));
+fn has_spans(statement: &StatementNode, declaration: &StatementNode) -> bool {
+    let statement = statement.get();
+    let declaration = declaration.get();
+    is_at(statement.span(), 0, 10)
+        && statement.inner_expression().is_none()
+        && is_at(declaration.span(), 11, 22)
+        && declaration.inner_expression().is_none()
+}
+
+// Whether the parentheses of the first statement are taken off, and whether each set has the span of its member. Here
+// alone the tree is let go of, so that this is proved once.
+fn seen_of(job: Job) -> (bool, bool) {
+    match job.program.body.as_slice() {
+        [first, second] => {
+            (
+                is_parenthesized(first),
+                is_at(job.program.span(), 0, 22) && has_spans(first, second),
+            )
+        }
+        _ => (false, false),
+    }
+}
+
+fn seen(alloc: Global) -> (bool, bool) {
+    match read_job(alloc, JOB.as_bytes()) {
+        Ok(job) => seen_of(job),
+        Err(_) => (false, false),
+    }
 }
 
 #[test]
-fn a_set_has_the_span_of_its_member(rt: HostRuntime) {
-    let program = program(rt.alloc());
-    let Some(program) = program else {
-        panic!(rt; "no job");
-    };
-    assert!(rt; program.body.len() == 2 && is_at(program.span(), 0, 22));
-    let statement = program.body[0].get();
-    assert!(rt; is_at(statement.span(), 0, 10) && statement.inner_expression().is_none());
-    let declaration = program.body[1].get();
-    assert!(rt; is_at(declaration.span(), 11, 22) && declaration.inner_expression().is_none());
+fn parentheses_are_taken_off_and_sets_have_spans(rt: HostRuntime) {
+    assert!(rt; seen(rt.alloc()) == (true, true));
     assert_eq!(rt; VariableDeclarationKind::Const.as_str(), "const");
 }
 
