@@ -1,7 +1,7 @@
 -- The tree of a form.
-use Rattle.std.proofs.Common.{◌≡◌, ◌≤◌, ◌++◌, take, Bool, true, false, length, get_or, arith, ℕ, List, [], ◌∷◌, map, Option, Some, None, refl, sym, ap, ◌∙◌, Vec}
+use Rattle.std.proofs.Common.{◌≡◌, ◌+◌, ◌<◌, ◌≤◌, ◌++◌, take, Bool, true, false, length, get_or, arith, ℕ, List, [], ◌∷◌, map, Option, Some, None, refl, sym, ap, ◌∙◌, Vec}
 use Rattle.std.proofs.lemmas.Bool.{both_ways}
-use Rattle.std.proofs.lemmas.List.{take_all}
+use Rattle.std.proofs.lemmas.List.{take_all, take_more, map-append}
 use Rattle.jsgen_syntax.specs.declared.operator.LogicalOperator.{LogicalOperator}
 use Rattle.jsgen_syntax.specs.declared.operator.LogicalOperator.TheVariants as operators
 use Rattle.jsgen_tree.specs.Nodes as tree
@@ -52,6 +52,13 @@ pub ruleset forms = (of_layer)
 pub normal_list : {A : Type 0} (f : A → Tree) (xs : List A) → normal_trees (trees (map f xs)) ≡ trees (map (λ x. normal (f x)) xs)
 normal_list f [] = refl
 normal_list f (x ∷ xs) = ap (more (normal (f x))) (normal_list f xs)
+
+-- a turn of a loop that makes the forms of a list
+pub one_more : {A : Type 0} (f : A → Tree) (xs : List A) (i : ℕ) (x : A) (fs gs : List Form) (g : Form) → i < length xs → x ≡ get_or xs i x → form_plain g ≡ normal (f x) → gs ≡ fs ++ (g ∷ []) → map form_plain fs ≡ map (λ y. normal (f y)) (take i xs) → map form_plain gs ≡ map (λ y. normal (f y)) (take (i + 1) xs)
+one_more f xs i x fs gs g below is h made so_far =
+    let last : map form_plain (g ∷ []) ≡ map (λ y. normal (f y)) (get_or xs i x ∷ []) = ap (λ t. t ∷ []) (h ∙ ap (λ y. normal (f y)) is) in
+    let front : take (i + 1) xs ≡ take i xs ++ (get_or xs i x ∷ []) = take_more xs i x below in
+    ap (map form_plain) made ∙ (map-append form_plain fs (g ∷ []) ∙ (ap (λ t. t ++ map form_plain (g ∷ [])) so_far ∙ (ap (λ t. map (λ y. normal (f y)) (take i xs) ++ t) last ∙ (sym (map-append (λ y. normal (f y)) (take i xs) (get_or xs i x ∷ [])) ∙ sym (ap (map (λ y. normal (f y))) front)))))
 
 -- forms of all elements, which a loop made
 pub whole_list : {A : Type 0} (f : A → Tree) (xs : List A) (i : ℕ) (fs : List Form) → length xs ≤ i → map form_plain fs ≡ map (λ x. normal (f x)) (take i xs) → forms_plain fs ≡ normal_trees (trees (map f xs))

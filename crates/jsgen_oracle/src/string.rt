@@ -28,7 +28,7 @@ pub fn string_value_of(
         escape_value(alloc, quote, rest)
     } else if stands_bare(quote, *first, rest) {
         let others = string_value_of(alloc, quote, rest)?;
-        and_then(bare_units(alloc, *first, rest)?, others)
+        bare_before(alloc, *first, rest, others)
     } else {
         Ok(None)
     }
@@ -55,7 +55,7 @@ fn escape_value(alloc: Global, quote: Quote, text: &[char]) -> Result<Option<Vec
         digit_escape_value(alloc, quote, *first, rest)
     } else {
         let others = string_value_of(alloc, quote, rest)?;
-        and_then(encoded(alloc, escaped_code(*first))?, others)
+        encoded_before(alloc, escaped_code(*first), others)
     }
 }
 
@@ -85,7 +85,7 @@ fn digit_escape_value(
 {
     if digit == '0' && !begins_with_digit(text) {
         let others = string_value_of(alloc, quote, text)?;
-        and_then(encoded(alloc, 0)?, others)
+        encoded_before(alloc, 0, others)
     } else {
         Ok(None)
     }
@@ -113,7 +113,7 @@ fn hex_value(
     let number = before * 16 + digit_value(*first);
     if count == 1 {
         let others = string_value_of(alloc, quote, rest)?;
-        and_then(encoded(alloc, number)?, others)
+        encoded_before(alloc, number, others)
     } else {
         hex_value(alloc, quote, count - 1, number, rest)
     }
@@ -152,7 +152,7 @@ fn digits_value(
     };
     if *first == '}' {
         let others = string_value_of(alloc, quote, rest)?;
-        return and_then(encoded(alloc, before)?, others);
+        return encoded_before(alloc, before, others);
     }
     if !first.is_ascii_hexdigit() {
         return Ok(None);
@@ -176,6 +176,32 @@ fn and_then(mut units: Vec<u16>, others: Option<Vec<u16>>) -> Result<Option<Vec<
         }
         None => Ok(None),
     }
+}
+
+// The units of a code point, and behind them the others.
+fn encoded_before(
+    alloc: Global,
+    code: u32,
+    others: Option<Vec<u16>>,
+) -> Result<Option<Vec<u16>>, Memory>
+    requires { code < 0x11_0000 }
+    ensures { IfOk result (λ r. items_of r ≡ and_then (encode_utf16 code) (items_of others)) }
+{
+    let units = encoded(alloc, code)?;
+    and_then(units, others)
+}
+
+// The units of a character that stands for itself before this text, and behind them the others.
+fn bare_before(
+    alloc: Global,
+    c: char,
+    rest: &[char],
+    others: Option<Vec<u16>>,
+) -> Result<Option<Vec<u16>>, Memory>
+    ensures { IfOk result (λ r. items_of r ≡ and_then (bare_units c rest.now) (items_of others)) }
+{
+    let units = bare_units(alloc, c, rest)?;
+    and_then(units, others)
 }
 
 // The one or two units of a code point.
