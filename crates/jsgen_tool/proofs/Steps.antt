@@ -1,5 +1,5 @@
 -- What the loops of `run` keep, and how a call goes on from it.
-use Rattle.std.proofs.Common.{◌≡◌, ℕ, ◌+◌, ◌-◌, ◌≤◌, min, List, [], ◌∷◌, ◌++◌, length, take, drop, map, get_or, ap, ◌∙◌, subst, sym, slice_range, OnOk, OnErr, Result, Ok, Err, Some, None, String, string_bytes, bytes_eq, Bool, true, false, is_err, IsTrue, ◌↔◌, Global, arith, take_all, take-add, take-take, length-take, append_assoc}
+use Rattle.std.proofs.Common.{◌≡◌, ℕ, ◌+◌, ◌-◌, ◌<◌, ◌≤◌, min, List, [], ◌∷◌, ◌++◌, length, take, drop, map, get_or, ap, ◌∙◌, subst, sym, slice_range, OnOk, OnErr, Result, Ok, Err, Some, None, String, string_bytes, bytes_eq, Bool, true, false, is_err, IsTrue, ◌↔◌, Global, arith, take_all, take-add, take-take, length-take, length-append, append_assoc, IfSome}
 use Rattle.std.proofs.lemmas.Slice.Eq.{bytes_eq-Decides}
 use Rattle.std.proofs.Math.Seq.{take-append-add}
 use Rattle.std.proofs.lemmas.List.{take_min, take-append-le}
@@ -70,6 +70,12 @@ read_next None mid new bytes more a b = tt
 read_next (Some xs) None new bytes more a b = absurd a
 read_next (Some xs) (Some ms) None bytes more a b = absurd b
 read_next (Some xs) (Some ms) (Some ys) bytes more a b = a ∙ ap (λ l. bytes ++ l) b ∙ sym (append_assoc bytes more ys)
+
+-- a source from which more than the limit was read held more
+pub longer : (held left : Option (List ℕ)) (bytes : List ℕ) → Consumes held left bytes → limit < length bytes → IfSome held (λ told. limit < length told)
+longer None left bytes read past = tt
+longer (Some told) None bytes read past = absurd read
+longer (Some told) (Some left) bytes read past = omega (arith, ap length read, length-append bytes left)
 
 pub one_word : (words : List (String Global)) (w : String Global) → length words ≡ 1 → w ≡ get_or words 0 w →
     map string_bytes words ≡ string_bytes w ∷ []
