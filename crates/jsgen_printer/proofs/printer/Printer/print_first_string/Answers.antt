@@ -9,6 +9,10 @@ use Rattle.jsgen_printer.proofs.Stops.{stopped, first_of_three, second_of_three}
 use Rattle.jsgen_printer.proofs.Texts.{pretty_first}
 use Rattle.jsgen_printer.proofs.printer.Printer.print_first_string.Goals as goal
 
+pub returns-then-self : goal.returns-then-self
+unfolding pen_of
+returns-then-self c = rw c.if-self.true (rw c.if-self.true at c.print_quoted.ensures)
+
 pub returns-in_err-print_opening : goal.returns-in_err-print_opening
 unfolding pen_of
 returns-in_err-print_opening c =
