@@ -165,12 +165,13 @@ def one_part(table, name, g, boxed):
     arms = "".join(f"        {g.name}::{m}(row) => Some({member(table, name, m, boxed)}),\n" for m in some(table, name, g))
     rest = "        _ => None,\n" if len(some(table, name, g)) < len(own(table, g)) + len(inner(table, g)) else ""
     row = f"({plain_of_set(table, g)} {held(table, g, 'row')})"
+    taken = f"    let {snake(g.name)} = row.{snake(g.name)};\n" if inner(table, g) else ""
     nests = "<N: ReadNode + Drop>" if "<N>" in row_type + of else ""
     return f"""fn {part(name, g, boxed)}{nests}(row: {row_type}) -> Option<{of}>
     ensures {{ option_map {plain} result
         ≡ (if in_set sets.{name} (type_of {row}) then Some {row} else None) }}
 {{
-    match {held(table, g, "row")} {{
+{taken}    match {snake(g.name) if taken else "row"} {{
 {arms}{rest}    }}
 }}"""
 
