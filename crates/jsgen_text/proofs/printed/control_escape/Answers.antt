@@ -1,6 +1,0 @@
-use Rattle.std.proofs.Common.{arith}
-use Rattle.std.proofs.lemmas.Grind.{common_steps}
-use Rattle.jsgen_text.proofs.printed.control_escape.Goals as goal
-
-pub returns-in-0 : goal.returns-in-0
-returns-in-0 c = grind (arith, common_steps)
