@@ -44,7 +44,8 @@ fn kept_type<R: Typed>(kept: &Kept<R>) -> NodeType
     }
 }
 
-/// Takes the row of a number out, where it is of the set; its type stays behind.
+/// Takes the row of a number out, where it is of the set; its type stays behind. A fault ends the reading of a job, so
+/// of the rows that it leaves nothing is said.
 pub fn take<R: Typed + Drop>(
     rows: &mut Vec<Kept<R>>,
     set: NodeSet,

@@ -1,12 +1,11 @@
 // Spans and parentheses of a tree, the sets of its types, and options.
 use jsgen_rows::{Job, read_job};
-use jsgen_syntax::Span;
+use jsgen_syntax::{Memory, Span};
 use jsgen_tree::{
-    CodegenOptions, CommentOptions, GetSpan, LegalComment, Node, NodeSet, NodeType, Program,
-    Statement, StatementNode, VariableDeclarationKind,
+    CodegenOptions, CommentOptions, GetSpan, LegalComment, Node, NodeSet, NodeType, Statement,
+    StatementNode, VariableDeclarationKind,
 };
 use std::alloc::Global;
-use std::test::Fail;
 
 // `((a))`, and `const b = a + 1`, each node with a span of its own.
 const JOB: &str = "{\"rows\":[\
@@ -79,7 +78,7 @@ fn parentheses_are_taken_off_and_sets_have_spans(rt: HostRuntime) {
 }
 
 // Types, and whether they are expressions, statements or binding patterns.
-const TYPES: [(NodeType, bool, bool, bool); 19] = [
+const TYPES: [(NodeType, bool, bool, bool); 20] = [
     (NodeType::Program, false, false, false),
     (NodeType::Directive, false, false, false),
     (NodeType::ExpressionStatement, false, true, false),
@@ -87,6 +86,7 @@ const TYPES: [(NodeType, bool, bool, bool); 19] = [
     (NodeType::VariableDeclarator, false, false, false),
     (NodeType::BindingIdentifier, false, false, true),
     (NodeType::IdentifierReference, true, false, false),
+    (NodeType::ThisExpression, true, false, false),
     (NodeType::NumericLiteral, true, false, false),
     (NodeType::ParenthesizedExpression, true, false, false),
     (NodeType::BinaryExpression, true, false, false),
@@ -124,24 +124,39 @@ fn types_are_in_their_sets(rt: HostRuntime) {
     assert!(rt; types_as_said(&TYPES));
 }
 
-#[test]
-fn options_are_cloned(rt: HostRuntime) -> Result<(), Fail> {
-    let alloc = rt.alloc();
-    let options = CodegenOptions::default();
-    assert!(rt; options.clone(alloc)? == options);
-    let small = CodegenOptions::minify();
-    assert!(rt; small.minify && small != options);
-    assert!(rt; small.comments == CommentOptions::disabled());
-    let linked = CodegenOptions {
+fn is_cloned(alloc: Global, options: &CodegenOptions) -> Result<bool, Memory> {
+    Ok(options.clone(alloc)? == *options)
+}
+
+fn linked(path: String, map: String) -> CodegenOptions {
+    CodegenOptions {
         comments: CommentOptions {
-            legal: LegalComment::Linked("a.txt".to_string(alloc)?),
+            legal: LegalComment::Linked(path),
             ..CommentOptions::default()
         },
-        source_map_path: Some("a.map".to_string(alloc)?),
+        source_map_path: Some(map),
         ..CodegenOptions::default()
-    };
-    assert!(rt; linked.clone(alloc)? == linked);
-    Ok(())
+    }
+}
+
+fn linked_is_cloned(alloc: Global) -> Result<bool, Memory> {
+    let path = "a.txt".to_string(alloc)?;
+    let map = "a.map".to_string(alloc)?;
+    is_cloned(alloc, &linked(path, map))
+}
+
+fn minified_as_said(small: &CodegenOptions) -> bool {
+    small.minify
+        && *small != CodegenOptions::default()
+        && small.comments == CommentOptions::disabled()
+}
+
+#[test]
+fn options_are_cloned(rt: HostRuntime) {
+    let alloc = rt.alloc();
+    assert!(rt; is_cloned(alloc, &CodegenOptions::default()) == Ok(true));
+    assert!(rt; linked_is_cloned(alloc) == Ok(true));
+    assert!(rt; minified_as_said(&CodegenOptions::minify()));
 }
 
 fn is_told(legal: &LegalComment, none: bool, inline: bool, eof: bool) -> bool {
