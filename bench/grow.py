@@ -26,7 +26,7 @@ def code(number):
 
 
 class Copy:
-    """The texts of a copy of the repository, which a synthetic type is added to."""
+    """The texts of a copy of the repository, which synthetic types are added to."""
 
     def __init__(self, folder):
         self.folder = folder
@@ -35,13 +35,14 @@ class Copy:
         path = self.folder / name
         path.write_text(change(path.read_text()))
 
-    def behind_clause(self, name, start, text):
-        """Puts text behind the clause that begins so: a line, and the deeper ones below it. `{0}` in text is that clause."""
+    def behind_clause(self, name, start, made):
+        """Puts a text behind the clause that begins so, which is a line with the deeper ones below it and a brace at its end: the
+        text that is given, or what it makes of the clause."""
 
         def change(old):
-            found = re.search(rf"^([ ]*){re.escape(start)}.*\n(?:\1[ ]+.*\n)*", old, re.M)
+            found = re.search(rf"^([ ]*){re.escape(start)}.*\n(?:\1[ ]+.*\n)*(?:\1\}}\n)?", old, re.M)
             assert found, (name, start)
-            return old[: found.end()] + (text(found[0]) if callable(text) else text) + old[found.end() :]
+            return old[: found.end()] + (made(found[0]) if callable(made) else made) + old[found.end() :]
 
         self.change(name, change)
 
@@ -57,7 +58,7 @@ class Copy:
         self.behind_clause(name, start, copied)
 
     def copy_function(self, name, function, *changes):
-        """Copies a function of Rust with its attributes, and its answers, with each old text made new wherever it stands."""
+        """Copies a function of Rust with its attributes, and its answers, with each old word made new wherever it stands."""
 
         def changed(text):
             for old, new in changes:
@@ -76,8 +77,9 @@ class Copy:
             for path in (proofs / changed(function)).rglob("*.antt"):
                 path.write_text(changed(path.read_text()))
 
-    def imports(self, name, line):
-        self.change(name, lambda old: re.sub(r"^(?=(?:ghost )?use )", line + "\n", old, count=1, flags=re.M))
+    def import_type(self, name, row, type):
+        lines = f"ghost use Rattle.jsgen_tree.specs.Rows.{{{row}_row}};\nuse jsgen_tree::{type};\n"
+        self.change(name, lambda old: re.sub(r"^(?=(?:ghost )?use )", lines, old, count=1, flags=re.M))
 
 
 MODEL, LAWS, NODES = "crates/jsgen_model/specs/", "crates/jsgen_reading_laws/proofs/", "crates/jsgen_nodes/src/"
@@ -85,24 +87,30 @@ NORMAL = "crates/jsgen_oracle/src/normal.rt"
 TABLE = "tools/nodes/table.txt"
 
 
-def everywhere(copy, pattern, old, new, kind):
-    """The definitions that say of each type what it is: copies of the clauses of the type that is copied."""
-    short = (f"tree.{old} ", f"tree.{new} ")
-    fields = (f"({pattern[0]})", f"({pattern[1]})")
-    for name, start in (("Spell.antt", "spell"), ("Normal.antt", "normal"), ("Plain.antt", "is_plain_row")):
-        copy.copy_clause(MODEL + name, f"{start} {fields[0]}", fields)
-    copy.copy_clause(LAWS + "Normals.antt", f"normal_again {fields[0]}", fields)
-    copy.copy_clause(LAWS + "Families.antt", f"a_{kind} :", (f"a_{kind} :", f"a_{new} :"), short)
+def into_table(copy, behind, of_set, name, lines):
+    fields = "".join(f"    {line}\n" for line in lines)
+    copy.behind_clause(TABLE, f"node {behind}", f"\nnode {name}\n    | A type that stands in no program.\n{fields}")
+    copy.behind_clause(TABLE, f"set {of_set}", f"    {name.split(' ')[0]}\n")
 
 
-RECORD = "last = g.last; tokens = g.tokens; writes = g.writes; operand = g.operand; semicolon = g.semicolon; begins = g.begins; line = g.line; tree = g.tree; reads = g.reads; same = g.same"
+def into_definitions(copy, old, new):
+    """Spelling, normal form, what is plain, and that a normal form is its own, by the row of the type that is copied."""
+    for name, start in ((MODEL + "Spell.antt", "spell"), (MODEL + "Normal.antt", "normal"), (MODEL + "Plain.antt", "is_plain_row"),
+                        (LAWS + "Normals.antt", "normal_again")):
+        copy.copy_clause(name, f"{start} (tree.{old})", (f"(tree.{old})", f"(tree.{new})"))
 
 
-def read_as(copy, old, new, children, kinds):
-    """The lemma that what is printed is read: since it is so of the type that is copied, whose line is copied too."""
-    of_old, of_new = f"tree.{old} a {children}", f"tree.{new} a {children}"
-    lemma = f"""good_{new} : (c : Allowed) (a : Atoms) {kinds} → Printed c ({of_old}) → Printed c ({of_new})
-good_{new} c a {children} f place p l z y k = let g = f place p l z y k in record {{ {RECORD} }}
+FIELDS = ("last", "tokens", "writes", "operand", "semicolon", "begins", "line", "tree", "reads", "same")
+
+
+def into_expressions(copy, old, new, children, kinds):
+    """The laws of reading of an expression: that what is printed is read follows from that of the type that is copied."""
+    copy.copy_clause(LAWS + "Families.antt", f"a_{old} :", (f"a_{old} :", f"a_{new} :"), (f"tree.{old} ", f"tree.{new} "))
+    copy.copy_clause(LAWS + "Families.antt", f"expression_valid c around (tree.{old} ", (f"tree.{old} ", f"tree.{new} "), (f"a_{old} (", f"a_{new} ("))
+    copy.copy_clause(LAWS + "Asked.antt", f"asked (family.a_{old} ", (f"a_{old} ", f"a_{new} "))
+    fields = " ".join(f"{it} = g.{it};" for it in FIELDS)
+    lemma = f"""good_{new} : (c : Allowed) (a : Atoms) {kinds} → Printed c (tree.{old} a {children}) → Printed c (tree.{new} a {children})
+good_{new} c a {children} f place p l z y k = let g = f place p l z y k in record {{ {fields} }}
 
 -- ---- the whole
 """
@@ -110,71 +118,54 @@ good_{new} c a {children} f place p l z y k = let g = f place p l z y k in recor
 
     def line(clause):
         left, right = clause.rstrip("\n").split(" = ", 1)
-        words = right.split(" ")
-        return f"{left.replace(f'a_{old} ', f'a_{new} ')} = good_{new} {' '.join(words[1:5])} ({right})\n"
+        arguments = " ".join(right.split(" ")[1:5])
+        return f"{left.replace(f'a_{old} ', f'a_{new} ')} = good_{new} {arguments} ({right})\n"
 
     copy.behind_clause(LAWS + "Expressions.antt", f"printed_expression {{c}} (family.a_{old} ", line)
 
 
 def pair(copy, k):
-    old, new, name = "computed_member", f"pair_{k}", f"Pair{k.title()}Expression"
-    copy.behind_clause(TABLE, "node CallExpression", f"\nnode {name} 13.3.2 {new}\n    | A member by the value of an expression.\n    object              Expression\n    optional            unread flag\n    expression          Expression\n")
-    copy.behind_clause(TABLE, "set Expression", lambda clause: f"    {name}\n")
-    everywhere(copy, (f"tree.{old} a object expression", f"tree.{new} a object expression"), old, new, old)
-    copy.copy_clause(LAWS + "Families.antt", f"expression_valid c around (tree.{old} ", (f"tree.{old} ", f"tree.{new} "), (f"a_{old} (", f"a_{new} ("))
-    copy.copy_clause(LAWS + "Asked.antt", f"asked (family.a_{old} ", (f"a_{old} ", f"a_{new} "))
-    read_as(copy, old, new, "o x", "(o x : Tree)")
-    row = f"pair_{k}_expression"
-    copy.copy_function(NODES + "links.rt", "print_computed_member_expression", ("print_computed_member_expression", f"print_{row}"), ("computed_member_expression_row", f"{row}_row"), ("ComputedMemberExpression", name))
-    copy.imports(NODES + "links.rt", f"ghost use Rattle.jsgen_tree.specs.Rows.{{{row}_row}};\nuse jsgen_tree::{name};")
-    copy.copy_clause(NORMAL, "Expression::ComputedMemberExpression(node) => {", ("Expression::ComputedMember", f"Expression::Pair{k.title()}"))
-    close(copy)
+    new, row, name = f"pair_{k}", f"pair_{k}_expression", f"Pair{k.title()}Expression"
+    into_table(copy, "CallExpression", "Expression", f"{name} 13.3.2 {new}", ("object Expression", "optional unread flag", "expression Expression"))
+    into_definitions(copy, "computed_member a object expression", f"{new} a object expression")
+    into_expressions(copy, "computed_member", new, "o x", "(o x : Tree)")
+    copy.copy_function(NODES + "links.rt", "print_computed_member_expression", ("print_computed_member_expression", f"print_{row}"),
+                       ("computed_member_expression_row", f"{row}_row"), ("ComputedMemberExpression", name))
+    copy.import_type(NODES + "links.rt", row, name)
+    copy.copy_clause(NORMAL, "Expression::ComputedMemberExpression(node) =>", ("Expression::ComputedMemberExpression", f"Expression::{name}"))
 
 
 def call(copy, k):
-    old, new, name = "call", f"call_{k}", f"Call{k.title()}Expression"
-    copy.behind_clause(TABLE, "node CallExpression", f"\nnode {name} 13.3.6 {new}\n    | A call of a function.\n    callee              Expression\n    arguments           Argument*\n    optional            unread flag\n    pure                flag\n")
-    copy.behind_clause(TABLE, "set Expression", lambda clause: f"    {name}\n")
-    everywhere(copy, (f"tree.{old} a callee arguments", f"tree.{new} a callee arguments"), old, new, old)
-    copy.copy_clause(LAWS + "Families.antt", f"expression_valid c around (tree.{old} ", (f"tree.{old} ", f"tree.{new} "), (f"a_{old} (", f"a_{new} ("))
-    copy.copy_clause(LAWS + "Asked.antt", f"asked (family.a_{old} ", (f"a_{old} ", f"a_{new} "))
-    read_as(copy, old, new, "t es", "(t : Tree) (es : Trees)")
-    row = f"call_{k}_expression"
-    changes = (("print_call_expression", f"print_{row}"), ("print_call", f"print_call_{k}"), ("call_expression_row", f"{row}_row"), ("CallExpression", name), (r"(from_residual-in_err|in_ok|in_err|c)([-.])print_call", rf"\1\2print_call_{k}"))
-    copy.copy_function(NODES + "links.rt", "print_call", *changes[1:4])
-    copy.copy_function(NODES + "links.rt", "print_call_expression", *changes[:4])
-    copy.imports(NODES + "links.rt", f"ghost use Rattle.jsgen_tree.specs.Rows.{{{row}_row}};\nuse jsgen_tree::{name};")
-    copy.copy_clause(NORMAL, "Expression::CallExpression(node) =>", ("Expression::Call", f"Expression::Call{k.title()}"), ("call_expression_form", f"{row}_form"))
+    new, row, name = f"call_{k}", f"call_{k}_expression", f"Call{k.title()}Expression"
+    into_table(copy, "CallExpression", "Expression", f"{name} 13.3.6 {new}", ("callee Expression", "arguments Argument*", "optional unread flag", "pure flag"))
+    into_definitions(copy, "call a callee arguments", f"{new} a callee arguments")
+    into_expressions(copy, "call", new, "t es", "(t : Tree) (es : Trees)")
+    types = ("call_expression_row", f"{row}_row"), ("CallExpression", name)
+    copy.copy_function(NODES + "links.rt", "print_call", ("print_call", f"print_call_{k}"), *types)
+    copy.copy_function(NODES + "links.rt", "print_call_expression", ("print_call_expression", f"print_{row}"), ("print_call", f"print_call_{k}"), *types)
+    copy.import_type(NODES + "links.rt", row, name)
+    copy.copy_clause(NORMAL, "Expression::CallExpression(node) =>", ("Expression::CallExpression", f"Expression::{name}"), ("call_expression_form", f"{row}_form"))
     copy.copy_function(NORMAL, "call_expression_form", ("call_expression_form", f"{row}_form"), ("call_expression_row", f"{row}_row"), ("CallExpression(?=<)", name))
-    copy.imports(NORMAL, f"ghost use Rattle.jsgen_tree.specs.Rows.{{{row}_row}};\nuse jsgen_tree::{name};")
-
-
-def close(copy):
-    """A copied arm of several lines takes its brace with it."""
-
-    def change(text):
-        return re.sub(r"(^        Expression::ComputedMemberExpression\(node\) => \{\n(?:            .*\n)+)(        Expression::Pair\w+\(node\) => \{\n(?:            .*\n)+)(        \}\n)", r"\1\3\2\3", text, flags=re.M)
-
-    copy.change(NORMAL, change)
+    copy.import_type(NORMAL, row, name)
 
 
 def group(copy, k):
-    new, name = f"group_{k}", f"Group{k.title()}Statement"
-    copy.behind_clause(TABLE, "node EmptyStatement", f"\nnode {name} 14.2 {new}\n    | Statements in braces, and what nobody prints.\n    extra               Expression?\n    body                Statement*\n")
-    copy.behind_clause(TABLE, "set Statement", lambda clause: f"    {name}\n")
-    everywhere(copy, ("tree.block a body", f"tree.{new} a extra body"), "block", new, "block")
-    copy.change(LAWS + "Families.antt", lambda text: text.replace(f"(tree.{new} a ss)", f"(tree.{new} a m ss)").replace(f"a_{new} : {{c : Allowed}} {{a : Atoms}} {{ss", f"a_{new} : {{c : Allowed}} {{a : Atoms}} {{m : Maybe}} {{ss"))
+    new, row, name = f"group_{k}", f"group_{k}_statement", f"Group{k.title()}Statement"
+    into_table(copy, "EmptyStatement", "Statement", f"{name} 14.2 {new}", ("extra Expression?", "body Statement*"))
+    into_definitions(copy, "block a body", f"{new} a extra body")
+    copy.copy_clause(LAWS + "Families.antt", "a_block :", ("a_block :", f"a_{new} :"), ("{ss : Trees}", "{m : Maybe} {ss : Trees}"), ("tree.block a ss", f"tree.{new} a m ss"))
     copy.behind_clause(LAWS + "Families.antt", "item_valid c around (tree.block a ss) p s e =", f"""  item_valid c around (tree.{new} a m ss) p s e =
       let h = none_both (in_maybe around (place_of sets.Expression around ∷ place_of sets.Statement around ∷ []) m) _ (parts (span_faults a.span) [] _ e).1 in
       let k = none_both (in_trees around (place_of sets.Statement around ∷ []) ss) [] h.1 in
       a_statement (a_{new} (items_valid c around ss p.0 p.1.1.0 k.0))
 """)
-    copy.copy_clause(LAWS + "Statements.antt", "normal_open (family.a_block ", ("a_block ", f"a_{new} "))
-    copy.copy_clause(LAWS + "Statements.antt", "stated {c} (family.a_block ", ("a_block ", f"a_{new} "))
-    row = f"group_{k}_statement"
+    for start in ("normal_open (family.a_block ", "stated {c} (family.a_block "):
+        copy.copy_clause(LAWS + "Statements.antt", start, ("a_block ", f"a_{new} "))
     copy.copy_function(NODES + "blocks.rt", "print_block_statement", ("print_block_statement", f"print_{row}"), ("block_statement_row", f"{row}_row"), ("BlockStatement", name))
-    copy.imports(NODES + "blocks.rt", f"ghost use Rattle.jsgen_tree.specs.Rows.{{{row}_row}};\nuse jsgen_tree::{name};")
-    copy.change(NORMAL, lambda text: re.sub(r"(        Statement::BlockStatement)(\(node\) => \{\n(?:            .*\n)+        \}\n)", rf"\1\2        Statement::{name}\2", text, count=1))
+    copy.import_type(NODES + "blocks.rt", row, name)
+    copy.copy_clause(NORMAL, "Statement::BlockStatement(node) =>", ("Statement::BlockStatement", f"Statement::{name}"), ("block_statement_form", f"{row}_form"))
+    copy.copy_function(NORMAL, "block_statement_form", ("block_statement_form", f"{row}_form"), ("block_statement_row", f"{row}_row"), ("BlockStatement(?=<)", name))
+    copy.import_type(NORMAL, row, name)
 
 
 def grown(folder, number):
