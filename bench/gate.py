@@ -58,8 +58,12 @@ def look(seen, root):
             peak = re.search(rb"VmHWM:\s+(\d+)", read(pid, "status"))
         except OSError:
             continue
+        # (a process may begin another program, and keeps what it had used)
+        used, of = seen.setdefault(pid, [0.0, {}])
+        seen[pid][0] = seconds
         if part:
-            seen[pid, part] = seconds, int(peak[1]) // 1024 if peak else 0
+            before, most = of.get(part, (0.0, 0))
+            of[part] = before + seconds - used, max(most, int(peak[1]) // 1024 if peak else 0)
 
 
 def measured(command, folder, out=None):
@@ -72,7 +76,7 @@ def measured(command, folder, out=None):
         time.sleep(0.1)
     after = resource.getrusage(resource.RUSAGE_CHILDREN)
     sums, peaks = {}, {}
-    for (_, (crate, part)), (seconds, peak) in seen.items():
+    for (crate, part), (seconds, peak) in [it for _, of in seen.values() for it in of.items()]:
         sums.setdefault(crate, dict.fromkeys(PARTS, 0.0))[part] += seconds
         peaks[crate] = max(peaks.get(crate, 0), peak)
     whole = after.ru_utime + after.ru_stime - before.ru_utime - before.ru_stime
