@@ -15,7 +15,8 @@ ghost use Rattle.jsgen_nodes.specs.Blocks.{braces_opened, braces_closed, consequ
 
 use crate::PrintNode;
 use crate::shapes::{BodyShape, shape};
-use crate::statements::print_statements;
+use crate::statements::Statements;
+use jsgen_lists::print_statements;
 use jsgen_place::{Place, Settings};
 use jsgen_printer::{Bracket, Printer};
 use jsgen_syntax::{Memory, Precedence};
@@ -75,7 +76,7 @@ fn print_filled_braces<N: PrintNode>(
     ensures { Reaches result (pen_of p.old) (pen_of p.new) (layout (filled_braces (spell_statements (trees (map (in_statement N.plain) statements.now)) (settings_of settings))) (pen_of p.old)) }
 {
     let depth = open_braces(p)?;
-    print_statements(statements, p, settings)?;
+    print_statements::<_, Statements>(statements, p, settings)?;
     close_braces(p, depth)
 }
 

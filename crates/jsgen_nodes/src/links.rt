@@ -7,14 +7,15 @@ ghost use Rattle.jsgen_tree.specs.Rows.{identifier_name_row, static_member_expre
 ghost use Rattle.jsgen_model.specs.Punctuator.{Round};
 ghost use Rattle.jsgen_model.specs.Items.{◌⊕◌, brackets, member_dot, name};
 ghost use Rattle.jsgen_model.specs.Layout.{layout};
-ghost use Rattle.jsgen_model.specs.Spell.{spell, spell_list, spell_more, called, in_brackets, among_statements};
+ghost use Rattle.jsgen_model.specs.Spell.{spell, spell_list, called, in_brackets};
 ghost use Rattle.jsgen_model.specs.Printing.{Reaches};
 ghost use Rattle.jsgen_printer.specs.Printer.{pen_of};
-ghost use Rattle.jsgen_place.specs.Place.{place_of, settings_of};
+ghost use Rattle.jsgen_place.specs.Place.{place_of};
 ghost use Rattle.jsgen_nodes.specs.Place.{pen_after};
 
 use crate::PrintNode;
-use jsgen_place::{Place, Settings};
+use jsgen_lists::{PrintMember, print_in_brackets};
+use jsgen_place::Place;
 use jsgen_printer::{Bracket, Printer};
 use jsgen_syntax::{Memory, Precedence};
 use jsgen_tree::{
@@ -96,52 +97,24 @@ fn print_call<N: PrintNode>(
         (pen_of p.old)) }
 {
     node.callee.get().print(p, place.called())?;
-    print_arguments(&node.arguments, p, place.settings)
+    let within = Place::in_brackets(Precedence::Comma, place.settings);
+    print_in_brackets::<_, Arguments>(Bracket::Round, &node.arguments, p, within)
 }
 
-#[tactic(auto, unfolding(crate::specs::Place::pen_after))]
-fn print_arguments<N: PrintNode>(
-    arguments: &[Argument<N>],
-    p: &mut Printer,
-    settings: Settings,
-) -> Result<(), Memory>
-    ensures { Reaches result (pen_of p.old) (pen_of p.new) (layout (brackets Round (spell_list (trees (map (in_argument N.plain) arguments.now)) (in_brackets Comma (among_statements (settings_of settings)))))
-        (pen_of p.old)) }
-{
-    p.print_opening(Bracket::Round)?;
-    if let Some((first, others)) = arguments.split_first() {
-        print_argument(first, p, Place::in_brackets(Precedence::Comma, settings))?;
-        print_more_arguments(others, p, settings)?;
-    }
-    p.print_closing(Bracket::Round)
-}
+/// What a call is given.
+struct Arguments;
 
 #[tactic(auto, unfolding(crate::specs::Place::pen_after))]
-fn print_argument<N: PrintNode>(
-    argument: &Argument<N>,
-    p: &mut Printer,
-    place: Place,
-) -> Result<(), Memory>
-    ensures { Reaches result (pen_of p.old) (pen_of p.new) (pen_after (in_argument N.plain argument.now) place p.old) }
-{
-    match argument {
-        Argument::Expression(expression) => expression.get().print(p, place),
-    }
-}
+impl<N: PrintNode> PrintMember<Argument<N>> for Arguments {
+    ghost plain = { in_argument N.plain };
 
-// Each with a comma before it.
-#[tactic(auto, unfolding(crate::specs::Place::pen_after))]
-fn print_more_arguments<N: PrintNode>(
-    arguments: &[Argument<N>],
-    p: &mut Printer,
-    settings: Settings,
-) -> Result<(), Memory>
-    ensures { Reaches result (pen_of p.old) (pen_of p.new) (layout (spell_more (trees (map (in_argument N.plain) arguments.now)) (in_brackets Comma (among_statements (settings_of settings)))) (pen_of p.old)) }
-{
-    for argument in arguments {
-        p.print_comma()?;
-        p.print_soft_space()?;
-        print_argument(argument, p, Place::in_brackets(Precedence::Comma, settings))?;
+    fn print_member(
+        argument: &Argument<N>,
+        p: &mut Printer,
+        place: Place,
+    ) -> Result<(), Memory> {
+        match argument {
+            Argument::Expression(expression) => expression.get().print(p, place),
+        }
     }
-    Ok(())
 }

@@ -1,12 +1,15 @@
 // What a statement is as what `if` or `else` is followed by.
-ghost use Rattle.std.specs.Prelude.{◌≡◌};
+ghost use Rattle.std.specs.Prelude.{◌≡◌, option_map};
 ghost use Rattle.jsgen_tree.specs.Inside.{ends_open};
-ghost use Rattle.jsgen_tree.specs.Rows.{if_statement_row, expression_plain, statement_plain, declaration_plain, binding_pattern_plain};
+ghost use Rattle.jsgen_tree.specs.Rows.{if_statement_row, in_statement, expression_plain, statement_plain, declaration_plain, binding_pattern_plain};
 ghost use Rattle.jsgen_model.specs.Spell.{shape, shape_of_type};
 ghost use Rattle.jsgen_nodes.specs.Blocks.{shape_of};
 
 use crate::PrintNode;
-use jsgen_tree::{BindingPattern, Declaration, Expression, IfStatement, NodeType, Statement};
+use jsgen_place::if_ends_open;
+use jsgen_tree::{
+    BindingPattern, Declaration, Expression, IfStatement, NodeType, Statement, StatementNode,
+};
 
 /// What stands on the line of its `if` or `else`, and what is a line of its own.
 #[derive(Clone, Copy)]
@@ -36,12 +39,18 @@ pub fn shape<N: PrintNode>(statement: &N) -> BodyShape
 
 // ---- an `if` without `else` at the end
 
-fn if_ends_open<N: PrintNode>(node: &IfStatement<N>) -> bool
+fn if_statement_ends_open<N: PrintNode>(node: &IfStatement<N>) -> bool
     ensures { result ≡ ends_open (if_statement_row N.plain node.now) }
 {
-    match &node.alternate {
-        Some(alternate) => alternate.get().ends_open(),
-        None => true,
+    if_ends_open(alternate_ends_open(&node.alternate))
+}
+
+fn alternate_ends_open<N: PrintNode>(alternate: &Option<StatementNode<N>>) -> Option<bool>
+    ensures { result ≡ option_map ends_open (option_map (in_statement N.plain) alternate.now) }
+{
+    match alternate {
+        Some(alternate) => Some(alternate.get().ends_open()),
+        None => None,
     }
 }
 
@@ -58,7 +67,7 @@ pub fn statement_ends_open<N: PrintNode>(node: &Statement<N>) -> bool
 {
     match node {
         Statement::Declaration(node) => node.get().ends_open(),
-        Statement::IfStatement(node) => if_ends_open(node),
+        Statement::IfStatement(node) => if_statement_ends_open(node),
         _ => false,
     }
 }

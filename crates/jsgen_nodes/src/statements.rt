@@ -6,13 +6,14 @@ ghost use Rattle.jsgen_tree.specs.Words.{declaration_word};
 ghost use Rattle.jsgen_tree.specs.Rows.{binding_identifier_row, variable_declarator_row, variable_declaration_row, expression_statement_row, program_row, directive_row, in_expression, in_statement};
 ghost use Rattle.jsgen_model.specs.Items.{◌⊕◌, word, soft_space, due_semicolon};
 ghost use Rattle.jsgen_model.specs.Layout.{layout};
-ghost use Rattle.jsgen_model.specs.Spell.{spell, spell_list, spell_more, spell_value, spell_directives, spell_body, spell_statements, first_statement, behind, among_statements};
+ghost use Rattle.jsgen_model.specs.Spell.{spell, spell_list, spell_value, spell_directives, spell_body, first_statement, behind, among_statements};
 ghost use Rattle.jsgen_model.specs.Printing.{Reaches};
 ghost use Rattle.jsgen_printer.specs.Printer.{pen_of};
 ghost use Rattle.jsgen_place.specs.Place.{place_of, settings_of};
 ghost use Rattle.jsgen_nodes.specs.Place.{pen_after};
 
 use crate::PrintNode;
+use jsgen_lists::{PrintMember, PrintStatement, print_more, print_whole_body};
 use jsgen_place::{Place, Settings};
 use jsgen_printer::Printer;
 use jsgen_syntax::{Memory, Precedence};
@@ -30,7 +31,7 @@ pub fn print_program<N: PrintNode>(
     ensures { Reaches result (pen_of p.old) (pen_of p.new) (layout (spell (program_row N.plain node.now) (among_statements (settings_of settings))) (pen_of p.old)) }
 {
     print_directives(&node.directives, p, settings)?;
-    print_whole_body(&node.body, p, settings)
+    print_whole_body::<_, Statements>(&node.body, p, settings)
 }
 
 #[tactic(auto, unfolding(crate::specs::Place::pen_after))]
@@ -58,70 +59,47 @@ pub fn print_directive(node: &Directive, p: &mut Printer, place: Place) -> Resul
     p.print_soft_line()
 }
 
-// A program's statements, and the semicolon that is due behind the last.
-#[tactic(auto, unfolding(crate::specs::Place::pen_after))]
-fn print_whole_body<N: PrintNode>(
-    statements: &[StatementNode<N>],
-    p: &mut Printer,
-    settings: Settings,
-) -> Result<(), Memory>
-    ensures { Reaches result (pen_of p.old) (pen_of p.new) (layout (spell_body (trees (map (in_statement N.plain) statements.now)) (settings_of settings) ⊕ due_semicolon) (pen_of p.old)) }
-{
-    print_body(statements, p, settings)?;
-    p.print_due_semicolon()
-}
-
-// The statements of a body, of which the first may not become a directive.
-#[tactic(auto, unfolding(crate::specs::Place::pen_after))]
-fn print_body<N: PrintNode>(
-    statements: &[StatementNode<N>],
-    p: &mut Printer,
-    settings: Settings,
-) -> Result<(), Memory>
-    ensures { Reaches result (pen_of p.old) (pen_of p.new) (layout (spell_body (trees (map (in_statement N.plain) statements.now)) (settings_of settings)) (pen_of p.old)) }
-{
-    match statements.split_first() {
-        Some((first, others)) => {
-            print_first_statement(first.get(), p, settings)?;
-            print_statements(others, p, settings)
-        }
-        None => Ok(()),
-    }
-}
-
 #[tactic(auto, unfolding(crate::specs::Place::pen_after))]
 fn print_first_statement<N: PrintNode>(
     statement: &N,
     p: &mut Printer,
-    settings: Settings,
+    place: Place,
 ) -> Result<(), Memory>
-    ensures { Reaches result (pen_of p.old) (pen_of p.new) (layout (due_semicolon ⊕ first_statement (N.plain statement.now) (spell (N.plain statement.now) (among_statements (settings_of settings))))
+    ensures { Reaches result (pen_of p.old) (pen_of p.new) (layout (first_statement (N.plain statement.now) (spell (N.plain statement.now) (place_of place (pen_of p.old))))
         (pen_of p.old)) }
 {
-    p.print_due_semicolon()?;
     match statement.string_statement() {
         Some(value) => {
             p.print_indentation()?;
             p.print_first_string(value)?;
             p.print_statement_end()
         }
-        None => statement.print(p, Place::among_statements(settings)),
+        None => statement.print(p, place),
     }
 }
 
+/// Statements, one after another.
+pub struct Statements;
+
 #[tactic(auto, unfolding(crate::specs::Place::pen_after))]
-pub fn print_statements<N: PrintNode>(
-    statements: &[StatementNode<N>],
-    p: &mut Printer,
-    settings: Settings,
-) -> Result<(), Memory>
-    ensures { Reaches result (pen_of p.old) (pen_of p.new) (layout (spell_statements (trees (map (in_statement N.plain) statements.now)) (settings_of settings)) (pen_of p.old)) }
-{
-    for statement in statements {
-        p.print_due_semicolon()?;
-        statement.get().print(p, Place::among_statements(settings))?;
+impl<N: PrintNode> PrintStatement<StatementNode<N>> for Statements {
+    ghost plain = { in_statement N.plain };
+
+    fn print_statement(
+        statement: &StatementNode<N>,
+        p: &mut Printer,
+        place: Place,
+    ) -> Result<(), Memory> {
+        statement.get().print(p, place)
     }
-    Ok(())
+
+    fn print_first_statement(
+        statement: &StatementNode<N>,
+        p: &mut Printer,
+        place: Place,
+    ) -> Result<(), Memory> {
+        print_first_statement(statement.get(), p, place)
+    }
 }
 
 #[tactic(auto, unfolding(crate::specs::Place::pen_after))]
@@ -173,28 +151,26 @@ fn print_declarators<N: PrintNode>(
     match node.declarations.split_first() {
         Some((first, others)) => {
             print_variable_declarator(first, p, place.child(Precedence::Lowest))?;
-            print_more_declarators(others, p, place)
+            print_more::<_, Declarators>(others, p, place.child(Precedence::Lowest))
         }
         None => Ok(()),
     }
 }
 
-// Each with a comma before it.
+/// What a declaration declares.
+struct Declarators;
+
 #[tactic(auto, unfolding(crate::specs::Place::pen_after))]
-fn print_more_declarators<N: PrintNode>(
-    declarators: &[VariableDeclarator<N>],
-    p: &mut Printer,
-    place: Place,
-) -> Result<(), Memory>
-    ensures { Reaches result (pen_of p.old) (pen_of p.new) (layout (spell_more (trees (map (variable_declarator_row N.plain) declarators.now))
-        (behind Lowest (place_of place (pen_of p.old)))) (pen_of p.old)) }
-{
-    for declarator in declarators {
-        p.print_comma()?;
-        p.print_soft_space()?;
-        print_variable_declarator(declarator, p, place.child(Precedence::Lowest))?;
+impl<N: PrintNode> PrintMember<VariableDeclarator<N>> for Declarators {
+    ghost plain = { variable_declarator_row N.plain };
+
+    fn print_member(
+        declarator: &VariableDeclarator<N>,
+        p: &mut Printer,
+        place: Place,
+    ) -> Result<(), Memory> {
+        print_variable_declarator(declarator, p, place)
     }
-    Ok(())
 }
 
 #[tactic(auto, unfolding(crate::specs::Place::pen_after))]

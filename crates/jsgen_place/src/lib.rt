@@ -1,8 +1,10 @@
 //! Where a node is printed, and what its place and an operation ask of it.
 #![tactic(auto)]
 
+mod endings;
 mod operands;
 mod place;
 
+pub use endings::if_ends_open;
 pub use operands::{Operand, left_level, right_level, unmixed};
 pub use place::{Context, Place, Settings};

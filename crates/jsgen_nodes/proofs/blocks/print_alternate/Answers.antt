@@ -5,7 +5,7 @@ use Rattle.jsgen_place.specs.Place.{settings_of}
 use Rattle.jsgen_nodes.specs.Place.{pen_after}
 use Rattle.jsgen_nodes.specs.Blocks.{alternate_of}
 use Rattle.jsgen_printer.proofs.Stops.{appends, stopped, stops_within}
-use Rattle.jsgen_nodes.proofs.StatementStops.{last_reaches}
+use Rattle.jsgen_lists.proofs.Turns.{last_reaches}
 use Rattle.jsgen_nodes.proofs.blocks.print_alternate.Goals as goal
 
 pub returns-in_err-print_due_semicolon-in-Some : goal.returns-in_err-print_due_semicolon-in-Some

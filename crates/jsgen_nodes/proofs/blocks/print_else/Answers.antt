@@ -5,7 +5,7 @@ use Rattle.jsgen_printer.specs.Printer.{pen_of}
 use Rattle.jsgen_nodes.specs.Blocks.{shape_of}
 use Rattle.jsgen_nodes.specs.Place.{pen_after}
 use Rattle.jsgen_printer.proofs.Stops.{appends, stopped, stops_within, stops_first, stops_second, reaches_last, layout_appends}
-use Rattle.jsgen_nodes.proofs.StatementStops.{last_reaches}
+use Rattle.jsgen_lists.proofs.Turns.{last_reaches}
 use Rattle.jsgen_nodes.proofs.blocks.print_else.Goals as goal
 
 pub returns-in_err-print_word : goal.returns-in_err-print_word

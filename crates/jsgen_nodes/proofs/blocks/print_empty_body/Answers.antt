@@ -4,7 +4,7 @@ use Rattle.jsgen_model.specs.Items.{◌⊕◌, punctuator, soft_line}
 use Rattle.jsgen_model.specs.Spell.{body_end}
 use Rattle.jsgen_printer.specs.Printer.{pen_of}
 use Rattle.jsgen_printer.proofs.Stops.{appends, stopped, stops_within}
-use Rattle.jsgen_nodes.proofs.StatementStops.{last_reaches}
+use Rattle.jsgen_lists.proofs.Turns.{last_reaches}
 use Rattle.jsgen_nodes.proofs.blocks.print_empty_body.Goals as goal
 
 pub returns-in_err-print_semicolon : goal.returns-in_err-print_semicolon

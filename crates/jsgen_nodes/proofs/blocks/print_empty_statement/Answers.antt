@@ -4,7 +4,7 @@ use Rattle.jsgen_model.specs.Items.{◌⊕◌, indentation, punctuator, soft_lin
 use Rattle.jsgen_printer.specs.Printer.{pen_of}
 use Rattle.jsgen_printer.proofs.Stops.{stopped, stops_first, stops_second}
 use Rattle.jsgen_nodes.specs.Place.{pen_after}
-use Rattle.jsgen_nodes.proofs.StatementStops.{last_reaches}
+use Rattle.jsgen_lists.proofs.Turns.{last_reaches}
 use Rattle.jsgen_nodes.proofs.blocks.print_empty_statement.Goals as goal
 
 pub returns-in_err-print_indentation : goal.returns-in_err-print_indentation

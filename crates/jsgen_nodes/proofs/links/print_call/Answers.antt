@@ -10,4 +10,4 @@ returns-in_err-print g c = stopped _ c.from_residual.ensures.0 (stops_within (rw
 
 pub returns : goal.returns
 unfolding pen_after
-returns g c = reaches_last _ _ _ _ _ _ (rw (c.in_ok-print.ensures, c.deref.ensures.value, c.get.ensures, c.called.ensures (pen_of c.args.p.now)) at c.print_arguments.ensures) (search appends) refl
+returns g c = reaches_last _ _ _ _ _ _ (rw (c.in_ok-print.ensures, c.deref.ensures.value, c.get.ensures, c.called.ensures (pen_of c.args.p.now), c.in_brackets-within.ensures) at c.print_in_brackets.ensures) (search appends) refl

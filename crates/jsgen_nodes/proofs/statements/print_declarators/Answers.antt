@@ -11,7 +11,7 @@ use Rattle.jsgen_printer.proofs.Prefixes.{whole_prefix}
 use Rattle.jsgen_printer.proofs.Stops.{stopped, stops_first, stops_second}
 use Rattle.jsgen_place.specs.Place.{place_of}
 use Rattle.jsgen_nodes.specs.Place.{pen_after}
-use Rattle.jsgen_nodes.proofs.StatementStops.{last_reaches, part_stopped, spaced_row, spaced_stopped}
+use Rattle.jsgen_lists.proofs.Turns.{last_reaches, part_stopped, spaced_member, spaced_stopped}
 use Rattle.jsgen_nodes.proofs.statements.print_declarators.Goals as goal
 
 pub returns-in_err-print_word : goal.returns-in_err-print_word
@@ -37,7 +37,7 @@ returns-in_err-print_variable_declarator-in-Some g c =
     let first = soft_space ⊕ spell (row c.in-Some.first.now) place in
     let more = spell_more (trees (map row c.in-Some.others.now)) place in
     let all = ap (λ ds. layout (kind ⊕ (soft_space ⊕ spell_list (trees (map row ds)) place)) before) (sym c.in-Some.ensures.cases.0 ∙ c.deref.ensures.value) in
-    let in_first = spaced_stopped Lowest c.args.place c.child.result before (pen_of c.print_word.new.self) (pen_of c.print_soft_space.new.self) (pen_of c.print_variable_declarator.new.p) (row c.in-Some.first.now) (ap (λ p. p.start) behind_kind) c.in_ok-print_soft_space.ensures c.child.ensures c.in_err-print_variable_declarator-in-Some.ensures in
+    let in_first = rw c.child.ensures at (spaced_stopped c.child.result (pen_of c.print_word.new.self) (pen_of c.print_soft_space.new.self) (pen_of c.print_variable_declarator.new.p) (row c.in-Some.first.now) (ap (λ p. p.start) behind_kind) c.in_ok-print_soft_space.ensures c.in_err-print_variable_declarator-in-Some.ensures) in
     stopped _ c.from_residual-in_err-print_variable_declarator-in-Some.ensures.0 (part_stopped before (whole_prefix before.code) all (stops_second kind (first ⊕ more) behind_kind (stops_first first more in_first)))
 
 pub returns-in_ok-print_variable_declarator-in-Some : goal.returns-in_ok-print_variable_declarator-in-Some
@@ -51,5 +51,5 @@ returns-in_ok-print_variable_declarator-in-Some g c =
     let first = soft_space ⊕ spell (row c.in-Some.first.now) place in
     let more = spell_more (trees (map row c.in-Some.others.now)) place in
     let all = ap (λ ds. layout (kind ⊕ (soft_space ⊕ spell_list (trees (map row ds)) place)) before) (sym c.in-Some.ensures.cases.0 ∙ c.deref.ensures.value) in
-    let behind_first = spaced_row Lowest c.args.place c.child.result before (pen_of c.print_word.new.self) (pen_of c.print_soft_space.new.self) (pen_of c.print_variable_declarator.new.p) (row c.in-Some.first.now) (ap (λ p. p.start) behind_kind) c.in_ok-print_soft_space.ensures c.child.ensures c.in_ok-print_variable_declarator-in-Some.ensures in
-    last_reaches c.print_more_declarators.result (kind ⊕ first) more before (pen_of c.print_variable_declarator.new.p) (pen_of c.print_more_declarators.new.p) (behind_first ∙ ap (λ p. layout first p) behind_kind) all c.print_more_declarators.ensures
+    let behind_first = rw c.child.ensures at (spaced_member c.child.result (pen_of c.print_word.new.self) (pen_of c.print_soft_space.new.self) (pen_of c.print_variable_declarator.new.p) (row c.in-Some.first.now) (ap (λ p. p.start) behind_kind) c.in_ok-print_soft_space.ensures c.in_ok-print_variable_declarator-in-Some.ensures) in
+    last_reaches c.print_more.result (kind ⊕ first) more before (pen_of c.print_variable_declarator.new.p) (pen_of c.print_more.new.p) (behind_first ∙ ap (λ p. layout first p) behind_kind) all (rw c.child-in-Some.ensures at c.print_more.ensures)

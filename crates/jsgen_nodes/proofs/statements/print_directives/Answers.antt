@@ -7,7 +7,7 @@ use Rattle.jsgen_printer.specs.Printer.{pen_of}
 use Rattle.jsgen_printer.proofs.Stops.{stopped, stops_first}
 use Rattle.jsgen_place.specs.Place.{settings_of}
 use Rattle.jsgen_nodes.specs.Place.{pen_after}
-use Rattle.jsgen_nodes.proofs.StatementStops.{turn_left, part_stopped, turn_done}
+use Rattle.jsgen_lists.proofs.Turns.{turn_left, part_stopped, turn_done}
 use Rattle.jsgen_nodes.proofs.statements.print_directives.Goals as goal
 
 pub loop-directive-preserved : goal.loop-directive-preserved

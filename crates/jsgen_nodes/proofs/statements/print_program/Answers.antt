@@ -6,7 +6,7 @@ use Rattle.jsgen_model.specs.Spell.{spell_directives, spell_body}
 use Rattle.jsgen_printer.specs.Printer.{pen_of}
 use Rattle.jsgen_printer.proofs.Stops.{stopped, stops_first}
 use Rattle.jsgen_place.specs.Place.{settings_of}
-use Rattle.jsgen_nodes.proofs.StatementStops.{last_reaches}
+use Rattle.jsgen_lists.proofs.Turns.{last_reaches}
 use Rattle.jsgen_nodes.proofs.statements.print_program.Goals as goal
 
 pub returns-in_err-print_directives : goal.returns-in_err-print_directives

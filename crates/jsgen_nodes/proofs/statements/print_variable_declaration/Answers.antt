@@ -9,7 +9,7 @@ use Rattle.jsgen_printer.specs.Printer.{pen_of}
 use Rattle.jsgen_printer.proofs.Stops.{stopped, stops_first, stops_second}
 use Rattle.jsgen_place.specs.Place.{place_of}
 use Rattle.jsgen_nodes.specs.Place.{pen_after}
-use Rattle.jsgen_nodes.proofs.StatementStops.{last_reaches}
+use Rattle.jsgen_lists.proofs.Turns.{last_reaches}
 use Rattle.jsgen_nodes.proofs.statements.print_variable_declaration.Goals as goal
 
 pub returns-in_err-print_indentation : goal.returns-in_err-print_indentation

@@ -1,0 +1,8 @@
+//! Lists: how members are printed one after another, whatever they are.
+#![tactic(auto)]
+
+mod members;
+mod statements;
+
+pub use members::{PrintMember, print_in_brackets, print_more};
+pub use statements::{PrintStatement, print_statements, print_whole_body};

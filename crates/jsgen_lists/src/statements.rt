@@ -1,0 +1,71 @@
+// Lists of statements.
+ghost use Rattle.std.specs.Prelude.{map};
+ghost use Rattle.jsgen_tree.specs.Tree.{Tree, trees};
+ghost use Rattle.jsgen_model.specs.Items.{◌⊕◌, due_semicolon};
+ghost use Rattle.jsgen_model.specs.Layout.{layout};
+ghost use Rattle.jsgen_model.specs.Spell.{spell, spell_body, spell_statements, first_statement};
+ghost use Rattle.jsgen_model.specs.Printing.{Reaches};
+ghost use Rattle.jsgen_printer.specs.Printer.{pen_of};
+ghost use Rattle.jsgen_place.specs.Place.{place_of, settings_of};
+
+use jsgen_place::{Place, Settings};
+use jsgen_printer::Printer;
+use jsgen_syntax::Memory;
+
+/// How statements are printed.
+pub trait PrintStatement<E> {
+    // What a statement stands for.
+    ghost plain: { E → Tree };
+
+    fn print_statement(statement: &E, p: &mut Printer, place: Place) -> Result<(), Memory>
+        ensures { Reaches result (pen_of p.old) (pen_of p.new) (layout (spell (plain statement.now) (place_of place (pen_of p.old))) (pen_of p.old)) };
+
+    /// As the first of a body, where it may not become a directive.
+    fn print_first_statement(statement: &E, p: &mut Printer, place: Place) -> Result<(), Memory>
+        ensures { Reaches result (pen_of p.old) (pen_of p.new) (layout (first_statement (plain statement.now) (spell (plain statement.now) (place_of place (pen_of p.old)))) (pen_of p.old)) };
+}
+
+/// A program's statements, and the semicolon that is due behind the last.
+pub fn print_whole_body<E, S: PrintStatement<E>>(
+    statements: &[E],
+    p: &mut Printer,
+    settings: Settings,
+) -> Result<(), Memory>
+    ensures { Reaches result (pen_of p.old) (pen_of p.new) (layout (spell_body (trees (map S.plain statements.now)) (settings_of settings) ⊕ due_semicolon) (pen_of p.old)) }
+{
+    print_body::<E, S>(statements, p, settings)?;
+    p.print_due_semicolon()
+}
+
+// The statements of a body, of which the first may not become a directive.
+fn print_body<E, S: PrintStatement<E>>(
+    statements: &[E],
+    p: &mut Printer,
+    settings: Settings,
+) -> Result<(), Memory>
+    ensures { Reaches result (pen_of p.old) (pen_of p.new) (layout (spell_body (trees (map S.plain statements.now)) (settings_of settings)) (pen_of p.old)) }
+{
+    match statements.split_first() {
+        Some((first, others)) => {
+            p.print_due_semicolon()?;
+            S::print_first_statement(first, p, Place::among_statements(settings))?;
+            print_statements::<E, S>(others, p, settings)
+        }
+        None => Ok(()),
+    }
+}
+
+/// Each after the semicolon that the one before may have left.
+pub fn print_statements<E, S: PrintStatement<E>>(
+    statements: &[E],
+    p: &mut Printer,
+    settings: Settings,
+) -> Result<(), Memory>
+    ensures { Reaches result (pen_of p.old) (pen_of p.new) (layout (spell_statements (trees (map S.plain statements.now)) (settings_of settings)) (pen_of p.old)) }
+{
+    for statement in statements {
+        p.print_due_semicolon()?;
+        S::print_statement(statement, p, Place::among_statements(settings))?;
+    }
+    Ok(())
+}
