@@ -11,8 +11,8 @@ use Rattle.jsgen_syntax.specs.Raw.{Raw, raw_escape, is_left_out, tag_character, 
 use Rattle.jsgen_syntax.specs.Strings.{begins, begins_script, quote_char, is_backtick, needs_backslash, control_text, past_ascii_text, point_text, escaped_after, escaped, quoted}
 use Rattle.jsgen_syntax.specs.Wtf8.{joined_units, is_surrogate}
 use Rattle.jsgen_text.specs.Law.{AsciiTextIsAscii}
-use Rattle.jsgen_text.specs.Points.{is_point, are_ascii}
-use Rattle.jsgen_text.proofs.Ascii.{ascii_append, lower_ascii, four_ascii, character_ascii, units_ascii}
+use Rattle.jsgen_strings.specs.Points.{is_point, are_ascii}
+use Rattle.jsgen_strings.proofs.Ascii.{ascii_append, lower_ascii, four_ascii, character_ascii, units_ascii}
 
 one_ascii : (c : ℕ) (cs : List ℕ) → c < 128 → are_ascii cs ≡ true → are_ascii (c ∷ cs) ≡ true
 one_ascii c cs l h = and_from (nat_lt c 128) (are_ascii cs) (lt-ltb c 128 l) h

@@ -1,14 +1,7 @@
-pub mod Appending
-pub mod Ascii
 pub mod AsciiTexts
 pub mod Characters
-pub mod Costs
 pub mod Directives
-pub mod Escaped
-pub mod Fronts
-pub mod Looks
 pub mod Machine
-pub mod Plain
 pub mod RawTexts
 pub mod Shortest
 pub mod Tags

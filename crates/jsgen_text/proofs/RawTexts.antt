@@ -11,8 +11,8 @@ use Rattle.jsgen_syntax.specs.Raw.{Raw, raw_escape, is_left_out, tag_character, 
 use Rattle.jsgen_syntax.specs.Strings.{begins_script}
 use Rattle.jsgen_syntax.proofs.Bytes.{utf8_high}
 use Rattle.jsgen_syntax.proofs.Wtf8.{encode_one, scalar_below}
-use Rattle.jsgen_text.specs.Points.{is_point, ArePoints, is_plain}
-use Rattle.jsgen_text.proofs.Plain.{IsPlain, plain_facts, are_plain, run_bytes}
+use Rattle.jsgen_strings.specs.Points.{is_point, ArePoints, is_plain}
+use Rattle.jsgen_strings.proofs.Plain.{IsPlain, plain_facts, are_plain, run_bytes}
 
 -- ---- the bytes of a text
 

@@ -7,7 +7,7 @@ use Rattle.jsgen_syntax.specs.Escapes.{name_text}
 use Rattle.jsgen_syntax.specs.Raw.{tag_free, put_in, unmarked, holds_close_tag, directive_text, template_text, pattern_text, directive_value, directive_quote}
 use Rattle.jsgen_syntax.specs.Strings.{string_value, escaped, quoted, is_backtick, cheapest}
 use Rattle.jsgen_syntax.specs.Units.{are_units}
-use Rattle.jsgen_text.specs.Points.{is_point, are_ascii}
+use Rattle.jsgen_strings.specs.Points.{is_point, are_ascii}
 
 -- every string is the value of the text between its quotes, whether the text is to be ASCII or not
 abbrev pub PrintedLiteralHasItsValue : Type 0

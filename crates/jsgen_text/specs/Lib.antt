@@ -1,4 +1,3 @@
 pub mod Changes
 pub mod Law
 pub mod Machine
-pub mod Points

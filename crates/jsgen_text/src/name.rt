@@ -5,8 +5,7 @@ ghost use Rattle.std.specs.Str.{chars, encode_utf8_all};
 ghost use Rattle.jsgen_syntax.specs.Buffer.{buffer_bytes, indent_byte, indent_width, AppendsPrefix};
 ghost use Rattle.jsgen_syntax.specs.Escapes.{has_escapes, is_past_ascii, name_character, name_text};
 
-use crate::escapes::{print_ascii, print_character_escape};
-use crate::points::{plain_len, take_point};
+use jsgen_strings::{plain_len, print_ascii, print_character_escape, take_point};
 use jsgen_syntax::{CodeBuffer, Memory};
 
 /// Appends a name, with escapes for what isn't ASCII where `ascii_only`; after `Memory` maybe fewer bytes. Tells whether escapes were written.

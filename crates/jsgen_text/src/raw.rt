@@ -7,12 +7,12 @@ ghost use Rattle.jsgen_syntax.specs.Buffer.{buffer_bytes, indent_byte, indent_wi
 ghost use Rattle.jsgen_syntax.specs.Raw.{directive_text, is_left_out, is_template, non_ascii_escaped, pattern_text, raw_character, raw_escape, raw_text, tag_character, tag_free, template_text};
 ghost use Rattle.jsgen_syntax.specs.declared.escape.NonAsciiEscape.TheVariants as modes;
 ghost use Rattle.jsgen_text.specs.Changes.{raw_of};
-ghost use Rattle.jsgen_text.specs.Points.{ArePoints};
+ghost use Rattle.jsgen_strings.specs.Points.{ArePoints};
 
-use crate::escapes::{print_ascii, print_character_escape, print_unit_escapes};
 use crate::name::print_name_escaped;
-use crate::points::{
-    Point, begins_past_ascii, begins_script, begins_with_dollar, plain_len, take_point,
+use jsgen_strings::{
+    Point, begins_past_ascii, begins_script, begins_with_dollar, plain_len, print_ascii,
+    print_character_escape, print_unit_escapes, take_point,
 };
 use jsgen_syntax::{CodeBuffer, Memory, NonAsciiEscape};
 

@@ -3,9 +3,9 @@ use Rattle.std.specs.Str.{chars, encode_utf8_all}
 use Rattle.std.proofs.lemmas.Bool.{eqb-true}
 use Rattle.jsgen_syntax.specs.Buffer.{buffer_bytes}
 use Rattle.jsgen_syntax.specs.Escapes.{name_text}
-use Rattle.jsgen_text.specs.Points.{ArePoints}
-use Rattle.jsgen_text.proofs.Appending.{Printed, printed_none, printed_piece, printed_end, stopped}
-use Rattle.jsgen_text.proofs.Plain.{are_plain, plain_ascii, behind_run}
+use Rattle.jsgen_strings.specs.Points.{ArePoints}
+use Rattle.jsgen_strings.proofs.Appending.{Printed, printed_none, printed_piece, printed_end, stopped}
+use Rattle.jsgen_strings.proofs.Plain.{are_plain, plain_ascii, behind_run}
 use Rattle.jsgen_text.proofs.RawTexts.{points_of_text, name_run, name_end}
 use Rattle.jsgen_text.proofs.name.print_name_escaped.Goals as goal
 

@@ -2,8 +2,8 @@ use Rattle.std.proofs.Common.{◌≡◌, true, length}
 use Rattle.std.specs.Str.{chars, encode_utf8_all}
 use Rattle.jsgen_syntax.specs.Buffer.{buffer_bytes, indent_byte, indent_width}
 use Rattle.jsgen_syntax.specs.Escapes.{name_text}
-use Rattle.jsgen_text.specs.Points.{ArePoints}
-use Rattle.jsgen_text.proofs.Appending.{Printed}
+use Rattle.jsgen_strings.specs.Points.{ArePoints}
+use Rattle.jsgen_strings.proofs.Appending.{Printed}
 use Rattle.jsgen_text.proofs.name.print_name_escaped.Given as goal
 
 abbrev pub invariant-points : goal.invariant-points

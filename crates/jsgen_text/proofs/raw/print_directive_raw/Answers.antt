@@ -3,7 +3,7 @@ use Rattle.std.specs.Str.{chars}
 use Rattle.jsgen_syntax.specs.Raw.{directive_text}
 use Rattle.jsgen_syntax.specs.declared.escape.NonAsciiEscape.TheVariants as modes
 use Rattle.jsgen_syntax.proofs.Raw.{untouched}
-use Rattle.jsgen_text.proofs.Appending.{same_text}
+use Rattle.jsgen_strings.proofs.Appending.{same_text}
 use Rattle.jsgen_text.proofs.RawTexts.{text_same}
 use Rattle.jsgen_text.proofs.raw.print_directive_raw.Goals as goal
 

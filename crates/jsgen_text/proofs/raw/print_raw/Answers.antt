@@ -5,9 +5,9 @@ use Rattle.std.proofs.lemmas.Bool.{eqb-true}
 use Rattle.jsgen_syntax.specs.Buffer.{buffer_bytes}
 use Rattle.jsgen_syntax.specs.Raw.{raw_text}
 use Rattle.jsgen_text.specs.Changes.{raw_of}
-use Rattle.jsgen_text.specs.Points.{ArePoints}
-use Rattle.jsgen_text.proofs.Appending.{Printed, printed_none, printed_piece, printed_end, stopped}
-use Rattle.jsgen_text.proofs.Plain.{are_plain, plain_ascii, behind_run}
+use Rattle.jsgen_strings.specs.Points.{ArePoints}
+use Rattle.jsgen_strings.proofs.Appending.{Printed, printed_none, printed_piece, printed_end, stopped}
+use Rattle.jsgen_strings.proofs.Plain.{are_plain, plain_ascii, behind_run}
 use Rattle.jsgen_text.proofs.RawTexts.{points_of_text, scalars_of_text, scalars_point, scalars_run, raw_run, raw_point, raw_end}
 use Rattle.jsgen_text.proofs.raw.print_raw.Goals as goal
 

@@ -4,8 +4,8 @@ use lib.Utf8.{scalars}
 use Rattle.jsgen_syntax.specs.Buffer.{buffer_bytes, indent_byte, indent_width}
 use Rattle.jsgen_syntax.specs.Raw.{raw_text_after}
 use Rattle.jsgen_text.specs.Changes.{raw_of}
-use Rattle.jsgen_text.specs.Points.{ArePoints}
-use Rattle.jsgen_text.proofs.Appending.{Printed}
+use Rattle.jsgen_strings.specs.Points.{ArePoints}
+use Rattle.jsgen_strings.proofs.Appending.{Printed}
 use Rattle.jsgen_text.proofs.raw.print_raw.Given as goal
 
 abbrev pub invariant-points : goal.invariant-points

@@ -2,7 +2,7 @@ use Rattle.std.proofs.Common.{ap, subst}
 use Rattle.std.specs.Str.{chars, encode_utf8_all}
 use Rattle.std.specs.Result.{OnErr}
 use Rattle.jsgen_syntax.specs.Buffer.{buffer_bytes, AppendsPrefix}
-use Rattle.jsgen_text.proofs.Appending.{same_text}
+use Rattle.jsgen_strings.proofs.Appending.{same_text}
 use Rattle.jsgen_text.proofs.RawTexts.{freed}
 use Rattle.jsgen_text.proofs.raw.print_str_escaping_script_close_tag.Goals as goal
 

@@ -1,0 +1,12 @@
+use Rattle.std.proofs.Common.{rules, sym, ◌∙◌, subst}
+use Rattle.std.specs.Str.{IsUtf8}
+use Rattle.std.proofs.lemmas.Str.{IsUtf8-encode}
+use Rattle.jsgen_syntax.proofs.Wtf8.{scalar_from}
+use Rattle.jsgen_strings.proofs.printed.print_past_ascii.Goals as goal
+
+pub from_utf8_unchecked-requires : goal.from_utf8_unchecked-requires
+from_utf8_unchecked-requires c =
+    subst IsUtf8 (sym c.requires.bytes) (IsUtf8-encode c.args.point.code (scalar_from c.args.point.code c.requires.code (sym c.is_surrogate.ensures ∙ c.if-is_surrogate.false)))
+
+pub returns-then-is_surrogate-clause-appended : goal.returns-then-is_surrogate-clause-appended
+returns-then-is_surrogate-clause-appended c = search rules

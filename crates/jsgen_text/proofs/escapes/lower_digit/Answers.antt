@@ -1,5 +1,0 @@
-use Rattle.std.proofs.Common.{arith}
-use Rattle.jsgen_text.proofs.escapes.lower_digit.Goals as goal
-
-pub returns-else-n-lt10 : goal.returns-else-n-lt10
-returns-else-n-lt10 c = grind arith
