@@ -11,7 +11,7 @@ use Rattle.jsgen_model.specs.Printing.{IsPrefix, Stops, Reaches}
 use Rattle.jsgen_printer.proofs.Prefixes.{whole_prefix, prefix_append, more_prefix}
 use Rattle.jsgen_printer.proofs.Stops.{layout_appends, layout_more, stops_within, stops_second, reaches_last}
 use Rattle.jsgen_place.specs.declared.place.Place.{Place}
-use Rattle.jsgen_place.specs.Place.{settings_of, context_of, place_of}
+use Rattle.jsgen_place.specs.Place.{place_of}
 use Rattle.jsgen_lists.specs.Lists.{listed}
 
 -- the last step, behind the first items

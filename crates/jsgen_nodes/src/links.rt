@@ -108,11 +108,7 @@ struct Arguments;
 impl<N: PrintNode> PrintMember<Argument<N>> for Arguments {
     ghost plain = { in_argument N.plain };
 
-    fn print_member(
-        argument: &Argument<N>,
-        p: &mut Printer,
-        place: Place,
-    ) -> Result<(), Memory> {
+    fn print_member(argument: &Argument<N>, p: &mut Printer, place: Place) -> Result<(), Memory> {
         match argument {
             Argument::Expression(expression) => expression.get().print(p, place),
         }

@@ -10,3 +10,6 @@ from_utf8_unchecked-requires c =
 
 pub returns-then-is_surrogate-clause-appended : goal.returns-then-is_surrogate-clause-appended
 returns-then-is_surrogate-clause-appended c = search rules
+
+pub returns-then-ascii_only-clause-appended : goal.returns-then-ascii_only-clause-appended
+returns-then-ascii_only-clause-appended c = search rules
