@@ -4,8 +4,9 @@ ghost use Rattle.jsgen.specs.Codegen.{has_printed};
 
 use crate::line::push_shown;
 use jsgen::{Codegen, Job, read_job};
+use jsgen_device::{MemSink, MemSource};
 use jsgen_syntax::Memory;
-use jsgen_tool::{MemSink, MemSource, run};
+use jsgen_tool::run;
 use jsgen_tree::Program;
 use std::alloc::Global;
 

@@ -1,7 +1,8 @@
 // Reads a job from standard input and writes its text to standard output.
 #![tactic(auto)]
 
-use jsgen_tool::{Status, StdSink, StdSource, run, say};
+use jsgen_device::{StdSink, StdSource};
+use jsgen_tool::{Status, run, say};
 use std::env;
 use std::io::{self, ErrorKind, Stderr, Stdout, Write};
 use std::process::ExitCode;

@@ -1,14 +1,13 @@
 // The program from bytes to bytes, over devices in memory.
 ghost use Rattle.std.specs.Prelude.{◌≡◌, ◌⊎◌, Some};
 ghost use Rattle.jsgen_tool.specs.Answers.{IsPrint, IsSomeJob};
-ghost use Rattle.jsgen_tool.specs.Memory.{source_left, source_faults};
-ghost use Rattle.jsgen_tool.specs.Transfer.{IsWithin};
+ghost use Rattle.jsgen_device.specs.Memory.{source_left, source_faults};
+ghost use Rattle.jsgen_device.specs.Transfer.{IsWithin};
 
 use crate::runs::{Seen, run_over, words_of};
+use jsgen_device::{Failed, LIMIT, MemSource, Source, StdSink, StdSource, SureSink, SureSource};
 use jsgen_syntax::Memory;
-use jsgen_tool::{
-    Failed, LIMIT, MemSource, Source, Status, StdSink, StdSource, SureSink, SureSource, run,
-};
+use jsgen_tool::{Status, run};
 use std::alloc::Global;
 
 const JOB: &str = "{\"rows\":[\

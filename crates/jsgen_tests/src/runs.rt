@@ -1,6 +1,7 @@
 // Runs of the program over devices in memory.
+use jsgen_device::{MemSink, MemSource};
 use jsgen_syntax::Memory;
-use jsgen_tool::{MemSink, MemSource, Status, run};
+use jsgen_tool::{Status, run};
 use std::alloc::Global;
 
 // What a run gave.

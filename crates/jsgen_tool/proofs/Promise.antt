@@ -10,7 +10,7 @@ use Rattle.jsgen_model.specs.declared.fault.TreeFault.{TreeFault}
 use Rattle.jsgen_reading_laws.proofs.Reading.{bytes_are_read, text_is_utf8}
 use Rattle.jsgen_rows.specs.Job.{job_of}
 use Rattle.jsgen_rows.proofs.Program.{job_is_program}
-use Rattle.jsgen_tool.specs.Device.{Rose}
+use Rattle.jsgen_device.specs.Device.{Rose}
 use Rattle.jsgen_tool.specs.Answers.{InputRow, OutputRow, SourceCount, OutCount, Due}
 use Rattle.jsgen_tool.specs.Headline.{HoldsJob, Prints, TookText}
 use Rattle.jsgen_tool.specs.Job.{IsJobOf}

@@ -6,8 +6,8 @@ use Rattle.jsgen_model.specs.declared.fault.TreeFault.{TreeFault}
 use Rattle.jsgen_tree.specs.Job.{JobData}
 use Rattle.jsgen_model.specs.Spell.{text_bytes}
 use Rattle.jsgen_rows.specs.declared.InputFault.{InputFault}
-use Rattle.jsgen_tool.specs.Device.{Rose, AppendsPart}
-use Rattle.jsgen_tool.specs.Transfer.{IsWithin, limit}
+use Rattle.jsgen_device.specs.Device.{Rose, AppendsPart}
+use Rattle.jsgen_device.specs.Transfer.{IsWithin, limit}
 use Rattle.jsgen_tool.specs.Job.{IsJobOf, Breaks, IsNoJob}
 use Rattle.jsgen_tool.specs.declared.status.Status.{Status}
 use Rattle.jsgen_tool.specs.declared.status.Status.TheVariants.{Done, Refused, NotJob, ReadFault, WriteFault, Memory, TooLong}

@@ -1,5 +1,7 @@
 -- What is said of a status, and the number that the program ends with.
-use Rattle.std.specs.Prelude.{ℕ, List, [], ◌++◌, codes, decimal, Option, Some, None}
+use Rattle.std.specs.Prelude.{ℕ, ◌≤◌, List, [], ◌++◌, codes, decimal, Option, Some, None}
+use Rattle.std.specs.Io.KnownBytes.{Appends}
+use Rattle.jsgen_device.specs.Device.{Rose, AppendsPart}
 use Rattle.jsgen_model.specs.declared.fault.TreeFault.{TreeFault}
 use Rattle.jsgen_model.specs.declared.fault.TreeFault.TheVariants as rules
 use Rattle.jsgen_rows.specs.declared.At.{At}
@@ -66,3 +68,9 @@ line_of ReadFault = codes "read failed\n"
 line_of WriteFault = codes "write failed\n"
 line_of Memory = codes "out of memory\n"
 line_of TooLong = codes "input too long\n"
+
+-- a line is told whole where the count did not rise, and otherwise some first part of it
+pub record Says (old new : Option (List ℕ)) (before now : ℕ) (line : List ℕ) : Type 0 where
+  pub later : before ≤ now
+  pub part : AppendsPart old new line
+  pub whole : (Rose before now → ⊥) → Appends old new line

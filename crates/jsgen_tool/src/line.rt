@@ -1,15 +1,13 @@
 // The line that is said of a status. It takes no memory.
 ghost use Rattle.std.specs.Prelude.{◌++◌, OnOk, OnErr, codes, decimal};
 ghost use Rattle.std.specs.Io.KnownBytes.{Appends};
-ghost use Rattle.jsgen_tool.specs.Device.{HasCause, AppendsPart};
-ghost use Rattle.jsgen_tool.specs.Lines.{row_text, field_text, spot_text, line_of};
-ghost use Rattle.jsgen_tool.specs.Transfer.{Says};
+ghost use Rattle.jsgen_device.specs.Device.{HasCause, AppendsPart};
+ghost use Rattle.jsgen_tool.specs.Lines.{Says, row_text, field_text, spot_text, line_of};
 
-use crate::device::{Failed, Sink};
 use crate::status::{Spot, Status};
-use crate::transfer::push_both;
 use itoa::Buffer;
 use jsgen::At;
+use jsgen_device::{Failed, Sink, push_both};
 
 // Pushes a text and a number behind it.
 fn push_number<K: Sink>(sink: &mut K, text: &[u8], number: usize) -> Result<(), Failed>

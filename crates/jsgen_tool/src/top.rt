@@ -4,16 +4,15 @@ ghost use Rattle.jsgen_tree.specs.Job.{JobData};
 ghost use Rattle.jsgen_model.specs.Plain.{IsPlain, IsQuiet};
 ghost use Rattle.jsgen_tool.specs.Headline.{HoldsJob, Prints};
 ghost use Rattle.jsgen_tool.specs.Answers.{IsPrint, InputRow, OutputRow, SourceCount, OutCount, Due};
-ghost use Rattle.jsgen_tool.specs.Device.{Rose};
-ghost use Rattle.jsgen_tool.specs.Lines.{line_of};
-ghost use Rattle.jsgen_tool.specs.Transfer.{TakesAtMost, Says, limit};
+ghost use Rattle.jsgen_device.specs.Device.{Rose};
+ghost use Rattle.jsgen_device.specs.Transfer.{TakesAtMost, limit};
+ghost use Rattle.jsgen_tool.specs.Lines.{Says, line_of};
 
-use crate::device::{Failed, Sink, Source};
 use crate::job::{Fault, answer};
 use crate::line::say;
 use crate::status::Status;
-use crate::transfer::{Unread, push_all, read_all};
 use jsgen::InputFault;
+use jsgen_device::{Failed, Sink, Source, Unread, push_all, read_all};
 use std::alloc::Global;
 
 fn is_print(words: &[String]) -> bool

@@ -1,6 +1,5 @@
 use Rattle.std.proofs.Common.{◌≡◌, ◌++◌, List, ℕ, subst, arith, codes}
-use Rattle.jsgen_tool.specs.Lines.{spot_text, line_of}
-use Rattle.jsgen_tool.specs.Transfer.{Says}
+use Rattle.jsgen_tool.specs.Lines.{Says, spot_text, line_of}
 use Rattle.jsgen_tool.proofs.Steps.{says_of}
 use Rattle.jsgen_tool.proofs.line.say.Goals as goal
 

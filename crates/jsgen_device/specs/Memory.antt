@@ -1,10 +1,10 @@
 -- What the devices in memory show of themselves, and what a call does to them.
 use Rattle.std.specs.Prelude.{◌≡◌, ℕ, ◌+◌, ◌-◌, ◌^◌, ◌↔◌, min, Bool, true, List, [], ◌∷◌, ◌++◌, length, take, drop, nat_eq, nat_lt, if◌then◌else◌, Option, Some, None, Result, Contains, IsErr, IsTrue, IfOk, OnErr}
-use Rattle.jsgen_tool.specs.declared.device.Failed.{Failed}
-use Rattle.jsgen_tool.specs.declared.memory.MemSource.{MemSource}
-use Rattle.jsgen_tool.specs.declared.memory.SureSource.{SureSource}
-use Rattle.jsgen_tool.specs.declared.memory.MemSink.{MemSink}
-use Rattle.jsgen_tool.specs.declared.memory.SureSink.{SureSink}
+use Rattle.jsgen_device.specs.declared.device.Failed.{Failed}
+use Rattle.jsgen_device.specs.declared.memory.MemSource.{MemSource}
+use Rattle.jsgen_device.specs.declared.memory.SureSource.{SureSource}
+use Rattle.jsgen_device.specs.declared.memory.MemSink.{MemSink}
+use Rattle.jsgen_device.specs.declared.memory.SureSink.{SureSink}
 
 -- what a counter says behind one more; it stops at its last value
 abbrev pub next_call : ℕ → ℕ

@@ -3,7 +3,7 @@ ghost use Rattle.std.specs.Prelude.{List, ℕ, OnOk, OnErr};
 ghost use Rattle.std.specs.Io.{ReadsAtMost};
 ghost use Rattle.std.specs.Io.KnownBytes.{ReadConsumes, Appends};
 ghost use Rattle.std.specs.declared.option.Option.{Option};
-ghost use Rattle.jsgen_tool.specs.Device.{HasCause, AppendsPart};
+ghost use Rattle.jsgen_device.specs.Device.{HasCause, AppendsPart};
 
 /// The device failed, and counted it.
 #[derive(Clone, Copy, Debug, PartialEq, Eq)]

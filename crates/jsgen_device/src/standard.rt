@@ -22,7 +22,7 @@ pub struct StdSource<R: Read> {
 }
 
 impl<R: Read> StdSource<R> {
-    ghost use Rattle.jsgen_tool.specs.Standard.{source_faults};
+    ghost use Rattle.jsgen_device.specs.Standard.{source_faults};
 
     pub fn new(inner: R) -> Self
         ensures { source_faults result ≡ 0 }
@@ -32,7 +32,7 @@ impl<R: Read> StdSource<R> {
 }
 
 impl<R: Read> Source for StdSource<R> {
-    ghost use Rattle.jsgen_tool.specs.Standard.{source_faults};
+    ghost use Rattle.jsgen_device.specs.Standard.{source_faults};
 
     ghost left = { λ s. None };
 
@@ -57,7 +57,7 @@ pub struct StdSink<W: Write> {
 }
 
 impl<W: Write> StdSink<W> {
-    ghost use Rattle.jsgen_tool.specs.Standard.{sink_faults};
+    ghost use Rattle.jsgen_device.specs.Standard.{sink_faults};
 
     pub fn new(inner: W) -> Self
         ensures { sink_faults result ≡ 0 }
@@ -67,7 +67,7 @@ impl<W: Write> StdSink<W> {
 }
 
 impl<W: Write> Sink for StdSink<W> {
-    ghost use Rattle.jsgen_tool.specs.Standard.{sink_faults};
+    ghost use Rattle.jsgen_device.specs.Standard.{sink_faults};
 
     ghost got = { λ s. None };
 

@@ -1,7 +1,7 @@
 -- What the devices over readers and writers of std show of themselves.
 use Rattle.std.specs.Prelude.{ℕ}
-use Rattle.jsgen_tool.specs.declared.standard.StdSource.{StdSource}
-use Rattle.jsgen_tool.specs.declared.standard.StdSink.{StdSink}
+use Rattle.jsgen_device.specs.declared.standard.StdSource.{StdSource}
+use Rattle.jsgen_device.specs.declared.standard.StdSink.{StdSink}
 
 -- how often it has failed
 abbrev pub source_faults : {R : Type 0} → StdSource R → ℕ

@@ -1,10 +1,10 @@
--- What reading an input whole, and saying a line, do to the devices.
+-- What reading an input whole does to the source.
 use Rattle.std.specs.Prelude.{◌≡◌, ⊤, ℕ, ◌<◌, ◌≤◌, List, length, IfSome, Option, Result, Ok, Err, Vec}
 use Rattle.std.specs.declared.alloc.Global.{Global}
-use Rattle.std.specs.Io.KnownBytes.{Appends, Consumes}
-use Rattle.jsgen_tool.specs.Device.{Rose, AppendsPart}
-use Rattle.jsgen_tool.specs.declared.transfer.Unread.{Unread}
-use Rattle.jsgen_tool.specs.declared.transfer.Unread.TheVariants.{Failed, TooLong}
+use Rattle.std.specs.Io.KnownBytes.{Consumes}
+use Rattle.jsgen_device.specs.Device.{Rose}
+use Rattle.jsgen_device.specs.declared.transfer.Unread.{Unread}
+use Rattle.jsgen_device.specs.declared.transfer.Unread.TheVariants.{Failed, TooLong}
 
 -- the most bytes of an input: 32 MiB
 abbrev pub limit : ℕ
@@ -27,9 +27,3 @@ HeldBy (Err other) held = ⊤
 abbrev pub UnreadCount : Result (Vec ℕ Global) Unread → ℕ → ℕ → Type 0
 UnreadCount (Err Failed) before now = (before ≤ now) × Rose before now
 UnreadCount other before now = now ≡ before
-
--- a line is told whole where the count did not rise, and otherwise some first part of it
-pub record Says (old new : Option (List ℕ)) (before now : ℕ) (line : List ℕ) : Type 0 where
-  pub later : before ≤ now
-  pub part : AppendsPart old new line
-  pub whole : (Rose before now → ⊥) → Appends old new line

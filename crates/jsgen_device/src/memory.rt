@@ -3,7 +3,7 @@ ghost use Rattle.std.specs.Prelude.{◌≡◌, ◌+◌, ◌≤◌, ◌++◌, [],
 ghost use Rattle.std.specs.Prelude.{Some};
 ghost use Rattle.std.specs.Io.{ReadsAtMost};
 ghost use Rattle.std.specs.Io.KnownBytes.{ReadConsumes, Appends};
-ghost use Rattle.jsgen_tool.specs.Device.{HasCause, AppendsPart};
+ghost use Rattle.jsgen_device.specs.Device.{HasCause, AppendsPart};
 
 use crate::device::{Failed, Sink, Source};
 use jsgen_syntax::Memory;
@@ -34,7 +34,7 @@ fn take_into(bytes: &[u8], at: usize, into: &mut [u8]) -> usize
 }
 
 impl MemSource {
-    ghost use Rattle.jsgen_tool.specs.Memory.{source_left, source_faults, source_calls, source_list};
+    ghost use Rattle.jsgen_device.specs.Memory.{source_left, source_faults, source_calls, source_list};
 
     /// The list holds the numbers of the calls that fail.
     pub fn new(bytes: Vec<u8>, fail: Vec<u64>) -> MemSource
@@ -54,7 +54,7 @@ impl MemSource {
 }
 
 impl Source for MemSource {
-    ghost use Rattle.jsgen_tool.specs.Memory.{source_left, source_faults, Pulls};
+    ghost use Rattle.jsgen_device.specs.Memory.{source_left, source_faults, Pulls};
 
     ghost left = { λ s. Some (source_left s) };
 
@@ -86,7 +86,7 @@ pub struct SureSource {
 }
 
 impl SureSource {
-    ghost use Rattle.jsgen_tool.specs.Memory.{sure_left};
+    ghost use Rattle.jsgen_device.specs.Memory.{sure_left};
 
     pub fn new(bytes: Vec<u8>) -> SureSource
         ensures { sure_left result ≡ bytes.items }
@@ -96,7 +96,7 @@ impl SureSource {
 }
 
 impl Source for SureSource {
-    ghost use Rattle.jsgen_tool.specs.Memory.{sure_left};
+    ghost use Rattle.jsgen_device.specs.Memory.{sure_left};
 
     ghost left = { λ s. Some (sure_left s) };
 
@@ -134,7 +134,7 @@ pub struct MemSink {
 }
 
 impl MemSink {
-    ghost use Rattle.jsgen_tool.specs.Memory.{sink_got, sink_faults, sink_room, sink_calls, sink_list, listed};
+    ghost use Rattle.jsgen_device.specs.Memory.{sink_got, sink_faults, sink_room, sink_calls, sink_list, listed};
 
     /// Takes its room at once, so that no push takes memory. The list holds the numbers of the calls that
     /// fail, each with how many bytes the call takes before. Another call fails where its bytes are more
@@ -178,7 +178,7 @@ impl MemSink {
 }
 
 impl Sink for MemSink {
-    ghost use Rattle.jsgen_tool.specs.Memory.{sink_got, sink_faults, Pushes};
+    ghost use Rattle.jsgen_device.specs.Memory.{sink_got, sink_faults, Pushes};
 
     ghost got = { λ s. Some (sink_got s) };
 
@@ -217,7 +217,7 @@ pub struct SureSink {
 }
 
 impl SureSink {
-    ghost use Rattle.jsgen_tool.specs.Memory.{sure_got, sure_faults, sure_room};
+    ghost use Rattle.jsgen_device.specs.Memory.{sure_got, sure_faults, sure_room};
 
     /// Takes its room at once, so that no push takes memory. A call fails where its bytes are more than the
     /// room that is left, and takes none of them.
@@ -242,7 +242,7 @@ impl SureSink {
 }
 
 impl Sink for SureSink {
-    ghost use Rattle.jsgen_tool.specs.Memory.{sure_got, sure_faults, SurelyPushes};
+    ghost use Rattle.jsgen_device.specs.Memory.{sure_got, sure_faults, SurelyPushes};
 
     ghost got = { λ s. Some (sure_got s) };
 

@@ -1,8 +1,8 @@
 // Reading an input whole, and pushing a text whole.
 ghost use Rattle.std.specs.Prelude.{◌+◌, ◌++◌, OnOk, OnErr};
 ghost use Rattle.std.specs.Io.KnownBytes.{Appends};
-ghost use Rattle.jsgen_tool.specs.Device.{HasCause, AppendsPart};
-ghost use Rattle.jsgen_tool.specs.Transfer.{HeldBy, UnreadCount, TakesAtMost, limit};
+ghost use Rattle.jsgen_device.specs.Device.{HasCause, AppendsPart};
+ghost use Rattle.jsgen_device.specs.Transfer.{HeldBy, UnreadCount, TakesAtMost, limit};
 
 use crate::device::{Failed, Sink, Source};
 use std::alloc::Global;
