@@ -1,17 +1,26 @@
 // Answers each line of standard input by a line of standard output: what the library and the program print for a job,
-// whether two programs have one normal form, and what the definitions and the library say of a text, a word or a string.
+// whether two programs have one normal form, what the definitions and the library say of a text, a word or a string, and
+// whether a check of its own holds.
 // tools/cases/generate writes both files.
 #![tactic(auto)]
 
+mod check;
 mod line;
 mod meaning;
+mod print_checks;
 mod printed;
 mod raw;
+mod run_checks;
+mod runs;
 mod string;
+mod syntax_checks;
+mod text_checks;
 mod tokens;
+mod tree_checks;
 mod value;
 mod word;
 
+use check::push_check;
 use jsgen_syntax::Memory;
 use meaning::push_comparison;
 use printed::push_printed;
@@ -43,6 +52,7 @@ fn push_answer(
         "spell" => push_printed_string(alloc, rest, answer),
         "raw" => push_raw(alloc, rest, answer),
         "name" => push_name(rest, answer),
+        "check" => push_check(alloc, rest, answer),
         _ => Ok(answer.push_str("no question")?),
     }
 }

@@ -3,10 +3,9 @@ ghost use Rattle.std.specs.Prelude.{◌≡◌, false};
 ghost use Rattle.jsgen.specs.Codegen.{has_printed};
 
 use crate::line::push_shown;
+use crate::runs::run_over;
 use jsgen::{Codegen, Job, read_job};
-use jsgen_device::{MemSink, MemSource};
 use jsgen_syntax::Memory;
-use jsgen_tool::run;
 use jsgen_tree::Program;
 use std::alloc::Global;
 
@@ -24,15 +23,10 @@ pub fn push_printed(alloc: Global, job: &str, answer: &mut String) -> Result<(),
 }
 
 fn program_text(alloc: Global, job: &str) -> Result<String, Memory> {
-    let mut words = Vec::new(alloc);
-    words.push("print".to_string(alloc)?)?;
-    let mut source = MemSource::new(job.as_bytes().to_vec(alloc)?, Vec::new(alloc));
-    let mut out = MemSink::new(alloc, 1000, Vec::new(alloc))?;
-    let mut err = MemSink::new(alloc, 100, Vec::new(alloc))?;
-    let status = run(alloc, &words, &mut source, &mut out, &mut err);
-    let mut text = format!(in alloc; "{} ", status.code())?;
-    push_bytes(&mut text, out.bytes())?;
-    push_bytes(&mut text, err.bytes())?;
+    let seen = run_over(alloc, &["print"], job.as_bytes(), &[], &[])?;
+    let mut text = format!(in alloc; "{} ", seen.status.code())?;
+    push_bytes(&mut text, &seen.out)?;
+    push_bytes(&mut text, &seen.err)?;
     Ok(text)
 }
 

@@ -1,4 +1,4 @@
-// The print calls of the library.
+// Checks of the print calls of the library.
 ghost use Rattle.std.specs.Prelude.{◌≡◌, false};
 ghost use Rattle.jsgen.specs.Codegen.{has_failed};
 
@@ -46,23 +46,26 @@ fn strings_as_said(alloc: Global, rows: &[(bool, &str, &str)]) -> bool {
     as_said
 }
 
-#[test]
-fn strings(rt: HostRuntime) {
-    assert!(rt; strings_as_said(rt.alloc(), &STRINGS));
+/// Strings, each by a printer of its own.
+pub fn strings(alloc: Global) -> bool {
+    strings_as_said(alloc, &STRINGS)
 }
 
-#[test]
-fn pieces(rt: HostRuntime) {
-    let mut printer = Codegen::new(rt.alloc()).with_options(options(false, true));
-    assert!(rt; print_pieces(&mut printer).is_ok());
-    assert!(rt; printer.into_source_text().as_str() == "x=\\u00E9<\\/SCRIPT>");
+/// A text of several pieces, in ASCII.
+pub fn pieces(alloc: Global) -> bool {
+    let mut printer = Codegen::new(alloc).with_options(options(false, true));
+    let is_printed = print_pieces(&mut printer).is_ok();
+    is_printed && printer.into_source_text().as_str() == "x=\\u00E9<\\/SCRIPT>"
 }
 
-#[test]
-fn a_new_printer_has_printed_nothing(rt: HostRuntime) {
-    let mut printer = Codegen::new(rt.alloc());
-    assert!(rt; !printer.has_printed() && !printer.has_failed());
-    assert!(rt; printer.print_str("").is_ok());
-    assert!(rt; printer.has_printed() && !printer.has_failed());
-    assert!(rt; printer.into_source_text().is_empty());
+/// What a printer says of itself before its first call and after it.
+pub fn a_new_printer_has_printed_nothing(alloc: Global) -> bool {
+    let mut printer = Codegen::new(alloc);
+    let is_new = !printer.has_printed() && !printer.has_failed();
+    let is_printed = printer.print_str("").is_ok();
+    is_new
+        && is_printed
+        && printer.has_printed()
+        && !printer.has_failed()
+        && printer.into_source_text().is_empty()
 }

@@ -4,7 +4,7 @@ use jsgen_syntax::Memory;
 use jsgen_tool::{Status, run};
 use std::alloc::Global;
 
-// What a run gave.
+/// What a run gave.
 #[derive(Drop)]
 pub struct Seen {
     pub status: Status,
@@ -13,6 +13,7 @@ pub struct Seen {
 }
 
 impl Seen {
+    /// Keeps the status and both texts.
     pub fn new(alloc: Global, status: Status, out: &[u8], err: &[u8]) -> Result<Seen, Memory> {
         Ok(Seen {
             status,
@@ -21,6 +22,7 @@ impl Seen {
         })
     }
 
+    /// Whether the run gave this.
     pub fn is(&self, code: u8, out: &str, err: &str) -> bool {
         self.status.code() == code
             && self.out.as_slice() == out.as_bytes()
@@ -28,6 +30,7 @@ impl Seen {
     }
 }
 
+/// The words of a command line.
 pub fn words_of(alloc: Global, texts: &[&str]) -> Result<Vec<String>, Memory> {
     let mut words = Vec::new(alloc);
     for text in texts {
@@ -36,7 +39,7 @@ pub fn words_of(alloc: Global, texts: &[&str]) -> Result<Vec<String>, Memory> {
     Ok(words)
 }
 
-// What a run gives whose source fails at the calls `pulls`, and whose output fails at the calls `pushes`.
+/// What a run gives whose source fails at the calls `pulls`, and whose output fails at the calls `pushes`.
 pub fn run_over(
     alloc: Global,
     texts: &[&str],

@@ -1,4 +1,4 @@
-// The program from bytes to bytes, over devices in memory.
+// Checks of the program from bytes to bytes, over devices in memory.
 ghost use Rattle.std.specs.Prelude.{◌≡◌, ◌⊎◌, Some};
 ghost use Rattle.jsgen_tool.specs.Answers.{IsPrint, IsSomeJob};
 ghost use Rattle.jsgen_device.specs.Memory.{source_left, source_faults};
@@ -31,16 +31,15 @@ fn are_no_commands(alloc: Global, rows: &[&[&str]]) -> Result<bool, Memory> {
     Ok(true)
 }
 
-// A job that is no text by itself.
-fn bytes_are_no_job(alloc: Global) -> Result<bool, Memory> {
+/// A job that is no text by itself.
+pub fn bytes_are_no_job(alloc: Global) -> Result<bool, Memory> {
     let seen = run_over(alloc, &["print"], b"{\"rows\":\"\xff\"}", &[], &[])?;
     Ok(seen.is(3, "", "not a job: Json\n"))
 }
 
-#[test]
-fn no_command_and_no_job(rt: HostRuntime) {
-    assert!(rt; are_no_commands(rt.alloc(), &OTHER_WORDS) == Ok(true));
-    assert!(rt; bytes_are_no_job(rt.alloc()) == Ok(true));
+/// Words that are no command.
+pub fn other_words_are_no_commands(alloc: Global) -> Result<bool, Memory> {
+    are_no_commands(alloc, &OTHER_WORDS)
 }
 
 // A source that gives at most seven bytes a call.
@@ -84,8 +83,8 @@ fn failed(alloc: Global, pulls: &[u64], pushes: &[(u64, usize)]) -> Result<Seen,
     run_over(alloc, &["print"], JOB.as_bytes(), pulls, pushes)
 }
 
-// At the first call, and at the call that would tell the end.
-fn failed_reads_write_nothing(alloc: Global) -> Result<bool, Memory> {
+/// At the first call, and at the call that would tell the end.
+pub fn failed_reads_write_nothing(alloc: Global) -> Result<bool, Memory> {
     Ok(
         failed(alloc, &[1], &[])?.is(4, "", "read failed\n")
             && failed(alloc, &[2], &[])?.is(4, "", "read failed\n")
@@ -95,8 +94,8 @@ fn failed_reads_write_nothing(alloc: Global) -> Result<bool, Memory> {
     )
 }
 
-// A failed write leaves a prefix, and a failed line the status.
-fn failed_writes_are_told(alloc: Global) -> Result<bool, Memory> {
+/// A failed write leaves a prefix, and a failed line the status.
+pub fn failed_writes_are_told(alloc: Global) -> Result<bool, Memory> {
     Ok(
         failed(alloc, &[], &[(1, 5)])?.is(5, "const", "write failed\n")
             && trickled(alloc, "{}", 1000, 100)?.is(3, "", "not a job: Missing head field 4\n")
@@ -104,30 +103,28 @@ fn failed_writes_are_told(alloc: Global) -> Result<bool, Memory> {
     )
 }
 
-#[test]
-fn devices_fail(rt: HostRuntime) {
-    assert!(rt; failed_reads_write_nothing(rt.alloc()) == Ok(true));
-    assert!(rt; failed_writes_are_told(rt.alloc()) == Ok(true));
+/// The longest input, and one a byte longer.
+pub fn the_limit_is_exact(alloc: Global) -> Result<bool, Memory> {
+    Ok(
+        spaces_end(alloc, LIMIT + 1, 7, "input too long\n")?
+            && spaces_end(alloc, LIMIT, 3, "not a job: Json\n")?,
+    )
 }
 
-#[test]
-fn the_limit_is_exact(rt: HostRuntime) {
-    assert!(rt; spaces_end(rt.alloc(), LIMIT + 1, 7, "input too long\n") == Ok(true));
-    assert!(rt; spaces_end(rt.alloc(), LIMIT, 3, "not a job: Json\n") == Ok(true));
-}
-
-#[test]
-fn readers_and_writers_of_std_serve(rt: HostRuntime) {
-    let alloc = rt.alloc();
-    let words = words_of(alloc, &["print"]).expect(&rt, "memory");
+/// A run over a slice and two vectors.
+pub fn readers_and_writers_of_std_serve(alloc: Global) -> Result<bool, Memory> {
+    let words = words_of(alloc, &["print"])?;
     let mut text = Vec::<u8>::new(alloc);
     let mut line = Vec::<u8>::new(alloc);
     let mut source = StdSource::new(JOB.as_bytes());
     let mut out = StdSink::new(&mut text);
     let mut err = StdSink::new(&mut line);
     let status = run(alloc, &words, &mut source, &mut out, &mut err);
-    assert!(rt; status == Status::Done && line.is_empty());
-    assert!(rt; text.as_slice() == "const a = 1 + 2;\n".as_bytes());
+    Ok(
+        status == Status::Done
+            && line.is_empty()
+            && text.as_slice() == "const a = 1 + 2;\n".as_bytes(),
+    )
 }
 
 // What the clauses of `run` give a caller whose devices cannot fail: a job that keeps the rules is printed,

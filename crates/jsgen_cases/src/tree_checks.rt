@@ -1,5 +1,5 @@
-// Spans and parentheses of a tree, the sets of its types, and options.
-use jsgen_rows::{Job, read_job};
+// Checks of spans and parentheses of a tree, the sets of its types, and options.
+use jsgen::{Job, read_job};
 use jsgen_syntax::{Memory, Span};
 use jsgen_tree::{
     CodegenOptions, CommentOptions, GetSpan, LegalComment, Node, NodeSet, NodeType, Statement,
@@ -71,10 +71,14 @@ fn seen(alloc: Global) -> (bool, bool) {
     }
 }
 
-#[test]
-fn parentheses_are_taken_off_and_sets_have_spans(rt: HostRuntime) {
-    assert!(rt; seen(rt.alloc()) == (true, true));
-    assert_eq!(rt; VariableDeclarationKind::Const.as_str(), "const");
+/// A tree with parentheses, and with a span of its own for each node.
+pub fn parentheses_are_taken_off_and_sets_have_spans(alloc: Global) -> bool {
+    seen(alloc) == (true, true)
+}
+
+/// The word of a declaration.
+pub fn kinds_of_declarations() -> bool {
+    VariableDeclarationKind::Const.as_str() == "const"
 }
 
 // Types, and whether they are expressions, statements or binding patterns.
@@ -119,9 +123,9 @@ fn types_as_said(rows: &[(NodeType, bool, bool, bool)]) -> bool {
     as_said
 }
 
-#[test]
-fn types_are_in_their_sets(rt: HostRuntime) {
-    assert!(rt; types_as_said(&TYPES));
+/// The sets that each type is of.
+pub fn types_are_in_their_sets() -> bool {
+    types_as_said(&TYPES)
 }
 
 fn is_cloned(alloc: Global, options: &CodegenOptions) -> Result<bool, Memory> {
@@ -151,25 +155,27 @@ fn minified_as_said(small: &CodegenOptions) -> bool {
         && small.comments == CommentOptions::disabled()
 }
 
-#[test]
-fn options_are_cloned(rt: HostRuntime) {
-    let alloc = rt.alloc();
-    assert!(rt; is_cloned(alloc, &CodegenOptions::default()) == Ok(true));
-    assert!(rt; linked_is_cloned(alloc) == Ok(true));
-    assert!(rt; minified_as_said(&CodegenOptions::minify()));
+/// Copies of options, and the minified ones.
+pub fn options_are_cloned(alloc: Global) -> Result<bool, Memory> {
+    Ok(
+        is_cloned(alloc, &CodegenOptions::default())?
+            && linked_is_cloned(alloc)?
+            && minified_as_said(&CodegenOptions::minify()),
+    )
 }
 
 fn is_told(legal: &LegalComment, none: bool, inline: bool, eof: bool) -> bool {
     legal.is_none() == none && legal.is_inline() == inline && legal.is_eof() == eof
 }
 
-#[test]
-fn legal_comments_are_told_apart(rt: HostRuntime) {
-    let path = "a.txt".to_string(rt.alloc()).expect(&rt, "memory");
-    let linked = LegalComment::Linked(path);
-    assert!(rt; is_told(&LegalComment::None, true, false, false));
-    assert!(rt; is_told(&LegalComment::Inline, false, true, false));
-    assert!(rt; is_told(&LegalComment::Eof, false, false, true));
-    assert!(rt; is_told(&LegalComment::External, false, false, false));
-    assert!(rt; is_told(&linked, false, false, false));
+/// The kinds of legal comments, by their tests.
+pub fn legal_comments_are_told_apart(alloc: Global) -> Result<bool, Memory> {
+    let linked = LegalComment::Linked("a.txt".to_string(alloc)?);
+    Ok(
+        is_told(&LegalComment::None, true, false, false)
+            && is_told(&LegalComment::Inline, false, true, false)
+            && is_told(&LegalComment::Eof, false, false, true)
+            && is_told(&LegalComment::External, false, false, false)
+            && is_told(&linked, false, false, false),
+    )
 }

@@ -1,4 +1,4 @@
-// Operators and levels, and the buffer.
+// Checks of operators and levels, and of the buffer.
 ghost use Rattle.std.specs.Prelude.{◌≡◌, ◌*◌, ◌^◌, ◌<◌};
 ghost use Rattle.jsgen_syntax.specs.Buffer.{indent_width};
 
@@ -121,11 +121,9 @@ fn is_below(level: &Precedence, at: usize, levels: &[(Precedence, &str)]) -> boo
     as_said
 }
 
-#[test]
-fn operators_and_levels(rt: HostRuntime) {
-    assert!(rt; binary_as_said(&BINARY));
-    assert!(rt; logical_as_said(&LOGICAL));
-    assert!(rt; levels_as_said(&LEVELS));
+/// The spelling and the levels of operators, and the order of levels.
+pub fn operators_and_levels() -> bool {
+    binary_as_said(&BINARY) && logical_as_said(&LOGICAL) && levels_as_said(&LEVELS)
 }
 
 fn holds(alloc: Global, indent: IndentChar, width: usize, depth: usize, text: &str) -> bool
@@ -166,11 +164,10 @@ fn write(buffer: &mut CodeBuffer, depth: usize, width: usize) -> Result<(), Memo
     buffer.print_indent(depth)
 }
 
-#[test]
-fn buffer(rt: HostRuntime) {
-    let alloc = rt.alloc();
-    assert!(rt; holds(alloc, IndentChar::Tab, 1, 2, "{\né;\t\t"));
-    assert!(rt; holds(alloc, IndentChar::Space, 2, 1, "{\né;  "));
-    assert!(rt; holds(alloc, IndentChar::Space, 2, 0, "{\né;"));
-    assert!(rt; holds(alloc, IndentChar::Space, 0, 3, "{\né;"));
+/// What a buffer holds, and shows of its end.
+pub fn buffer(alloc: Global) -> bool {
+    holds(alloc, IndentChar::Tab, 1, 2, "{\né;\t\t")
+        && holds(alloc, IndentChar::Space, 2, 1, "{\né;  ")
+        && holds(alloc, IndentChar::Space, 2, 0, "{\né;")
+        && holds(alloc, IndentChar::Space, 0, 3, "{\né;")
 }
