@@ -222,7 +222,7 @@ def main(number):
         one, two = sum(of.values()), sum(more[crate].values())
         print(f"| `{crate}` | {one:.0f} | {two:.0f} | {(two - one) / number:.2f} | {peaks[crate]} | {higher[crate]} | {(higher[crate] - peaks[crate]) / number:.1f} |")
     print(f"| all | {whole:.0f} | {all_of:.0f} | {(all_of - whole) / number:.2f} | | | |")
-    for crate in ("jsgen_printer", "jsgen_nodes", "jsgen_rows"):
+    for crate in ("jsgen_printer", "jsgen_nodes", "jsgen_fields", "jsgen_expression_rows", "jsgen_statement_rows", "jsgen_rows"):
         before, after = by_function(work / "before", crate), by_function(work / "after", crate)
         for function, seconds in sorted(before.items()):
             if after.get(function, 0) > 1.1 * seconds + 0.1:

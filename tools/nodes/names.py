@@ -9,7 +9,7 @@ CRATE = REPOSITORY / "crates" / "jsgen_tree"
 SPECS = "Rattle.jsgen_tree.specs"
 DECLARED = SPECS + ".declared"
 MODEL = "Rattle.jsgen_model"
-READER = "Rattle.jsgen_rows"
+READER = "Rattle.jsgen_fields"
 
 
 def nodes_in_rust(table):

@@ -5,9 +5,9 @@ use Rattle.std.specs.Str.{is_utf8}
 use Rattle.std.proofs.lemmas.Str.{IsUtf8-from_is_utf8, is_utf8-from_IsUtf8}
 use Rattle.serde_json.specs.Data.{Data}
 use Rattle.serde_json.specs.Read.{read}
-use Rattle.jsgen_rows.specs.declared.InputFault.{InputFault}
-use Rattle.jsgen_rows.specs.declared.InputFault.TheVariants.{Json}
-use Rattle.jsgen_rows.specs.Values.{or_fault}
+use Rattle.jsgen_fields.specs.declared.InputFault.{InputFault}
+use Rattle.jsgen_fields.specs.declared.InputFault.TheVariants.{Json}
+use Rattle.jsgen_fields.specs.Values.{or_fault}
 use Rattle.jsgen_rows.specs.Job.{json_of}
 
 chosen : (b : Bool) (r s : Result Data InputFault) → b ≡ true → (if b then r else s) ≡ r

@@ -2,13 +2,13 @@
 use Rattle.std.proofs.Common.{◌≡◌, List, [], ◌∷◌, ◌++◌, ◌-◌, length, Some, ap, ◌∙◌}
 use Rattle.std.proofs.lemmas.List.{map-append, length-map}
 use Rattle.jsgen_tree.specs.Tree.{Tree}
-use Rattle.jsgen_rows.specs.Values.{at}
+use Rattle.jsgen_fields.specs.Values.{at}
 use Rattle.jsgen_pool.specs.Pool.{Entry}
-use Rattle.jsgen_rows.specs.Reads.{root_of, root_found}
-use Rattle.jsgen_rows.specs.Kept.{entry, entries}
+use Rattle.jsgen_fields.specs.Reads.{root_of, root_found}
+use Rattle.jsgen_fields.specs.Kept.{entry, entries}
 use Rattle.jsgen_pool.specs.declared.Kept.{Kept}
-use Rattle.jsgen_rows.specs.declared.kept.Row.{Row}
-use Rattle.jsgen_rows.proofs.Listed.{slice_get-last, length-last}
+use Rattle.jsgen_fields.specs.declared.kept.Row.{Row}
+use Rattle.jsgen_fields.proofs.Listed.{slice_get-last, length-last}
 
 at_last : (es : List Entry) (e : Entry) → root_of (es ++ e ∷ []) ≡ root_found (at (length es) 0) (Some e)
 at_last es e = ap (λ o. root_found (at (length (es ++ e ∷ []) - 1) 0) o) (slice_get-last es e) ∙ ap (λ n. root_found (at n 0) (Some e)) (length-last es e)

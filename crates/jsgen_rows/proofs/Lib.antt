@@ -1,12 +1,7 @@
-pub mod Digits
-pub mod Gives
 pub mod JobLaw
 pub mod Json
 pub mod LastRow
-pub mod Listed
 pub mod Pool
 pub mod Program
 pub mod RowSteps
-pub mod Sets
 pub mod Told
-pub mod WordLengths

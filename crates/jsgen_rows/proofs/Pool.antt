@@ -6,10 +6,10 @@ use Rattle.jsgen_tree.specs.Sets.{in_set}
 use Rattle.jsgen_tree.specs.declared.types.NodeSet.{NodeSet}
 use Rattle.jsgen_pool.specs.Pool.{Entry, there, taken, take_row, take_found, take_entry}
 use Rattle.jsgen_pool.specs.declared.TakeFault.TheVariants.{Absent}
-use Rattle.jsgen_rows.specs.declared.At.{At}
-use Rattle.jsgen_rows.specs.declared.InputFault.TheVariants.{Child, Shared}
-use Rattle.jsgen_rows.specs.Reads.{told}
-use Rattle.jsgen_rows.specs.Meaning.{is_used, found_faults, unless, no_tree}
+use Rattle.jsgen_fields.specs.declared.At.{At}
+use Rattle.jsgen_fields.specs.declared.InputFault.TheVariants.{Child, Shared}
+use Rattle.jsgen_fields.specs.Reads.{told}
+use Rattle.jsgen_fields.specs.Meaning.{is_used, found_faults, unless, no_tree}
 
 -- an entry whose tree is t, used or not
 abbrev pub seen : Bool → Tree → Entry

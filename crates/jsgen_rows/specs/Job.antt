@@ -1,21 +1,16 @@
 -- What the bytes of a job mean.
-use Rattle.std.specs.Prelude.{◌≡◌, ℕ, List, Result, Ok, Err, if◌then◌else◌}
+use Rattle.std.specs.Prelude.{◌≡◌, ℕ, List, Result, Err, if◌then◌else◌}
 use Rattle.std.specs.Str.{is_utf8}
 use Rattle.serde_json.specs.Data.{Data}
 use Rattle.serde_json.specs.Read.{read}
 use Rattle.jsgen_tree.specs.Job.{JobData, no_tables}
 use Rattle.jsgen_tree.specs.Options.{options_plain}
 use Rattle.jsgen_tree.specs.Plain.{program_plain}
-use Rattle.jsgen_rows.specs.declared.InputFault.{InputFault}
-use Rattle.jsgen_rows.specs.declared.InputFault.TheVariants.{Json, Memory}
+use Rattle.jsgen_fields.specs.declared.InputFault.{InputFault}
+use Rattle.jsgen_fields.specs.declared.InputFault.TheVariants.{Json, Memory}
 use Rattle.jsgen_rows.specs.declared.Job.{Job}
-use Rattle.jsgen_rows.specs.Values.{after, or_fault}
-use Rattle.jsgen_rows.specs.Meaning.{value_meaning}
-
--- A result of code beside what the definition gives: it is the same, but want of memory may come in its place.
-abbrev pub Same : {T V : Type 0} → (T → V) → Result T InputFault → Result V InputFault → Type 0
-Same plain (Ok x) meant = meant ≡ Ok (plain x)
-Same plain (Err e) meant = (e ≡ Memory → ⊥) → meant ≡ Err e
+use Rattle.jsgen_fields.specs.Values.{after, or_fault}
+use Rattle.jsgen_fields.specs.Meaning.{value_meaning}
 
 -- the plain data of a job
 abbrev pub job_plain : Job → JobData

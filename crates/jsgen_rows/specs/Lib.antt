@@ -1,8 +1,1 @@
 pub mod Job
-pub mod Kept
-pub mod Meaning
-pub mod Names
-pub mod Others
-pub mod Parts
-pub mod Reads
-pub mod Values

@@ -2,11 +2,10 @@
 ghost use Rattle.std.specs.Prelude.{◌≡◌};
 ghost use Rattle.serde_json.specs.View.{view};
 ghost use Rattle.jsgen_tree.specs.Options.{options_plain};
-ghost use Rattle.jsgen_rows.specs.Job.{Same};
-ghost use Rattle.jsgen_rows.specs.Values.{head, field, none_given, text_options, comment_options, choice_given, options_read, options_in};
+ghost use Rattle.jsgen_fields.specs.Values.{Same, head, field, none_given, text_options, comment_options, choice_given, options_read, options_in};
 
-use crate::values::{not_given, optional_value, present};
-use crate::{At, InputFault};
+use jsgen_fields::values::{not_given, optional_value, present};
+use jsgen_fields::{At, InputFault};
 use jsgen_tree::CodegenOptions;
 use serde_json::Value;
 

@@ -2,16 +2,15 @@
 ghost use Rattle.std.specs.Prelude.{◌≡◌, [], Some, None, MatchOption, map, ⊤};
 ghost use Rattle.serde_json.specs.View.{view};
 ghost use Rattle.jsgen_tree.specs.Plain.{node_plain, program_plain};
-ghost use Rattle.jsgen_rows.specs.Job.{Same};
-ghost use Rattle.jsgen_rows.specs.Values.{at, unread_head, rows_listed, rows_in};
-ghost use Rattle.jsgen_rows.specs.Reads.{Gives, root_found, read_row, read_rows, root_of};
-ghost use Rattle.jsgen_rows.specs.Kept.{entry, entries, row_plain};
+ghost use Rattle.jsgen_fields.specs.Values.{Same, at, unread_head, rows_listed, rows_in};
+ghost use Rattle.jsgen_fields.specs.Reads.{Gives, root_found, read_row, read_rows, root_of};
+ghost use Rattle.jsgen_fields.specs.Kept.{entry, entries, row_plain};
 
-use crate::floats::holds_float;
-use crate::kept::{ReadNode, Row};
 use crate::rows::read_typed;
-use crate::values::{not_given, present, span_of, type_of};
-use crate::{At, InputFault};
+use jsgen_fields::floats::holds_float;
+use jsgen_fields::kept::{ReadNode, Row};
+use jsgen_fields::values::{not_given, present, span_of, type_of};
+use jsgen_fields::{At, InputFault};
 use jsgen_pool::Kept;
 use jsgen_tree::Program;
 use serde_json::Value;
@@ -84,7 +83,7 @@ fn unread_head(value: &Value) -> Result<(), InputFault>
     not_given(At::of_head(3), value, "private")
 }
 
-#[tactic(auto, using(crate::proofs::Listed::lists))]
+#[tactic(auto, using(jsgen_fields::proofs::Listed::lists))]
 fn rows_listed(at: At, given: &Value) -> Result<&Vec<Value>, InputFault>
     ensures { Same (λ v. map view v.now.items) result (rows_listed at (view given.now)) }
 {

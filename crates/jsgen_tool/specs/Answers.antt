@@ -5,7 +5,7 @@ use Rattle.std.specs.Io.KnownBytes.{Keeps, Appends}
 use Rattle.jsgen_model.specs.declared.fault.TreeFault.{TreeFault}
 use Rattle.jsgen_tree.specs.Job.{JobData}
 use Rattle.jsgen_model.specs.Spell.{text_bytes}
-use Rattle.jsgen_rows.specs.declared.InputFault.{InputFault}
+use Rattle.jsgen_fields.specs.declared.InputFault.{InputFault}
 use Rattle.jsgen_device.specs.Device.{Rose, AppendsPart}
 use Rattle.jsgen_device.specs.Transfer.{IsWithin, limit}
 use Rattle.jsgen_tool.specs.Job.{IsJobOf, Breaks, IsNoJob}

@@ -6,8 +6,8 @@ use Rattle.jsgen_tree.specs.Job.{JobData}
 use Rattle.jsgen_model.specs.Valid.{job_breaches, IsValid}
 use Rattle.jsgen_model.specs.declared.fault.TreeFault.{TreeFault}
 use Rattle.jsgen_rows.specs.Job.{job_of}
-use Rattle.jsgen_rows.specs.declared.InputFault.{InputFault}
-use Rattle.jsgen_rows.specs.declared.InputFault.TheVariants as faults
+use Rattle.jsgen_fields.specs.declared.InputFault.{InputFault}
+use Rattle.jsgen_fields.specs.declared.InputFault.TheVariants as faults
 use Rattle.jsgen_tool.specs.declared.job.Fault.{Fault}
 use Rattle.jsgen_tool.specs.declared.job.Fault.TheVariants.{NotJob, Refused, Memory}
 

@@ -4,9 +4,9 @@ use Rattle.std.specs.Io.KnownBytes.{Appends}
 use Rattle.jsgen_device.specs.Device.{Rose, AppendsPart}
 use Rattle.jsgen_model.specs.declared.fault.TreeFault.{TreeFault}
 use Rattle.jsgen_model.specs.declared.fault.TreeFault.TheVariants as rules
-use Rattle.jsgen_rows.specs.declared.At.{At}
-use Rattle.jsgen_rows.specs.declared.InputFault.{InputFault}
-use Rattle.jsgen_rows.specs.declared.InputFault.TheVariants as faults
+use Rattle.jsgen_fields.specs.declared.At.{At}
+use Rattle.jsgen_fields.specs.declared.InputFault.{InputFault}
+use Rattle.jsgen_fields.specs.declared.InputFault.TheVariants as faults
 use Rattle.jsgen_tool.specs.declared.status.Status.{Status}
 use Rattle.jsgen_tool.specs.declared.status.Status.TheVariants.{Done, Refused, Usage, NotJob, ReadFault, WriteFault, Memory, TooLong}
 use Rattle.jsgen_tool.specs.declared.status.Spot.{Spot}

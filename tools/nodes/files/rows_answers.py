@@ -1,19 +1,17 @@
-"""The reader's proofs/rows: the answers of a row's function, which name what its calls ensure, one after another."""
+"""Proofs of the families of rows: the answers of a row's function, which name what its calls ensure, one after another."""
 
 import re
 
 import layout
-from files.rows_functions import FOLDER, by_hand, calls, parts
+from files.rows_functions import by_hand, calls, crate_of, parts
 from files.rows_kept import set_of
 from names import READER, row_names
 from table import snake
 
-PROOFS = FOLDER.replace("/src/", "/proofs/")
-
 
 def write(table):
-    return {f"{PROOFS}/{part}/read_{snake(n.name)}/Answers.antt": answers(table, part, n)
-            for part, _, nodes in parts(table) for n in nodes if not by_hand(n) and n.fields}
+    return {f"crates/{crate_of(file)}/proofs/{part}/read_{snake(n.name)}/Answers.antt": answers(table, part, file, n)
+            for part, file, nodes in parts(table) for n in nodes if not by_hand(n) and n.fields}
 
 
 def suffixes(names):
@@ -25,8 +23,8 @@ def suffixes(names):
     return every
 
 
-def answers(table, part, n):
-    function = f"{READER}.proofs.rows.{part}.read_{snake(n.name)}"
+def answers(table, part, file, n):
+    function = f"Rattle.{crate_of(file)}.proofs.{part}.read_{snake(n.name)}"
     every = [call for _, call in calls(table, n)]
     each, read = [], []
     for call, end in zip(every, suffixes([call.split("(")[0] for call in every])):

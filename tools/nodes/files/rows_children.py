@@ -12,7 +12,7 @@ CHILD = """ensures {{ IfOk result (λ child. option_map {plain} child
 
 
 def write(table):
-    return {"crates/jsgen_rows/src/child_sets.rt": impls(table), "crates/jsgen_rows/src/set_fields.rt": readers(table)}
+    return {"crates/jsgen_fields/src/child_sets.rt": impls(table), "crates/jsgen_fields/src/set_fields.rt": readers(table)}
 
 
 def places(table):

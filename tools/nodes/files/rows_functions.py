@@ -1,5 +1,5 @@
-"""The reader's src/rows: a function for each type, and the choice among them, in parts; and specs/Parts.antt: which
-types are in which part."""
+"""A function for each type of row, in parts: a crate for each family, which is a file of the table; the choice among the
+parts, in crates/jsgen_rows/src/rows.rt; and crates/jsgen_fields/specs/Parts.antt: which types are in which part."""
 
 import layout
 from files.rows_children import reader_of
@@ -7,17 +7,23 @@ from files.rows_kept import inner, kept, made_of, set_of
 from names import READER, SPECS, TYPES, types_in_antt
 from table import snake
 
-FOLDER = "crates/jsgen_rows/src/rows"
 MOST = 15       # functions in a file
 
 
 def write(table):
-    files = {f"{FOLDER}/{name}.rt": one_file(table, name, table.files[file], nodes) for name, file, nodes in parts(table)}
-    return files | {f"{FOLDER}/mod.rt": choice(table), "crates/jsgen_rows/specs/Parts.antt": specs(table)}
+    files = {f"crates/{crate_of(file)}/src/{name}.rt": one_file(table, name, table.files[file], nodes)
+             for name, file, nodes in parts(table)}
+    roots = {f"crates/{crate_of(file)}/src/lib.rt": root(table, file) for file in table.files}
+    return files | roots | {"crates/jsgen_rows/src/rows.rt": choice(table), "crates/jsgen_fields/specs/Parts.antt": specs(table)}
+
+
+def crate_of(file):
+    """The crate of a family of rows."""
+    return f"jsgen_{file.removesuffix('s')}_rows"
 
 
 def by_hand(n):
-    """Whether the type has a field of a form of its own; src/literals.rt has its function."""
+    """Whether the type has a field of a form of its own; the file literals.rt of its crate has its function."""
     return any(f.parts for f in n.fields)
 
 
@@ -46,6 +52,18 @@ def specs(table):
                        "\n\n".join(each))
 
 
+def about(text):
+    return f"Rows of a job: {text[0].lower()}{text[1:]}"
+
+
+def root(table, file):
+    """A family's lib.rt."""
+    every = [(name, nodes) for name, of, nodes in parts(table) if of == file]
+    mods = [f"pub mod {name};" for name, _ in every]
+    mods += ["mod literals;"] if any(by_hand(n) for _, nodes in every for n in nodes) else []
+    return layout.RUST + f"//! {about(table.files[file])}\n#![tactic(auto)]\n\n" + "\n".join(mods) + "\n"
+
+
 def ghosts_of(nodes):
     return [("Rattle.std.specs.Prelude", ["◌≡◌", "true", "false"]), ("Rattle.serde_json.specs.View", ["view"]),
             (f"{SPECS}.Fields", [snake(n.name) + "_fields" for n in nodes]),
@@ -57,24 +75,24 @@ def one_file(table, name, text, every):
     sets = list({s.name: s for n in nodes if (s := set_of(table, n.name))}.values())
     values = ["needed_text", "optional_text", "needed_digits", "optional_flag", "field_not_given", "neither_given"]
     homes = [("crate::literals", [f"read_{snake(n.name)}" for n in every if by_hand(n)]),
-             ("crate::set_fields", [reader_of(f) for n in nodes for f in table.children(n)]),
-             ("crate::fields", ["boxed"]), ("crate::strings", ["needed_units"]), ("crate::values", values),
-             ("crate::words", [f"needed_{w.short}" for w in table.words.values()]),
-             ("crate::kept", ["ReadNode", "Row"] + [snake(s.name) + "_row" for s in sets]),
-             ("crate::others", [kept(table, s) for s in sets if inner(table, s)]),
-             ("crate", ["InputFault"]), ("jsgen_pool", ["Kept"]), ("jsgen_syntax", ["Span"]),
+             ("jsgen_fields::set_fields", [reader_of(f) for n in nodes for f in table.children(n)]),
+             ("jsgen_fields::fields", ["boxed"]), ("jsgen_fields::strings", ["needed_units"]), ("jsgen_fields::values", values),
+             ("jsgen_fields::words", [f"needed_{w.short}" for w in table.words.values()]),
+             ("jsgen_fields::kept", ["ReadNode", "Row"] + [snake(s.name) + "_row" for s in sets]),
+             ("jsgen_fields::others", [kept(table, s) for s in sets if inner(table, s)]),
+             ("jsgen_fields", ["InputFault"]), ("jsgen_pool", ["Kept"]), ("jsgen_syntax", ["Span"]),
              ("jsgen_tree", list(dict.fromkeys(["NodeType"] + [n.name for n in nodes] + [s.name for s in sets]))),
              ("serde_json", ["Value"]), ("std::alloc", ["Global"])]
     homes = [(module, list(dict.fromkeys(names))) for module, names in homes]
     body = "\n\n".join([function(table, n) for n in nodes] + [of_part(table, name, every)])
     ghosts = ghosts_of(nodes) + [(f"{READER}.specs.Parts", [f"is_in_{part}" for part, _ in tested(table)])]
-    return layout.rust(f"Rows of a job: {text[0].lower()}{text[1:]}", ghosts, TYPES, homes, body)
+    return layout.rust(about(text), ghosts, TYPES, homes, body)
 
 
 def function(table, n):
     lines = "".join(f"    let _ = {name};\n" for name in unused(table, n)) + fields(table, n)
     held = "".join(f", {f.rust}" for f in n.in_rust())
-    return f"""#[tactic(auto, unfolding(crate::specs::Reads::read_node))]
+    return f"""#[tactic(auto, unfolding(jsgen_fields::specs::Reads::read_node))]
 fn read_{snake(n.name)}<N: ReadNode + Drop>(
     alloc: Global,
     kept: &mut Vec<Kept<Row<N>>>,
@@ -187,14 +205,12 @@ def test(name, nodes):
 
 
 def choice(table):
-    mods = "".join(f"mod {name};\n" for name in sorted(name for name, _, _ in parts(table)))
     asked = "".join(f"    if is_in_{name}(node_type) {{\n        return read_in_{name}{TYPED};\n    }}\n" for name, _ in tested(table))
     last = parts(table)[-1][0]
     whole = f"/// The row of a type.\npub fn read_typed{HEAD}{GIVES}{{\n{asked}    read_in_{last}{TYPED}\n}}"
     body = "\n\n".join([test(name, nodes) for name, nodes in tested(table)] + [whole])
-    homes = [(f"crate::rows::{name}", [f"read_in_{name}"]) for name, _, _ in parts(table)]
-    homes += [("crate::kept", ["ReadNode", "Row"]), ("crate", ["InputFault"]), ("jsgen_pool", ["Kept"]),
+    homes = [(f"{crate_of(file)}::{name}", [f"read_in_{name}"]) for name, file, _ in parts(table)]
+    homes += [("jsgen_fields::kept", ["ReadNode", "Row"]), ("jsgen_fields", ["InputFault"]), ("jsgen_pool", ["Kept"]),
               ("jsgen_syntax", ["Span"]), ("jsgen_tree", ["NodeType"]), ("serde_json", ["Value"]), ("std::alloc", ["Global"])]
     ghosts = ghosts_of([]) + [(f"{READER}.specs.Parts", [f"is_in_{name}" for name, _ in tested(table)])]
-    text = layout.rust("The rows of a job, by their types.", ghosts, [], homes, body)
-    return text.replace("\n\nuse ", f"\n\n{mods}\nuse ", 1)
+    return layout.rust("The rows of a job, by their types.", ghosts, [], homes, body)

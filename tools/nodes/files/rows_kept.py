@@ -66,8 +66,8 @@ def plain_of_set(table, s):
 # ---- src/kept.rt
 
 def write(table):
-    return {"crates/jsgen_rows/src/kept.rt": rust(table), "crates/jsgen_rows/specs/Kept.antt": specs(table),
-            "crates/jsgen_rows/src/others.rt": others(table), "crates/jsgen_rows/specs/Others.antt": others_specs(table)}
+    return {"crates/jsgen_fields/src/kept.rt": rust(table), "crates/jsgen_fields/specs/Kept.antt": specs(table),
+            "crates/jsgen_fields/src/others.rt": others(table), "crates/jsgen_fields/specs/Others.antt": others_specs(table)}
 
 
 def rust(table):
@@ -76,7 +76,7 @@ def rust(table):
     plains = [s.plain for s in table.nesting()] + ["in_" + snake(s.name) for s in table.nesting()]
     ghosts = [("Rattle.std.specs.Prelude", ["◌≡◌", "Ok", "Some", "None", "option_map", "if◌then◌else◌"]),
               (f"{SPECS}.Tree", ["type_of"]), (f"{SPECS}.Plain", ["node_plain"]),
-              (f"{SPECS}.Rows", plains + ["program_row"]), (f"{READER}.specs.Job", ["Same"]),
+              (f"{SPECS}.Rows", plains + ["program_row"]), (f"{READER}.specs.Values", ["Same"]),
               (f"{READER}.specs.Meaning", ["is_program"]), (f"{READER}.specs.Kept", ["row_plain"])]
     tree = list(table.nodes) + list(table.sets) + [s.name + "Node" for s in table.nesting()] + ["Node", "NodeType"]
     homes = [("crate", ["InputFault"]), ("crate::others", [kept(table, s) for s in outer(table)]), ("jsgen_pool", ["Typed"]),

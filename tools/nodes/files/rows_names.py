@@ -9,8 +9,8 @@ MOST = 50
 
 def write(table):
     tables = in_tables(list(table.nodes))
-    invariant = {"crates/jsgen_rows/proofs/names/first_named/Invariants.antt": left()}
-    return {"crates/jsgen_rows/specs/Names.antt": specs(tables), "crates/jsgen_rows/src/names.rt": rust(tables)} | invariant
+    invariant = {"crates/jsgen_fields/proofs/names/first_named/Invariants.antt": left()}
+    return {"crates/jsgen_fields/specs/Names.antt": specs(tables), "crates/jsgen_fields/src/names.rt": rust(tables)} | invariant
 
 
 def in_tables(types):

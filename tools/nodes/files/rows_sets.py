@@ -21,7 +21,7 @@ def write(table):
     homes += [(f"{READER}.specs.declared.others.{kept(table, s)}", [kept(table, s)]) for s in outer(table)]
     aliases = TYPES + [(f"{DECLARED}.sets.{s.name}.TheVariants", snake(s.name) + "s") for s in large(table)]
     about = "Which of the sets that children are of hold the rows that are kept by their set."
-    return {"crates/jsgen_rows/proofs/Sets.antt": layout.antt(about, homes, aliases, "\n\n".join(parts))}
+    return {"crates/jsgen_fields/proofs/Sets.antt": layout.antt(about, homes, aliases, "\n\n".join(parts))}
 
 
 def tests(table):

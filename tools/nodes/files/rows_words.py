@@ -10,8 +10,8 @@ MOST = 5
 def write(table):
     words = [w for w in table.words.values() if not is_data(w)]
     many = [w for w in words if len(w.words) > MOST]
-    files = {"crates/jsgen_rows/src/words.rt": rust(words)}
-    return files | {f"crates/jsgen_rows/proofs/words/{w.short}_by_word/Answers.antt": answers(w) for w in many}
+    files = {"crates/jsgen_fields/src/words.rt": rust(words)}
+    return files | {f"crates/jsgen_fields/proofs/words/{w.short}_by_word/Answers.antt": answers(w) for w in many}
 
 
 def rust(words):
@@ -21,9 +21,9 @@ def rust(words):
         parts += [reader(w)]
     ghosts = [("Rattle.std.specs.Prelude", ["◌≡◌", "true", "option_map"]), ("Rattle.serde_json.specs.View", ["view"])]
     ghosts += [(f"{SPECS}.Atom", ["no_value"] + [w.short for w in words]), (f"{SPECS}.Table", ["word"])]
-    ghosts += [(f"{SPECS}.Fields", [f"{w.short}_words" for w in words]), (f"{READER}.specs.Job", ["Same"])]
+    ghosts += [(f"{SPECS}.Fields", [f"{w.short}_words" for w in words])]
     ghosts += [(f"{READER}.specs.Reads", ["read_value"]),
-               (f"{READER}.specs.Values", ["at", "field as value_under", "word_meaning", "words_of_length"])]
+               (f"{READER}.specs.Values", ["Same", "at", "field as value_under", "word_meaning", "words_of_length"])]
     homes = [("crate::values", ["needed_value", "text_in"]), ("crate", ["At", "InputFault"]), ("serde_json", ["Value"])]
     homes += [("jsgen_syntax" if w.home else "jsgen_tree", [w.name]) for w in words]
     return layout.rust("Fields that hold a word.", ghosts, [], joined(homes), "\n\n".join(parts))

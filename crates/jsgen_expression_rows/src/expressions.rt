@@ -1,0 +1,359 @@
+// Generated from tools/nodes/table.txt; edit that and run tools/nodes/generate.
+// Rows of a job: expressions (ECMA-262, clause 13).
+ghost use Rattle.std.specs.Prelude.{◌≡◌, false};
+ghost use Rattle.serde_json.specs.View.{view};
+ghost use Rattle.jsgen_tree.specs.Fields.{identifier_reference_fields, this_expression_fields, string_literal_fields, parenthesized_expression_fields, binary_expression_fields, logical_expression_fields, identifier_name_fields, static_member_expression_fields, computed_member_expression_fields, call_expression_fields};
+ghost use Rattle.jsgen_fields.specs.Reads.{Gives, read_node, read_typed};
+ghost use Rattle.jsgen_fields.specs.Kept.{entries, row_plain};
+ghost use Rattle.jsgen_fields.specs.Parts.{is_in_statements};
+ghost use Rattle.jsgen_tree.specs.declared.types.NodeType.TheVariants as types;
+
+use crate::literals::read_numeric_literal;
+use jsgen_fields::InputFault;
+use jsgen_fields::fields::boxed;
+use jsgen_fields::kept::{ReadNode, Row, expression_row};
+use jsgen_fields::set_fields::{argument_list, needed_expression, needed_identifier_name};
+use jsgen_fields::strings::needed_units;
+use jsgen_fields::values::{field_not_given, needed_text, optional_flag};
+use jsgen_fields::words::{needed_binary_operator, needed_logical_operator};
+use jsgen_pool::Kept;
+use jsgen_syntax::Span;
+use jsgen_tree::{
+    BinaryExpression, CallExpression, ComputedMemberExpression, Expression, IdentifierName,
+    IdentifierReference, LogicalExpression, NodeType, ParenthesizedExpression,
+    StaticMemberExpression, StringLiteral, ThisExpression,
+};
+use serde_json::Value;
+use std::alloc::Global;
+
+#[tactic(auto, unfolding(jsgen_fields::specs::Reads::read_node))]
+fn read_identifier_reference<N: ReadNode + Drop>(
+    alloc: Global,
+    kept: &mut Vec<Kept<Row<N>>>,
+    number: usize,
+    span: Span,
+    row: &Value,
+) -> Result<Row<N>, InputFault>
+    ensures { Gives (row_plain N.plain) result (entries N.plain kept.new.items)
+        (read_node number types.IdentifierReference identifier_reference_fields span (view row.now) (entries N.plain kept.old.items)) }
+{
+    let _ = kept;
+    let name = match needed_text(alloc, number, 2, row, "name") {
+        Ok(name) => name,
+        Err(fault) => return Err(fault),
+    };
+    match field_not_given(number, 3, row, "reference") {
+        Ok(()) => {}
+        Err(fault) => return Err(fault),
+    }
+    let node = IdentifierReference { span, name };
+    match boxed(alloc, node) {
+        Ok(node) => expression_row(alloc, Expression::IdentifierReference(node)),
+        Err(fault) => Err(fault),
+    }
+}
+
+#[tactic(auto, unfolding(jsgen_fields::specs::Reads::read_node))]
+fn read_this_expression<N: ReadNode + Drop>(
+    alloc: Global,
+    kept: &mut Vec<Kept<Row<N>>>,
+    number: usize,
+    span: Span,
+    row: &Value,
+) -> Result<Row<N>, InputFault>
+    ensures { Gives (row_plain N.plain) result (entries N.plain kept.new.items)
+        (read_node number types.ThisExpression this_expression_fields span (view row.now) (entries N.plain kept.old.items)) }
+{
+    let _ = kept;
+    let _ = number;
+    let _ = row;
+    let node = ThisExpression { span };
+    match boxed(alloc, node) {
+        Ok(node) => expression_row(alloc, Expression::ThisExpression(node)),
+        Err(fault) => Err(fault),
+    }
+}
+
+#[tactic(auto, unfolding(jsgen_fields::specs::Reads::read_node))]
+fn read_string_literal<N: ReadNode + Drop>(
+    alloc: Global,
+    kept: &mut Vec<Kept<Row<N>>>,
+    number: usize,
+    span: Span,
+    row: &Value,
+) -> Result<Row<N>, InputFault>
+    ensures { Gives (row_plain N.plain) result (entries N.plain kept.new.items)
+        (read_node number types.StringLiteral string_literal_fields span (view row.now) (entries N.plain kept.old.items)) }
+{
+    let _ = kept;
+    let value = match needed_units(alloc, number, 2, row, "value") {
+        Ok(value) => value,
+        Err(fault) => return Err(fault),
+    };
+    let node = StringLiteral { span, value };
+    match boxed(alloc, node) {
+        Ok(node) => expression_row(alloc, Expression::StringLiteral(node)),
+        Err(fault) => Err(fault),
+    }
+}
+
+#[tactic(auto, unfolding(jsgen_fields::specs::Reads::read_node))]
+fn read_parenthesized_expression<N: ReadNode + Drop>(
+    alloc: Global,
+    kept: &mut Vec<Kept<Row<N>>>,
+    number: usize,
+    span: Span,
+    row: &Value,
+) -> Result<Row<N>, InputFault>
+    ensures { Gives (row_plain N.plain) result (entries N.plain kept.new.items)
+        (read_node number types.ParenthesizedExpression parenthesized_expression_fields span (view row.now) (entries N.plain kept.old.items)) }
+{
+    let expression = match needed_expression(alloc, kept, number, 2, row, "expression") {
+        Ok(expression) => expression,
+        Err(fault) => return Err(fault),
+    };
+    let node = ParenthesizedExpression { span, expression };
+    match boxed(alloc, node) {
+        Ok(node) => expression_row(alloc, Expression::ParenthesizedExpression(node)),
+        Err(fault) => Err(fault),
+    }
+}
+
+#[tactic(auto, unfolding(jsgen_fields::specs::Reads::read_node))]
+fn read_binary_expression<N: ReadNode + Drop>(
+    alloc: Global,
+    kept: &mut Vec<Kept<Row<N>>>,
+    number: usize,
+    span: Span,
+    row: &Value,
+) -> Result<Row<N>, InputFault>
+    ensures { Gives (row_plain N.plain) result (entries N.plain kept.new.items)
+        (read_node number types.BinaryExpression binary_expression_fields span (view row.now) (entries N.plain kept.old.items)) }
+{
+    let operator = match needed_binary_operator(number, 2, row, "operator") {
+        Ok(operator) => operator,
+        Err(fault) => return Err(fault),
+    };
+    let left = match needed_expression(alloc, kept, number, 3, row, "left") {
+        Ok(left) => left,
+        Err(fault) => return Err(fault),
+    };
+    let right = match needed_expression(alloc, kept, number, 4, row, "right") {
+        Ok(right) => right,
+        Err(fault) => return Err(fault),
+    };
+    let node = BinaryExpression {
+        span,
+        operator,
+        left,
+        right,
+    };
+    match boxed(alloc, node) {
+        Ok(node) => expression_row(alloc, Expression::BinaryExpression(node)),
+        Err(fault) => Err(fault),
+    }
+}
+
+#[tactic(auto, unfolding(jsgen_fields::specs::Reads::read_node))]
+fn read_logical_expression<N: ReadNode + Drop>(
+    alloc: Global,
+    kept: &mut Vec<Kept<Row<N>>>,
+    number: usize,
+    span: Span,
+    row: &Value,
+) -> Result<Row<N>, InputFault>
+    ensures { Gives (row_plain N.plain) result (entries N.plain kept.new.items)
+        (read_node number types.LogicalExpression logical_expression_fields span (view row.now) (entries N.plain kept.old.items)) }
+{
+    let operator = match needed_logical_operator(number, 2, row, "operator") {
+        Ok(operator) => operator,
+        Err(fault) => return Err(fault),
+    };
+    let left = match needed_expression(alloc, kept, number, 3, row, "left") {
+        Ok(left) => left,
+        Err(fault) => return Err(fault),
+    };
+    let right = match needed_expression(alloc, kept, number, 4, row, "right") {
+        Ok(right) => right,
+        Err(fault) => return Err(fault),
+    };
+    let node = LogicalExpression {
+        span,
+        operator,
+        left,
+        right,
+    };
+    match boxed(alloc, node) {
+        Ok(node) => expression_row(alloc, Expression::LogicalExpression(node)),
+        Err(fault) => Err(fault),
+    }
+}
+
+#[tactic(auto, unfolding(jsgen_fields::specs::Reads::read_node))]
+fn read_identifier_name<N: ReadNode + Drop>(
+    alloc: Global,
+    kept: &mut Vec<Kept<Row<N>>>,
+    number: usize,
+    span: Span,
+    row: &Value,
+) -> Result<Row<N>, InputFault>
+    ensures { Gives (row_plain N.plain) result (entries N.plain kept.new.items)
+        (read_node number types.IdentifierName identifier_name_fields span (view row.now) (entries N.plain kept.old.items)) }
+{
+    let _ = kept;
+    let name = match needed_text(alloc, number, 2, row, "name") {
+        Ok(name) => name,
+        Err(fault) => return Err(fault),
+    };
+    let node = IdentifierName { span, name };
+    match boxed(alloc, node) {
+        Ok(node) => Ok(Row::IdentifierName(node)),
+        Err(fault) => Err(fault),
+    }
+}
+
+#[tactic(auto, unfolding(jsgen_fields::specs::Reads::read_node))]
+fn read_static_member_expression<N: ReadNode + Drop>(
+    alloc: Global,
+    kept: &mut Vec<Kept<Row<N>>>,
+    number: usize,
+    span: Span,
+    row: &Value,
+) -> Result<Row<N>, InputFault>
+    ensures { Gives (row_plain N.plain) result (entries N.plain kept.new.items)
+        (read_node number types.StaticMemberExpression static_member_expression_fields span (view row.now) (entries N.plain kept.old.items)) }
+{
+    let object = match needed_expression(alloc, kept, number, 2, row, "object") {
+        Ok(object) => object,
+        Err(fault) => return Err(fault),
+    };
+    match field_not_given(number, 3, row, "optional") {
+        Ok(()) => {}
+        Err(fault) => return Err(fault),
+    }
+    let property = match needed_identifier_name(alloc, kept, number, 4, row, "property") {
+        Ok(property) => property,
+        Err(fault) => return Err(fault),
+    };
+    let node = StaticMemberExpression {
+        span,
+        object,
+        property,
+    };
+    match boxed(alloc, node) {
+        Ok(node) => expression_row(alloc, Expression::StaticMemberExpression(node)),
+        Err(fault) => Err(fault),
+    }
+}
+
+#[tactic(auto, unfolding(jsgen_fields::specs::Reads::read_node))]
+fn read_computed_member_expression<N: ReadNode + Drop>(
+    alloc: Global,
+    kept: &mut Vec<Kept<Row<N>>>,
+    number: usize,
+    span: Span,
+    row: &Value,
+) -> Result<Row<N>, InputFault>
+    ensures { Gives (row_plain N.plain) result (entries N.plain kept.new.items)
+        (read_node number types.ComputedMemberExpression computed_member_expression_fields span (view row.now) (entries N.plain kept.old.items)) }
+{
+    let object = match needed_expression(alloc, kept, number, 2, row, "object") {
+        Ok(object) => object,
+        Err(fault) => return Err(fault),
+    };
+    match field_not_given(number, 3, row, "optional") {
+        Ok(()) => {}
+        Err(fault) => return Err(fault),
+    }
+    let expression = match needed_expression(alloc, kept, number, 4, row, "expression") {
+        Ok(expression) => expression,
+        Err(fault) => return Err(fault),
+    };
+    let node = ComputedMemberExpression {
+        span,
+        object,
+        expression,
+    };
+    match boxed(alloc, node) {
+        Ok(node) => expression_row(alloc, Expression::ComputedMemberExpression(node)),
+        Err(fault) => Err(fault),
+    }
+}
+
+#[tactic(auto, unfolding(jsgen_fields::specs::Reads::read_node))]
+fn read_call_expression<N: ReadNode + Drop>(
+    alloc: Global,
+    kept: &mut Vec<Kept<Row<N>>>,
+    number: usize,
+    span: Span,
+    row: &Value,
+) -> Result<Row<N>, InputFault>
+    ensures { Gives (row_plain N.plain) result (entries N.plain kept.new.items)
+        (read_node number types.CallExpression call_expression_fields span (view row.now) (entries N.plain kept.old.items)) }
+{
+    let callee = match needed_expression(alloc, kept, number, 2, row, "callee") {
+        Ok(callee) => callee,
+        Err(fault) => return Err(fault),
+    };
+    match field_not_given(number, 3, row, "type_arguments") {
+        Ok(()) => {}
+        Err(fault) => return Err(fault),
+    }
+    let arguments = match argument_list(alloc, kept, number, 4, row, "arguments") {
+        Ok(arguments) => arguments,
+        Err(fault) => return Err(fault),
+    };
+    match field_not_given(number, 5, row, "optional") {
+        Ok(()) => {}
+        Err(fault) => return Err(fault),
+    }
+    let pure = match optional_flag(number, 6, row, "pure") {
+        Ok(pure) => pure,
+        Err(fault) => return Err(fault),
+    };
+    let node = CallExpression {
+        span,
+        callee,
+        arguments,
+        pure,
+    };
+    match boxed(alloc, node) {
+        Ok(node) => expression_row(alloc, Expression::CallExpression(node)),
+        Err(fault) => Err(fault),
+    }
+}
+
+/// The row of a type of this part.
+pub fn read_in_expressions<N: ReadNode + Drop>(
+    alloc: Global,
+    kept: &mut Vec<Kept<Row<N>>>,
+    node_type: NodeType,
+    number: usize,
+    span: Span,
+    row: &Value,
+) -> Result<Row<N>, InputFault>
+    requires { is_in_statements node_type ≡ false }
+    ensures { Gives (row_plain N.plain) result (entries N.plain kept.new.items)
+        (read_typed number node_type span (view row.now) (entries N.plain kept.old.items)) }
+{
+    match node_type {
+        NodeType::IdentifierReference => read_identifier_reference(alloc, kept, number, span, row),
+        NodeType::ThisExpression => read_this_expression(alloc, kept, number, span, row),
+        NodeType::NumericLiteral => read_numeric_literal(alloc, kept, number, span, row),
+        NodeType::StringLiteral => read_string_literal(alloc, kept, number, span, row),
+        NodeType::ParenthesizedExpression => read_parenthesized_expression(
+            alloc, kept, number, span, row,
+        ),
+        NodeType::BinaryExpression => read_binary_expression(alloc, kept, number, span, row),
+        NodeType::LogicalExpression => read_logical_expression(alloc, kept, number, span, row),
+        NodeType::IdentifierName => read_identifier_name(alloc, kept, number, span, row),
+        NodeType::StaticMemberExpression => read_static_member_expression(
+            alloc, kept, number, span, row,
+        ),
+        NodeType::ComputedMemberExpression => read_computed_member_expression(
+            alloc, kept, number, span, row,
+        ),
+        NodeType::CallExpression => read_call_expression(alloc, kept, number, span, row),
+        _ => unreachable!(),
+    }
+}

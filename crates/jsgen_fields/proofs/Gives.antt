@@ -1,0 +1,34 @@
+-- What the steps of a row's function give.
+use Rattle.std.proofs.Common.{◌≡◌, List, Result, Ok, Err, refl}
+use Rattle.std.specs.Prelude.{⊤}
+use Rattle.jsgen_pool.specs.Pool.{Entry}
+use Rattle.jsgen_fields.specs.declared.InputFault.{InputFault}
+use Rattle.jsgen_fields.specs.Values.{Same}
+use Rattle.jsgen_fields.specs.Reads.{Gives, Read}
+use Rattle.jsgen_fields.specs.Values.{after}
+
+-- ---- two fields of which neither is given
+
+pub first_of_two : {u : ⊤} (x y : Result ⊤ InputFault) → after x (λ nothing. y) ≡ Ok u → x ≡ Ok tt
+first_of_two (Ok v) y e = refl
+first_of_two (Err f) y e = cc
+
+pub second_of_two : {u : ⊤} (x y : Result ⊤ InputFault) → after x (λ nothing. y) ≡ Ok u → y ≡ Ok tt
+second_of_two (Ok v) y e = e
+second_of_two (Err f) y e = cc
+
+-- ---- the last step
+
+-- the node n is put in a box as m
+abbrev Boxed : {X : Type 0} → X → X → Type 0
+Boxed {X} n m = ◌≡◌ {A = Result X InputFault} (Ok n) (Ok m)
+
+-- and the row r is made of that
+pub gives_row : {T V X : Type 0} (plain : T → V) (r : Result T InputFault) (kept : List Entry) (row : X → V) (n m : X)
+    → Boxed n m → Same plain r (Ok (row m)) → Gives plain r kept (Ok (row n, kept))
+gives_row plain (Ok x) kept row n m e h = cc
+gives_row plain (Err f) kept row n m e h = λ told. let q = h told in cc
+
+-- and is the row
+pub gives_held : {V X : Type 0} (kept : List Entry) (row : X → V) (n m : X) → Boxed n m → ◌≡◌ {A = Read V} (Ok (row n, kept)) (Ok (row m, kept))
+gives_held kept row n m e = cc

@@ -1,0 +1,5 @@
+pub mod Digits
+pub mod Gives
+pub mod Listed
+pub mod Sets
+pub mod WordLengths

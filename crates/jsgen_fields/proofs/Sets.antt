@@ -1,0 +1,170 @@
+-- Generated from tools/nodes/table.txt; edit that and run tools/nodes/generate.
+-- Which of the sets that children are of hold the rows that are kept by their set.
+use Rattle.std.proofs.Common.{◌≡◌, Bool, true, false, refl}
+use Rattle.jsgen_tree.specs.Tree.{Tree, type_of}
+use Rattle.jsgen_tree.specs.declared.types.NodeType.{NodeType}
+use Rattle.jsgen_tree.specs.Sets.{is_directive, is_statement, is_variable_declarator, is_binding_pattern, is_expression, is_identifier_name}
+use Rattle.jsgen_tree.specs.Rows.{expression_plain, declaration_plain, statement_plain, binding_pattern_plain}
+use Rattle.jsgen_fields.specs.Meaning.{is_program}
+use Rattle.jsgen_tree.specs.declared.sets.Expression.{Expression}
+use Rattle.jsgen_tree.specs.declared.sets.Declaration.{Declaration}
+use Rattle.jsgen_tree.specs.declared.sets.Statement.{Statement}
+use Rattle.jsgen_tree.specs.declared.sets.BindingPattern.{BindingPattern}
+use Rattle.jsgen_fields.specs.Others.{is_other_statement}
+use Rattle.jsgen_fields.specs.declared.others.OtherStatement.{OtherStatement}
+use Rattle.jsgen_tree.specs.declared.types.NodeType.TheVariants as types
+use Rattle.jsgen_tree.specs.declared.sets.Declaration.TheVariants as declarations
+use Rattle.jsgen_tree.specs.declared.sets.BindingPattern.TheVariants as binding_patterns
+use Rattle.jsgen_tree.specs.declared.sets.Statement.TheVariants as statements
+use Rattle.jsgen_tree.specs.declared.sets.Expression.TheVariants as expressions
+
+-- ---- what is so of each type of a set is so of each row of it
+
+of_declaration : {N : Type 0} (plain : N → Tree) (f : NodeType → Bool) (b : Bool) → f types.VariableDeclaration ≡ b → (r : Declaration N) → f (type_of (declaration_plain plain r)) ≡ b
+of_declaration plain f b h0 (declarations.VariableDeclaration r) = h0
+
+of_binding_pattern : (f : NodeType → Bool) (b : Bool) → f types.BindingIdentifier ≡ b → (r : BindingPattern) → f (type_of (binding_pattern_plain r)) ≡ b
+of_binding_pattern f b h0 (binding_patterns.BindingIdentifier r) = h0
+
+of_statement : {N : Type 0} (plain : N → Tree) (f : NodeType → Bool) (b : Bool) → f types.ExpressionStatement ≡ b → f types.BlockStatement ≡ b → f types.IfStatement ≡ b → f types.EmptyStatement ≡ b → (r : Statement N) → is_other_statement r ≡ true → f (type_of (statement_plain plain r)) ≡ b
+of_statement plain f b h0 h1 h2 h3 (statements.Declaration r) o = cc
+of_statement plain f b h0 h1 h2 h3 (statements.ExpressionStatement r) o = h0
+of_statement plain f b h0 h1 h2 h3 (statements.BlockStatement r) o = h1
+of_statement plain f b h0 h1 h2 h3 (statements.IfStatement r) o = h2
+of_statement plain f b h0 h1 h2 h3 (statements.EmptyStatement r) o = h3
+
+of_expression : {N : Type 0} (plain : N → Tree) (f : NodeType → Bool) (b : Bool) → f types.IdentifierReference ≡ b → f types.ThisExpression ≡ b → f types.NumericLiteral ≡ b → f types.StringLiteral ≡ b → f types.BinaryExpression ≡ b → f types.LogicalExpression ≡ b → f types.ParenthesizedExpression ≡ b → f types.StaticMemberExpression ≡ b → f types.ComputedMemberExpression ≡ b → f types.CallExpression ≡ b → (r : Expression N) → f (type_of (expression_plain plain r)) ≡ b
+of_expression plain f b h0 h1 h2 h3 h4 h5 h6 h7 h8 h9 (expressions.IdentifierReference r) = h0
+of_expression plain f b h0 h1 h2 h3 h4 h5 h6 h7 h8 h9 (expressions.ThisExpression r) = h1
+of_expression plain f b h0 h1 h2 h3 h4 h5 h6 h7 h8 h9 (expressions.NumericLiteral r) = h2
+of_expression plain f b h0 h1 h2 h3 h4 h5 h6 h7 h8 h9 (expressions.StringLiteral r) = h3
+of_expression plain f b h0 h1 h2 h3 h4 h5 h6 h7 h8 h9 (expressions.BinaryExpression r) = h4
+of_expression plain f b h0 h1 h2 h3 h4 h5 h6 h7 h8 h9 (expressions.LogicalExpression r) = h5
+of_expression plain f b h0 h1 h2 h3 h4 h5 h6 h7 h8 h9 (expressions.ParenthesizedExpression r) = h6
+of_expression plain f b h0 h1 h2 h3 h4 h5 h6 h7 h8 h9 (expressions.StaticMemberExpression r) = h7
+of_expression plain f b h0 h1 h2 h3 h4 h5 h6 h7 h8 h9 (expressions.ComputedMemberExpression r) = h8
+of_expression plain f b h0 h1 h2 h3 h4 h5 h6 h7 h8 h9 (expressions.CallExpression r) = h9
+
+-- ---- set by set
+
+pub no_declaration_is_a_program : {N : Type 0} (plain : N → Tree) (r : Declaration N) → is_program (type_of (declaration_plain plain r)) ≡ false
+no_declaration_is_a_program plain r = of_declaration plain is_program false refl r
+
+pub no_binding_pattern_is_a_program : (r : BindingPattern) → is_program (type_of (binding_pattern_plain r)) ≡ false
+no_binding_pattern_is_a_program r = of_binding_pattern is_program false refl r
+
+pub no_statement_is_a_program : {N : Type 0} (plain : N → Tree) (r : OtherStatement N) → is_program (type_of (statement_plain plain r.statement)) ≡ false
+no_statement_is_a_program plain r = of_statement plain is_program false refl refl refl refl r.statement r.other
+
+pub no_expression_is_a_program : {N : Type 0} (plain : N → Tree) (r : Expression N) → is_program (type_of (expression_plain plain r)) ≡ false
+no_expression_is_a_program plain r = of_expression plain is_program false refl refl refl refl refl refl refl refl refl refl r
+
+pub no_declaration_is_a_directive : {N : Type 0} (plain : N → Tree) (r : Declaration N) → is_directive (type_of (declaration_plain plain r)) ≡ false
+no_declaration_is_a_directive plain r = of_declaration plain is_directive false refl r
+
+pub no_binding_pattern_is_a_directive : (r : BindingPattern) → is_directive (type_of (binding_pattern_plain r)) ≡ false
+no_binding_pattern_is_a_directive r = of_binding_pattern is_directive false refl r
+
+pub no_statement_is_a_directive : {N : Type 0} (plain : N → Tree) (r : OtherStatement N) → is_directive (type_of (statement_plain plain r.statement)) ≡ false
+no_statement_is_a_directive plain r = of_statement plain is_directive false refl refl refl refl r.statement r.other
+
+pub no_expression_is_a_directive : {N : Type 0} (plain : N → Tree) (r : Expression N) → is_directive (type_of (expression_plain plain r)) ≡ false
+no_expression_is_a_directive plain r = of_expression plain is_directive false refl refl refl refl refl refl refl refl refl refl r
+
+pub each_declaration_is_a_statement : {N : Type 0} (plain : N → Tree) (r : Declaration N) → is_statement (type_of (declaration_plain plain r)) ≡ true
+each_declaration_is_a_statement plain r = of_declaration plain is_statement true refl r
+
+pub no_binding_pattern_is_a_statement : (r : BindingPattern) → is_statement (type_of (binding_pattern_plain r)) ≡ false
+no_binding_pattern_is_a_statement r = of_binding_pattern is_statement false refl r
+
+pub each_statement_is_a_statement : {N : Type 0} (plain : N → Tree) (r : OtherStatement N) → is_statement (type_of (statement_plain plain r.statement)) ≡ true
+each_statement_is_a_statement plain r = of_statement plain is_statement true refl refl refl refl r.statement r.other
+
+pub no_expression_is_a_statement : {N : Type 0} (plain : N → Tree) (r : Expression N) → is_statement (type_of (expression_plain plain r)) ≡ false
+no_expression_is_a_statement plain r = of_expression plain is_statement false refl refl refl refl refl refl refl refl refl refl r
+
+pub no_declaration_is_a_variable_declarator : {N : Type 0} (plain : N → Tree) (r : Declaration N) → is_variable_declarator (type_of (declaration_plain plain r)) ≡ false
+no_declaration_is_a_variable_declarator plain r = of_declaration plain is_variable_declarator false refl r
+
+pub no_binding_pattern_is_a_variable_declarator : (r : BindingPattern) → is_variable_declarator (type_of (binding_pattern_plain r)) ≡ false
+no_binding_pattern_is_a_variable_declarator r = of_binding_pattern is_variable_declarator false refl r
+
+pub no_statement_is_a_variable_declarator : {N : Type 0} (plain : N → Tree) (r : OtherStatement N) → is_variable_declarator (type_of (statement_plain plain r.statement)) ≡ false
+no_statement_is_a_variable_declarator plain r = of_statement plain is_variable_declarator false refl refl refl refl r.statement r.other
+
+pub no_expression_is_a_variable_declarator : {N : Type 0} (plain : N → Tree) (r : Expression N) → is_variable_declarator (type_of (expression_plain plain r)) ≡ false
+no_expression_is_a_variable_declarator plain r = of_expression plain is_variable_declarator false refl refl refl refl refl refl refl refl refl refl r
+
+pub no_declaration_is_a_binding_pattern : {N : Type 0} (plain : N → Tree) (r : Declaration N) → is_binding_pattern (type_of (declaration_plain plain r)) ≡ false
+no_declaration_is_a_binding_pattern plain r = of_declaration plain is_binding_pattern false refl r
+
+pub each_binding_pattern_is_a_binding_pattern : (r : BindingPattern) → is_binding_pattern (type_of (binding_pattern_plain r)) ≡ true
+each_binding_pattern_is_a_binding_pattern r = of_binding_pattern is_binding_pattern true refl r
+
+pub no_statement_is_a_binding_pattern : {N : Type 0} (plain : N → Tree) (r : OtherStatement N) → is_binding_pattern (type_of (statement_plain plain r.statement)) ≡ false
+no_statement_is_a_binding_pattern plain r = of_statement plain is_binding_pattern false refl refl refl refl r.statement r.other
+
+pub no_expression_is_a_binding_pattern : {N : Type 0} (plain : N → Tree) (r : Expression N) → is_binding_pattern (type_of (expression_plain plain r)) ≡ false
+no_expression_is_a_binding_pattern plain r = of_expression plain is_binding_pattern false refl refl refl refl refl refl refl refl refl refl r
+
+pub no_declaration_is_an_expression : {N : Type 0} (plain : N → Tree) (r : Declaration N) → is_expression (type_of (declaration_plain plain r)) ≡ false
+no_declaration_is_an_expression plain r = of_declaration plain is_expression false refl r
+
+pub no_binding_pattern_is_an_expression : (r : BindingPattern) → is_expression (type_of (binding_pattern_plain r)) ≡ false
+no_binding_pattern_is_an_expression r = of_binding_pattern is_expression false refl r
+
+pub no_statement_is_an_expression : {N : Type 0} (plain : N → Tree) (r : OtherStatement N) → is_expression (type_of (statement_plain plain r.statement)) ≡ false
+no_statement_is_an_expression plain r = of_statement plain is_expression false refl refl refl refl r.statement r.other
+
+pub each_expression_is_an_expression : {N : Type 0} (plain : N → Tree) (r : Expression N) → is_expression (type_of (expression_plain plain r)) ≡ true
+each_expression_is_an_expression plain r = of_expression plain is_expression true refl refl refl refl refl refl refl refl refl refl r
+
+pub no_declaration_is_an_identifier_name : {N : Type 0} (plain : N → Tree) (r : Declaration N) → is_identifier_name (type_of (declaration_plain plain r)) ≡ false
+no_declaration_is_an_identifier_name plain r = of_declaration plain is_identifier_name false refl r
+
+pub no_binding_pattern_is_an_identifier_name : (r : BindingPattern) → is_identifier_name (type_of (binding_pattern_plain r)) ≡ false
+no_binding_pattern_is_an_identifier_name r = of_binding_pattern is_identifier_name false refl r
+
+pub no_statement_is_an_identifier_name : {N : Type 0} (plain : N → Tree) (r : OtherStatement N) → is_identifier_name (type_of (statement_plain plain r.statement)) ≡ false
+no_statement_is_an_identifier_name plain r = of_statement plain is_identifier_name false refl refl refl refl r.statement r.other
+
+pub no_expression_is_an_identifier_name : {N : Type 0} (plain : N → Tree) (r : Expression N) → is_identifier_name (type_of (expression_plain plain r)) ≡ false
+no_expression_is_an_identifier_name plain r = of_expression plain is_identifier_name false refl refl refl refl refl refl refl refl refl refl r
+
+pub program_type : (t : NodeType) → is_program t ≡ true → t ≡ types.Program
+program_type types.Program h = refl
+program_type types.Directive h = cc
+program_type types.VariableDeclaration h = cc
+program_type types.VariableDeclarator h = cc
+program_type types.BindingIdentifier h = cc
+program_type types.ExpressionStatement h = cc
+program_type types.BlockStatement h = cc
+program_type types.IfStatement h = cc
+program_type types.EmptyStatement h = cc
+program_type types.IdentifierReference h = cc
+program_type types.ThisExpression h = cc
+program_type types.NumericLiteral h = cc
+program_type types.StringLiteral h = cc
+program_type types.ParenthesizedExpression h = cc
+program_type types.BinaryExpression h = cc
+program_type types.LogicalExpression h = cc
+program_type types.IdentifierName h = cc
+program_type types.StaticMemberExpression h = cc
+program_type types.ComputedMemberExpression h = cc
+program_type types.CallExpression h = cc
+
+-- ---- which rows a place takes
+
+pub ruleset takes_programs = (no_declaration_is_a_program, no_binding_pattern_is_a_program, no_statement_is_a_program, no_expression_is_a_program)
+
+pub ruleset takes_directives = (no_declaration_is_a_directive, no_binding_pattern_is_a_directive, no_statement_is_a_directive, no_expression_is_a_directive)
+
+pub ruleset takes_statements = (each_declaration_is_a_statement, no_binding_pattern_is_a_statement, each_statement_is_a_statement, no_expression_is_a_statement)
+
+pub ruleset takes_variable_declarators = (no_declaration_is_a_variable_declarator, no_binding_pattern_is_a_variable_declarator, no_statement_is_a_variable_declarator, no_expression_is_a_variable_declarator)
+
+pub ruleset takes_binding_patterns = (no_declaration_is_a_binding_pattern, each_binding_pattern_is_a_binding_pattern, no_statement_is_a_binding_pattern, no_expression_is_a_binding_pattern)
+
+pub ruleset takes_expressions = (no_declaration_is_an_expression, no_binding_pattern_is_an_expression, no_statement_is_an_expression, each_expression_is_an_expression)
+
+pub ruleset takes_identifier_names = (no_declaration_is_an_identifier_name, no_binding_pattern_is_an_identifier_name, no_statement_is_an_identifier_name, no_expression_is_an_identifier_name)

@@ -1,0 +1,26 @@
+-- Generated from tools/nodes/table.txt; edit that and run tools/nodes/generate.
+-- The plain data of what the reader keeps.
+use Rattle.std.specs.Prelude.{List}
+use Rattle.jsgen_tree.specs.Tree.{Tree}
+use Rattle.jsgen_tree.specs.Rows.{program_row, directive_row, variable_declarator_row, identifier_name_row, expression_plain, declaration_plain, statement_plain, binding_pattern_plain}
+use Rattle.jsgen_pool.specs.Pool.{Entry}
+use Rattle.jsgen_pool.specs.declared.Kept.{Kept}
+use Rattle.jsgen_fields.specs.declared.kept.Row.{Row}
+use Rattle.jsgen_pool.specs.Pool as pool
+use Rattle.jsgen_fields.specs.declared.kept.Row.TheVariants as rows
+
+abbrev pub row_plain : {N : Type 0} → (N → Tree) → Row N → Tree
+row_plain plain (rows.Program b) = program_row plain b.value
+row_plain plain (rows.Directive b) = directive_row b.value
+row_plain plain (rows.Declaration b) = declaration_plain plain b.value
+row_plain plain (rows.VariableDeclarator b) = variable_declarator_row plain b.value
+row_plain plain (rows.BindingPattern b) = binding_pattern_plain b.value
+row_plain plain (rows.Statement b) = statement_plain plain b.value.statement
+row_plain plain (rows.Expression b) = expression_plain plain b.value
+row_plain plain (rows.IdentifierName b) = identifier_name_row b.value
+
+abbrev pub entry : {N : Type 0} → (N → Tree) → Kept (Row N) → Entry
+entry plain k = pool.entry (row_plain plain) k
+
+abbrev pub entries : {N : Type 0} → (N → Tree) → List (Kept (Row N)) → List Entry
+entries plain ks = pool.entries (row_plain plain) ks

@@ -1,0 +1,7 @@
+pub mod Kept
+pub mod Meaning
+pub mod Names
+pub mod Others
+pub mod Parts
+pub mod Reads
+pub mod Values

@@ -1,0 +1,252 @@
+-- What stands in a field of a job by itself: JSON (RFC 8259), in the fields that docs/FORMAT.md lists.
+use Rattle.std.specs.Prelude.{◌≡◌, ℕ, ◌^◌, ◌==◌, ◌&&◌, List, [], ◌∷◌, length, filter, flat_map, Bool, true, false, not, nat_lt, codes, Option, Some, None, option_map, option_and_then, unwrap_or, Result, Ok, Err, if◌then◌else◌, ⊤}
+use Rattle.std.specs.Char.Escape.{encode_utf16}
+use Rattle.std.specs.Str.{bytes_eq, chars, all_ascii_digits}
+use Rattle.std.specs.Str.Parse.{digits_value}
+use Rattle.serde_json.specs.Data.{Data, null, Items, no_items, item}
+use Rattle.serde_json.specs.Find.{get, as_bool, as_str, as_array, as_number, as_object, as_u64}
+use Rattle.serde_json.specs.Written.{has_float}
+use Rattle.jsgen_syntax.specs.declared.span.Span.{Span}
+use Rattle.jsgen_tree.specs.declared.types.NodeType.{NodeType}
+use Rattle.jsgen_tree.specs.Options.{Options, default_options}
+use Rattle.jsgen_tree.specs.Atom.{Atom}
+use Rattle.jsgen_tree.specs.Atom as atoms
+use Rattle.jsgen_tree.specs.Table.{Field, Presence, Sort, Word, needed, needed_for}
+use Rattle.jsgen_tree.specs.Table as sorts
+use Rattle.jsgen_fields.specs.Names.{or_else, type_named}
+use Rattle.jsgen_fields.specs.declared.At.{At}
+use Rattle.jsgen_fields.specs.declared.InputFault.{InputFault}
+use Rattle.jsgen_fields.specs.declared.InputFault.TheVariants.{Json, Float, Missing, Wrong, Memory}
+
+-- one after another, up to the first fault
+abbrev pub after : {A B : Type 0} → Result A InputFault → (A → Result B InputFault) → Result B InputFault
+after (Ok a) f = f a
+after (Err e) f = Err e
+
+abbrev pub or_fault : {A : Type 0} → InputFault → Option A → Result A InputFault
+or_fault e None = Err e
+or_fault e (Some a) = Ok a
+
+-- A result of code beside what the definition gives: it is the same, but want of memory may come in its place.
+abbrev pub Same : {T V : Type 0} → (T → V) → Result T InputFault → Result V InputFault → Type 0
+Same plain (Ok x) meant = meant ≡ Ok (plain x)
+Same plain (Err e) meant = (e ≡ Memory → ⊥) → meant ≡ Err e
+
+-- ---- places
+
+-- field i of the job's head
+abbrev pub head : ℕ → At
+head i = record { row = None; field = i }
+
+-- field i of row k
+abbrev pub at : ℕ → ℕ → At
+at k i = record { row = Some k; field = i }
+
+-- ---- what stands under a name
+
+abbrev pub not_null : Data → Option Data
+not_null null = None
+not_null d = Some d
+
+-- null counts as absent
+abbrev pub present : Option Data → Option Data
+present None = None
+present (Some d) = not_null d
+
+-- the value under a name
+abbrev pub field : List ℕ → Data → Option Data
+field name d = present (get name d)
+
+-- the value of a field, where there is one, as there is in a needed field; a float in it, at any depth, is told before anything else
+abbrev pub field_in : At → Bool → Option Data → Result (Option Data) InputFault
+field_in a true None = Err (Missing a)
+field_in a false None = Ok None
+field_in a b (Some d) = if has_float d then Err (Float a) else Ok (Some d)
+
+-- a field of the format that isn't read yet may not be there
+unfoldable pub not_given : At → Option Data → Result ⊤ InputFault
+not_given a None = Ok tt
+not_given a (Some d) = Err (Wrong a)
+
+-- the row's field `kind` is this word
+abbrev pub is_of_kind : List ℕ → Data → Bool
+is_of_kind w d = unwrap_or (option_map (λ s. bytes_eq s w) (option_and_then as_str (field (codes "kind") d))) false
+
+-- whether the field may not be absent in this row
+abbrev pub is_needed : Presence → Data → Bool
+is_needed needed d = true
+is_needed (needed_for w) d = is_of_kind w d
+is_needed p d = false
+
+-- what stands in a field of a row
+abbrev pub given_in : At → Field → Data → Result (Option Data) InputFault
+given_in a f d = field_in a (is_needed f.presence d) (field f.name d)
+
+-- ---- kinds of values
+
+abbrev pub text_in : At → Data → Result (List ℕ) InputFault
+text_in a d = or_fault (Wrong a) (as_str d)
+
+abbrev pub listed : Items → List Data
+listed no_items = []
+listed (item d ds) = d ∷ listed ds
+
+abbrev pub items_in : At → Data → Result (List Data) InputFault
+items_in a d = or_fault (Wrong a) (option_map listed (as_array d))
+
+abbrev pub whole_number : Data → Option ℕ
+whole_number d = option_and_then as_u64 (as_number d)
+
+-- a whole number of so many bits
+abbrev pub number_of_bits : ℕ → Data → Option ℕ
+number_of_bits bits d = option_and_then (λ n. if nat_lt n (2 ^ bits) then Some n else None) (whole_number d)
+
+-- what a word stands for
+abbrev pub word_meaning : List Word → List ℕ → Option Atom
+word_meaning [] s = None
+word_meaning (w ∷ ws) s = if bytes_eq s w.spelling then Some w.meaning else word_meaning ws s
+
+-- the words whose spelling is n bytes long
+abbrev pub words_of_length : ℕ → List Word → List Word
+words_of_length n ws = filter (λ w. length w.spelling == n) ws
+
+abbrev pub word_in : At → List Word → Data → Result Atom InputFault
+word_in a ws d = after (text_in a d) (λ s. or_fault (Wrong a) (word_meaning ws s))
+
+-- one digit, or more of which the first is no 0
+abbrev pub starts_plainly : List ℕ → Bool
+starts_plainly [] = false
+starts_plainly (c ∷ []) = true
+starts_plainly (c ∷ d ∷ s) = not (c == 48)
+
+-- a text of decimal digits with no leading zero, below 2 ^ 128
+unfoldable pub decimal_number : List ℕ → Option ℕ
+decimal_number s = if starts_plainly s && all_ascii_digits s && nat_lt (digits_value 10 s) (2 ^ 128) then Some (digits_value 10 s) else None
+
+-- a whole number, or a text of its digits
+abbrev pub digits_in : At → Data → Result ℕ InputFault
+digits_in a d = or_fault (Wrong a) (or_else (whole_number d) (option_and_then decimal_number (as_str d)))
+
+-- ---- the value of a string
+
+-- one unit of UTF-16
+abbrev pub unit_in : Data → Option ℕ
+unit_in d = number_of_bits 16 d
+
+abbrev pub units_listed : At → List Data → Result (List ℕ) InputFault
+units_listed a [] = Ok []
+units_listed a (d ∷ ds) = after (or_fault (Wrong a) (unit_in d)) (λ u. after (units_listed a ds) (λ us. Ok (u ∷ us)))
+
+abbrev pub text_or_listed : At → Data → Option (List ℕ) → Result (List ℕ) InputFault
+text_or_listed a d None = after (items_in a d) (units_listed a)
+text_or_listed a d (Some s) = Ok (flat_map encode_utf16 (chars s))
+
+-- a text, or a list of the units
+abbrev pub units_in : At → Data → Result (List ℕ) InputFault
+units_in a d = text_or_listed a d (as_str d)
+
+-- ---- the fields that have no children
+
+abbrev pub value_in : At → Sort → Data → Result Atom InputFault
+value_in a sorts.text d = after (text_in a d) (λ s. Ok (atoms.text (chars s)))
+value_in a sorts.units d = after (units_in a d) (λ us. Ok (atoms.units us))
+value_in a sorts.digits d = after (digits_in a d) (λ n. Ok (atoms.digits n))
+value_in a sorts.number d = after (or_fault (Wrong a) (number_of_bits 32 d)) (λ n. Ok (atoms.number n))
+value_in a sorts.flag d = after (or_fault (Wrong a) (as_bool d)) (λ b. Ok (atoms.flag b))
+value_in a (sorts.word ws) d = word_in a ws d
+value_in a other d = Err (Wrong a)
+
+-- ---- the type and the span of a row, its fields 0 and 1
+
+abbrev pub type_given : At → Option Data → Result NodeType InputFault
+type_given a None = Err (Missing a)
+type_given a (Some d) = after (text_in a d) (λ s. or_fault (Wrong a) (type_named s))
+
+-- the type of row k; a row is an object
+abbrev pub type_of : ℕ → Data → Result NodeType InputFault
+type_of k d = after (or_fault (Wrong (at k 0)) (as_object d)) (λ members. after (field_in (at k 0) true (field (codes "type") d)) (type_given (at k 0)))
+
+-- an offset in bytes
+abbrev pub offset_in : Data → Option ℕ
+offset_in d = number_of_bits 32 d
+
+abbrev pub both : Option ℕ → Option ℕ → Option Span
+both (Some start) (Some end) = Some (record { start = start; end = end })
+both start end = None
+
+abbrev pub offsets : List Data → Option Span
+offsets (start ∷ end ∷ []) = both (offset_in start) (offset_in end)
+offsets ds = None
+
+abbrev pub span_given : At → Option Data → Result Span InputFault
+span_given a None = Ok (record { start = 0; end = 0 })
+span_given a (Some d) = after (items_in a d) (λ ds. or_fault (Wrong a) (offsets ds))
+
+-- the span of row k
+abbrev pub span_of : ℕ → Data → Result Span InputFault
+span_of k d = after (field_in (at k 1) false (field (codes "span") d)) (span_given (at k 1))
+
+-- ---- the head: its options, field 0
+
+-- none of these names is given
+abbrev pub none_given : At → List (List ℕ) → Data → Result ⊤ InputFault
+none_given a [] d = Ok tt
+none_given a (name ∷ names) d = after (not_given a (field name d)) (λ _. none_given a names d)
+
+-- the options that aren't read yet
+abbrev pub text_options : List (List ℕ)
+text_options = codes "source_map_path" ∷ codes "indent_char" ∷ codes "indent_width" ∷ codes "initial_indent" ∷ []
+
+abbrev pub comment_options : List (List ℕ)
+comment_options = codes "normal" ∷ codes "jsdoc" ∷ codes "annotation" ∷ codes "legal" ∷ codes "legal_path" ∷ []
+
+abbrev pub unread_options : Data → Result ⊤ InputFault
+unread_options d = after (none_given (head 0) text_options d) (λ _. none_given (head 0) comment_options d)
+
+-- an option that is true or false, which stands for an absent one too
+abbrev pub choice_given : Option Data → Result Bool InputFault
+choice_given None = Ok false
+choice_given (Some d) = or_fault (Wrong (head 0)) (as_bool d)
+
+-- an object
+abbrev pub options_read : Data → Result Options InputFault
+options_read d =
+    after (or_fault (Wrong (head 0)) (as_object d))
+    (λ members. after (unread_options d)
+    (λ _. after (choice_given (field (codes "single_quote") d))
+    (λ single_quote. after (choice_given (field (codes "minify") d))
+    (λ minify. after (choice_given (field (codes "ascii_only") d))
+    (λ ascii_only. Ok (record default_options { single_quote = single_quote; minify = minify; ascii_only = ascii_only }))))))
+
+abbrev pub options_given : Option Data → Result Options InputFault
+options_given None = Ok default_options
+options_given (Some d) = options_read d
+
+-- the options of a job, which is an object
+abbrev pub options_in : Data → Result Options InputFault
+options_in d = after (or_fault Json (as_object d)) (λ members. after (field_in (head 0) false (field (codes "options") d)) options_given)
+
+-- ---- the rows, field 4, behind three fields
+
+-- the fields 1 to 3, which aren't read yet
+abbrev pub unread_head : Data → Result ⊤ InputFault
+unread_head d =
+    after (not_given (head 1) (field (codes "symbols") d))
+    (λ _. after (not_given (head 2) (field (codes "references") d))
+    (λ _. not_given (head 3) (field (codes "private") d)))
+
+abbrev pub some_rows : List Data → Result (List Data) InputFault
+some_rows [] = Err (Wrong (head 4))
+some_rows (d ∷ ds) = Ok (d ∷ ds)
+
+-- a list; where there is another value, a float in it is told first
+abbrev pub rows_listed : At → Data → Result (List Data) InputFault
+rows_listed a d = or_fault (if has_float d then Float a else Wrong a) (option_map listed (as_array d))
+
+-- a list of one or more. What floats stand in the list is for the rows to tell.
+abbrev pub rows_given : Option Data → Result (List Data) InputFault
+rows_given None = Err (Missing (head 4))
+rows_given (Some d) = after (rows_listed (head 4) d) some_rows
+
+abbrev pub rows_in : Data → Result (List Data) InputFault
+rows_in d = after (unread_head d) (λ _. rows_given (field (codes "rows") d))

@@ -1,0 +1,197 @@
+// Generated from tools/nodes/table.txt; edit that and run tools/nodes/generate.
+// What is made of a row where it is a child: a member of the set that the place is for.
+ghost use Rattle.std.specs.Prelude.{◌≡◌, IfOk, Some, None, option_map, if◌then◌else◌};
+ghost use Rattle.jsgen_tree.specs.Tree.{type_of};
+ghost use Rattle.jsgen_tree.specs.Sets.{in_set};
+ghost use Rattle.jsgen_tree.specs.Rows.{in_expression, in_argument, in_declaration, in_statement, in_binding_pattern, directive_row, variable_declarator_row, identifier_name_row};
+ghost use Rattle.jsgen_fields.specs.Kept.{row_plain};
+ghost use Rattle.jsgen_tree.specs.declared.types.NodeSet.TheVariants as sets;
+
+use crate::children::Child;
+use crate::kept::{ReadNode, Row};
+use jsgen_tree::{
+    Argument, BindingPatternNode, DeclarationNode, Directive, ExpressionNode, IdentifierName,
+    NodeSet, Statement, StatementNode, VariableDeclarator,
+};
+use std::alloc::{AllocError, Global};
+
+impl<N: ReadNode + Drop> Child<N> for Directive {
+    ghost plain = { λ n. directive_row n };
+
+    ghost of_set = { sets.Directive };
+
+    fn set() -> NodeSet {
+        NodeSet::Directive
+    }
+
+    #[tactic(auto, using(crate::proofs::Sets::takes_directives))]
+    fn from_row(alloc: Global, row: Row<N>) -> Result<Option<Directive>, AllocError>
+        ensures { IfOk result (λ child. option_map directive_row child
+            ≡ (if in_set sets.Directive (type_of (row_plain N.plain row)) then Some (row_plain N.plain row) else None)) }
+    {
+        let _ = alloc;
+        match row {
+            Row::Directive(row) => Ok(Some(Box::into_inner(row))),
+            _ => Ok(None),
+        }
+    }
+}
+
+impl<N: ReadNode + Drop> Child<N> for StatementNode<N> {
+    ghost plain = { λ n. in_statement N.plain n };
+
+    ghost of_set = { sets.Statement };
+
+    fn set() -> NodeSet {
+        NodeSet::Statement
+    }
+
+    #[tactic(auto, using(crate::proofs::Sets::takes_statements))]
+    fn from_row(alloc: Global, row: Row<N>) -> Result<Option<StatementNode<N>>, AllocError>
+        ensures { IfOk result (λ child. option_map (in_statement N.plain) child
+            ≡ (if in_set sets.Statement (type_of (row_plain N.plain row)) then Some (row_plain N.plain row) else None)) }
+    {
+        match row {
+            Row::Declaration(row) => statement_of_declaration(
+                alloc,
+                N::declaration_node(Box::into_inner(row)),
+            ),
+            Row::Statement(row) => Ok(Some(N::statement_node(Box::into_inner(row).statement))),
+            _ => Ok(None),
+        }
+    }
+}
+
+impl<N: ReadNode + Drop> Child<N> for VariableDeclarator<N> {
+    ghost plain = { λ n. variable_declarator_row N.plain n };
+
+    ghost of_set = { sets.VariableDeclarator };
+
+    fn set() -> NodeSet {
+        NodeSet::VariableDeclarator
+    }
+
+    #[tactic(auto, using(crate::proofs::Sets::takes_variable_declarators))]
+    fn from_row(alloc: Global, row: Row<N>) -> Result<Option<VariableDeclarator<N>>, AllocError>
+        ensures { IfOk result (λ child. option_map (variable_declarator_row N.plain) child
+            ≡ (if in_set sets.VariableDeclarator (type_of (row_plain N.plain row)) then Some (row_plain N.plain row) else None)) }
+    {
+        let _ = alloc;
+        match row {
+            Row::VariableDeclarator(row) => Ok(Some(Box::into_inner(row))),
+            _ => Ok(None),
+        }
+    }
+}
+
+impl<N: ReadNode + Drop> Child<N> for BindingPatternNode<N> {
+    ghost plain = { λ n. in_binding_pattern N.plain n };
+
+    ghost of_set = { sets.BindingPattern };
+
+    fn set() -> NodeSet {
+        NodeSet::BindingPattern
+    }
+
+    #[tactic(auto, using(crate::proofs::Sets::takes_binding_patterns))]
+    fn from_row(alloc: Global, row: Row<N>) -> Result<Option<BindingPatternNode<N>>, AllocError>
+        ensures { IfOk result (λ child. option_map (in_binding_pattern N.plain) child
+            ≡ (if in_set sets.BindingPattern (type_of (row_plain N.plain row)) then Some (row_plain N.plain row) else None)) }
+    {
+        let _ = alloc;
+        match row {
+            Row::BindingPattern(row) => Ok(Some(N::binding_pattern_node(Box::into_inner(row)))),
+            _ => Ok(None),
+        }
+    }
+}
+
+impl<N: ReadNode + Drop> Child<N> for ExpressionNode<N> {
+    ghost plain = { λ n. in_expression N.plain n };
+
+    ghost of_set = { sets.Expression };
+
+    fn set() -> NodeSet {
+        NodeSet::Expression
+    }
+
+    #[tactic(auto, using(crate::proofs::Sets::takes_expressions))]
+    fn from_row(alloc: Global, row: Row<N>) -> Result<Option<ExpressionNode<N>>, AllocError>
+        ensures { IfOk result (λ child. option_map (in_expression N.plain) child
+            ≡ (if in_set sets.Expression (type_of (row_plain N.plain row)) then Some (row_plain N.plain row) else None)) }
+    {
+        let _ = alloc;
+        match row {
+            Row::Expression(row) => Ok(Some(N::expression_node(Box::into_inner(row)))),
+            _ => Ok(None),
+        }
+    }
+}
+
+impl<N: ReadNode + Drop> Child<N> for Box<IdentifierName> {
+    ghost plain = { λ n. identifier_name_row n.value };
+
+    ghost of_set = { sets.IdentifierName };
+
+    fn set() -> NodeSet {
+        NodeSet::IdentifierName
+    }
+
+    #[tactic(auto, using(crate::proofs::Sets::takes_identifier_names))]
+    fn from_row(alloc: Global, row: Row<N>) -> Result<Option<Box<IdentifierName>>, AllocError>
+        ensures { IfOk result (λ child. option_map (λ b. identifier_name_row b.value) child
+            ≡ (if in_set sets.IdentifierName (type_of (row_plain N.plain row)) then Some (row_plain N.plain row) else None)) }
+    {
+        let _ = alloc;
+        match row {
+            Row::IdentifierName(row) => Ok(Some(row)),
+            _ => Ok(None),
+        }
+    }
+}
+
+impl<N: ReadNode + Drop> Child<N> for Argument<N> {
+    ghost plain = { λ n. in_argument N.plain n };
+
+    ghost of_set = { sets.Argument };
+
+    fn set() -> NodeSet {
+        NodeSet::Argument
+    }
+
+    #[tactic(auto, using(crate::proofs::Sets::takes_expressions))]
+    fn from_row(alloc: Global, row: Row<N>) -> Result<Option<Argument<N>>, AllocError>
+        ensures { IfOk result (λ child. option_map (in_argument N.plain) child
+            ≡ (if in_set sets.Argument (type_of (row_plain N.plain row)) then Some (row_plain N.plain row) else None)) }
+    {
+        match row {
+            Row::Expression(row) => argument_of_expression(
+                alloc,
+                N::expression_node(Box::into_inner(row)),
+            ),
+            _ => Ok(None),
+        }
+    }
+}
+
+// ---- a member of a set within the set, which stands in a box of its own
+
+fn statement_of_declaration<N: ReadNode + Drop>(
+    alloc: Global,
+    declaration: DeclarationNode<N>,
+) -> Result<Option<StatementNode<N>>, AllocError>
+    ensures { IfOk result (λ child. option_map (in_statement N.plain) child ≡ Some (in_declaration N.plain declaration)) }
+{
+    let declaration = Box::new(alloc, declaration)?;
+    Ok(Some(N::statement_node(Statement::Declaration(declaration))))
+}
+
+fn argument_of_expression<N: ReadNode + Drop>(
+    alloc: Global,
+    expression: ExpressionNode<N>,
+) -> Result<Option<Argument<N>>, AllocError>
+    ensures { IfOk result (λ child. option_map (in_argument N.plain) child ≡ Some (in_expression N.plain expression)) }
+{
+    let expression = Box::new(alloc, expression)?;
+    Ok(Some(Argument::Expression(expression)))
+}

@@ -1,0 +1,102 @@
+// Children: each is taken out by its number, and is made of the row that was read.
+ghost use Rattle.std.specs.Prelude.{◌≡◌, true, IfOk, Some, None, [], map, option_map, if◌then◌else◌};
+ghost use Rattle.serde_json.specs.View.{view};
+ghost use Rattle.serde_json.specs.Find.{as_number};
+ghost use Rattle.jsgen_tree.specs.Tree.{type_of};
+ghost use Rattle.jsgen_tree.specs.Sets.{in_set};
+ghost use Rattle.jsgen_fields.specs.Values.{Same};
+ghost use Rattle.jsgen_fields.specs.Reads.{Gives, number_in, take_child, take_each};
+ghost use Rattle.jsgen_fields.specs.Kept.{row_plain, entries};
+
+use crate::kept::{ReadNode, Row};
+use crate::{At, InputFault};
+use jsgen_pool::{Kept, TakeFault, take};
+use jsgen_tree::NodeSet;
+use serde_json::Value;
+use std::alloc::{AllocError, Global};
+
+/// What a place for children takes: a set of types, and what is made of a row of one of them.
+pub trait Child<N: ReadNode>: Sized {
+    ghost use Rattle.jsgen_tree.specs.Tree.{Tree};
+    ghost use Rattle.jsgen_tree.specs.declared.types.NodeSet.{NodeSet};
+
+    ghost plain: { Self → Tree };
+
+    ghost of_set: { NodeSet };
+
+    fn set() -> NodeSet
+        ensures { result ≡ of_set };
+
+    /// The child that a row is, where it is of the set.
+    fn from_row(alloc: Global, row: Row<N>) -> Result<Option<Self>, AllocError>
+        ensures { IfOk result (λ child. option_map plain child
+            ≡ (if in_set of_set (type_of (row_plain N.plain row)) then Some (row_plain N.plain row) else None)) };
+}
+
+// ---- taking
+
+// A whole number below zero is no row's.
+fn number_in(at: At, value: &Value) -> Result<u64, InputFault>
+    ensures { Same (λ n. n) result (number_in at (as_number (view value.now))) }
+{
+    match value.as_u64() {
+        Some(number) => Ok(number),
+        None => {
+            if value.as_i64().is_some() {
+                Err(InputFault::Child(at))
+            } else {
+                Err(InputFault::Wrong(at))
+            }
+        }
+    }
+}
+
+fn take_child<N: ReadNode + Drop>(
+    kept: &mut Vec<Kept<Row<N>>>,
+    at: At,
+    set: NodeSet,
+    value: &Value,
+) -> Result<Row<N>, InputFault>
+    ensures reads { Gives (row_plain N.plain) result (entries N.plain kept.new.items) (take_child at set (view value.now) (entries N.plain kept.old.items)) }
+    ensures fits { IfOk result (λ r. true ≡ in_set set (type_of (row_plain N.plain r))) }
+{
+    let number = number_in(at, value)?;
+    match take(kept, set, number) {
+        Ok(row) => Ok(row),
+        Err(TakeFault::Absent) => Err(InputFault::Child(at)),
+        Err(TakeFault::Taken(index)) => Err(InputFault::Shared(index)),
+    }
+}
+
+pub fn take_as<N: ReadNode + Drop, C: Child<N> + Drop>(
+    alloc: Global,
+    kept: &mut Vec<Kept<Row<N>>>,
+    at: At,
+    value: &Value,
+) -> Result<C, InputFault>
+    ensures { Gives C.plain result (entries N.plain kept.new.items)
+        (take_child at C.of_set (view value.now) (entries N.plain kept.old.items)) }
+{
+    let row = take_child(kept, at, C::set(), value)?;
+    match C::from_row(alloc, row)? {
+        Some(child) => Ok(child),
+        None => Err(InputFault::Wrong(at)),
+    }
+}
+
+pub fn take_all<N: ReadNode + Drop, C: Child<N> + Drop>(
+    alloc: Global,
+    kept: &mut Vec<Kept<Row<N>>>,
+    at: At,
+    values: &[Value],
+) -> Result<Vec<C>, InputFault>
+    ensures { Gives (λ v. map C.plain v.items) result (entries N.plain kept.new.items)
+        (take_each (take_child at C.of_set) [] (map view values.now) (entries N.plain kept.old.items)) }
+{
+    let mut children = Vec::with_capacity(alloc, values.len())?;
+    for value in values {
+        let child = take_as(alloc, kept, at, value)?;
+        children.push(child)?;
+    }
+    Ok(children)
+}

@@ -1,0 +1,90 @@
+//! The fields of a job's rows: what stands in them, the rows that were read, and what becomes of a row where it is a child.
+#![tactic(auto)]
+
+ghost use Rattle.std.specs.Prelude.{◌≡◌};
+ghost use Rattle.jsgen_fields.specs.Values.{at, head};
+ghost use Rattle.jsgen_fields.specs.declared.InputFault.TheVariants as faults;
+
+mod child_sets;
+mod children;
+pub mod fields;
+pub mod floats;
+pub mod kept;
+mod names;
+pub mod others;
+pub mod set_fields;
+pub mod strings;
+pub mod values;
+pub mod words;
+
+use jsgen_syntax::Memory;
+use std::alloc::{AllocError, AllocFailed};
+
+/// A field of a job: by its number, in a row or, where there is none, in the job's head.
+#[derive(Clone, Copy, Debug, PartialEq, Eq)]
+pub struct At {
+    pub row: Option<usize>,
+    pub field: usize,
+}
+
+impl At {
+    /// A field of the head.
+    pub fn of_head(field: usize) -> At
+        ensures { result ≡ head field }
+    {
+        At { row: None, field }
+    }
+
+    /// A field of a row.
+    pub fn of_row(row: usize, field: usize) -> At
+        ensures { result ≡ at row field }
+    {
+        At {
+            row: Some(row),
+            field,
+        }
+    }
+}
+
+/// Why bytes are no job.
+#[derive(Clone, Copy, Debug, PartialEq, Eq)]
+pub enum InputFault {
+    /// The bytes are no JSON object (RFC 8259), in UTF-8.
+    Json,
+    /// A number that is no whole number, or too large for one.
+    Float(At),
+    /// A field that is needed isn't there.
+    Missing(At),
+    /// A value of the wrong kind, an unknown word, a number out of range.
+    Wrong(At),
+    /// A child that is no earlier row, or a row of another set.
+    Child(At),
+    /// This row is the child of an earlier place already.
+    Shared(usize),
+    /// Memory ran out.
+    Memory,
+}
+
+impl From<AllocError> for InputFault {
+    ghost from_gives = { λ x y. y ≡ faults.Memory };
+
+    fn from(_error: AllocError) -> InputFault {
+        InputFault::Memory
+    }
+}
+
+impl<T: Drop> From<AllocFailed<T>> for InputFault {
+    ghost from_gives = { λ x y. y ≡ faults.Memory };
+
+    fn from(_error: AllocFailed<T>) -> InputFault {
+        InputFault::Memory
+    }
+}
+
+impl From<Memory> for InputFault {
+    ghost from_gives = { λ x y. y ≡ faults.Memory };
+
+    fn from(_error: Memory) -> InputFault {
+        InputFault::Memory
+    }
+}

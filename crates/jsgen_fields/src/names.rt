@@ -1,0 +1,51 @@
+// Generated from tools/nodes/table.txt; edit that and run tools/nodes/generate.
+// The names of types.
+ghost use Rattle.std.specs.Prelude.{◌≡◌, map};
+ghost use Rattle.jsgen_fields.specs.Names.{first_named, type_named};
+
+use jsgen_tree::NodeType;
+
+const TYPE_NAMES: [(&str, NodeType); 20] = [
+    ("Program", NodeType::Program),
+    ("Directive", NodeType::Directive),
+    ("VariableDeclaration", NodeType::VariableDeclaration),
+    ("VariableDeclarator", NodeType::VariableDeclarator),
+    ("BindingIdentifier", NodeType::BindingIdentifier),
+    ("ExpressionStatement", NodeType::ExpressionStatement),
+    ("BlockStatement", NodeType::BlockStatement),
+    ("IfStatement", NodeType::IfStatement),
+    ("EmptyStatement", NodeType::EmptyStatement),
+    ("IdentifierReference", NodeType::IdentifierReference),
+    ("ThisExpression", NodeType::ThisExpression),
+    ("NumericLiteral", NodeType::NumericLiteral),
+    ("StringLiteral", NodeType::StringLiteral),
+    ("ParenthesizedExpression", NodeType::ParenthesizedExpression),
+    ("BinaryExpression", NodeType::BinaryExpression),
+    ("LogicalExpression", NodeType::LogicalExpression),
+    ("IdentifierName", NodeType::IdentifierName),
+    ("StaticMemberExpression", NodeType::StaticMemberExpression),
+    (
+        "ComputedMemberExpression",
+        NodeType::ComputedMemberExpression,
+    ),
+    ("CallExpression", NodeType::CallExpression),
+];
+
+fn first_named(names: &[(&str, NodeType)], name: &str) -> Option<NodeType>
+    ensures { result ≡ first_named (map (λ n. (n.0.now, n.1)) names.now) name.now }
+{
+    for named in names {
+        if name == named.0 {
+            return Some(named.1);
+        }
+    }
+    None
+}
+
+/// The type that a name names.
+#[tactic(auto, unfolding(crate::specs::Names::type_named))]
+pub fn type_by_name(name: &str) -> Option<NodeType>
+    ensures { result ≡ type_named name.now }
+{
+    first_named(&TYPE_NAMES, name)
+}

@@ -1,0 +1,163 @@
+// Generated from tools/nodes/table.txt; edit that and run tools/nodes/generate.
+// Fields that hold children, by set: a row that calls one of these passes no impl of `Child`, which would be proved at each call.
+ghost use Rattle.std.specs.Prelude.{true, false, map, option_map};
+ghost use Rattle.serde_json.specs.View.{view};
+ghost use Rattle.jsgen_tree.specs.Tree.{optional, trees};
+ghost use Rattle.jsgen_tree.specs.Table.{needed, may_be_absent, child, children as many};
+ghost use Rattle.jsgen_tree.specs.Rows.{in_expression, in_argument, in_statement, in_binding_pattern, directive_row, variable_declarator_row, identifier_name_row};
+ghost use Rattle.jsgen_fields.specs.Values.{at, field as value_under};
+ghost use Rattle.jsgen_fields.specs.Meaning.{a_child, a_maybe, a_list};
+ghost use Rattle.jsgen_fields.specs.Reads.{Gives, read_children};
+ghost use Rattle.jsgen_fields.specs.Kept.{entries};
+ghost use Rattle.jsgen_tree.specs.declared.types.NodeSet.TheVariants as sets;
+
+use crate::InputFault;
+use crate::fields::{children, needed_child, optional_child};
+use crate::kept::{ReadNode, Row};
+use jsgen_pool::Kept;
+use jsgen_tree::{
+    Argument, BindingPatternNode, Directive, ExpressionNode, IdentifierName, StatementNode,
+    VariableDeclarator,
+};
+use serde_json::Value;
+use std::alloc::Global;
+
+pub fn directive_list<N: ReadNode + Drop>(
+    alloc: Global,
+    kept: &mut Vec<Kept<Row<N>>>,
+    number: usize,
+    field: usize,
+    row: &Value,
+    name: &str,
+) -> Result<Vec<Directive>, InputFault>
+    ensures { Gives (λ v. a_list (trees (map directive_row v.items))) result (entries N.plain kept.new.items)
+        (read_children (at number field) false may_be_absent (many sets.Directive) (value_under name.now (view row.now)) (entries N.plain kept.old.items)) }
+{
+    children(alloc, kept, number, field, row, name)
+}
+
+pub fn statement_list<N: ReadNode + Drop>(
+    alloc: Global,
+    kept: &mut Vec<Kept<Row<N>>>,
+    number: usize,
+    field: usize,
+    row: &Value,
+    name: &str,
+) -> Result<Vec<StatementNode<N>>, InputFault>
+    ensures { Gives (λ v. a_list (trees (map (in_statement N.plain) v.items))) result (entries N.plain kept.new.items)
+        (read_children (at number field) false may_be_absent (many sets.Statement) (value_under name.now (view row.now)) (entries N.plain kept.old.items)) }
+{
+    children(alloc, kept, number, field, row, name)
+}
+
+pub fn variable_declarator_list<N: ReadNode + Drop>(
+    alloc: Global,
+    kept: &mut Vec<Kept<Row<N>>>,
+    number: usize,
+    field: usize,
+    row: &Value,
+    name: &str,
+) -> Result<Vec<VariableDeclarator<N>>, InputFault>
+    ensures { Gives (λ v. a_list (trees (map (variable_declarator_row N.plain) v.items))) result (entries N.plain kept.new.items)
+        (read_children (at number field) false may_be_absent (many sets.VariableDeclarator) (value_under name.now (view row.now)) (entries N.plain kept.old.items)) }
+{
+    children(alloc, kept, number, field, row, name)
+}
+
+pub fn needed_binding_pattern<N: ReadNode + Drop>(
+    alloc: Global,
+    kept: &mut Vec<Kept<Row<N>>>,
+    number: usize,
+    field: usize,
+    row: &Value,
+    name: &str,
+) -> Result<BindingPatternNode<N>, InputFault>
+    ensures { Gives (λ c. a_child (in_binding_pattern N.plain c)) result (entries N.plain kept.new.items)
+        (read_children (at number field) true needed (child sets.BindingPattern) (value_under name.now (view row.now)) (entries N.plain kept.old.items)) }
+{
+    needed_child(alloc, kept, number, field, row, name)
+}
+
+pub fn optional_expression<N: ReadNode + Drop>(
+    alloc: Global,
+    kept: &mut Vec<Kept<Row<N>>>,
+    number: usize,
+    field: usize,
+    row: &Value,
+    name: &str,
+) -> Result<Option<ExpressionNode<N>>, InputFault>
+    ensures { Gives (λ o. a_maybe (optional (option_map (in_expression N.plain) o))) result (entries N.plain kept.new.items)
+        (read_children (at number field) false may_be_absent (child sets.Expression) (value_under name.now (view row.now)) (entries N.plain kept.old.items)) }
+{
+    optional_child(alloc, kept, number, field, row, name)
+}
+
+pub fn needed_expression<N: ReadNode + Drop>(
+    alloc: Global,
+    kept: &mut Vec<Kept<Row<N>>>,
+    number: usize,
+    field: usize,
+    row: &Value,
+    name: &str,
+) -> Result<ExpressionNode<N>, InputFault>
+    ensures { Gives (λ c. a_child (in_expression N.plain c)) result (entries N.plain kept.new.items)
+        (read_children (at number field) true needed (child sets.Expression) (value_under name.now (view row.now)) (entries N.plain kept.old.items)) }
+{
+    needed_child(alloc, kept, number, field, row, name)
+}
+
+pub fn needed_statement<N: ReadNode + Drop>(
+    alloc: Global,
+    kept: &mut Vec<Kept<Row<N>>>,
+    number: usize,
+    field: usize,
+    row: &Value,
+    name: &str,
+) -> Result<StatementNode<N>, InputFault>
+    ensures { Gives (λ c. a_child (in_statement N.plain c)) result (entries N.plain kept.new.items)
+        (read_children (at number field) true needed (child sets.Statement) (value_under name.now (view row.now)) (entries N.plain kept.old.items)) }
+{
+    needed_child(alloc, kept, number, field, row, name)
+}
+
+pub fn optional_statement<N: ReadNode + Drop>(
+    alloc: Global,
+    kept: &mut Vec<Kept<Row<N>>>,
+    number: usize,
+    field: usize,
+    row: &Value,
+    name: &str,
+) -> Result<Option<StatementNode<N>>, InputFault>
+    ensures { Gives (λ o. a_maybe (optional (option_map (in_statement N.plain) o))) result (entries N.plain kept.new.items)
+        (read_children (at number field) false may_be_absent (child sets.Statement) (value_under name.now (view row.now)) (entries N.plain kept.old.items)) }
+{
+    optional_child(alloc, kept, number, field, row, name)
+}
+
+pub fn needed_identifier_name<N: ReadNode + Drop>(
+    alloc: Global,
+    kept: &mut Vec<Kept<Row<N>>>,
+    number: usize,
+    field: usize,
+    row: &Value,
+    name: &str,
+) -> Result<Box<IdentifierName>, InputFault>
+    ensures { Gives (λ c. a_child (identifier_name_row c.value)) result (entries N.plain kept.new.items)
+        (read_children (at number field) true needed (child sets.IdentifierName) (value_under name.now (view row.now)) (entries N.plain kept.old.items)) }
+{
+    needed_child(alloc, kept, number, field, row, name)
+}
+
+pub fn argument_list<N: ReadNode + Drop>(
+    alloc: Global,
+    kept: &mut Vec<Kept<Row<N>>>,
+    number: usize,
+    field: usize,
+    row: &Value,
+    name: &str,
+) -> Result<Vec<Argument<N>>, InputFault>
+    ensures { Gives (λ v. a_list (trees (map (in_argument N.plain) v.items))) result (entries N.plain kept.new.items)
+        (read_children (at number field) false may_be_absent (many sets.Argument) (value_under name.now (view row.now)) (entries N.plain kept.old.items)) }
+{
+    children(alloc, kept, number, field, row, name)
+}

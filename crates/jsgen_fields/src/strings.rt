@@ -1,0 +1,67 @@
+// Fields that hold the value of a string.
+ghost use Rattle.std.specs.Prelude.{◌≡◌, ◌∷◌, true, Ok, map};
+ghost use Rattle.serde_json.specs.View.{view};
+ghost use Rattle.jsgen_syntax.specs.Units.{js_units};
+ghost use Rattle.jsgen_tree.specs.Atom.{no_value, units as units_atom};
+ghost use Rattle.jsgen_tree.specs.Table.{units};
+ghost use Rattle.jsgen_fields.specs.Reads.{read_value};
+ghost use Rattle.jsgen_fields.specs.Values.{Same, at, field as value_under, unit_in, units_listed, units_in};
+
+use crate::values::{items_in, needed_value};
+use crate::{At, InputFault};
+use jsgen_syntax::JsStr;
+use serde_json::Value;
+use std::alloc::Global;
+
+/// One unit of UTF-16.
+fn unit_in(value: &Value) -> Option<u16>
+    ensures { result ≡ unit_in (view value.now) }
+{
+    let number = value.as_u64()?;
+    if number < 65536 {
+        Some(number as u16)
+    } else {
+        None
+    }
+}
+
+fn units_listed(alloc: Global, at: At, items: &[Value]) -> Result<Vec<u16>, InputFault>
+    ensures { Same (λ v. v.items) result (units_listed at (map view items.now)) }
+{
+    let mut units = Vec::with_capacity(alloc, items.len())?;
+    for item in items {
+        let Some(unit) = unit_in(item) else {
+            return Err(InputFault::Wrong(at));
+        };
+        units.push(unit)?;
+    }
+    Ok(units)
+}
+
+/// A text, or a list of the units.
+fn units_in(alloc: Global, at: At, value: &Value) -> Result<JsStr, InputFault>
+    ensures { Same (λ s. js_units s) result (units_in at (view value.now)) }
+{
+    if let Some(text) = value.as_str() {
+        return Ok(JsStr::from_text(alloc, text)?);
+    }
+    let items = items_in(at, value)?;
+    let units = units_listed(alloc, at, items)?;
+    Ok(JsStr::from_units(alloc, units.as_slice())?)
+}
+
+#[tactic(auto, unfolding(crate::specs::Reads::read_value))]
+pub fn needed_units(
+    alloc: Global,
+    number: usize,
+    field: usize,
+    row: &Value,
+    name: &str,
+) -> Result<JsStr, InputFault>
+    ensures { Same (λ s. units_atom (js_units s)) result
+        (read_value (at number field) true no_value units (value_under name.now (view row.now))) }
+{
+    let at = At::of_row(number, field);
+    let value = needed_value(at, row, name)?;
+    units_in(alloc, at, value)
+}

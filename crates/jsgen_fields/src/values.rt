@@ -1,0 +1,297 @@
+// What stands in a field by itself.
+ghost use Rattle.std.specs.Prelude.{◌≡◌, [], suc, Some, true, false, map, option_map};
+ghost use Rattle.std.specs.Str.{bytes_eq};
+ghost use Rattle.serde_json.specs.View.{view};
+ghost use Rattle.jsgen_tree.specs.Characters.{characters};
+ghost use Rattle.jsgen_tree.specs.Atom.{no_value, text as text_atom, digits as digits_atom, flag as flag_atom};
+ghost use Rattle.jsgen_tree.specs.Table.{text, digits, flag};
+ghost use Rattle.serde_json.specs.Find.{as_bool};
+ghost use Rattle.jsgen_fields.specs.declared.InputFault.TheVariants.{Wrong};
+ghost use Rattle.jsgen_fields.specs.Reads.{read_value};
+ghost use Rattle.jsgen_fields.specs.Values.{Same, after, or_fault, at, field, field as value_under, field_in, not_given, text_in, items_in, starts_plainly, decimal_number, digits_in, value_in, type_of, span_of, offset_in, offsets};
+
+use crate::floats::holds_float;
+use crate::names::type_by_name;
+use crate::{At, InputFault};
+use jsgen_syntax::Span;
+use jsgen_tree::NodeType;
+use serde_json::Value;
+use std::alloc::Global;
+
+/// What stands under a name; null counts as absent.
+pub fn present<'v>(object: &'v Value, name: &str) -> Option<&'v Value>
+    ensures { option_map (λ v. view v.now) result ≡ field name.now (view object.now) }
+{
+    match object.get(name) {
+        Some(value) => { if value.is_null() { None } else { Some(value) } }
+        None => None,
+    }
+}
+
+pub fn optional_value<'v>(
+    at: At,
+    row: &'v Value,
+    name: &str,
+) -> Result<Option<&'v Value>, InputFault>
+    ensures { Same (λ o. option_map (λ v. view v.now) o) result (field_in at false (field name.now (view row.now))) }
+{
+    let Some(value) = present(row, name) else {
+        return Ok(None);
+    };
+    if holds_float(value) {
+        return Err(InputFault::Float(at));
+    }
+    Ok(Some(value))
+}
+
+pub fn needed_value<'v>(at: At, row: &'v Value, name: &str) -> Result<&'v Value, InputFault>
+    ensures { Same (λ v. Some (view v.now)) result (field_in at true (field name.now (view row.now))) }
+{
+    let Some(value) = present(row, name) else {
+        return Err(InputFault::Missing(at));
+    };
+    if holds_float(value) {
+        return Err(InputFault::Float(at));
+    }
+    Ok(value)
+}
+
+/// What isn't read yet may not be given.
+#[tactic(auto, unfolding(crate::specs::Values::not_given))]
+pub fn not_given(at: At, object: &Value, name: &str) -> Result<(), InputFault>
+    ensures { Same (λ u. u) result (not_given at (field name.now (view object.now))) }
+{
+    match present(object, name) {
+        Some(_) => Err(InputFault::Wrong(at)),
+        None => Ok(()),
+    }
+}
+
+/// A field of a row that isn't read yet.
+pub fn field_not_given(
+    number: usize,
+    field: usize,
+    row: &Value,
+    name: &str,
+) -> Result<(), InputFault>
+    ensures { Same (λ u. u) result (not_given (at number field) (value_under name.now (view row.now))) }
+{
+    not_given(At::of_row(number, field), row, name)
+}
+
+/// Two fields of a row, one after the other from this number on, neither of which is read yet.
+pub fn neither_given(
+    number: usize,
+    field: u8,
+    row: &Value,
+    name: &str,
+    other: &str,
+) -> Result<(), InputFault>
+    ensures { Same (λ u. u) result (after (not_given (at number field) (value_under name.now (view row.now)))
+        (λ given. not_given (at number (suc field)) (value_under other.now (view row.now)))) }
+{
+    not_given(At::of_row(number, usize::from(field)), row, name)?;
+    not_given(At::of_row(number, usize::from(field) + 1), row, other)
+}
+
+pub fn text_in(at: At, value: &Value) -> Result<&str, InputFault>
+    ensures { Same (λ s. s.now) result (text_in at (view value.now)) }
+{
+    match value.as_str() {
+        Some(text) => Ok(text),
+        None => Err(InputFault::Wrong(at)),
+    }
+}
+
+#[tactic(auto, using(crate::proofs::Listed::lists))]
+pub fn items_in(at: At, value: &Value) -> Result<&Vec<Value>, InputFault>
+    ensures { Same (λ v. map view v.now.items) result (items_in at (view value.now)) }
+{
+    match value.as_array() {
+        Some(list) => Ok(list),
+        None => Err(InputFault::Wrong(at)),
+    }
+}
+
+// ---- digits
+
+fn starts_plainly(digits: &[u8]) -> bool
+    ensures { result ≡ starts_plainly digits.now }
+{
+    match digits {
+        [] => false,
+        [_] => true,
+        [first, ..] => *first != b'0',
+    }
+}
+
+fn decimal_number(text: &str) -> Option<u128>
+    ensures { result ≡ decimal_number text.now }
+{
+    let bytes = text.as_bytes();
+    if !starts_plainly(bytes) {
+        return None;
+    }
+    if bytes[0] == b'+' {
+        return None;
+    }
+    text.parse::<u128>().ok()
+}
+
+fn digits_in(at: At, value: &Value) -> Result<u128, InputFault>
+    ensures { Same (λ n. n) result (digits_in at (view value.now)) }
+{
+    if let Some(number) = value.as_u64() {
+        return Ok(u128::from(number));
+    }
+    let text = text_in(at, value)?;
+    match decimal_number(text) {
+        Some(number) => Ok(number),
+        None => Err(InputFault::Wrong(at)),
+    }
+}
+
+// ---- fields with no children
+
+fn text_value(alloc: Global, at: At, value: &Value) -> Result<String, InputFault>
+    ensures { Same (λ s. text_atom (characters s)) result (value_in at text (view value.now)) }
+{
+    let text = text_in(at, value)?;
+    Ok(String::from_str(alloc, text)?)
+}
+
+fn no_text(alloc: Global) -> String
+    ensures { characters result ≡ [] }
+{
+    String::new(alloc)
+}
+
+#[tactic(auto, unfolding(crate::specs::Reads::read_value))]
+pub fn needed_text(
+    alloc: Global,
+    number: usize,
+    field: usize,
+    row: &Value,
+    name: &str,
+) -> Result<String, InputFault>
+    ensures { Same (λ s. text_atom (characters s)) result
+        (read_value (at number field) true no_value text (value_under name.now (view row.now))) }
+{
+    let at = At::of_row(number, field);
+    let value = needed_value(at, row, name)?;
+    text_value(alloc, at, value)
+}
+
+/// A text that is empty where it is absent.
+#[tactic(auto, unfolding(crate::specs::Reads::read_value))]
+pub fn optional_text(
+    alloc: Global,
+    number: usize,
+    field: usize,
+    row: &Value,
+    name: &str,
+) -> Result<String, InputFault>
+    ensures { Same (λ s. text_atom (characters s)) result
+        (read_value (at number field) false (text_atom []) text (value_under name.now (view row.now))) }
+{
+    let at = At::of_row(number, field);
+    match optional_value(at, row, name)? {
+        Some(value) => text_value(alloc, at, value),
+        None => Ok(no_text(alloc)),
+    }
+}
+
+#[tactic(auto, unfolding(crate::specs::Reads::read_value))]
+pub fn needed_digits(
+    number: usize,
+    field: usize,
+    row: &Value,
+    name: &str,
+) -> Result<u128, InputFault>
+    ensures { Same (λ n. digits_atom n) result
+        (read_value (at number field) true no_value digits (value_under name.now (view row.now))) }
+{
+    let at = At::of_row(number, field);
+    let value = needed_value(at, row, name)?;
+    digits_in(at, value)
+}
+
+fn flag_in(at: At, value: &Value) -> Result<bool, InputFault>
+    ensures { Same (λ b. b) result (or_fault (Wrong at) (as_bool (view value.now))) }
+{
+    match value.as_bool() {
+        Some(given) => Ok(given),
+        None => Err(InputFault::Wrong(at)),
+    }
+}
+
+/// A flag that is false where it is absent.
+#[tactic(auto, unfolding(crate::specs::Reads::read_value))]
+pub fn optional_flag(
+    number: usize,
+    field: usize,
+    row: &Value,
+    name: &str,
+) -> Result<bool, InputFault>
+    ensures { Same (λ b. flag_atom b) result
+        (read_value (at number field) false (flag_atom false) flag (value_under name.now (view row.now))) }
+{
+    let at = At::of_row(number, field);
+    match optional_value(at, row, name)? {
+        Some(value) => flag_in(at, value),
+        None => Ok(false),
+    }
+}
+
+// ---- the type and the span of a row
+
+pub fn type_of(number: usize, row: &Value) -> Result<NodeType, InputFault>
+    ensures { Same (λ t. t) result (type_of number (view row.now)) }
+{
+    let at = At::of_row(number, 0);
+    if row.as_object().is_none() {
+        return Err(InputFault::Wrong(at));
+    }
+    let value = needed_value(at, row, "type")?;
+    let name = text_in(at, value)?;
+    match type_by_name(name) {
+        Some(node_type) => Ok(node_type),
+        None => Err(InputFault::Wrong(at)),
+    }
+}
+
+fn offset_in(value: &Value) -> Option<u32>
+    ensures { result ≡ offset_in (view value.now) }
+{
+    let number = value.as_u64()?;
+    if number < 4294967296 {
+        Some(number as u32)
+    } else {
+        None
+    }
+}
+
+fn offsets(items: &[Value]) -> Option<Span>
+    ensures { result ≡ offsets (map view items.now) }
+{
+    let [start, end] = items else {
+        return None;
+    };
+    let start = offset_in(start)?;
+    let end = offset_in(end)?;
+    Some(Span { start, end })
+}
+
+pub fn span_of(number: usize, row: &Value) -> Result<Span, InputFault>
+    ensures { Same (λ s. s) result (span_of number (view row.now)) }
+{
+    let at = At::of_row(number, 1);
+    let Some(value) = optional_value(at, row, "span")? else {
+        return Ok(Span { start: 0, end: 0 });
+    };
+    let items = items_in(at, value)?;
+    match offsets(items) {
+        Some(span) => Ok(span),
+        None => Err(InputFault::Wrong(at)),
+    }
+}

@@ -1,0 +1,155 @@
+// Generated from tools/nodes/table.txt; edit that and run tools/nodes/generate.
+// Fields that hold a word.
+ghost use Rattle.std.specs.Prelude.{◌≡◌, true, option_map};
+ghost use Rattle.serde_json.specs.View.{view};
+ghost use Rattle.jsgen_tree.specs.Atom.{no_value, source_kind, declaration_kind, binary_operator, logical_operator};
+ghost use Rattle.jsgen_tree.specs.Table.{word};
+ghost use Rattle.jsgen_tree.specs.Fields.{source_kind_words, declaration_kind_words, binary_operator_words, logical_operator_words};
+ghost use Rattle.jsgen_fields.specs.Reads.{read_value};
+ghost use Rattle.jsgen_fields.specs.Values.{Same, at, field as value_under, word_meaning, words_of_length};
+
+use crate::values::{needed_value, text_in};
+use crate::{At, InputFault};
+use jsgen_syntax::{BinaryOperator, LogicalOperator, SourceKind};
+use jsgen_tree::VariableDeclarationKind;
+use serde_json::Value;
+
+#[tactic(auto, unfolding(crate::specs::Reads::read_value))]
+pub fn needed_source_kind(
+    number: usize,
+    field: usize,
+    row: &Value,
+    name: &str,
+) -> Result<SourceKind, InputFault>
+    ensures { Same (λ o. source_kind o) result
+        (read_value (at number field) true no_value (word source_kind_words) (value_under name.now (view row.now))) }
+{
+    let at = At::of_row(number, field);
+    let value = needed_value(at, row, name)?;
+    match text_in(at, value)? {
+        "module" => Ok(SourceKind::Module),
+        _ => Err(InputFault::Wrong(at)),
+    }
+}
+
+#[tactic(auto, unfolding(crate::specs::Reads::read_value))]
+pub fn needed_declaration_kind(
+    number: usize,
+    field: usize,
+    row: &Value,
+    name: &str,
+) -> Result<VariableDeclarationKind, InputFault>
+    ensures { Same (λ o. declaration_kind o) result
+        (read_value (at number field) true no_value (word declaration_kind_words) (value_under name.now (view row.now))) }
+{
+    let at = At::of_row(number, field);
+    let value = needed_value(at, row, name)?;
+    match text_in(at, value)? {
+        "const" => Ok(VariableDeclarationKind::Const),
+        _ => Err(InputFault::Wrong(at)),
+    }
+}
+
+fn binary_operator_of_length_1(word: &str) -> Option<BinaryOperator>
+    ensures { option_map binary_operator result ≡ word_meaning (words_of_length 1 binary_operator_words) word.now }
+{
+    match word {
+        "<" => Some(BinaryOperator::LessThan),
+        ">" => Some(BinaryOperator::GreaterThan),
+        "+" => Some(BinaryOperator::Addition),
+        "-" => Some(BinaryOperator::Subtraction),
+        "*" => Some(BinaryOperator::Multiplication),
+        "/" => Some(BinaryOperator::Division),
+        "%" => Some(BinaryOperator::Remainder),
+        "|" => Some(BinaryOperator::BitwiseOR),
+        "^" => Some(BinaryOperator::BitwiseXOR),
+        "&" => Some(BinaryOperator::BitwiseAnd),
+        _ => None,
+    }
+}
+
+fn binary_operator_of_length_2(word: &str) -> Option<BinaryOperator>
+    ensures { option_map binary_operator result ≡ word_meaning (words_of_length 2 binary_operator_words) word.now }
+{
+    match word {
+        "==" => Some(BinaryOperator::Equality),
+        "!=" => Some(BinaryOperator::Inequality),
+        "<=" => Some(BinaryOperator::LessEqualThan),
+        ">=" => Some(BinaryOperator::GreaterEqualThan),
+        "**" => Some(BinaryOperator::Exponential),
+        "<<" => Some(BinaryOperator::ShiftLeft),
+        ">>" => Some(BinaryOperator::ShiftRight),
+        "in" => Some(BinaryOperator::In),
+        _ => None,
+    }
+}
+
+fn binary_operator_of_length_3(word: &str) -> Option<BinaryOperator>
+    ensures { option_map binary_operator result ≡ word_meaning (words_of_length 3 binary_operator_words) word.now }
+{
+    match word {
+        "===" => Some(BinaryOperator::StrictEquality),
+        "!==" => Some(BinaryOperator::StrictInequality),
+        ">>>" => Some(BinaryOperator::ShiftRightZeroFill),
+        _ => None,
+    }
+}
+
+fn binary_operator_of_length_10(word: &str) -> Option<BinaryOperator>
+    ensures { option_map binary_operator result ≡ word_meaning (words_of_length 10 binary_operator_words) word.now }
+{
+    match word {
+        "instanceof" => Some(BinaryOperator::Instanceof),
+        _ => None,
+    }
+}
+
+fn binary_operator_by_word(word: &str) -> Option<BinaryOperator>
+    ensures { option_map binary_operator result ≡ word_meaning binary_operator_words word.now }
+{
+    match word.len() {
+        1 => binary_operator_of_length_1(word),
+        2 => binary_operator_of_length_2(word),
+        3 => binary_operator_of_length_3(word),
+        10 => binary_operator_of_length_10(word),
+        _ => None,
+    }
+}
+
+#[tactic(auto, unfolding(crate::specs::Reads::read_value))]
+pub fn needed_binary_operator(
+    number: usize,
+    field: usize,
+    row: &Value,
+    name: &str,
+) -> Result<BinaryOperator, InputFault>
+    ensures { Same (λ o. binary_operator o) result
+        (read_value (at number field) true no_value (word binary_operator_words) (value_under name.now (view row.now))) }
+{
+    let at = At::of_row(number, field);
+    let value = needed_value(at, row, name)?;
+    match binary_operator_by_word(text_in(at, value)?) {
+        Some(found) => Ok(found),
+        None => Err(InputFault::Wrong(at)),
+    }
+}
+
+#[tactic(auto, unfolding(crate::specs::Reads::read_value))]
+pub fn needed_logical_operator(
+    number: usize,
+    field: usize,
+    row: &Value,
+    name: &str,
+) -> Result<LogicalOperator, InputFault>
+    ensures { Same (λ o. logical_operator o) result
+        (read_value (at number field) true no_value (word logical_operator_words) (value_under name.now (view row.now))) }
+{
+    let at = At::of_row(number, field);
+    let value = needed_value(at, row, name)?;
+    match text_in(at, value)? {
+        "||" => Ok(LogicalOperator::Or),
+        "&&" => Ok(LogicalOperator::And),
+        "??" => Ok(LogicalOperator::Coalesce),
+        _ => Err(InputFault::Wrong(at)),
+    }
+}

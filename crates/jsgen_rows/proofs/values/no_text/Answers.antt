@@ -1,7 +1,0 @@
-use Rattle.std.proofs.Common.{ap}
-use Rattle.std.specs.Str.{chars}
-use Rattle.jsgen_rows.proofs.values.no_text.Goals as goal
-
-pub returns : goal.returns
-unfolding chars
-returns c = ap chars c.new.ensures.bytes

@@ -1,0 +1,52 @@
+// Generated from tools/nodes/table.txt; edit that and run tools/nodes/generate.
+// The rows of a job, by their types.
+ghost use Rattle.std.specs.Prelude.{◌≡◌};
+ghost use Rattle.serde_json.specs.View.{view};
+ghost use Rattle.jsgen_fields.specs.Reads.{Gives, read_typed};
+ghost use Rattle.jsgen_fields.specs.Kept.{entries, row_plain};
+ghost use Rattle.jsgen_fields.specs.Parts.{is_in_statements};
+
+use jsgen_expression_rows::expressions::read_in_expressions;
+use jsgen_fields::InputFault;
+use jsgen_fields::kept::{ReadNode, Row};
+use jsgen_pool::Kept;
+use jsgen_statement_rows::statements::read_in_statements;
+use jsgen_syntax::Span;
+use jsgen_tree::NodeType;
+use serde_json::Value;
+use std::alloc::Global;
+
+fn is_in_statements(node_type: NodeType) -> bool
+    ensures { result ≡ is_in_statements node_type }
+{
+    matches!(
+        &node_type,
+        NodeType::Program
+            | NodeType::Directive
+            | NodeType::VariableDeclaration
+            | NodeType::VariableDeclarator
+            | NodeType::BindingIdentifier
+            | NodeType::ExpressionStatement
+            | NodeType::BlockStatement
+            | NodeType::IfStatement
+            | NodeType::EmptyStatement
+    )
+}
+
+/// The row of a type.
+pub fn read_typed<N: ReadNode + Drop>(
+    alloc: Global,
+    kept: &mut Vec<Kept<Row<N>>>,
+    node_type: NodeType,
+    number: usize,
+    span: Span,
+    row: &Value,
+) -> Result<Row<N>, InputFault>
+    ensures { Gives (row_plain N.plain) result (entries N.plain kept.new.items)
+        (read_typed number node_type span (view row.now) (entries N.plain kept.old.items)) }
+{
+    if is_in_statements(node_type) {
+        return read_in_statements(alloc, kept, node_type, number, span, row);
+    }
+    read_in_expressions(alloc, kept, node_type, number, span, row)
+}

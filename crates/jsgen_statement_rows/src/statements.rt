@@ -1,0 +1,338 @@
+// Generated from tools/nodes/table.txt; edit that and run tools/nodes/generate.
+// Rows of a job: programs, statements and declarations (ECMA-262, clauses 14 and 16).
+ghost use Rattle.std.specs.Prelude.{◌≡◌, true};
+ghost use Rattle.serde_json.specs.View.{view};
+ghost use Rattle.jsgen_tree.specs.Fields.{program_fields, directive_fields, variable_declaration_fields, variable_declarator_fields, binding_identifier_fields, expression_statement_fields, block_statement_fields, if_statement_fields, empty_statement_fields};
+ghost use Rattle.jsgen_fields.specs.Reads.{Gives, read_node, read_typed};
+ghost use Rattle.jsgen_fields.specs.Kept.{entries, row_plain};
+ghost use Rattle.jsgen_fields.specs.Parts.{is_in_statements};
+ghost use Rattle.jsgen_tree.specs.declared.types.NodeType.TheVariants as types;
+
+use jsgen_fields::InputFault;
+use jsgen_fields::fields::boxed;
+use jsgen_fields::kept::{ReadNode, Row, binding_pattern_row, declaration_row, statement_row};
+use jsgen_fields::others::OtherStatement;
+use jsgen_fields::set_fields::{
+    directive_list, needed_binding_pattern, needed_expression, needed_statement,
+    optional_expression, optional_statement, statement_list, variable_declarator_list,
+};
+use jsgen_fields::values::{field_not_given, needed_text, neither_given, optional_text};
+use jsgen_fields::words::{needed_declaration_kind, needed_source_kind};
+use jsgen_pool::Kept;
+use jsgen_syntax::Span;
+use jsgen_tree::{
+    BindingIdentifier, BindingPattern, BlockStatement, Declaration, Directive, EmptyStatement,
+    ExpressionStatement, IfStatement, NodeType, Program, Statement, VariableDeclaration,
+    VariableDeclarator,
+};
+use serde_json::Value;
+use std::alloc::Global;
+
+#[tactic(auto, unfolding(jsgen_fields::specs::Reads::read_node))]
+fn read_program<N: ReadNode + Drop>(
+    alloc: Global,
+    kept: &mut Vec<Kept<Row<N>>>,
+    number: usize,
+    span: Span,
+    row: &Value,
+) -> Result<Row<N>, InputFault>
+    ensures { Gives (row_plain N.plain) result (entries N.plain kept.new.items)
+        (read_node number types.Program program_fields span (view row.now) (entries N.plain kept.old.items)) }
+{
+    let source = match optional_text(alloc, number, 2, row, "source") {
+        Ok(source) => source,
+        Err(fault) => return Err(fault),
+    };
+    let kind = match needed_source_kind(number, 3, row, "kind") {
+        Ok(kind) => kind,
+        Err(fault) => return Err(fault),
+    };
+    match neither_given(number, 4, row, "jsx", "typescript") {
+        Ok(()) => {}
+        Err(fault) => return Err(fault),
+    }
+    match neither_given(number, 6, row, "comments", "hashbang") {
+        Ok(()) => {}
+        Err(fault) => return Err(fault),
+    }
+    let directives = match directive_list(alloc, kept, number, 8, row, "directives") {
+        Ok(directives) => directives,
+        Err(fault) => return Err(fault),
+    };
+    let body = match statement_list(alloc, kept, number, 9, row, "body") {
+        Ok(body) => body,
+        Err(fault) => return Err(fault),
+    };
+    let node = Program {
+        span,
+        source,
+        kind,
+        directives,
+        body,
+    };
+    match boxed(alloc, node) {
+        Ok(node) => Ok(Row::Program(node)),
+        Err(fault) => Err(fault),
+    }
+}
+
+#[tactic(auto, unfolding(jsgen_fields::specs::Reads::read_node))]
+fn read_directive<N: ReadNode + Drop>(
+    alloc: Global,
+    kept: &mut Vec<Kept<Row<N>>>,
+    number: usize,
+    span: Span,
+    row: &Value,
+) -> Result<Row<N>, InputFault>
+    ensures { Gives (row_plain N.plain) result (entries N.plain kept.new.items)
+        (read_node number types.Directive directive_fields span (view row.now) (entries N.plain kept.old.items)) }
+{
+    let _ = kept;
+    let directive = match needed_text(alloc, number, 2, row, "directive") {
+        Ok(directive) => directive,
+        Err(fault) => return Err(fault),
+    };
+    let node = Directive { span, directive };
+    match boxed(alloc, node) {
+        Ok(node) => Ok(Row::Directive(node)),
+        Err(fault) => Err(fault),
+    }
+}
+
+#[tactic(auto, unfolding(jsgen_fields::specs::Reads::read_node))]
+fn read_variable_declaration<N: ReadNode + Drop>(
+    alloc: Global,
+    kept: &mut Vec<Kept<Row<N>>>,
+    number: usize,
+    span: Span,
+    row: &Value,
+) -> Result<Row<N>, InputFault>
+    ensures { Gives (row_plain N.plain) result (entries N.plain kept.new.items)
+        (read_node number types.VariableDeclaration variable_declaration_fields span (view row.now) (entries N.plain kept.old.items)) }
+{
+    let kind = match needed_declaration_kind(number, 2, row, "kind") {
+        Ok(kind) => kind,
+        Err(fault) => return Err(fault),
+    };
+    match field_not_given(number, 3, row, "declare") {
+        Ok(()) => {}
+        Err(fault) => return Err(fault),
+    }
+    let declarations = match variable_declarator_list(alloc, kept, number, 4, row, "declarations") {
+        Ok(declarations) => declarations,
+        Err(fault) => return Err(fault),
+    };
+    let node = VariableDeclaration {
+        span,
+        kind,
+        declarations,
+    };
+    match boxed(alloc, node) {
+        Ok(node) => declaration_row(alloc, Declaration::VariableDeclaration(node)),
+        Err(fault) => Err(fault),
+    }
+}
+
+#[tactic(auto, unfolding(jsgen_fields::specs::Reads::read_node))]
+fn read_variable_declarator<N: ReadNode + Drop>(
+    alloc: Global,
+    kept: &mut Vec<Kept<Row<N>>>,
+    number: usize,
+    span: Span,
+    row: &Value,
+) -> Result<Row<N>, InputFault>
+    ensures { Gives (row_plain N.plain) result (entries N.plain kept.new.items)
+        (read_node number types.VariableDeclarator variable_declarator_fields span (view row.now) (entries N.plain kept.old.items)) }
+{
+    let id = match needed_binding_pattern(alloc, kept, number, 2, row, "id") {
+        Ok(id) => id,
+        Err(fault) => return Err(fault),
+    };
+    match neither_given(number, 3, row, "definite", "type_annotation") {
+        Ok(()) => {}
+        Err(fault) => return Err(fault),
+    }
+    let init = match optional_expression(alloc, kept, number, 5, row, "init") {
+        Ok(init) => init,
+        Err(fault) => return Err(fault),
+    };
+    let node = VariableDeclarator { span, id, init };
+    match boxed(alloc, node) {
+        Ok(node) => Ok(Row::VariableDeclarator(node)),
+        Err(fault) => Err(fault),
+    }
+}
+
+#[tactic(auto, unfolding(jsgen_fields::specs::Reads::read_node))]
+fn read_binding_identifier<N: ReadNode + Drop>(
+    alloc: Global,
+    kept: &mut Vec<Kept<Row<N>>>,
+    number: usize,
+    span: Span,
+    row: &Value,
+) -> Result<Row<N>, InputFault>
+    ensures { Gives (row_plain N.plain) result (entries N.plain kept.new.items)
+        (read_node number types.BindingIdentifier binding_identifier_fields span (view row.now) (entries N.plain kept.old.items)) }
+{
+    let _ = kept;
+    let name = match needed_text(alloc, number, 2, row, "name") {
+        Ok(name) => name,
+        Err(fault) => return Err(fault),
+    };
+    match field_not_given(number, 3, row, "symbol") {
+        Ok(()) => {}
+        Err(fault) => return Err(fault),
+    }
+    let node = BindingIdentifier { span, name };
+    match boxed(alloc, node) {
+        Ok(node) => binding_pattern_row(alloc, BindingPattern::BindingIdentifier(node)),
+        Err(fault) => Err(fault),
+    }
+}
+
+#[tactic(auto, unfolding(jsgen_fields::specs::Reads::read_node))]
+fn read_expression_statement<N: ReadNode + Drop>(
+    alloc: Global,
+    kept: &mut Vec<Kept<Row<N>>>,
+    number: usize,
+    span: Span,
+    row: &Value,
+) -> Result<Row<N>, InputFault>
+    ensures { Gives (row_plain N.plain) result (entries N.plain kept.new.items)
+        (read_node number types.ExpressionStatement expression_statement_fields span (view row.now) (entries N.plain kept.old.items)) }
+{
+    let expression = match needed_expression(alloc, kept, number, 2, row, "expression") {
+        Ok(expression) => expression,
+        Err(fault) => return Err(fault),
+    };
+    let node = ExpressionStatement { span, expression };
+    match boxed(alloc, node) {
+        Ok(node) => statement_row(
+            alloc,
+            OtherStatement {
+                statement: Statement::ExpressionStatement(node),
+            },
+        ),
+        Err(fault) => Err(fault),
+    }
+}
+
+#[tactic(auto, unfolding(jsgen_fields::specs::Reads::read_node))]
+fn read_block_statement<N: ReadNode + Drop>(
+    alloc: Global,
+    kept: &mut Vec<Kept<Row<N>>>,
+    number: usize,
+    span: Span,
+    row: &Value,
+) -> Result<Row<N>, InputFault>
+    ensures { Gives (row_plain N.plain) result (entries N.plain kept.new.items)
+        (read_node number types.BlockStatement block_statement_fields span (view row.now) (entries N.plain kept.old.items)) }
+{
+    let body = match statement_list(alloc, kept, number, 2, row, "body") {
+        Ok(body) => body,
+        Err(fault) => return Err(fault),
+    };
+    let node = BlockStatement { span, body };
+    match boxed(alloc, node) {
+        Ok(node) => statement_row(
+            alloc,
+            OtherStatement {
+                statement: Statement::BlockStatement(node),
+            },
+        ),
+        Err(fault) => Err(fault),
+    }
+}
+
+#[tactic(auto, unfolding(jsgen_fields::specs::Reads::read_node))]
+fn read_if_statement<N: ReadNode + Drop>(
+    alloc: Global,
+    kept: &mut Vec<Kept<Row<N>>>,
+    number: usize,
+    span: Span,
+    row: &Value,
+) -> Result<Row<N>, InputFault>
+    ensures { Gives (row_plain N.plain) result (entries N.plain kept.new.items)
+        (read_node number types.IfStatement if_statement_fields span (view row.now) (entries N.plain kept.old.items)) }
+{
+    let test = match needed_expression(alloc, kept, number, 2, row, "test") {
+        Ok(test) => test,
+        Err(fault) => return Err(fault),
+    };
+    let consequent = match needed_statement(alloc, kept, number, 3, row, "consequent") {
+        Ok(consequent) => consequent,
+        Err(fault) => return Err(fault),
+    };
+    let alternate = match optional_statement(alloc, kept, number, 4, row, "alternate") {
+        Ok(alternate) => alternate,
+        Err(fault) => return Err(fault),
+    };
+    let node = IfStatement {
+        span,
+        test,
+        consequent,
+        alternate,
+    };
+    match boxed(alloc, node) {
+        Ok(node) => statement_row(
+            alloc,
+            OtherStatement {
+                statement: Statement::IfStatement(node),
+            },
+        ),
+        Err(fault) => Err(fault),
+    }
+}
+
+#[tactic(auto, unfolding(jsgen_fields::specs::Reads::read_node))]
+fn read_empty_statement<N: ReadNode + Drop>(
+    alloc: Global,
+    kept: &mut Vec<Kept<Row<N>>>,
+    number: usize,
+    span: Span,
+    row: &Value,
+) -> Result<Row<N>, InputFault>
+    ensures { Gives (row_plain N.plain) result (entries N.plain kept.new.items)
+        (read_node number types.EmptyStatement empty_statement_fields span (view row.now) (entries N.plain kept.old.items)) }
+{
+    let _ = kept;
+    let _ = number;
+    let _ = row;
+    let node = EmptyStatement { span };
+    match boxed(alloc, node) {
+        Ok(node) => statement_row(
+            alloc,
+            OtherStatement {
+                statement: Statement::EmptyStatement(node),
+            },
+        ),
+        Err(fault) => Err(fault),
+    }
+}
+
+/// The row of a type of this part.
+pub fn read_in_statements<N: ReadNode + Drop>(
+    alloc: Global,
+    kept: &mut Vec<Kept<Row<N>>>,
+    node_type: NodeType,
+    number: usize,
+    span: Span,
+    row: &Value,
+) -> Result<Row<N>, InputFault>
+    requires { is_in_statements node_type ≡ true }
+    ensures { Gives (row_plain N.plain) result (entries N.plain kept.new.items)
+        (read_typed number node_type span (view row.now) (entries N.plain kept.old.items)) }
+{
+    match node_type {
+        NodeType::Program => read_program(alloc, kept, number, span, row),
+        NodeType::Directive => read_directive(alloc, kept, number, span, row),
+        NodeType::VariableDeclaration => read_variable_declaration(alloc, kept, number, span, row),
+        NodeType::VariableDeclarator => read_variable_declarator(alloc, kept, number, span, row),
+        NodeType::BindingIdentifier => read_binding_identifier(alloc, kept, number, span, row),
+        NodeType::ExpressionStatement => read_expression_statement(alloc, kept, number, span, row),
+        NodeType::BlockStatement => read_block_statement(alloc, kept, number, span, row),
+        NodeType::IfStatement => read_if_statement(alloc, kept, number, span, row),
+        NodeType::EmptyStatement => read_empty_statement(alloc, kept, number, span, row),
+        _ => unreachable!(),
+    }
+}
