@@ -17,6 +17,7 @@ from pathlib import Path
 
 from gate import TOP, measured
 
+WATCHED = ("jsgen_printer", "jsgen_nodes", "jsgen_fields", "jsgen_expression_rows", "jsgen_statement_rows", "jsgen_rows")
 PARTS = (".ci", "HANDLES", "crates", "crates.txt", "docs", "tools", "tests")
 
 
@@ -186,20 +187,28 @@ def copied(folder):
 
 
 def by_function(folder, crate):
-    """The seconds of each function's proof, from nothing and one after the other: the check writes a file behind each."""
+    """The seconds of each function's proof, from nothing and one after the other: the check writes a file behind each part of it."""
     kept, work = folder / "crates" / crate / "out" / "incremental", tempfile.mkdtemp()
+    shutil.rmtree(kept, ignore_errors=True)
     kept.parent.mkdir(exist_ok=True)
     kept.symlink_to(work)
-    subprocess.run(["rt", "check", "--jobs", "1"], cwd=folder / "crates" / crate, check=True, stdout=subprocess.DEVNULL)
-    files = sorted(Path(work).rglob("*.oantt"), key=lambda it: it.stat().st_mtime)
+    check = subprocess.run(["rt", "check", "--jobs", "1"], cwd=folder / "crates" / crate, check=True, capture_output=True, text=True)
+    functions = {it.replace("::", ".") for it in re.findall(rf"^fn {crate}::(\S+): proved$", check.stdout, re.M)}
     times, last = {}, None
-    for file in files:
-        at = file.stat().st_mtime
-        function = str(file.parent.relative_to(work)).split("/", 1)[-1]
-        times[function] = times.get(function, 0) + (at - last if last else 0)
+    for file in sorted(Path(work).rglob("*.oantt"), key=lambda it: it.stat().st_mtime):
+        at, parts = file.stat().st_mtime, file.name.removeprefix(f"Rattle-{crate}-proofs.").split(".")
+        name = next((it for end in range(len(parts), 0, -1) if (it := ".".join(parts[:end])) in functions), None)
+        if name and last:
+            times[name] = times.get(name, 0) + at - last
         last = at
     shutil.rmtree(work)
     return times
+
+
+def grown_functions(before, after, crate):
+    """The functions of a crate that take more than a tenth longer in the second copy, and a tenth of a second at least."""
+    times, later = by_function(before, crate), by_function(after, crate)
+    return [(name, it, later[name]) for name, it in sorted(times.items()) if later.get(name, 0) > 1.1 * it + 0.1]
 
 
 def main(number):
@@ -222,11 +231,9 @@ def main(number):
         one, two = sum(of.values()), sum(more[crate].values())
         print(f"| `{crate}` | {one:.0f} | {two:.0f} | {(two - one) / number:.2f} | {peaks[crate]} | {higher[crate]} | {(higher[crate] - peaks[crate]) / number:.1f} |")
     print(f"| all | {whole:.0f} | {all_of:.0f} | {(all_of - whole) / number:.2f} | | | |")
-    for crate in ("jsgen_printer", "jsgen_nodes", "jsgen_fields", "jsgen_expression_rows", "jsgen_statement_rows", "jsgen_rows"):
-        before, after = by_function(work / "before", crate), by_function(work / "after", crate)
-        for function, seconds in sorted(before.items()):
-            if after.get(function, 0) > 1.1 * seconds + 0.1:
-                print(f"{function}: {seconds:.2f} s, with {number} types {after[function]:.2f} s")
+    for crate in WATCHED:
+        for function, seconds, with_more in grown_functions(work / "before", work / "after", crate):
+            print(f"{crate}: {function}: {seconds:.2f} s, with {number} types {with_more:.2f} s")
     shutil.rmtree(work)
 
 
