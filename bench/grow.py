@@ -169,11 +169,20 @@ def group(copy, k):
     copy.import_type(NORMAL, row, name)
 
 
+def further_parts(copy):
+    """Lists the crates of rows that the types came to need, each behind the first part of its family."""
+    for crate in sorted(path.name for path in (copy.folder / "crates").glob("jsgen_*_rows_[0-9]*")):
+        first = crate.rsplit("_", 1)[0]
+        copy.copy_clause("crates.txt", f"{first}:", (f"{first}:", f"{crate}:"))
+        copy.change("crates.txt", lambda text: re.sub(rf"(?m)^(jsgen_rows:.*)$", rf"\1 {crate}", text))
+
+
 def grown(folder, number):
     copy = Copy(folder)
     for at in range(number):
         (pair, call, group)[at % 3](copy, code(at // 3))
     subprocess.run([folder / "tools/nodes/generate"], check=True, stdout=subprocess.DEVNULL)
+    further_parts(copy)
     for crate in sorted(p.parent for p in (folder / "crates").glob("*/src")):
         subprocess.run(["rt", "fmt"], cwd=crate, check=True, stdout=subprocess.DEVNULL)
 

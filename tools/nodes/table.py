@@ -29,10 +29,11 @@ class Field:
     doc: str
     other: str = None   # another kind of value that a tree may hold there
     parts: list = None  # the fields of the format that a field by hand stands for
+    needed: bool = False  # of a flag, that it is required
 
     @property
     def required(self):
-        return self.many == "" and self.kind != "flag" and self.default is None
+        return self.needed or self.many == "" and self.kind != "flag" and self.default is None
 
 
 @dataclass
@@ -210,6 +211,8 @@ def read_field(line):
         rest, parts = rest[1:], []
     unread = rest[0] == "unread"
     kind, _, other = (rest[1] if unread else rest[0]).partition("/")
+    needed = kind == "flag!"
+    kind = kind.removesuffix("!") if needed else kind
     bare = kind.rstrip("?*")
     return Field(name, rust, bare, kind[len(bare):], default or None, only_for.strip() or None, unread, doc.strip(),
-                 other or None, parts)
+                 other or None, parts, needed)

@@ -1,7 +1,7 @@
 // Generated from tools/nodes/table.txt; edit that and run tools/nodes/generate.
 // Expressions (ECMA-262, clause 13).
 ghost use Rattle.std.specs.Prelude.{◌≡◌};
-ghost use Rattle.jsgen_tree.specs.Rows.{identifier_reference_row, this_expression_row, numeric_literal_row, string_literal_row, parenthesized_expression_row, binary_expression_row, logical_expression_row, identifier_name_row, static_member_expression_row, computed_member_expression_row, call_expression_row};
+ghost use Rattle.jsgen_tree.specs.Rows.{identifier_reference_row, this_expression_row, null_literal_row, boolean_literal_row, numeric_literal_row, string_literal_row, parenthesized_expression_row, binary_expression_row, logical_expression_row, identifier_name_row, static_member_expression_row, computed_member_expression_row, call_expression_row};
 ghost use Rattle.jsgen_check.specs.Verdict.{tree_verdict};
 
 use crate::children::check_arguments;
@@ -10,9 +10,9 @@ use crate::rules::{check_identifier_name_rules, check_identifier_reference_rules
 use crate::{CheckNode, Surroundings, check_child};
 use jsgen_model::TreeFault;
 use jsgen_tree::{
-    BinaryExpression, CallExpression, ComputedMemberExpression, IdentifierName,
-    IdentifierReference, LogicalExpression, NodeSet, NumericLiteral, ParenthesizedExpression,
-    StaticMemberExpression, StringLiteral, ThisExpression,
+    BinaryExpression, BooleanLiteral, CallExpression, ComputedMemberExpression, IdentifierName,
+    IdentifierReference, LogicalExpression, NodeSet, NullLiteral, NumericLiteral,
+    ParenthesizedExpression, StaticMemberExpression, StringLiteral, ThisExpression,
 };
 
 pub fn check_identifier_reference(
@@ -30,6 +30,23 @@ pub fn check_this_expression(
     around: Surroundings<'_>,
 ) -> Result<u32, TreeFault>
     ensures { result ≡ tree_verdict around.entry (this_expression_row node.now) }
+{
+    let _ = around;
+    check_node(node.span, Ok(()), Ok(0))
+}
+
+pub fn check_null_literal(node: &NullLiteral, around: Surroundings<'_>) -> Result<u32, TreeFault>
+    ensures { result ≡ tree_verdict around.entry (null_literal_row node.now) }
+{
+    let _ = around;
+    check_node(node.span, Ok(()), Ok(0))
+}
+
+pub fn check_boolean_literal(
+    node: &BooleanLiteral,
+    around: Surroundings<'_>,
+) -> Result<u32, TreeFault>
+    ensures { result ≡ tree_verdict around.entry (boolean_literal_row node.now) }
 {
     let _ = around;
     check_node(node.span, Ok(()), Ok(0))

@@ -5,10 +5,10 @@ ghost use Rattle.jsgen_tree.specs.Rows.{expression_plain, declaration_plain, sta
 ghost use Rattle.jsgen_check.specs.Verdict.{tree_verdict};
 
 use crate::expressions::{
-    check_binary_expression, check_call_expression, check_computed_member_expression,
-    check_identifier_reference, check_logical_expression, check_numeric_literal,
-    check_parenthesized_expression, check_static_member_expression, check_string_literal,
-    check_this_expression,
+    check_binary_expression, check_boolean_literal, check_call_expression,
+    check_computed_member_expression, check_identifier_reference, check_logical_expression,
+    check_null_literal, check_numeric_literal, check_parenthesized_expression,
+    check_static_member_expression, check_string_literal, check_this_expression,
 };
 use crate::statements::{
     check_binding_identifier, check_block_statement, check_empty_statement,
@@ -27,6 +27,8 @@ pub fn check_expression_set<N: CheckNode>(
     match node {
         Expression::IdentifierReference(node) => check_identifier_reference(node, around),
         Expression::ThisExpression(node) => check_this_expression(node, around),
+        Expression::NullLiteral(node) => check_null_literal(node, around),
+        Expression::BooleanLiteral(node) => check_boolean_literal(node, around),
         Expression::NumericLiteral(node) => check_numeric_literal(node, around),
         Expression::StringLiteral(node) => check_string_literal(node, around),
         Expression::BinaryExpression(node) => check_binary_expression(node, around),

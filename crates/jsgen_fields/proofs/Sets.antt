@@ -33,17 +33,19 @@ of_statement plain f b h0 h1 h2 h3 (statements.BlockStatement r) o = h1
 of_statement plain f b h0 h1 h2 h3 (statements.IfStatement r) o = h2
 of_statement plain f b h0 h1 h2 h3 (statements.EmptyStatement r) o = h3
 
-of_expression : {N : Type 0} (plain : N → Tree) (f : NodeType → Bool) (b : Bool) → f types.IdentifierReference ≡ b → f types.ThisExpression ≡ b → f types.NumericLiteral ≡ b → f types.StringLiteral ≡ b → f types.BinaryExpression ≡ b → f types.LogicalExpression ≡ b → f types.ParenthesizedExpression ≡ b → f types.StaticMemberExpression ≡ b → f types.ComputedMemberExpression ≡ b → f types.CallExpression ≡ b → (r : Expression N) → f (type_of (expression_plain plain r)) ≡ b
-of_expression plain f b h0 h1 h2 h3 h4 h5 h6 h7 h8 h9 (expressions.IdentifierReference r) = h0
-of_expression plain f b h0 h1 h2 h3 h4 h5 h6 h7 h8 h9 (expressions.ThisExpression r) = h1
-of_expression plain f b h0 h1 h2 h3 h4 h5 h6 h7 h8 h9 (expressions.NumericLiteral r) = h2
-of_expression plain f b h0 h1 h2 h3 h4 h5 h6 h7 h8 h9 (expressions.StringLiteral r) = h3
-of_expression plain f b h0 h1 h2 h3 h4 h5 h6 h7 h8 h9 (expressions.BinaryExpression r) = h4
-of_expression plain f b h0 h1 h2 h3 h4 h5 h6 h7 h8 h9 (expressions.LogicalExpression r) = h5
-of_expression plain f b h0 h1 h2 h3 h4 h5 h6 h7 h8 h9 (expressions.ParenthesizedExpression r) = h6
-of_expression plain f b h0 h1 h2 h3 h4 h5 h6 h7 h8 h9 (expressions.StaticMemberExpression r) = h7
-of_expression plain f b h0 h1 h2 h3 h4 h5 h6 h7 h8 h9 (expressions.ComputedMemberExpression r) = h8
-of_expression plain f b h0 h1 h2 h3 h4 h5 h6 h7 h8 h9 (expressions.CallExpression r) = h9
+of_expression : {N : Type 0} (plain : N → Tree) (f : NodeType → Bool) (b : Bool) → f types.IdentifierReference ≡ b → f types.ThisExpression ≡ b → f types.NullLiteral ≡ b → f types.BooleanLiteral ≡ b → f types.NumericLiteral ≡ b → f types.StringLiteral ≡ b → f types.BinaryExpression ≡ b → f types.LogicalExpression ≡ b → f types.ParenthesizedExpression ≡ b → f types.StaticMemberExpression ≡ b → f types.ComputedMemberExpression ≡ b → f types.CallExpression ≡ b → (r : Expression N) → f (type_of (expression_plain plain r)) ≡ b
+of_expression plain f b h0 h1 h2 h3 h4 h5 h6 h7 h8 h9 h10 h11 (expressions.IdentifierReference r) = h0
+of_expression plain f b h0 h1 h2 h3 h4 h5 h6 h7 h8 h9 h10 h11 (expressions.ThisExpression r) = h1
+of_expression plain f b h0 h1 h2 h3 h4 h5 h6 h7 h8 h9 h10 h11 (expressions.NullLiteral r) = h2
+of_expression plain f b h0 h1 h2 h3 h4 h5 h6 h7 h8 h9 h10 h11 (expressions.BooleanLiteral r) = h3
+of_expression plain f b h0 h1 h2 h3 h4 h5 h6 h7 h8 h9 h10 h11 (expressions.NumericLiteral r) = h4
+of_expression plain f b h0 h1 h2 h3 h4 h5 h6 h7 h8 h9 h10 h11 (expressions.StringLiteral r) = h5
+of_expression plain f b h0 h1 h2 h3 h4 h5 h6 h7 h8 h9 h10 h11 (expressions.BinaryExpression r) = h6
+of_expression plain f b h0 h1 h2 h3 h4 h5 h6 h7 h8 h9 h10 h11 (expressions.LogicalExpression r) = h7
+of_expression plain f b h0 h1 h2 h3 h4 h5 h6 h7 h8 h9 h10 h11 (expressions.ParenthesizedExpression r) = h8
+of_expression plain f b h0 h1 h2 h3 h4 h5 h6 h7 h8 h9 h10 h11 (expressions.StaticMemberExpression r) = h9
+of_expression plain f b h0 h1 h2 h3 h4 h5 h6 h7 h8 h9 h10 h11 (expressions.ComputedMemberExpression r) = h10
+of_expression plain f b h0 h1 h2 h3 h4 h5 h6 h7 h8 h9 h10 h11 (expressions.CallExpression r) = h11
 
 -- ---- set by set
 
@@ -57,7 +59,7 @@ pub no_statement_is_a_program : {N : Type 0} (plain : N → Tree) (r : OtherStat
 no_statement_is_a_program plain r = of_statement plain is_program false refl refl refl refl r.statement r.other
 
 pub no_expression_is_a_program : {N : Type 0} (plain : N → Tree) (r : Expression N) → is_program (type_of (expression_plain plain r)) ≡ false
-no_expression_is_a_program plain r = of_expression plain is_program false refl refl refl refl refl refl refl refl refl refl r
+no_expression_is_a_program plain r = of_expression plain is_program false refl refl refl refl refl refl refl refl refl refl refl refl r
 
 pub no_declaration_is_a_directive : {N : Type 0} (plain : N → Tree) (r : Declaration N) → is_directive (type_of (declaration_plain plain r)) ≡ false
 no_declaration_is_a_directive plain r = of_declaration plain is_directive false refl r
@@ -69,7 +71,7 @@ pub no_statement_is_a_directive : {N : Type 0} (plain : N → Tree) (r : OtherSt
 no_statement_is_a_directive plain r = of_statement plain is_directive false refl refl refl refl r.statement r.other
 
 pub no_expression_is_a_directive : {N : Type 0} (plain : N → Tree) (r : Expression N) → is_directive (type_of (expression_plain plain r)) ≡ false
-no_expression_is_a_directive plain r = of_expression plain is_directive false refl refl refl refl refl refl refl refl refl refl r
+no_expression_is_a_directive plain r = of_expression plain is_directive false refl refl refl refl refl refl refl refl refl refl refl refl r
 
 pub each_declaration_is_a_statement : {N : Type 0} (plain : N → Tree) (r : Declaration N) → is_statement (type_of (declaration_plain plain r)) ≡ true
 each_declaration_is_a_statement plain r = of_declaration plain is_statement true refl r
@@ -81,7 +83,7 @@ pub each_statement_is_a_statement : {N : Type 0} (plain : N → Tree) (r : Other
 each_statement_is_a_statement plain r = of_statement plain is_statement true refl refl refl refl r.statement r.other
 
 pub no_expression_is_a_statement : {N : Type 0} (plain : N → Tree) (r : Expression N) → is_statement (type_of (expression_plain plain r)) ≡ false
-no_expression_is_a_statement plain r = of_expression plain is_statement false refl refl refl refl refl refl refl refl refl refl r
+no_expression_is_a_statement plain r = of_expression plain is_statement false refl refl refl refl refl refl refl refl refl refl refl refl r
 
 pub no_declaration_is_a_variable_declarator : {N : Type 0} (plain : N → Tree) (r : Declaration N) → is_variable_declarator (type_of (declaration_plain plain r)) ≡ false
 no_declaration_is_a_variable_declarator plain r = of_declaration plain is_variable_declarator false refl r
@@ -93,7 +95,7 @@ pub no_statement_is_a_variable_declarator : {N : Type 0} (plain : N → Tree) (r
 no_statement_is_a_variable_declarator plain r = of_statement plain is_variable_declarator false refl refl refl refl r.statement r.other
 
 pub no_expression_is_a_variable_declarator : {N : Type 0} (plain : N → Tree) (r : Expression N) → is_variable_declarator (type_of (expression_plain plain r)) ≡ false
-no_expression_is_a_variable_declarator plain r = of_expression plain is_variable_declarator false refl refl refl refl refl refl refl refl refl refl r
+no_expression_is_a_variable_declarator plain r = of_expression plain is_variable_declarator false refl refl refl refl refl refl refl refl refl refl refl refl r
 
 pub no_declaration_is_a_binding_pattern : {N : Type 0} (plain : N → Tree) (r : Declaration N) → is_binding_pattern (type_of (declaration_plain plain r)) ≡ false
 no_declaration_is_a_binding_pattern plain r = of_declaration plain is_binding_pattern false refl r
@@ -105,7 +107,7 @@ pub no_statement_is_a_binding_pattern : {N : Type 0} (plain : N → Tree) (r : O
 no_statement_is_a_binding_pattern plain r = of_statement plain is_binding_pattern false refl refl refl refl r.statement r.other
 
 pub no_expression_is_a_binding_pattern : {N : Type 0} (plain : N → Tree) (r : Expression N) → is_binding_pattern (type_of (expression_plain plain r)) ≡ false
-no_expression_is_a_binding_pattern plain r = of_expression plain is_binding_pattern false refl refl refl refl refl refl refl refl refl refl r
+no_expression_is_a_binding_pattern plain r = of_expression plain is_binding_pattern false refl refl refl refl refl refl refl refl refl refl refl refl r
 
 pub no_declaration_is_an_expression : {N : Type 0} (plain : N → Tree) (r : Declaration N) → is_expression (type_of (declaration_plain plain r)) ≡ false
 no_declaration_is_an_expression plain r = of_declaration plain is_expression false refl r
@@ -117,7 +119,7 @@ pub no_statement_is_an_expression : {N : Type 0} (plain : N → Tree) (r : Other
 no_statement_is_an_expression plain r = of_statement plain is_expression false refl refl refl refl r.statement r.other
 
 pub each_expression_is_an_expression : {N : Type 0} (plain : N → Tree) (r : Expression N) → is_expression (type_of (expression_plain plain r)) ≡ true
-each_expression_is_an_expression plain r = of_expression plain is_expression true refl refl refl refl refl refl refl refl refl refl r
+each_expression_is_an_expression plain r = of_expression plain is_expression true refl refl refl refl refl refl refl refl refl refl refl refl r
 
 pub no_declaration_is_an_identifier_name : {N : Type 0} (plain : N → Tree) (r : Declaration N) → is_identifier_name (type_of (declaration_plain plain r)) ≡ false
 no_declaration_is_an_identifier_name plain r = of_declaration plain is_identifier_name false refl r
@@ -129,7 +131,7 @@ pub no_statement_is_an_identifier_name : {N : Type 0} (plain : N → Tree) (r : 
 no_statement_is_an_identifier_name plain r = of_statement plain is_identifier_name false refl refl refl refl r.statement r.other
 
 pub no_expression_is_an_identifier_name : {N : Type 0} (plain : N → Tree) (r : Expression N) → is_identifier_name (type_of (expression_plain plain r)) ≡ false
-no_expression_is_an_identifier_name plain r = of_expression plain is_identifier_name false refl refl refl refl refl refl refl refl refl refl r
+no_expression_is_an_identifier_name plain r = of_expression plain is_identifier_name false refl refl refl refl refl refl refl refl refl refl refl refl r
 
 pub program_type : (t : NodeType) → is_program t ≡ true → t ≡ types.Program
 program_type types.Program h = refl
@@ -143,6 +145,8 @@ program_type types.IfStatement h = cc
 program_type types.EmptyStatement h = cc
 program_type types.IdentifierReference h = cc
 program_type types.ThisExpression h = cc
+program_type types.NullLiteral h = cc
+program_type types.BooleanLiteral h = cc
 program_type types.NumericLiteral h = cc
 program_type types.StringLiteral h = cc
 program_type types.ParenthesizedExpression h = cc

@@ -5,7 +5,7 @@ ghost use Rattle.jsgen_fields.specs.Names.{first_named, type_named};
 
 use jsgen_tree::NodeType;
 
-const TYPE_NAMES: [(&str, NodeType); 20] = [
+const TYPE_NAMES: [(&str, NodeType); 22] = [
     ("Program", NodeType::Program),
     ("Directive", NodeType::Directive),
     ("VariableDeclaration", NodeType::VariableDeclaration),
@@ -17,6 +17,8 @@ const TYPE_NAMES: [(&str, NodeType); 20] = [
     ("EmptyStatement", NodeType::EmptyStatement),
     ("IdentifierReference", NodeType::IdentifierReference),
     ("ThisExpression", NodeType::ThisExpression),
+    ("NullLiteral", NodeType::NullLiteral),
+    ("BooleanLiteral", NodeType::BooleanLiteral),
     ("NumericLiteral", NodeType::NumericLiteral),
     ("StringLiteral", NodeType::StringLiteral),
     ("ParenthesizedExpression", NodeType::ParenthesizedExpression),

@@ -225,6 +225,17 @@ fn flag_in(at: At, value: &Value) -> Result<bool, InputFault>
     }
 }
 
+/// A flag that is required.
+#[tactic(auto, unfolding(crate::specs::Reads::read_value))]
+pub fn needed_flag(number: usize, field: usize, row: &Value, name: &str) -> Result<bool, InputFault>
+    ensures { Same (λ b. flag_atom b) result
+        (read_value (at number field) true no_value flag (value_under name.now (view row.now))) }
+{
+    let at = At::of_row(number, field);
+    let value = needed_value(at, row, name)?;
+    flag_in(at, value)
+}
+
 /// A flag that is false where it is absent.
 #[tactic(auto, unfolding(crate::specs::Reads::read_value))]
 pub fn optional_flag(

@@ -1,11 +1,11 @@
 -- What two trees of one meaning have in common.
 use Rattle.std.specs.Prelude.{ℕ, List, [], ◌∷◌, Bool, true, false, Option, Some, None, decimal, if◌then◌else◌}
-use Rattle.jsgen_tree.specs.Atom.{Atom, no_value, text, units, numeric_kind, declaration_kind, binary_operator, logical_operator}
+use Rattle.jsgen_tree.specs.Atom.{Atom, no_value, text, units, flag, numeric_kind, declaration_kind, binary_operator, logical_operator}
 use Rattle.jsgen_tree.specs.Number.{NumericKind, Whole, Raw}
 use Rattle.jsgen_tree.specs.Tree.{Tree, node, Slots, no_slots, one, maybe, many, maybe_many, Maybe, absent, given, Trees, no_trees, more, hole, MaybeTrees, no_list, listed, Atoms}
 use Rattle.jsgen_tree.specs.declared.types.NodeType.TheVariants as types
 use Rattle.jsgen_tree.specs.Places.{bare, absent_values}
-use Rattle.jsgen_tree.specs.Values.{directive_directive, variable_declaration_kind, binding_identifier_name, identifier_reference_name, identifier_name_name, numeric_literal_kind, numeric_literal_digits, numeric_literal_text, string_literal_value, binary_expression_operator, logical_expression_operator, variable_declaration_declare, variable_declarator_definite, static_member_expression_optional, computed_member_expression_optional, call_expression_optional}
+use Rattle.jsgen_tree.specs.Values.{directive_directive, variable_declaration_kind, binding_identifier_name, identifier_reference_name, identifier_name_name, boolean_literal_value, numeric_literal_kind, numeric_literal_digits, numeric_literal_text, string_literal_value, binary_expression_operator, logical_expression_operator, variable_declaration_declare, variable_declarator_definite, static_member_expression_optional, computed_member_expression_optional, call_expression_optional}
 use Rattle.jsgen_syntax.specs.Raw.{directive_value}
 use Rattle.jsgen_syntax.specs.declared.operator.LogicalOperator.{LogicalOperator}
 use Rattle.jsgen_syntax.specs.declared.operator.LogicalOperator.TheVariants.{Or, And, Coalesce}
@@ -88,6 +88,8 @@ abbrev mutual
   normal (tree.binding_identifier a) = tree.binding_identifier (unnumbered (binding_identifier_name a))
   normal (tree.identifier_reference a) = tree.identifier_reference (unnumbered (identifier_reference_name a))
   normal (tree.this_expression a) = tree.this_expression (nothing_of 0)
+  normal (tree.null_literal a) = tree.null_literal (nothing_of 0)
+  normal (tree.boolean_literal a) = tree.boolean_literal (bare (flag (boolean_literal_value a) ∷ []))
   normal (tree.numeric_literal a) = tree.numeric_literal (by_text (number_text (numeric_literal_kind a) a))
   normal (tree.string_literal a) = tree.string_literal (bare (units (string_literal_value a) ∷ []))
   normal (tree.parenthesized a expression) = normal expression

@@ -15,7 +15,7 @@ use Rattle.jsgen_tree.specs.Inside.{without_parentheses, ends_open}
 use Rattle.jsgen_tree.specs.Words.{declaration_word}
 use Rattle.jsgen_tree.specs.Number.{NumericKind, Whole, Raw}
 use Rattle.jsgen_tree.specs.Tree.{Tree, Maybe, absent, given, Trees, no_trees, more, hole, Atoms, type_of}
-use Rattle.jsgen_tree.specs.Values.{as_text, directive_directive, variable_declaration_kind, binding_identifier_name, identifier_reference_name, identifier_name_name, numeric_literal_kind, numeric_literal_digits, string_literal_value, binary_expression_operator, logical_expression_operator}
+use Rattle.jsgen_tree.specs.Values.{as_text, directive_directive, variable_declaration_kind, binding_identifier_name, identifier_reference_name, identifier_name_name, boolean_literal_value, numeric_literal_kind, numeric_literal_digits, string_literal_value, binary_expression_operator, logical_expression_operator}
 use Rattle.jsgen_tree.specs.Job.{Tables, JobData}
 use Rattle.jsgen_tree.specs.Nodes as tree
 use Rattle.jsgen_model.specs.Punctuator.{comma, semicolon, equal, plus, minus, star, slash, percent, star_star, equal_equal, not_equal, equal_equal_equal, not_equal_equal, less, less_equal, greater, greater_equal, shift_left, shift_right, shift_right_zero, bit_and, bit_or, bit_xor, and_and, or_or, nullish, Round, Square, Brace}
@@ -265,6 +265,11 @@ abbrev pub is_given : Maybe → Bool
 is_given absent = false
 is_given (given t) = true
 
+-- ECMA-262, 12.9.2
+abbrev pub truth_word : Bool → List ℕ
+truth_word true = codes "true"
+truth_word false = codes "false"
+
 -- a whole number by its digits; what is read by its text alone isn't spelled yet
 abbrev pub number_item : NumericKind → Atoms → Items
 number_item Whole a = number true (decimal (numeric_literal_digits a))
@@ -282,6 +287,8 @@ abbrev mutual
   spell (tree.binding_identifier a) place = name (binding_identifier_name a)
   spell (tree.identifier_reference a) place = name (identifier_reference_name a)
   spell (tree.this_expression a) place = word (codes "this")
+  spell (tree.null_literal a) place = word (codes "null")
+  spell (tree.boolean_literal a) place = word (truth_word (boolean_literal_value a))
   spell (tree.numeric_literal a) place = number_item (numeric_literal_kind a) a
   spell (tree.string_literal a) place = string true (string_literal_value a)
   spell (tree.parenthesized a expression) place = spell expression place

@@ -1,7 +1,7 @@
 // Expressions (ECMA-262, clause 13), one function for each row.
 ghost use Rattle.std.specs.Prelude.{◌≡◌};
 ghost use Rattle.jsgen_syntax.specs.Operator.{logical_level, logical_lower_level};
-ghost use Rattle.jsgen_tree.specs.Rows.{identifier_reference_row, this_expression_row, numeric_literal_row, string_literal_row, parenthesized_expression_row, binary_expression_row, logical_expression_row, in_expression};
+ghost use Rattle.jsgen_tree.specs.Rows.{identifier_reference_row, this_expression_row, null_literal_row, boolean_literal_row, numeric_literal_row, string_literal_row, parenthesized_expression_row, binary_expression_row, logical_expression_row, in_expression};
 ghost use Rattle.jsgen_model.specs.Items.{◌⊕◌, soft_space};
 ghost use Rattle.jsgen_model.specs.Layout.{layout};
 ghost use Rattle.jsgen_model.specs.Spell.{spell, left_of, behind, left_level, right_level, unmixed, operator_item, logical_item};
@@ -15,8 +15,8 @@ use jsgen_place::{Place, left_level, right_level, unmixed};
 use jsgen_printer::Printer;
 use jsgen_syntax::{GetPrecedence, Memory};
 use jsgen_tree::{
-    BinaryExpression, IdentifierReference, LogicalExpression, NumericLiteral, NumericValue,
-    ParenthesizedExpression, StringLiteral, ThisExpression,
+    BinaryExpression, BooleanLiteral, IdentifierReference, LogicalExpression, NullLiteral,
+    NumericLiteral, NumericValue, ParenthesizedExpression, StringLiteral, ThisExpression,
 };
 
 #[tactic(auto, unfolding(crate::specs::Place::pen_after))]
@@ -42,6 +42,27 @@ pub fn print_this_expression(
     let _ = node;
     let _ = place;
     p.print_word("this")
+}
+
+#[tactic(auto, unfolding(crate::specs::Place::pen_after))]
+pub fn print_null_literal(node: &NullLiteral, p: &mut Printer, place: Place) -> Result<(), Memory>
+    ensures { Reaches result (pen_of p.old) (pen_of p.new) (pen_after (null_literal_row node.now) place p.old) }
+{
+    let _ = node;
+    let _ = place;
+    p.print_word("null")
+}
+
+#[tactic(auto, unfolding(crate::specs::Place::pen_after))]
+pub fn print_boolean_literal(
+    node: &BooleanLiteral,
+    p: &mut Printer,
+    place: Place,
+) -> Result<(), Memory>
+    ensures { Reaches result (pen_of p.old) (pen_of p.new) (pen_after (boolean_literal_row node.now) place p.old) }
+{
+    let _ = place;
+    p.print_word(if node.value { "true" } else { "false" })
 }
 
 #[tactic(auto, unfolding(crate::specs::Place::pen_after))]

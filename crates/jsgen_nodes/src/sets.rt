@@ -8,9 +8,9 @@ ghost use Rattle.jsgen_nodes.specs.Place.{pen_after};
 use crate::PrintNode;
 use crate::blocks::{print_block_statement, print_empty_statement, print_if_statement};
 use crate::expressions::{
-    print_binary_expression, print_identifier_reference, print_logical_expression,
-    print_numeric_literal, print_parenthesized_expression, print_string_literal,
-    print_this_expression,
+    print_binary_expression, print_boolean_literal, print_identifier_reference,
+    print_logical_expression, print_null_literal, print_numeric_literal,
+    print_parenthesized_expression, print_string_literal, print_this_expression,
 };
 use crate::links::{
     print_call_expression, print_computed_member_expression, print_static_member_expression,
@@ -33,6 +33,8 @@ pub fn print_expression<N: PrintNode>(
     match node {
         Expression::IdentifierReference(node) => print_identifier_reference(node, p, place),
         Expression::ThisExpression(node) => print_this_expression(node, p, place),
+        Expression::NullLiteral(node) => print_null_literal(node, p, place),
+        Expression::BooleanLiteral(node) => print_boolean_literal(node, p, place),
         Expression::NumericLiteral(node) => print_numeric_literal(node, p, place),
         Expression::StringLiteral(node) => print_string_literal(node, p, place),
         Expression::BinaryExpression(node) => print_binary_expression(node, p, place),

@@ -101,6 +101,9 @@ expression_joined (grammar.a_disjunction m e l r) = made _ _ (piece m (Sign or_o
 expression_joined (grammar.a_coalescing m e l r) = made _ _ (piece m (Sign nullish) _) e (expression_joined l) (expression_joined r)
 expression_joined (grammar.a_reference e h) = refl
 expression_joined grammar.a_this = refl
+expression_joined grammar.a_null = refl
+expression_joined grammar.a_true = refl
+expression_joined grammar.a_false = refl
 expression_joined grammar.a_number = refl
 expression_joined (grammar.a_string e) = refl
 expression_joined (grammar.in_parentheses {ts = ts} r) = and_from (may_be_given ts) true (given_from ts (expression_starts r)) refl

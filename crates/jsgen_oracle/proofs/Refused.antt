@@ -1,5 +1,5 @@
 -- What every program that the grammar reads has in common, and texts that haven't.
-use Rattle.std.proofs.Common.{◌≡◌, ℕ, Bool, true, false, ◌&&◌, ◌||◌, ◌==◌, List, [], ◌++◌, codes, refl, sym, ap, ◌∙◌, subst}
+use Rattle.std.proofs.Common.{◌≡◌, ℕ, Bool, true, false, ◌&&◌, ◌||◌, ◌==◌, List, [], ◌∷◌, ◌++◌, codes, refl, sym, ap, ◌∙◌, subst}
 use Rattle.std.specs.Prelude.{not}
 use Rattle.std.specs.List.{list_any}
 use Rattle.std.specs.Option.{option_map_or}
@@ -81,9 +81,13 @@ abbrev pub begins_with_name : Tokens → Bool
 begins_with_name (piece m (Word w) ts) = true
 begins_with_name ts = false
 
--- the word may be an operand: `this`, or a reference
+-- a keyword that is an operand
+abbrev is_keyword : List ℕ → Bool
+is_keyword w = list_any (bytes_eq w) (codes "this" ∷ codes "null" ∷ codes "true" ∷ codes "false" ∷ [])
+
+-- the word may be an operand: a keyword, or a reference
 abbrev is_operand_word : List ℕ → Bool
-is_operand_word w = bytes_eq w (codes "this") || option_map_or is_free_name (word_value w) false
+is_operand_word w = is_keyword w || option_map_or is_free_name (word_value w) false
 
 -- an operand that a sign, a bracket or nothing follows
 abbrev pub starts_well : Tokens → Bool
@@ -204,8 +208,11 @@ expression_starts (grammar.a_coalesce r) = expression_starts r
 expression_starts (grammar.a_coalescing m e l r) = joined _ _ (piece m (Sign nullish) _) refl e (expression_starts l)
 expression_starts (grammar.a_coalesced_head r) = expression_starts r
 expression_starts (grammar.a_bit_or_head r) = expression_starts r
-expression_starts (grammar.a_reference {w = w} e h) = and_from (is_operand_word w) true (or_right (bytes_eq w (codes "this")) _ (ap (λ o. option_map_or is_free_name o false) e ∙ h)) refl
+expression_starts (grammar.a_reference {w = w} e h) = and_from (is_operand_word w) true (or_right (is_keyword w) _ (ap (λ o. option_map_or is_free_name o false) e ∙ h)) refl
 expression_starts grammar.a_this = refl
+expression_starts grammar.a_null = refl
+expression_starts grammar.a_true = refl
+expression_starts grammar.a_false = refl
 expression_starts grammar.a_number = refl
 expression_starts (grammar.a_string e) = refl
 expression_starts (grammar.in_parentheses r) = refl

@@ -23,6 +23,7 @@ pub enum Value {
     Digits(u128),
     /// That a number is held by its text.
     ByText,
+    Flag(bool),
     DeclarationKind(VariableDeclarationKind),
     BinaryOperator(BinaryOperator),
     LogicalOperator(LogicalOperator),

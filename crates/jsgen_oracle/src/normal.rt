@@ -317,6 +317,10 @@ fn expression_form<N: NormalNode>(alloc: Global, node: &Expression<N>) -> Result
             identifier(alloc, NodeType::IdentifierReference, &node.name)
         }
         Expression::ThisExpression(_) => Ok(leaf(alloc, NodeType::ThisExpression, Vec::new(alloc))),
+        Expression::NullLiteral(_) => Ok(leaf(alloc, NodeType::NullLiteral, Vec::new(alloc))),
+        Expression::BooleanLiteral(node) => {
+            literal(alloc, NodeType::BooleanLiteral, Value::Flag(node.value))
+        }
         Expression::NumericLiteral(node) => numeric_literal_form(alloc, node),
         Expression::StringLiteral(node) => string_literal_form(alloc, node),
         Expression::BinaryExpression(node) => {

@@ -65,6 +65,8 @@ same_logical o place = refl
 pub asked : {c : Allowed} {t : Tree} → IsExpression c t → Asked t
 asked (family.a_reference h) = no_string refl refl refl refl (λ place. refl)
 asked family.a_this = no_string refl refl refl refl (λ place. refl)
+asked family.a_null = no_string refl refl refl refl (λ place. refl)
+asked family.a_boolean = no_string refl refl refl refl (λ place. refl)
 asked (family.a_number h) = no_string refl refl refl refl (λ place. refl)
 asked (family.a_string {a} h) = record {
   expression = refl;

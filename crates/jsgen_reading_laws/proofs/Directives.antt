@@ -106,6 +106,9 @@ opens (grammar.a_named_member_of_call {a = a} {o = o} w m n e v r) = opens_behin
 opens (grammar.a_computed_member_of_call {a = a} {o = o} m e r s) = opens_behind _ a (group m Square _ done) o _ e (opens r) tt
 opens (grammar.a_reference e h) = tt
 opens grammar.a_this = tt
+opens grammar.a_null = tt
+opens grammar.a_true = tt
+opens grammar.a_false = tt
 opens grammar.a_number = tt
 opens (grammar.a_string e) = refl
 opens (grammar.in_parentheses r) = tt

@@ -2,18 +2,18 @@
 use Rattle.std.proofs.Common.{◌≡◌, ℕ, Bool, true, false, not, decimal, codes, Some, List, [], ◌∷◌, refl, sym, ap}
 use Rattle.std.proofs.lemmas.Bool.{both_ways, ltb-true}
 use Rattle.jsgen_syntax.specs.Escapes.{name_text, word_value}
-use Rattle.jsgen_syntax.specs.Name.{is_free_name}
+use Rattle.jsgen_syntax.specs.Name.{spells_name, is_free_name}
 use Rattle.jsgen_syntax.specs.Strings.{escaped, string_value}
 use Rattle.jsgen_syntax.specs.Wtf8.{are_units}
 use Rattle.jsgen_syntax.specs.declared.quote.Quote.{Quote}
 use Rattle.jsgen_syntax.proofs.Escapes.{word_text_value}
 use Rattle.jsgen_syntax.proofs.Strings.{escaped_value}
 use Rattle.jsgen_model.specs.Items.{string}
-use Rattle.jsgen_tree.specs.Atom.{units}
+use Rattle.jsgen_tree.specs.Atom.{units, flag}
 use Rattle.jsgen_tree.specs.Number.{NumericKind, Whole, Raw}
 use Rattle.jsgen_tree.specs.Tree.{Tree, Trees, Atoms}
 use Rattle.jsgen_tree.specs.Places.{bare}
-use Rattle.jsgen_tree.specs.Values.{identifier_reference_name, numeric_literal_kind, numeric_literal_digits, string_literal_value}
+use Rattle.jsgen_tree.specs.Values.{identifier_reference_name, boolean_literal_value, numeric_literal_kind, numeric_literal_digits, string_literal_value}
 use Rattle.jsgen_tree.specs.Nodes as tree
 use Rattle.jsgen_model.specs.Tokens.{Tokens, done, piece, Word, Number, Quoted}
 use Rattle.jsgen_model.specs.Layout.{layout, chosen_quote, Start, nowhere, statement, arrow_body, default_export}
@@ -21,7 +21,7 @@ use Rattle.jsgen_model.specs.Grammar.{Allowed, is_word}
 use Rattle.jsgen_model.specs.Grammar as grammar
 use Rattle.jsgen_model.specs.Normal.{nothing_of, unnumbered, by_text, number_text}
 use Rattle.jsgen_model.specs.Plain.{is_whole}
-use Rattle.jsgen_model.specs.Spell.{number_item}
+use Rattle.jsgen_model.specs.Spell.{truth_word, number_item}
 use Rattle.jsgen_token_laws.proofs.Characters.{letters_spelled}
 use Rattle.jsgen_token_laws.proofs.Last.{After, line_of}
 use Rattle.jsgen_token_laws.proofs.Steps.{wrote_word, wrote_name, wrote_number, wrote_quoted}
@@ -79,6 +79,56 @@ good_this c a place p l z y k = record {
   line = λ g. ap not g;
   tree = tree.this_expression (nothing_of 0);
   reads = from_primary place grammar.a_this;
+  same = refl;
+}
+
+null_begins : (start : Start) (line : Bool) (b : Tokens) → may_begin start (piece line (Word (codes "null")) b) ≡ true
+null_begins nowhere line b = refl
+null_begins statement line b = refl
+null_begins arrow_body line b = refl
+null_begins default_export line b = refl
+
+pub good_null : (c : Allowed) (a : Atoms) → Printed c (tree.null_literal a)
+good_null c a place p l z y k = record {
+  last = _;
+  tokens = piece (line_of l) (Word (codes "null")) done;
+  writes = wrote_word (codes "null") p l (letters_spelled 110 (codes "ull") refl) k;
+  operand = tt;
+  semicolon = z;
+  begins = λ b n. null_begins place.start (line_of l) b;
+  line = λ g. ap not g;
+  tree = tree.null_literal (nothing_of 0);
+  reads = from_primary place grammar.a_null;
+  same = refl;
+}
+
+truth_begins : (start : Start) (line v : Bool) (b : Tokens) → may_begin start (piece line (Word (truth_word v)) b) ≡ true
+truth_begins nowhere line v b = refl
+truth_begins statement line true b = refl
+truth_begins statement line false b = refl
+truth_begins arrow_body line v b = refl
+truth_begins default_export line true b = refl
+truth_begins default_export line false b = refl
+
+truth_spelled : (v : Bool) → spells_name (truth_word v) ≡ true
+truth_spelled true = letters_spelled 116 (codes "rue") refl
+truth_spelled false = letters_spelled 102 (codes "alse") refl
+
+truth_read : {c : Allowed} {mark : Bool} (v : Bool) → grammar.ReadsExpression c grammar.Primary (piece mark (Word (truth_word v)) done) (tree.boolean_literal (bare (flag v ∷ [])))
+truth_read true = grammar.a_true
+truth_read false = grammar.a_false
+
+pub good_boolean : (c : Allowed) (a : Atoms) → Printed c (tree.boolean_literal a)
+good_boolean c a place p l z y k = let v : Bool = boolean_literal_value a in record {
+  last = _;
+  tokens = piece (line_of l) (Word (truth_word v)) done;
+  writes = wrote_word (truth_word v) p l (truth_spelled v) k;
+  operand = tt;
+  semicolon = z;
+  begins = λ b n. truth_begins place.start (line_of l) v b;
+  line = λ g. ap not g;
+  tree = tree.boolean_literal (bare (flag v ∷ []));
+  reads = from_primary place (truth_read v);
   same = refl;
 }
 
@@ -149,6 +199,8 @@ mutual
   pub printed_expression : {c : Allowed} {t : Tree} → IsExpression c t → Printed c t
   printed_expression {c} (family.a_reference {a} h) = good_reference c a h
   printed_expression {c} (family.a_this {a}) = good_this c a
+  printed_expression {c} (family.a_null {a}) = good_null c a
+  printed_expression {c} (family.a_boolean {a}) = good_boolean c a
   printed_expression {c} (family.a_number {a} h) = good_number c a h
   printed_expression {c} (family.a_string {a} h) = good_string c a h
   printed_expression {c} (family.in_parentheses {a} {t} v) = good_parenthesized c a t (printed_expression v)

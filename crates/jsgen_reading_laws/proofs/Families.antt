@@ -26,6 +26,8 @@ mutual
   pub data IsExpression : Allowed → Tree → Type 0 where
     a_reference : {c : Allowed} {a : Atoms} → is_free_name (identifier_reference_name a) ≡ true → IsExpression c (tree.identifier_reference a)
     a_this : {c : Allowed} {a : Atoms} → IsExpression c (tree.this_expression a)
+    a_null : {c : Allowed} {a : Atoms} → IsExpression c (tree.null_literal a)
+    a_boolean : {c : Allowed} {a : Atoms} → IsExpression c (tree.boolean_literal a)
     a_number : {c : Allowed} {a : Atoms} → is_whole (numeric_literal_kind a) a ≡ true → IsExpression c (tree.numeric_literal a)
     a_string : {c : Allowed} {a : Atoms} → are_units (string_literal_value a) ≡ true → IsExpression c (tree.string_literal a)
     in_parentheses : {c : Allowed} {a : Atoms} {t : Tree} → IsExpression c t → IsExpression c (tree.parenthesized a t)
@@ -124,6 +126,8 @@ mutual
   pub expression_valid : (c : Allowed) (around : Surroundings) (t : Tree) → IsPlain t → is_expression (type_of t) ≡ true → breaches around t ≡ [] → IsExpression c t
   expression_valid c around (tree.identifier_reference a) p s e = a_reference (none_unless (is_free_name (identifier_reference_name a)) (faults.Name a.span.start) (parts (span_faults a.span) (name_faults a.span (identifier_reference_name a)) [] e).0)
   expression_valid c around (tree.this_expression a) p s e = a_this
+  expression_valid c around (tree.null_literal a) p s e = a_null
+  expression_valid c around (tree.boolean_literal a) p s e = a_boolean
   expression_valid c around (tree.numeric_literal a) p s e = a_number p.0
   expression_valid c around (tree.string_literal a) p s e = a_string p.0
   expression_valid c around (tree.parenthesized a t) p s e =

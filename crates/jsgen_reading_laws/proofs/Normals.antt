@@ -69,6 +69,8 @@ mutual
   normal_again (tree.binding_identifier a) = refl
   normal_again (tree.identifier_reference a) = refl
   normal_again (tree.this_expression a) = refl
+  normal_again (tree.null_literal a) = refl
+  normal_again (tree.boolean_literal a) = refl
   normal_again (tree.numeric_literal a) = refl
   normal_again (tree.string_literal a) = refl
   normal_again (tree.parenthesized a expression) = normal_again expression

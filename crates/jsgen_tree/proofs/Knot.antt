@@ -29,6 +29,8 @@ plain_out n = fold_out-Node Tree layer n
 natural_expression : (h : Node → Tree) (n : Expression Node) → layer (map-Node Node Tree h (opened.Expression n)) ≡ expression_plain h n
 natural_expression h (expressions.IdentifierReference b) = refl
 natural_expression h (expressions.ThisExpression b) = refl
+natural_expression h (expressions.NullLiteral b) = refl
+natural_expression h (expressions.BooleanLiteral b) = refl
 natural_expression h (expressions.NumericLiteral b) = refl
 natural_expression h (expressions.StringLiteral b) = refl
 natural_expression h (expressions.BinaryExpression b) = refl
@@ -65,6 +67,8 @@ plain_binding_pattern n = plain_out (nodes.BindingPattern n) ∙ ap (λ o. layer
 of_expression : (h : Node → Tree) (n : Expression Node) → expression_span n ≡ span_of (expression_plain h n)
 of_expression h (expressions.IdentifierReference b) = refl
 of_expression h (expressions.ThisExpression b) = refl
+of_expression h (expressions.NullLiteral b) = refl
+of_expression h (expressions.BooleanLiteral b) = refl
 of_expression h (expressions.NumericLiteral b) = refl
 of_expression h (expressions.StringLiteral b) = refl
 of_expression h (expressions.BinaryExpression b) = refl

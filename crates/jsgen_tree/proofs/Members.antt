@@ -18,6 +18,8 @@ use Rattle.jsgen_tree.specs.declared.sets.BindingPattern.TheVariants as binding_
 of_expression : (h : Node → Tree) (n : Expression Node) → is_expression (type_of (expression_plain h n)) ≡ true
 of_expression h (expressions.IdentifierReference b) = refl
 of_expression h (expressions.ThisExpression b) = refl
+of_expression h (expressions.NullLiteral b) = refl
+of_expression h (expressions.BooleanLiteral b) = refl
 of_expression h (expressions.NumericLiteral b) = refl
 of_expression h (expressions.StringLiteral b) = refl
 of_expression h (expressions.BinaryExpression b) = refl

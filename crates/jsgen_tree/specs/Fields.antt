@@ -65,6 +65,12 @@ identifier_reference_fields = needs (codes "name") sorts.text ∷ not_yet (codes
 abbrev pub this_expression_fields : List Field
 this_expression_fields = []
 
+abbrev pub null_literal_fields : List Field
+null_literal_fields = []
+
+abbrev pub boolean_literal_fields : List Field
+boolean_literal_fields = needs (codes "value") sorts.flag ∷ []
+
 abbrev pub numeric_literal_fields : List Field
 numeric_literal_fields = needs (codes "kind") (sorts.word numeric_kind_words) ∷ not_yet (codes "negative") sorts.flag ∷ needs_for (codes "whole") (codes "digits") sorts.digits ∷ not_yet (codes "text") sorts.text ∷ []
 
@@ -104,6 +110,8 @@ fields types.IfStatement = if_statement_fields
 fields types.EmptyStatement = empty_statement_fields
 fields types.IdentifierReference = identifier_reference_fields
 fields types.ThisExpression = this_expression_fields
+fields types.NullLiteral = null_literal_fields
+fields types.BooleanLiteral = boolean_literal_fields
 fields types.NumericLiteral = numeric_literal_fields
 fields types.StringLiteral = string_literal_fields
 fields types.ParenthesizedExpression = parenthesized_expression_fields

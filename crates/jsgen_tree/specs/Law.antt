@@ -4,7 +4,7 @@ use Rattle.std.specs.Prelude.{◌≡◌, codes}
 use Rattle.jsgen_tree.specs.Tree.{Atoms, optional}
 use Rattle.jsgen_tree.specs.Table.{value_named}
 use Rattle.jsgen_tree.specs.Fields.{fields}
-use Rattle.jsgen_tree.specs.Values.{as_text, as_units, as_digits, as_flag, as_source_kind, as_declaration_kind, as_numeric_kind, as_binary_operator, as_logical_operator, program_source, program_kind, program_jsx, program_typescript, directive_directive, variable_declaration_kind, variable_declaration_declare, variable_declarator_definite, binding_identifier_name, binding_identifier_symbol, identifier_reference_name, identifier_reference_reference, numeric_literal_kind, numeric_literal_negative, numeric_literal_digits, numeric_literal_text, string_literal_value, binary_expression_operator, logical_expression_operator, identifier_name_name, static_member_expression_optional, computed_member_expression_optional, call_expression_optional, call_expression_pure}
+use Rattle.jsgen_tree.specs.Values.{as_text, as_units, as_digits, as_flag, as_source_kind, as_declaration_kind, as_numeric_kind, as_binary_operator, as_logical_operator, program_source, program_kind, program_jsx, program_typescript, directive_directive, variable_declaration_kind, variable_declaration_declare, variable_declarator_definite, binding_identifier_name, binding_identifier_symbol, identifier_reference_name, identifier_reference_reference, boolean_literal_value, numeric_literal_kind, numeric_literal_negative, numeric_literal_digits, numeric_literal_text, string_literal_value, binary_expression_operator, logical_expression_operator, identifier_name_name, static_member_expression_optional, computed_member_expression_optional, call_expression_optional, call_expression_pure}
 use Rattle.jsgen_tree.specs.declared.types.NodeType.TheVariants as types
 
 -- each value is that of the field of its name
@@ -15,6 +15,7 @@ pub record FieldsAreNamed : Type 0 where
   pub variable_declarator : (a : Atoms) → variable_declarator_definite a ≡ value_named (codes "definite") (fields types.VariableDeclarator) a.values
   pub binding_identifier : (a : Atoms) → (binding_identifier_name a ≡ as_text (value_named (codes "name") (fields types.BindingIdentifier) a.values)) × (binding_identifier_symbol a ≡ value_named (codes "symbol") (fields types.BindingIdentifier) a.values)
   pub identifier_reference : (a : Atoms) → (identifier_reference_name a ≡ as_text (value_named (codes "name") (fields types.IdentifierReference) a.values)) × (identifier_reference_reference a ≡ value_named (codes "reference") (fields types.IdentifierReference) a.values)
+  pub boolean_literal : (a : Atoms) → boolean_literal_value a ≡ as_flag (value_named (codes "value") (fields types.BooleanLiteral) a.values)
   pub numeric_literal : (a : Atoms) → (numeric_literal_kind a ≡ as_numeric_kind (value_named (codes "kind") (fields types.NumericLiteral) a.values)) × (numeric_literal_negative a ≡ as_flag (value_named (codes "negative") (fields types.NumericLiteral) a.values)) × (numeric_literal_digits a ≡ as_digits (value_named (codes "digits") (fields types.NumericLiteral) a.values)) × (numeric_literal_text a ≡ as_text (value_named (codes "text") (fields types.NumericLiteral) a.values))
   pub string_literal : (a : Atoms) → string_literal_value a ≡ as_units (value_named (codes "value") (fields types.StringLiteral) a.values)
   pub binary_expression : (a : Atoms) → binary_expression_operator a ≡ as_binary_operator (value_named (codes "operator") (fields types.BinaryExpression) a.values)

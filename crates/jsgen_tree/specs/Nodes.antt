@@ -36,6 +36,12 @@ identifier_reference a = node types.IdentifierReference a no_slots
 pattern abbrev pub this_expression : Atoms → Tree
 this_expression a = node types.ThisExpression a no_slots
 
+pattern abbrev pub null_literal : Atoms → Tree
+null_literal a = node types.NullLiteral a no_slots
+
+pattern abbrev pub boolean_literal : Atoms → Tree
+boolean_literal a = node types.BooleanLiteral a no_slots
+
 pattern abbrev pub numeric_literal : Atoms → Tree
 numeric_literal a = node types.NumericLiteral a no_slots
 

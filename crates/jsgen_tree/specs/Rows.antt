@@ -5,7 +5,7 @@ use Rattle.jsgen_syntax.specs.Units.{js_units}
 use Rattle.jsgen_tree.specs.Characters.{characters, numeric_values}
 use Rattle.jsgen_tree.specs.Tree.{Tree, optional, trees}
 use Rattle.jsgen_tree.specs.Atom.{no_value, text, units, flag, source_kind, declaration_kind, binary_operator, logical_operator}
-use Rattle.jsgen_tree.specs.Nodes.{program, directive, variable_declaration, variable_declarator, binding_identifier, expression_statement, block, if_statement, empty_statement, identifier_reference, this_expression, numeric_literal, string_literal, parenthesized, binary, logical, identifier_name, static_member, computed_member, call}
+use Rattle.jsgen_tree.specs.Nodes.{program, directive, variable_declaration, variable_declarator, binding_identifier, expression_statement, block, if_statement, empty_statement, identifier_reference, this_expression, null_literal, boolean_literal, numeric_literal, string_literal, parenthesized, binary, logical, identifier_name, static_member, computed_member, call}
 use Rattle.jsgen_tree.specs.declared.nodes.ExpressionNode.{ExpressionNode}
 use Rattle.jsgen_tree.specs.declared.nodes.DeclarationNode.{DeclarationNode}
 use Rattle.jsgen_tree.specs.declared.nodes.StatementNode.{StatementNode}
@@ -21,6 +21,8 @@ use Rattle.jsgen_tree.specs.declared.statements.IfStatement.{IfStatement}
 use Rattle.jsgen_tree.specs.declared.statements.EmptyStatement.{EmptyStatement}
 use Rattle.jsgen_tree.specs.declared.expressions.IdentifierReference.{IdentifierReference}
 use Rattle.jsgen_tree.specs.declared.expressions.ThisExpression.{ThisExpression}
+use Rattle.jsgen_tree.specs.declared.expressions.NullLiteral.{NullLiteral}
+use Rattle.jsgen_tree.specs.declared.expressions.BooleanLiteral.{BooleanLiteral}
 use Rattle.jsgen_tree.specs.declared.expressions.NumericLiteral.{NumericLiteral}
 use Rattle.jsgen_tree.specs.declared.expressions.StringLiteral.{StringLiteral}
 use Rattle.jsgen_tree.specs.declared.expressions.ParenthesizedExpression.{ParenthesizedExpression}
@@ -90,6 +92,12 @@ identifier_reference_row n = identifier_reference (record { span = n.span; value
 abbrev pub this_expression_row : ThisExpression → Tree
 this_expression_row n = this_expression (record { span = n.span; values = [] })
 
+abbrev pub null_literal_row : NullLiteral → Tree
+null_literal_row n = null_literal (record { span = n.span; values = [] })
+
+abbrev pub boolean_literal_row : BooleanLiteral → Tree
+boolean_literal_row n = boolean_literal (record { span = n.span; values = flag n.value ∷ [] })
+
 abbrev pub numeric_literal_row : NumericLiteral → Tree
 numeric_literal_row n = numeric_literal (record { span = n.span; values = numeric_values n.value })
 
@@ -125,6 +133,8 @@ call_expression_row plain n = call (record { span = n.span; values = no_value �
 abbrev pub expression_plain : {N : Type 0} → (N → Tree) → Expression N → Tree
 expression_plain plain (expression.IdentifierReference b) = identifier_reference_row b.value
 expression_plain plain (expression.ThisExpression b) = this_expression_row b.value
+expression_plain plain (expression.NullLiteral b) = null_literal_row b.value
+expression_plain plain (expression.BooleanLiteral b) = boolean_literal_row b.value
 expression_plain plain (expression.NumericLiteral b) = numeric_literal_row b.value
 expression_plain plain (expression.StringLiteral b) = string_literal_row b.value
 expression_plain plain (expression.BinaryExpression b) = binary_expression_row plain b.value

@@ -9,6 +9,8 @@ use Rattle.jsgen_tree.specs.declared.types.NodeSet.TheVariants as sets
 abbrev pub is_expression : NodeType → Bool
 is_expression types.IdentifierReference = true
 is_expression types.ThisExpression = true
+is_expression types.NullLiteral = true
+is_expression types.BooleanLiteral = true
 is_expression types.NumericLiteral = true
 is_expression types.StringLiteral = true
 is_expression types.BinaryExpression = true

@@ -15,6 +15,8 @@ use Rattle.jsgen_tree.specs.declared.sets.BindingPattern.TheVariants as binding_
 abbrev pub expression_span : {N : Type 0} → Expression N → Span
 expression_span (expression.IdentifierReference b) = b.value.span
 expression_span (expression.ThisExpression b) = b.value.span
+expression_span (expression.NullLiteral b) = b.value.span
+expression_span (expression.BooleanLiteral b) = b.value.span
 expression_span (expression.NumericLiteral b) = b.value.span
 expression_span (expression.StringLiteral b) = b.value.span
 expression_span (expression.BinaryExpression b) = b.value.span

@@ -98,6 +98,9 @@ identifier_reference_name a = as_text (value_at 0 a.values)
 abbrev pub identifier_reference_reference : Atoms → Atom
 identifier_reference_reference a = value_at 1 a.values
 
+abbrev pub boolean_literal_value : Atoms → Bool
+boolean_literal_value a = as_flag (value_at 0 a.values)
+
 abbrev pub numeric_literal_kind : Atoms → NumericKind
 numeric_literal_kind a = as_numeric_kind (value_at 0 a.values)
 

@@ -21,6 +21,19 @@ pub struct ThisExpression {
     pub span: Span,
 }
 
+/// The literal `null` (ECMA-262, 12.9.1).
+#[derive(Drop)]
+pub struct NullLiteral {
+    pub span: Span,
+}
+
+/// The literal `true` or `false` (ECMA-262, 12.9.2).
+#[derive(Drop)]
+pub struct BooleanLiteral {
+    pub span: Span,
+    pub value: bool,
+}
+
 /// A number by its value (ECMA-262, 12.9.3).
 #[derive(Drop)]
 pub struct NumericLiteral {

@@ -19,8 +19,8 @@ mod statements;
 mod types;
 
 pub use expressions::{
-    BinaryExpression, CallExpression, ComputedMemberExpression, IdentifierName,
-    IdentifierReference, LogicalExpression, NumericLiteral, ParenthesizedExpression,
+    BinaryExpression, BooleanLiteral, CallExpression, ComputedMemberExpression, IdentifierName,
+    IdentifierReference, LogicalExpression, NullLiteral, NumericLiteral, ParenthesizedExpression,
     StaticMemberExpression, StringLiteral, ThisExpression,
 };
 pub use laws::fields_are_named;

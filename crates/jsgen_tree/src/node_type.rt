@@ -17,6 +17,8 @@ impl Expression {
         match self {
             Expression::IdentifierReference(_) => NodeType::IdentifierReference,
             Expression::ThisExpression(_) => NodeType::ThisExpression,
+            Expression::NullLiteral(_) => NodeType::NullLiteral,
+            Expression::BooleanLiteral(_) => NodeType::BooleanLiteral,
             Expression::NumericLiteral(_) => NodeType::NumericLiteral,
             Expression::StringLiteral(_) => NodeType::StringLiteral,
             Expression::BinaryExpression(_) => NodeType::BinaryExpression,

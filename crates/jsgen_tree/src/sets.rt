@@ -2,9 +2,9 @@
 // Sets: what may stand in one place. A set within a set is one variant of the inner one's name.
 
 use crate::expressions::{
-    BinaryExpression, CallExpression, ComputedMemberExpression, IdentifierReference,
-    LogicalExpression, NumericLiteral, ParenthesizedExpression, StaticMemberExpression,
-    StringLiteral, ThisExpression,
+    BinaryExpression, BooleanLiteral, CallExpression, ComputedMemberExpression,
+    IdentifierReference, LogicalExpression, NullLiteral, NumericLiteral, ParenthesizedExpression,
+    StaticMemberExpression, StringLiteral, ThisExpression,
 };
 use crate::nodes::{DeclarationNode, ExpressionNode, Node};
 use crate::statements::{
@@ -16,6 +16,8 @@ use crate::statements::{
 pub enum Expression<N = Node> {
     IdentifierReference(Box<IdentifierReference>),
     ThisExpression(Box<ThisExpression>),
+    NullLiteral(Box<NullLiteral>),
+    BooleanLiteral(Box<BooleanLiteral>),
     NumericLiteral(Box<NumericLiteral>),
     StringLiteral(Box<StringLiteral>),
     BinaryExpression(Box<BinaryExpression<N>>),

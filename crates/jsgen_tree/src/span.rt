@@ -6,8 +6,8 @@ ghost use Rattle.jsgen_tree.specs.Plain.{node_plain};
 ghost use Rattle.jsgen_tree.specs.Spans.{expression_span, argument_span, declaration_span, statement_span, binding_pattern_span};
 
 use crate::expressions::{
-    BinaryExpression, CallExpression, ComputedMemberExpression, IdentifierName,
-    IdentifierReference, LogicalExpression, NumericLiteral, ParenthesizedExpression,
+    BinaryExpression, BooleanLiteral, CallExpression, ComputedMemberExpression, IdentifierName,
+    IdentifierReference, LogicalExpression, NullLiteral, NumericLiteral, ParenthesizedExpression,
     StaticMemberExpression, StringLiteral, ThisExpression,
 };
 use crate::nodes::Node;
@@ -116,6 +116,22 @@ impl GetSpan for ThisExpression {
     }
 }
 
+impl GetSpan for NullLiteral {
+    ghost own_span = { λ n. n.span };
+
+    fn span(&self) -> Span {
+        self.span
+    }
+}
+
+impl GetSpan for BooleanLiteral {
+    ghost own_span = { λ n. n.span };
+
+    fn span(&self) -> Span {
+        self.span
+    }
+}
+
 impl GetSpan for NumericLiteral {
     ghost own_span = { λ n. n.span };
 
@@ -195,6 +211,8 @@ impl<N> GetSpan for Expression<N> {
         match self {
             Expression::IdentifierReference(node) => node.span,
             Expression::ThisExpression(node) => node.span,
+            Expression::NullLiteral(node) => node.span,
+            Expression::BooleanLiteral(node) => node.span,
             Expression::NumericLiteral(node) => node.span,
             Expression::StringLiteral(node) => node.span,
             Expression::BinaryExpression(node) => node.span,

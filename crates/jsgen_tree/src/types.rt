@@ -17,6 +17,8 @@ pub enum NodeType {
     EmptyStatement,
     IdentifierReference,
     ThisExpression,
+    NullLiteral,
+    BooleanLiteral,
     NumericLiteral,
     StringLiteral,
     ParenthesizedExpression,
@@ -64,6 +66,8 @@ impl NodeType {
             &self,
             NodeType::IdentifierReference
                 | NodeType::ThisExpression
+                | NodeType::NullLiteral
+                | NodeType::BooleanLiteral
                 | NodeType::NumericLiteral
                 | NodeType::StringLiteral
                 | NodeType::BinaryExpression

@@ -43,6 +43,8 @@ def value(table, f):
     if f.kind in table.words:
         words = [f"`{w}`".replace("|", r"\|") for w, _ in table.words[f.kind].words]
         return f"the word {words[0]}" if len(words) == 1 else f"one of the words {' '.join(words)}"
+    if f.needed:
+        return "`true` or `false`"
     if f.kind in VALUES:
         return VALUES[f.kind] + (", empty where it is absent" if f.default == '""' else "") \
             + (f", needed where `kind` is `{f.only_for}`" if f.only_for else "")

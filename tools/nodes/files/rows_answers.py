@@ -10,7 +10,7 @@ from table import snake
 
 
 def write(table):
-    return {f"crates/{crate_of(file)}/proofs/{part}/read_{snake(n.name)}/Answers.antt": answers(table, part, file, n)
+    return {f"crates/{crate_of(part, file)}/proofs/{part}/read_{snake(n.name)}/Answers.antt": answers(table, part, file, n)
             for part, file, nodes in parts(table) for n in nodes if not by_hand(n) and n.fields}
 
 
@@ -24,7 +24,7 @@ def suffixes(names):
 
 
 def answers(table, part, file, n):
-    function = f"Rattle.{crate_of(file)}.proofs.{part}.read_{snake(n.name)}"
+    function = f"Rattle.{crate_of(part, file)}.proofs.{part}.read_{snake(n.name)}"
     every = [call for _, call in calls(table, n)]
     each, read = [], []
     for call, end in zip(every, suffixes([call.split("(")[0] for call in every])):

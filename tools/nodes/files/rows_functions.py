@@ -1,5 +1,6 @@
-"""A function for each type of row, in parts: a crate for each family, which is a file of the table; the choice among the
-parts, in crates/jsgen_rows/src/rows.rt; and crates/jsgen_fields/specs/Parts.antt: which types are in which part."""
+"""A function for each type of row, in parts, each in a crate of its own: a family of rows is a file of the table, and one with
+many types has several parts; the choice among them, in crates/jsgen_rows/src/rows.rt; and crates/jsgen_fields/specs/Parts.antt:
+which types are in which part."""
 
 import layout
 from files.rows_children import reader_of
@@ -7,19 +8,19 @@ from files.rows_kept import inner, kept, made_of, set_of
 from names import READER, SPECS, TYPES, types_in_antt
 from table import snake
 
-MOST = 15       # functions in a file
+MOST = 15       # functions in a part
 
 
 def write(table):
-    files = {f"crates/{crate_of(file)}/src/{name}.rt": one_file(table, name, table.files[file], nodes)
+    files = {f"crates/{crate_of(name, file)}/src/{name}.rt": one_file(table, name, table.files[file], nodes)
              for name, file, nodes in parts(table)}
-    roots = {f"crates/{crate_of(file)}/src/lib.rt": root(table, file) for file in table.files}
+    roots = {f"crates/{crate_of(name, file)}/src/lib.rt": root(name, table.files[file], nodes) for name, file, nodes in parts(table)}
     return files | roots | {"crates/jsgen_rows/src/rows.rt": choice(table), "crates/jsgen_fields/specs/Parts.antt": specs(table)}
 
 
-def crate_of(file):
-    """The crate of a family of rows."""
-    return f"jsgen_{file.removesuffix('s')}_rows"
+def crate_of(name, file):
+    """The crate of a part."""
+    return f"jsgen_{file.removesuffix('s')}_rows{name.removeprefix(file)}"
 
 
 def by_hand(n):
@@ -56,12 +57,10 @@ def about(text):
     return f"Rows of a job: {text[0].lower()}{text[1:]}"
 
 
-def root(table, file):
-    """A family's lib.rt."""
-    every = [(name, nodes) for name, of, nodes in parts(table) if of == file]
-    mods = [f"pub mod {name};" for name, _ in every]
-    mods += ["mod literals;"] if any(by_hand(n) for _, nodes in every for n in nodes) else []
-    return layout.RUST + f"//! {about(table.files[file])}\n#![tactic(auto)]\n\n" + "\n".join(mods) + "\n"
+def root(name, text, nodes):
+    """The lib.rt of a part."""
+    mods = f"pub mod {name};\n" + ("mod literals;\n" if any(by_hand(n) for n in nodes) else "")
+    return layout.RUST + f"//! {about(text)}\n#![tactic(auto)]\n\n{mods}"
 
 
 def ghosts_of(nodes):
@@ -73,7 +72,7 @@ def ghosts_of(nodes):
 def one_file(table, name, text, every):
     nodes = [n for n in every if not by_hand(n)]
     sets = list({s.name: s for n in nodes if (s := set_of(table, n.name))}.values())
-    values = ["needed_text", "optional_text", "needed_digits", "optional_flag", "field_not_given", "neither_given"]
+    values = ["needed_text", "optional_text", "needed_digits", "needed_flag", "optional_flag", "field_not_given", "neither_given"]
     homes = [("crate::literals", [f"read_{snake(n.name)}" for n in every if by_hand(n)]),
              ("jsgen_fields::set_fields", [reader_of(f) for n in nodes for f in table.children(n)]),
              ("jsgen_fields::fields", ["boxed"]), ("jsgen_fields::strings", ["needed_units"]), ("jsgen_fields::values", values),
@@ -156,7 +155,7 @@ def call(table, n, f, number):
         return f"needed_{table.words[f.kind].short}({field})"
     form = {("text", None): f"needed_text(alloc, {field})", ("text", '""'): f"optional_text(alloc, {field})",
             ("units", None): f"needed_units(alloc, {field})", ("digits", None): f"needed_digits({field})",
-            ("flag", None): f"optional_flag({field})"}.get((f.kind, f.default))
+            ("flag", None): f"{'needed' if f.needed else 'optional'}_flag({field})"}.get((f.kind, f.default))
     if not form:
         raise SystemExit(f"{n.name}.{f.name}: a value {f.kind} with this default has no form in the reader yet")
     return form
@@ -209,7 +208,7 @@ def choice(table):
     last = parts(table)[-1][0]
     whole = f"/// The row of a type.\npub fn read_typed{HEAD}{GIVES}{{\n{asked}    read_in_{last}{TYPED}\n}}"
     body = "\n\n".join([test(name, nodes) for name, nodes in tested(table)] + [whole])
-    homes = [(f"{crate_of(file)}::{name}", [f"read_in_{name}"]) for name, file, _ in parts(table)]
+    homes = [(f"{crate_of(name, file)}::{name}", [f"read_in_{name}"]) for name, file, _ in parts(table)]
     homes += [("jsgen_fields::kept", ["ReadNode", "Row"]), ("jsgen_fields", ["InputFault"]), ("jsgen_pool", ["Kept"]),
               ("jsgen_syntax", ["Span"]), ("jsgen_tree", ["NodeType"]), ("serde_json", ["Value"]), ("std::alloc", ["Global"])]
     ghosts = ghosts_of([]) + [(f"{READER}.specs.Parts", [f"is_in_{name}" for name, _ in tested(table)])]

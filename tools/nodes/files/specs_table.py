@@ -38,7 +38,7 @@ def row(table, f):
         return f"not_yet {name} {sort(table, f)}"
     if f.only_for:
         return f'needs_for (codes "{f.only_for}") {name} {sort(table, f)}'
-    if f.default is not None or f.kind == "flag":
+    if f.default is not None or f.kind == "flag" and not f.needed:
         default = "(atoms.text [])" if f.kind == "text" else f"(atoms.flag {f.default or 'false'})"
         return f"has_by_default {default} {name} {sort(table, f)}"
     return f"{'needs' if f.required else 'may_have'} {name} {sort(table, f)}"

@@ -11,6 +11,7 @@ returns c = record {
   variable_declarator = λ a. refl;
   binding_identifier = λ a. (refl, refl);
   identifier_reference = λ a. (refl, refl);
+  boolean_literal = λ a. refl;
   numeric_literal = λ a. (refl, refl, refl, refl);
   string_literal = λ a. refl;
   binary_expression = λ a. refl;
