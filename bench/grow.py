@@ -13,6 +13,7 @@ import shutil
 import subprocess
 import sys
 import tempfile
+from concurrent.futures import ThreadPoolExecutor
 from pathlib import Path
 
 from gate import TOP, measured
@@ -215,8 +216,10 @@ def by_function(folder, crate):
 
 
 def grown_functions(before, after, crate):
-    """The functions of a crate that take more than a tenth longer in the second copy, and a tenth of a second at least."""
-    times, later = by_function(before, crate), by_function(after, crate)
+    """The functions of a crate that take more than a tenth longer in the second copy, and a tenth of a second at least. Both copies
+    are checked at one time, so that what else is at work slows both."""
+    with ThreadPoolExecutor(2) as pool:
+        times, later = pool.map(lambda folder: by_function(folder, crate), (before, after))
     return [(name, it, later[name]) for name, it in sorted(times.items()) if later.get(name, 0) > 1.1 * it + 0.1]
 
 
