@@ -196,22 +196,33 @@ def copied(folder):
             shutil.copy2(Path(TOP) / part, folder / part)
 
 
+def check_from_nothing(folder, crate, kept):
+    """The command that checks a crate and keeps what it checked in a folder. (`rt check` would begin with what other copies kept.)"""
+    kit = Path(shutil.which("rt")).resolve().parents[1]
+    uses = dict(line.split("#")[0].split(":", 1) for line in (folder / "crates.txt").read_text().splitlines() if ":" in line.split("#")[0])
+    built = {name: folder / "crates" / name / "out/rlib" for name in uses}
+    words = ["--extern", f"std={kit}/rlibs/std.rlib", "-L", f"dependency={kit}/rlibs"]
+    for name in uses[crate].split():
+        words += ["--extern", f"{name}={built.get(name, kit / 'rlibs')}/{name}.rlib"]
+    for rlib in filter(Path.is_dir, built.values()):
+        words += ["-L", f"dependency={rlib}"]
+    words += ["--antt-project", f"{kit}/rattle/logic/antt-project.json", "--logic-built", f"{kit}/logic_built", "--links", f"{crate}="]
+    return [f"{kit}/bin/rattle", "check", "--crate-name", crate, "src/lib.rt", *words, "--jobs", "1", "--incremental", kept]
+
+
 def by_function(folder, crate):
     """The seconds of each function's proof, from nothing and one after the other: the check writes a file behind each part of it."""
-    kept, work = folder / "crates" / crate / "out" / "incremental", tempfile.mkdtemp()
-    shutil.rmtree(kept, ignore_errors=True)
-    kept.parent.mkdir(exist_ok=True)
-    kept.symlink_to(work)
-    check = subprocess.run(["rt", "check", "--jobs", "1"], cwd=folder / "crates" / crate, check=True, capture_output=True, text=True)
-    functions = {it.replace("::", ".") for it in re.findall(rf"^fn {crate}::(\S+): proved$", check.stdout, re.M)}
-    times, last = {}, None
-    for file in sorted(Path(work).rglob("*.oantt"), key=lambda it: it.stat().st_mtime):
-        at, parts = file.stat().st_mtime, file.name.removeprefix(f"Rattle-{crate}-proofs.").split(".")
-        name = next((it for end in range(len(parts), 0, -1) if (it := ".".join(parts[:end])) in functions), None)
-        if name and last:
-            times[name] = times.get(name, 0) + at - last
-        last = at
-    shutil.rmtree(work)
+    subprocess.run(["rt", "all", "check", "--jobs", "1"], cwd=folder / "crates" / crate, check=True, capture_output=True)
+    with tempfile.TemporaryDirectory() as kept:
+        check = subprocess.run(check_from_nothing(folder, crate, kept), cwd=folder / "crates" / crate, check=True, capture_output=True, text=True)
+        functions = {it.replace("::", ".") for it in re.findall(rf"^fn {crate}::(\S+): proved$", check.stderr, re.M)}
+        times, last = {}, None
+        for file in sorted(Path(kept).rglob("*.oantt"), key=lambda it: it.stat().st_mtime):
+            at, parts = file.stat().st_mtime, file.name.removeprefix(f"Rattle-{crate}-proofs.").split(".")
+            name = next((it for end in range(len(parts), 0, -1) if (it := ".".join(parts[:end])) in functions), None)
+            if name and last:
+                times[name] = times.get(name, 0) + at - last
+            last = at
     return times
 
 
