@@ -19,6 +19,7 @@ from pathlib import Path
 from gate import TOP, measured
 
 WATCHED = ("jsgen_printer", "jsgen_nodes", "jsgen_fields", "jsgen_expression_rows", "jsgen_statement_rows", "jsgen_rows")
+FAMILIES = {"Expression": "synthetic_expressions", "Statement": "synthetic_statements"}
 PARTS = (".ci", "HANDLES", "crates", "crates.txt", "docs", "tools", "tests")
 
 
@@ -89,9 +90,12 @@ NORMAL = "crates/jsgen_oracle/src/normal.rt"
 TABLE = "tools/nodes/table.txt"
 
 
-def into_table(copy, behind, of_set, name, lines):
+def into_table(copy, of_set, name, lines):
+    """A type in a file of the table for synthetic ones alone, since types to come are in files of their own too."""
+    file = f"\nfile {FAMILIES[of_set]}: Types that stand in no program.\n"
     fields = "".join(f"    {line}\n" for line in lines)
-    copy.behind_clause(TABLE, f"node {behind}", f"\nnode {name}\n    | A type that stands in no program.\n{fields}")
+    copy.change(TABLE, lambda text: text if file in text else text.replace("\nset ", f"{file}\nset ", 1))
+    copy.change(TABLE, lambda text: text.replace(file, f"{file}\nnode {name}\n    | A type that stands in no program.\n{fields}"))
     copy.behind_clause(TABLE, f"set {of_set}", f"    {name.split(' ')[0]}\n")
 
 
@@ -128,7 +132,7 @@ good_{new} c a {children} f place p l z y k = let g = f place p l z y k in recor
 
 def pair(copy, k):
     new, row, name = f"pair_{k}", f"pair_{k}_expression", f"Pair{k.title()}Expression"
-    into_table(copy, "CallExpression", "Expression", f"{name} 13.3.2 {new}", ("object Expression", "optional unread flag", "expression Expression"))
+    into_table(copy, "Expression", f"{name} 13.3.2 {new}", ("object Expression", "optional unread flag", "expression Expression"))
     into_definitions(copy, "computed_member a object expression", f"{new} a object expression")
     into_expressions(copy, "computed_member", new, "o x", "(o x : Tree)")
     copy.copy_function(NODES + "links.rt", "print_computed_member_expression", ("print_computed_member_expression", f"print_{row}"),
@@ -139,7 +143,7 @@ def pair(copy, k):
 
 def call(copy, k):
     new, row, name = f"call_{k}", f"call_{k}_expression", f"Call{k.title()}Expression"
-    into_table(copy, "CallExpression", "Expression", f"{name} 13.3.6 {new}", ("callee Expression", "arguments Argument*", "optional unread flag", "pure flag"))
+    into_table(copy, "Expression", f"{name} 13.3.6 {new}", ("callee Expression", "arguments Argument*", "optional unread flag", "pure flag"))
     into_definitions(copy, "call a callee arguments", f"{new} a callee arguments")
     into_expressions(copy, "call", new, "t es", "(t : Tree) (es : Trees)")
     types = ("call_expression_row", f"{row}_row"), ("CallExpression", name)
@@ -153,7 +157,7 @@ def call(copy, k):
 
 def group(copy, k):
     new, row, name = f"group_{k}", f"group_{k}_statement", f"Group{k.title()}Statement"
-    into_table(copy, "EmptyStatement", "Statement", f"{name} 14.2 {new}", ("extra Expression?", "body Statement*"))
+    into_table(copy, "Statement", f"{name} 14.2 {new}", ("extra Expression?", "body Statement*"))
     into_definitions(copy, "block a body", f"{new} a extra body")
     copy.copy_clause(LAWS + "Families.antt", "a_block :", ("a_block :", f"a_{new} :"), ("{ss : Trees}", "{m : Maybe} {ss : Trees}"), ("tree.block a ss", f"tree.{new} a m ss"))
     copy.behind_clause(LAWS + "Families.antt", "item_valid c around (tree.block a ss) p s e =", f"""  item_valid c around (tree.{new} a m ss) p s e =
@@ -170,12 +174,12 @@ def group(copy, k):
     copy.import_type(NORMAL, row, name)
 
 
-def further_parts(copy):
-    """Lists the crates of rows that the types came to need, each behind the first part of its family."""
-    for crate in sorted(path.name for path in (copy.folder / "crates").glob("jsgen_*_rows_[0-9]*")):
-        first = crate.rsplit("_", 1)[0]
-        copy.copy_clause("crates.txt", f"{first}:", (f"{first}:", f"{crate}:"))
-        copy.change("crates.txt", lambda text: re.sub(rf"(?m)^(jsgen_rows:.*)$", rf"\1 {crate}", text))
+def further_crates(copy):
+    """Lists the crates of rows that the types came to need, each behind one that is there, and each read by the one above."""
+    for crate in sorted(path.name for path in (copy.folder / "crates").glob("jsgen_*_rows*")):
+        if not re.search(rf"(?m)^{crate}:", (copy.folder / "crates.txt").read_text()):
+            copy.copy_clause("crates.txt", "jsgen_expression_rows:", ("jsgen_expression_rows:", f"{crate}:"))
+            copy.change("crates.txt", lambda text: re.sub(r"(?m)^(jsgen_rows:.*)$", rf"\1 {crate}", text))
 
 
 def grown(folder, number):
@@ -183,7 +187,7 @@ def grown(folder, number):
     for at in range(number):
         (pair, call, group)[at % 3](copy, code(at // 3))
     subprocess.run([folder / "tools/nodes/generate"], check=True, stdout=subprocess.DEVNULL)
-    further_parts(copy)
+    further_crates(copy)
     for crate in sorted(p.parent for p in (folder / "crates").glob("*/src")):
         subprocess.run(["rt", "fmt"], cwd=crate, check=True, stdout=subprocess.DEVNULL)
 

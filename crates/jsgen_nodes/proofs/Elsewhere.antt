@@ -1,0 +1,68 @@
+-- What a question of all types answers for those that it doesn't name.
+use Rattle.std.proofs.Common.{◌≡◌, Box, false, None, refl}
+use Rattle.std.specs.declared.alloc.Global.{Global}
+use Rattle.jsgen_tree.specs.Tree.{Tree}
+use Rattle.jsgen_tree.specs.Inside.{without_parentheses, ends_open}
+use Rattle.jsgen_tree.specs.Rows.{expression_plain, statement_plain}
+use Rattle.jsgen_tree.specs.declared.nodes.DeclarationNode.{DeclarationNode}
+use Rattle.jsgen_tree.specs.declared.expressions.NumericLiteral.{NumericLiteral}
+use Rattle.jsgen_tree.specs.declared.expressions.StringLiteral.{StringLiteral}
+use Rattle.jsgen_tree.specs.declared.expressions.LogicalExpression.{LogicalExpression}
+use Rattle.jsgen_tree.specs.declared.expressions.ParenthesizedExpression.{ParenthesizedExpression}
+use Rattle.jsgen_tree.specs.declared.statements.ExpressionStatement.{ExpressionStatement}
+use Rattle.jsgen_tree.specs.declared.statements.IfStatement.{IfStatement}
+use Rattle.jsgen_tree.specs.declared.sets.Expression.{Expression}
+use Rattle.jsgen_tree.specs.declared.sets.Statement.{Statement}
+use Rattle.jsgen_tree.specs.declared.sets.Expression.TheVariants as expressions
+use Rattle.jsgen_tree.specs.declared.sets.Statement.TheVariants as statements
+use Rattle.jsgen_model.specs.Spell.{string_in, string_statement}
+use Rattle.jsgen_place.specs.Place.{operand_of}
+use Rattle.jsgen_place.specs.declared.operands.Operand.{Operand}
+
+-- the set's member is none of this type
+abbrev IsNot : {B S : Type 0} → S → (B → S) → Type 0
+IsNot {B} n variant = (b : B) → n ≡ variant b → ⊥
+
+abbrev other_operand : Operand
+other_operand = record { is_number = false; mixes = false }
+
+-- ---- expressions
+
+pub no_string : {N : Type 0} (h : N → Tree) (n : Expression N) → IsNot n expressions.StringLiteral → IsNot n expressions.ParenthesizedExpression → None ≡ string_in (without_parentheses (expression_plain h n))
+no_string h (expressions.StringLiteral b) no_literal no_parentheses = absurd (no_literal b refl)
+no_string h (expressions.ParenthesizedExpression b) no_literal no_parentheses = absurd (no_parentheses b refl)
+no_string h n no_literal no_parentheses = refl
+
+pub no_operand : {N : Type 0} (h : N → Tree) (n : Expression N) → IsNot n expressions.NumericLiteral → IsNot n expressions.LogicalExpression → IsNot n expressions.ParenthesizedExpression → other_operand ≡ operand_of (without_parentheses (expression_plain h n))
+no_operand h (expressions.NumericLiteral b) no_number no_operation no_parentheses = absurd (no_number b refl)
+no_operand h (expressions.LogicalExpression b) no_number no_operation no_parentheses = absurd (no_operation b refl)
+no_operand h (expressions.ParenthesizedExpression b) no_number no_operation no_parentheses = absurd (no_parentheses b refl)
+no_operand h n no_number no_operation no_parentheses = refl
+
+pub no_open_expression : {N : Type 0} (h : N → Tree) (n : Expression N) → false ≡ ends_open (expression_plain h n)
+no_open_expression h (expressions.StringLiteral b) = refl
+no_open_expression h n = refl
+
+pub no_statement : {N : Type 0} (h : N → Tree) (n : Expression N) → None ≡ string_statement (expression_plain h n)
+no_statement h (expressions.StringLiteral b) = refl
+no_statement h n = refl
+
+-- ---- statements
+
+pub statement_no_string : {N : Type 0} (h : N → Tree) (n : Statement N) → IsNot n statements.Declaration → None ≡ string_in (without_parentheses (statement_plain h n))
+statement_no_string h (statements.Declaration b) no_declaration = absurd (no_declaration b refl)
+statement_no_string h n no_declaration = refl
+
+pub statement_no_operand : {N : Type 0} (h : N → Tree) (n : Statement N) → IsNot n statements.Declaration → other_operand ≡ operand_of (without_parentheses (statement_plain h n))
+statement_no_operand h (statements.Declaration b) no_declaration = absurd (no_declaration b refl)
+statement_no_operand h n no_declaration = refl
+
+pub no_open_statement : {N : Type 0} (h : N → Tree) (n : Statement N) → IsNot n statements.Declaration → IsNot n statements.IfStatement → false ≡ ends_open (statement_plain h n)
+no_open_statement h (statements.Declaration b) no_declaration no_if = absurd (no_declaration b refl)
+no_open_statement h (statements.IfStatement b) no_declaration no_if = absurd (no_if b refl)
+no_open_statement h n no_declaration no_if = refl
+
+pub no_string_statement : {N : Type 0} (h : N → Tree) (n : Statement N) → IsNot n statements.Declaration → IsNot n statements.ExpressionStatement → None ≡ string_statement (statement_plain h n)
+no_string_statement h (statements.Declaration b) no_declaration no_expression = absurd (no_declaration b refl)
+no_string_statement h (statements.ExpressionStatement b) no_declaration no_expression = absurd (no_expression b refl)
+no_string_statement h n no_declaration no_expression = refl
