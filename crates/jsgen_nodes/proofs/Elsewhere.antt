@@ -15,13 +15,10 @@ use Rattle.jsgen_tree.specs.declared.sets.Expression.{Expression}
 use Rattle.jsgen_tree.specs.declared.sets.Statement.{Statement}
 use Rattle.jsgen_tree.specs.declared.sets.Expression.TheVariants as expressions
 use Rattle.jsgen_tree.specs.declared.sets.Statement.TheVariants as statements
+use Rattle.jsgen_nodes.proofs.IsNot.{IsNot}
 use Rattle.jsgen_model.specs.Spell.{string_in, string_statement}
 use Rattle.jsgen_place.specs.Place.{operand_of}
 use Rattle.jsgen_place.specs.declared.operands.Operand.{Operand}
-
--- the set's member is none of this type
-abbrev IsNot : {B S : Type 0} → S → (B → S) → Type 0
-IsNot {B} n variant = (b : B) → n ≡ variant b → ⊥
 
 abbrev other_operand : Operand
 other_operand = record { is_number = false; mixes = false }

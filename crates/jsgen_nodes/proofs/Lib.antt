@@ -1,4 +1,6 @@
 pub mod BlockStops
 pub mod Braces
 pub mod Elsewhere
+pub mod IsNot
 pub mod Operations
+pub mod Parts

@@ -1,9 +1,11 @@
 // Generated from tools/nodes/table.txt; edit that and run tools/nodes/generate.
 // A set prints as its member does.
+ghost use Rattle.std.specs.Prelude.{◌≡◌, true, nat_le};
 ghost use Rattle.jsgen_tree.specs.Rows.{expression_plain, declaration_plain, statement_plain, binding_pattern_plain};
 ghost use Rattle.jsgen_model.specs.Printing.{Reaches};
 ghost use Rattle.jsgen_printer.specs.Printer.{pen_of};
 ghost use Rattle.jsgen_nodes.specs.Place.{pen_after};
+ghost use Rattle.jsgen_nodes.specs.Parts.{statement_part};
 
 use crate::PrintNode;
 use crate::blocks::{print_block_statement, print_empty_statement, print_if_statement};
@@ -37,9 +39,9 @@ pub fn print_expression<N: PrintNode>(
         Expression::BooleanLiteral(node) => print_boolean_literal(node, p, place),
         Expression::NumericLiteral(node) => print_numeric_literal(node, p, place),
         Expression::StringLiteral(node) => print_string_literal(node, p, place),
+        Expression::ParenthesizedExpression(node) => print_parenthesized_expression(node, p, place),
         Expression::BinaryExpression(node) => print_binary_expression(node, p, place),
         Expression::LogicalExpression(node) => print_logical_expression(node, p, place),
-        Expression::ParenthesizedExpression(node) => print_parenthesized_expression(node, p, place),
         Expression::StaticMemberExpression(node) => print_static_member_expression(node, p, place),
         Expression::ComputedMemberExpression(node) => print_computed_member_expression(
             node, p, place,
@@ -69,10 +71,24 @@ pub fn print_statement<N: PrintNode>(
 {
     match node {
         Statement::Declaration(node) => node.get().print(p, place),
+        _ => print_statement_in_statements(node, p, place),
+    }
+}
+
+fn print_statement_in_statements<N: PrintNode>(
+    node: &Statement<N>,
+    p: &mut Printer,
+    place: Place,
+) -> Result<(), Memory>
+    requires { nat_le 1 (statement_part node.now) ≡ true }
+    ensures { Reaches result (pen_of p.old) (pen_of p.new) (pen_after (statement_plain N.plain node.now) place p.old) }
+{
+    match node {
         Statement::ExpressionStatement(node) => print_expression_statement(node, p, place),
         Statement::BlockStatement(node) => print_block_statement(node, p, place),
         Statement::IfStatement(node) => print_if_statement(node, p, place),
         Statement::EmptyStatement(node) => print_empty_statement(node, p, place),
+        _ => unreachable!(),
     }
 }
 

@@ -1,40 +1,77 @@
-"""src/sets.rt of the crate of print functions: a set prints as its member does."""
+"""The crate of print functions: src/sets.rt, where a set prints as its member does; and, of a set whose members stand in several
+files of the table, specs/Parts.antt and proofs/Parts.antt: in which part of the choice each member is, and their answers."""
 
 import re
 
 import layout
-from names import REPOSITORY, row_names
+from files.proofs_cases import aliases, variant
+from files.rows_functions import parts as parts_of_rows
+from names import REPOSITORY, row_names, sets_in_antt
 from table import snake
 
-CRATE = REPOSITORY / "crates" / "jsgen_nodes" / "src"
+CRATE = REPOSITORY / "crates" / "jsgen_nodes"
+SPECS = "Rattle.jsgen_nodes.specs.Parts"
+PROOFS = "Rattle.jsgen_nodes.proofs"
 
 
 def write(table):
-    ghosts = [("Rattle.std.specs.Prelude", ["◌≡◌"])] + row_names(table)
+    ghosts = [("Rattle.std.specs.Prelude", ["◌≡◌", "true", "nat_le"])] + row_names(table)
     ghosts += [("Rattle.jsgen_model.specs.Printing", ["Reaches"]), ("Rattle.jsgen_printer.specs.Printer", ["pen_of"]),
-               ("Rattle.jsgen_nodes.specs.Place", ["pen_after"])]
+               ("Rattle.jsgen_nodes.specs.Place", ["pen_after"]), (SPECS, [f"{snake(s.name)}_part" for s in divided(table)])]
     homes = print_functions() + [("crate", ["PrintNode"]), ("jsgen_place", ["Place"]), ("jsgen_printer", ["Printer"]),
                                  ("jsgen_syntax", ["Memory"]), ("jsgen_tree", [s.name for s in table.nesting()])]
-    body = "\n\n".join(of_set(table, s) for s in table.nesting())
-    return {"crates/jsgen_nodes/src/sets.rt": layout.rust("A set prints as its member does.", ghosts, [], homes, body)}
+    body = "\n\n".join(function(table, s, at) for s in table.nesting() for at in range(len(parts(table, s))))
+    files = {"crates/jsgen_nodes/src/sets.rt": layout.rust("A set prints as its member does.", ghosts, [], homes, body)}
+    if divided(table):
+        files |= {"crates/jsgen_nodes/specs/Parts.antt": specs(table), "crates/jsgen_nodes/proofs/Parts.antt": proofs(table)}
+    for s in divided(table):
+        for at in range(len(parts(table, s))):
+            files[f"crates/jsgen_nodes/proofs/sets/{function_name(table, s, at)}/Answers.antt"] = answers(table, s, at)
+    return files
 
 
 def print_functions():
     """The print functions that are written by hand, by the file in which they stand."""
-    files = [p for p in sorted(CRATE.glob("*.rt")) if p.name not in ("sets.rt", "lib.rt")]
+    files = [p for p in sorted((CRATE / "src").glob("*.rt")) if p.name not in ("sets.rt", "lib.rt")]
     return [(f"crate::{p.stem}", re.findall(r"pub fn (print_\w+)", p.read_text())) for p in files]
 
 
-def of_set(table, s):
-    name, generic = snake(s.name), table.generic(s.name)
-    plain = f"{s.plain} N.plain" if generic else s.plain
-    arms = "".join(f"        {s.name}::{m}(node) => {printed(table, m)},\n" for m in s.members)
-    return f"""pub fn print_{name}{'<N: PrintNode>' if generic else ''}(
+# ---- the parts of a choice
+
+def parts(table, s):
+    """The parts in which a set's member is chosen: their names and members. Sets within the set come first; each other part is a
+    file of the table, or some of its types."""
+    inner = [m for m in s.members if m in table.sets]
+    own = [(name, [n.name for n in nodes if n.name in s.members]) for name, _, nodes in parts_of_rows(table)]
+    return [(name, members) for name, members in [("sets", inner)] + own if members]
+
+
+def divided(table):
+    return [s for s in table.nesting() if len(parts(table, s)) > 1]
+
+
+def function_name(table, s, at):
+    return f"print_{snake(s.name)}" + (f"_in_{parts(table, s)[at][0]}" if at else "")
+
+
+def plain_of(table, s):
+    return f"{s.plain} N.plain" if table.generic(s.name) else s.plain
+
+
+def function(table, s, at):
+    generic, every = table.generic(s.name), parts(table, s)
+    arms = "".join(f"        {s.name}::{m}(node) => {printed(table, m)},\n" for m in every[at][1])
+    if at + 1 < len(every):
+        arms += f"        _ => {function_name(table, s, at + 1)}(node, p, place),\n"
+    elif at:
+        arms += "        _ => unreachable!(),\n"
+    requires = f"    requires {{ nat_le {at} ({snake(s.name)}_part node.now) ≡ true }}\n" if at else ""
+    return f"""{'' if at else 'pub '}fn {function_name(table, s, at)}{'<N: PrintNode>' if generic else ''}(
     node: &{s.name}{'<N>' if generic else ''},
     p: &mut Printer,
     place: Place,
 ) -> Result<(), Memory>
-    ensures {{ Reaches result (pen_of p.old) (pen_of p.new) (pen_after ({plain} node.now) place p.old) }}
+{requires}    ensures {{ Reaches result (pen_of p.old) (pen_of p.new) (pen_after ({plain_of(table, s)} node.now) place p.old) }}
 {{
     match node {{
 {arms}    }}
@@ -43,3 +80,57 @@ def of_set(table, s):
 
 def printed(table, member):
     return "node.get().print(p, place)" if member in table.sets else f"print_{snake(member)}(node, p, place)"
+
+
+# ---- specs/Parts.antt
+
+def specs(table):
+    each = []
+    for s in divided(table):
+        name, typed = f"{snake(s.name)}_part", f"{{N : Type 0}} → {s.name} N" if table.generic(s.name) else s.name
+        clauses = "".join(f"\n{name} ({snake(s.name)}.{m} b) = {at}" for at, (_, members) in enumerate(parts(table, s)) for m in members)
+        each.append(f"abbrev pub {name} : {typed} → ℕ{clauses}")
+    homes = [("Rattle.std.specs.Prelude", ["ℕ"])] + sets_in_antt(table)
+    own = [(f"Rattle.jsgen_tree.specs.declared.sets.{s.name}.TheVariants", snake(s.name)) for s in table.nesting()]
+    return layout.antt("In which part of the choice within its set a member is.", homes, own, "\n\n".join(each))
+
+
+# ---- proofs
+
+def is_not(s, m):
+    return f"IsNot n {snake(s.name)}s.{m}"
+
+
+def proofs(table):
+    each = [lemma(table, s, at) for s in divided(table) for at in range(len(parts(table, s)))]
+    homes = [("Rattle.std.proofs.Common", ["◌≡◌", "true", "false", "refl", "nat_le"]), (f"{PROOFS}.IsNot", ["IsNot"]),
+             (SPECS, [f"{snake(s.name)}_part" for s in divided(table)])] + sets_in_antt(table)
+    about = "A member that is in no earlier part of the choice, and of no type of this one, is in a later part."
+    return layout.antt(about, homes, aliases(table), "\n\n".join(each))
+
+
+def lemma(table, s, at):
+    """What is in none of the parts up to this one is in a later one, or nowhere."""
+    every, name, generic = parts(table, s), snake(s.name), table.generic(s.name)
+    last = at + 1 == len(every)
+    members, own = [m for _, ms in every[:at] for m in ms], every[at][1]
+    names = [f"no_{i}" for i in range(len(own))]
+    head = f"{'{N : Type 0} ' if generic else ''}(n : {s.name}{' N' if generic else ''})"
+    premise = [f"nat_le {at} ({name}_part n) ≡ true"] if at else []
+    said = "⊥" if last else f"nat_le {at + 1} ({name}_part n) ≡ true"
+    typed = " → ".join([head] + premise + [is_not(s, m) for m in own] + [said])
+    label, given = f"{name}_past_{at}", (["later"] if at else []) + names
+    clauses = [f"{label} {variant(s, m)} {' '.join(given)} = let no : false ≡ true = later in cc" for m in members]
+    clauses += [f"{label} {variant(s, m)} {' '.join(given)} = absurd (no_{i} b refl)" for i, m in enumerate(own)]
+    if not last:
+        clauses += [f"{label} n {' '.join(given)} = refl"]
+    return f"pub {label} : {typed}\n" + "\n".join(clauses)
+
+
+def answers(table, s, at):
+    every, name = parts(table, s), function_name(table, s, at)
+    facts = " ".join((["c.requires"] if at else []) + [f"c.in_default.not-{m}" for m in every[at][1]])
+    goal = f"{function_name(table, s, at + 1)}-requires" if at + 1 < len(every) else "unreachable-requires"
+    line = f"pub {goal} : goal.{goal}\n{goal} g c = {snake(s.name)}_past_{at} c.args.node.now {facts}"
+    homes = [(f"{PROOFS}.Parts", [f"{snake(s.name)}_past_{at}"])]
+    return layout.antt("What this part doesn't print is in a later one.", homes, [(f"{PROOFS}.sets.{name}.Goals", "goal")], line)
