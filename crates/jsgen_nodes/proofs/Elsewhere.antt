@@ -1,7 +1,9 @@
 -- What a question of all types answers for those that it doesn't name.
-use Rattle.std.proofs.Common.{◌≡◌, Box, false, None, refl}
+use Rattle.std.proofs.Common.{◌≡◌, Box, Bool, true, false, None, refl}
 use Rattle.std.specs.declared.alloc.Global.{Global}
-use Rattle.jsgen_tree.specs.Tree.{Tree}
+use Rattle.jsgen_tree.specs.Tree.{Tree, Atoms, type_of}
+use Rattle.jsgen_tree.specs.Nodes.{numeric_literal, string_literal, logical, parenthesized}
+use Rattle.jsgen_tree.specs.Sets.{is_expression}
 use Rattle.jsgen_tree.specs.Inside.{without_parentheses, ends_open}
 use Rattle.jsgen_tree.specs.Rows.{expression_plain, statement_plain}
 use Rattle.jsgen_tree.specs.declared.nodes.DeclarationNode.{DeclarationNode}
@@ -43,6 +45,35 @@ no_open_expression h n = refl
 pub no_statement : {N : Type 0} (h : N → Tree) (n : Expression N) → None ≡ string_statement (expression_plain h n)
 no_statement h (expressions.StringLiteral b) = refl
 no_statement h n = refl
+
+-- ---- what stands in parentheses, where only an expression is looked into
+
+operand_outside : (t : Tree) → is_expression (type_of t) ≡ false → operand_of (without_parentheses t) ≡ other_operand
+operand_outside (numeric_literal a) h = let no : true ≡ false = h in cc
+operand_outside (logical a l r) h = let no : true ≡ false = h in cc
+operand_outside (parenthesized a e) h = let no : true ≡ false = h in cc
+operand_outside t h = refl
+
+pub operand_inside : (a : Atoms) (t : Tree) → operand_of (without_parentheses t) ≡ operand_of (without_parentheses (parenthesized a t))
+operand_inside a t =
+    go (is_expression (type_of t)) refl
+  where
+    go : (b : Bool) → is_expression (type_of t) ≡ b → operand_of (without_parentheses t) ≡ operand_of (without_parentheses (parenthesized a t))
+    go true h = rw h refl
+    go false h = rw h (operand_outside t h)
+
+string_outside : (t : Tree) → is_expression (type_of t) ≡ false → string_in (without_parentheses t) ≡ None
+string_outside (string_literal a) h = let no : true ≡ false = h in cc
+string_outside (parenthesized a e) h = let no : true ≡ false = h in cc
+string_outside t h = refl
+
+pub string_inside : (a : Atoms) (t : Tree) → string_in (without_parentheses t) ≡ string_in (without_parentheses (parenthesized a t))
+string_inside a t =
+    go (is_expression (type_of t)) refl
+  where
+    go : (b : Bool) → is_expression (type_of t) ≡ b → string_in (without_parentheses t) ≡ string_in (without_parentheses (parenthesized a t))
+    go true h = rw h refl
+    go false h = rw h (string_outside t h)
 
 -- ---- statements
 

@@ -2,12 +2,18 @@
 ghost use Rattle.std.specs.Prelude.{◌≡◌, option_map};
 ghost use Rattle.jsgen_syntax.specs.Units.{js_units};
 ghost use Rattle.jsgen_tree.specs.Inside.{without_parentheses};
-ghost use Rattle.jsgen_tree.specs.Rows.{expression_plain, statement_plain, declaration_plain, binding_pattern_plain};
+ghost use Rattle.jsgen_tree.specs.Rows.{parenthesized_expression_row, expression_plain, statement_plain, declaration_plain, binding_pattern_plain};
 ghost use Rattle.jsgen_model.specs.Spell.{string_in, string_statement};
 
 use crate::PrintNode;
 use jsgen_syntax::JsStr;
-use jsgen_tree::{BindingPattern, Declaration, Expression, Statement};
+use jsgen_tree::{BindingPattern, Declaration, Expression, ParenthesizedExpression, Statement};
+
+fn parenthesized_string<N: PrintNode>(node: &ParenthesizedExpression<N>) -> Option<&JsStr>
+    ensures { option_map (λ v. js_units v.now) result ≡ string_in (without_parentheses (parenthesized_expression_row N.plain node.now)) }
+{
+    node.expression.get().string()
+}
 
 /// The string that the expression is.
 pub fn expression_string<N: PrintNode>(node: &Expression<N>) -> Option<&JsStr>
@@ -15,7 +21,7 @@ pub fn expression_string<N: PrintNode>(node: &Expression<N>) -> Option<&JsStr>
 {
     match node {
         Expression::StringLiteral(node) => Some(&node.value),
-        Expression::ParenthesizedExpression(node) => node.expression.get().string(),
+        Expression::ParenthesizedExpression(node) => parenthesized_string(node),
         _ => None,
     }
 }
