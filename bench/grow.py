@@ -13,10 +13,12 @@ import shutil
 import subprocess
 import sys
 import tempfile
+import time
+from bisect import bisect
 from concurrent.futures import ThreadPoolExecutor
 from pathlib import Path
 
-from gate import TOP, measured
+from gate import TICK, TOP, measured
 
 WATCHED = ("jsgen_printer", "jsgen_nodes", "jsgen_fields", "jsgen_expression_rows", "jsgen_statement_rows", "jsgen_rows")
 FAMILIES = {"Expression": "synthetic_expressions", "Statement": "synthetic_statements"}
@@ -214,17 +216,47 @@ def check_from_nothing(folder, crate, kept):
     return [f"{kit}/bin/rattle", "check", "--crate-name", crate, "src/lib.rt", *words, "--jobs", "1", "--incremental", kept]
 
 
+def used(pid):
+    """The seconds that a process and those below it have used."""
+    with open(f"/proc/{pid}/stat", "rb") as stat, open(f"/proc/{pid}/task/{pid}/children") as below:
+        fields = stat.read().rsplit(b")", 1)[1].split()
+        return sum(map(int, fields[11:15])) / TICK + sum(map(used, below.read().split()))
+
+
+def watched(command, folder):
+    """Runs a command. Returns what it says on standard error, and the processor seconds that it had used at each of many moments."""
+    moments = []
+    with tempfile.TemporaryFile("w+") as said:
+        child = subprocess.Popen(command, cwd=folder, stdout=subprocess.DEVNULL, stderr=said)
+        while child.poll() is None:
+            try:
+                moments.append((time.time(), used(child.pid)))
+            except OSError:     # one of them has just ended
+                pass
+            time.sleep(0.01)
+        said.seek(0)
+        if child.returncode:
+            sys.exit(f"{folder}: not proved")
+        return said.read(), moments
+
+
 def by_function(folder, crate):
-    """The seconds of each function's proof, from nothing and one after the other: the check writes a file behind each part of it."""
+    """The processor seconds of each function's proof, from nothing and one after the other: the check writes a file behind each part
+    of it. What several functions that call one another share is one function here."""
     subprocess.run(["rt", "all", "check", "--jobs", "1"], cwd=folder / "crates" / crate, check=True, capture_output=True)
     with tempfile.TemporaryDirectory() as kept:
-        check = subprocess.run(check_from_nothing(folder, crate, kept), cwd=folder / "crates" / crate, check=True, capture_output=True, text=True)
-        functions = {it.replace("::", ".") for it in re.findall(rf"^fn {crate}::(\S+): proved$", check.stderr, re.M)}
-        times, last = {}, None
+        said, moments = watched(check_from_nothing(folder, crate, kept), folder / "crates" / crate)
+        functions = {it.replace("::", ".") for it in re.findall(rf"^fn {crate}::(\S+): proved$", said, re.M)}
+        shared = {it.rsplit(".", 1)[0] for file in Path(kept).rglob(f"Rattle-{crate}-proofs.*.+*") for it in [file.name.removeprefix(f"Rattle-{crate}-proofs.").split(".+")[0] + "."]}
+        times, last, ends = {}, None, [it for it, _ in moments]
         for file in sorted(Path(kept).rglob("*.oantt"), key=lambda it: it.stat().st_mtime):
-            at, parts = file.stat().st_mtime, file.name.removeprefix(f"Rattle-{crate}-proofs.").split(".")
-            name = next((it for end in range(len(parts), 0, -1) if (it := ".".join(parts[:end])) in functions), None)
-            if name and last:
+            at = moments[min(bisect(ends, file.stat().st_mtime), len(moments) - 1)][1]
+            parts = file.name.removeprefix(f"Rattle-{crate}-proofs.").split(".")
+            names = [".".join(parts[:end]) for end in range(len(parts), 0, -1)]
+            name = next((it for it in names if it in functions or it in shared), None)
+            if name in functions and name.rsplit(".", 1)[0] in shared:
+                name = name.rsplit(".", 1)[0]
+            if name and last is not None:
                 times[name] = times.get(name, 0) + at - last
             last = at
     return times
