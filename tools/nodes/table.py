@@ -22,7 +22,7 @@ class Field:
     name: str
     rust: str
     kind: str           # a value, or the name of words, a set or a type
-    many: str           # "" one, "?" one or none, "*" a list
+    many: str           # "" one, "?" one or none, "*" a list, "?*" a list with holes
     default: str        # None where it has none
     only_for: str       # the word of `kind` for which it is required; None where it is one for all
     unread: bool
@@ -30,6 +30,10 @@ class Field:
     other: str = None   # another kind of value that a tree may hold there
     parts: list = None  # the fields of the format that a field by hand stands for
     needed: bool = False  # of a flag, that it is required
+
+    @property
+    def is_list(self):
+        return self.many in ("*", "?*")
 
     @property
     def required(self):

@@ -1,20 +1,20 @@
 -- What a check answers, from the answers of its steps.
-use Rattle.std.proofs.Common.{◌≡◌, ℕ, ◌+◌, ◌<◌, ◌≤◌, List, [], ◌∷◌, ◌++◌, map, drop, length, Result, Ok, Err, sym, ap, refl, ◌∙◌, arith}
+use Rattle.std.proofs.Common.{◌≡◌, ℕ, ◌+◌, ◌<◌, ◌≤◌, List, [], ◌∷◌, ◌++◌, map, drop, length, Option, Some, None, option_map, Result, Ok, Err, sym, ap, refl, ◌∙◌, arith}
 use Rattle.std.specs.Result.{IsErrAnd}
 use Rattle.std.proofs.Math.ListN.{get_or}
 use Rattle.std.proofs.lemmas.List.{at_drop_all, at_drop_more}
 use Rattle.std.proofs.lemmas.Result.{err_from_is_err_and}
 use Rattle.jsgen_tree.specs.declared.types.NodeSet.{NodeSet}
 use Rattle.jsgen_tree.specs.declared.types.NodeType.{NodeType}
-use Rattle.jsgen_tree.specs.Tree.{Tree, node, Atoms, Slots, trees}
+use Rattle.jsgen_tree.specs.Tree.{Tree, node, Atoms, Slots, optional, trees, holed}
 use Rattle.jsgen_tree.specs.Table.{child_sets}
 use Rattle.jsgen_tree.specs.Fields.{fields}
 use Rattle.jsgen_model.specs.Valid.{span_faults, own_faults, set_faults}
 use Rattle.jsgen_model.specs.declared.fault.TreeFault.{TreeFault}
 use Rattle.jsgen_rules.specs.Verdict.{verdict}
 use Rattle.jsgen_check.specs.declared.surroundings.Surroundings.{Surroundings}
-use Rattle.jsgen_check.specs.Verdict.{surroundings_plain, tree_verdict, child_verdict, children_verdict, both, higher, raised}
-use Rattle.jsgen_check.proofs.Verdicts.{higher_same, of_both, of_node, of_placed, of_no_children, of_first, slots_verdict}
+use Rattle.jsgen_check.specs.Verdict.{surroundings_plain, tree_verdict, child_verdict, maybe_verdict, children_verdict, both, higher, raised}
+use Rattle.jsgen_check.proofs.Verdicts.{higher_same, of_both, of_node, of_placed, of_no_children, of_first, of_hole, slots_verdict}
 
 -- what the exit of a `?` returns
 pub broken : {A : Type 0} {r v : Result A TreeFault} {e : TreeFault} → IsErrAnd r (λ y. y ≡ e) → Err e ≡ v → r ≡ v
@@ -91,4 +91,23 @@ turn so_far around set f xs i x inside is left both_of this = ap (λ r. higher r
 pub turns_end : {A : Type 0} {whole : Result ℕ TreeFault} (r : Result ℕ TreeFault) (around : Surroundings) (set : NodeSet) (f : A → Tree) (xs : List A) (i : ℕ) → length xs ≤ i → higher r (children_verdict around set (trees (map f (drop i xs)))) ≡ whole → r ≡ whole
 turns_end {A} r around set f xs i outside left =
     let answer = λ (ys : List A). higher r (children_verdict around set (trees (map f ys))) in
+    none_behind r ∙ (ap (higher r) (sym (of_no_children around set)) ∙ (sym (at_drop_all answer xs i outside) ∙ left))
+
+-- ---- the same of lists with holes, where nothing is found
+
+of_first_or_hole : (around : Surroundings) (set : NodeSet) (o : Option Tree) (os : List (Option Tree)) → children_verdict around set (holed (o ∷ os)) ≡ higher (maybe_verdict around set (optional o)) (children_verdict around set (holed os))
+of_first_or_hole around set None os = of_hole around set (holed os) ∙ sym (none_before _)
+of_first_or_hole around set (Some t) os = of_first around set t (holed os)
+
+next_or_hole : {A : Type 0} {whole : Result ℕ TreeFault} (so_far : Result ℕ TreeFault) (around : Surroundings) (set : NodeSet) (f : A → Tree) (xs : List (Option A)) (i : ℕ) (x : Option A) → i < length xs → x ≡ get_or xs i x → higher so_far (children_verdict around set (holed (map (option_map f) (drop i xs)))) ≡ whole → higher (higher so_far (maybe_verdict around set (optional (option_map f x)))) (children_verdict around set (holed (map (option_map f) (drop (i + 1) xs)))) ≡ whole
+next_or_hole {A} so_far around set f xs i x inside is left =
+    let answer = λ (ys : List (Option A)). higher so_far (children_verdict around set (holed (map (option_map f) ys))) in
+    associated so_far _ _ ∙ ap (higher so_far) (sym (of_first_or_hole around set (option_map f x) (map (option_map f) (drop (i + 1) xs)))) ∙ (ap (λ y. answer (y ∷ drop (i + 1) xs)) is ∙ (sym (at_drop_more answer xs i x inside) ∙ left))
+
+pub turn_or_hole : {A : Type 0} {whole r found : Result ℕ TreeFault} (so_far : Result ℕ TreeFault) (around : Surroundings) (set : NodeSet) (f : A → Tree) (xs : List (Option A)) (i : ℕ) (x : Option A) → i < length xs → x ≡ get_or xs i x → higher so_far (children_verdict around set (holed (map (option_map f) (drop i xs)))) ≡ whole → r ≡ higher so_far found → found ≡ maybe_verdict around set (optional (option_map f x)) → higher r (children_verdict around set (holed (map (option_map f) (drop (i + 1) xs)))) ≡ whole
+turn_or_hole so_far around set f xs i x inside is left both_of this = ap (λ r. higher r (children_verdict around set (holed (map (option_map f) (drop (i + 1) xs))))) (two_children both_of refl this) ∙ next_or_hole so_far around set f xs i x inside is left
+
+pub turns_or_holes_end : {A : Type 0} {whole : Result ℕ TreeFault} (r : Result ℕ TreeFault) (around : Surroundings) (set : NodeSet) (f : A → Tree) (xs : List (Option A)) (i : ℕ) → length xs ≤ i → higher r (children_verdict around set (holed (map (option_map f) (drop i xs)))) ≡ whole → r ≡ whole
+turns_or_holes_end {A} r around set f xs i outside left =
+    let answer = λ (ys : List (Option A)). higher r (children_verdict around set (holed (map (option_map f) ys))) in
     none_behind r ∙ (ap (higher r) (sym (of_no_children around set)) ∙ (sym (at_drop_all answer xs i outside) ∙ left))

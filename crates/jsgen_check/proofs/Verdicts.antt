@@ -126,3 +126,7 @@ of_no_children around s = no_height
 pub of_first : (around : Surroundings) (s : NodeSet) (t : Tree) (ts : Trees) → children_verdict around s (more t ts) ≡ higher (child_verdict around s t) (children_verdict around s ts)
 unfolding child_verdict children_verdict
 of_first around s t ts = of_two (height t) (greatest_height ts) (set_faults s t ++ breaches (surroundings_plain around) t) (in_trees (surroundings_plain around) (place around s ∷ []) ts)
+
+pub of_hole : (around : Surroundings) (s : NodeSet) (ts : Trees) → children_verdict around s (hole ts) ≡ children_verdict around s ts
+unfolding children_verdict
+of_hole around s ts = refl

@@ -6,6 +6,7 @@ ghost use Rattle.jsgen_tree.specs.Rows.{in_expression, in_argument, in_statement
 ghost use Rattle.jsgen_check.specs.Verdict.{child_verdict, maybe_verdict, children_verdict};
 ghost use Rattle.jsgen_tree.specs.declared.types.NodeSet.TheVariants as sets;
 
+use crate::collections::check_spread_element;
 use crate::heights::higher;
 use crate::statements::{check_directive, check_variable_declarator};
 use crate::{CheckNode, Surroundings, check_child};
@@ -96,6 +97,7 @@ pub fn check_argument<N: CheckNode>(
     ensures { result ≡ child_verdict around.entry sets.Argument (in_argument N.plain node.now) }
 {
     match node {
+        Argument::SpreadElement(node) => check_spread_element(node, around),
         Argument::Expression(node) => check_child(node.get(), NodeSet::Argument, around),
     }
 }

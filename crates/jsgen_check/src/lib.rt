@@ -11,6 +11,7 @@ ghost use Rattle.jsgen_model.specs.Valid.{job_breaches, Judges};
 ghost use Rattle.jsgen_check.specs.Verdict.{tree_verdict, child_verdict};
 
 mod children;
+mod collections;
 mod expressions;
 mod heights;
 mod program;

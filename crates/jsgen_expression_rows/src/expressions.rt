@@ -1,11 +1,11 @@
 // Generated from tools/nodes/table.txt; edit that and run tools/nodes/generate.
 // Rows of a job: expressions (ECMA-262, clause 13).
-ghost use Rattle.std.specs.Prelude.{◌≡◌, false};
+ghost use Rattle.std.specs.Prelude.{◌≡◌, true};
 ghost use Rattle.serde_json.specs.View.{view};
 ghost use Rattle.jsgen_tree.specs.Fields.{identifier_reference_fields, this_expression_fields, null_literal_fields, boolean_literal_fields, string_literal_fields, parenthesized_expression_fields, binary_expression_fields, logical_expression_fields, identifier_name_fields, static_member_expression_fields, computed_member_expression_fields, call_expression_fields};
 ghost use Rattle.jsgen_fields.specs.Reads.{Gives, read_node, read_typed};
 ghost use Rattle.jsgen_fields.specs.Kept.{entries, row_plain};
-ghost use Rattle.jsgen_fields.specs.Parts.{is_in_statements};
+ghost use Rattle.jsgen_fields.specs.Parts.{is_in_expressions};
 ghost use Rattle.jsgen_tree.specs.declared.types.NodeType.TheVariants as types;
 
 use crate::literals::read_numeric_literal;
@@ -376,7 +376,7 @@ pub fn read_in_expressions<N: ReadNode + Drop>(
     span: Span,
     row: &Value,
 ) -> Result<Row<N>, InputFault>
-    requires { is_in_statements node_type ≡ false }
+    requires { is_in_expressions node_type ≡ true }
     ensures { Gives (row_plain N.plain) result (entries N.plain kept.new.items)
         (read_typed number node_type span (view row.now) (entries N.plain kept.old.items)) }
 {

@@ -1,5 +1,5 @@
 -- What the steps of a row's function give.
-use Rattle.std.proofs.Common.{◌≡◌, List, Result, Ok, Err, refl}
+use Rattle.std.proofs.Common.{◌≡◌, List, Result, Ok, Err, refl, ap}
 use Rattle.std.specs.Prelude.{⊤}
 use Rattle.jsgen_pool.specs.Pool.{Entry}
 use Rattle.jsgen_fields.specs.declared.InputFault.{InputFault}
@@ -32,3 +32,9 @@ gives_row plain (Err f) kept row n m e h = λ told. let q = h told in cc
 -- and is the row
 pub gives_held : {V X : Type 0} (kept : List Entry) (row : X → V) (n m : X) → Boxed n m → ◌≡◌ {A = Read V} (Ok (row n, kept)) (Ok (row m, kept))
 gives_held kept row n m e = cc
+
+-- ---- what is held of what was read
+
+pub gives_holding : {T X V : Type 0} (plain : T → X) (hold : X → V) (r : Result T InputFault) (kept : List Entry) (read : Read X) → Gives plain r kept read → Gives (λ t. hold (plain t)) r kept (after read (λ x. Ok (hold x.0, x.1)))
+gives_holding plain hold (Ok x) kept read h = ap (λ q. after q (λ x. Ok (hold x.0, x.1))) h
+gives_holding plain hold (Err f) kept read h = λ told. ap (λ q. after q (λ x. Ok (hold x.0, x.1))) (h told)

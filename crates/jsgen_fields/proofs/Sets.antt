@@ -3,7 +3,7 @@
 use Rattle.std.proofs.Common.{◌≡◌, Bool, true, false, refl}
 use Rattle.jsgen_tree.specs.Tree.{Tree, type_of}
 use Rattle.jsgen_tree.specs.declared.types.NodeType.{NodeType}
-use Rattle.jsgen_tree.specs.Sets.{is_directive, is_statement, is_variable_declarator, is_binding_pattern, is_expression, is_identifier_name}
+use Rattle.jsgen_tree.specs.Sets.{is_directive, is_statement, is_variable_declarator, is_binding_pattern, is_expression, is_identifier_name, is_argument}
 use Rattle.jsgen_tree.specs.Rows.{expression_plain, declaration_plain, statement_plain, binding_pattern_plain}
 use Rattle.jsgen_fields.specs.Meaning.{is_program}
 use Rattle.jsgen_tree.specs.declared.sets.Expression.{Expression}
@@ -133,6 +133,18 @@ no_statement_is_an_identifier_name plain r = of_statement plain is_identifier_na
 pub no_expression_is_an_identifier_name : {N : Type 0} (plain : N → Tree) (r : Expression N) → is_identifier_name (type_of (expression_plain plain r)) ≡ false
 no_expression_is_an_identifier_name plain r = of_expression plain is_identifier_name false refl refl refl refl refl refl refl refl refl refl refl refl r
 
+pub no_declaration_is_an_argument : {N : Type 0} (plain : N → Tree) (r : Declaration N) → is_argument (type_of (declaration_plain plain r)) ≡ false
+no_declaration_is_an_argument plain r = of_declaration plain is_argument false refl r
+
+pub no_binding_pattern_is_an_argument : (r : BindingPattern) → is_argument (type_of (binding_pattern_plain r)) ≡ false
+no_binding_pattern_is_an_argument r = of_binding_pattern is_argument false refl r
+
+pub no_statement_is_an_argument : {N : Type 0} (plain : N → Tree) (r : OtherStatement N) → is_argument (type_of (statement_plain plain r.statement)) ≡ false
+no_statement_is_an_argument plain r = of_statement plain is_argument false refl refl refl refl r.statement r.other
+
+pub each_expression_is_an_argument : {N : Type 0} (plain : N → Tree) (r : Expression N) → is_argument (type_of (expression_plain plain r)) ≡ true
+each_expression_is_an_argument plain r = of_expression plain is_argument true refl refl refl refl refl refl refl refl refl refl refl refl r
+
 pub program_type : (t : NodeType) → is_program t ≡ true → t ≡ types.Program
 program_type types.Program h = refl
 program_type types.Directive h = cc
@@ -156,6 +168,7 @@ program_type types.IdentifierName h = cc
 program_type types.StaticMemberExpression h = cc
 program_type types.ComputedMemberExpression h = cc
 program_type types.CallExpression h = cc
+program_type types.SpreadElement h = cc
 
 -- ---- which rows a place takes
 
@@ -172,3 +185,5 @@ pub ruleset takes_binding_patterns = (no_declaration_is_a_binding_pattern, each_
 pub ruleset takes_expressions = (no_declaration_is_an_expression, no_binding_pattern_is_an_expression, no_statement_is_an_expression, each_expression_is_an_expression)
 
 pub ruleset takes_identifier_names = (no_declaration_is_an_identifier_name, no_binding_pattern_is_an_identifier_name, no_statement_is_an_identifier_name, no_expression_is_an_identifier_name)
+
+pub ruleset takes_arguments = (no_declaration_is_an_argument, no_binding_pattern_is_an_argument, no_statement_is_an_argument, each_expression_is_an_argument)

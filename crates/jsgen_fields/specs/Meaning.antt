@@ -8,7 +8,7 @@ use Rattle.jsgen_tree.specs.declared.types.NodeType.TheVariants as types
 use Rattle.jsgen_tree.specs.declared.types.NodeSet.{NodeSet}
 use Rattle.jsgen_tree.specs.Job.{JobData, no_tables}
 use Rattle.jsgen_tree.specs.Atom.{Atom, no_value}
-use Rattle.jsgen_tree.specs.Tree.{Tree, Slots, Maybe, Trees, MaybeTrees, node, no_slots, one, maybe, many, maybe_many, absent, given, no_trees, more, hole, trees, no_list, listed}
+use Rattle.jsgen_tree.specs.Tree.{Tree, Slots, Maybe, Trees, MaybeTrees, node, no_slots, one, maybe, many, maybe_many, absent, given, no_trees, trees, holed, no_list, listed}
 use Rattle.jsgen_tree.specs.Tree as tree
 use Rattle.jsgen_tree.specs.Table.{Sort, Presence, needed, Field, absent_value, is_value}
 use Rattle.jsgen_tree.specs.Fields.{fields}
@@ -97,11 +97,6 @@ ok_or_else a (Err e) = a
 abbrev pub child_or_hole : List Tree → Data → Option Tree
 child_or_hole e null = None
 child_or_hole e d = Some (child_tree e d)
-
-abbrev pub holed : List (Option Tree) → Trees
-holed [] = no_trees
-holed (None ∷ os) = hole (holed os)
-holed (Some t ∷ os) = more t (holed os)
 
 -- what a field gives to its node
 pub data Held : Type 0 where

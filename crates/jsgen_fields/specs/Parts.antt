@@ -15,3 +15,19 @@ is_in_statements types.BlockStatement = true
 is_in_statements types.IfStatement = true
 is_in_statements types.EmptyStatement = true
 is_in_statements other = false
+
+abbrev pub is_in_expressions : NodeType → Bool
+is_in_expressions types.IdentifierReference = true
+is_in_expressions types.ThisExpression = true
+is_in_expressions types.NullLiteral = true
+is_in_expressions types.BooleanLiteral = true
+is_in_expressions types.NumericLiteral = true
+is_in_expressions types.StringLiteral = true
+is_in_expressions types.ParenthesizedExpression = true
+is_in_expressions types.BinaryExpression = true
+is_in_expressions types.LogicalExpression = true
+is_in_expressions types.IdentifierName = true
+is_in_expressions types.StaticMemberExpression = true
+is_in_expressions types.ComputedMemberExpression = true
+is_in_expressions types.CallExpression = true
+is_in_expressions other = false

@@ -7,7 +7,7 @@ use Rattle.jsgen_syntax.specs.declared.span.Span.{Span}
 use Rattle.jsgen_tree.specs.declared.types.NodeType.{NodeType}
 use Rattle.jsgen_tree.specs.declared.types.NodeSet.{NodeSet}
 use Rattle.jsgen_tree.specs.Atom.{Atom}
-use Rattle.jsgen_tree.specs.Tree.{Tree, node, no_slots, trees, listed}
+use Rattle.jsgen_tree.specs.Tree.{Tree, node, no_slots, trees, holed, listed}
 use Rattle.jsgen_tree.specs.Tree as tree
 use Rattle.jsgen_tree.specs.Table.{Sort, Presence, Field, absent_value, is_value}
 use Rattle.jsgen_tree.specs.Fields.{fields}
@@ -18,7 +18,7 @@ use Rattle.jsgen_fields.specs.declared.At.{At}
 use Rattle.jsgen_fields.specs.declared.InputFault.{InputFault}
 use Rattle.jsgen_fields.specs.declared.InputFault.TheVariants.{Wrong, Child, Shared, Memory}
 use Rattle.jsgen_fields.specs.Values.{after, at, field, not_given, field_in, is_needed, items_in, value_in, type_of, span_of, rows_in}
-use Rattle.jsgen_fields.specs.Meaning.{holed, Held, a_value, a_list, a_maybe_list, Parts, put_in, child_held, absent_held, unread_held, is_program}
+use Rattle.jsgen_fields.specs.Meaning.{Held, a_value, a_list, a_maybe_list, Parts, put_in, child_held, absent_held, unread_held, is_program}
 
 abbrev pub Read : Type 0 → Type 0
 Read V = Result (V × List Entry) InputFault

@@ -159,7 +159,7 @@ impl<N: ReadNode + Drop> Child<N> for Argument<N> {
         NodeSet::Argument
     }
 
-    #[tactic(auto, using(crate::proofs::Sets::takes_expressions))]
+    #[tactic(auto, using(crate::proofs::Sets::takes_arguments))]
     fn from_row(alloc: Global, row: Row<N>) -> Result<Option<Argument<N>>, AllocError>
         ensures { IfOk result (λ child. option_map (in_argument N.plain) child
             ≡ (if in_set sets.Argument (type_of (row_plain N.plain row)) then Some (row_plain N.plain row) else None)) }
@@ -169,6 +169,7 @@ impl<N: ReadNode + Drop> Child<N> for Argument<N> {
                 alloc,
                 N::expression_node(Box::into_inner(row)),
             ),
+            Row::SpreadElement(row) => Ok(Some(Argument::SpreadElement(row))),
             _ => Ok(None),
         }
     }

@@ -5,7 +5,7 @@ ghost use Rattle.serde_json.specs.Find.{as_number};
 ghost use Rattle.jsgen_tree.specs.Tree.{type_of};
 ghost use Rattle.jsgen_tree.specs.Sets.{in_set};
 ghost use Rattle.jsgen_fields.specs.Values.{Same};
-ghost use Rattle.jsgen_fields.specs.Reads.{Gives, number_in, take_child, take_each};
+ghost use Rattle.jsgen_fields.specs.Reads.{Gives, number_in, take_child, take_or_hole, take_each};
 ghost use Rattle.jsgen_fields.specs.Kept.{row_plain, entries};
 
 use crate::kept::{ReadNode, Row};
@@ -96,6 +96,42 @@ pub fn take_all<N: ReadNode + Drop, C: Child<N> + Drop>(
     let mut children = Vec::with_capacity(alloc, values.len())?;
     for value in values {
         let child = take_as(alloc, kept, at, value)?;
+        children.push(child)?;
+    }
+    Ok(children)
+}
+
+// ---- lists with holes
+
+// Null is a hole.
+fn take_or_hole<N: ReadNode + Drop, C: Child<N> + Drop>(
+    alloc: Global,
+    kept: &mut Vec<Kept<Row<N>>>,
+    at: At,
+    value: &Value,
+) -> Result<Option<C>, InputFault>
+    ensures { Gives (option_map C.plain) result (entries N.plain kept.new.items)
+        (take_or_hole at C.of_set (view value.now) (entries N.plain kept.old.items)) }
+{
+    if value.is_null() {
+        return Ok(None);
+    }
+    let child = take_as(alloc, kept, at, value)?;
+    Ok(Some(child))
+}
+
+pub fn take_all_or_holes<N: ReadNode + Drop, C: Child<N> + Drop>(
+    alloc: Global,
+    kept: &mut Vec<Kept<Row<N>>>,
+    at: At,
+    values: &[Value],
+) -> Result<Vec<Option<C>>, InputFault>
+    ensures { Gives (λ v. map (option_map C.plain) v.items) result (entries N.plain kept.new.items)
+        (take_each (take_or_hole at C.of_set) [] (map view values.now) (entries N.plain kept.old.items)) }
+{
+    let mut children = Vec::with_capacity(alloc, values.len())?;
+    for value in values {
+        let child = take_or_hole(alloc, kept, at, value)?;
         children.push(child)?;
     }
     Ok(children)

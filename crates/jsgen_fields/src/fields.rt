@@ -1,14 +1,14 @@
 // Fields that hold children.
 ghost use Rattle.std.specs.Prelude.{◌≡◌, Ok, true, false, map, option_map};
 ghost use Rattle.serde_json.specs.View.{view};
-ghost use Rattle.jsgen_tree.specs.Tree.{optional, trees};
-ghost use Rattle.jsgen_tree.specs.Table.{needed, may_be_absent, child, children};
+ghost use Rattle.jsgen_tree.specs.Tree.{optional, trees, holed};
+ghost use Rattle.jsgen_tree.specs.Table.{needed, may_be_absent, child, children, children_or_holes};
 ghost use Rattle.jsgen_fields.specs.Values.{Same, at, field as value_under};
 ghost use Rattle.jsgen_fields.specs.Meaning.{a_child, a_maybe, a_list};
 ghost use Rattle.jsgen_fields.specs.Reads.{Gives, read_children};
 ghost use Rattle.jsgen_fields.specs.Kept.{entries};
 
-use crate::children::{Child, take_all, take_as};
+use crate::children::{Child, take_all, take_all_or_holes, take_as};
 use crate::kept::{ReadNode, Row};
 use crate::values::{items_in, needed_value, optional_value};
 use crate::{At, InputFault};
@@ -72,6 +72,27 @@ pub fn children<N: ReadNode + Drop, C: Child<N> + Drop>(
     };
     let items = items_in(at, value)?;
     take_all(alloc, kept, at, items)
+}
+
+/// A list with a hole at each null, empty where it is absent.
+#[tactic(auto, unfolding(crate::specs::Reads::read_children))]
+pub fn children_or_holes<N: ReadNode + Drop, C: Child<N> + Drop>(
+    alloc: Global,
+    kept: &mut Vec<Kept<Row<N>>>,
+    number: usize,
+    field: usize,
+    row: &Value,
+    name: &str,
+) -> Result<Vec<Option<C>>, InputFault>
+    ensures { Gives (λ v. a_list (holed (map (option_map C.plain) v.items))) result (entries N.plain kept.new.items)
+        (read_children (at number field) false may_be_absent (children_or_holes C.of_set) (value_under name.now (view row.now)) (entries N.plain kept.old.items)) }
+{
+    let at = At::of_row(number, field);
+    let Some(value) = optional_value(at, row, name)? else {
+        return Ok(Vec::new(alloc));
+    };
+    let items = items_in(at, value)?;
+    take_all_or_holes(alloc, kept, at, items)
 }
 
 /// In a box of its own.

@@ -13,8 +13,8 @@ use crate::others::OtherStatement;
 use jsgen_pool::Typed;
 use jsgen_tree::{
     BindingPattern, BindingPatternNode, Declaration, DeclarationNode, Directive, Expression,
-    ExpressionNode, IdentifierName, Node, NodeType, Program, Statement, StatementNode,
-    VariableDeclarator,
+    ExpressionNode, IdentifierName, Node, NodeType, Program, SpreadElement, Statement,
+    StatementNode, VariableDeclarator,
 };
 use std::alloc::Global;
 
@@ -30,6 +30,7 @@ pub enum Row<N = Node> {
     Statement(Box<OtherStatement<N>>),
     Expression(Box<Expression<N>>),
     IdentifierName(Box<IdentifierName>),
+    SpreadElement(Box<SpreadElement<N>>),
 }
 
 // ---- what becomes of a row
@@ -125,6 +126,7 @@ impl<N: ReadNode> Typed for Row<N> {
             Row::Statement(row) => N::statement_type(&(**row).statement),
             Row::Expression(row) => N::expression_type(&**row),
             Row::IdentifierName(_) => NodeType::IdentifierName,
+            Row::SpreadElement(_) => NodeType::SpreadElement,
         }
     }
 }

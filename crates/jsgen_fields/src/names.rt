@@ -5,7 +5,7 @@ ghost use Rattle.jsgen_fields.specs.Names.{first_named, type_named};
 
 use jsgen_tree::NodeType;
 
-const TYPE_NAMES: [(&str, NodeType); 22] = [
+const TYPE_NAMES: [(&str, NodeType); 23] = [
     ("Program", NodeType::Program),
     ("Directive", NodeType::Directive),
     ("VariableDeclaration", NodeType::VariableDeclaration),
@@ -31,6 +31,7 @@ const TYPE_NAMES: [(&str, NodeType); 22] = [
         NodeType::ComputedMemberExpression,
     ),
     ("CallExpression", NodeType::CallExpression),
+    ("SpreadElement", NodeType::SpreadElement),
 ];
 
 fn first_named(names: &[(&str, NodeType)], name: &str) -> Option<NodeType>

@@ -1,5 +1,5 @@
 -- Lists of Rust have no hole, and nodes that are plain by their own values.
-use Rattle.std.proofs.Common.{◌≡◌, true, refl, List, [], ◌∷◌, map}
+use Rattle.std.proofs.Common.{◌≡◌, true, refl, List, [], ◌∷◌, map, Option, Some, None}
 use Rattle.jsgen_syntax.proofs.Bytes.{js_units-are_units}
 use Rattle.jsgen_syntax.specs.declared.span.Span.{Span}
 use Rattle.jsgen_syntax.specs.declared.span.SourceKind.{SourceKind}
@@ -7,7 +7,7 @@ use Rattle.jsgen_syntax.specs.declared.span.SourceKind.TheVariants as source_kin
 use Rattle.jsgen_syntax.specs.declared.js_str.JsStr.{JsStr}
 use Rattle.jsgen_syntax.specs.Units.{js_units}
 use Rattle.jsgen_syntax.specs.Wtf8.{are_units}
-use Rattle.jsgen_tree.specs.Tree.{Tree, trees}
+use Rattle.jsgen_tree.specs.Tree.{Tree, trees, holed}
 use Rattle.jsgen_tree.specs.Nodes.{numeric_literal}
 use Rattle.jsgen_tree.specs.Characters.{numeric_values}
 use Rattle.jsgen_tree.specs.Width.{is_wide}
@@ -36,6 +36,20 @@ no_hole_changed f g k (x ∷ xs) = no_hole_changed f g k xs
 pub all_changed : {A B C : Type 0} (f : C → Tree) (g : B → C) (k : A → B) → ((x : A) → IsPlain (f (g (k x)))) → (xs : List A) → EverywhereInTrees is_plain_row (trees (map f (map g (map k xs))))
 all_changed f g k h [] = tt
 all_changed f g k h (x ∷ xs) = (h x, all_changed f g k h xs)
+
+-- and of a list with holes
+
+abbrev pub PlainOrHole : Option Tree → Type 0
+PlainOrHole None = Unit {0}
+PlainOrHole (Some t) = IsPlain t
+
+first_or_hole : (o : Option Tree) (os : List (Option Tree)) → PlainOrHole o → EverywhereInTrees is_plain_row (holed os) → EverywhereInTrees is_plain_row (holed (o ∷ os))
+first_or_hole None os h k = k
+first_or_hole (Some t) os h k = (h, k)
+
+pub all_changed_or_holes : {A B C : Type 0} (f : C → Option Tree) (g : B → C) (k : A → B) → ((x : A) → PlainOrHole (f (g (k x)))) → (xs : List A) → EverywhereInTrees is_plain_row (holed (map f (map g (map k xs))))
+all_changed_or_holes f g k h [] = tt
+all_changed_or_holes f g k h (x ∷ xs) = first_or_hole (f (g (k x))) (map f (map g (map k xs))) (h x) (all_changed_or_holes f g k h xs)
 
 -- ---- values
 

@@ -13,7 +13,7 @@ use Rattle.jsgen_tree.specs.Atom.{units, flag, binary_operator, logical_operator
 use Rattle.jsgen_tree.specs.Tree.{Tree, Maybe, absent, given, Trees, no_trees, more}
 use Rattle.jsgen_tree.specs.Places.{bare}
 use Rattle.jsgen_tree.specs.Nodes as tree
-use Rattle.jsgen_model.specs.Punctuator.{plus, minus, star, slash, percent, star_star, equal_equal, not_equal, equal_equal_equal, not_equal_equal, less, less_equal, greater, greater_equal, shift_left, shift_right, shift_right_zero, bit_and, bit_or, bit_xor, and_and, or_or, nullish, dot, comma, semicolon, equal, Round, Square, Brace}
+use Rattle.jsgen_model.specs.Punctuator.{plus, minus, star, slash, percent, star_star, equal_equal, not_equal, equal_equal_equal, not_equal_equal, less, less_equal, greater, greater_equal, shift_left, shift_right, shift_right_zero, bit_and, bit_or, bit_xor, and_and, or_or, nullish, dot, ellipsis, comma, semicolon, equal, Round, Square, Brace}
 use Rattle.jsgen_model.specs.Tokens.{Piece, Tokens, done, piece, group, ◌⧺◌, Word, Number, Quoted, Sign}
 use Rattle.jsgen_model.specs.Normal.{nothing_of, named, unnumbered, by_text, declared_as}
 
@@ -205,8 +205,13 @@ mutual
     with_last_comma : {c : Allowed} {ts a : Tokens} {es : Trees} (mark : Bool) → ts ≡ a ⧺ piece mark (Sign comma) done → ReadsArgumentList c a es → ReadsArguments c ts es
 
   pub data ReadsArgumentList : Allowed → Tokens → Trees → Type 0 where
-    last_argument : {c : Allowed} {ts : Tokens} {e : Tree} → ReadsExpression c Assignment ts e → ReadsArgumentList c ts (more e no_trees)
-    first_argument : {c : Allowed} {ts a b : Tokens} {e : Tree} {es : Trees} (mark : Bool) → ts ≡ a ⧺ piece mark (Sign comma) b → ReadsExpression c Assignment a e → ReadsArgumentList c b es → ReadsArgumentList c ts (more e es)
+    last_argument : {c : Allowed} {ts : Tokens} {e : Tree} → ReadsElement c ts e → ReadsArgumentList c ts (more e no_trees)
+    first_argument : {c : Allowed} {ts a b : Tokens} {e : Tree} {es : Trees} (mark : Bool) → ts ≡ a ⧺ piece mark (Sign comma) b → ReadsElement c a e → ReadsArgumentList c b es → ReadsArgumentList c ts (more e es)
+
+  -- an argument (13.3.8) or an element of an array (13.2.4): an expression, or one whose values are spread
+  pub data ReadsElement : Allowed → Tokens → Tree → Type 0 where
+    an_element : {c : Allowed} {ts : Tokens} {e : Tree} → ReadsExpression c Assignment ts e → ReadsElement c ts e
+    a_spread : {c : Allowed} {mark : Bool} {ts : Tokens} {e : Tree} → ReadsExpression c Assignment ts e → ReadsElement c (piece mark (Sign ellipsis) ts) (tree.spread (nothing_of 0) e)
 
   -- ---- bindings and declarations (14.3)
 

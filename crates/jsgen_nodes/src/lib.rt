@@ -2,6 +2,7 @@
 #![tactic(auto)]
 
 mod blocks;
+mod collections;
 mod expressions;
 mod links;
 mod operands;

@@ -3,7 +3,7 @@ ghost use Rattle.std.specs.Prelude.{◌≡◌, map};
 ghost use Rattle.jsgen_syntax.specs.declared.precedence.Precedence.TheVariants.{Comma};
 ghost use Rattle.jsgen_tree.specs.Tree.{trees};
 ghost use Rattle.jsgen_tree.specs.Characters.{characters};
-ghost use Rattle.jsgen_tree.specs.Rows.{identifier_name_row, static_member_expression_row, computed_member_expression_row, call_expression_row, in_argument, in_expression};
+ghost use Rattle.jsgen_tree.specs.Rows.{identifier_name_row, static_member_expression_row, computed_member_expression_row, call_expression_row, spread_element_row, in_argument, in_expression};
 ghost use Rattle.jsgen_model.specs.Punctuator.{Round};
 ghost use Rattle.jsgen_model.specs.Items.{◌⊕◌, brackets, member_dot, name};
 ghost use Rattle.jsgen_model.specs.Layout.{layout};
@@ -14,6 +14,7 @@ ghost use Rattle.jsgen_place.specs.Place.{place_of};
 ghost use Rattle.jsgen_nodes.specs.Place.{pen_after};
 
 use crate::PrintNode;
+use crate::collections::print_spread_element;
 use jsgen_lists::{PrintMember, print_in_brackets};
 use jsgen_place::Place;
 use jsgen_printer::{Bracket, Printer};
@@ -110,6 +111,7 @@ impl<N: PrintNode> PrintMember<Argument<N>> for Arguments {
 
     fn print_member(argument: &Argument<N>, p: &mut Printer, place: Place) -> Result<(), Memory> {
         match argument {
+            Argument::SpreadElement(node) => print_spread_element(node, p, place),
             Argument::Expression(expression) => expression.get().print(p, place),
         }
     }

@@ -10,9 +10,9 @@ use Rattle.jsgen_syntax.specs.declared.quote.Quote.TheVariants.{Double}
 use Rattle.jsgen_syntax.specs.declared.operator.BinaryOperator.{BinaryOperator}
 use Rattle.jsgen_syntax.specs.declared.operator.BinaryOperator.TheVariants as operators
 use Rattle.jsgen_tree.specs.Tree.{Tree, Trees}
-use Rattle.jsgen_model.specs.Punctuator.{dot, comma, equal, star_star, and_and, or_or, nullish, semicolon, Round, Square, Brace}
+use Rattle.jsgen_model.specs.Punctuator.{dot, ellipsis, comma, equal, star_star, and_and, or_or, nullish, semicolon, Round, Square, Brace}
 use Rattle.jsgen_model.specs.Tokens.{Tokens, done, piece, group, ◌⧺◌, Word, Quoted, Sign, longer_stands, AreTokensOf}
-use Rattle.jsgen_model.specs.Grammar.{Allowed, Level, operator_piece, ReadsExpression, ReadsArguments, ReadsArgumentList, ReadsBinding, ReadsDeclarator, ReadsDeclarators, ReadsDeclaration, EndsBy, ReadsStatement, ReadsItem, ReadsStatements, ReadsBody, ReadsModule, a_module}
+use Rattle.jsgen_model.specs.Grammar.{Allowed, Level, operator_piece, ReadsExpression, ReadsElement, ReadsArguments, ReadsArgumentList, ReadsBinding, ReadsDeclarator, ReadsDeclarators, ReadsDeclaration, EndsBy, ReadsStatement, ReadsItem, ReadsStatements, ReadsBody, ReadsModule, a_module}
 use Rattle.jsgen_model.specs.Grammar as grammar
 use Rattle.jsgen_token_laws.proofs.Plain.{all_plain}
 use Rattle.jsgen_token_laws.proofs.OneList.{one_token_list}
@@ -20,10 +20,15 @@ use Rattle.jsgen_oracle.specs.Samples.{IsNotRead}
 use Rattle.jsgen_oracle.proofs.Samples.{word, sign}
 use Rattle.jsgen_oracle.proofs.Refused.{begins_with_name, starts_well, named_further, joined, expression_starts}
 
--- an expression's tokens, or none
+-- an expression's tokens, or three dots before them
+abbrev starts_element : Tokens → Bool
+starts_element (piece m (Sign ellipsis) ts) = true
+starts_element ts = starts_well ts
+
+-- or none
 abbrev may_be_given : Tokens → Bool
 may_be_given done = true
-may_be_given ts = starts_well ts
+may_be_given ts = starts_element ts
 
 abbrev is_joined : Tokens → Bool
 is_joined done = true
@@ -48,19 +53,34 @@ operator_joined : (o : BinaryOperator) (m : Bool) (b : Tokens) → is_joined b �
 operator_joined operators.Addition m b h = h
 operator_joined o m b h = h
 
-given_from : (ts : Tokens) → starts_well ts ≡ true → may_be_given ts ≡ true
-given_from done h = refl
-given_from (piece m p ts) h = h
-given_from (group m b inside ts) h = h
+element_from : (ts : Tokens) → starts_well ts ≡ true → starts_element ts ≡ true
+element_from (piece m (Sign ellipsis) ts) h = refl
+element_from ts h = h
 
-list_starts : {c : Allowed} {ts : Tokens} {es : Trees} → ReadsArgumentList c ts es → starts_well ts ≡ true
-list_starts (grammar.last_argument r) = expression_starts r
-list_starts (grammar.first_argument m e r s) = joined _ _ (piece m (Sign comma) _) refl e (expression_starts r)
+given : (ts : Tokens) → starts_element ts ≡ true → may_be_given ts ≡ true
+given done h = refl
+given ts h = h
+
+given_from : (ts : Tokens) → starts_well ts ≡ true → may_be_given ts ≡ true
+given_from ts h = given ts (element_from ts h)
+
+-- and a comma behind it
+element_further : (m : Bool) (a b : Tokens) → starts_element a ≡ true → starts_element (a ⧺ piece m (Sign comma) b) ≡ true
+element_further m (piece n (Sign ellipsis) ts) b h = refl
+element_further m a b h = element_from (a ⧺ piece m (Sign comma) b) (joined _ a (piece m (Sign comma) b) refl refl h)
+
+element_starts : {c : Allowed} {ts : Tokens} {e : Tree} → ReadsElement c ts e → starts_element ts ≡ true
+element_starts (grammar.an_element {ts = ts} r) = element_from ts (expression_starts r)
+element_starts (grammar.a_spread r) = refl
+
+list_starts : {c : Allowed} {ts : Tokens} {es : Trees} → ReadsArgumentList c ts es → starts_element ts ≡ true
+list_starts (grammar.last_argument r) = element_starts r
+list_starts (grammar.first_argument {a = a} {b = b} m e r s) = subst (λ x. starts_element x ≡ true) (sym e) (element_further m a b (element_starts r))
 
 arguments_start : {c : Allowed} {ts : Tokens} {es : Trees} → ReadsArguments c ts es → may_be_given ts ≡ true
 arguments_start grammar.no_argument = refl
-arguments_start (grammar.some_arguments {ts = ts} r) = given_from ts (list_starts r)
-arguments_start (grammar.with_last_comma {ts = ts} m e r) = given_from ts (joined _ _ (piece m (Sign comma) done) refl e (list_starts r))
+arguments_start (grammar.some_arguments {ts = ts} r) = given ts (list_starts r)
+arguments_start (grammar.with_last_comma {a = a} m e r) = subst (λ x. may_be_given x ≡ true) (sym e) (given (a ⧺ piece m (Sign comma) done) (element_further m a done (list_starts r)))
 
 expression_joined : {c : Allowed} {l : Level} {ts : Tokens} {t : Tree} → ReadsExpression c l ts t → is_joined ts ≡ true
 expression_joined (grammar.an_assignment r) = expression_joined r

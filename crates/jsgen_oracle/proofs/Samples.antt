@@ -177,7 +177,7 @@ members =
     let all = word (codes "a") (sign dot (word (codes "b") (group false Round (word (codes "c") done) (group false Square (piece false (Number (codes "1")) done) done)))) in (
       all ⧺ sign semicolon done,
       ([], codes ".b(c)[1];", refl, refl, refl, refl, refl, ([], codes "b(c)[1];", refl, refl, refl, refl, refl, ([], codes "(c)[1];", refl, refl, refl, refl, refl, ([], codes "c", codes "[1];", refl, refl, refl, ([], [], refl, refl, refl, refl, refl, refl), ([], codes "1", codes ";", refl, refl, refl, ([], [], refl, refl, refl, refl, refl, refl), ([], [], refl, refl, refl, refl, refl, refl)))))),
-      undirected refl (grammar.last_statement (item {a = all} refl (whole (grammar.a_multiplicative (grammar.an_exponent (grammar.a_unary (grammar.an_update (grammar.a_left_hand_side (grammar.a_call (grammar.a_computed_member_of_call {a = called} {inside = piece false (Number (codes "1")) done} false refl (grammar.with_arguments {a = callee} {inside = word (codes "c") done} false refl (grammar.a_called_member (grammar.a_named_member {a = word (codes "a") done} (codes "b") false false refl value_b (grammar.a_primary read_a))) (grammar.some_arguments (grammar.last_argument (value (first_of_sum read_c))))) (whole (first_of_sum grammar.a_number)))))))))))),
+      undirected refl (grammar.last_statement (item {a = all} refl (whole (grammar.a_multiplicative (grammar.an_exponent (grammar.a_unary (grammar.an_update (grammar.a_left_hand_side (grammar.a_call (grammar.a_computed_member_of_call {a = called} {inside = piece false (Number (codes "1")) done} false refl (grammar.with_arguments {a = callee} {inside = word (codes "c") done} false refl (grammar.a_called_member (grammar.a_named_member {a = word (codes "a") done} (codes "b") false false refl value_b (grammar.a_primary read_a))) (grammar.some_arguments (grammar.last_argument (grammar.an_element (value (first_of_sum read_c)))))) (whole (first_of_sum grammar.a_number)))))))))))),
     )
 
 pub string : IsRead (codes "(\"a\");") (samples.module_of (more (samples.statement_of (samples.in_parentheses (samples.string_of (codes "a")))) no_trees))

@@ -1,7 +1,7 @@
 // The normal form of each type of node.
 ghost use Rattle.std.specs.Prelude.{◌≡◌, ◌∷◌, [], map, option_map, IfOk};
 ghost use Rattle.jsgen_tree.specs.Tree.{trees, optional};
-ghost use Rattle.jsgen_tree.specs.Rows.{program_row, directive_row, block_statement_row, if_statement_row, variable_declaration_row, variable_declarator_row, numeric_literal_row, string_literal_row, logical_expression_row, identifier_name_row, static_member_expression_row, call_expression_row, expression_plain, statement_plain, declaration_plain, binding_pattern_plain, in_expression, in_statement, in_argument};
+ghost use Rattle.jsgen_tree.specs.Rows.{program_row, directive_row, block_statement_row, if_statement_row, variable_declaration_row, variable_declarator_row, numeric_literal_row, string_literal_row, logical_expression_row, identifier_name_row, static_member_expression_row, call_expression_row, spread_element_row, expression_plain, statement_plain, declaration_plain, binding_pattern_plain, in_expression, in_statement, in_argument};
 ghost use Rattle.jsgen_tree.specs.Plain.{node_plain};
 ghost use Rattle.jsgen_model.specs.Normal.{normal, normal_maybe, normal_trees, links, unbraced};
 ghost use Rattle.jsgen_oracle.specs.Form.{form_plain, forms_plain, optional_plain};
@@ -19,8 +19,8 @@ use jsgen_syntax::{JsStr, LogicalOperator, Memory};
 use jsgen_tree::{
     Argument, BindingPattern, BlockStatement, CallExpression, Declaration, Directive, Expression,
     ExpressionNode, IdentifierName, IfStatement, LogicalExpression, Node, NodeType, NumericLiteral,
-    NumericValue, Program, Statement, StatementNode, StaticMemberExpression, StringLiteral,
-    VariableDeclaration, VariableDeclarator,
+    NumericValue, Program, SpreadElement, Statement, StatementNode, StaticMemberExpression,
+    StringLiteral, VariableDeclaration, VariableDeclarator,
 };
 use std::alloc::Global;
 
@@ -303,8 +303,18 @@ fn argument_form<N: NormalNode>(alloc: Global, argument: &Argument<N>) -> Result
     ensures { IfOk result (λ f. form_plain f ≡ normal (in_argument N.plain argument.now)) }
 {
     match argument {
+        Argument::SpreadElement(node) => spread_element_form(alloc, node),
         Argument::Expression(expression) => expression.get().normal_form(alloc),
     }
+}
+
+fn spread_element_form<N: NormalNode>(
+    alloc: Global,
+    node: &SpreadElement<N>,
+) -> Result<Form, Memory>
+    ensures { IfOk result (λ f. form_plain f ≡ normal (spread_element_row N.plain node.now)) }
+{
+    single(alloc, NodeType::SpreadElement, node.argument.get())
 }
 
 // ---- sets; a row that the normal form only copies is an arm

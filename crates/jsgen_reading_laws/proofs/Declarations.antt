@@ -21,7 +21,7 @@ use Rattle.jsgen_model.specs.Grammar as grammar
 use Rattle.jsgen_model.specs.Normal.{normal, normal_maybe, nothing_of, unnumbered, declared_as}
 use Rattle.jsgen_model.specs.Spell.{Settings, Place, spell, spell_list, among_statements, in_front, behind}
 use Rattle.jsgen_token_laws.proofs.Characters.{letters_spelled}
-use Rattle.jsgen_token_laws.proofs.Last.{Last, After, line_of, Operand, Ready, Knows}
+use Rattle.jsgen_token_laws.proofs.Last.{Last, After, line_of, Operand, Ready, begun_ready, Knows}
 use Rattle.jsgen_token_laws.proofs.Writes.{Writes, wrote_both}
 use Rattle.jsgen_token_laws.proofs.Steps.{Soft, wrote_word, wrote_name, wrote_punctuator, soft_space_written}
 use Rattle.jsgen_reading_laws.proofs.Levels.{under}
@@ -80,7 +80,7 @@ same_declarator a b u m n h e f = λ i. tree.variable_declarator (bare (sym h i 
 
 good_without_value : (c : Allowed) (a : Atoms) (b : Tree) → variable_declarator_definite a ≡ no_value → Bound c b → (place : Place) → DeclaredAt c place (tree.variable_declarator a b absent)
 good_without_value c a b m f place p l z y k =
-    let g = f (in_front levels.Lowest place) p l z y k in
+    let g = f (in_front levels.Lowest place) p l z (begun_ready l y) k in
     record {
       last = g.last;
       tokens = g.tokens;
@@ -111,7 +111,7 @@ good_with_value c a b v m f h place p l z y k =
     let p2 : Pen = layout soft_space p1 in
     let p3 : Pen = layout (punctuator equal) p2 in
     let p4 : Pen = layout soft_space p3 in
-    let g = f (in_front levels.Lowest place) p l z y k in
+    let g = f (in_front levels.Lowest place) p l z (begun_ready l y) k in
     let x = soft_space_written p1 g.last g.writes.knows in
     let o = wrote_punctuator equal p2 x.last tt tt (x.operand g.operand) x.writes.knows in
     let n = soft_space_written p3 (After (Sign equal)) o.knows in
@@ -153,7 +153,7 @@ declaration_unended c a ds settings m f p l z y k =
     let p2 : Pen = layout soft_space p1 in
     let o = wrote_word w p l (kind_spelled (variable_declaration_kind a)) k in
     let n = soft_space_written p1 (After (Word w)) o.knows in
-    let g = f p2 n.last (n.semicolon ∙ z) (n.ready tt) n.writes.knows in
+    let g = f p2 n.last (n.semicolon ∙ z) (n.begun tt) n.writes.knows in
     declaration_parts c a ds p p1 p2 (layout (spell_list ds (behind levels.Lowest (among_statements settings))) p2) l m o n g
 
 -- ---- the families

@@ -26,7 +26,7 @@ use Rattle.jsgen_token_laws.proofs.Characters.{letters_spelled}
 use Rattle.jsgen_token_laws.proofs.Last.{After, line_of}
 use Rattle.jsgen_token_laws.proofs.Steps.{wrote_word, wrote_name, wrote_number, wrote_quoted}
 use Rattle.jsgen_reading_laws.proofs.Levels.{level_of, under, from_primary}
-use Rattle.jsgen_reading_laws.proofs.Families.{IsExpression, AreArguments}
+use Rattle.jsgen_reading_laws.proofs.Families.{IsExpression, IsElement, AreArguments}
 use Rattle.jsgen_reading_laws.proofs.Families as family
 use Rattle.jsgen_reading_laws.proofs.Asked.{asked}
 use Rattle.jsgen_reading_laws.proofs.Names.{free_spelled, free_starts_none}
@@ -34,7 +34,7 @@ use Rattle.jsgen_reading_laws.proofs.Numbers.{decimal_whole}
 use Rattle.jsgen_reading_laws.proofs.Good.{Good, Printed, may_begin}
 use Rattle.jsgen_reading_laws.proofs.Operations.{good_operation}
 use Rattle.jsgen_reading_laws.proofs.Chains.{good_logical_operation}
-use Rattle.jsgen_reading_laws.proofs.Links.{ArgumentsAt, MoreArgumentsAt, good_named_member, good_computed_member, good_call, no_arguments, first_of_arguments, no_more_arguments, one_more_argument}
+use Rattle.jsgen_reading_laws.proofs.Links.{ElementOf, ArgumentsAt, MoreArgumentsAt, good_named_member, good_computed_member, good_call, good_element, good_spread, no_arguments, first_of_arguments, no_more_arguments, one_more_argument}
 
 -- ---- names and numbers
 
@@ -212,8 +212,12 @@ mutual
 
   printed_arguments : {c : Allowed} {es : Trees} → AreArguments c es → ArgumentsAt c es
   printed_arguments {c} family.no_argument = no_arguments c
-  printed_arguments {c} (family.first_argument {e} {es} v w) = first_of_arguments c e es (printed_expression v) (more_arguments w)
+  printed_arguments {c} (family.first_argument {e} {es} v w) = first_of_arguments c e es (printed_element v) (more_arguments w)
 
   more_arguments : {c : Allowed} {es : Trees} → AreArguments c es → MoreArgumentsAt c es
   more_arguments {c} family.no_argument = no_more_arguments c
-  more_arguments {c} (family.first_argument {e} {es} v w) = one_more_argument c e es (printed_expression v) (more_arguments w)
+  more_arguments {c} (family.first_argument {e} {es} v w) = one_more_argument c e es (printed_element v) (more_arguments w)
+
+  pub printed_element : {c : Allowed} {e : Tree} → IsElement c e → ElementOf c e
+  printed_element {c} (family.an_element {e} v) = good_element c e (printed_expression v)
+  printed_element {c} (family.a_spread {a} {e} v) = good_spread c a e (printed_expression v)

@@ -7,7 +7,7 @@ use Rattle.jsgen_tree.specs.Tree.{Tree, Maybe, absent, given, Trees, no_trees, m
 use Rattle.jsgen_tree.specs.Nodes as tree
 use Rattle.jsgen_tree.specs.Values.{as_text, program_kind, directive_directive, binding_identifier_name, identifier_reference_name, identifier_name_name, numeric_literal_kind, string_literal_value, variable_declaration_declare, variable_declarator_definite, static_member_expression_optional, computed_member_expression_optional, call_expression_optional}
 use Rattle.jsgen_tree.specs.Everywhere.{EverywhereIfGiven, EverywhereInTrees}
-use Rattle.jsgen_tree.specs.Sets.{in_set, is_expression, is_statement, is_binding_pattern, is_variable_declarator, is_identifier_name, is_directive}
+use Rattle.jsgen_tree.specs.Sets.{in_set, is_expression, is_argument, is_statement, is_binding_pattern, is_variable_declarator, is_identifier_name, is_directive}
 use Rattle.jsgen_tree.specs.declared.types.NodeType.{NodeType}
 use Rattle.jsgen_tree.specs.declared.types.NodeType.TheVariants as types
 use Rattle.jsgen_tree.specs.declared.types.NodeSet.{NodeSet}
@@ -39,7 +39,12 @@ mutual
 
   pub data AreArguments : Allowed → Trees → Type 0 where
     no_argument : {c : Allowed} → AreArguments c no_trees
-    first_argument : {c : Allowed} {e : Tree} {es : Trees} → IsExpression c e → AreArguments c es → AreArguments c (more e es)
+    first_argument : {c : Allowed} {e : Tree} {es : Trees} → IsElement c e → AreArguments c es → AreArguments c (more e es)
+
+  -- an argument, or an element of an array
+  pub data IsElement : Allowed → Tree → Type 0 where
+    an_element : {c : Allowed} {e : Tree} → IsExpression c e → IsElement c e
+    a_spread : {c : Allowed} {a : Atoms} {e : Tree} → IsExpression c e → IsElement c (tree.spread a e)
 
   pub data IsBinding : Allowed → Tree → Type 0 where
     a_bound_name : {c : Allowed} {a : Atoms} → is_free_name (binding_identifier_name a) ≡ true → IsBinding c (tree.binding_identifier a)
@@ -111,6 +116,9 @@ place_of s around = record { set = s; around = around }
 no_truth : false ≡ true → ⊥
 no_truth e = both_ways false refl e
 
+no_falsehood : true ≡ false → ⊥
+no_falsehood e = both_ways true e refl
+
 -- a field that holds nothing
 holds_nothing : (v : Atom) → is_absent v ≡ true → v ≡ atoms.no_value
 holds_nothing atoms.no_value e = refl
@@ -121,6 +129,22 @@ holds_nothing v e = absurd (no_truth e)
 member_valid : (c : Allowed) (around : Surroundings) (a : Atoms) (o n : Tree) → static_member_expression_optional a ≡ atoms.no_value → IsExpression c o → IsPlain n → is_identifier_name (type_of n) ≡ true → breaches around n ≡ [] → IsExpression c (tree.static_member a o n)
 member_valid c around a o (tree.identifier_name b) m v p s e = a_named_member m v (none_unless (spells_name (identifier_name_name b)) (faults.Name b.span.start) (parts (span_faults b.span) (written_name_faults b.span (identifier_name_name b)) [] e).0)
 member_valid c around a o n m v p s e = absurd (search no_truth)
+
+-- an argument that isn't spread is an expression
+abbrev is_spread : Tree → Bool
+is_spread (tree.spread a t) = true
+is_spread t = false
+
+none_other : (t : Tree) → is_plain_row t ≡ true → is_argument (type_of t) ≡ true → is_spread t ≡ false → is_expression (type_of t) ≡ false → ⊥
+none_other (tree.spread a t) p s n e = no_falsehood n
+none_other t p s n e = search (no_truth, no_falsehood)
+
+expression_type : (t : Tree) → is_plain_row t ≡ true → is_argument (type_of t) ≡ true → is_spread t ≡ false → is_expression (type_of t) ≡ true
+expression_type t p s n = by (is_expression (type_of t)) refl
+  where
+    by : (b : Bool) → is_expression (type_of t) ≡ b → b ≡ true
+    by true e = refl
+    by false e = absurd (none_other t p s n e)
 
 mutual
   pub expression_valid : (c : Allowed) (around : Surroundings) (t : Tree) → IsPlain t → is_expression (type_of t) ≡ true → breaches around t ≡ [] → IsExpression c t
@@ -158,7 +182,11 @@ mutual
 
   arguments_valid : (c : Allowed) (around : Surroundings) (es : Trees) → has_no_hole es ≡ true → EverywhereInTrees is_plain_row es → in_trees around (place_of sets.Argument around ∷ []) es ≡ [] → AreArguments c es
   arguments_valid c around no_trees n p e = no_argument
-  arguments_valid c around (more t ts) n p e = let k = placed around sets.Argument t _ e in first_argument (expression_valid c around t p.0 k.0 k.1) (arguments_valid c around ts n p.1 k.2)
+  arguments_valid c around (more (tree.spread a t) ts) n p e =
+      let k = placed around sets.Argument (tree.spread a t) _ e in
+      let j = placed around sets.Expression t [] (parts (span_faults a.span) [] _ k.1).1 in
+      first_argument (a_spread (expression_valid c around t p.0.1.0 j.0 j.1)) (arguments_valid c around ts n p.1 k.2)
+  arguments_valid c around (more t ts) n p e = let k = placed around sets.Argument t _ e in first_argument (an_element (expression_valid c around t p.0 (expression_type t p.0.0 k.0 refl) k.1)) (arguments_valid c around ts n p.1 k.2)
   arguments_valid c around (hole ts) n p e = absurd (no_truth n)
 
 -- ---- the rows of declarations

@@ -10,17 +10,17 @@ use Rattle.jsgen_tree.specs.Tree.{Tree, Trees, no_trees, more, Atoms}
 use Rattle.jsgen_tree.specs.Places.{bare}
 use Rattle.jsgen_tree.specs.Values.{identifier_name_name, static_member_expression_optional, computed_member_expression_optional, call_expression_optional}
 use Rattle.jsgen_tree.specs.Nodes as tree
-use Rattle.jsgen_model.specs.Punctuator.{dot, Round, Square, opening, closing}
+use Rattle.jsgen_model.specs.Punctuator.{dot, ellipsis, Round, Square, opening, closing}
 use Rattle.jsgen_model.specs.Tokens.{Tokens, done, piece, group, ◌⧺◌, Word, Sign}
-use Rattle.jsgen_model.specs.Items.{◌⊕◌, brackets, member_dot}
+use Rattle.jsgen_model.specs.Items.{◌⊕◌, brackets, member_dot, punctuator}
 use Rattle.jsgen_model.specs.Layout.{Pen, Start, other_end, layout, written, unless_printed}
-use Rattle.jsgen_model.specs.Grammar.{Allowed, Level, ReadsExpression, ReadsArguments, ReadsArgumentList, with_in}
+use Rattle.jsgen_model.specs.Grammar.{Allowed, Level, ReadsExpression, ReadsElement, ReadsArguments, ReadsArgumentList, with_in}
 use Rattle.jsgen_model.specs.Grammar as grammar
 use Rattle.jsgen_model.specs.Normal.{normal, normal_trees, nothing_of, named}
 use Rattle.jsgen_model.specs.Spell.{Place, spell, spell_list, within, linked, called, in_brackets, wraps, call_wraps}
-use Rattle.jsgen_token_laws.proofs.Last.{Last, Open, After, line_of, Ready, Knows}
+use Rattle.jsgen_token_laws.proofs.Last.{Last, Open, After, line_of, Ready, begun_ready, Knows}
 use Rattle.jsgen_token_laws.proofs.Writes.{wrote_none, wrote_both}
-use Rattle.jsgen_token_laws.proofs.Steps.{wrote_name, wrote_dot, within_brackets, brackets_written}
+use Rattle.jsgen_token_laws.proofs.Steps.{wrote_name, wrote_dot, wrote_dots, within_brackets, brackets_written}
 use Rattle.jsgen_reading_laws.proofs.Levels.{number_of, operation_number, left_hand_side, level_of, under, lifted, unwrapped, from_left}
 use Rattle.jsgen_reading_laws.proofs.Good.{Good, Printed, begins_then, line_then, good_wrapped}
 use Rattle.jsgen_reading_laws.proofs.Lists.{Elements, ElementAt, MoreAt, Joins, no_more, one_more, whole_list}
@@ -87,6 +87,32 @@ good_computed_member c a o x m f h place p l z y k =
     let i = h (in_brackets levels.Lowest place) p2 (Open false) g.semicolon tt (within_brackets Square p1 g.last g.writes.knows) in
     computed_parts c a o x place p p1 (layout (spell x (in_brackets levels.Lowest place)) p2) l m g i
 
+-- ---- elements: expressions, and those whose values are spread
+
+-- in brackets
+abbrev pub ElementOf : Allowed → Tree → Type 0
+ElementOf c e = (place : Place) → ElementAt (ReadsElement (with_in c)) (in_brackets levels.Comma place) e
+
+pub good_element : (c : Allowed) (e : Tree) → Printed c e → ElementOf c e
+good_element c e f place p l z b k =
+    let g = f (in_brackets levels.Comma place) p l z (begun_ready l b) k in
+    record { last = g.last; tokens = g.tokens; writes = g.writes; operand = g.operand; semicolon = g.semicolon; tree = g.tree; reads = grammar.an_element g.reads; same = g.same }
+
+pub good_spread : (c : Allowed) (a : Atoms) (e : Tree) → Printed c e → ElementOf c (tree.spread a e)
+good_spread c a e f place p l z b k =
+    let o = wrote_dots p l b k in
+    let g = f (in_brackets levels.Comma place) (layout (punctuator ellipsis) p) (After (Sign ellipsis)) z tt o.knows in
+    record {
+      last = g.last;
+      tokens = piece (line_of l) (Sign ellipsis) g.tokens;
+      writes = wrote_both o g.writes;
+      operand = g.operand;
+      semicolon = g.semicolon;
+      tree = tree.spread (nothing_of 0) g.tree;
+      reads = grammar.a_spread g.reads;
+      same = ap (λ t. tree.spread (nothing_of 0) t) g.same;
+    }
+
 -- ---- arguments
 
 -- behind an opening bracket
@@ -94,29 +120,24 @@ abbrev pub ArgumentsAt : Allowed → Trees → Type 0
 ArgumentsAt c es = (place : Place) (p : Pen) → p.pending_semicolon ≡ false → Knows p (Open false) → Elements (ReadsArguments (with_in c)) p (Open false) (layout (spell_list es (in_brackets levels.Comma place)) p) es
 
 abbrev pub MoreArgumentsAt : Allowed → Trees → Type 0
-MoreArgumentsAt c es = (place : Place) → MoreAt (ReadsExpression (with_in c) grammar.Assignment) (ReadsArgumentList (with_in c)) (in_brackets levels.Comma place) es
+MoreArgumentsAt c es = (place : Place) → MoreAt (ReadsElement (with_in c)) (ReadsArgumentList (with_in c)) (in_brackets levels.Comma place) es
 
-arguments_join : (c : Allowed) → Joins (ReadsExpression c grammar.Assignment) (ReadsArgumentList c)
+arguments_join : (c : Allowed) → Joins (ReadsElement c) (ReadsArgumentList c)
 arguments_join c = record { one = λ ts e r. grammar.last_argument r; first = λ mark a b e es r s. grammar.first_argument mark refl r s }
-
-an_argument : (c : Allowed) (e : Tree) → Printed c e → (place : Place) → ElementAt (ReadsExpression (with_in c) grammar.Assignment) (in_brackets levels.Comma place) e
-an_argument c e f place p l z y k =
-    let g = f (in_brackets levels.Comma place) p l z y k in
-    record { last = g.last; tokens = g.tokens; writes = g.writes; operand = g.operand; semicolon = g.semicolon; tree = g.tree; reads = g.reads; same = g.same }
 
 pub no_arguments : (c : Allowed) → ArgumentsAt c no_trees
 no_arguments c place p z k = record { last = Open false; tokens = done; writes = wrote_none p p (Open false) refl k; operand = tt; semicolon = z; trees = no_trees; reads = grammar.no_argument; same = refl }
 
-pub first_of_arguments : (c : Allowed) (e : Tree) (es : Trees) → Printed c e → MoreArgumentsAt c es → ArgumentsAt c (more e es)
+pub first_of_arguments : (c : Allowed) (e : Tree) (es : Trees) → ElementOf c e → MoreArgumentsAt c es → ArgumentsAt c (more e es)
 first_of_arguments c e es f m place p z k =
-    let g = whole_list (ReadsExpression (with_in c) grammar.Assignment) (ReadsArgumentList (with_in c)) (in_brackets levels.Comma place) e es (an_argument c e f place) (m place) p (Open false) z tt k in
+    let g = whole_list (ReadsElement (with_in c)) (ReadsArgumentList (with_in c)) (in_brackets levels.Comma place) e es (f place) (m place) p (Open false) z tt k in
     record { last = g.last; tokens = g.tokens; writes = g.writes; operand = g.operand; semicolon = g.semicolon; trees = g.trees; reads = grammar.some_arguments g.reads; same = g.same }
 
 pub no_more_arguments : (c : Allowed) → MoreArgumentsAt c no_trees
-no_more_arguments c place = no_more (ReadsExpression (with_in c) grammar.Assignment) (ReadsArgumentList (with_in c)) (arguments_join (with_in c)) (in_brackets levels.Comma place)
+no_more_arguments c place = no_more (ReadsElement (with_in c)) (ReadsArgumentList (with_in c)) (arguments_join (with_in c)) (in_brackets levels.Comma place)
 
-pub one_more_argument : (c : Allowed) (e : Tree) (es : Trees) → Printed c e → MoreArgumentsAt c es → MoreArgumentsAt c (more e es)
-one_more_argument c e es f m place = one_more (ReadsExpression (with_in c) grammar.Assignment) (ReadsArgumentList (with_in c)) (arguments_join (with_in c)) (in_brackets levels.Comma place) e es (an_argument c e f place) (m place)
+pub one_more_argument : (c : Allowed) (e : Tree) (es : Trees) → ElementOf c e → MoreArgumentsAt c es → MoreArgumentsAt c (more e es)
+one_more_argument c e es f m place = one_more (ReadsElement (with_in c)) (ReadsArgumentList (with_in c)) (arguments_join (with_in c)) (in_brackets levels.Comma place) e es (f place) (m place)
 
 -- ---- calls
 

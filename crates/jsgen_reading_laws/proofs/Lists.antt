@@ -7,7 +7,7 @@ use Rattle.jsgen_model.specs.Items.{punctuator, soft_space}
 use Rattle.jsgen_model.specs.Layout.{Pen, layout}
 use Rattle.jsgen_model.specs.Normal.{normal, normal_trees}
 use Rattle.jsgen_model.specs.Spell.{Place, spell, spell_list, spell_more}
-use Rattle.jsgen_token_laws.proofs.Last.{Last, After, line_of, Operand, Ready, Knows}
+use Rattle.jsgen_token_laws.proofs.Last.{Last, After, line_of, Operand, Begun, Knows}
 use Rattle.jsgen_token_laws.proofs.Writes.{Writes, wrote_none, wrote_both, then_done}
 use Rattle.jsgen_token_laws.proofs.Steps.{Soft, wrote_punctuator, soft_space_written}
 
@@ -51,10 +51,10 @@ pub record Joins (R : Tokens → Tree → Type 0) (L : Tokens → Trees → Type
 
 -- printed at one place from any pen
 abbrev pub ElementAt : (Tokens → Tree → Type 0) → Place → Tree → Type 0
-ElementAt R place t = (p : Pen) (l : Last) → p.pending_semicolon ≡ false → Ready l → Knows p l → Element R p l (layout (spell t place) p) t
+ElementAt R place t = (p : Pen) (l : Last) → p.pending_semicolon ≡ false → Begun l → Knows p l → Element R p l (layout (spell t place) p) t
 
 abbrev pub ElementsAt : (Tokens → Trees → Type 0) → Place → Trees → Type 0
-ElementsAt L place ts = (p : Pen) (l : Last) → p.pending_semicolon ≡ false → Ready l → Knows p l → Elements L p l (layout (spell_list ts place) p) ts
+ElementsAt L place ts = (p : Pen) (l : Last) → p.pending_semicolon ≡ false → Begun l → Knows p l → Elements L p l (layout (spell_list ts place) p) ts
 
 abbrev pub MoreAt : (Tokens → Tree → Type 0) → (Tokens → Trees → Type 0) → Place → Trees → Type 0
 MoreAt R L place ts = (p : Pen) (l : Last) → p.pending_semicolon ≡ false → Operand l → Knows p l → MoreElements R L p l (layout (spell_more ts place) p) ts
@@ -93,7 +93,7 @@ one_more R L j place t ts f h p l z o k =
     let p3 : Pen = layout (spell t place) p2 in
     let w = wrote_punctuator comma p l tt tt o k in
     let n = soft_space_written p1 (After (Sign comma)) w.knows in
-    let g = f p2 n.last (n.semicolon ∙ z) (n.ready tt) n.writes.knows in
+    let g = f p2 n.last (n.semicolon ∙ z) (n.begun tt) n.writes.knows in
     let m = h p3 g.last g.semicolon g.operand g.writes.knows in
     more_parts R L j t ts p p1 p2 p3 (layout (spell_more ts place) p3) l w n g m
 

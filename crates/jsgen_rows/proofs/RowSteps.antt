@@ -7,7 +7,7 @@ use Rattle.jsgen_syntax.specs.declared.span.Span.{Span}
 use Rattle.jsgen_tree.specs.declared.types.NodeType.{NodeType}
 use Rattle.jsgen_tree.specs.declared.types.NodeSet.{NodeSet}
 use Rattle.jsgen_tree.specs.Atom.{Atom, no_value}
-use Rattle.jsgen_tree.specs.Tree.{Tree, trees, listed}
+use Rattle.jsgen_tree.specs.Tree.{Tree, trees, holed, listed}
 use Rattle.jsgen_tree.specs.Table.{Sort, Presence, Field, absent_value, is_value}
 use Rattle.jsgen_tree.specs.Fields.{fields}
 use Rattle.jsgen_tree.specs.Table as sorts
@@ -17,7 +17,7 @@ use Rattle.jsgen_fields.specs.declared.InputFault.TheVariants.{Float}
 use Rattle.jsgen_fields.specs.Values.{after, at, field, field_in, not_given, is_needed, items_in, value_in, type_of, span_of}
 use Rattle.jsgen_pool.specs.Pool.{Entry, take_row}
 use Rattle.jsgen_fields.specs.Reads.{Read, number_in, told, take_child, take_or_hole, take_each, take_given, read_children, value_or, read_value, read_field, read_fields, read_typed, read_node, read_row}
-use Rattle.jsgen_fields.specs.Meaning.{Mark, number_marks, child_marks, hole_marks, each, marks_of, given_marks, field_marks, fields_marks, typed_marks, row_marks, number_tree, child_tree, child_or_hole, holed, ok_or_else, Held, a_value, a_list, a_maybe_list, child_held, put_in, held, unread_held, field_held, fields_parts, node_of, typed_tree, row_tree, mark_faults, with_mark, with_marks, faults_in, unless}
+use Rattle.jsgen_fields.specs.Meaning.{Mark, number_marks, child_marks, hole_marks, each, marks_of, given_marks, field_marks, fields_marks, typed_marks, row_marks, number_tree, child_tree, child_or_hole, ok_or_else, Held, a_value, a_list, a_maybe_list, child_held, put_in, held, unread_held, field_held, fields_parts, node_of, typed_tree, row_tree, mark_faults, with_mark, with_marks, faults_in, unless}
 use Rattle.jsgen_rows.proofs.Pool.{pool, taken_unless}
 
 -- ---- what a list of marks gives, and two lists one after the other

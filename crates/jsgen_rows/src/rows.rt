@@ -4,8 +4,9 @@ ghost use Rattle.std.specs.Prelude.{◌≡◌};
 ghost use Rattle.serde_json.specs.View.{view};
 ghost use Rattle.jsgen_fields.specs.Reads.{Gives, read_typed};
 ghost use Rattle.jsgen_fields.specs.Kept.{entries, row_plain};
-ghost use Rattle.jsgen_fields.specs.Parts.{is_in_statements};
+ghost use Rattle.jsgen_fields.specs.Parts.{is_in_statements, is_in_expressions};
 
+use jsgen_collection_rows::collections::read_in_collections;
 use jsgen_expression_rows::expressions::read_in_expressions;
 use jsgen_fields::InputFault;
 use jsgen_fields::kept::{ReadNode, Row};
@@ -33,6 +34,27 @@ fn is_in_statements(node_type: NodeType) -> bool
     )
 }
 
+fn is_in_expressions(node_type: NodeType) -> bool
+    ensures { result ≡ is_in_expressions node_type }
+{
+    matches!(
+        &node_type,
+        NodeType::IdentifierReference
+            | NodeType::ThisExpression
+            | NodeType::NullLiteral
+            | NodeType::BooleanLiteral
+            | NodeType::NumericLiteral
+            | NodeType::StringLiteral
+            | NodeType::ParenthesizedExpression
+            | NodeType::BinaryExpression
+            | NodeType::LogicalExpression
+            | NodeType::IdentifierName
+            | NodeType::StaticMemberExpression
+            | NodeType::ComputedMemberExpression
+            | NodeType::CallExpression
+    )
+}
+
 /// The row of a type.
 pub fn read_typed<N: ReadNode + Drop>(
     alloc: Global,
@@ -48,5 +70,8 @@ pub fn read_typed<N: ReadNode + Drop>(
     if is_in_statements(node_type) {
         return read_in_statements(alloc, kept, node_type, number, span, row);
     }
-    read_in_expressions(alloc, kept, node_type, number, span, row)
+    if is_in_expressions(node_type) {
+        return read_in_expressions(alloc, kept, node_type, number, span, row);
+    }
+    read_in_collections(alloc, kept, node_type, number, span, row)
 }

@@ -8,7 +8,7 @@ use Rattle.jsgen_syntax.specs.Name.{starts_name, continues_name, goes_in_word}
 use Rattle.jsgen_syntax.specs.Strings.{quote_char}
 use Rattle.jsgen_syntax.specs.declared.quote.Quote.{Quote}
 use Rattle.jsgen_syntax.specs.declared.quote.Quote.TheVariants as quotes
-use Rattle.jsgen_model.specs.Punctuator.{Punctuator, punctuator_text, dot, ellipsis, question_dot, slash, plus, minus, Bracket, Round, Square, Brace, opening, closing}
+use Rattle.jsgen_model.specs.Punctuator.{Punctuator, punctuator_text, dot, ellipsis, comma, question_dot, slash, plus, minus, Bracket, Round, Square, Brace, opening, closing}
 use Rattle.jsgen_model.specs.Tokens.{Piece, Word, Number, Quoted, Sign, ends_before, spells_whole, may_precede, stands, longer_stands}
 use Rattle.jsgen_model.specs.Layout.{Pen, Ending, operator_end, number_end, is_apart, space_if}
 use Rattle.jsgen_token_laws.proofs.Characters.{goes_on_in_sign, none_longer, behind_itself, no_word_no_name, no_word_no_start, no_word_no_digit, word_no_sign, not_that, continues_goes, starts_no_digit, digit_goes}
@@ -39,6 +39,21 @@ abbrev pub Ready : Last → Type 0
 Ready (After (Sign dot)) = ⊥
 Ready (After (Sign question_dot)) = ⊥
 Ready l = Unit {0}
+
+-- a member of a list may begin here: behind blanks, a bracket, a word or a comma
+abbrev pub Begun : Last → Type 0
+Begun (Open line) = Unit {0}
+Begun (After (Word w)) = Unit {0}
+Begun (After (Sign comma)) = Unit {0}
+Begun l = ⊥
+
+pub begun_ready : (l : Last) → Begun l → Ready l
+begun_ready (Open line) b = tt
+begun_ready (After (Word w)) b = tt
+begun_ready (After (Number w)) b = absurd b
+begun_ready (After (Quoted q w)) b = absurd b
+begun_ready (After (Sign comma)) b = tt
+begun_ready (After (Sign s)) b = absurd b
 
 -- the sign is remembered where another would join it
 abbrev pub Remembers : Punctuator → Ending → Type 0
@@ -133,6 +148,16 @@ pub clear_operator : (s : Punctuator) (code : List ℕ) (e : Ending) (l : Last) 
 clear_operator dot code e l r i o k = absurd i
 clear_operator ellipsis code e l r i o k = absurd i
 clear_operator s code e l r i o k = clear_operand code e l _ _ o k refl refl refl
+
+-- three dots may stand where a member of a list begins
+pub clear_dots : (l : Last) (r : List ℕ) → Begun l → Clear l (punctuator_text ellipsis ++ r)
+unfolding longer_stands
+clear_dots (Open line) r b = tt
+clear_dots (After (Word w)) r b = word_ends w 46 (46 ∷ (46 ∷ r)) refl refl
+clear_dots (After (Number w)) r b = absurd b
+clear_dots (After (Quoted q w)) r b = absurd b
+clear_dots (After (Sign comma)) r b = refl
+clear_dots (After (Sign s)) r b = absurd b
 
 -- a quote is in no word and in no sign
 pub clear_quote : (q : Quote) (l : Last) (r : List ℕ) → Clear l (quote_char q ∷ r)

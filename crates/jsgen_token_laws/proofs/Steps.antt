@@ -7,13 +7,13 @@ use Rattle.jsgen_syntax.specs.Name.{spells_name, goes_in_word}
 use Rattle.jsgen_syntax.specs.Strings.{quote_char, string_value}
 use Rattle.jsgen_syntax.specs.Escapes.{name_text, has_escapes}
 use Rattle.jsgen_syntax.specs.declared.quote.Quote.{Quote}
-use Rattle.jsgen_model.specs.Punctuator.{Punctuator, Bracket, punctuator_text, plus, minus, dot, semicolon, Round, opening, closing}
+use Rattle.jsgen_model.specs.Punctuator.{Punctuator, Bracket, punctuator_text, plus, minus, dot, ellipsis, semicolon, Round, opening, closing}
 use Rattle.jsgen_model.specs.Tokens.{longer_stands, Tokens, done, piece, group, Word, Number, Quoted, Sign, is_spelled, is_blank, is_line_terminator, has_line_end, spells_whole}
 use Rattle.jsgen_model.specs.Items.{member_dot, word, name, number, punctuator, operator, soft_space, soft_line, hard_space, body_space, indentation, due_semicolon, statement_begins}
 use Rattle.jsgen_model.specs.Layout.{Pen, Ending, other_end, operator_end, layout, written, written_if, text_if, ending_unless, is_apart, ends_in_escapes, name_ending, space_if, joins, dot_joins, indented, indent_or_space, at_indentation, end_statement}
 use Rattle.jsgen_token_laws.proofs.Characters.{ends_in_word_behind, all_goes, whole_digits, digit_goes, all_follow}
 use Rattle.jsgen_token_laws.proofs.Words.{word_begins, unescaped, name_spelled, spelled_name}
-use Rattle.jsgen_token_laws.proofs.Last.{Last, Open, After, line_of, Clear, Operand, Ready, Remembers, Ended, is_indent, Knows, NoDot, word_ends, clear_apart, clear_quote, clear_quoted, clear_space, clear_operator, clear_word, clear_digit}
+use Rattle.jsgen_token_laws.proofs.Last.{Last, Open, After, line_of, Clear, Operand, Ready, Begun, Remembers, Ended, is_indent, Knows, NoDot, word_ends, clear_apart, clear_dots, clear_quote, clear_quoted, clear_space, clear_operator, clear_word, clear_digit}
 use Rattle.jsgen_token_laws.proofs.Writes.{Writes, wrote_none, wrote_and_none, wrote_blank, wrote_piece, wrote_brackets}
 
 -- ---- gaps
@@ -95,6 +95,10 @@ wrote_operator s p l i o k =
 pub wrote_semicolon : (p q : Pen) (l : Last) → q.code ≡ p.code ++ codes ";" → q.style ≡ p.style → Knows p l → Writes p l q (After (Sign semicolon)) (piece (line_of l) (Sign semicolon) done)
 wrote_semicolon p q l e f k = wrote_piece p q l [] (Sign semicolon) (line_of l) refl (space_mark false (line_of l)) refl (λ r. clear_apart l 59 r refl refl refl) e (record { indent = subst (λ s. is_indent s.indent ≡ true) (sym f) k.indent; ending = tt })
 
+-- three dots, where a member of a list begins
+pub wrote_dots : (p : Pen) (l : Last) → Begun l → Knows p l → Writes p l (layout (punctuator ellipsis) p) (After (Sign ellipsis)) (piece (line_of l) (Sign ellipsis) done)
+wrote_dots p l b k = wrote_piece p (layout (punctuator ellipsis) p) l [] (Sign ellipsis) (line_of l) refl (space_mark false (line_of l)) refl (λ r. clear_dots l r b) refl (record { indent = k.indent; ending = tt })
+
 -- ---- blanks
 
 -- blanks, or nothing
@@ -103,12 +107,13 @@ pub record Soft (p : Pen) (l : Last) (q : Pen) : Type 0 where
   pub writes : Writes p l q last done
   pub operand : Operand l → Operand last
   pub ready : Ready l → Ready last
+  pub begun : Begun l → Begun last
   pub line : line_of l ≡ false → line_of last ≡ false
   pub semicolon : q.pending_semicolon ≡ p.pending_semicolon
 
 -- the pen goes on with the same code
 pub no_soft : (p q : Pen) (l : Last) → q.code ≡ p.code → q.ending ≡ p.ending → q.style ≡ p.style → q.pending_semicolon ≡ p.pending_semicolon → Knows p l → Soft p l q
-no_soft p q l e f g h k = record { last = l; writes = wrote_none p q l e (knows_so l k.ending); operand = λ o. o; ready = λ y. y; line = λ z. z; semicolon = h }
+no_soft p q l e f g h k = record { last = l; writes = wrote_none p q l e (knows_so l k.ending); operand = λ o. o; ready = λ y. y; begun = λ b. b; line = λ z. z; semicolon = h }
   where
     knows_so : (l : Last) → Ended p.code p.ending l → Knows q l
     knows_so l z = record { indent = subst (λ s. is_indent s.indent ≡ true) (sym g) k.indent; ending = subst₂ (λ x y. Ended x y l) (sym e) (sym f) z }
@@ -153,6 +158,7 @@ soft_blank p q l gap h clear e f g k = record {
   writes = wrote_blank p q l gap (all_follow is_indent is_blank indent_blank gap h) clear e (record { indent = subst (λ s. is_indent s.indent ≡ true) (sym f) k.indent; ending = tt });
   operand = λ o. tt;
   ready = λ y. tt;
+  begun = λ b. tt;
   line = λ z. or_from (line_of l) (has_line_end gap) z (indents_no_line gap h);
   semicolon = g;
 }
@@ -193,10 +199,11 @@ pub record Gap (p : Pen) (l : Last) (q : Pen) : Type 0 where
   pub last : Last
   pub writes : Writes p l q last done
   pub ready : Ready l → Ready last
+  pub begun : Begun l → Begun last
   pub semicolon : q.pending_semicolon ≡ p.pending_semicolon
 
 abbrev pub gap : {p q : Pen} {l : Last} → Soft p l q → Gap p l q
-gap s = record { last = s.last; writes = s.writes; ready = s.ready; semicolon = s.semicolon }
+gap s = record { last = s.last; writes = s.writes; ready = s.ready; begun = s.begun; semicolon = s.semicolon }
 
 pub soft_line_written : (p : Pen) (l : Last) → Knows p l → Gap p l (layout soft_line p)
 soft_line_written p l k = go p.style.minified
@@ -207,6 +214,7 @@ soft_line_written p l k = go p.style.minified
       last = Open (line_of l || has_line_end (codes "\n"));
       writes = wrote_blank p (written_if true (codes "\n") p) l (codes "\n") refl (λ r. clear_apart l 10 r refl refl refl) refl (record { indent = k.indent; ending = tt });
       ready = λ y. tt;
+      begun = λ b. tt;
       semicolon = refl;
     }
 

@@ -7,12 +7,14 @@ use Rattle.jsgen_tree.specs.declared.nodes.ExpressionNode.{ExpressionNode}
 use Rattle.jsgen_tree.specs.declared.nodes.StatementNode.{StatementNode}
 use Rattle.jsgen_tree.specs.declared.statements.VariableDeclarator.{VariableDeclarator}
 use Rattle.jsgen_tree.specs.declared.statements.IfStatement.{IfStatement}
+use Rattle.jsgen_tree.specs.declared.collections.SpreadElement.{SpreadElement}
 use Rattle.jsgen_tree.specs.declared.sets.Argument.TheVariants as arguments
 
 -- ---- a member of a set that doesn't nest, by its type
 
-pub with_argument : {N : Type 0} (P : Argument N → Type 0) → ((b : Box (ExpressionNode N) Global) → P (arguments.Expression b)) → (n : Argument N) → P n
-with_argument P of_expression (arguments.Expression b) = of_expression b
+pub with_argument : {N : Type 0} (P : Argument N → Type 0) → ((b : Box (SpreadElement N) Global) → P (arguments.SpreadElement b)) → ((b : Box (ExpressionNode N) Global) → P (arguments.Expression b)) → (n : Argument N) → P n
+with_argument P of_spread_element of_expression (arguments.SpreadElement b) = of_spread_element b
+with_argument P of_spread_element of_expression (arguments.Expression b) = of_expression b
 
 -- ---- a struct with an optional child, and without it
 

@@ -38,7 +38,7 @@ natural_expression h (expressions.LogicalExpression b) = refl
 natural_expression h (expressions.ParenthesizedExpression b) = refl
 natural_expression h (expressions.StaticMemberExpression b) = refl
 natural_expression h (expressions.ComputedMemberExpression b) = refl
-natural_expression h (expressions.CallExpression b) = same_slots (same_one refl (same_many (ap trees (map_after _ _ _ (with_argument _ (λ b. refl)) b.value.arguments.items)) refl))
+natural_expression h (expressions.CallExpression b) = same_slots (same_one refl (same_many (ap trees (map_after _ _ _ (with_argument _ (λ b. refl) (λ b. refl)) b.value.arguments.items)) refl))
 
 natural_declaration : (h : Node → Tree) (n : Declaration Node) → layer (map-Node Node Tree h (opened.Declaration n)) ≡ declaration_plain h n
 natural_declaration h (declarations.VariableDeclaration b) = same_slots (same_many (ap trees (map_after _ _ _ (variable_declarator_by_init _ (λ n. refl) (λ n_init. (λ n. refl))) b.value.declarations.items)) refl)

@@ -1,5 +1,5 @@
 -- Rows are the same where their children are, and two maps in a row are one.
-use Rattle.std.proofs.Common.{◌≡◌, refl, ap, ◌∙◌, List, [], ◌∷◌, map}
+use Rattle.std.proofs.Common.{◌≡◌, refl, ap, ◌∙◌, List, [], ◌∷◌, map, Option, Some, None}
 use Rattle.jsgen_tree.specs.Tree.{Atoms, Tree, Slots, Maybe, Trees, node, one, maybe, many}
 use Rattle.jsgen_tree.specs.declared.types.NodeType.{NodeType}
 
@@ -7,6 +7,11 @@ use Rattle.jsgen_tree.specs.declared.types.NodeType.{NodeType}
 pub map_after : {A B C : Type 0} (f : B → C) (g : A → B) (k : A → C) → ((x : A) → f (g x) ≡ k x) → (xs : List A) → map f (map g xs) ≡ map k xs
 map_after f g k e [] = refl
 map_after f g k e (x ∷ xs) = ap (λ y. y ∷ map f (map g xs)) (e x) ∙ ap (λ ys. k x ∷ ys) (map_after f g k e xs)
+
+-- a place of a list with holes: a hole, or a member
+pub with_hole : {A : Type 0} (P : Option A → Type 0) → P None → ((x : A) → P (Some x)) → (o : Option A) → P o
+with_hole P none some None = none
+with_hole P none some (Some x) = some x
 
 -- ---- a row, child by child
 

@@ -98,6 +98,9 @@ computed_member_expression_fields = needs (codes "object") (sorts.child sets.Exp
 abbrev pub call_expression_fields : List Field
 call_expression_fields = needs (codes "callee") (sorts.child sets.Expression) ∷ not_yet (codes "type_arguments") sorts.unread_child ∷ may_have (codes "arguments") (sorts.children sets.Argument) ∷ not_yet (codes "optional") sorts.flag ∷ has_by_default (atoms.flag false) (codes "pure") sorts.flag ∷ []
 
+abbrev pub spread_element_fields : List Field
+spread_element_fields = needs (codes "argument") (sorts.child sets.Expression) ∷ []
+
 abbrev pub fields : NodeType → List Field
 fields types.Program = program_fields
 fields types.Directive = directive_fields
@@ -121,3 +124,4 @@ fields types.IdentifierName = identifier_name_fields
 fields types.StaticMemberExpression = static_member_expression_fields
 fields types.ComputedMemberExpression = computed_member_expression_fields
 fields types.CallExpression = call_expression_fields
+fields types.SpreadElement = spread_element_fields

@@ -68,3 +68,6 @@ computed_member a object expression = node types.ComputedMemberExpression a (one
 
 pattern abbrev pub call : Atoms → Tree → Trees → Tree
 call a callee arguments = node types.CallExpression a (one callee (many arguments no_slots))
+
+pattern abbrev pub spread : Atoms → Tree → Tree
+spread a argument = node types.SpreadElement a (one argument no_slots)

@@ -21,6 +21,22 @@ is_expression types.ComputedMemberExpression = true
 is_expression types.CallExpression = true
 is_expression other = false
 
+abbrev pub is_argument : NodeType → Bool
+is_argument types.SpreadElement = true
+is_argument types.IdentifierReference = true
+is_argument types.ThisExpression = true
+is_argument types.NullLiteral = true
+is_argument types.BooleanLiteral = true
+is_argument types.NumericLiteral = true
+is_argument types.StringLiteral = true
+is_argument types.BinaryExpression = true
+is_argument types.LogicalExpression = true
+is_argument types.ParenthesizedExpression = true
+is_argument types.StaticMemberExpression = true
+is_argument types.ComputedMemberExpression = true
+is_argument types.CallExpression = true
+is_argument other = false
+
 abbrev pub is_declaration : NodeType → Bool
 is_declaration types.VariableDeclaration = true
 is_declaration other = false
@@ -56,4 +72,4 @@ in_set sets.VariableDeclarator t = is_variable_declarator t
 in_set sets.BindingPattern t = is_binding_pattern t
 in_set sets.Expression t = is_expression t
 in_set sets.IdentifierName t = is_identifier_name t
-in_set sets.Argument t = is_expression t
+in_set sets.Argument t = is_argument t

@@ -27,6 +27,7 @@ expression_span (expression.ComputedMemberExpression b) = b.value.span
 expression_span (expression.CallExpression b) = b.value.span
 
 abbrev pub argument_span : {N : Type 0} → (N → Span) → Argument N → Span
+argument_span own (argument.SpreadElement b) = b.value.span
 argument_span own (argument.Expression b) = own b.value.node
 
 abbrev pub declaration_span : {N : Type 0} → Declaration N → Span

@@ -45,6 +45,12 @@ abbrev pub trees : List Tree → Trees
 trees [] = no_trees
 trees (t ∷ ts) = more t (trees ts)
 
+-- a list with a hole where one is left out
+abbrev pub holed : List (Option Tree) → Trees
+holed [] = no_trees
+holed (None ∷ os) = hole (holed os)
+holed (Some t ∷ os) = more t (holed os)
+
 abbrev pub type_of : Tree → NodeType
 type_of (node type a slots) = type
 

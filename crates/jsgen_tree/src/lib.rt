@@ -6,6 +6,7 @@
 //! set, as `ExpressionNode`, and is made by `into()` from a member of that set.
 #![tactic(auto)]
 
+mod collections;
 mod expressions;
 mod inside;
 mod laws;
@@ -18,6 +19,7 @@ mod span;
 mod statements;
 mod types;
 
+pub use collections::SpreadElement;
 pub use expressions::{
     BinaryExpression, BooleanLiteral, CallExpression, ComputedMemberExpression, IdentifierName,
     IdentifierReference, LogicalExpression, NullLiteral, NumericLiteral, ParenthesizedExpression,

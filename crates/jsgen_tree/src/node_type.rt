@@ -37,6 +37,7 @@ impl Argument {
         ensures { result ≡ type_of (in_argument node_plain self.now) }
     {
         match self {
+            Argument::SpreadElement(_) => NodeType::SpreadElement,
             Argument::Expression(node) => node.get().node_type(),
         }
     }

@@ -1,6 +1,7 @@
 // Generated from tools/nodes/table.txt; edit that and run tools/nodes/generate.
 // Sets: what may stand in one place. A set within a set is one variant of the inner one's name.
 
+use crate::collections::SpreadElement;
 use crate::expressions::{
     BinaryExpression, BooleanLiteral, CallExpression, ComputedMemberExpression,
     IdentifierReference, LogicalExpression, NullLiteral, NumericLiteral, ParenthesizedExpression,
@@ -31,6 +32,7 @@ pub enum Expression<N = Node> {
 /// What a call is given.
 #[derive(Drop)]
 pub enum Argument<N = Node> {
+    SpreadElement(Box<SpreadElement<N>>),
     Expression(Box<ExpressionNode<N>>),
 }
 

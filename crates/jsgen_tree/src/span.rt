@@ -5,6 +5,7 @@ ghost use Rattle.jsgen_tree.specs.Tree.{span_of};
 ghost use Rattle.jsgen_tree.specs.Plain.{node_plain};
 ghost use Rattle.jsgen_tree.specs.Spans.{expression_span, argument_span, declaration_span, statement_span, binding_pattern_span};
 
+use crate::collections::SpreadElement;
 use crate::expressions::{
     BinaryExpression, BooleanLiteral, CallExpression, ComputedMemberExpression, IdentifierName,
     IdentifierReference, LogicalExpression, NullLiteral, NumericLiteral, ParenthesizedExpression,
@@ -204,6 +205,14 @@ impl<N> GetSpan for CallExpression<N> {
     }
 }
 
+impl<N> GetSpan for SpreadElement<N> {
+    ghost own_span = { λ n. n.span };
+
+    fn span(&self) -> Span {
+        self.span
+    }
+}
+
 impl<N> GetSpan for Expression<N> {
     ghost own_span = { λ n. expression_span n };
 
@@ -230,6 +239,7 @@ impl<N: GetSpan> GetSpan for Argument<N> {
 
     fn span(&self) -> Span {
         match self {
+            Argument::SpreadElement(node) => node.span,
             Argument::Expression(node) => node.get().span(),
         }
     }

@@ -1,7 +1,7 @@
 // Generated from tools/nodes/table.txt; edit that and run tools/nodes/generate.
 // The types of nodes, and the sets that a field's child may be of.
 ghost use Rattle.std.specs.Prelude.{◌≡◌};
-ghost use Rattle.jsgen_tree.specs.Sets.{in_set, is_expression, is_statement};
+ghost use Rattle.jsgen_tree.specs.Sets.{in_set, is_expression, is_argument, is_statement};
 
 /// The type of a node.
 #[derive(Clone, Copy, Debug, PartialEq, Eq)]
@@ -28,6 +28,7 @@ pub enum NodeType {
     StaticMemberExpression,
     ComputedMemberExpression,
     CallExpression,
+    SpreadElement,
 }
 
 /// What the child of a field may be: a member of a set, or a node of one type.
@@ -54,7 +55,7 @@ impl NodeType {
             NodeSet::BindingPattern => matches!(&self, NodeType::BindingIdentifier),
             NodeSet::Expression => self.is_expression(),
             NodeSet::IdentifierName => matches!(&self, NodeType::IdentifierName),
-            NodeSet::Argument => self.is_expression(),
+            NodeSet::Argument => self.is_argument(),
         }
     }
 
@@ -65,6 +66,28 @@ impl NodeType {
         matches!(
             &self,
             NodeType::IdentifierReference
+                | NodeType::ThisExpression
+                | NodeType::NullLiteral
+                | NodeType::BooleanLiteral
+                | NodeType::NumericLiteral
+                | NodeType::StringLiteral
+                | NodeType::BinaryExpression
+                | NodeType::LogicalExpression
+                | NodeType::ParenthesizedExpression
+                | NodeType::StaticMemberExpression
+                | NodeType::ComputedMemberExpression
+                | NodeType::CallExpression
+        )
+    }
+
+    /// Whether nodes of this type are in `Argument`.
+    pub fn is_argument(self) -> bool
+        ensures { result ≡ is_argument self }
+    {
+        matches!(
+            &self,
+            NodeType::SpreadElement
+                | NodeType::IdentifierReference
                 | NodeType::ThisExpression
                 | NodeType::NullLiteral
                 | NodeType::BooleanLiteral

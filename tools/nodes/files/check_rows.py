@@ -11,7 +11,7 @@ CHECK = "crates/jsgen_check"
 PROOFS = "Rattle.jsgen_check.proofs"
 VERDICT = "Rattle.jsgen_check.specs.Verdict"
 AROUND = "around: Surroundings<'_>"
-STEPS = ["no_rules", "two_children", "last_child", "of_row", "none_before", "turn", "turns_end"]
+STEPS = ["no_rules", "two_children", "last_child", "of_row", "none_before", "turn", "turns_end", "turn_or_hole", "turns_or_holes_end"]
 PROGRAM = "Program"  # its row stands by hand, in crates/jsgen_check/src/program.rt
 RESULT = "Result<u32, TreeFault>"
 
@@ -25,25 +25,34 @@ def write(table):
             files[f"{CHECK}/proofs/{file}/{check(n.name)}/Answers.antt"] = row_answers(table, n)
     lists, optional = kinds_of(table, "*"), kinds_of(table, "?")
     inner = [s for s in table.sets.values() if not s.nests]
-    parts = [of_list(table, k) for k in lists] + [of_optional(table, k) for k in optional]
+    holed = kinds_of(table, "?*")
+    optional += [k for k in holed if k not in optional]
+    parts = [of_list(table, k) for k in lists] + [of_holed_list(table, k) for k in holed] + [of_optional(table, k) for k in optional]
     parts += [of_inner_set(table, s) for s in inner]
     about = "Lists, children that may be absent, and sets that don't nest."
     files[f"{CHECK}/src/children.rt"] = rust(table, about, "\n\n".join(parts))
     for k in lists:
         files[f"{CHECK}/proofs/children/{check_all(k)}/Invariants.antt"] = invariant(table, k)
         files[f"{CHECK}/proofs/children/{check_all(k)}/Answers.antt"] = list_answers(table, k)
+    for k in holed:
+        files[f"{CHECK}/proofs/children/{check_all_or_holes(k)}/Invariants.antt"] = holed_invariant(table, k)
+        files[f"{CHECK}/proofs/children/{check_all_or_holes(k)}/Answers.antt"] = holed_answers(table, k)
+    for s in inner:
+        if any(m in table.nodes for m in s.members):
+            files[f"{CHECK}/proofs/children/{check(s.name)}/Answers.antt"] = inner_answers(table, s)
     sets = "\n\n".join(of_set(table, s) for s in table.nesting())
     files[f"{CHECK}/src/sets.rt"] = rust(table, "A member of a set is checked as its own type is.", sets)
     return files
 
 
 def rust(table, about, body):
-    ghosts = [("Rattle.std.specs.Prelude", ["◌≡◌", "map", "option_map"]), (f"{SPECS}.Tree", ["optional", "trees"])]
+    ghosts = [("Rattle.std.specs.Prelude", ["◌≡◌", "map", "option_map"]), (f"{SPECS}.Tree", ["optional", "trees", "holed"])]
     ghosts += row_names(table)
     ghosts += [(VERDICT, ["tree_verdict", "child_verdict", "maybe_verdict", "children_verdict"])]
     tree = list(table.nodes) + list(table.sets) + [s.name + "Node" for s in table.nesting()] + ["NodeSet"]
     checks = {f"crate::{f}": [check(n.name) for n in table.nodes.values() if n.file == f] for f in table.files}
     checks["crate::children"] = [check_all(k) for k in kinds_of(table, "*")]
+    checks["crate::children"] += [check_all_or_holes(k) for k in kinds_of(table, "?*")]
     checks["crate::children"] += [check_optional(k) for k in kinds_of(table, "?")]
     checks["crate::children"] += [check(s.name) for s in table.sets.values() if not s.nests]
     checks["crate::rules"] = [rules(n) for n in table.nodes.values() if n.rules]
@@ -68,6 +77,10 @@ def check_all(kind):
     return f"check_{plural(kind)}"
 
 
+def check_all_or_holes(kind):
+    return f"check_{plural(kind)}_or_holes"
+
+
 def check_optional(kind):
     return "check_optional_" + snake(kind)
 
@@ -82,13 +95,15 @@ def calls(table, n):
         here = f"node.{f.rust}"
         if f.many == "*":
             found.append((f.rust, f"{check_all(f.kind)}(&{here}, around)", "deref.value", None))
+        elif f.many == "?*":
+            found.append((f.rust, f"{check_all_or_holes(f.kind)}(&{here}, around)", "deref.value", None))
         elif f.many == "?":
             found.append((f.rust, f"{check_optional(f.kind)}(&{here}, around)", None, None))
         elif nests(table, f.kind):
             found.append((f.rust, f"check_child({here}.get(), NodeSet::{f.kind}, around)", "get", None))
         else:
             of_type = f.kind if f.kind in table.nodes else None
-            found.append((f.rust, f"{check(f.kind)}(&{here}, around)", "deref", of_type))
+            found.append((f.rust, f"{check(f.kind)}(&{here}, around)", "deref" if of_type else None, of_type))
     return found
 
 
@@ -161,15 +176,30 @@ def of_list(table, kind):
 }}"""
 
 
-def of_optional(table, kind):
-    if not nests(table, kind):
-        raise SystemExit(f"{kind}?: an optional child that doesn't nest has no form in {CHECK} yet")
+def of_holed_list(table, kind):
     of, parameter = child_type(table, kind)
+    return f"""pub fn {check_all_or_holes(kind)}{parameter}(nodes: &[Option<{of}>], {AROUND}) -> {RESULT}
+    ensures {{ result ≡ children_verdict around.entry sets.{kind} (holed (map (option_map {each(table, kind)}) nodes.now)) }}
+{{
+    let mut below = Ok(0);
+    for node in nodes {{
+        let found = {check_optional(kind)}(node, around);
+        below = higher(below, found);
+    }}
+    below
+}}"""
+
+
+def of_optional(table, kind):
+    if kind in table.nodes:
+        raise SystemExit(f"{kind}?: an optional child of a type has no form in {CHECK} yet")
+    of, parameter = child_type(table, kind)
+    call = f"check_child(node.get(), NodeSet::{kind}, around)" if nests(table, kind) else f"{check(kind)}(node, around)"
     return f"""pub fn {check_optional(kind)}{parameter}(node: &Option<{of}>, {AROUND}) -> {RESULT}
     ensures {{ result ≡ maybe_verdict around.entry sets.{kind} (optional (option_map {each(table, kind)} node.now)) }}
 {{
     match node {{
-        Some(node) => check_child(node.get(), NodeSet::{kind}, around),
+        Some(node) => {call},
         None => Ok(0),
     }}
 }}"""
@@ -227,6 +257,53 @@ returns {g}c = turns_end {every} c.loop-node-test.false c.loop-node.invariant"""
     aliases = [(f"{SPECS}.declared.types.NodeSet.TheVariants", "sets"),
                (f"{PROOFS}.children.{check_all(kind)}.Goals", "goal")]
     return layout.antt("The loop, turn by turn.", homes, aliases, body)
+
+
+def holed_invariant(table, kind):
+    generic = child_type(table, kind)[1] != ""
+    row = each(table, kind, "g.N.CheckNode.plain")
+    body = f"""-- what is found so far, and of the nodes left, is what is found of all of them
+abbrev pub invariant-loop-node : goal.invariant-loop-node
+invariant-loop-node {"g " if generic else ""}l =
+    let found = λ (ns : _). children_verdict l.around sets.{kind} (holed (map (option_map {row}) ns)) in
+    higher l.below (found (drop l.node-index l.nodes)) ≡ found l.nodes"""
+    homes = [("Rattle.std.proofs.Common", ["◌≡◌", "map", "drop"]), ("Rattle.std.specs.Prelude", ["option_map"])]
+    homes += [(f"{SPECS}.Tree", ["holed"])] + row_names(table) + [(VERDICT, ["children_verdict", "higher"])]
+    aliases = [(f"{SPECS}.declared.types.NodeSet.TheVariants", "sets"),
+               (f"{PROOFS}.children.{check_all_or_holes(kind)}.Given", "goal")]
+    return layout.antt("What holds in the loop.", homes, aliases, body)
+
+
+def holed_answers(table, kind):
+    g = "g " if child_type(table, kind)[1] else ""
+    row = each(table, kind, "g.N.CheckNode.plain")
+    every = f"c.loop-node.below c.args.around sets.{kind} {row} c.args.nodes.now c.loop-node.node-index"
+    item = "c.node-item.result c.loop-node-test.true c.node-item.is"
+    body = f"""pub loop-node-init : goal.loop-node-init
+loop-node-init {g}c = none_before _
+
+pub loop-node-preserved : goal.loop-node-preserved
+loop-node-preserved {g}c = turn_or_hole {every} {item} c.loop-node.invariant c.higher-below.ensures c.{check_optional(kind)}-found.ensures
+
+pub returns : goal.returns
+returns {g}c = turns_or_holes_end {every} c.loop-node-test.false c.loop-node.invariant"""
+    homes = row_names(table) + [(f"{PROOFS}.Steps", STEPS)]
+    aliases = [(f"{SPECS}.declared.types.NodeSet.TheVariants", "sets"),
+               (f"{PROOFS}.children.{check_all_or_holes(kind)}.Goals", "goal")]
+    return layout.antt("The loop, turn by turn.", homes, aliases, body)
+
+
+def inner_answers(table, s):
+    """A member of one type is surely of the set."""
+    g = "g " if table.generic(s.name) else ""
+    parts = []
+    for m in s.members:
+        goal = f"returns-in-{m}"
+        if m in table.nodes:
+            parts.append(f"pub {goal} : goal.{goal}\n{goal} {g}c = rw c.in-{m}.is ((rw c.deref.ensures at c.{check(m)}.ensures) ∙ sym (of_right_set _ sets.{s.name} _ refl))")
+    homes = [("Rattle.std.proofs.Common", ["◌≡◌", "refl", "sym", "◌∙◌"]), (f"{PROOFS}.Verdicts", ["of_right_set"])]
+    aliases = [(f"{SPECS}.declared.types.NodeSet.TheVariants", "sets"), (f"{PROOFS}.children.{check(s.name)}.Goals", "goal")]
+    return layout.antt("A member of one type is of the set.", homes, aliases, "\n\n".join(parts))
 
 
 # ---- sets

@@ -61,7 +61,7 @@ def row(table, n):
 def field(table, f):
     if f.unread:
         return {"type": "null"}
-    schema = value(table, f) if table.is_value(f) else {"type": "array", "items": ROW} if f.many == "*" else ROW
+    schema = value(table, f) if table.is_value(f) else {"type": "array", "items": or_null(ROW) if f.many == "?*" else ROW} if f.is_list else ROW
     return schema if f.required else or_null(schema)
 
 

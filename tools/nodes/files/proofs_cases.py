@@ -38,22 +38,32 @@ def by_type(table, s):
     name = "with_" + snake(s.name)
     steps, names, clauses = "", "", ""
     for m in s.members:
-        held = f"{m}Node" if m in table.sets else m
-        takes = " N" if m in table.sets or table.generic(m) else ""
-        box = f"Box ({held}{takes}) Global" if takes else f"Box {held} Global"
-        steps += f"((b : {box}) → P ({snake(s.name)}s.{m} b)) → "
+        steps += f"((b : {box_of(table, m)}) → P ({snake(s.name)}s.{m} b)) → "
         names += f" of_{snake(m)}"
     for m in s.members:
         clauses += f"\n{name} P{names} {variant(s, m)} = of_{snake(m)} b"
     return f"pub {name} : {{N : Type 0}} (P : {s.name} N → Type 0) → {steps}(n : {s.name} N) → P n{clauses}"
 
 
-# The recursive type's map gives nothing of a struct before it has seen each optional child that it looks into. So a
-# struct is opened first: with each such child and without it, down through the structs that it holds.
+# The recursive type's map gives nothing of a struct before it has seen each optional child that it looks into, and which
+# member a child of a set that doesn't nest is. So a struct is opened first: with each such child and without it, by the
+# members of each such set, down through the structs that it holds.
 
 def to_open(table, n):
     return [f for f in table.children(n) if needs_steps(table, f) and (
-        f.many == "?" or f.many == "" and f.kind in table.nodes and to_open(table, table.nodes[f.kind]))]
+        f.many == "?" or f.many == "" and (is_inner_set(table, f.kind) or f.kind in table.nodes and to_open(table, table.nodes[f.kind])))]
+
+
+def is_inner_set(table, kind):
+    """Whether it is a set that doesn't nest."""
+    return kind in table.sets and not table.sets[kind].nests
+
+
+def box_of(table, m):
+    """The type of what a variant holds."""
+    held = f"{m}Node" if m in table.sets else m
+    takes = " N" if m in table.sets or table.generic(m) else ""
+    return f"Box ({held}{takes}) Global" if takes else f"Box {held} Global"
 
 
 def needs_steps(table, f):
@@ -73,6 +83,13 @@ def opening(table, n, f, boxed):
     def case(text):
         return f"P ({with_child.replace('{}', text)})"
 
+    if is_inner_set(table, f.kind):
+        members = table.sets[f.kind].members
+        steps = "".join(f"((b : {box_of(table, m)}) (n : {of}) → {case(variant(table.sets[f.kind], m))}) → " for m in members)
+        names = "".join(f" of_{snake(m)}" for m in members)
+        cases = " | ".join(f"{variant(table.sets[f.kind], m)[1:-1]} ↦ of_{snake(m)} b n" for m in members)
+        return f"""pub {name} : {{N : Type 0}} (P : {of} → Type 0) → {steps}(n : {of}) → P n
+{name} P{names} n = elim {n_child} as (λ o. {case('o')}) [ {cases} ]"""
     if f.many == "":
         return f"""pub {name} : {{N : Type 0}} (P : {of} → Type 0) → ((c : {child}) (n : {of}) → {case('c')}) → (n : {of}) → P n
 {name} P all n = all {n_child} n"""
@@ -88,7 +105,7 @@ def openings(table):
 
 def opened(table, n, name, boxed, motive, there, then):
     """What is so of each struct, from what `then` says in each case. `there` has the opened children by name, with
-    None for one that isn't there."""
+    None for one that isn't there, and with its type for a member of a set."""
     fields = to_open(table, n)
 
     def step(i, there):
@@ -99,6 +116,10 @@ def opened(table, n, name, boxed, motive, there, then):
 
         def each(there):
             return f"(λ {child}. {step(i + 1, there | {child: child})})"
+
+        if is_inner_set(table, f.kind):
+            cases = "".join(f" (λ {child}. {step(i + 1, there | {child: (child, m)})})" for m in table.sets[f.kind].members)
+            return f"({by}{cases})"
 
         given = opened(table, table.nodes[f.kind], child, True, "_", there, each) if f.kind in table.nodes else each(there)
         return f"({by} {step(i + 1, there | {child: None})} {given})" if f.many == "?" else f"({by} {given})"

@@ -2,7 +2,7 @@
 The lemmas of lists and of rows that it uses are in proofs/Layers.antt, by hand."""
 
 import layout
-from files.proofs_cases import CASES, aliases, lemma_names, needs_steps, opened, to_open, variant
+from files.proofs_cases import CASES, aliases, is_inner_set, lemma_names, needs_steps, opened, to_open, variant
 from files.specs_tree import SLOTS
 from names import DECLARED, SPECS, TREE, row_names, sets_in_antt
 from table import snake
@@ -20,7 +20,7 @@ plain_out n = fold_out-Node Tree layer n"""]
              (f"{SPECS}.Plain", ["node_plain", "layer"]),
              (f"{SPECS}.Spans", [snake(s) + "_span" for s in table.sets])] + TREE + row_names(table)
     homes += [("Rattle.jsgen_tree.proofs.Layers",
-               ["map_after", "same_slots", "same_one", "same_maybe", "same_many"]),
+               ["map_after", "with_hole", "same_slots", "same_one", "same_maybe", "same_many"]),
               (f"{DECLARED}.nodes.Node", ["Node", "out-Node", "map-Node", "fold_out-Node"]),
               (f"{DECLARED}.nodes.Node.TheVariants", ["outs-" + s.name for s in table.nesting()])]
     homes += sets_in_antt(table)
@@ -73,20 +73,27 @@ def same_child(table, f, at, name, there):
         return "refl"
     if f.many == "*":
         return f"ap trees (map_after _ _ _ {same_member(table, f.kind)} {at}.items)"
+    if f.many == "?*":
+        return f"ap holed (map_after _ _ _ (with_hole _ refl {same_member(table, f.kind)}) {at}.items)"
+    if is_inner_set(table, f.kind):
+        child, member = there[name]
+        if member in table.sets:
+            return "refl"
+        return same_slots(table, table.nodes[member], child + ".value", child, there)
     if f.kind in table.nodes:
         if f.many == "?" and not there[name]:
             return "refl"
         proof = same_slots(table, table.nodes[f.kind], there.get(name, at) + ".value", name, there)
         return f"ap (λ t. given t) ({proof})" if f.many == "?" and proof != "refl" else proof
-    if not table.sets[f.kind].nests and any_steps(table, f.kind):
-        raise SystemExit(f"{f.name}: {f.kind}: a set that doesn't nest, of types with lists or optional children, has no form yet")
     return "refl"
 
 
-def any_steps(table, name):
-    members = table.sets[name].members if name in table.sets else [name]
-    return any(m in table.nodes and same_each(table, table.nodes[m]) != "(λ n. refl)" for m in members)
-
+def of_box(table, name):
+    """The same for a member of a set, in its box."""
+    if name in table.sets:
+        return "(λ b. refl)"
+    n = table.nodes[name]
+    return f"(λ b. {same_each(table, n)} b.value)" if to_open(table, n) else f"(λ b. {same_slots(table, n, 'b.value', 'n', {})})"
 
 def same_member(table, name):
     """The same for each member of a list."""
@@ -95,9 +102,8 @@ def same_member(table, name):
     s = table.sets[name]
     if s.nests:
         return "(λ n. refl)"
-    if any_steps(table, name):
-        raise SystemExit(f"set {name}: a list of members that have lists or optional children has no form yet")
-    return f"(with_{snake(name)} _{' (λ b. refl)' * len(s.members)})"
+    members = "".join(f" {of_box(table, m)}" for m in s.members)
+    return f"(with_{snake(name)} _{members})"
 
 
 def plain(table, s):

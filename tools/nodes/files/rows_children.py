@@ -20,7 +20,7 @@ def places(table):
     every = {}
     for n in table.nodes.values():
         for f in table.children(n):
-            every[f.kind, f.kind in table.nodes and f.many != "*"] = None
+            every[f.kind, f.kind in table.nodes and not f.is_list] = None
     return list(every)
 
 
@@ -183,6 +183,8 @@ FORMS = {
     "?": ("optional_{}", "optional_child", "Option<{}>", "λ o. a_maybe (optional (option_map {} o))",
           "false may_be_absent (child sets.{})"),
     "*": ("{}_list", "children", "Vec<{}>", "λ v. a_list (trees (map {} v.items))", "false may_be_absent (many sets.{})"),
+    "?*": ("{}_or_hole_list", "children_or_holes", "Vec<Option<{}>>", "λ v. a_list (holed (map (option_map {}) v.items))",
+           "false may_be_absent (many_or_holes sets.{})"),
 }
 
 
@@ -194,12 +196,12 @@ def readers(table):
     fields = {reader_of(f): f for n in table.nodes.values() for f in table.children(n)}
     body = "\n\n".join(reader(table, f) for f in fields.values())
     ghosts = [("Rattle.std.specs.Prelude", ["true", "false", "map", "option_map"]),
-              ("Rattle.serde_json.specs.View", ["view"]), (f"{SPECS}.Tree", ["optional", "trees"])]
-    ghosts += [(f"{SPECS}.Table", ["needed", "may_be_absent", "child", "children as many"])] + row_names(table)
+              ("Rattle.serde_json.specs.View", ["view"]), (f"{SPECS}.Tree", ["optional", "trees", "holed"])]
+    ghosts += [(f"{SPECS}.Table", ["needed", "may_be_absent", "child", "children as many", "children_or_holes as many_or_holes"])] + row_names(table)
     ghosts += [(f"{READER}.specs.Values", ["at", "field as value_under"]), (f"{READER}.specs.Meaning", ["a_child", "a_maybe", "a_list"]),
                (f"{READER}.specs.Reads", ["Gives", "read_children"]), (f"{READER}.specs.Kept", ["entries"])]
     tree = list(table.nodes) + list(table.sets) + [s.name + "Node" for s in table.nesting()]
-    homes = [("crate", ["InputFault"]), ("crate::fields", ["needed_child", "optional_child", "children"]),
+    homes = [("crate", ["InputFault"]), ("crate::fields", ["needed_child", "optional_child", "children", "children_or_holes"]),
              ("crate::kept", ["ReadNode", "Row"]), ("jsgen_pool", ["Kept"]), ("jsgen_tree", tree)]
     homes += [("serde_json", ["Value"]), ("std::alloc", ["Global"])]
     about = "Fields that hold children, by set: a row that calls one of these passes no impl of `Child`, which would be " \
@@ -209,7 +211,7 @@ def readers(table):
 
 def reader(table, f):
     name, inner, result, gives, field = FORMS[f.many]
-    boxed = f.kind in table.nodes and f.many != "*"
+    boxed = f.kind in table.nodes and not f.is_list
     of = result.format(child_type(table, f.kind, boxed))
     plain = plain_at(table, f.kind, boxed, "c") if f.many == "" else child_plain(table, f.kind, boxed)
     return f"""pub fn {name.format(snake(f.kind))}<N: ReadNode + Drop>(

@@ -94,6 +94,8 @@ def slot(table, f):
     each = f"({row} plain)" if takes else row
     if f.many == "*":
         return f"(trees (map {each} {here}.items))"
+    if f.many == "?*":
+        return f"(holed (map (option_map {each}) {here}.items))"
     if f.kind in table.nodes:
         here += ".value"
     if f.many == "?":

@@ -44,6 +44,9 @@ def row(table, f):
     return f"{'needs' if f.required else 'may_have'} {name} {sort(table, f)}"
 
 
+SORTS = {"": "child", "?": "child", "*": "children", "?*": "children_or_holes"}
+
+
 def sort(table, f):
     if f.kind in table.words:
         return f"(sorts.word {table.words[f.kind].short}_words)"
@@ -51,7 +54,7 @@ def sort(table, f):
         return f"sorts.{f.kind}"
     if f.unread:
         return "sorts.unread_child"
-    return f"(sorts.{'children' if f.many == '*' else 'child'} sets.{f.kind})"
+    return f"(sorts.{SORTS[f.many]} sets.{f.kind})"
 
 
 def sets(table):

@@ -59,8 +59,8 @@ def rust_type(table, f):
     parameter = "<N>" if table.generic(f.kind) else ""
     if f.kind in table.sets:
         one = f"{f.kind}Node<N>" if table.sets[f.kind].nests else f.kind + parameter
-    elif f.many == "*":
+    elif f.is_list:
         one = f.kind + parameter
     else:
         one = f"Box<{f.kind}{parameter}>"
-    return {"": one, "?": f"Option<{one}>", "*": f"Vec<{one}>"}[f.many]
+    return {"": one, "?": f"Option<{one}>", "*": f"Vec<{one}>", "?*": f"Vec<Option<{one}>>"}[f.many]

@@ -1,0 +1,61 @@
+// Generated from tools/nodes/table.txt; edit that and run tools/nodes/generate.
+// Rows of a job: arrays and objects (ECMA-262, 13.2.4 and 13.2.5), and what is spread in them and in arguments.
+ghost use Rattle.std.specs.Prelude.{◌≡◌, false};
+ghost use Rattle.serde_json.specs.View.{view};
+ghost use Rattle.jsgen_tree.specs.Fields.{spread_element_fields};
+ghost use Rattle.jsgen_fields.specs.Reads.{Gives, read_node, read_typed};
+ghost use Rattle.jsgen_fields.specs.Kept.{entries, row_plain};
+ghost use Rattle.jsgen_fields.specs.Parts.{is_in_statements, is_in_expressions};
+ghost use Rattle.jsgen_tree.specs.declared.types.NodeType.TheVariants as types;
+
+use jsgen_fields::InputFault;
+use jsgen_fields::fields::boxed;
+use jsgen_fields::kept::{ReadNode, Row};
+use jsgen_fields::set_fields::needed_expression;
+use jsgen_pool::Kept;
+use jsgen_syntax::Span;
+use jsgen_tree::{NodeType, SpreadElement};
+use serde_json::Value;
+use std::alloc::Global;
+
+#[tactic(auto, unfolding(jsgen_fields::specs::Reads::read_node))]
+fn read_spread_element<N: ReadNode + Drop>(
+    alloc: Global,
+    kept: &mut Vec<Kept<Row<N>>>,
+    number: usize,
+    span: Span,
+    row: &Value,
+) -> Result<Row<N>, InputFault>
+    ensures { Gives (row_plain N.plain) result (entries N.plain kept.new.items)
+        (read_node number types.SpreadElement spread_element_fields span (view row.now) (entries N.plain kept.old.items)) }
+{
+    let argument = match needed_expression(alloc, kept, number, 2, row, "argument") {
+        Ok(argument) => argument,
+        Err(fault) => return Err(fault),
+    };
+    let node = SpreadElement { span, argument };
+    match boxed(alloc, node) {
+        Ok(node) => Ok(Row::SpreadElement(node)),
+        Err(fault) => Err(fault),
+    }
+}
+
+/// The row of a type of this part.
+pub fn read_in_collections<N: ReadNode + Drop>(
+    alloc: Global,
+    kept: &mut Vec<Kept<Row<N>>>,
+    node_type: NodeType,
+    number: usize,
+    span: Span,
+    row: &Value,
+) -> Result<Row<N>, InputFault>
+    requires not_in_statements { is_in_statements node_type ≡ false }
+    requires not_in_expressions { is_in_expressions node_type ≡ false }
+    ensures { Gives (row_plain N.plain) result (entries N.plain kept.new.items)
+        (read_typed number node_type span (view row.now) (entries N.plain kept.old.items)) }
+{
+    match node_type {
+        NodeType::SpreadElement => read_spread_element(alloc, kept, number, span, row),
+        _ => unreachable!(),
+    }
+}

@@ -1,0 +1,10 @@
+use Rattle.std.proofs.Common.{sym}
+use Rattle.jsgen_tree.specs.Tree.{holed}
+use Rattle.jsgen_fields.specs.Meaning.{a_list}
+use Rattle.jsgen_fields.specs.Reads.{read_children}
+use Rattle.jsgen_fields.proofs.Gives.{gives_holding}
+use Rattle.jsgen_fields.proofs.fields.children_or_holes.Goals as goal
+
+pub returns : goal.returns
+unfolding read_children
+returns g c = rw (sym c.of_row-at.ensures, c.in_ok-value.ensures, c.in-Some.is, c.in_ok-items.ensures) (gives_holding _ (λ os. a_list (holed os)) _ _ _ (rw c.deref.ensures.value at c.take_all_or_holes.ensures))
