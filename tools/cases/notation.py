@@ -177,7 +177,7 @@ class Reader:
         is_value = TABLE.is_value(field)
         if not is_value and self.is_here("["):
             self.take()
-            return self.several("]", self.statement)
+            return self.several("]", self.statement_or_hole)
         if not is_value:
             return self.statement()
         if self.is_here("["):
@@ -187,6 +187,13 @@ class Reader:
         if kind == "string":
             return json.loads(value)
         return {"true": True, "false": False}.get(value, value)
+
+    def statement_or_hole(self):
+        """A member of a list, or None where it is left out."""
+        if self.is_here("null"):
+            self.take()
+            return None
+        return self.statement()
 
 
 # ---- jobs
@@ -199,8 +206,8 @@ def rows_of(child, rows):
     for name, value in child.fields.items():
         if isinstance(value, Child):
             children[name] = rows_of(value, rows)
-        elif isinstance(value, list) and all(isinstance(one, Child) for one in value):
-            children[name] = [rows_of(one, rows) for one in value]
+        elif isinstance(value, list) and all(one is None or isinstance(one, Child) for one in value):
+            children[name] = [None if one is None else rows_of(one, rows) for one in value]
         else:
             values[name] = value
     rows.append({"type": child.node_type, **values, **dict(reversed(children.items()))})

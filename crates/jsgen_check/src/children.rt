@@ -1,8 +1,8 @@
 // Generated from tools/nodes/table.txt; edit that and run tools/nodes/generate.
 // Lists, children that may be absent, and sets that don't nest.
 ghost use Rattle.std.specs.Prelude.{◌≡◌, map, option_map};
-ghost use Rattle.jsgen_tree.specs.Tree.{optional, trees};
-ghost use Rattle.jsgen_tree.specs.Rows.{in_expression, in_argument, in_statement, directive_row, variable_declarator_row};
+ghost use Rattle.jsgen_tree.specs.Tree.{optional, trees, holed};
+ghost use Rattle.jsgen_tree.specs.Rows.{in_expression, in_argument, in_array_expression_element, in_statement, directive_row, variable_declarator_row};
 ghost use Rattle.jsgen_check.specs.Verdict.{child_verdict, maybe_verdict, children_verdict};
 ghost use Rattle.jsgen_tree.specs.declared.types.NodeSet.TheVariants as sets;
 
@@ -11,7 +11,10 @@ use crate::heights::higher;
 use crate::statements::{check_directive, check_variable_declarator};
 use crate::{CheckNode, Surroundings, check_child};
 use jsgen_model::TreeFault;
-use jsgen_tree::{Argument, Directive, ExpressionNode, NodeSet, StatementNode, VariableDeclarator};
+use jsgen_tree::{
+    Argument, ArrayExpressionElement, Directive, ExpressionNode, NodeSet, StatementNode,
+    VariableDeclarator,
+};
 
 pub fn check_directives(nodes: &[Directive], around: Surroundings<'_>) -> Result<u32, TreeFault>
     ensures { result ≡ children_verdict around.entry sets.Directive (trees (map directive_row nodes.now)) }
@@ -66,6 +69,20 @@ pub fn check_arguments<N: CheckNode>(
     below
 }
 
+pub fn check_array_expression_elements_or_holes<N: CheckNode>(
+    nodes: &[Option<ArrayExpressionElement<N>>],
+    around: Surroundings<'_>,
+) -> Result<u32, TreeFault>
+    ensures { result ≡ children_verdict around.entry sets.ArrayExpressionElement (holed (map (option_map (in_array_expression_element N.plain)) nodes.now)) }
+{
+    let mut below = Ok(0);
+    for node in nodes {
+        let found = check_optional_array_expression_element(node, around);
+        below = higher(below, found);
+    }
+    below
+}
+
 pub fn check_optional_expression<N: CheckNode>(
     node: &Option<ExpressionNode<N>>,
     around: Surroundings<'_>,
@@ -90,6 +107,18 @@ pub fn check_optional_statement<N: CheckNode>(
     }
 }
 
+pub fn check_optional_array_expression_element<N: CheckNode>(
+    node: &Option<ArrayExpressionElement<N>>,
+    around: Surroundings<'_>,
+) -> Result<u32, TreeFault>
+    ensures { result ≡ maybe_verdict around.entry sets.ArrayExpressionElement (optional (option_map (in_array_expression_element N.plain) node.now)) }
+{
+    match node {
+        Some(node) => check_array_expression_element(node, around),
+        None => Ok(0),
+    }
+}
+
 pub fn check_argument<N: CheckNode>(
     node: &Argument<N>,
     around: Surroundings<'_>,
@@ -99,5 +128,21 @@ pub fn check_argument<N: CheckNode>(
     match node {
         Argument::SpreadElement(node) => check_spread_element(node, around),
         Argument::Expression(node) => check_child(node.get(), NodeSet::Argument, around),
+    }
+}
+
+pub fn check_array_expression_element<N: CheckNode>(
+    node: &ArrayExpressionElement<N>,
+    around: Surroundings<'_>,
+) -> Result<u32, TreeFault>
+    ensures { result ≡ child_verdict around.entry sets.ArrayExpressionElement (in_array_expression_element N.plain node.now) }
+{
+    match node {
+        ArrayExpressionElement::SpreadElement(node) => check_spread_element(node, around),
+        ArrayExpressionElement::Expression(node) => check_child(
+            node.get(),
+            NodeSet::ArrayExpressionElement,
+            around,
+        ),
     }
 }

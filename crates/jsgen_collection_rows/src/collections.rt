@@ -2,7 +2,7 @@
 // Rows of a job: arrays and objects (ECMA-262, 13.2.4 and 13.2.5), and what is spread in them and in arguments.
 ghost use Rattle.std.specs.Prelude.{◌≡◌, false};
 ghost use Rattle.serde_json.specs.View.{view};
-ghost use Rattle.jsgen_tree.specs.Fields.{spread_element_fields};
+ghost use Rattle.jsgen_tree.specs.Fields.{spread_element_fields, array_expression_fields};
 ghost use Rattle.jsgen_fields.specs.Reads.{Gives, read_node, read_typed};
 ghost use Rattle.jsgen_fields.specs.Kept.{entries, row_plain};
 ghost use Rattle.jsgen_fields.specs.Parts.{is_in_statements, is_in_expressions};
@@ -10,11 +10,11 @@ ghost use Rattle.jsgen_tree.specs.declared.types.NodeType.TheVariants as types;
 
 use jsgen_fields::InputFault;
 use jsgen_fields::fields::boxed;
-use jsgen_fields::kept::{ReadNode, Row};
-use jsgen_fields::set_fields::needed_expression;
+use jsgen_fields::kept::{ReadNode, Row, expression_row};
+use jsgen_fields::set_fields::{array_expression_element_or_hole_list, needed_expression};
 use jsgen_pool::Kept;
 use jsgen_syntax::Span;
-use jsgen_tree::{NodeType, SpreadElement};
+use jsgen_tree::{ArrayExpression, Expression, NodeType, SpreadElement};
 use serde_json::Value;
 use std::alloc::Global;
 
@@ -40,6 +40,30 @@ fn read_spread_element<N: ReadNode + Drop>(
     }
 }
 
+#[tactic(auto, unfolding(jsgen_fields::specs::Reads::read_node))]
+fn read_array_expression<N: ReadNode + Drop>(
+    alloc: Global,
+    kept: &mut Vec<Kept<Row<N>>>,
+    number: usize,
+    span: Span,
+    row: &Value,
+) -> Result<Row<N>, InputFault>
+    ensures { Gives (row_plain N.plain) result (entries N.plain kept.new.items)
+        (read_node number types.ArrayExpression array_expression_fields span (view row.now) (entries N.plain kept.old.items)) }
+{
+    let elements = match array_expression_element_or_hole_list(
+        alloc, kept, number, 2, row, "elements",
+    ) {
+        Ok(elements) => elements,
+        Err(fault) => return Err(fault),
+    };
+    let node = ArrayExpression { span, elements };
+    match boxed(alloc, node) {
+        Ok(node) => expression_row(alloc, Expression::ArrayExpression(node)),
+        Err(fault) => Err(fault),
+    }
+}
+
 /// The row of a type of this part.
 pub fn read_in_collections<N: ReadNode + Drop>(
     alloc: Global,
@@ -56,6 +80,7 @@ pub fn read_in_collections<N: ReadNode + Drop>(
 {
     match node_type {
         NodeType::SpreadElement => read_spread_element(alloc, kept, number, span, row),
+        NodeType::ArrayExpression => read_array_expression(alloc, kept, number, span, row),
         _ => unreachable!(),
     }
 }

@@ -3,15 +3,15 @@
 ghost use Rattle.std.specs.Prelude.{◌≡◌, IfOk, Some, None, option_map, if◌then◌else◌};
 ghost use Rattle.jsgen_tree.specs.Tree.{type_of};
 ghost use Rattle.jsgen_tree.specs.Sets.{in_set};
-ghost use Rattle.jsgen_tree.specs.Rows.{in_expression, in_argument, in_declaration, in_statement, in_binding_pattern, directive_row, variable_declarator_row, identifier_name_row};
+ghost use Rattle.jsgen_tree.specs.Rows.{in_expression, in_argument, in_array_expression_element, in_declaration, in_statement, in_binding_pattern, directive_row, variable_declarator_row, identifier_name_row};
 ghost use Rattle.jsgen_fields.specs.Kept.{row_plain};
 ghost use Rattle.jsgen_tree.specs.declared.types.NodeSet.TheVariants as sets;
 
 use crate::children::Child;
 use crate::kept::{ReadNode, Row};
 use jsgen_tree::{
-    Argument, BindingPatternNode, DeclarationNode, Directive, ExpressionNode, IdentifierName,
-    NodeSet, Statement, StatementNode, VariableDeclarator,
+    Argument, ArrayExpressionElement, BindingPatternNode, DeclarationNode, Directive,
+    ExpressionNode, IdentifierName, NodeSet, Statement, StatementNode, VariableDeclarator,
 };
 use std::alloc::{AllocError, Global};
 
@@ -175,6 +175,31 @@ impl<N: ReadNode + Drop> Child<N> for Argument<N> {
     }
 }
 
+impl<N: ReadNode + Drop> Child<N> for ArrayExpressionElement<N> {
+    ghost plain = { λ n. in_array_expression_element N.plain n };
+
+    ghost of_set = { sets.ArrayExpressionElement };
+
+    fn set() -> NodeSet {
+        NodeSet::ArrayExpressionElement
+    }
+
+    #[tactic(auto, using(crate::proofs::Sets::takes_array_expression_elements))]
+    fn from_row(alloc: Global, row: Row<N>) -> Result<Option<ArrayExpressionElement<N>>, AllocError>
+        ensures { IfOk result (λ child. option_map (in_array_expression_element N.plain) child
+            ≡ (if in_set sets.ArrayExpressionElement (type_of (row_plain N.plain row)) then Some (row_plain N.plain row) else None)) }
+    {
+        match row {
+            Row::Expression(row) => array_expression_element_of_expression(
+                alloc,
+                N::expression_node(Box::into_inner(row)),
+            ),
+            Row::SpreadElement(row) => Ok(Some(ArrayExpressionElement::SpreadElement(row))),
+            _ => Ok(None),
+        }
+    }
+}
+
 // ---- a member of a set within the set, which stands in a box of its own
 
 fn statement_of_declaration<N: ReadNode + Drop>(
@@ -195,4 +220,14 @@ fn argument_of_expression<N: ReadNode + Drop>(
 {
     let expression = Box::new(alloc, expression)?;
     Ok(Some(Argument::Expression(expression)))
+}
+
+fn array_expression_element_of_expression<N: ReadNode + Drop>(
+    alloc: Global,
+    expression: ExpressionNode<N>,
+) -> Result<Option<ArrayExpressionElement<N>>, AllocError>
+    ensures { IfOk result (λ child. option_map (in_array_expression_element N.plain) child ≡ Some (in_expression N.plain expression)) }
+{
+    let expression = Box::new(alloc, expression)?;
+    Ok(Some(ArrayExpressionElement::Expression(expression)))
 }

@@ -5,7 +5,7 @@ ghost use Rattle.jsgen_fields.specs.Names.{first_named, type_named};
 
 use jsgen_tree::NodeType;
 
-const TYPE_NAMES: [(&str, NodeType); 23] = [
+const TYPE_NAMES: [(&str, NodeType); 24] = [
     ("Program", NodeType::Program),
     ("Directive", NodeType::Directive),
     ("VariableDeclaration", NodeType::VariableDeclaration),
@@ -32,6 +32,7 @@ const TYPE_NAMES: [(&str, NodeType); 23] = [
     ),
     ("CallExpression", NodeType::CallExpression),
     ("SpreadElement", NodeType::SpreadElement),
+    ("ArrayExpression", NodeType::ArrayExpression),
 ];
 
 fn first_named(names: &[(&str, NodeType)], name: &str) -> Option<NodeType>

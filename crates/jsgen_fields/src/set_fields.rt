@@ -2,9 +2,9 @@
 // Fields that hold children, by set: a row that calls one of these passes no impl of `Child`, which would be proved at each call.
 ghost use Rattle.std.specs.Prelude.{true, false, map, option_map};
 ghost use Rattle.serde_json.specs.View.{view};
-ghost use Rattle.jsgen_tree.specs.Tree.{optional, trees};
-ghost use Rattle.jsgen_tree.specs.Table.{needed, may_be_absent, child, children as many};
-ghost use Rattle.jsgen_tree.specs.Rows.{in_expression, in_argument, in_statement, in_binding_pattern, directive_row, variable_declarator_row, identifier_name_row};
+ghost use Rattle.jsgen_tree.specs.Tree.{optional, trees, holed};
+ghost use Rattle.jsgen_tree.specs.Table.{needed, may_be_absent, child, children as many, children_or_holes as many_or_holes};
+ghost use Rattle.jsgen_tree.specs.Rows.{in_expression, in_argument, in_array_expression_element, in_statement, in_binding_pattern, directive_row, variable_declarator_row, identifier_name_row};
 ghost use Rattle.jsgen_fields.specs.Values.{at, field as value_under};
 ghost use Rattle.jsgen_fields.specs.Meaning.{a_child, a_maybe, a_list};
 ghost use Rattle.jsgen_fields.specs.Reads.{Gives, read_children};
@@ -12,12 +12,12 @@ ghost use Rattle.jsgen_fields.specs.Kept.{entries};
 ghost use Rattle.jsgen_tree.specs.declared.types.NodeSet.TheVariants as sets;
 
 use crate::InputFault;
-use crate::fields::{children, needed_child, optional_child};
+use crate::fields::{children, children_or_holes, needed_child, optional_child};
 use crate::kept::{ReadNode, Row};
 use jsgen_pool::Kept;
 use jsgen_tree::{
-    Argument, BindingPatternNode, Directive, ExpressionNode, IdentifierName, StatementNode,
-    VariableDeclarator,
+    Argument, ArrayExpressionElement, BindingPatternNode, Directive, ExpressionNode,
+    IdentifierName, StatementNode, VariableDeclarator,
 };
 use serde_json::Value;
 use std::alloc::Global;
@@ -160,4 +160,18 @@ pub fn argument_list<N: ReadNode + Drop>(
         (read_children (at number field) false may_be_absent (many sets.Argument) (value_under name.now (view row.now)) (entries N.plain kept.old.items)) }
 {
     children(alloc, kept, number, field, row, name)
+}
+
+pub fn array_expression_element_or_hole_list<N: ReadNode + Drop>(
+    alloc: Global,
+    kept: &mut Vec<Kept<Row<N>>>,
+    number: usize,
+    field: usize,
+    row: &Value,
+    name: &str,
+) -> Result<Vec<Option<ArrayExpressionElement<N>>>, InputFault>
+    ensures { Gives (λ v. a_list (holed (map (option_map (in_array_expression_element N.plain)) v.items))) result (entries N.plain kept.new.items)
+        (read_children (at number field) false may_be_absent (many_or_holes sets.ArrayExpressionElement) (value_under name.now (view row.now)) (entries N.plain kept.old.items)) }
+{
+    children_or_holes(alloc, kept, number, field, row, name)
 }

@@ -30,7 +30,7 @@ part_stopped at {old} {new} {part} before e s = stops_within s before (subst (λ
 pub turn_done : (first rest : Items) (old at next : Pen) {whole : Pen} → IsPrefix old.code at.code → layout (first ⊕ rest) at ≡ whole → next ≡ layout first at → IsPrefix old.code next.code × layout rest next ≡ whole
 turn_done first rest old at next before left e = (subst (λ p. IsPrefix old.code p.code) (sym e) (layout_more first at before), ap (λ p. layout rest p) e ∙ left)
 
-still_nowhere : (printed : Bool) → unless_printed printed nowhere ≡ nowhere
+pub still_nowhere : (printed : Bool) → unless_printed printed nowhere ≡ nowhere
 still_nowhere true = refl
 still_nowhere false = refl
 

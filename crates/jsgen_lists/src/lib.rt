@@ -1,8 +1,10 @@
 //! Lists: how members are printed one after another, whatever they are.
 #![tactic(auto)]
 
+mod elements;
 mod members;
 mod statements;
 
+pub use elements::{PrintElement, print_array};
 pub use members::{PrintMember, print_in_brackets, print_more};
 pub use statements::{PrintStatement, print_statements, print_whole_body};

@@ -2,15 +2,16 @@
 -- A node of Rust is plain where its children are.
 use Rattle.std.proofs.Common.{refl}
 use Rattle.jsgen_tree.specs.Plain.{node_plain, layer}
-use Rattle.jsgen_tree.proofs.Cases.{with_argument, variable_declarator_by_init, if_statement_by_alternate}
+use Rattle.jsgen_tree.proofs.Cases.{with_argument, with_array_expression_element, variable_declarator_by_init, if_statement_by_alternate}
 use Rattle.jsgen_tree.specs.declared.nodes.Node.{Node, Node-F, map-Node}
 use Rattle.jsgen_tree.specs.Tree.{Tree}
 use Rattle.jsgen_tree.specs.declared.sets.Expression.{Expression}
 use Rattle.jsgen_tree.specs.declared.sets.Declaration.{Declaration}
 use Rattle.jsgen_tree.specs.declared.sets.Statement.{Statement}
 use Rattle.jsgen_tree.specs.declared.sets.BindingPattern.{BindingPattern}
+use Rattle.jsgen_tree.proofs.Layers.{with_hole}
 use Rattle.jsgen_model.specs.Plain.{IsPlain}
-use Rattle.jsgen_model.proofs.PlainRows.{no_hole_changed, all_changed, number_is_plain, string_is_plain}
+use Rattle.jsgen_model.proofs.PlainRows.{no_hole_changed, all_changed, all_changed_or_holes, number_is_plain, string_is_plain}
 use Rattle.jsgen_tree.specs.declared.nodes.Node.TheOpen as opened
 use Rattle.jsgen_tree.specs.declared.sets.Expression.TheVariants as expressions
 use Rattle.jsgen_tree.specs.declared.sets.Declaration.TheVariants as declarations
@@ -31,6 +32,7 @@ module _ {A : Type 0} (f : A → Node) (h : (a : A) → IsPlain (node_plain (f a
   expression_is_plain (expressions.StaticMemberExpression b) = (refl, (h b.value.object.node, ((refl, tt), tt)))
   expression_is_plain (expressions.ComputedMemberExpression b) = (refl, (h b.value.object.node, (h b.value.expression.node, tt)))
   expression_is_plain (expressions.CallExpression b) = (no_hole_changed _ _ _ b.value.arguments.items, (h b.value.callee.node, (all_changed _ _ _ (with_argument _ (λ b. (refl, (h b.value.argument.node, tt))) (λ b. h b.value.node)) b.value.arguments.items, tt)))
+  expression_is_plain (expressions.ArrayExpression b) = (refl, (all_changed_or_holes _ _ _ (with_hole _ tt (with_array_expression_element _ (λ b. (refl, (h b.value.argument.node, tt))) (λ b. h b.value.node))) b.value.elements.items, tt))
 
   declaration_is_plain : (n : Declaration A) → IsPlain (layer (map-Node Node Tree node_plain (map-Node A Node f (opened.Declaration n))))
   declaration_is_plain (declarations.VariableDeclaration b) = (no_hole_changed _ _ _ b.value.declarations.items, (all_changed _ _ _ (variable_declarator_by_init _ (λ n. (refl, (h n.id.node, (tt, tt)))) (λ n_init. (λ n. (refl, (h n.id.node, (h n_init.node, tt)))))) b.value.declarations.items, tt))

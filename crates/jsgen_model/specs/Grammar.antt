@@ -10,7 +10,7 @@ use Rattle.jsgen_syntax.specs.declared.operator.LogicalOperator.TheVariants.{Or,
 use Rattle.jsgen_tree.specs.declared.statements.VariableDeclarationKind.TheVariants.{Const}
 use Rattle.jsgen_syntax.specs.Name.{is_free_name}
 use Rattle.jsgen_tree.specs.Atom.{units, flag, binary_operator, logical_operator}
-use Rattle.jsgen_tree.specs.Tree.{Tree, Maybe, absent, given, Trees, no_trees, more}
+use Rattle.jsgen_tree.specs.Tree.{Tree, Maybe, absent, given, Trees, no_trees, more, hole}
 use Rattle.jsgen_tree.specs.Places.{bare}
 use Rattle.jsgen_tree.specs.Nodes as tree
 use Rattle.jsgen_model.specs.Punctuator.{plus, minus, star, slash, percent, star_star, equal_equal, not_equal, equal_equal_equal, not_equal_equal, less, less_equal, greater, greater_equal, shift_left, shift_right, shift_right_zero, bit_and, bit_or, bit_xor, and_and, or_or, nullish, dot, ellipsis, comma, semicolon, equal, Round, Square, Brace}
@@ -197,6 +197,14 @@ mutual
     a_number : {c : Allowed} {mark : Bool} {w : List ℕ} → ReadsExpression c Primary (piece mark (Number w) done) (tree.numeric_literal (by_text w))
     a_string : {c : Allowed} {mark : Bool} {q : Quote} {w us : List ℕ} → string_value q w ≡ Some us → ReadsExpression c Primary (piece mark (Quoted q w) done) (tree.string_literal (bare (units us ∷ [])))
     in_parentheses : {c : Allowed} {mark : Bool} {ts : Tokens} {t : Tree} → ReadsExpression (with_in c) Expression ts t → ReadsExpression c Primary (group mark Round ts done) (tree.parenthesized (nothing_of 0) t)
+    an_array : {c : Allowed} {mark : Bool} {inside : Tokens} {es : Trees} → ReadsElements (with_in c) inside es → ReadsExpression c Primary (group mark Square inside done) (tree.array (nothing_of 0) es)
+
+  -- between the brackets of an array (13.2.4): elements, each with a comma behind it, of which the last may be omitted; a comma that no element stands before leaves one out
+  pub data ReadsElements : Allowed → Tokens → Trees → Type 0 where
+    no_element : {c : Allowed} → ReadsElements c done no_trees
+    last_element : {c : Allowed} {ts : Tokens} {e : Tree} → ReadsElement c ts e → ReadsElements c ts (more e no_trees)
+    first_element : {c : Allowed} {ts a b : Tokens} {e : Tree} {es : Trees} (mark : Bool) → ts ≡ a ⧺ piece mark (Sign comma) b → ReadsElement c a e → ReadsElements c b es → ReadsElements c ts (more e es)
+    an_elision : {c : Allowed} {mark : Bool} {ts : Tokens} {es : Trees} → ReadsElements c ts es → ReadsElements c (piece mark (Sign comma) ts) (hole es)
 
   -- between the parentheses of a call (13.3); a comma may end the list
   pub data ReadsArguments : Allowed → Tokens → Trees → Type 0 where

@@ -103,6 +103,7 @@ abbrev mutual
   normal (tree.computed_member a object expression) = tree.computed_member (bare (computed_member_expression_optional a ∷ [])) (normal object) (normal expression)
   normal (tree.call a callee arguments) = tree.call (bare (call_expression_optional a ∷ no_value ∷ [])) (normal callee) (normal_trees arguments)
   normal (tree.spread a argument) = tree.spread (nothing_of 0) (normal argument)
+  normal (tree.array a elements) = tree.array (nothing_of 0) (normal_trees elements)
   normal (node type a slots) = node type (bare a.values) (normal_slots slots)
 
   pub normal_slots : Slots → Slots

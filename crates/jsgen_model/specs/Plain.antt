@@ -62,6 +62,7 @@ is_plain_row (tree.static_member a object property) = is_absent (static_member_e
 is_plain_row (tree.computed_member a object expression) = is_absent (computed_member_expression_optional a)
 is_plain_row (tree.call a callee arguments) = is_absent (call_expression_optional a) && has_no_hole arguments
 is_plain_row (tree.spread a argument) = true
+is_plain_row (tree.array a elements) = true
 is_plain_row t = false
 
 abbrev pub IsPlain : Tree → Type 0

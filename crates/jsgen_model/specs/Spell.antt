@@ -1,5 +1,5 @@
 -- How each node is spelled: one row, one clause.
-use Rattle.std.specs.Prelude.{ℕ, List, Bool, true, false, not, ◌&&◌, ◌||◌, ◌==◌, nat_le, codes, decimal, Option, Some, None, if◌then◌else◌}
+use Rattle.std.specs.Prelude.{ℕ, suc, List, Bool, true, false, not, ◌&&◌, ◌||◌, ◌==◌, nat_le, nat_lt, codes, decimal, Option, Some, None, if◌then◌else◌}
 use Rattle.std.specs.Str.{encode_utf8_all}
 use Rattle.jsgen_syntax.specs.Precedence.{rank}
 use Rattle.jsgen_syntax.specs.Operator.{binary_level, lower_level, logical_level, logical_lower_level}
@@ -265,6 +265,43 @@ abbrev pub is_given : Maybe → Bool
 is_given absent = false
 is_given (given t) = true
 
+-- ---- arrays and objects
+
+-- how many stand in a list, those that are left out too
+abbrev pub count : Trees → ℕ
+count no_trees = 0
+count (more t ts) = suc (count ts)
+count (hole ts) = suc (count ts)
+
+-- more than so many
+abbrev pub are_more : ℕ → Trees → Bool
+are_more n ts = nat_lt n (count ts)
+
+abbrev pub next_line : Items
+next_line = soft_line ⊕ indentation
+
+-- what stands between two members: a line end, where each is on a line of its own, or a space
+abbrev pub line_or_space : Bool → Items
+line_or_space true = next_line
+line_or_space false = soft_space
+
+-- members on lines of their own are one level deeper
+abbrev pub on_lines : Bool → Items → Items
+on_lines true items = deeper (next_line ⊕ items) ⊕ next_line
+on_lines false items = items
+
+-- the last is left out
+abbrev pub ends_in_hole : Trees → Bool
+ends_in_hole no_trees = false
+ends_in_hole (more t ts) = ends_in_hole ts
+ends_in_hole (hole no_trees) = true
+ends_in_hole (hole ts) = ends_in_hole ts
+
+-- behind a last element that is left out a comma stands, as behind any other that is left out
+abbrev pub comma_if : Bool → Items
+comma_if true = punctuator comma
+comma_if false = nothing
+
 -- ECMA-262, 12.9.2
 abbrev pub truth_word : Bool → List ℕ
 truth_word true = codes "true"
@@ -312,6 +349,8 @@ abbrev mutual
   spell (tree.call a callee arguments) place =
       wrapped (call_wraps place) (spell callee (called (within (call_wraps place) place)) ⊕ brackets Round (spell_list arguments (in_brackets Comma place)))
   spell (tree.spread a argument) place = punctuator ellipsis ⊕ spell argument (in_brackets Comma place)
+  -- up to two elements stand on one line
+  spell (tree.array a elements) place = brackets Square (on_lines (are_more 2 elements) (spell_elements (are_more 2 elements) elements (in_brackets Comma place) ⊕ comma_if (ends_in_hole elements)))
   spell t place = nothing
 
   -- the directives of a body, each with a semicolon of its own
@@ -342,6 +381,17 @@ abbrev mutual
   spell_more no_trees place = nothing
   spell_more (more t ts) place = punctuator comma ⊕ (soft_space ⊕ (spell t place ⊕ spell_more ts place))
   spell_more (hole ts) place = spell_more ts place
+
+  -- members on lines of their own, or on one; nothing stands in the place of one that is left out
+  pub spell_elements : Bool → Trees → Place → Items
+  spell_elements lines no_trees place = nothing
+  spell_elements lines (more t ts) place = spell t place ⊕ spell_more_elements lines ts place
+  spell_elements lines (hole ts) place = spell_more_elements lines ts place
+
+  pub spell_more_elements : Bool → Trees → Place → Items
+  spell_more_elements lines no_trees place = nothing
+  spell_more_elements lines (more t ts) place = punctuator comma ⊕ (line_or_space lines ⊕ (spell t place ⊕ spell_more_elements lines ts place))
+  spell_more_elements lines (hole ts) place = punctuator comma ⊕ (line_or_space lines ⊕ spell_more_elements lines ts place)
 
   -- `else`, behind the semicolon that the consequent may have left
   pub spell_alternate : Maybe → Settings → Items

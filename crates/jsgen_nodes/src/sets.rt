@@ -9,6 +9,7 @@ ghost use Rattle.jsgen_nodes.specs.Parts.{statement_part};
 
 use crate::PrintNode;
 use crate::blocks::{print_block_statement, print_empty_statement, print_if_statement};
+use crate::collections::print_array_expression;
 use crate::expressions::{
     print_binary_expression, print_boolean_literal, print_identifier_reference,
     print_logical_expression, print_null_literal, print_numeric_literal,
@@ -47,6 +48,7 @@ pub fn print_expression<N: PrintNode>(
             node, p, place,
         ),
         Expression::CallExpression(node) => print_call_expression(node, p, place),
+        Expression::ArrayExpression(node) => print_array_expression(node, p, place),
     }
 }
 

@@ -1,5 +1,5 @@
 -- The tree of a form.
-use Rattle.std.proofs.Common.{◌≡◌, ◌+◌, ◌<◌, ◌≤◌, ◌++◌, take, Bool, true, false, length, get_or, arith, ℕ, List, [], ◌∷◌, map, Option, Some, None, refl, sym, ap, ◌∙◌, Vec}
+use Rattle.std.proofs.Common.{◌≡◌, ◌+◌, ◌<◌, ◌≤◌, ◌++◌, take, Bool, true, false, length, get_or, arith, ℕ, List, [], ◌∷◌, map, option_map, Option, Some, None, refl, sym, ap, ◌∙◌, Vec}
 use Rattle.std.proofs.lemmas.Bool.{both_ways}
 use Rattle.std.proofs.lemmas.List.{take_all, take_more, map-append}
 use Rattle.jsgen_syntax.specs.declared.operator.LogicalOperator.{LogicalOperator}
@@ -12,11 +12,11 @@ use Rattle.jsgen_oracle.specs.declared.form.Value.TheVariants as values
 use Rattle.jsgen_tree.specs.declared.types.NodeType.{NodeType}
 use Rattle.jsgen_tree.specs.declared.types.NodeType.TheVariants as types
 use Rattle.jsgen_tree.specs.Inside.{ends_open}
-use Rattle.jsgen_tree.specs.Tree.{Atoms, Tree, node, Slots, no_slots, many, trees, no_trees, more}
+use Rattle.jsgen_tree.specs.Tree.{Atoms, Tree, node, Slots, no_slots, many, trees, holed, no_trees, more, hole}
 use Rattle.jsgen_tree.specs.Places.{bare}
 use Rattle.std.specs.declared.alloc.Global.{Global}
-use Rattle.jsgen_tree.proofs.Layers.{map_after}
-use Rattle.jsgen_oracle.specs.Form.{form_layer, form_plain, forms_plain, before, slots_by, slots_plain, value_plain, is_one, is_list}
+use Rattle.jsgen_tree.proofs.Layers.{map_after, with_hole}
+use Rattle.jsgen_oracle.specs.Form.{form_layer, form_plain, forms_plain, holed_plain, before, slots_by, slots_plain, value_plain, is_one, is_list}
 use Rattle.jsgen_oracle.specs.declared.form.Slot.{Slot}
 use Rattle.jsgen_oracle.specs.declared.form.Slot.TheVariants as slots
 use Rattle.jsgen_oracle.specs.declared.form.Form.{Form}
@@ -28,14 +28,15 @@ slots_after : (g : Slot Form → Slot Tree) → ((s : Slot Form) (rest : Slots) 
 slots_after g e [] = refl
 slots_after g e (s ∷ ss) = e s (slots_by (λ t. t) (map g ss)) ∙ ap (before form_plain s) (slots_after g e ss)
 
-with_slot : (P : Slot Form → Type 0) → ((f : Form) → P (slots.One f)) → P (slots.Maybe None) → ((f : Form) → P (slots.Maybe (Some f))) → ((fs : Vec Form Global) → P (slots.Many fs)) → (s : Slot Form) → P s
-with_slot P of_one of_none of_some of_many (slots.One f) = of_one f
-with_slot P of_one of_none of_some of_many (slots.Maybe None) = of_none
-with_slot P of_one of_none of_some of_many (slots.Maybe (Some f)) = of_some f
-with_slot P of_one of_none of_some of_many (slots.Many fs) = of_many fs
+with_slot : (P : Slot Form → Type 0) → ((f : Form) → P (slots.One f)) → P (slots.Maybe None) → ((f : Form) → P (slots.Maybe (Some f))) → ((fs : Vec Form Global) → P (slots.Many fs)) → ((os : Vec (Option Form) Global) → P (slots.Holed os)) → (s : Slot Form) → P s
+with_slot P of_one of_none of_some of_many of_holed (slots.One f) = of_one f
+with_slot P of_one of_none of_some of_many of_holed (slots.Maybe None) = of_none
+with_slot P of_one of_none of_some of_many of_holed (slots.Maybe (Some f)) = of_some f
+with_slot P of_one of_none of_some of_many of_holed (slots.Many fs) = of_many fs
+with_slot P of_one of_none of_some of_many of_holed (slots.Holed os) = of_holed os
 
 pub layer_plain : (f : Form-F Form) → form_layer (map-Form Form Tree form_plain f) ≡ node f.node_type (bare (map value_plain f.values.items)) (slots_plain f.slots.items)
-layer_plain f = ap (λ s. node f.node_type (bare (map value_plain f.values.items)) s) (slots_after _ (with_slot _ (λ f rest. refl) (λ rest. refl) (λ f rest. refl) (λ fs rest. ap (λ ts. many (trees ts) rest) (map_after _ _ _ (λ f. refl) fs.items))) f.slots.items)
+layer_plain f = ap (λ s. node f.node_type (bare (map value_plain f.values.items)) s) (slots_after _ (with_slot _ (λ f rest. refl) (λ rest. refl) (λ f rest. refl) (λ fs rest. ap (λ ts. many (trees ts) rest) (map_after _ _ _ (λ f. refl) fs.items)) (λ os rest. ap (λ ts. many (holed ts) rest) (map_after _ _ _ (with_hole _ refl (λ f. refl)) os.items))) f.slots.items)
 
 pub of_layer : (f : Form-F Form) → form_plain (roll-Form f) ≡ node f.node_type (bare (map value_plain f.values.items)) (slots_plain f.slots.items)
 unfolding form_plain
@@ -64,6 +65,23 @@ one_more f xs i x fs gs g below is h made so_far =
 pub whole_list : {A : Type 0} (f : A → Tree) (xs : List A) (i : ℕ) (fs : List Form) → length xs ≤ i → map form_plain fs ≡ map (λ x. normal (f x)) (take i xs) → forms_plain fs ≡ normal_trees (trees (map f xs))
 whole_list f xs i fs all e = ap trees (e ∙ ap (map (λ x. normal (f x))) (take_all i xs all)) ∙ sym (normal_list f xs)
 
+-- ---- lists with holes
+
+pub normal_holed : {A : Type 0} (f : A → Tree) (xs : List (Option A)) → normal_trees (holed (map (option_map f) xs)) ≡ holed (map (option_map (λ x. normal (f x))) xs)
+normal_holed f [] = refl
+normal_holed f (None ∷ xs) = ap (λ ts. hole ts) (normal_holed f xs)
+normal_holed f (Some x ∷ xs) = ap (more (normal (f x))) (normal_holed f xs)
+
+pub one_more_or_hole : {A : Type 0} (f : A → Tree) (xs : List (Option A)) (i : ℕ) (x : Option A) (fs gs : List (Option Form)) (g : Option Form) → i < length xs → x ≡ get_or xs i x → option_map form_plain g ≡ option_map (λ y. normal (f y)) x → gs ≡ fs ++ (g ∷ []) → map (option_map form_plain) fs ≡ map (option_map (λ y. normal (f y))) (take i xs) → map (option_map form_plain) gs ≡ map (option_map (λ y. normal (f y))) (take (i + 1) xs)
+one_more_or_hole f xs i x fs gs g below is h made so_far =
+    let each = option_map (λ y. normal (f y)) in
+    let last : map (option_map form_plain) (g ∷ []) ≡ map each (get_or xs i x ∷ []) = ap (λ t. t ∷ []) (h ∙ ap each is) in
+    let front : take (i + 1) xs ≡ take i xs ++ (get_or xs i x ∷ []) = take_more xs i x below in
+    ap (map (option_map form_plain)) made ∙ (map-append (option_map form_plain) fs (g ∷ []) ∙ (ap (λ t. t ++ map (option_map form_plain) (g ∷ [])) so_far ∙ (ap (λ t. map each (take i xs) ++ t) last ∙ (sym (map-append each (take i xs) (get_or xs i x ∷ [])) ∙ sym (ap (map each) front)))))
+
+pub whole_holed_list : {A : Type 0} (f : A → Tree) (xs : List (Option A)) (i : ℕ) (fs : List (Option Form)) → length xs ≤ i → map (option_map form_plain) fs ≡ map (option_map (λ x. normal (f x))) (take i xs) → holed_plain fs ≡ normal_trees (holed (map (option_map f) xs))
+whole_holed_list f xs i fs all e = ap holed (e ∙ ap (map (option_map (λ x. normal (f x)))) (take_all i xs all)) ∙ sym (normal_holed f xs)
+
 pub joined_lists : (fs gs : List Form) → forms_plain (fs ++ gs) ≡ joined (forms_plain fs) (forms_plain gs)
 joined_lists [] gs = refl
 joined_lists (f ∷ fs) gs = ap (more (form_plain f)) (joined_lists fs gs)
@@ -80,6 +98,12 @@ no_list_links o a (slots.Many fs ∷ []) n = absurd (both_ways true n refl)
 no_list_links o a (slots.Many fs ∷ slots.One g ∷ ss) n = refl
 no_list_links o a (slots.Many fs ∷ slots.Maybe g ∷ ss) n = refl
 no_list_links o a (slots.Many fs ∷ slots.Many g ∷ ss) n = refl
+no_list_links o a (slots.Many fs ∷ slots.Holed g ∷ ss) n = refl
+no_list_links o a (slots.Holed os ∷ []) n = absurd (both_ways true n refl)
+no_list_links o a (slots.Holed os ∷ slots.One g ∷ ss) n = refl
+no_list_links o a (slots.Holed os ∷ slots.Maybe g ∷ ss) n = refl
+no_list_links o a (slots.Holed os ∷ slots.Many g ∷ ss) n = refl
+no_list_links o a (slots.Holed os ∷ slots.Holed g ∷ ss) n = refl
 no_list_links o a (slots.One f ∷ ss) n = refl
 no_list_links o a (slots.Maybe f ∷ ss) n = refl
 
@@ -93,12 +117,25 @@ list_and_more a [] s rest = refl
 list_and_more a (f ∷ []) (slots.One g) rest = refl
 list_and_more a (f ∷ []) (slots.Maybe g) rest = refl
 list_and_more a (f ∷ []) (slots.Many g) rest = refl
+list_and_more a (f ∷ []) (slots.Holed g) rest = refl
 list_and_more a (f ∷ g ∷ fs) s rest = refl
+
+holed_and_more : (a : Atoms) (os : List (Option Form)) (s : Slot Form) (rest : Slots) → unbraced (node types.BlockStatement a (many (holed_plain os) (before form_plain s rest))) ≡ node types.BlockStatement a (many (holed_plain os) (before form_plain s rest))
+holed_and_more a [] s rest = refl
+holed_and_more a (None ∷ os) s rest = refl
+holed_and_more a (Some f ∷ []) (slots.One g) rest = refl
+holed_and_more a (Some f ∷ []) (slots.Maybe g) rest = refl
+holed_and_more a (Some f ∷ []) (slots.Many g) rest = refl
+holed_and_more a (Some f ∷ []) (slots.Holed g) rest = refl
+holed_and_more a (Some f ∷ None ∷ os) s rest = refl
+holed_and_more a (Some f ∷ Some g ∷ os) s rest = refl
 
 pub no_list_unbraced : (a : Atoms) (ss : List (Slot Form)) → is_list ss ≡ false → unbraced (node types.BlockStatement a (slots_plain ss)) ≡ node types.BlockStatement a (slots_plain ss)
 no_list_unbraced a [] n = refl
 no_list_unbraced a (slots.Many fs ∷ []) n = absurd (both_ways true n refl)
 no_list_unbraced a (slots.Many fs ∷ s ∷ ss) n = list_and_more a fs.items s (slots_plain ss)
+no_list_unbraced a (slots.Holed os ∷ []) n = absurd (both_ways true n refl)
+no_list_unbraced a (slots.Holed os ∷ s ∷ ss) n = holed_and_more a os.items s (slots_plain ss)
 no_list_unbraced a (slots.One f ∷ ss) n = refl
 no_list_unbraced a (slots.Maybe f ∷ ss) n = refl
 
@@ -134,9 +171,11 @@ if_ends a (slots.One t ∷ slots.One s ∷ slots.Maybe (Some f) ∷ []) = refl
 if_ends a (slots.One t ∷ slots.One s ∷ slots.Maybe None ∷ slots.One u ∷ ss) = refl
 if_ends a (slots.One t ∷ slots.One s ∷ slots.Maybe None ∷ slots.Maybe u ∷ ss) = refl
 if_ends a (slots.One t ∷ slots.One s ∷ slots.Maybe None ∷ slots.Many u ∷ ss) = refl
+if_ends a (slots.One t ∷ slots.One s ∷ slots.Maybe None ∷ slots.Holed u ∷ ss) = refl
 if_ends a (slots.One t ∷ slots.One s ∷ slots.Maybe (Some f) ∷ slots.One u ∷ ss) = refl
 if_ends a (slots.One t ∷ slots.One s ∷ slots.Maybe (Some f) ∷ slots.Maybe u ∷ ss) = refl
 if_ends a (slots.One t ∷ slots.One s ∷ slots.Maybe (Some f) ∷ slots.Many u ∷ ss) = refl
+if_ends a (slots.One t ∷ slots.One s ∷ slots.Maybe (Some f) ∷ slots.Holed u ∷ ss) = refl
 if_ends a ss = refl
 
 other_ends : (t : NodeType) (a : Atoms) (s : Slots) → (t ≡ types.IfStatement → ⊥) → ends_open (node t a s) ≡ false
@@ -188,8 +227,10 @@ third (slots.One t) (slots.One s) z None d e f = rw f refl
 third (slots.One t) (slots.One s) z (Some u) d e f = rw f refl
 third (slots.Maybe p) y z o d e f = absurd (both_ways false refl d)
 third (slots.Many p) y z o d e f = absurd (both_ways false refl d)
+third (slots.Holed p) y z o d e f = absurd (both_ways false refl d)
 third (slots.One t) (slots.Maybe p) z o d e f = absurd (both_ways false refl e)
 third (slots.One t) (slots.Many p) z o d e f = absurd (both_ways false refl e)
+third (slots.One t) (slots.Holed p) z o d e f = absurd (both_ways false refl e)
 
 -- ---- a form that is taken apart, and put together again
 

@@ -1,4 +1,4 @@
--- In each program that is read a name stands behind each dot, and an expression in brackets that need one; and texts where that isn't so.
+-- In each program that is read a name stands behind each dot, and an expression in parentheses that need one; and texts where that isn't so.
 use Rattle.std.proofs.Common.{◌≡◌, ℕ, Bool, true, false, ◌&&◌, List, [], codes, refl, sym, subst}
 use Rattle.std.proofs.lemmas.Bool.{both_ways, and_parts, and_from}
 use lib.Utf8.{encode}
@@ -34,7 +34,6 @@ abbrev is_joined : Tokens → Bool
 is_joined done = true
 is_joined (piece m (Sign dot) ts) = begins_with_name ts && is_joined ts
 is_joined (piece m p ts) = is_joined ts
-is_joined (group m Square inside ts) = starts_well inside && is_joined ts
 is_joined (group m Round inside ts) = may_be_given inside && is_joined ts
 is_joined (group m b inside ts) = is_joined ts
 
@@ -42,7 +41,7 @@ behind : (a b : Tokens) → is_joined a ≡ true → is_joined b ≡ true → is
 behind done b h g = g
 behind (piece m (Sign dot) ts) b h g = let k = and_parts (begins_with_name ts) (is_joined ts) h in and_from _ _ (named_further ts b k.0) (behind ts b k.1 g)
 behind (piece m p ts) b h g = behind ts b h g
-behind (group m Square inside ts) b h g = let k = and_parts (starts_well inside) (is_joined ts) h in and_from _ _ k.0 (behind ts b k.1 g)
+behind (group m Square inside ts) b h g = behind ts b h g
 behind (group m Round inside ts) b h g = let k = and_parts (may_be_given inside) (is_joined ts) h in and_from _ _ k.0 (behind ts b k.1 g)
 behind (group m Brace inside ts) b h g = behind ts b h g
 
@@ -111,8 +110,8 @@ expression_joined (grammar.a_coalesced_head r) = expression_joined r
 expression_joined (grammar.a_bit_or_head r) = expression_joined r
 expression_joined (grammar.a_named_member w m n e v r) = made _ _ (piece m (Sign dot) (piece n (Word _) done)) e (expression_joined r) refl
 expression_joined (grammar.a_named_member_of_call w m n e v r) = made _ _ (piece m (Sign dot) (piece n (Word _) done)) e (expression_joined r) refl
-expression_joined (grammar.a_computed_member {inside = i} m e r s) = made _ _ (group m Square i done) e (expression_joined r) (and_from (starts_well i) true (expression_starts s) refl)
-expression_joined (grammar.a_computed_member_of_call {inside = i} m e r s) = made _ _ (group m Square i done) e (expression_joined r) (and_from (starts_well i) true (expression_starts s) refl)
+expression_joined (grammar.a_computed_member m e r s) = made _ _ (group m Square _ done) e (expression_joined r) refl
+expression_joined (grammar.a_computed_member_of_call m e r s) = made _ _ (group m Square _ done) e (expression_joined r) refl
 expression_joined (grammar.with_arguments {inside = i} m e r s) = made _ _ (group m Round i done) e (expression_joined r) (and_from (may_be_given i) true (arguments_start s) refl)
 expression_joined (grammar.an_operation o m p q e l r) = made _ _ (piece m (operator_piece o) _) e (expression_joined l) (operator_joined o m _ (expression_joined r))
 expression_joined (grammar.a_power m e l r) = made _ _ (piece m (Sign star_star) _) e (expression_joined l) (expression_joined r)
@@ -127,6 +126,7 @@ expression_joined grammar.a_false = refl
 expression_joined grammar.a_number = refl
 expression_joined (grammar.a_string e) = refl
 expression_joined (grammar.in_parentheses {ts = ts} r) = and_from (may_be_given ts) true (given_from ts (expression_starts r)) refl
+expression_joined (grammar.an_array r) = refl
 
 binding_joined : {c : Allowed} {ts : Tokens} {t : Tree} → ReadsBinding c ts t → is_joined ts ≡ true
 binding_joined (grammar.a_bound_name e h) = refl
@@ -178,10 +178,6 @@ refused source ts h f us t g r = both_ways (is_joined ts) f (subst (λ x. is_joi
 pub member_by_string : IsNotRead (codes "a.\"b\";")
 unfolding unicode_ident longer_stands word_value is_reserved is_strict_reserved encode string_value
 member_by_string = refused (codes "a.\"b\";") (word (codes "a") (sign dot (piece false (Quoted Double (codes "b")) (sign semicolon done)))) ([], codes ".\"b\";", refl, refl, refl, refl, refl, ([], codes "\"b\";", refl, refl, refl, refl, refl, ([], codes ";", refl, refl, refl, refl, refl, ([], [], refl, refl, refl, refl, refl, refl)))) refl
-
-pub no_element : IsNotRead (codes "a[];")
-unfolding unicode_ident longer_stands word_value is_reserved is_strict_reserved encode
-no_element = refused (codes "a[];") (word (codes "a") (group false Square done (sign semicolon done))) ([], codes "[];", refl, refl, refl, refl, refl, ([], [], codes ";", refl, refl, refl, refl, ([], [], refl, refl, refl, refl, refl, refl))) refl
 
 pub no_name : IsNotRead (codes "a.;")
 unfolding unicode_ident longer_stands word_value is_reserved is_strict_reserved encode

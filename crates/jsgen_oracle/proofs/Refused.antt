@@ -75,6 +75,7 @@ abbrev goes_on : Tokens → Bool
 goes_on done = true
 goes_on (piece m p ts) = joins p
 goes_on (group m Brace inside ts) = false
+goes_on (group m Square done ts) = false
 goes_on (group m b inside ts) = true
 
 abbrev pub begins_with_name : Tokens → Bool
@@ -95,6 +96,7 @@ starts_well (piece m (Word w) ts) = is_operand_word w && goes_on ts
 starts_well (piece m (Number w) ts) = goes_on ts
 starts_well (piece m (Quoted q w) ts) = goes_on ts
 starts_well (group m Round inside ts) = goes_on ts
+starts_well (group m Square inside ts) = goes_on ts
 starts_well ts = false
 
 abbrev begins_with_const : Tokens → Bool
@@ -122,6 +124,7 @@ goes_further : (ts b : Tokens) → goes_on b ≡ true → goes_on ts ≡ true �
 goes_further done b j h = j
 goes_further (piece n q ts) b j h = h
 goes_further (group n Round inside ts) b j h = refl
+goes_further (group n Square done ts) b j h = absurd (both_ways false refl h)
 goes_further (group n Square inside ts) b j h = refl
 goes_further (group n Brace inside ts) b j h = absurd (both_ways false refl h)
 
@@ -140,7 +143,7 @@ starts_further (piece n (Number w) ts) b j h = goes_further ts b j h
 starts_further (piece n (Quoted q w) ts) b j h = goes_further ts b j h
 starts_further (piece n (Sign r) ts) b j h = absurd (both_ways false refl h)
 starts_further (group n Round inside ts) b j h = goes_further ts b j h
-starts_further (group n Square inside ts) b j h = absurd (both_ways false refl h)
+starts_further (group n Square inside ts) b j h = goes_further ts b j h
 starts_further (group n Brace inside ts) b j h = absurd (both_ways false refl h)
 
 operator_joins : (o : BinaryOperator) → joins (operator_piece o) ≡ true
@@ -171,6 +174,12 @@ operator_joins operators.Exponential = refl
 pub joined : (ts a b : Tokens) → goes_on b ≡ true → ts ≡ a ⧺ b → starts_well a ≡ true → starts_well ts ≡ true
 joined ts a b j e h = subst (λ x. starts_well x ≡ true) (sym e) (starts_further a b j h)
 
+-- a member's brackets aren't empty
+element_goes : (m : Bool) (inside ts : Tokens) → starts_well inside ≡ true → goes_on (group m Square inside ts) ≡ true
+element_goes m done ts h = absurd (both_ways false refl h)
+element_goes m (piece n p us) ts h = refl
+element_goes m (group n b i us) ts h = refl
+
 pub expression_starts : {c : Allowed} {l : Level} {ts : Tokens} {t : Tree} → ReadsExpression c l ts t → starts_well ts ≡ true
 expression_starts (grammar.an_assignment r) = expression_starts r
 expression_starts (grammar.a_conditional r) = expression_starts r
@@ -196,10 +205,10 @@ expression_starts (grammar.a_primary r) = expression_starts r
 expression_starts (grammar.a_called_member r) = expression_starts r
 expression_starts (grammar.a_called_call r) = expression_starts r
 expression_starts (grammar.a_named_member w m n e v r) = joined _ _ (piece m (Sign dot) _) refl e (expression_starts r)
-expression_starts (grammar.a_computed_member m e r s) = joined _ _ (group m Square _ done) refl e (expression_starts r)
+expression_starts (grammar.a_computed_member {inside = i} m e r s) = joined _ _ (group m Square i done) (element_goes m i done (expression_starts s)) e (expression_starts r)
 expression_starts (grammar.with_arguments m e r s) = joined _ _ (group m Round _ done) refl e (expression_starts r)
 expression_starts (grammar.a_named_member_of_call w m n e v r) = joined _ _ (piece m (Sign dot) _) refl e (expression_starts r)
-expression_starts (grammar.a_computed_member_of_call m e r s) = joined _ _ (group m Square _ done) refl e (expression_starts r)
+expression_starts (grammar.a_computed_member_of_call {inside = i} m e r s) = joined _ _ (group m Square i done) (element_goes m i done (expression_starts s)) e (expression_starts r)
 expression_starts (grammar.an_operation o m p q e l r) = joined _ _ (piece m (operator_piece o) _) (operator_joins o) e (expression_starts l)
 expression_starts (grammar.a_power m e l r) = joined _ _ (piece m (Sign star_star) _) refl e (expression_starts l)
 expression_starts (grammar.a_conjunction m e l r) = joined _ _ (piece m (Sign and_and) _) refl e (expression_starts l)
@@ -216,6 +225,7 @@ expression_starts grammar.a_false = refl
 expression_starts grammar.a_number = refl
 expression_starts (grammar.a_string e) = refl
 expression_starts (grammar.in_parentheses r) = refl
+expression_starts (grammar.an_array r) = refl
 
 binding_starts : {c : Allowed} {ts : Tokens} {t : Tree} → ReadsBinding c ts t → begins_with_name ts ≡ true
 binding_starts (grammar.a_bound_name e h) = refl
@@ -237,7 +247,7 @@ operand_begins (piece m (Number w) ts) h = h
 operand_begins (piece m (Quoted q w) ts) h = h
 operand_begins (piece m (Sign r) ts) h = absurd (both_ways false refl h)
 operand_begins (group m Round inside ts) h = h
-operand_begins (group m Square inside ts) h = absurd (both_ways false refl h)
+operand_begins (group m Square inside ts) h = h
 operand_begins (group m Brace inside ts) h = absurd (both_ways false refl h)
 
 declaration_begins : {c : Allowed} {ts : Tokens} {t : Tree} → ReadsDeclaration c ts t → (b : Tokens) → begins_well (ts ⧺ b) ≡ true
@@ -363,6 +373,10 @@ two_names = refused (codes "a b") (word (codes "a") (word (codes "b") done)) ([]
 pub two_numbers : IsNotRead (codes "1 2;")
 unfolding unicode_ident longer_stands longer_number_stands spells_number word_value
 two_numbers = refused (codes "1 2;") (piece false (Number (codes "1")) (piece false (Number (codes "2")) (sign semicolon done))) ([], codes " 2;", refl, refl, refl, refl, refl, (codes " ", codes ";", refl, refl, refl, refl, refl, ([], [], refl, refl, refl, refl, refl, refl))) refl
+
+pub no_element : IsNotRead (codes "a[];")
+unfolding unicode_ident longer_stands word_value is_reserved is_strict_reserved encode
+no_element = refused (codes "a[];") (word (codes "a") (group false Square done (sign semicolon done))) ([], codes "[];", refl, refl, refl, refl, refl, ([], [], codes ";", refl, refl, refl, refl, ([], [], refl, refl, refl, refl, refl, refl))) refl
 
 pub no_right_operand : IsNotRead (codes "a +")
 unfolding unicode_ident longer_stands word_value is_reserved is_strict_reserved encode

@@ -3,7 +3,7 @@ use Rattle.std.specs.Prelude.{Bool, true, false, List, [], ◌∷◌, map, decim
 use Rattle.jsgen_syntax.specs.Units.{js_units}
 use Rattle.jsgen_tree.specs.Atom.{Atom, no_value, text, units, flag, numeric_kind, declaration_kind, binary_operator, logical_operator}
 use Rattle.jsgen_tree.specs.Number.{Raw}
-use Rattle.jsgen_tree.specs.Tree.{Tree, node, Slots, no_slots, one, maybe, many, Maybe, optional, Trees, trees}
+use Rattle.jsgen_tree.specs.Tree.{Tree, node, Slots, no_slots, one, maybe, many, Maybe, optional, Trees, trees, holed}
 use Rattle.jsgen_tree.specs.Characters.{characters}
 use Rattle.jsgen_tree.specs.Places.{bare}
 use Rattle.jsgen_oracle.specs.declared.form.Value.{Value}
@@ -30,6 +30,7 @@ abbrev pub before : {F : Type 0} → (F → Tree) → Slot F → Slots → Slots
 before plain (slots.One f) rest = one (plain f) rest
 before plain (slots.Maybe o) rest = maybe (optional (option_map plain o)) rest
 before plain (slots.Many fs) rest = many (trees (map plain fs.items)) rest
+before plain (slots.Holed os) rest = many (holed (map (option_map plain) os.items)) rest
 
 abbrev pub slots_by : {F : Type 0} → (F → Tree) → List (Slot F) → Slots
 slots_by plain [] = no_slots
@@ -45,6 +46,9 @@ form_plain = fold-Form Tree form_layer
 abbrev pub forms_plain : List Form → Trees
 forms_plain fs = trees (map form_plain fs)
 
+abbrev pub holed_plain : List (Option Form) → Trees
+holed_plain os = holed (map (option_map form_plain) os)
+
 abbrev pub optional_plain : Option Form → Maybe
 optional_plain o = optional (option_map form_plain o)
 
@@ -58,4 +62,5 @@ is_one s = false
 -- whether the slots are one list
 abbrev pub is_list : {F : Type 0} → List (Slot F) → Bool
 is_list (slots.Many fs ∷ []) = true
+is_list (slots.Holed os ∷ []) = true
 is_list ss = false

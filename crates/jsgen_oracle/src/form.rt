@@ -35,4 +35,6 @@ pub enum Slot<F> {
     One(F),
     Maybe(Option<F>),
     Many(Vec<F>),
+    /// A list in which some are left out.
+    Holed(Vec<Option<F>>),
 }

@@ -1,10 +1,10 @@
 // The normal form of each type of node.
 ghost use Rattle.std.specs.Prelude.{◌≡◌, ◌∷◌, [], map, option_map, IfOk};
-ghost use Rattle.jsgen_tree.specs.Tree.{trees, optional};
-ghost use Rattle.jsgen_tree.specs.Rows.{program_row, directive_row, block_statement_row, if_statement_row, variable_declaration_row, variable_declarator_row, numeric_literal_row, string_literal_row, logical_expression_row, identifier_name_row, static_member_expression_row, call_expression_row, spread_element_row, expression_plain, statement_plain, declaration_plain, binding_pattern_plain, in_expression, in_statement, in_argument};
+ghost use Rattle.jsgen_tree.specs.Tree.{trees, holed, optional};
+ghost use Rattle.jsgen_tree.specs.Rows.{program_row, directive_row, block_statement_row, if_statement_row, variable_declaration_row, variable_declarator_row, numeric_literal_row, string_literal_row, logical_expression_row, identifier_name_row, static_member_expression_row, call_expression_row, spread_element_row, array_expression_row, expression_plain, statement_plain, declaration_plain, binding_pattern_plain, in_expression, in_statement, in_argument, in_array_expression_element};
 ghost use Rattle.jsgen_tree.specs.Plain.{node_plain};
 ghost use Rattle.jsgen_model.specs.Normal.{normal, normal_maybe, normal_trees, links, unbraced};
-ghost use Rattle.jsgen_oracle.specs.Form.{form_plain, forms_plain, optional_plain};
+ghost use Rattle.jsgen_oracle.specs.Form.{form_plain, forms_plain, holed_plain, optional_plain};
 ghost use Rattle.jsgen_oracle.specs.declared.form.Value.TheVariants.{Nothing};
 
 use crate::braces::unbraced;
@@ -13,14 +13,15 @@ use crate::characters::characters_of;
 use crate::directive::directive_units;
 use crate::form::{Form, Slot, Value};
 use crate::shape::{
-    identifier, leaf, list, literal, one_value, pair, row_of_two, single, two_values,
+    holed_list, identifier, leaf, list, literal, one_value, pair, row_of_two, single, two_values,
 };
 use jsgen_syntax::{JsStr, LogicalOperator, Memory};
 use jsgen_tree::{
-    Argument, BindingPattern, BlockStatement, CallExpression, Declaration, Directive, Expression,
-    ExpressionNode, IdentifierName, IfStatement, LogicalExpression, Node, NodeType, NumericLiteral,
-    NumericValue, Program, SpreadElement, Statement, StatementNode, StaticMemberExpression,
-    StringLiteral, VariableDeclaration, VariableDeclarator,
+    Argument, ArrayExpression, ArrayExpressionElement, BindingPattern, BlockStatement,
+    CallExpression, Declaration, Directive, Expression, ExpressionNode, IdentifierName,
+    IfStatement, LogicalExpression, Node, NodeType, NumericLiteral, NumericValue, Program,
+    SpreadElement, Statement, StatementNode, StaticMemberExpression, StringLiteral,
+    VariableDeclaration, VariableDeclarator,
 };
 use std::alloc::Global;
 
@@ -317,6 +318,53 @@ fn spread_element_form<N: NormalNode>(
     single(alloc, NodeType::SpreadElement, node.argument.get())
 }
 
+fn array_expression_form<N: NormalNode>(
+    alloc: Global,
+    node: &ArrayExpression<N>,
+) -> Result<Form, Memory>
+    ensures { IfOk result (λ f. form_plain f ≡ normal (array_expression_row N.plain node.now)) }
+{
+    let elements = element_forms(alloc, &node.elements)?;
+    holed_list(alloc, NodeType::ArrayExpression, elements)
+}
+
+fn element_forms<N: NormalNode>(
+    alloc: Global,
+    elements: &[Option<ArrayExpressionElement<N>>],
+) -> Result<Vec<Option<Form>>, Memory>
+    ensures { IfOk result (λ fs. holed_plain fs.items ≡ normal_trees (holed (map (option_map (in_array_expression_element N.plain)) elements.now))) }
+{
+    let mut forms = Vec::new(alloc);
+    for element in elements {
+        forms.push(element_or_hole_form(alloc, element)?)?;
+    }
+    Ok(forms)
+}
+
+fn element_or_hole_form<N: NormalNode>(
+    alloc: Global,
+    element: &Option<ArrayExpressionElement<N>>,
+) -> Result<Option<Form>, Memory>
+    ensures { IfOk result (λ o. option_map form_plain o ≡ option_map (λ e. normal (in_array_expression_element N.plain e)) element.now) }
+{
+    match element {
+        Some(element) => Ok(Some(element_form(alloc, element)?)),
+        None => Ok(None),
+    }
+}
+
+fn element_form<N: NormalNode>(
+    alloc: Global,
+    element: &ArrayExpressionElement<N>,
+) -> Result<Form, Memory>
+    ensures { IfOk result (λ f. form_plain f ≡ normal (in_array_expression_element N.plain element.now)) }
+{
+    match element {
+        ArrayExpressionElement::SpreadElement(node) => spread_element_form(alloc, node),
+        ArrayExpressionElement::Expression(expression) => expression.get().normal_form(alloc),
+    }
+}
+
 // ---- sets; a row that the normal form only copies is an arm
 
 fn expression_form<N: NormalNode>(alloc: Global, node: &Expression<N>) -> Result<Form, Memory>
@@ -355,6 +403,7 @@ fn expression_form<N: NormalNode>(alloc: Global, node: &Expression<N>) -> Result
             )
         }
         Expression::CallExpression(node) => call_expression_form(alloc, node),
+        Expression::ArrayExpression(node) => array_expression_form(alloc, node),
     }
 }
 

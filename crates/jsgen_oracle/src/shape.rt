@@ -5,7 +5,7 @@ ghost use Rattle.jsgen_tree.specs.Characters.{characters};
 ghost use Rattle.jsgen_tree.specs.Tree.{node, no_slots, one, many};
 ghost use Rattle.jsgen_tree.specs.Places.{bare};
 ghost use Rattle.jsgen_model.specs.Normal.{normal};
-ghost use Rattle.jsgen_oracle.specs.Form.{form_plain, forms_plain, value_plain, before, is_list};
+ghost use Rattle.jsgen_oracle.specs.Form.{form_plain, forms_plain, holed_plain, value_plain, before, is_list};
 ghost use Rattle.jsgen_oracle.specs.Only.{slots_again, is_told_list};
 
 use crate::form::{Form, Slot, Value};
@@ -140,6 +140,17 @@ pub(crate) fn list(
     row(alloc, node_type, values, Slot::Many(items))
 }
 
+/// A row of one list in which some are left out.
+pub(crate) fn holed_list(
+    alloc: Global,
+    node_type: NodeType,
+    items: Vec<Option<Form>>,
+) -> Result<Form, Memory>
+    ensures { IfOk result (λ f. form_plain f ≡ node node_type (bare []) (many (holed_plain items.items) no_slots)) }
+{
+    row(alloc, node_type, Vec::new(alloc), Slot::Holed(items))
+}
+
 // ---- nodes taken apart
 
 /// What slots hold: one list, or else themselves.
@@ -159,6 +170,8 @@ pub(crate) fn only_list(alloc: Global, mut slots: Vec<Slot<Form>>) -> Result<Onl
     }
     match slots.remove(0) {
         Slot::Many(items) => Ok(Only::List(items)),
+        // no node whose slots are taken apart has such a list
+        Slot::Holed(_) => Err(Memory),
         slot => Ok(Only::Other(vec![in alloc; slot]?)),
     }
 }

@@ -87,6 +87,7 @@ asked (family.in_parentheses {a} {t} v) =
 asked (family.a_named_member m v h) = no_string refl refl refl refl (λ place. refl)
 asked (family.a_computed_member m v w) = no_string refl refl refl refl (λ place. refl)
 asked (family.a_call m v w) = no_string refl refl refl refl (λ place. refl)
+asked (family.an_array v) = no_string refl refl refl refl (λ place. refl)
 asked (family.an_operation {a} {l = x} {r = y} v w) = no_string refl refl refl refl
     (λ place. ap (λ b. operation b (operator_item (binary_expression_operator a)) (spell x (left_of (left_level (binary_expression_operator a) x) (within b place))) (spell y (behind (right_level (binary_expression_operator a)) (within b place)))) (same_binary (binary_expression_operator a) place))
 asked (family.a_logical_operation {a} {l = x} {r = y} v w) = no_string refl refl refl refl

@@ -112,6 +112,7 @@ opens grammar.a_false = tt
 opens grammar.a_number = tt
 opens (grammar.a_string e) = refl
 opens (grammar.in_parentheses r) = tt
+opens (grammar.an_array r) = tt
 
 -- whatever follows
 abbrev pub Apart : Tokens → Type 0

@@ -26,7 +26,7 @@ use Rattle.jsgen_token_laws.proofs.Characters.{letters_spelled}
 use Rattle.jsgen_token_laws.proofs.Last.{After, line_of}
 use Rattle.jsgen_token_laws.proofs.Steps.{wrote_word, wrote_name, wrote_number, wrote_quoted}
 use Rattle.jsgen_reading_laws.proofs.Levels.{level_of, under, from_primary}
-use Rattle.jsgen_reading_laws.proofs.Families.{IsExpression, IsElement, AreArguments}
+use Rattle.jsgen_reading_laws.proofs.Families.{IsExpression, IsElement, AreArguments, AreElements}
 use Rattle.jsgen_reading_laws.proofs.Families as family
 use Rattle.jsgen_reading_laws.proofs.Asked.{asked}
 use Rattle.jsgen_reading_laws.proofs.Names.{free_spelled, free_starts_none}
@@ -35,6 +35,7 @@ use Rattle.jsgen_reading_laws.proofs.Good.{Good, Printed, may_begin}
 use Rattle.jsgen_reading_laws.proofs.Operations.{good_operation}
 use Rattle.jsgen_reading_laws.proofs.Chains.{good_logical_operation}
 use Rattle.jsgen_reading_laws.proofs.Links.{ElementOf, ArgumentsAt, MoreArgumentsAt, good_named_member, good_computed_member, good_call, good_element, good_spread, no_arguments, first_of_arguments, no_more_arguments, one_more_argument}
+use Rattle.jsgen_reading_laws.proofs.Collections.{ElementsOf, no_elements, first_of_elements, left_out_of_elements, good_array}
 
 -- ---- names and numbers
 
@@ -209,6 +210,7 @@ mutual
   printed_expression {c} (family.a_named_member {a} {b} {o} m v h) = good_named_member c a b o m h (printed_expression v)
   printed_expression {c} (family.a_computed_member {a} {o} {e} m v w) = good_computed_member c a o e m (printed_expression v) (printed_expression w)
   printed_expression {c} (family.a_call {a} {f} {es} m v w) = good_call c a f es m (printed_expression v) (printed_arguments w)
+  printed_expression {c} (family.an_array {a} {es} v) = good_array c a es (printed_elements v)
 
   printed_arguments : {c : Allowed} {es : Trees} → AreArguments c es → ArgumentsAt c es
   printed_arguments {c} family.no_argument = no_arguments c
@@ -217,6 +219,11 @@ mutual
   more_arguments : {c : Allowed} {es : Trees} → AreArguments c es → MoreArgumentsAt c es
   more_arguments {c} family.no_argument = no_more_arguments c
   more_arguments {c} (family.first_argument {e} {es} v w) = one_more_argument c e es (printed_element v) (more_arguments w)
+
+  printed_elements : {c : Allowed} {es : Trees} → AreElements c es → ElementsOf c es
+  printed_elements {c} family.no_element = no_elements c
+  printed_elements {c} (family.first_element {e} {es} v w) = first_of_elements c e es (printed_element v) (printed_elements w)
+  printed_elements {c} (family.an_elision {es} v) = left_out_of_elements c es (printed_elements v)
 
   pub printed_element : {c : Allowed} {e : Tree} → IsElement c e → ElementOf c e
   printed_element {c} (family.an_element {e} v) = good_element c e (printed_expression v)

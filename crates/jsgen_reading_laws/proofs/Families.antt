@@ -36,10 +36,17 @@ mutual
     a_call : {c : Allowed} {a : Atoms} {f : Tree} {es : Trees} → call_expression_optional a ≡ atoms.no_value → IsExpression c f → AreArguments c es → IsExpression c (tree.call a f es)
     an_operation : {c : Allowed} {a : Atoms} {l r : Tree} → IsExpression c l → IsExpression c r → IsExpression c (tree.binary a l r)
     a_logical_operation : {c : Allowed} {a : Atoms} {l r : Tree} → IsExpression c l → IsExpression c r → IsExpression c (tree.logical a l r)
+    an_array : {c : Allowed} {a : Atoms} {es : Trees} → AreElements c es → IsExpression c (tree.array a es)
 
   pub data AreArguments : Allowed → Trees → Type 0 where
     no_argument : {c : Allowed} → AreArguments c no_trees
     first_argument : {c : Allowed} {e : Tree} {es : Trees} → IsElement c e → AreArguments c es → AreArguments c (more e es)
+
+  -- elements of an array, of which some are left out
+  pub data AreElements : Allowed → Trees → Type 0 where
+    no_element : {c : Allowed} → AreElements c no_trees
+    first_element : {c : Allowed} {e : Tree} {es : Trees} → IsElement c e → AreElements c es → AreElements c (more e es)
+    an_elision : {c : Allowed} {es : Trees} → AreElements c es → AreElements c (hole es)
 
   -- an argument, or an element of an array
   pub data IsElement : Allowed → Tree → Type 0 where
@@ -178,6 +185,9 @@ mutual
       let j = none_both (in_trees around (place_of sets.Argument around ∷ []) es) [] k.2 in
       let h = and_parts (is_absent (call_expression_optional a)) (has_no_hole es) p.0 in
       a_call (holds_nothing (call_expression_optional a) h.0) (expression_valid c around f p.1.0 k.0 k.1) (arguments_valid c around es h.1 p.1.1.0 j.0)
+  expression_valid c around (tree.array a es) p s e =
+      let j = none_both (in_trees around (place_of sets.ArrayExpressionElement around ∷ []) es) [] (parts (span_faults a.span) [] _ e).1 in
+      an_array (elements_valid c around es p.1.0 j.0)
   expression_valid c around t p s e = absurd (search no_truth)
 
   arguments_valid : (c : Allowed) (around : Surroundings) (es : Trees) → has_no_hole es ≡ true → EverywhereInTrees is_plain_row es → in_trees around (place_of sets.Argument around ∷ []) es ≡ [] → AreArguments c es
@@ -188,6 +198,15 @@ mutual
       first_argument (a_spread (expression_valid c around t p.0.1.0 j.0 j.1)) (arguments_valid c around ts n p.1 k.2)
   arguments_valid c around (more t ts) n p e = let k = placed around sets.Argument t _ e in first_argument (an_element (expression_valid c around t p.0 (expression_type t p.0.0 k.0 refl) k.1)) (arguments_valid c around ts n p.1 k.2)
   arguments_valid c around (hole ts) n p e = absurd (no_truth n)
+
+  elements_valid : (c : Allowed) (around : Surroundings) (es : Trees) → EverywhereInTrees is_plain_row es → in_trees around (place_of sets.ArrayExpressionElement around ∷ []) es ≡ [] → AreElements c es
+  elements_valid c around no_trees p e = no_element
+  elements_valid c around (more (tree.spread a t) ts) p e =
+      let k = placed around sets.ArrayExpressionElement (tree.spread a t) _ e in
+      let j = placed around sets.Expression t [] (parts (span_faults a.span) [] _ k.1).1 in
+      first_element (a_spread (expression_valid c around t p.0.1.0 j.0 j.1)) (elements_valid c around ts p.1 k.2)
+  elements_valid c around (more t ts) p e = let k = placed around sets.ArrayExpressionElement t _ e in first_element (an_element (expression_valid c around t p.0 (expression_type t p.0.0 k.0 refl) k.1)) (elements_valid c around ts p.1 k.2)
+  elements_valid c around (hole ts) p e = an_elision (elements_valid c around ts p e)
 
 -- ---- the rows of declarations
 

@@ -4,10 +4,12 @@ pub mod Numbers
 pub mod Names
 pub mod Good
 pub mod Lists
+pub mod Elements
 pub mod Asked
 pub mod Operations
 pub mod Chains
 pub mod Links
+pub mod Collections
 pub mod Expressions
 pub mod Ends
 pub mod Stands

@@ -83,6 +83,7 @@ mutual
   normal_again (tree.static_member a object property) = let e = normal_again object in let f = normal_again property in λ i. tree.static_member (bare (static_member_expression_optional a ∷ [])) (e i) (f i)
   normal_again (tree.computed_member a object expression) = let e = normal_again object in let f = normal_again expression in λ i. tree.computed_member (bare (computed_member_expression_optional a ∷ [])) (e i) (f i)
   normal_again (tree.call a callee arguments) = let e = normal_again callee in let f = normal_trees_again arguments in λ i. tree.call (bare (call_expression_optional a ∷ no_value ∷ [])) (e i) (f i)
+  normal_again (tree.array a elements) = ap (λ ts. tree.array (nothing_of 0) ts) (normal_trees_again elements)
   normal_again (tree.spread a argument) = ap (λ e. tree.spread (nothing_of 0) e) (normal_again argument)
   normal_again (node type a slots) = ap (λ s. node type (bare a.values) s) (normal_slots_again slots)
 

@@ -7,7 +7,7 @@ use Rattle.jsgen_syntax.specs.Name.{spells_name, goes_in_word}
 use Rattle.jsgen_syntax.specs.Strings.{quote_char, string_value}
 use Rattle.jsgen_syntax.specs.Escapes.{name_text, has_escapes}
 use Rattle.jsgen_syntax.specs.declared.quote.Quote.{Quote}
-use Rattle.jsgen_model.specs.Punctuator.{Punctuator, Bracket, punctuator_text, plus, minus, dot, ellipsis, semicolon, Round, opening, closing}
+use Rattle.jsgen_model.specs.Punctuator.{Punctuator, Bracket, punctuator_text, plus, minus, dot, ellipsis, comma, semicolon, Round, opening, closing}
 use Rattle.jsgen_model.specs.Tokens.{longer_stands, Tokens, done, piece, group, Word, Number, Quoted, Sign, is_spelled, is_blank, is_line_terminator, has_line_end, spells_whole}
 use Rattle.jsgen_model.specs.Items.{member_dot, word, name, number, punctuator, operator, soft_space, soft_line, hard_space, body_space, indentation, due_semicolon, statement_begins}
 use Rattle.jsgen_model.specs.Layout.{Pen, Ending, other_end, operator_end, layout, written, written_if, text_if, ending_unless, is_apart, ends_in_escapes, name_ending, space_if, joins, dot_joins, indented, indent_or_space, at_indentation, end_statement}
@@ -94,6 +94,10 @@ wrote_operator s p l i o k =
 -- a semicolon may stand behind anything
 pub wrote_semicolon : (p q : Pen) (l : Last) → q.code ≡ p.code ++ codes ";" → q.style ≡ p.style → Knows p l → Writes p l q (After (Sign semicolon)) (piece (line_of l) (Sign semicolon) done)
 wrote_semicolon p q l e f k = wrote_piece p q l [] (Sign semicolon) (line_of l) refl (space_mark false (line_of l)) refl (λ r. clear_apart l 59 r refl refl refl) e (record { indent = subst (λ s. is_indent s.indent ≡ true) (sym f) k.indent; ending = tt })
+
+-- a comma may stand behind anything
+pub wrote_comma : (p : Pen) (l : Last) → Knows p l → Writes p l (layout (punctuator comma) p) (After (Sign comma)) (piece (line_of l) (Sign comma) done)
+wrote_comma p l k = wrote_piece p (layout (punctuator comma) p) l [] (Sign comma) (line_of l) refl (space_mark false (line_of l)) refl (λ r. clear_apart l 44 r refl refl refl) refl (record { indent = k.indent; ending = tt })
 
 -- three dots, where a member of a list begins
 pub wrote_dots : (p : Pen) (l : Last) → Begun l → Knows p l → Writes p l (layout (punctuator ellipsis) p) (After (Sign ellipsis)) (piece (line_of l) (Sign ellipsis) done)

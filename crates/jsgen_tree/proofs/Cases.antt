@@ -3,18 +3,24 @@
 use Rattle.std.specs.declared.alloc.Global.{Global}
 use Rattle.std.proofs.Common.{Box, None, Some}
 use Rattle.jsgen_tree.specs.declared.sets.Argument.{Argument}
+use Rattle.jsgen_tree.specs.declared.sets.ArrayExpressionElement.{ArrayExpressionElement}
 use Rattle.jsgen_tree.specs.declared.nodes.ExpressionNode.{ExpressionNode}
 use Rattle.jsgen_tree.specs.declared.nodes.StatementNode.{StatementNode}
 use Rattle.jsgen_tree.specs.declared.statements.VariableDeclarator.{VariableDeclarator}
 use Rattle.jsgen_tree.specs.declared.statements.IfStatement.{IfStatement}
 use Rattle.jsgen_tree.specs.declared.collections.SpreadElement.{SpreadElement}
 use Rattle.jsgen_tree.specs.declared.sets.Argument.TheVariants as arguments
+use Rattle.jsgen_tree.specs.declared.sets.ArrayExpressionElement.TheVariants as array_expression_elements
 
 -- ---- a member of a set that doesn't nest, by its type
 
 pub with_argument : {N : Type 0} (P : Argument N → Type 0) → ((b : Box (SpreadElement N) Global) → P (arguments.SpreadElement b)) → ((b : Box (ExpressionNode N) Global) → P (arguments.Expression b)) → (n : Argument N) → P n
 with_argument P of_spread_element of_expression (arguments.SpreadElement b) = of_spread_element b
 with_argument P of_spread_element of_expression (arguments.Expression b) = of_expression b
+
+pub with_array_expression_element : {N : Type 0} (P : ArrayExpressionElement N → Type 0) → ((b : Box (SpreadElement N) Global) → P (array_expression_elements.SpreadElement b)) → ((b : Box (ExpressionNode N) Global) → P (array_expression_elements.Expression b)) → (n : ArrayExpressionElement N) → P n
+with_array_expression_element P of_spread_element of_expression (array_expression_elements.SpreadElement b) = of_spread_element b
+with_array_expression_element P of_spread_element of_expression (array_expression_elements.Expression b) = of_expression b
 
 -- ---- a struct with an optional child, and without it
 

@@ -1,12 +1,12 @@
 -- Generated from tools/nodes/table.txt; edit that and run tools/nodes/generate.
 -- The plain data of the recursive type is, set by set, that of what it holds.
 use Rattle.std.proofs.Common.{◌≡◌, refl, sym, ap, ◌∙◌}
-use Rattle.jsgen_tree.proofs.Cases.{with_argument, variable_declarator_by_init, if_statement_by_alternate}
+use Rattle.jsgen_tree.proofs.Cases.{with_argument, with_array_expression_element, variable_declarator_by_init, if_statement_by_alternate}
 use Rattle.jsgen_tree.specs.Plain.{node_plain, layer}
 use Rattle.jsgen_tree.specs.Spans.{expression_span, declaration_span, statement_span, binding_pattern_span}
-use Rattle.jsgen_tree.specs.Tree.{Tree, trees, span_of}
+use Rattle.jsgen_tree.specs.Tree.{Tree, trees, holed, span_of}
 use Rattle.jsgen_tree.specs.Rows.{expression_plain, declaration_plain, statement_plain, binding_pattern_plain}
-use Rattle.jsgen_tree.proofs.Layers.{map_after, same_slots, same_one, same_many}
+use Rattle.jsgen_tree.proofs.Layers.{map_after, with_hole, same_slots, same_one, same_many}
 use Rattle.jsgen_tree.specs.declared.nodes.Node.{Node, out-Node, map-Node, fold_out-Node}
 use Rattle.jsgen_tree.specs.declared.nodes.Node.TheVariants.{outs-Expression, outs-Declaration, outs-Statement, outs-BindingPattern}
 use Rattle.jsgen_tree.specs.declared.sets.Expression.{Expression}
@@ -39,6 +39,7 @@ natural_expression h (expressions.ParenthesizedExpression b) = refl
 natural_expression h (expressions.StaticMemberExpression b) = refl
 natural_expression h (expressions.ComputedMemberExpression b) = refl
 natural_expression h (expressions.CallExpression b) = same_slots (same_one refl (same_many (ap trees (map_after _ _ _ (with_argument _ (λ b. refl) (λ b. refl)) b.value.arguments.items)) refl))
+natural_expression h (expressions.ArrayExpression b) = same_slots (same_many (ap holed (map_after _ _ _ (with_hole _ refl (with_array_expression_element _ (λ b. refl) (λ b. refl))) b.value.elements.items)) refl)
 
 natural_declaration : (h : Node → Tree) (n : Declaration Node) → layer (map-Node Node Tree h (opened.Declaration n)) ≡ declaration_plain h n
 natural_declaration h (declarations.VariableDeclaration b) = same_slots (same_many (ap trees (map_after _ _ _ (variable_declarator_by_init _ (λ n. refl) (λ n_init. (λ n. refl))) b.value.declarations.items)) refl)
@@ -77,6 +78,7 @@ of_expression h (expressions.ParenthesizedExpression b) = refl
 of_expression h (expressions.StaticMemberExpression b) = refl
 of_expression h (expressions.ComputedMemberExpression b) = refl
 of_expression h (expressions.CallExpression b) = refl
+of_expression h (expressions.ArrayExpression b) = refl
 
 pub expression_spans : (n : Expression Node) → expression_span n ≡ span_of (node_plain (nodes.Expression n))
 expression_spans n = of_expression node_plain n ∙ ap span_of (sym (plain_expression n))

@@ -101,6 +101,9 @@ call_expression_fields = needs (codes "callee") (sorts.child sets.Expression) �
 abbrev pub spread_element_fields : List Field
 spread_element_fields = needs (codes "argument") (sorts.child sets.Expression) ∷ []
 
+abbrev pub array_expression_fields : List Field
+array_expression_fields = may_have (codes "elements") (sorts.children_or_holes sets.ArrayExpressionElement) ∷ []
+
 abbrev pub fields : NodeType → List Field
 fields types.Program = program_fields
 fields types.Directive = directive_fields
@@ -125,3 +128,4 @@ fields types.StaticMemberExpression = static_member_expression_fields
 fields types.ComputedMemberExpression = computed_member_expression_fields
 fields types.CallExpression = call_expression_fields
 fields types.SpreadElement = spread_element_fields
+fields types.ArrayExpression = array_expression_fields

@@ -71,3 +71,6 @@ call a callee arguments = node types.CallExpression a (one callee (many argument
 
 pattern abbrev pub spread : Atoms → Tree → Tree
 spread a argument = node types.SpreadElement a (one argument no_slots)
+
+pattern abbrev pub array : Atoms → Trees → Tree
+array a elements = node types.ArrayExpression a (many elements no_slots)

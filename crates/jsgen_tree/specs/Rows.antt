@@ -3,9 +3,9 @@
 use Rattle.std.specs.Prelude.{[], ◌∷◌, map, option_map}
 use Rattle.jsgen_syntax.specs.Units.{js_units}
 use Rattle.jsgen_tree.specs.Characters.{characters, numeric_values}
-use Rattle.jsgen_tree.specs.Tree.{Tree, optional, trees}
+use Rattle.jsgen_tree.specs.Tree.{Tree, optional, trees, holed}
 use Rattle.jsgen_tree.specs.Atom.{no_value, text, units, flag, source_kind, declaration_kind, binary_operator, logical_operator}
-use Rattle.jsgen_tree.specs.Nodes.{program, directive, variable_declaration, variable_declarator, binding_identifier, expression_statement, block, if_statement, empty_statement, identifier_reference, this_expression, null_literal, boolean_literal, numeric_literal, string_literal, parenthesized, binary, logical, identifier_name, static_member, computed_member, call, spread}
+use Rattle.jsgen_tree.specs.Nodes.{program, directive, variable_declaration, variable_declarator, binding_identifier, expression_statement, block, if_statement, empty_statement, identifier_reference, this_expression, null_literal, boolean_literal, numeric_literal, string_literal, parenthesized, binary, logical, identifier_name, static_member, computed_member, call, spread, array}
 use Rattle.jsgen_tree.specs.declared.nodes.ExpressionNode.{ExpressionNode}
 use Rattle.jsgen_tree.specs.declared.nodes.DeclarationNode.{DeclarationNode}
 use Rattle.jsgen_tree.specs.declared.nodes.StatementNode.{StatementNode}
@@ -33,13 +33,16 @@ use Rattle.jsgen_tree.specs.declared.expressions.StaticMemberExpression.{StaticM
 use Rattle.jsgen_tree.specs.declared.expressions.ComputedMemberExpression.{ComputedMemberExpression}
 use Rattle.jsgen_tree.specs.declared.expressions.CallExpression.{CallExpression}
 use Rattle.jsgen_tree.specs.declared.collections.SpreadElement.{SpreadElement}
+use Rattle.jsgen_tree.specs.declared.collections.ArrayExpression.{ArrayExpression}
 use Rattle.jsgen_tree.specs.declared.sets.Expression.{Expression}
 use Rattle.jsgen_tree.specs.declared.sets.Argument.{Argument}
+use Rattle.jsgen_tree.specs.declared.sets.ArrayExpressionElement.{ArrayExpressionElement}
 use Rattle.jsgen_tree.specs.declared.sets.Declaration.{Declaration}
 use Rattle.jsgen_tree.specs.declared.sets.Statement.{Statement}
 use Rattle.jsgen_tree.specs.declared.sets.BindingPattern.{BindingPattern}
 use Rattle.jsgen_tree.specs.declared.sets.Expression.TheVariants as expression
 use Rattle.jsgen_tree.specs.declared.sets.Argument.TheVariants as argument
+use Rattle.jsgen_tree.specs.declared.sets.ArrayExpressionElement.TheVariants as array_expression_element
 use Rattle.jsgen_tree.specs.declared.sets.Declaration.TheVariants as declaration
 use Rattle.jsgen_tree.specs.declared.sets.Statement.TheVariants as statement
 use Rattle.jsgen_tree.specs.declared.sets.BindingPattern.TheVariants as binding_pattern
@@ -133,6 +136,13 @@ in_argument plain (argument.Expression b) = in_expression plain b.value
 abbrev pub call_expression_row : {N : Type 0} → (N → Tree) → CallExpression N → Tree
 call_expression_row plain n = call (record { span = n.span; values = no_value ∷ flag n.pure ∷ [] }) (in_expression plain n.callee) (trees (map (in_argument plain) n.arguments.items))
 
+abbrev pub in_array_expression_element : {N : Type 0} → (N → Tree) → ArrayExpressionElement N → Tree
+in_array_expression_element plain (array_expression_element.SpreadElement b) = spread_element_row plain b.value
+in_array_expression_element plain (array_expression_element.Expression b) = in_expression plain b.value
+
+abbrev pub array_expression_row : {N : Type 0} → (N → Tree) → ArrayExpression N → Tree
+array_expression_row plain n = array (record { span = n.span; values = [] }) (holed (map (option_map (in_array_expression_element plain)) n.elements.items))
+
 -- ---- sets that nest
 
 abbrev pub expression_plain : {N : Type 0} → (N → Tree) → Expression N → Tree
@@ -148,6 +158,7 @@ expression_plain plain (expression.ParenthesizedExpression b) = parenthesized_ex
 expression_plain plain (expression.StaticMemberExpression b) = static_member_expression_row plain b.value
 expression_plain plain (expression.ComputedMemberExpression b) = computed_member_expression_row plain b.value
 expression_plain plain (expression.CallExpression b) = call_expression_row plain b.value
+expression_plain plain (expression.ArrayExpression b) = array_expression_row plain b.value
 
 abbrev pub declaration_plain : {N : Type 0} → (N → Tree) → Declaration N → Tree
 declaration_plain plain (declaration.VariableDeclaration b) = variable_declaration_row plain b.value

@@ -19,6 +19,7 @@ is_expression types.ParenthesizedExpression = true
 is_expression types.StaticMemberExpression = true
 is_expression types.ComputedMemberExpression = true
 is_expression types.CallExpression = true
+is_expression types.ArrayExpression = true
 is_expression other = false
 
 abbrev pub is_argument : NodeType → Bool
@@ -35,7 +36,25 @@ is_argument types.ParenthesizedExpression = true
 is_argument types.StaticMemberExpression = true
 is_argument types.ComputedMemberExpression = true
 is_argument types.CallExpression = true
+is_argument types.ArrayExpression = true
 is_argument other = false
+
+abbrev pub is_array_expression_element : NodeType → Bool
+is_array_expression_element types.SpreadElement = true
+is_array_expression_element types.IdentifierReference = true
+is_array_expression_element types.ThisExpression = true
+is_array_expression_element types.NullLiteral = true
+is_array_expression_element types.BooleanLiteral = true
+is_array_expression_element types.NumericLiteral = true
+is_array_expression_element types.StringLiteral = true
+is_array_expression_element types.BinaryExpression = true
+is_array_expression_element types.LogicalExpression = true
+is_array_expression_element types.ParenthesizedExpression = true
+is_array_expression_element types.StaticMemberExpression = true
+is_array_expression_element types.ComputedMemberExpression = true
+is_array_expression_element types.CallExpression = true
+is_array_expression_element types.ArrayExpression = true
+is_array_expression_element other = false
 
 abbrev pub is_declaration : NodeType → Bool
 is_declaration types.VariableDeclaration = true
@@ -73,3 +92,4 @@ in_set sets.BindingPattern t = is_binding_pattern t
 in_set sets.Expression t = is_expression t
 in_set sets.IdentifierName t = is_identifier_name t
 in_set sets.Argument t = is_argument t
+in_set sets.ArrayExpressionElement t = is_array_expression_element t

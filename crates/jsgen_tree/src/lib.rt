@@ -19,7 +19,7 @@ mod span;
 mod statements;
 mod types;
 
-pub use collections::SpreadElement;
+pub use collections::{ArrayExpression, SpreadElement};
 pub use expressions::{
     BinaryExpression, BooleanLiteral, CallExpression, ComputedMemberExpression, IdentifierName,
     IdentifierReference, LogicalExpression, NullLiteral, NumericLiteral, ParenthesizedExpression,
@@ -29,7 +29,9 @@ pub use laws::fields_are_named;
 pub use nodes::{BindingPatternNode, DeclarationNode, ExpressionNode, Node, StatementNode};
 pub use numbers::NumericValue;
 pub use options::{CodegenOptions, CommentOptions, LegalComment};
-pub use sets::{Argument, BindingPattern, Declaration, Expression, Statement};
+pub use sets::{
+    Argument, ArrayExpressionElement, BindingPattern, Declaration, Expression, Statement,
+};
 pub use span::GetSpan;
 pub use statements::{
     BindingIdentifier, BlockStatement, Directive, EmptyStatement, ExpressionStatement, IfStatement,

@@ -2,11 +2,13 @@
 // The type of a member of each set.
 ghost use Rattle.std.specs.Prelude.{◌≡◌};
 ghost use Rattle.jsgen_tree.specs.Tree.{type_of};
-ghost use Rattle.jsgen_tree.specs.Rows.{expression_plain, declaration_plain, statement_plain, binding_pattern_plain, in_argument};
+ghost use Rattle.jsgen_tree.specs.Rows.{expression_plain, declaration_plain, statement_plain, binding_pattern_plain, in_argument, in_array_expression_element};
 ghost use Rattle.jsgen_tree.specs.Plain.{node_plain};
 
 use crate::nodes::Node;
-use crate::sets::{Argument, BindingPattern, Declaration, Expression, Statement};
+use crate::sets::{
+    Argument, ArrayExpressionElement, BindingPattern, Declaration, Expression, Statement,
+};
 use crate::types::NodeType;
 
 impl Expression {
@@ -27,6 +29,7 @@ impl Expression {
             Expression::StaticMemberExpression(_) => NodeType::StaticMemberExpression,
             Expression::ComputedMemberExpression(_) => NodeType::ComputedMemberExpression,
             Expression::CallExpression(_) => NodeType::CallExpression,
+            Expression::ArrayExpression(_) => NodeType::ArrayExpression,
         }
     }
 }
@@ -39,6 +42,18 @@ impl Argument {
         match self {
             Argument::SpreadElement(_) => NodeType::SpreadElement,
             Argument::Expression(node) => node.get().node_type(),
+        }
+    }
+}
+
+impl ArrayExpressionElement {
+    /// The type of the node.
+    pub fn node_type(&self) -> NodeType
+        ensures { result ≡ type_of (in_array_expression_element node_plain self.now) }
+    {
+        match self {
+            ArrayExpressionElement::SpreadElement(_) => NodeType::SpreadElement,
+            ArrayExpressionElement::Expression(node) => node.get().node_type(),
         }
     }
 }

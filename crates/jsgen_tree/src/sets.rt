@@ -1,7 +1,7 @@
 // Generated from tools/nodes/table.txt; edit that and run tools/nodes/generate.
 // Sets: what may stand in one place. A set within a set is one variant of the inner one's name.
 
-use crate::collections::SpreadElement;
+use crate::collections::{ArrayExpression, SpreadElement};
 use crate::expressions::{
     BinaryExpression, BooleanLiteral, CallExpression, ComputedMemberExpression,
     IdentifierReference, LogicalExpression, NullLiteral, NumericLiteral, ParenthesizedExpression,
@@ -27,11 +27,19 @@ pub enum Expression<N = Node> {
     StaticMemberExpression(Box<StaticMemberExpression<N>>),
     ComputedMemberExpression(Box<ComputedMemberExpression<N>>),
     CallExpression(Box<CallExpression<N>>),
+    ArrayExpression(Box<ArrayExpression<N>>),
 }
 
 /// What a call is given.
 #[derive(Drop)]
 pub enum Argument<N = Node> {
+    SpreadElement(Box<SpreadElement<N>>),
+    Expression(Box<ExpressionNode<N>>),
+}
+
+/// What may stand in an array.
+#[derive(Drop)]
+pub enum ArrayExpressionElement<N = Node> {
     SpreadElement(Box<SpreadElement<N>>),
     Expression(Box<ExpressionNode<N>>),
 }

@@ -3,16 +3,18 @@
 ghost use Rattle.std.specs.Prelude.{◌≡◌};
 ghost use Rattle.jsgen_tree.specs.Tree.{span_of};
 ghost use Rattle.jsgen_tree.specs.Plain.{node_plain};
-ghost use Rattle.jsgen_tree.specs.Spans.{expression_span, argument_span, declaration_span, statement_span, binding_pattern_span};
+ghost use Rattle.jsgen_tree.specs.Spans.{expression_span, argument_span, array_expression_element_span, declaration_span, statement_span, binding_pattern_span};
 
-use crate::collections::SpreadElement;
+use crate::collections::{ArrayExpression, SpreadElement};
 use crate::expressions::{
     BinaryExpression, BooleanLiteral, CallExpression, ComputedMemberExpression, IdentifierName,
     IdentifierReference, LogicalExpression, NullLiteral, NumericLiteral, ParenthesizedExpression,
     StaticMemberExpression, StringLiteral, ThisExpression,
 };
 use crate::nodes::Node;
-use crate::sets::{Argument, BindingPattern, Declaration, Expression, Statement};
+use crate::sets::{
+    Argument, ArrayExpressionElement, BindingPattern, Declaration, Expression, Statement,
+};
 use crate::statements::{
     BindingIdentifier, BlockStatement, Directive, EmptyStatement, ExpressionStatement, IfStatement,
     Program, VariableDeclaration, VariableDeclarator,
@@ -213,6 +215,14 @@ impl<N> GetSpan for SpreadElement<N> {
     }
 }
 
+impl<N> GetSpan for ArrayExpression<N> {
+    ghost own_span = { λ n. n.span };
+
+    fn span(&self) -> Span {
+        self.span
+    }
+}
+
 impl<N> GetSpan for Expression<N> {
     ghost own_span = { λ n. expression_span n };
 
@@ -230,6 +240,7 @@ impl<N> GetSpan for Expression<N> {
             Expression::StaticMemberExpression(node) => node.span,
             Expression::ComputedMemberExpression(node) => node.span,
             Expression::CallExpression(node) => node.span,
+            Expression::ArrayExpression(node) => node.span,
         }
     }
 }
@@ -241,6 +252,17 @@ impl<N: GetSpan> GetSpan for Argument<N> {
         match self {
             Argument::SpreadElement(node) => node.span,
             Argument::Expression(node) => node.get().span(),
+        }
+    }
+}
+
+impl<N: GetSpan> GetSpan for ArrayExpressionElement<N> {
+    ghost own_span = { λ n. array_expression_element_span N.own_span n };
+
+    fn span(&self) -> Span {
+        match self {
+            ArrayExpressionElement::SpreadElement(node) => node.span,
+            ArrayExpressionElement::Expression(node) => node.get().span(),
         }
     }
 }

@@ -1,7 +1,7 @@
 // Generated from tools/nodes/table.txt; edit that and run tools/nodes/generate.
 // The types of nodes, and the sets that a field's child may be of.
 ghost use Rattle.std.specs.Prelude.{◌≡◌};
-ghost use Rattle.jsgen_tree.specs.Sets.{in_set, is_expression, is_argument, is_statement};
+ghost use Rattle.jsgen_tree.specs.Sets.{in_set, is_expression, is_argument, is_array_expression_element, is_statement};
 
 /// The type of a node.
 #[derive(Clone, Copy, Debug, PartialEq, Eq)]
@@ -29,6 +29,7 @@ pub enum NodeType {
     ComputedMemberExpression,
     CallExpression,
     SpreadElement,
+    ArrayExpression,
 }
 
 /// What the child of a field may be: a member of a set, or a node of one type.
@@ -41,6 +42,7 @@ pub enum NodeSet {
     Expression,
     IdentifierName,
     Argument,
+    ArrayExpressionElement,
 }
 
 impl NodeType {
@@ -56,6 +58,7 @@ impl NodeType {
             NodeSet::Expression => self.is_expression(),
             NodeSet::IdentifierName => matches!(&self, NodeType::IdentifierName),
             NodeSet::Argument => self.is_argument(),
+            NodeSet::ArrayExpressionElement => self.is_array_expression_element(),
         }
     }
 
@@ -77,6 +80,7 @@ impl NodeType {
                 | NodeType::StaticMemberExpression
                 | NodeType::ComputedMemberExpression
                 | NodeType::CallExpression
+                | NodeType::ArrayExpression
         )
     }
 
@@ -99,6 +103,30 @@ impl NodeType {
                 | NodeType::StaticMemberExpression
                 | NodeType::ComputedMemberExpression
                 | NodeType::CallExpression
+                | NodeType::ArrayExpression
+        )
+    }
+
+    /// Whether nodes of this type are in `ArrayExpressionElement`.
+    pub fn is_array_expression_element(self) -> bool
+        ensures { result ≡ is_array_expression_element self }
+    {
+        matches!(
+            &self,
+            NodeType::SpreadElement
+                | NodeType::IdentifierReference
+                | NodeType::ThisExpression
+                | NodeType::NullLiteral
+                | NodeType::BooleanLiteral
+                | NodeType::NumericLiteral
+                | NodeType::StringLiteral
+                | NodeType::BinaryExpression
+                | NodeType::LogicalExpression
+                | NodeType::ParenthesizedExpression
+                | NodeType::StaticMemberExpression
+                | NodeType::ComputedMemberExpression
+                | NodeType::CallExpression
+                | NodeType::ArrayExpression
         )
     }
 
