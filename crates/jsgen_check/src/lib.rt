@@ -14,6 +14,7 @@ mod children;
 mod collections;
 mod expressions;
 mod heights;
+mod operations;
 mod program;
 mod rules;
 mod sets;

@@ -1,11 +1,11 @@
 // Generated from tools/nodes/table.txt; edit that and run tools/nodes/generate.
 // Rows of a job: arrays and objects (ECMA-262, 13.2.4 and 13.2.5), and what is spread in them and in arguments.
-ghost use Rattle.std.specs.Prelude.{◌≡◌, false};
+ghost use Rattle.std.specs.Prelude.{◌≡◌, true};
 ghost use Rattle.serde_json.specs.View.{view};
 ghost use Rattle.jsgen_tree.specs.Fields.{spread_element_fields, array_expression_fields};
 ghost use Rattle.jsgen_fields.specs.Reads.{Gives, read_node, read_typed};
 ghost use Rattle.jsgen_fields.specs.Kept.{entries, row_plain};
-ghost use Rattle.jsgen_fields.specs.Parts.{is_in_statements, is_in_expressions};
+ghost use Rattle.jsgen_fields.specs.Parts.{is_in_collections};
 ghost use Rattle.jsgen_tree.specs.declared.types.NodeType.TheVariants as types;
 
 use jsgen_fields::InputFault;
@@ -73,8 +73,7 @@ pub fn read_in_collections<N: ReadNode + Drop>(
     span: Span,
     row: &Value,
 ) -> Result<Row<N>, InputFault>
-    requires not_in_statements { is_in_statements node_type ≡ false }
-    requires not_in_expressions { is_in_expressions node_type ≡ false }
+    requires { is_in_collections node_type ≡ true }
     ensures { Gives (row_plain N.plain) result (entries N.plain kept.new.items)
         (read_typed number node_type span (view row.now) (entries N.plain kept.old.items)) }
 {

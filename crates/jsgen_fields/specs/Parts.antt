@@ -31,3 +31,8 @@ is_in_expressions types.StaticMemberExpression = true
 is_in_expressions types.ComputedMemberExpression = true
 is_in_expressions types.CallExpression = true
 is_in_expressions other = false
+
+abbrev pub is_in_collections : NodeType → Bool
+is_in_collections types.SpreadElement = true
+is_in_collections types.ArrayExpression = true
+is_in_collections other = false

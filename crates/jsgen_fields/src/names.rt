@@ -5,7 +5,7 @@ ghost use Rattle.jsgen_fields.specs.Names.{first_named, type_named};
 
 use jsgen_tree::NodeType;
 
-const TYPE_NAMES: [(&str, NodeType); 24] = [
+const TYPE_NAMES: [(&str, NodeType); 26] = [
     ("Program", NodeType::Program),
     ("Directive", NodeType::Directive),
     ("VariableDeclaration", NodeType::VariableDeclaration),
@@ -33,6 +33,8 @@ const TYPE_NAMES: [(&str, NodeType); 24] = [
     ("CallExpression", NodeType::CallExpression),
     ("SpreadElement", NodeType::SpreadElement),
     ("ArrayExpression", NodeType::ArrayExpression),
+    ("UnaryExpression", NodeType::UnaryExpression),
+    ("NewTarget", NodeType::NewTarget),
 ];
 
 fn first_named(names: &[(&str, NodeType)], name: &str) -> Option<NodeType>

@@ -2,15 +2,15 @@
 // Fields that hold a word.
 ghost use Rattle.std.specs.Prelude.{◌≡◌, true, option_map};
 ghost use Rattle.serde_json.specs.View.{view};
-ghost use Rattle.jsgen_tree.specs.Atom.{no_value, source_kind, declaration_kind, binary_operator, logical_operator};
+ghost use Rattle.jsgen_tree.specs.Atom.{no_value, source_kind, declaration_kind, binary_operator, logical_operator, unary_operator};
 ghost use Rattle.jsgen_tree.specs.Table.{word};
-ghost use Rattle.jsgen_tree.specs.Fields.{source_kind_words, declaration_kind_words, binary_operator_words, logical_operator_words};
+ghost use Rattle.jsgen_tree.specs.Fields.{source_kind_words, declaration_kind_words, binary_operator_words, logical_operator_words, unary_operator_words};
 ghost use Rattle.jsgen_fields.specs.Reads.{read_value};
 ghost use Rattle.jsgen_fields.specs.Values.{Same, at, field as value_under, word_meaning, words_of_length};
 
 use crate::values::{needed_value, text_in};
 use crate::{At, InputFault};
-use jsgen_syntax::{BinaryOperator, LogicalOperator, SourceKind};
+use jsgen_syntax::{BinaryOperator, LogicalOperator, SourceKind, UnaryOperator};
 use jsgen_tree::VariableDeclarationKind;
 use serde_json::Value;
 
@@ -151,5 +151,65 @@ pub fn needed_logical_operator(
         "&&" => Ok(LogicalOperator::And),
         "??" => Ok(LogicalOperator::Coalesce),
         _ => Err(InputFault::Wrong(at)),
+    }
+}
+
+fn unary_operator_of_length_1(word: &str) -> Option<UnaryOperator>
+    ensures { option_map unary_operator result ≡ word_meaning (words_of_length 1 unary_operator_words) word.now }
+{
+    match word {
+        "+" => Some(UnaryOperator::UnaryPlus),
+        "-" => Some(UnaryOperator::UnaryNegation),
+        "!" => Some(UnaryOperator::LogicalNot),
+        "~" => Some(UnaryOperator::BitwiseNot),
+        _ => None,
+    }
+}
+
+fn unary_operator_of_length_4(word: &str) -> Option<UnaryOperator>
+    ensures { option_map unary_operator result ≡ word_meaning (words_of_length 4 unary_operator_words) word.now }
+{
+    match word {
+        "void" => Some(UnaryOperator::Void),
+        _ => None,
+    }
+}
+
+fn unary_operator_of_length_6(word: &str) -> Option<UnaryOperator>
+    ensures { option_map unary_operator result ≡ word_meaning (words_of_length 6 unary_operator_words) word.now }
+{
+    match word {
+        "typeof" => Some(UnaryOperator::Typeof),
+        "delete" => Some(UnaryOperator::Delete),
+        _ => None,
+    }
+}
+
+fn unary_operator_by_word(word: &str) -> Option<UnaryOperator>
+    ensures { option_map unary_operator result ≡ word_meaning unary_operator_words word.now }
+{
+    match word.len() {
+        1 => unary_operator_of_length_1(word),
+        4 => unary_operator_of_length_4(word),
+        6 => unary_operator_of_length_6(word),
+        _ => None,
+    }
+}
+
+#[tactic(auto, unfolding(crate::specs::Reads::read_value))]
+pub fn needed_unary_operator(
+    number: usize,
+    field: usize,
+    row: &Value,
+    name: &str,
+) -> Result<UnaryOperator, InputFault>
+    ensures { Same (λ o. unary_operator o) result
+        (read_value (at number field) true no_value (word unary_operator_words) (value_under name.now (view row.now))) }
+{
+    let at = At::of_row(number, field);
+    let value = needed_value(at, row, name)?;
+    match unary_operator_by_word(text_in(at, value)?) {
+        Some(found) => Ok(found),
+        None => Err(InputFault::Wrong(at)),
     }
 }

@@ -63,6 +63,8 @@ is_plain_row (tree.computed_member a object expression) = is_absent (computed_me
 is_plain_row (tree.call a callee arguments) = is_absent (call_expression_optional a) && has_no_hole arguments
 is_plain_row (tree.spread a argument) = true
 is_plain_row (tree.array a elements) = true
+is_plain_row (tree.unary a argument) = true
+is_plain_row (tree.new_target a) = true
 is_plain_row t = false
 
 abbrev pub IsPlain : Tree → Type 0

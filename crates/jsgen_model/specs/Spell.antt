@@ -9,16 +9,18 @@ use Rattle.jsgen_syntax.specs.declared.operator.BinaryOperator.{BinaryOperator}
 use Rattle.jsgen_syntax.specs.declared.operator.BinaryOperator.TheVariants as operators
 use Rattle.jsgen_syntax.specs.declared.operator.LogicalOperator.{LogicalOperator}
 use Rattle.jsgen_syntax.specs.declared.operator.LogicalOperator.TheVariants as logical_operators
+use Rattle.jsgen_syntax.specs.declared.operator.UnaryOperator.{UnaryOperator}
+use Rattle.jsgen_syntax.specs.declared.operator.UnaryOperator.TheVariants as unary_operators
 use Rattle.jsgen_tree.specs.declared.types.NodeType.{NodeType}
 use Rattle.jsgen_tree.specs.declared.types.NodeType.TheVariants as types
 use Rattle.jsgen_tree.specs.Inside.{without_parentheses, ends_open}
 use Rattle.jsgen_tree.specs.Words.{declaration_word}
 use Rattle.jsgen_tree.specs.Number.{NumericKind, Whole, Raw}
 use Rattle.jsgen_tree.specs.Tree.{Tree, Maybe, absent, given, Trees, no_trees, more, hole, Atoms, type_of}
-use Rattle.jsgen_tree.specs.Values.{as_text, directive_directive, variable_declaration_kind, binding_identifier_name, identifier_reference_name, identifier_name_name, boolean_literal_value, numeric_literal_kind, numeric_literal_digits, string_literal_value, binary_expression_operator, logical_expression_operator}
+use Rattle.jsgen_tree.specs.Values.{as_text, directive_directive, variable_declaration_kind, binding_identifier_name, identifier_reference_name, identifier_name_name, boolean_literal_value, numeric_literal_kind, numeric_literal_digits, string_literal_value, binary_expression_operator, logical_expression_operator, unary_expression_operator}
 use Rattle.jsgen_tree.specs.Job.{Tables, JobData}
 use Rattle.jsgen_tree.specs.Nodes as tree
-use Rattle.jsgen_model.specs.Punctuator.{ellipsis, comma, semicolon, equal, plus, minus, star, slash, percent, star_star, equal_equal, not_equal, equal_equal_equal, not_equal_equal, less, less_equal, greater, greater_equal, shift_left, shift_right, shift_right_zero, bit_and, bit_or, bit_xor, and_and, or_or, nullish, Round, Square, Brace}
+use Rattle.jsgen_model.specs.Punctuator.{ellipsis, comma, semicolon, equal, plus, minus, star, slash, percent, star_star, equal_equal, not_equal, equal_equal_equal, not_equal_equal, less, less_equal, greater, greater_equal, shift_left, shift_right, shift_right_zero, bit_and, bit_or, bit_xor, and_and, or_or, nullish, Round, Square, Brace, bang, tilde}
 use Rattle.jsgen_model.specs.Items.{Items, nothing, ◌⊕◌, word, name, number, string, first_string, directive, punctuator, operator, member_dot, brackets, soft_space, soft_line, hard_space, body_space, deeper, indentation, wrapped, statement_end, due_semicolon, drop_semicolon, statement_begins}
 use Rattle.jsgen_model.specs.Layout.{Start, nowhere, statement, unless_printed, layout, empty_pen, style_of}
 
@@ -131,6 +133,23 @@ logical_item logical_operators.Or = punctuator or_or
 logical_item logical_operators.And = punctuator and_and
 logical_item logical_operators.Coalesce = punctuator nullish
 
+-- an operator before its operand: a word or a sign, as between two operands
+abbrev pub unary_sign : UnaryOperator → Items
+unary_sign unary_operators.UnaryPlus = operator plus
+unary_sign unary_operators.UnaryNegation = operator minus
+unary_sign unary_operators.LogicalNot = operator bang
+unary_sign unary_operators.BitwiseNot = operator tilde
+unary_sign unary_operators.Typeof = word (codes "typeof")
+unary_sign unary_operators.Void = word (codes "void")
+unary_sign unary_operators.Delete = word (codes "delete")
+
+-- what stands between it and the operand
+abbrev pub behind_unary : UnaryOperator → Items
+behind_unary unary_operators.Typeof = soft_space
+behind_unary unary_operators.Void = soft_space
+behind_unary unary_operators.Delete = soft_space
+behind_unary o = nothing
+
 -- operands and the operator between them, in parentheses where the test holds
 abbrev pub operation : Bool → Items → Items → Items → Items
 operation test item left right = wrapped test (left ⊕ (soft_space ⊕ (item ⊕ (soft_space ⊕ right))))
@@ -150,9 +169,11 @@ goes_on o place = not place.left_operand && (rank (logical_level o) == rank plac
 abbrev pub logical_wraps : LogicalOperator → Place → Bool
 logical_wraps o place = wraps (logical_level o) place && not (goes_on o place)
 
-abbrev pub is_number : Tree → Bool
-is_number (tree.numeric_literal a) = true
-is_number t = false
+-- what a prefix operator may begin: a unary operation, and a number, whose sign would be one
+abbrev pub is_prefixed : Tree → Bool
+is_prefixed (tree.numeric_literal a) = true
+is_prefixed (tree.unary a argument) = true
+is_prefixed t = false
 
 abbrev pub is_or_or_and : LogicalOperator → Bool
 is_or_or_and logical_operators.Coalesce = false
@@ -163,9 +184,10 @@ abbrev pub mixes : Tree → Bool
 mixes (tree.logical a left right) = is_or_or_and (logical_expression_operator a)
 mixes t = false
 
--- the level of a left operand: just below the operator's, but of `**` its own, and for a number a call's
+-- the level of a left operand: just below the operator's, but of `**` its own, and where a prefix operator may begin the
+-- operand a call's (ECMA-262, 13.6)
 abbrev pub left_level : BinaryOperator → Tree → Precedence
-left_level operators.Exponential left = if is_number (without_parentheses left) then Call else Exponentiation
+left_level operators.Exponential left = if is_prefixed (without_parentheses left) then Call else Exponentiation
 left_level o left = lower_level o
 
 -- the level of a right operand: the operator's own, but of `**` the one below
@@ -351,6 +373,9 @@ abbrev mutual
   spell (tree.spread a argument) place = punctuator ellipsis ⊕ spell argument (in_brackets Comma place)
   -- up to two elements stand on one line
   spell (tree.array a elements) place = brackets Square (on_lines (are_more 2 elements) (spell_elements (are_more 2 elements) elements (in_brackets Comma place) ⊕ comma_if (ends_in_hole elements)))
+  spell (tree.unary a argument) place =
+      wrapped (wraps Prefix place) (unary_sign (unary_expression_operator a) ⊕ (behind_unary (unary_expression_operator a) ⊕ spell argument (behind Exponentiation (within (wraps Prefix place) place))))
+  spell (tree.new_target a) place = word (codes "new") ⊕ (member_dot ⊕ word (codes "target"))
   spell t place = nothing
 
   -- the directives of a body, each with a semicolon of its own

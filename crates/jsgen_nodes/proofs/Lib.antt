@@ -4,3 +4,4 @@ pub mod Elsewhere
 pub mod IsNot
 pub mod Operations
 pub mod Parts
+pub mod Prefixes

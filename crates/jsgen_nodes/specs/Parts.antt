@@ -1,8 +1,27 @@
 -- Generated from tools/nodes/table.txt; edit that and run tools/nodes/generate.
 -- In which part of the choice within its set a member is.
 use Rattle.std.specs.Prelude.{ℕ}
+use Rattle.jsgen_tree.specs.declared.sets.Expression.{Expression}
 use Rattle.jsgen_tree.specs.declared.sets.Statement.{Statement}
+use Rattle.jsgen_tree.specs.declared.sets.Expression.TheVariants as expression
 use Rattle.jsgen_tree.specs.declared.sets.Statement.TheVariants as statement
+
+abbrev pub expression_part : {N : Type 0} → Expression N → ℕ
+expression_part (expression.IdentifierReference b) = 0
+expression_part (expression.ThisExpression b) = 0
+expression_part (expression.NullLiteral b) = 0
+expression_part (expression.BooleanLiteral b) = 0
+expression_part (expression.NumericLiteral b) = 0
+expression_part (expression.StringLiteral b) = 0
+expression_part (expression.ParenthesizedExpression b) = 0
+expression_part (expression.BinaryExpression b) = 0
+expression_part (expression.LogicalExpression b) = 0
+expression_part (expression.StaticMemberExpression b) = 0
+expression_part (expression.ComputedMemberExpression b) = 0
+expression_part (expression.CallExpression b) = 0
+expression_part (expression.ArrayExpression b) = 1
+expression_part (expression.UnaryExpression b) = 2
+expression_part (expression.NewTarget b) = 2
 
 abbrev pub statement_part : {N : Type 0} → Statement N → ℕ
 statement_part (statement.Declaration b) = 0

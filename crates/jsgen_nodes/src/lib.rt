@@ -6,6 +6,7 @@ mod collections;
 mod expressions;
 mod links;
 mod operands;
+mod operators;
 mod sets;
 mod shapes;
 mod statements;

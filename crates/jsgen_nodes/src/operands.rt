@@ -22,7 +22,7 @@ fn logical_operand<N: PrintNode>(node: &LogicalExpression<N>) -> Operand
     ensures { result ≡ operand_of (logical_expression_row N.plain node.now) }
 {
     Operand {
-        is_number: false,
+        is_prefixed: false,
         mixes: is_or_or_and(node.operator),
     }
 }
@@ -37,7 +37,7 @@ pub fn expression_operand<N: PrintNode>(node: &Expression<N>) -> Operand
     ensures { result ≡ operand_of (without_parentheses (expression_plain N.plain node.now)) }
 {
     match node {
-        Expression::NumericLiteral(_) => Operand::NUMBER,
+        Expression::NumericLiteral(_) | Expression::UnaryExpression(_) => Operand::PREFIXED,
         Expression::LogicalExpression(node) => logical_operand(node),
         Expression::ParenthesizedExpression(node) => parenthesized_operand(node),
         _ => Operand::OTHER,

@@ -5,7 +5,7 @@ ghost use Rattle.jsgen_tree.specs.Rows.{expression_plain, declaration_plain, sta
 ghost use Rattle.jsgen_model.specs.Printing.{Reaches};
 ghost use Rattle.jsgen_printer.specs.Printer.{pen_of};
 ghost use Rattle.jsgen_nodes.specs.Place.{pen_after};
-ghost use Rattle.jsgen_nodes.specs.Parts.{statement_part};
+ghost use Rattle.jsgen_nodes.specs.Parts.{expression_part, statement_part};
 
 use crate::PrintNode;
 use crate::blocks::{print_block_statement, print_empty_statement, print_if_statement};
@@ -18,6 +18,7 @@ use crate::expressions::{
 use crate::links::{
     print_call_expression, print_computed_member_expression, print_static_member_expression,
 };
+use crate::operators::{print_new_target, print_unary_expression};
 use crate::statements::{
     print_binding_identifier, print_expression_statement, print_variable_declaration,
 };
@@ -48,7 +49,36 @@ pub fn print_expression<N: PrintNode>(
             node, p, place,
         ),
         Expression::CallExpression(node) => print_call_expression(node, p, place),
+        _ => print_expression_in_collections(node, p, place),
+    }
+}
+
+fn print_expression_in_collections<N: PrintNode>(
+    node: &Expression<N>,
+    p: &mut Printer,
+    place: Place,
+) -> Result<(), Memory>
+    requires { nat_le 1 (expression_part node.now) ≡ true }
+    ensures { Reaches result (pen_of p.old) (pen_of p.new) (pen_after (expression_plain N.plain node.now) place p.old) }
+{
+    match node {
         Expression::ArrayExpression(node) => print_array_expression(node, p, place),
+        _ => print_expression_in_operations(node, p, place),
+    }
+}
+
+fn print_expression_in_operations<N: PrintNode>(
+    node: &Expression<N>,
+    p: &mut Printer,
+    place: Place,
+) -> Result<(), Memory>
+    requires { nat_le 2 (expression_part node.now) ≡ true }
+    ensures { Reaches result (pen_of p.old) (pen_of p.new) (pen_after (expression_plain N.plain node.now) place p.old) }
+{
+    match node {
+        Expression::UnaryExpression(node) => print_unary_expression(node, p, place),
+        Expression::NewTarget(node) => print_new_target(node, p, place),
+        _ => unreachable!(),
     }
 }
 

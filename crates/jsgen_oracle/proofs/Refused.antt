@@ -1,11 +1,11 @@
 -- What every program that the grammar reads has in common, and texts that haven't.
-use Rattle.std.proofs.Common.{◌≡◌, ℕ, Bool, true, false, ◌&&◌, ◌||◌, ◌==◌, List, [], ◌∷◌, ◌++◌, codes, refl, sym, ap, ◌∙◌, subst}
+use Rattle.std.proofs.Common.{◌≡◌, ℕ, Bool, true, false, ◌&&◌, ◌||◌, ◌==◌, ◌⊎◌, inl, inr, List, [], ◌∷◌, ◌++◌, codes, refl, sym, ap, ◌∙◌, subst}
 use Rattle.std.specs.Prelude.{not}
 use Rattle.std.specs.List.{list_any}
 use Rattle.std.specs.Option.{option_map_or}
 use Rattle.std.specs.Str.{bytes_eq}
 use Rattle.std.proofs.lemmas.Slice.Eq.{bytes_eq-Decides}
-use Rattle.std.proofs.lemmas.Bool.{both_ways, and_parts, and_from, or_left, or_right}
+use Rattle.std.proofs.lemmas.Bool.{both_ways, and_parts, and_from, or_cases, or_left, or_right}
 use lib.Utf8.{encode}
 use Rattle.unicode_ident.proofs.Computing.{unicode_ident}
 use Rattle.jsgen_syntax.specs.Escapes.{word_value}
@@ -14,11 +14,13 @@ use Rattle.jsgen_syntax.specs.Strings.{string_value}
 use Rattle.jsgen_syntax.specs.declared.quote.Quote.TheVariants.{Single, Double}
 use Rattle.jsgen_syntax.specs.declared.operator.BinaryOperator.{BinaryOperator}
 use Rattle.jsgen_syntax.specs.declared.operator.BinaryOperator.TheVariants as operators
+use Rattle.jsgen_syntax.specs.declared.operator.UnaryOperator.{UnaryOperator}
+use Rattle.jsgen_syntax.specs.declared.operator.UnaryOperator.TheVariants as unary_operators
 use Rattle.jsgen_tree.specs.Tree.{Tree, Trees}
-use Rattle.jsgen_model.specs.Punctuator.{dot, plus, plus_plus, minus_minus, star_star, and_and, or_or, nullish, semicolon, Bracket, Round, Square, Brace, opening, closing}
+use Rattle.jsgen_model.specs.Punctuator.{Punctuator, dot, plus, minus, plus_plus, minus_minus, bang, tilde, star_star, and_and, or_or, nullish, semicolon, Bracket, Round, Square, Brace, opening, closing}
 use Rattle.jsgen_model.specs.Numbers.{spells_number}
 use Rattle.jsgen_model.specs.Tokens.{Tokens, done, piece, group, ◌⧺◌, Piece, Word, Number, Quoted, Sign, piece_text, is_blank, longer_stands, longer_number_stands, AreTokensOf}
-use Rattle.jsgen_model.specs.Grammar.{Allowed, Level, operator_piece, ReadsExpression, ReadsBinding, ReadsDeclarator, ReadsDeclarators, ReadsDeclaration, EndsBy, ReadsStatement, ReadsItem, ReadsStatements, ReadsBody, ReadsModule, a_module}
+use Rattle.jsgen_model.specs.Grammar.{Allowed, Level, operator_piece, unary_piece, ReadsExpression, ReadsBinding, ReadsDeclarator, ReadsDeclarators, ReadsDeclaration, EndsBy, ReadsStatement, ReadsItem, ReadsStatements, ReadsBody, ReadsModule, a_module}
 use Rattle.jsgen_model.specs.Grammar as grammar
 use Rattle.jsgen_token_laws.proofs.Characters.{any_append}
 use Rattle.jsgen_token_laws.proofs.Plain.{all_plain}
@@ -84,15 +86,27 @@ begins_with_name ts = false
 
 -- a keyword that is an operand
 abbrev is_keyword : List ℕ → Bool
-is_keyword w = list_any (bytes_eq w) (codes "this" ∷ codes "null" ∷ codes "true" ∷ codes "false" ∷ [])
+is_keyword w = list_any (bytes_eq w) (codes "this" ∷ codes "null" ∷ codes "true" ∷ codes "false" ∷ codes "new" ∷ [])
 
 -- the word may be an operand: a keyword, or a reference
 abbrev is_operand_word : List ℕ → Bool
 is_operand_word w = is_keyword w || option_map_or is_free_name (word_value w) false
 
--- an operand that a sign, a bracket or nothing follows
+-- an operator stands before its operand
+abbrev is_prefix_word : List ℕ → Bool
+is_prefix_word w = list_any (bytes_eq w) (codes "typeof" ∷ codes "void" ∷ codes "delete" ∷ [])
+
+abbrev is_prefix_sign : Punctuator → Bool
+is_prefix_sign plus = true
+is_prefix_sign minus = true
+is_prefix_sign bang = true
+is_prefix_sign tilde = true
+is_prefix_sign s = false
+
+-- an operand that a sign, a bracket or nothing follows, maybe behind operators of its own
 abbrev pub starts_well : Tokens → Bool
-starts_well (piece m (Word w) ts) = is_operand_word w && goes_on ts
+starts_well (piece m (Word w) ts) = (is_operand_word w && goes_on ts) || (is_prefix_word w && starts_well ts)
+starts_well (piece m (Sign s) ts) = is_prefix_sign s && starts_well ts
 starts_well (piece m (Number w) ts) = goes_on ts
 starts_well (piece m (Quoted q w) ts) = goes_on ts
 starts_well (group m Round inside ts) = goes_on ts
@@ -109,9 +123,9 @@ goes_to_body (group m Round inside done) = false
 goes_to_body (group m Round inside ts) = not (begins_with_const ts)
 goes_to_body ts = false
 
--- a word before an operand's end, `const` and a name, or `if` and what it needs
+-- a word that an expression begins with, `const` and a name, or `if` and what it needs
 abbrev word_begins_well : List ℕ → Tokens → Bool
-word_begins_well w ts = (is_operand_word w && goes_on ts) || ((bytes_eq w (codes "const") && begins_with_name ts) || (bytes_eq w (codes "if") && goes_to_body ts))
+word_begins_well w ts = starts_well (piece false (Word w) ts) || ((bytes_eq w (codes "const") && begins_with_name ts) || (bytes_eq w (codes "if") && goes_to_body ts))
 
 -- a statement begins so: with an operand, a declaration, `if`, a semicolon or a brace group
 abbrev begins_well : Tokens → Bool
@@ -136,12 +150,20 @@ named_further (piece n (Quoted q w) ts) b h = absurd (both_ways false refl h)
 named_further (piece n (Sign s) ts) b h = absurd (both_ways false refl h)
 named_further (group n d inside ts) b h = absurd (both_ways false refl h)
 
+-- the word begins an expression, and so it does before other tokens
+word_further : (w : List ℕ) (m : Bool) (ts us : Tokens) → (goes_on ts ≡ true → goes_on us ≡ true) → (starts_well ts ≡ true → starts_well us ≡ true) → starts_well (piece m (Word w) ts) ≡ true → starts_well (piece m (Word w) us) ≡ true
+word_further w m ts us f g h = by (or_cases (is_operand_word w && goes_on ts) (is_prefix_word w && starts_well ts) h)
+  where
+    by : ((is_operand_word w && goes_on ts) ≡ true) ⊎ ((is_prefix_word w && starts_well ts) ≡ true) → starts_well (piece m (Word w) us) ≡ true
+    by (inl e) = let k = and_parts (is_operand_word w) (goes_on ts) e in or_left _ _ (and_from _ _ k.0 (f k.1))
+    by (inr e) = let k = and_parts (is_prefix_word w) (starts_well ts) e in or_right _ _ (and_from _ _ k.0 (g k.1))
+
 starts_further : (ts b : Tokens) → goes_on b ≡ true → starts_well ts ≡ true → starts_well (ts ⧺ b) ≡ true
 starts_further done b j h = absurd (both_ways false refl h)
-starts_further (piece n (Word w) ts) b j h = let k = and_parts (is_operand_word w) (goes_on ts) h in and_from _ _ k.0 (goes_further ts b j k.1)
+starts_further (piece n (Word w) ts) b j h = word_further w n ts (ts ⧺ b) (goes_further ts b j) (starts_further ts b j) h
 starts_further (piece n (Number w) ts) b j h = goes_further ts b j h
 starts_further (piece n (Quoted q w) ts) b j h = goes_further ts b j h
-starts_further (piece n (Sign r) ts) b j h = absurd (both_ways false refl h)
+starts_further (piece n (Sign r) ts) b j h = let k = and_parts (is_prefix_sign r) (starts_well ts) h in and_from _ _ k.0 (starts_further ts b j k.1)
 starts_further (group n Round inside ts) b j h = goes_further ts b j h
 starts_further (group n Square inside ts) b j h = goes_further ts b j h
 starts_further (group n Brace inside ts) b j h = absurd (both_ways false refl h)
@@ -169,6 +191,15 @@ operator_joins operators.Multiplication = refl
 operator_joins operators.Division = refl
 operator_joins operators.Remainder = refl
 operator_joins operators.Exponential = refl
+
+unary_starts : (o : UnaryOperator) (m : Bool) (ts : Tokens) → starts_well ts ≡ true → starts_well (piece m (unary_piece o) ts) ≡ true
+unary_starts unary_operators.UnaryPlus m ts h = h
+unary_starts unary_operators.UnaryNegation m ts h = h
+unary_starts unary_operators.LogicalNot m ts h = h
+unary_starts unary_operators.BitwiseNot m ts h = h
+unary_starts unary_operators.Typeof m ts h = or_right (is_operand_word (codes "typeof") && goes_on ts) _ h
+unary_starts unary_operators.Void m ts h = or_right (is_operand_word (codes "void") && goes_on ts) _ h
+unary_starts unary_operators.Delete m ts h = or_right (is_operand_word (codes "delete") && goes_on ts) _ h
 
 -- what goes on behind an operand
 pub joined : (ts a b : Tokens) → goes_on b ≡ true → ts ≡ a ⧺ b → starts_well a ≡ true → starts_well ts ≡ true
@@ -217,7 +248,9 @@ expression_starts (grammar.a_coalesce r) = expression_starts r
 expression_starts (grammar.a_coalescing m e l r) = joined _ _ (piece m (Sign nullish) _) refl e (expression_starts l)
 expression_starts (grammar.a_coalesced_head r) = expression_starts r
 expression_starts (grammar.a_bit_or_head r) = expression_starts r
-expression_starts (grammar.a_reference {w = w} e h) = and_from (is_operand_word w) true (or_right (is_keyword w) _ (ap (λ o. option_map_or is_free_name o false) e ∙ h)) refl
+expression_starts (grammar.a_unary_operation {mark = m} o r) = unary_starts o m _ (expression_starts r)
+expression_starts grammar.a_new_target = refl
+expression_starts (grammar.a_reference {w = w} e h) = or_left _ _ (and_from (is_operand_word w) true (or_right (is_keyword w) _ (ap (λ o. option_map_or is_free_name o false) e ∙ h)) refl)
 expression_starts grammar.a_this = refl
 expression_starts grammar.a_null = refl
 expression_starts grammar.a_true = refl
@@ -245,7 +278,8 @@ operand_begins done h = absurd (both_ways false refl h)
 operand_begins (piece m (Word w) ts) h = or_left _ _ h
 operand_begins (piece m (Number w) ts) h = h
 operand_begins (piece m (Quoted q w) ts) h = h
-operand_begins (piece m (Sign r) ts) h = absurd (both_ways false refl h)
+operand_begins (piece m (Sign semicolon) ts) h = refl
+operand_begins (piece m (Sign r) ts) h = h
 operand_begins (group m Round inside ts) h = h
 operand_begins (group m Square inside ts) h = h
 operand_begins (group m Brace inside ts) h = absurd (both_ways false refl h)
@@ -258,17 +292,28 @@ expression_begins {ts = ts} r b j = operand_begins (ts ⧺ b) (starts_further ts
 
 -- a statement begins with no `const`
 
-const_is_reserved : is_operand_word (codes "const") ≡ false
+-- the word may begin an expression
+abbrev is_start_word : List ℕ → Bool
+is_start_word w = is_operand_word w || is_prefix_word w
+
+word_starts : (w : List ℕ) (m : Bool) (ts : Tokens) → starts_well (piece m (Word w) ts) ≡ true → is_start_word w ≡ true
+word_starts w m ts h = by (or_cases (is_operand_word w && goes_on ts) (is_prefix_word w && starts_well ts) h)
+  where
+    by : ((is_operand_word w && goes_on ts) ≡ true) ⊎ ((is_prefix_word w && starts_well ts) ≡ true) → is_start_word w ≡ true
+    by (inl e) = or_left _ _ (and_parts (is_operand_word w) (goes_on ts) e).0
+    by (inr e) = or_right _ _ (and_parts (is_prefix_word w) (starts_well ts) e).0
+
+const_is_reserved : is_start_word (codes "const") ≡ false
 unfolding unicode_ident word_value is_reserved is_strict_reserved encode
 const_is_reserved = refl
 
-no_free_name : (w : List ℕ) (x : Bool) → bytes_eq w (codes "const") ≡ x → is_operand_word w ≡ true → x ≡ false
-no_free_name w true e h = absurd (both_ways (is_operand_word (codes "const")) const_is_reserved (subst (λ v. is_operand_word v ≡ true) ((bytes_eq-Decides w (codes "const")).0 e) h))
+no_free_name : (w : List ℕ) (x : Bool) → bytes_eq w (codes "const") ≡ x → is_start_word w ≡ true → x ≡ false
+no_free_name w true e h = absurd (both_ways (is_start_word (codes "const")) const_is_reserved (subst (λ v. is_start_word v ≡ true) ((bytes_eq-Decides w (codes "const")).0 e) h))
 no_free_name w false e h = refl
 
 operand_no_const : (ts b : Tokens) → starts_well ts ≡ true → begins_with_const (ts ⧺ b) ≡ false
 operand_no_const done b h = absurd (both_ways false refl h)
-operand_no_const (piece m (Word w) ts) b h = no_free_name w (bytes_eq w (codes "const")) refl (and_parts (is_operand_word w) (goes_on ts) h).0
+operand_no_const (piece m (Word w) ts) b h = no_free_name w (bytes_eq w (codes "const")) refl (word_starts w m ts h)
 operand_no_const (piece m (Number w) ts) b h = refl
 operand_no_const (piece m (Quoted q w) ts) b h = refl
 operand_no_const (piece m (Sign r) ts) b h = refl
@@ -318,7 +363,7 @@ body_begins next test (piece m p ts) n h = ap not n
 body_begins next test (group m d inside ts) n h = ap not n
 
 if_begins : (next : Bool) (test ts : Tokens) → goes_to_body (group next Round test ts) ≡ true → word_begins_well (codes "if") (group next Round test ts) ≡ true
-if_begins next test ts h = or_right (is_operand_word (codes "if") && goes_on (group next Round test ts)) _ (or_right (bytes_eq (codes "if") (codes "const") && begins_with_name (group next Round test ts)) _ h)
+if_begins next test ts h = or_right (starts_well (piece false (Word (codes "if")) (group next Round test ts))) _ (or_right (bytes_eq (codes "if") (codes "const") && begins_with_name (group next Round test ts)) _ h)
 
 -- before a semicolon
 semicolon_begins : {ts a : Tokens} → EndsBy false ts a → ((d : Tokens) → goes_on d ≡ true → begins_well (a ⧺ d) ≡ true) → (b : Tokens) → begins_well (ts ⧺ b) ≡ true

@@ -1,5 +1,5 @@
 // Normal forms as plain data.
-use jsgen_syntax::{BinaryOperator, JsStr, LogicalOperator};
+use jsgen_syntax::{BinaryOperator, JsStr, LogicalOperator, UnaryOperator};
 use jsgen_tree::{NodeType, VariableDeclarationKind};
 
 /// A program in its normal form, or a node of one. Spans, the source and the kind of a program have no place in it.
@@ -27,6 +27,7 @@ pub enum Value {
     DeclarationKind(VariableDeclarationKind),
     BinaryOperator(BinaryOperator),
     LogicalOperator(LogicalOperator),
+    UnaryOperator(UnaryOperator),
 }
 
 /// What a field of children holds.

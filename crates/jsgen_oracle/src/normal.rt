@@ -13,7 +13,8 @@ use crate::characters::characters_of;
 use crate::directive::directive_units;
 use crate::form::{Form, Slot, Value};
 use crate::shape::{
-    holed_list, identifier, leaf, list, literal, one_value, pair, row_of_two, single, two_values,
+    holed_list, identifier, leaf, list, literal, one_value, pair, row_of_two, single, single_by,
+    two_values,
 };
 use jsgen_syntax::{JsStr, LogicalOperator, Memory};
 use jsgen_tree::{
@@ -404,6 +405,15 @@ fn expression_form<N: NormalNode>(alloc: Global, node: &Expression<N>) -> Result
         }
         Expression::CallExpression(node) => call_expression_form(alloc, node),
         Expression::ArrayExpression(node) => array_expression_form(alloc, node),
+        Expression::UnaryExpression(node) => {
+            single_by(
+                alloc,
+                NodeType::UnaryExpression,
+                Value::UnaryOperator(node.operator),
+                node.argument.get(),
+            )
+        }
+        Expression::NewTarget(_) => Ok(leaf(alloc, NodeType::NewTarget, Vec::new(alloc))),
     }
 }
 

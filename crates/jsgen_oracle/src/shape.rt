@@ -106,6 +106,20 @@ pub(crate) fn single<N: NormalNode>(
     row(alloc, node_type, Vec::new(alloc), Slot::One(child))
 }
 
+/// A row of one value and one child.
+pub(crate) fn single_by<N: NormalNode>(
+    alloc: Global,
+    node_type: NodeType,
+    value: Value,
+    child: &N,
+) -> Result<Form, Memory>
+    ensures { IfOk result (λ f. form_plain f ≡ node node_type (bare (value_plain value ∷ [])) (one (normal (N.plain child.now)) no_slots)) }
+{
+    let values = one_value(alloc, value)?;
+    let child = child.normal_form(alloc)?;
+    row(alloc, node_type, values, Slot::One(child))
+}
+
 /// A row of one value and two children.
 pub(crate) fn pair<N: NormalNode>(
     alloc: Global,

@@ -4,7 +4,7 @@ use Rattle.jsgen_tree.specs.Tree.{Tree}
 use Rattle.jsgen_tree.specs.Job.{no_tables}
 use Rattle.jsgen_model.specs.Layout.{Pen}
 use Rattle.jsgen_model.specs.Spell as spells
-use Rattle.jsgen_model.specs.Spell.{is_number, mixes}
+use Rattle.jsgen_model.specs.Spell.{is_prefixed, mixes}
 use Rattle.jsgen_place.specs.declared.place.Context.{Context}
 use Rattle.jsgen_place.specs.declared.place.Place.{Place}
 use Rattle.jsgen_place.specs.declared.place.Settings.{Settings}
@@ -27,4 +27,4 @@ place_within false place = place
 
 -- what matters of an operand
 abbrev pub operand_of : Tree → Operand
-operand_of tree = record { is_number = is_number tree; mixes = mixes tree }
+operand_of tree = record { is_prefixed = is_prefixed tree; mixes = mixes tree }

@@ -12,24 +12,25 @@ use jsgen_syntax::{BinaryOperator, GetPrecedence, LogicalOperator, Precedence};
 /// What matters of an operand, without the parentheses that it may have round it.
 #[derive(Clone, Copy)]
 pub struct Operand {
-    pub is_number: bool,
+    /// A number or a unary operation, which a prefix operator may begin.
+    pub is_prefixed: bool,
     /// An operation by `||` or `&&`.
     pub mixes: bool,
 }
 
 impl Operand {
     pub const OTHER: Operand = Operand {
-        is_number: false,
+        is_prefixed: false,
         mixes: false,
     };
 
-    pub const NUMBER: Operand = Operand {
-        is_number: true,
+    pub const PREFIXED: Operand = Operand {
+        is_prefixed: true,
         mixes: false,
     };
 }
 
-/// Just below the operator's own; but of `**`, which groups to the right, its own, and for a number a call's.
+/// Just below the operator's own; but of `**`, which groups to the right, its own, and where a prefix operator may begin the operand a call's.
 pub fn left_level(operator: BinaryOperator, left: Operand) -> Precedence
     ensures { (t : Tree) → left ≡ operand_of (without_parentheses t) → result ≡ left_level operator t }
 {
@@ -42,7 +43,7 @@ pub fn left_level(operator: BinaryOperator, left: Operand) -> Precedence
 fn base_level(left: Operand) -> Precedence
     ensures { (t : Tree) → left ≡ operand_of (without_parentheses t) → result ≡ left_level operators.Exponential t }
 {
-    if left.is_number {
+    if left.is_prefixed {
         Precedence::Call
     } else {
         Precedence::Exponentiation

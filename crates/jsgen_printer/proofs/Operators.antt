@@ -1,11 +1,13 @@
 -- Operators as items of the layout.
 use Rattle.std.proofs.Common.{◌≡◌, ◌++◌, true, refl}
 use Rattle.std.specs.Str.{chars}
-use Rattle.jsgen_syntax.specs.Operator.{binary_text}
+use Rattle.jsgen_syntax.specs.Operator.{binary_text, unary_text}
 use Rattle.jsgen_syntax.specs.declared.operator.BinaryOperator.{BinaryOperator}
 use Rattle.jsgen_syntax.specs.declared.operator.BinaryOperator.TheVariants as operators
+use Rattle.jsgen_syntax.specs.declared.operator.UnaryOperator.{UnaryOperator}
+use Rattle.jsgen_syntax.specs.declared.operator.UnaryOperator.TheVariants as unary_operators
 use Rattle.jsgen_model.specs.Layout.{Pen, layout, written, space_if}
-use Rattle.jsgen_model.specs.Spell.{operator_item}
+use Rattle.jsgen_model.specs.Spell.{operator_item, unary_sign}
 use Rattle.jsgen_printer.specs.Printer.{stands_apart, end_of, is_ascii}
 use Rattle.jsgen_printer.proofs.Texts.{ascii_chars}
 
@@ -20,3 +22,14 @@ operator_written o pen = refl
 
 pub operator_chars : (o : BinaryOperator) → chars (binary_text o) ≡ binary_text o
 operator_chars o = ascii_chars (binary_text o) (operator_ascii o)
+
+unary_ascii : (o : UnaryOperator) → is_ascii (unary_text o) ≡ true
+unary_ascii unary_operators.Typeof = refl
+unary_ascii o = refl
+
+pub unary_written : (o : UnaryOperator) (pen : Pen) → layout (unary_sign o) pen ≡ written (space_if (stands_apart (unary_sign o) pen) ++ unary_text o) (end_of (unary_sign o)) pen
+unary_written unary_operators.Typeof pen = refl
+unary_written o pen = refl
+
+pub unary_chars : (o : UnaryOperator) → chars (unary_text o) ≡ unary_text o
+unary_chars o = ascii_chars (unary_text o) (unary_ascii o)

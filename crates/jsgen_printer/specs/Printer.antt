@@ -8,12 +8,14 @@ use Rattle.jsgen_model.specs.Punctuator as punctuators
 use Rattle.jsgen_model.specs.Layout as layouts
 use Rattle.jsgen_model.specs.Layout.{Pen, written, is_apart, joins, name_ending, deeper_level}
 use Rattle.jsgen_model.specs.Items.{Items, word, operator}
-use Rattle.jsgen_model.specs.Spell.{operator_item}
+use Rattle.jsgen_model.specs.Spell.{operator_item, unary_sign}
 use Rattle.jsgen_printer.specs.declared.printer.Printer.{Printer}
 use Rattle.jsgen_printer.specs.declared.printer.Bracket.{Bracket}
 use Rattle.jsgen_printer.specs.declared.printer.Bracket.TheVariants as brackets
 use Rattle.jsgen_printer.specs.declared.printer.Ending.{Ending}
 use Rattle.jsgen_printer.specs.declared.printer.Ending.TheVariants as endings
+use Rattle.jsgen_printer.specs.declared.operator.Operator.{Operator}
+use Rattle.jsgen_printer.specs.declared.operator.Operator.TheVariants as operators
 use Rattle.jsgen_printer.specs.declared.printer.Start.{Start}
 use Rattle.jsgen_printer.specs.declared.printer.Start.TheVariants as starts
 
@@ -33,9 +35,14 @@ bracket_of brackets.Round = punctuators.Round
 bracket_of brackets.Square = punctuators.Square
 bracket_of brackets.Brace = punctuators.Brace
 
+-- the item of an operator
+abbrev pub sign_of : Operator → Items
+sign_of (operators.Binary o) = operator_item o
+sign_of (operators.Unary o) = unary_sign o
+
 abbrev pub ending_of : Ending → layouts.Ending
 ending_of endings.Other = layouts.other_end
-ending_of (endings.Operator o) = end_of (operator_item o)
+ending_of (endings.Operator o) = end_of (sign_of o)
 ending_of endings.Number = layouts.number_end
 ending_of endings.EscapedName = layouts.escaped_name_end
 

@@ -4,7 +4,10 @@ ghost use Rattle.jsgen_syntax.specs.Buffer.{indent_width};
 ghost use Rattle.jsgen_syntax.specs.Name.{goes_in_word};
 ghost use Rattle.jsgen_syntax.specs.declared.quote.Quote.TheVariants.{Single, Double};
 
-use jsgen_syntax::{BinaryOperator, CodeBuffer, IndentChar, JsStr, LogicalOperator, Memory, Quote};
+use crate::operator::Operator;
+use jsgen_syntax::{
+    BinaryOperator, CodeBuffer, IndentChar, JsStr, LogicalOperator, Memory, Quote, UnaryOperator,
+};
 use jsgen_text::{
     cheapest_quote, directive_quote, print_directive_raw, print_name_text, print_string_text,
 };
@@ -16,7 +19,7 @@ use std::alloc::Global;
 pub enum Ending {
     Other,
     /// An operator, behind whose sign another may have to stand apart.
-    Operator(BinaryOperator),
+    Operator(Operator),
     /// A number, behind which a dot would be its own.
     Number,
     /// A name with escapes, maybe in `}`, which a letter behind it would go on with all the same.
@@ -57,7 +60,7 @@ pub struct Printer {
 impl Printer {
     ghost use Rattle.std.specs.Prelude.{IfOk, [], ◌∷◌, ◌++◌, decimal, replicate, string_bytes, true, IsTrue};
     ghost use Rattle.std.specs.Str.{chars, encode_utf8_all};
-    ghost use Rattle.jsgen_model.specs.Punctuator.{Round, opening, closing, ellipsis, comma, semicolon, equal, plus, minus};
+    ghost use Rattle.jsgen_model.specs.Punctuator.{Round, opening, closing, ellipsis, comma, semicolon, equal, plus, minus, equal_equal, equal_equal_equal};
     ghost use Rattle.jsgen_model.specs.Items.{word, name, number, string, first_string, directive, member_dot, punctuator, soft_space, soft_line, hard_space, indentation, body_space, statement_end, due_semicolon, drop_semicolon, statement_begins};
     ghost use Rattle.jsgen_model.specs.Printing.{Reaches};
     ghost use Rattle.jsgen_model.specs.Layout.{layout, written, written_if, other_end, space_if, ends_in_word, ends_in_escapes, is_apart, name_ending, joins, dot_joins, indented, chosen_quote, deeper_level, empty_pen, style_of};
@@ -66,7 +69,7 @@ impl Printer {
     ghost use Rattle.jsgen_syntax.specs.Units.{js_units};
     ghost use Rattle.jsgen_syntax.specs.Strings.{quote_char, quoted};
     ghost use Rattle.jsgen_syntax.specs.Raw.{directive_text};
-    ghost use Rattle.jsgen_model.specs.Spell.{operator_item, logical_item};
+    ghost use Rattle.jsgen_model.specs.Spell.{operator_item, unary_sign, behind_unary, logical_item};
     ghost use Rattle.jsgen_printer.specs.Printer.{bracket_of, pen_of, ending_of, stands_apart, name_written, is_ascii, deepened, at_depth};
 
     /// A printer that has printed nothing.
@@ -148,6 +151,18 @@ impl Printer {
             BinaryOperator::In | BinaryOperator::Instanceof => self.is_apart(),
             BinaryOperator::Addition => self.ends_in_plus(),
             BinaryOperator::Subtraction => self.ends_in_minus(),
+            BinaryOperator::Equality | BinaryOperator::StrictEquality => self.ends_in_bang(),
+            _ => false,
+        }
+    }
+
+    fn unary_stands_apart(&self, operator: UnaryOperator) -> bool
+        ensures { result ≡ stands_apart (unary_sign operator) (pen_of self.now) }
+    {
+        match operator {
+            UnaryOperator::Typeof | UnaryOperator::Void | UnaryOperator::Delete => self.is_apart(),
+            UnaryOperator::UnaryPlus => self.ends_in_plus(),
+            UnaryOperator::UnaryNegation => self.ends_in_minus(),
             _ => false,
         }
     }
@@ -155,13 +170,31 @@ impl Printer {
     fn ends_in_plus(&self) -> bool
         ensures { result ≡ joins (pen_of self.now).ending (pen_of self.now).code plus }
     {
-        matches!(&self.ending, Ending::Operator(BinaryOperator::Addition))
+        matches!(
+            &self.ending,
+            Ending::Operator(Operator::Binary(BinaryOperator::Addition))
+                | Ending::Operator(Operator::Unary(UnaryOperator::UnaryPlus))
+        )
     }
 
     fn ends_in_minus(&self) -> bool
         ensures { result ≡ joins (pen_of self.now).ending (pen_of self.now).code minus }
     {
-        matches!(&self.ending, Ending::Operator(BinaryOperator::Subtraction))
+        matches!(
+            &self.ending,
+            Ending::Operator(Operator::Binary(BinaryOperator::Subtraction))
+                | Ending::Operator(Operator::Unary(UnaryOperator::UnaryNegation))
+        )
+    }
+
+    fn ends_in_bang(&self) -> bool
+        ensures equal { result ≡ joins (pen_of self.now).ending (pen_of self.now).code equal_equal }
+        ensures strict { result ≡ joins (pen_of self.now).ending (pen_of self.now).code equal_equal_equal }
+    {
+        matches!(
+            &self.ending,
+            Ending::Operator(Operator::Unary(UnaryOperator::LogicalNot))
+        )
     }
 
     pub fn print_word(&mut self, text: &str) -> Result<(), Memory>
@@ -351,7 +384,30 @@ impl Printer {
             (layout (operator_item operator) (pen_of self.old)) }
     {
         let apart = self.stands_apart(operator);
-        self.print_apart(apart, operator.as_str(), Ending::Operator(operator))
+        let sign = operator.as_str();
+        self.print_apart(apart, sign, Ending::Operator(Operator::Binary(operator)))
+    }
+
+    /// An operator before its operand.
+    pub fn print_unary_operator(&mut self, operator: UnaryOperator) -> Result<(), Memory>
+        ensures { Reaches result (pen_of self.old) (pen_of self.new)
+            (layout (unary_sign operator) (pen_of self.old)) }
+    {
+        let apart = self.unary_stands_apart(operator);
+        let text = operator.as_str();
+        self.print_apart(apart, text, Ending::Operator(Operator::Unary(operator)))
+    }
+
+    /// What stands between such an operator and its operand.
+    pub fn print_behind_unary(&mut self, operator: UnaryOperator) -> Result<(), Memory>
+        ensures { Reaches result (pen_of self.old) (pen_of self.new)
+            (layout (behind_unary operator) (pen_of self.old)) }
+    {
+        match operator {
+            UnaryOperator::Typeof | UnaryOperator::Void | UnaryOperator::Delete =>
+                self.print_soft_space(),
+            _ => Ok(()),
+        }
     }
 
     pub fn print_logical_sign(&mut self, operator: LogicalOperator) -> Result<(), Memory>

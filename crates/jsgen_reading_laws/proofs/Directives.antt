@@ -7,6 +7,8 @@ use Rattle.jsgen_syntax.specs.declared.quote.Quote.{Quote}
 use Rattle.jsgen_syntax.specs.declared.quote.Quote.TheVariants.{Backtick}
 use Rattle.jsgen_syntax.specs.declared.operator.BinaryOperator.{BinaryOperator}
 use Rattle.jsgen_syntax.specs.declared.operator.BinaryOperator.TheVariants as operators
+use Rattle.jsgen_syntax.specs.declared.operator.UnaryOperator.{UnaryOperator}
+use Rattle.jsgen_syntax.specs.declared.operator.UnaryOperator.TheVariants as unary_operators
 use Rattle.jsgen_syntax.proofs.Strings.{escaped_value}
 use Rattle.jsgen_tree.specs.Inside.{without_parentheses}
 use Rattle.jsgen_tree.specs.Atom.{units}
@@ -17,7 +19,7 @@ use Rattle.jsgen_model.specs.Punctuator.{dot, star_star, and_and, or_or, nullish
 use Rattle.jsgen_model.specs.Tokens.{Tokens, done, piece, group, ◌⧺◌, Quoted, Sign}
 use Rattle.jsgen_model.specs.Items.{Items, first_string, due_semicolon}
 use Rattle.jsgen_model.specs.Layout.{Pen, layout, written, other_end}
-use Rattle.jsgen_model.specs.Grammar.{Allowed, Level, EndsBy, ReadsExpression, ReadsStatement, ReadsItem, ReadsBody, operator_piece, starts_with_directive}
+use Rattle.jsgen_model.specs.Grammar.{Allowed, Level, EndsBy, ReadsExpression, ReadsStatement, ReadsItem, ReadsBody, operator_piece, unary_piece, starts_with_directive}
 use Rattle.jsgen_model.specs.Grammar as grammar
 use Rattle.jsgen_model.specs.Normal.{normal, nothing_of}
 use Rattle.jsgen_model.specs.Spell.{Settings, spell, spell_body, string_in, unless_string, first_statement, among_statements, whole_statement}
@@ -67,6 +69,10 @@ operator_goes o m b = tt
 opens_behind : (ts a b : Tokens) (t u : Tree) → ts ≡ a ⧺ b → Opens a t → Goes b → Opens ts u
 opens_behind ts a b t u e h g = subst (λ x. Opens x u) (sym e) (opens_more a b t u h g)
 
+unary_opens : (o : UnaryOperator) (m : Bool) (b : Tokens) (t : Tree) → Opens (piece m (unary_piece o) b) t
+unary_opens unary_operators.UnaryPlus m b t = tt
+unary_opens o m b t = tt
+
 opens : {c : Allowed} {g : Level} {ts : Tokens} {t : Tree} → ReadsExpression c g ts t → Opens ts t
 opens (grammar.an_assignment r) = opens r
 opens (grammar.a_conditional r) = opens r
@@ -104,6 +110,8 @@ opens (grammar.a_computed_member {a = a} {o = o} m e r s) = opens_behind _ a (gr
 opens (grammar.with_arguments {a = a} {f = f} m e r s) = opens_behind _ a (group m Round _ done) f _ e (opens r) tt
 opens (grammar.a_named_member_of_call {a = a} {o = o} w m n e v r) = opens_behind _ a (piece m (Sign dot) _) o _ e (opens r) tt
 opens (grammar.a_computed_member_of_call {a = a} {o = o} m e r s) = opens_behind _ a (group m Square _ done) o _ e (opens r) tt
+opens (grammar.a_unary_operation {mark = m} o r) = unary_opens o m _ _
+opens grammar.a_new_target = tt
 opens (grammar.a_reference e h) = tt
 opens grammar.a_this = tt
 opens grammar.a_null = tt

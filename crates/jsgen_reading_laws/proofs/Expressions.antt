@@ -8,15 +8,16 @@ use Rattle.jsgen_syntax.specs.Wtf8.{are_units}
 use Rattle.jsgen_syntax.specs.declared.quote.Quote.{Quote}
 use Rattle.jsgen_syntax.proofs.Escapes.{word_text_value}
 use Rattle.jsgen_syntax.proofs.Strings.{escaped_value}
-use Rattle.jsgen_model.specs.Items.{string}
+use Rattle.jsgen_model.specs.Punctuator.{dot}
+use Rattle.jsgen_model.specs.Items.{string, word, member_dot}
 use Rattle.jsgen_tree.specs.Atom.{units, flag}
 use Rattle.jsgen_tree.specs.Number.{NumericKind, Whole, Raw}
 use Rattle.jsgen_tree.specs.Tree.{Tree, Trees, Atoms}
 use Rattle.jsgen_tree.specs.Places.{bare}
 use Rattle.jsgen_tree.specs.Values.{identifier_reference_name, boolean_literal_value, numeric_literal_kind, numeric_literal_digits, string_literal_value}
 use Rattle.jsgen_tree.specs.Nodes as tree
-use Rattle.jsgen_model.specs.Tokens.{Tokens, done, piece, Word, Number, Quoted}
-use Rattle.jsgen_model.specs.Layout.{layout, chosen_quote, Start, nowhere, statement, arrow_body, default_export}
+use Rattle.jsgen_model.specs.Tokens.{Tokens, done, piece, Word, Number, Quoted, Sign}
+use Rattle.jsgen_model.specs.Layout.{Pen, layout, chosen_quote, Start, nowhere, statement, arrow_body, default_export}
 use Rattle.jsgen_model.specs.Grammar.{Allowed, is_word}
 use Rattle.jsgen_model.specs.Grammar as grammar
 use Rattle.jsgen_model.specs.Normal.{nothing_of, unnumbered, by_text, number_text}
@@ -24,15 +25,17 @@ use Rattle.jsgen_model.specs.Plain.{is_whole}
 use Rattle.jsgen_model.specs.Spell.{truth_word, number_item}
 use Rattle.jsgen_token_laws.proofs.Characters.{letters_spelled}
 use Rattle.jsgen_token_laws.proofs.Last.{After, line_of}
-use Rattle.jsgen_token_laws.proofs.Steps.{wrote_word, wrote_name, wrote_number, wrote_quoted}
-use Rattle.jsgen_reading_laws.proofs.Levels.{level_of, under, from_primary}
+use Rattle.jsgen_token_laws.proofs.Steps.{wrote_word, wrote_name, wrote_number, wrote_quoted, wrote_dot}
+use Rattle.jsgen_reading_laws.proofs.Levels.{level_of, under, from_primary, weaken_member, from_left}
 use Rattle.jsgen_reading_laws.proofs.Families.{IsExpression, IsElement, AreArguments, AreElements}
+use Rattle.jsgen_token_laws.proofs.Writes.{wrote_both}
 use Rattle.jsgen_reading_laws.proofs.Families as family
 use Rattle.jsgen_reading_laws.proofs.Asked.{asked}
 use Rattle.jsgen_reading_laws.proofs.Names.{free_spelled, free_starts_none}
 use Rattle.jsgen_reading_laws.proofs.Numbers.{decimal_whole}
 use Rattle.jsgen_reading_laws.proofs.Good.{Good, Printed, may_begin}
 use Rattle.jsgen_reading_laws.proofs.Operations.{good_operation}
+use Rattle.jsgen_reading_laws.proofs.Prefixes.{word_begins, good_unary_operation}
 use Rattle.jsgen_reading_laws.proofs.Chains.{good_logical_operation}
 use Rattle.jsgen_reading_laws.proofs.Links.{ElementOf, ArgumentsAt, MoreArgumentsAt, good_named_member, good_computed_member, good_call, good_element, good_spread, no_arguments, first_of_arguments, no_more_arguments, one_more_argument}
 use Rattle.jsgen_reading_laws.proofs.Collections.{ElementsOf, no_elements, first_of_elements, left_out_of_elements, good_array}
@@ -133,6 +136,27 @@ good_boolean c a place p l z y k = let v : Bool = boolean_literal_value a in rec
   same = refl;
 }
 
+-- the meta property, three tokens
+pub good_new_target : (c : Allowed) (a : Atoms) → Printed c (tree.new_target a)
+good_new_target c a place p l z y k =
+    let p1 : Pen = layout (word (codes "new")) p in
+    let p2 : Pen = layout member_dot p1 in
+    let w = wrote_word (codes "new") p l (letters_spelled 110 (codes "ew") refl) k in
+    let d = wrote_dot p1 (After (Word (codes "new"))) tt w.knows in
+    let t = wrote_word (codes "target") p2 (After (Sign dot)) (letters_spelled 116 (codes "arget") refl) d.knows in
+    record {
+      last = After (Word (codes "target"));
+      tokens = piece (line_of l) (Word (codes "new")) (piece false (Sign dot) (piece false (Word (codes "target")) done));
+      writes = wrote_both w (wrote_both d t);
+      operand = tt;
+      semicolon = z;
+      begins = λ b n. word_begins (codes "new") (λ ts. refl) place.start (line_of l) (piece false (Sign dot) (piece false (Word (codes "target")) b));
+      line = λ g. ap not g;
+      tree = tree.new_target (nothing_of 0);
+      reads = from_left place (weaken_member place.context.forbids_call grammar.a_new_target);
+      same = refl;
+    }
+
 number_begins : (start : Start) (line : Bool) (w : List ℕ) (b : Tokens) → may_begin start (piece line (Number w) b) ≡ true
 number_begins nowhere line w b = refl
 number_begins statement line w b = refl
@@ -205,8 +229,10 @@ mutual
   printed_expression {c} (family.a_number {a} h) = good_number c a h
   printed_expression {c} (family.a_string {a} h) = good_string c a h
   printed_expression {c} (family.in_parentheses {a} {t} v) = good_parenthesized c a t (printed_expression v)
-  printed_expression {c} (family.an_operation {a} {l} {r} v w) = good_operation c a l r (asked v).alike (printed_expression v) (printed_expression w)
+  printed_expression {c} (family.an_operation {a} {l} {r} v w) = good_operation c a l r (asked v).unary (printed_expression v) (printed_expression w)
   printed_expression {c} (family.a_logical_operation {a} {l} {r} v w) = good_logical_operation c a l r (printed_expression v) (printed_expression w) (asked v).mixed (asked w).mixed
+  printed_expression {c} (family.a_unary_operation {a} {t} v) = good_unary_operation c a t (printed_expression v)
+  printed_expression {c} (family.a_new_target {a}) = good_new_target c a
   printed_expression {c} (family.a_named_member {a} {b} {o} m v h) = good_named_member c a b o m h (printed_expression v)
   printed_expression {c} (family.a_computed_member {a} {o} {e} m v w) = good_computed_member c a o e m (printed_expression v) (printed_expression w)
   printed_expression {c} (family.a_call {a} {f} {es} m v w) = good_call c a f es m (printed_expression v) (printed_arguments w)

@@ -34,6 +34,8 @@ mutual
     a_named_member : {c : Allowed} {a b : Atoms} {o : Tree} → static_member_expression_optional a ≡ atoms.no_value → IsExpression c o → spells_name (identifier_name_name b) ≡ true → IsExpression c (tree.static_member a o (tree.identifier_name b))
     a_computed_member : {c : Allowed} {a : Atoms} {o e : Tree} → computed_member_expression_optional a ≡ atoms.no_value → IsExpression c o → IsExpression c e → IsExpression c (tree.computed_member a o e)
     a_call : {c : Allowed} {a : Atoms} {f : Tree} {es : Trees} → call_expression_optional a ≡ atoms.no_value → IsExpression c f → AreArguments c es → IsExpression c (tree.call a f es)
+    a_unary_operation : {c : Allowed} {a : Atoms} {t : Tree} → IsExpression c t → IsExpression c (tree.unary a t)
+    a_new_target : {c : Allowed} {a : Atoms} → IsExpression c (tree.new_target a)
     an_operation : {c : Allowed} {a : Atoms} {l r : Tree} → IsExpression c l → IsExpression c r → IsExpression c (tree.binary a l r)
     a_logical_operation : {c : Allowed} {a : Atoms} {l r : Tree} → IsExpression c l → IsExpression c r → IsExpression c (tree.logical a l r)
     an_array : {c : Allowed} {a : Atoms} {es : Trees} → AreElements c es → IsExpression c (tree.array a es)
@@ -188,6 +190,10 @@ mutual
   expression_valid c around (tree.array a es) p s e =
       let j = none_both (in_trees around (place_of sets.ArrayExpressionElement around ∷ []) es) [] (parts (span_faults a.span) [] _ e).1 in
       an_array (elements_valid c around es p.1.0 j.0)
+  expression_valid c around (tree.unary a t) p s e =
+      let k = placed around sets.Expression t [] (parts (span_faults a.span) [] _ e).1 in
+      a_unary_operation (expression_valid c around t p.1.0 k.0 k.1)
+  expression_valid c around (tree.new_target a) p s e = a_new_target
   expression_valid c around t p s e = absurd (search no_truth)
 
   arguments_valid : (c : Allowed) (around : Surroundings) (es : Trees) → has_no_hole es ≡ true → EverywhereInTrees is_plain_row es → in_trees around (place_of sets.Argument around ∷ []) es ≡ [] → AreArguments c es

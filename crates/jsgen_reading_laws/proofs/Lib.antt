@@ -8,6 +8,7 @@ pub mod Elements
 pub mod Asked
 pub mod Operations
 pub mod Chains
+pub mod Prefixes
 pub mod Links
 pub mod Collections
 pub mod Expressions

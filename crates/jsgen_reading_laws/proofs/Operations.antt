@@ -1,6 +1,6 @@
 -- Binary operations.
-use Rattle.std.proofs.Common.{◌≡◌, ℕ, Bool, true, false, not, cond, codes, List, [], ◌∷◌, refl, sym, ap, subst, bytes_eq, arith}
-use Rattle.std.proofs.lemmas.Bool.{or_parts}
+use Rattle.std.proofs.Common.{◌≡◌, ℕ, Bool, true, false, not, cond, codes, List, [], ◌∷◌, refl, ap, ◌∙◌, bytes_eq, arith}
+use Rattle.std.proofs.lemmas.Bool.{both_ways, or_parts}
 use Rattle.jsgen_syntax.specs.Name.{spells_name}
 use Rattle.jsgen_syntax.specs.Operator.{binary_level}
 use Rattle.jsgen_syntax.specs.declared.operator.BinaryOperator.{BinaryOperator}
@@ -19,13 +19,13 @@ use Rattle.jsgen_model.specs.Layout.{Pen, layout, unless_printed}
 use Rattle.jsgen_model.specs.Grammar.{Allowed, Level, ReadsExpression, operation_level, next_level, operator_piece, may_stand}
 use Rattle.jsgen_model.specs.Grammar as grammar
 use Rattle.jsgen_model.specs.Normal.{normal}
-use Rattle.jsgen_model.specs.Spell.{Place, spell, within, left_of, behind, operator_item, wraps, is_forbidden, binary_wraps, left_level, right_level, is_number}
+use Rattle.jsgen_model.specs.Spell.{Place, spell, within, left_of, behind, operator_item, wraps, is_forbidden, binary_wraps, left_level, right_level, is_prefixed}
 use Rattle.jsgen_token_laws.proofs.Characters.{letters_spelled}
 use Rattle.jsgen_token_laws.proofs.Last.{Last, After, Ready, Knows, NoDot}
 use Rattle.jsgen_token_laws.proofs.Steps.{wrote_word, wrote_operator}
-use Rattle.jsgen_reading_laws.proofs.Levels.{read_at, under, looser, lifted, unwrapped}
-use Rattle.jsgen_reading_laws.proofs.Asked.{SpelledAlike}
-use Rattle.jsgen_reading_laws.proofs.Good.{Good, Printed, Between, good_at, good_wrapped, good_infix}
+use Rattle.jsgen_reading_laws.proofs.Levels.{number_of, operation_number, read_at, under, looser, lifted, unwrapped}
+use Rattle.jsgen_reading_laws.proofs.Asked.{is_unary}
+use Rattle.jsgen_reading_laws.proofs.Good.{Good, Printed, Between, good_at, good_since, good_wrapped, good_infix}
 
 -- ---- the token between the operands
 
@@ -63,16 +63,31 @@ stands_there o c place w e = refl
 
 -- ---- the left operand of `**`
 
-power_left : (c : Allowed) (t : Tree) → SpelledAlike t → Printed c t → (place : Place) (p : Pen) (l : Last) → p.pending_semicolon ≡ false → Ready l → Knows p l → Good p l (layout (spell t (left_of (left_level operators.Exponential t) place)) p) (under place c) grammar.Update place.start t
-power_left c t h f place p l z y k = go (is_number (without_parentheses t))
+-- what is read as a unary operation may be, and is none, is read as an update
+no_unary : {c : Allowed} {g : Level} {ts : Tokens} {t : Tree} → g ≡ grammar.Unary → is_unary (normal t) ≡ false → ReadsExpression c g ts t → ReadsExpression c grammar.Update ts t
+no_unary d n (grammar.an_update r) = r
+no_unary d n (grammar.a_unary_operation o r) = absurd (both_ways true n refl)
+no_unary d n (grammar.an_operation o m p k q s t) = absurd (omega (arith, operation_number o, ap number_of d))
+no_unary d n r = absurd (omega (arith, ap number_of d))
+
+not_prefixed : (t : Tree) → is_prefixed t ≡ false → is_unary t ≡ false
+not_prefixed (tree.unary a argument) h = absurd (both_ways true h refl)
+not_prefixed t h = refl
+
+-- of a unary operation the normal form is one, and of nothing else
+abbrev IsToldByForm : Tree → Type 0
+IsToldByForm t = is_unary (normal t) ≡ is_unary (without_parentheses t)
+
+power_left : (c : Allowed) (t : Tree) → IsToldByForm t → Printed c t → (place : Place) (p : Pen) (l : Last) → p.pending_semicolon ≡ false → Ready l → Knows p l → Good p l (layout (spell t (left_of (left_level operators.Exponential t) place)) p) (under place c) grammar.Update place.start t
+power_left c t h f place p l z y k = go (is_prefixed (without_parentheses t)) refl
   where
-    go : (b : Bool) → Good p l (layout (spell t (left_of (cond b levels.Call levels.Exponentiation) place)) p) (under place c) grammar.Update place.start t
-    go true = good_at (λ ts u. lifted place.context.forbids_call levels.Call levels.Prefix (omega arith)) (f (left_of levels.Call place) p l z y k)
-    go false = subst (λ items. Good p l (layout items p) (under place c) grammar.Update place.start t) (sym (h place)) (f (left_of levels.Prefix place) p l z y k)
+    go : (b : Bool) → is_prefixed (without_parentheses t) ≡ b → Good p l (layout (spell t (left_of (cond b levels.Call levels.Exponentiation) place)) p) (under place c) grammar.Update place.start t
+    go true e = good_at (λ ts u. lifted place.context.forbids_call levels.Call levels.Prefix (omega arith)) (f (left_of levels.Call place) p l z y k)
+    go false e = good_since (λ ts u s r. no_unary refl (ap is_unary s ∙ h ∙ not_prefixed (without_parentheses t) e) r) (f (left_of levels.Exponentiation place) p l z y k)
 
 -- ---- the operands
 
-left_operand : (o : BinaryOperator) (c : Allowed) (t : Tree) → SpelledAlike t → Printed c t → (place : Place) (p : Pen) (l : Last) → p.pending_semicolon ≡ false → Ready l → Knows p l → Good p l (layout (spell t (left_of (left_level o t) place)) p) (under place c) (left_goal o) place.start t
+left_operand : (o : BinaryOperator) (c : Allowed) (t : Tree) → IsToldByForm t → Printed c t → (place : Place) (p : Pen) (l : Last) → p.pending_semicolon ≡ false → Ready l → Knows p l → Good p l (layout (spell t (left_of (left_level o t) place)) p) (under place c) (left_goal o) place.start t
 left_operand operators.Exponential c t h f place = power_left c t h f place
 left_operand o c t h f place = f (left_of (left_level o t) place)
 
@@ -85,7 +100,7 @@ right_operand o c t f place = f (behind (right_level o) place)
 same_operation : (o : BinaryOperator) (u v x y : Tree) → normal u ≡ normal x → normal v ≡ normal y → tree.binary (bare (binary_operator o ∷ [])) (normal u) (normal v) ≡ tree.binary (bare (binary_operator o ∷ [])) (normal x) (normal y)
 same_operation o u v x y e f = λ i. tree.binary (bare (binary_operator o ∷ [])) (e i) (f i)
 
-pub good_operation : (c : Allowed) (a : Atoms) (x y : Tree) → SpelledAlike x → Printed c x → Printed c y → Printed c (tree.binary a x y)
+pub good_operation : (c : Allowed) (a : Atoms) (x y : Tree) → IsToldByForm x → Printed c x → Printed c y → Printed c (tree.binary a x y)
 good_operation c a x y h f g place =
     let o : BinaryOperator = binary_expression_operator a in
     good_wrapped c place (operation_level o) (binary_wraps o place) (λ w. spell x (left_of (left_level o x) (within w place)) ⊕ (soft_space ⊕ (operator_item o ⊕ (soft_space ⊕ spell y (behind (right_level o) (within w place)))))) (tree.binary a x y)

@@ -4,12 +4,13 @@ ghost use Rattle.std.specs.Prelude.{◌≡◌};
 ghost use Rattle.serde_json.specs.View.{view};
 ghost use Rattle.jsgen_fields.specs.Reads.{Gives, read_typed};
 ghost use Rattle.jsgen_fields.specs.Kept.{entries, row_plain};
-ghost use Rattle.jsgen_fields.specs.Parts.{is_in_statements, is_in_expressions};
+ghost use Rattle.jsgen_fields.specs.Parts.{is_in_statements, is_in_expressions, is_in_collections};
 
 use jsgen_collection_rows::collections::read_in_collections;
 use jsgen_expression_rows::expressions::read_in_expressions;
 use jsgen_fields::InputFault;
 use jsgen_fields::kept::{ReadNode, Row};
+use jsgen_operation_rows::operations::read_in_operations;
 use jsgen_pool::Kept;
 use jsgen_statement_rows::statements::read_in_statements;
 use jsgen_syntax::Span;
@@ -55,6 +56,15 @@ fn is_in_expressions(node_type: NodeType) -> bool
     )
 }
 
+fn is_in_collections(node_type: NodeType) -> bool
+    ensures { result ≡ is_in_collections node_type }
+{
+    matches!(
+        &node_type,
+        NodeType::SpreadElement | NodeType::ArrayExpression
+    )
+}
+
 /// The row of a type.
 pub fn read_typed<N: ReadNode + Drop>(
     alloc: Global,
@@ -73,5 +83,8 @@ pub fn read_typed<N: ReadNode + Drop>(
     if is_in_expressions(node_type) {
         return read_in_expressions(alloc, kept, node_type, number, span, row);
     }
-    read_in_collections(alloc, kept, node_type, number, span, row)
+    if is_in_collections(node_type) {
+        return read_in_collections(alloc, kept, node_type, number, span, row);
+    }
+    read_in_operations(alloc, kept, node_type, number, span, row)
 }

@@ -1,4 +1,4 @@
--- The table of operators: spelling and level (ECMA-262, 13.6 to 13.13).
+-- The table of operators: spelling and level (ECMA-262, 13.4 to 13.13).
 use Rattle.std.specs.Prelude.{ℕ, List, codes}
 use Rattle.jsgen_syntax.specs.declared.precedence.Precedence.{Precedence}
 use Rattle.jsgen_syntax.specs.declared.precedence.Precedence.TheVariants as levels
@@ -6,6 +6,10 @@ use Rattle.jsgen_syntax.specs.declared.operator.BinaryOperator.{BinaryOperator}
 use Rattle.jsgen_syntax.specs.declared.operator.BinaryOperator.TheVariants as operators
 use Rattle.jsgen_syntax.specs.declared.operator.LogicalOperator.{LogicalOperator}
 use Rattle.jsgen_syntax.specs.declared.operator.LogicalOperator.TheVariants as logical
+use Rattle.jsgen_syntax.specs.declared.operator.UnaryOperator.{UnaryOperator}
+use Rattle.jsgen_syntax.specs.declared.operator.UnaryOperator.TheVariants as unary
+use Rattle.jsgen_syntax.specs.declared.operator.UpdateOperator.{UpdateOperator}
+use Rattle.jsgen_syntax.specs.declared.operator.UpdateOperator.TheVariants as update
 
 abbrev pub binary_text : BinaryOperator → List ℕ
 binary_text operators.Equality = codes "=="
@@ -95,3 +99,22 @@ abbrev pub logical_lower_level : LogicalOperator → Precedence
 logical_lower_level logical.Or = levels.NullishCoalescing
 logical_lower_level logical.And = levels.LogicalOr
 logical_lower_level logical.Coalesce = levels.Conditional
+
+-- ---- before an operand, and behind it
+
+abbrev pub unary_text : UnaryOperator → List ℕ
+unary_text unary.UnaryPlus = codes "+"
+unary_text unary.UnaryNegation = codes "-"
+unary_text unary.LogicalNot = codes "!"
+unary_text unary.BitwiseNot = codes "~"
+unary_text unary.Typeof = codes "typeof"
+unary_text unary.Void = codes "void"
+unary_text unary.Delete = codes "delete"
+
+abbrev pub unary_level : UnaryOperator → Precedence
+unary_level o = levels.Prefix
+
+-- the level of an update depends on the side of its operator
+abbrev pub update_text : UpdateOperator → List ℕ
+update_text update.Increment = codes "++"
+update_text update.Decrement = codes "--"

@@ -1,7 +1,7 @@
 ghost use Rattle.std.specs.Prelude.{◌≡◌, ◌==◌};
 ghost use Rattle.std.specs.List.{list_all};
 ghost use Rattle.std.specs.Char.{is_ascii_alphabetic};
-ghost use Rattle.jsgen_syntax.specs.Operator.{binary_text, binary_level, lower_level, logical_text, logical_level, logical_lower_level};
+ghost use Rattle.jsgen_syntax.specs.Operator.{binary_text, binary_level, lower_level, logical_text, logical_level, logical_lower_level, unary_text, unary_level, update_text};
 ghost use Rattle.jsgen_syntax.specs.Precedence.{rank};
 
 use crate::precedence::{GetPrecedence, Precedence};
@@ -176,6 +176,72 @@ impl GetPrecedence for LogicalOperator {
             LogicalOperator::Or => Precedence::LogicalOr,
             LogicalOperator::And => Precedence::LogicalAnd,
             LogicalOperator::Coalesce => Precedence::NullishCoalescing,
+        }
+    }
+}
+
+/// The operators before one operand (ECMA-262, 13.5).
+#[derive(Clone, Copy, Debug, PartialEq, Eq, Hash)]
+pub enum UnaryOperator {
+    UnaryPlus,
+    UnaryNegation,
+    LogicalNot,
+    BitwiseNot,
+    Typeof,
+    Void,
+    Delete,
+}
+
+impl UnaryOperator {
+    /// The spelling.
+    pub fn as_str(self) -> &'static str
+        ensures { result.now ≡ unary_text self }
+    {
+        match self {
+            UnaryOperator::UnaryPlus => "+",
+            UnaryOperator::UnaryNegation => "-",
+            UnaryOperator::LogicalNot => "!",
+            UnaryOperator::BitwiseNot => "~",
+            UnaryOperator::Typeof => "typeof",
+            UnaryOperator::Void => "void",
+            UnaryOperator::Delete => "delete",
+        }
+    }
+
+    /// Whether the spelling is letters.
+    pub fn is_keyword(self) -> bool
+        ensures { result ≡ list_all is_ascii_alphabetic (unary_text self) }
+    {
+        matches!(
+            &self,
+            UnaryOperator::Typeof | UnaryOperator::Void | UnaryOperator::Delete
+        )
+    }
+}
+
+impl GetPrecedence for UnaryOperator {
+    ghost level = { λ operator. unary_level operator };
+
+    fn precedence(&self) -> Precedence {
+        Precedence::Prefix
+    }
+}
+
+/// The operators that change what their operand names, before it or behind it (ECMA-262, 13.4).
+#[derive(Clone, Copy, Debug, PartialEq, Eq, Hash)]
+pub enum UpdateOperator {
+    Increment,
+    Decrement,
+}
+
+impl UpdateOperator {
+    /// The spelling.
+    pub fn as_str(self) -> &'static str
+        ensures { result.now ≡ update_text self }
+    {
+        match self {
+            UpdateOperator::Increment => "++",
+            UpdateOperator::Decrement => "--",
         }
     }
 }

@@ -11,7 +11,7 @@ use Rattle.jsgen_model.specs.Punctuator.{Punctuator, Bracket, punctuator_text, p
 use Rattle.jsgen_model.specs.Tokens.{longer_stands, Tokens, done, piece, group, Word, Number, Quoted, Sign, is_spelled, is_blank, is_line_terminator, has_line_end, spells_whole}
 use Rattle.jsgen_model.specs.Items.{member_dot, word, name, number, punctuator, operator, soft_space, soft_line, hard_space, body_space, indentation, due_semicolon, statement_begins}
 use Rattle.jsgen_model.specs.Layout.{Pen, Ending, other_end, operator_end, layout, written, written_if, text_if, ending_unless, is_apart, ends_in_escapes, name_ending, space_if, joins, dot_joins, indented, indent_or_space, at_indentation, end_statement}
-use Rattle.jsgen_token_laws.proofs.Characters.{ends_in_word_behind, all_goes, whole_digits, digit_goes, all_follow}
+use Rattle.jsgen_token_laws.proofs.Characters.{goes_on_in_sign, ends_in_word_behind, all_goes, whole_digits, digit_goes, all_follow}
 use Rattle.jsgen_token_laws.proofs.Words.{word_begins, unescaped, name_spelled, spelled_name}
 use Rattle.jsgen_token_laws.proofs.Last.{Last, Open, After, line_of, Clear, Operand, Ready, Begun, Remembers, Ended, is_indent, Knows, NoDot, word_ends, clear_apart, clear_dots, clear_quote, clear_quoted, clear_space, clear_operator, clear_word, clear_digit}
 use Rattle.jsgen_token_laws.proofs.Writes.{Writes, wrote_none, wrote_and_none, wrote_blank, wrote_piece, wrote_brackets}
@@ -319,6 +319,13 @@ pub wrote_minus : (p : Pen) (l : Last) → Knows p l → Writes p l (layout (ope
 wrote_minus p l k =
     let b : Bool = joins p.ending p.code minus in
     wrote_piece p (layout (operator minus) p) l (space_if b) (Sign minus) (line_of l) (space_blank b) (space_mark b (line_of l)) refl (λ r. minus_clear p.code p.ending l r k.ending) refl (record { indent = k.indent; ending = refl })
+
+-- a sign of one character, with which no other sign goes on
+pub wrote_prefix : (s : Punctuator) (c : ℕ) (p : Pen) (l : Last) → punctuator_text s ≡ c ∷ [] → goes_in_word c ≡ false → goes_on_in_sign c ≡ false → (c == 92) ≡ false → Knows p l → Writes p l (layout (operator s) p) (After (Sign s)) (piece (line_of l) (Sign s) done)
+wrote_prefix s c p l e h g n k =
+    let b : Bool = joins p.ending p.code s in
+    wrote_piece p (layout (operator s) p) l (space_if b) (Sign s) (line_of l) (space_blank b) (space_mark b (line_of l)) refl
+    (λ r. spaced_or l b (punctuator_text s ++ r) (subst (λ t. Clear l (t ++ r)) (sym e) (clear_apart l c r h g n))) refl (record { indent = k.indent; ending = remembered s })
 
 -- ---- the dot of a member, behind an operand
 

@@ -6,6 +6,7 @@ use Rattle.jsgen_tree.specs.declared.statements.VariableDeclarationKind.{Variabl
 use Rattle.jsgen_tree.specs.Number.{NumericKind}
 use Rattle.jsgen_syntax.specs.declared.operator.BinaryOperator.{BinaryOperator}
 use Rattle.jsgen_syntax.specs.declared.operator.LogicalOperator.{LogicalOperator}
+use Rattle.jsgen_syntax.specs.declared.operator.UnaryOperator.{UnaryOperator}
 
 pub data Atom : Type 0 where
   -- of a field that is absent
@@ -21,3 +22,4 @@ pub data Atom : Type 0 where
   numeric_kind : NumericKind → Atom
   binary_operator : BinaryOperator → Atom
   logical_operator : LogicalOperator → Atom
+  unary_operator : UnaryOperator → Atom

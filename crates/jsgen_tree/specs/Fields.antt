@@ -12,6 +12,7 @@ use Rattle.jsgen_tree.specs.declared.statements.VariableDeclarationKind.TheVaria
 use Rattle.jsgen_tree.specs.Number as numeric_kinds
 use Rattle.jsgen_syntax.specs.declared.operator.BinaryOperator.TheVariants as binary_operators
 use Rattle.jsgen_syntax.specs.declared.operator.LogicalOperator.TheVariants as logical_operators
+use Rattle.jsgen_syntax.specs.declared.operator.UnaryOperator.TheVariants as unary_operators
 
 -- ---- words
 
@@ -29,6 +30,9 @@ binary_operator_words = means (codes "==") (atoms.binary_operator binary_operato
 
 abbrev pub logical_operator_words : List Word
 logical_operator_words = means (codes "||") (atoms.logical_operator logical_operators.Or) ∷ means (codes "&&") (atoms.logical_operator logical_operators.And) ∷ means (codes "??") (atoms.logical_operator logical_operators.Coalesce) ∷ []
+
+abbrev pub unary_operator_words : List Word
+unary_operator_words = means (codes "+") (atoms.unary_operator unary_operators.UnaryPlus) ∷ means (codes "-") (atoms.unary_operator unary_operators.UnaryNegation) ∷ means (codes "!") (atoms.unary_operator unary_operators.LogicalNot) ∷ means (codes "~") (atoms.unary_operator unary_operators.BitwiseNot) ∷ means (codes "typeof") (atoms.unary_operator unary_operators.Typeof) ∷ means (codes "void") (atoms.unary_operator unary_operators.Void) ∷ means (codes "delete") (atoms.unary_operator unary_operators.Delete) ∷ []
 
 -- ---- fields: one list for each type, in the order of their numbers, from 2 on
 
@@ -104,6 +108,12 @@ spread_element_fields = needs (codes "argument") (sorts.child sets.Expression) �
 abbrev pub array_expression_fields : List Field
 array_expression_fields = may_have (codes "elements") (sorts.children_or_holes sets.ArrayExpressionElement) ∷ []
 
+abbrev pub unary_expression_fields : List Field
+unary_expression_fields = needs (codes "operator") (sorts.word unary_operator_words) ∷ needs (codes "argument") (sorts.child sets.Expression) ∷ []
+
+abbrev pub new_target_fields : List Field
+new_target_fields = []
+
 abbrev pub fields : NodeType → List Field
 fields types.Program = program_fields
 fields types.Directive = directive_fields
@@ -129,3 +139,5 @@ fields types.ComputedMemberExpression = computed_member_expression_fields
 fields types.CallExpression = call_expression_fields
 fields types.SpreadElement = spread_element_fields
 fields types.ArrayExpression = array_expression_fields
+fields types.UnaryExpression = unary_expression_fields
+fields types.NewTarget = new_target_fields

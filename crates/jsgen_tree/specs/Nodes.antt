@@ -74,3 +74,9 @@ spread a argument = node types.SpreadElement a (one argument no_slots)
 
 pattern abbrev pub array : Atoms → Trees → Tree
 array a elements = node types.ArrayExpression a (many elements no_slots)
+
+pattern abbrev pub unary : Atoms → Tree → Tree
+unary a argument = node types.UnaryExpression a (one argument no_slots)
+
+pattern abbrev pub new_target : Atoms → Tree
+new_target a = node types.NewTarget a no_slots

@@ -4,8 +4,8 @@ use Rattle.std.specs.Prelude.{[], ◌∷◌, map, option_map}
 use Rattle.jsgen_syntax.specs.Units.{js_units}
 use Rattle.jsgen_tree.specs.Characters.{characters, numeric_values}
 use Rattle.jsgen_tree.specs.Tree.{Tree, optional, trees, holed}
-use Rattle.jsgen_tree.specs.Atom.{no_value, text, units, flag, source_kind, declaration_kind, binary_operator, logical_operator}
-use Rattle.jsgen_tree.specs.Nodes.{program, directive, variable_declaration, variable_declarator, binding_identifier, expression_statement, block, if_statement, empty_statement, identifier_reference, this_expression, null_literal, boolean_literal, numeric_literal, string_literal, parenthesized, binary, logical, identifier_name, static_member, computed_member, call, spread, array}
+use Rattle.jsgen_tree.specs.Atom.{no_value, text, units, flag, source_kind, declaration_kind, binary_operator, logical_operator, unary_operator}
+use Rattle.jsgen_tree.specs.Nodes.{program, directive, variable_declaration, variable_declarator, binding_identifier, expression_statement, block, if_statement, empty_statement, identifier_reference, this_expression, null_literal, boolean_literal, numeric_literal, string_literal, parenthesized, binary, logical, identifier_name, static_member, computed_member, call, spread, array, unary, new_target}
 use Rattle.jsgen_tree.specs.declared.nodes.ExpressionNode.{ExpressionNode}
 use Rattle.jsgen_tree.specs.declared.nodes.DeclarationNode.{DeclarationNode}
 use Rattle.jsgen_tree.specs.declared.nodes.StatementNode.{StatementNode}
@@ -34,6 +34,8 @@ use Rattle.jsgen_tree.specs.declared.expressions.ComputedMemberExpression.{Compu
 use Rattle.jsgen_tree.specs.declared.expressions.CallExpression.{CallExpression}
 use Rattle.jsgen_tree.specs.declared.collections.SpreadElement.{SpreadElement}
 use Rattle.jsgen_tree.specs.declared.collections.ArrayExpression.{ArrayExpression}
+use Rattle.jsgen_tree.specs.declared.operations.UnaryExpression.{UnaryExpression}
+use Rattle.jsgen_tree.specs.declared.operations.NewTarget.{NewTarget}
 use Rattle.jsgen_tree.specs.declared.sets.Expression.{Expression}
 use Rattle.jsgen_tree.specs.declared.sets.Argument.{Argument}
 use Rattle.jsgen_tree.specs.declared.sets.ArrayExpressionElement.{ArrayExpressionElement}
@@ -143,6 +145,12 @@ in_array_expression_element plain (array_expression_element.Expression b) = in_e
 abbrev pub array_expression_row : {N : Type 0} → (N → Tree) → ArrayExpression N → Tree
 array_expression_row plain n = array (record { span = n.span; values = [] }) (holed (map (option_map (in_array_expression_element plain)) n.elements.items))
 
+abbrev pub unary_expression_row : {N : Type 0} → (N → Tree) → UnaryExpression N → Tree
+unary_expression_row plain n = unary (record { span = n.span; values = unary_operator n.operator ∷ [] }) (in_expression plain n.argument)
+
+abbrev pub new_target_row : NewTarget → Tree
+new_target_row n = new_target (record { span = n.span; values = [] })
+
 -- ---- sets that nest
 
 abbrev pub expression_plain : {N : Type 0} → (N → Tree) → Expression N → Tree
@@ -159,6 +167,8 @@ expression_plain plain (expression.StaticMemberExpression b) = static_member_exp
 expression_plain plain (expression.ComputedMemberExpression b) = computed_member_expression_row plain b.value
 expression_plain plain (expression.CallExpression b) = call_expression_row plain b.value
 expression_plain plain (expression.ArrayExpression b) = array_expression_row plain b.value
+expression_plain plain (expression.UnaryExpression b) = unary_expression_row plain b.value
+expression_plain plain (expression.NewTarget b) = new_target_row b.value
 
 abbrev pub declaration_plain : {N : Type 0} → (N → Tree) → Declaration N → Tree
 declaration_plain plain (declaration.VariableDeclaration b) = variable_declaration_row plain b.value

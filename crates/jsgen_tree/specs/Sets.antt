@@ -20,6 +20,8 @@ is_expression types.StaticMemberExpression = true
 is_expression types.ComputedMemberExpression = true
 is_expression types.CallExpression = true
 is_expression types.ArrayExpression = true
+is_expression types.UnaryExpression = true
+is_expression types.NewTarget = true
 is_expression other = false
 
 abbrev pub is_argument : NodeType → Bool
@@ -37,6 +39,8 @@ is_argument types.StaticMemberExpression = true
 is_argument types.ComputedMemberExpression = true
 is_argument types.CallExpression = true
 is_argument types.ArrayExpression = true
+is_argument types.UnaryExpression = true
+is_argument types.NewTarget = true
 is_argument other = false
 
 abbrev pub is_array_expression_element : NodeType → Bool
@@ -54,6 +58,8 @@ is_array_expression_element types.StaticMemberExpression = true
 is_array_expression_element types.ComputedMemberExpression = true
 is_array_expression_element types.CallExpression = true
 is_array_expression_element types.ArrayExpression = true
+is_array_expression_element types.UnaryExpression = true
+is_array_expression_element types.NewTarget = true
 is_array_expression_element other = false
 
 abbrev pub is_declaration : NodeType → Bool

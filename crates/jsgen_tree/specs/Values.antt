@@ -6,7 +6,8 @@ use Rattle.jsgen_tree.specs.declared.statements.VariableDeclarationKind.{Variabl
 use Rattle.jsgen_tree.specs.Number.{NumericKind}
 use Rattle.jsgen_syntax.specs.declared.operator.BinaryOperator.{BinaryOperator}
 use Rattle.jsgen_syntax.specs.declared.operator.LogicalOperator.{LogicalOperator}
-use Rattle.jsgen_tree.specs.Atom.{Atom, text, units, digits, flag, source_kind, declaration_kind, numeric_kind, binary_operator, logical_operator}
+use Rattle.jsgen_syntax.specs.declared.operator.UnaryOperator.{UnaryOperator}
+use Rattle.jsgen_tree.specs.Atom.{Atom, text, units, digits, flag, source_kind, declaration_kind, numeric_kind, binary_operator, logical_operator, unary_operator}
 use Rattle.jsgen_tree.specs.Tree.{Atoms}
 use Rattle.jsgen_tree.specs.Places.{value_at}
 use Rattle.jsgen_syntax.specs.declared.span.SourceKind.TheVariants as source_kinds
@@ -14,6 +15,7 @@ use Rattle.jsgen_tree.specs.declared.statements.VariableDeclarationKind.TheVaria
 use Rattle.jsgen_tree.specs.Number as numeric_kinds
 use Rattle.jsgen_syntax.specs.declared.operator.BinaryOperator.TheVariants as binary_operators
 use Rattle.jsgen_syntax.specs.declared.operator.LogicalOperator.TheVariants as logical_operators
+use Rattle.jsgen_syntax.specs.declared.operator.UnaryOperator.TheVariants as unary_operators
 
 -- ---- kinds of values; where the value is of another kind, any
 
@@ -52,6 +54,10 @@ as_binary_operator v = binary_operators.Equality
 abbrev pub as_logical_operator : Atom → LogicalOperator
 as_logical_operator (logical_operator x) = x
 as_logical_operator v = logical_operators.Or
+
+abbrev pub as_unary_operator : Atom → UnaryOperator
+as_unary_operator (unary_operator x) = x
+as_unary_operator v = unary_operators.UnaryPlus
 
 -- ---- fields, by the type of the node and the field's name
 
@@ -139,3 +145,6 @@ call_expression_optional a = value_at 0 a.values
 
 abbrev pub call_expression_pure : Atoms → Bool
 call_expression_pure a = as_flag (value_at 1 a.values)
+
+abbrev pub unary_expression_operator : Atoms → UnaryOperator
+unary_expression_operator a = as_unary_operator (value_at 0 a.values)

@@ -13,6 +13,7 @@ mod laws;
 mod node_type;
 mod nodes;
 mod numbers;
+mod operations;
 mod options;
 mod sets;
 mod span;
@@ -28,6 +29,7 @@ pub use expressions::{
 pub use laws::fields_are_named;
 pub use nodes::{BindingPatternNode, DeclarationNode, ExpressionNode, Node, StatementNode};
 pub use numbers::NumericValue;
+pub use operations::{NewTarget, UnaryExpression};
 pub use options::{CodegenOptions, CommentOptions, LegalComment};
 pub use sets::{
     Argument, ArrayExpressionElement, BindingPattern, Declaration, Expression, Statement,

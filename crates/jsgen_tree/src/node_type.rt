@@ -30,6 +30,8 @@ impl Expression {
             Expression::ComputedMemberExpression(_) => NodeType::ComputedMemberExpression,
             Expression::CallExpression(_) => NodeType::CallExpression,
             Expression::ArrayExpression(_) => NodeType::ArrayExpression,
+            Expression::UnaryExpression(_) => NodeType::UnaryExpression,
+            Expression::NewTarget(_) => NodeType::NewTarget,
         }
     }
 }

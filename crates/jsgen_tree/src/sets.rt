@@ -8,6 +8,7 @@ use crate::expressions::{
     StaticMemberExpression, StringLiteral, ThisExpression,
 };
 use crate::nodes::{DeclarationNode, ExpressionNode, Node};
+use crate::operations::{NewTarget, UnaryExpression};
 use crate::statements::{
     BindingIdentifier, BlockStatement, EmptyStatement, ExpressionStatement, IfStatement,
     VariableDeclaration,
@@ -28,6 +29,8 @@ pub enum Expression<N = Node> {
     ComputedMemberExpression(Box<ComputedMemberExpression<N>>),
     CallExpression(Box<CallExpression<N>>),
     ArrayExpression(Box<ArrayExpression<N>>),
+    UnaryExpression(Box<UnaryExpression<N>>),
+    NewTarget(Box<NewTarget>),
 }
 
 /// What a call is given.

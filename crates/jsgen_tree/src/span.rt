@@ -12,6 +12,7 @@ use crate::expressions::{
     StaticMemberExpression, StringLiteral, ThisExpression,
 };
 use crate::nodes::Node;
+use crate::operations::{NewTarget, UnaryExpression};
 use crate::sets::{
     Argument, ArrayExpressionElement, BindingPattern, Declaration, Expression, Statement,
 };
@@ -223,6 +224,22 @@ impl<N> GetSpan for ArrayExpression<N> {
     }
 }
 
+impl<N> GetSpan for UnaryExpression<N> {
+    ghost own_span = { λ n. n.span };
+
+    fn span(&self) -> Span {
+        self.span
+    }
+}
+
+impl GetSpan for NewTarget {
+    ghost own_span = { λ n. n.span };
+
+    fn span(&self) -> Span {
+        self.span
+    }
+}
+
 impl<N> GetSpan for Expression<N> {
     ghost own_span = { λ n. expression_span n };
 
@@ -241,6 +258,8 @@ impl<N> GetSpan for Expression<N> {
             Expression::ComputedMemberExpression(node) => node.span,
             Expression::CallExpression(node) => node.span,
             Expression::ArrayExpression(node) => node.span,
+            Expression::UnaryExpression(node) => node.span,
+            Expression::NewTarget(node) => node.span,
         }
     }
 }

@@ -30,6 +30,8 @@ pub enum NodeType {
     CallExpression,
     SpreadElement,
     ArrayExpression,
+    UnaryExpression,
+    NewTarget,
 }
 
 /// What the child of a field may be: a member of a set, or a node of one type.
@@ -81,6 +83,8 @@ impl NodeType {
                 | NodeType::ComputedMemberExpression
                 | NodeType::CallExpression
                 | NodeType::ArrayExpression
+                | NodeType::UnaryExpression
+                | NodeType::NewTarget
         )
     }
 
@@ -104,6 +108,8 @@ impl NodeType {
                 | NodeType::ComputedMemberExpression
                 | NodeType::CallExpression
                 | NodeType::ArrayExpression
+                | NodeType::UnaryExpression
+                | NodeType::NewTarget
         )
     }
 
@@ -127,6 +133,8 @@ impl NodeType {
                 | NodeType::ComputedMemberExpression
                 | NodeType::CallExpression
                 | NodeType::ArrayExpression
+                | NodeType::UnaryExpression
+                | NodeType::NewTarget
         )
     }
 

@@ -20,4 +20,5 @@ returns c = record {
   static_member_expression = λ a. refl;
   computed_member_expression = λ a. refl;
   call_expression = λ a. (refl, refl);
+  unary_expression = λ a. refl;
 }

@@ -1,0 +1,27 @@
+// Generated from tools/nodes/table.txt; edit that and run tools/nodes/generate.
+// Operations of one operand, and `new` (ECMA-262, clause 13).
+ghost use Rattle.std.specs.Prelude.{◌≡◌};
+ghost use Rattle.jsgen_tree.specs.Rows.{unary_expression_row, new_target_row};
+ghost use Rattle.jsgen_check.specs.Verdict.{tree_verdict};
+
+use crate::heights::check_node;
+use crate::{CheckNode, Surroundings, check_child};
+use jsgen_model::TreeFault;
+use jsgen_tree::{NewTarget, NodeSet, UnaryExpression};
+
+pub fn check_unary_expression<N: CheckNode>(
+    node: &UnaryExpression<N>,
+    around: Surroundings<'_>,
+) -> Result<u32, TreeFault>
+    ensures { result ≡ tree_verdict around.entry (unary_expression_row N.plain node.now) }
+{
+    let argument = check_child(node.argument.get(), NodeSet::Expression, around);
+    check_node(node.span, Ok(()), argument)
+}
+
+pub fn check_new_target(node: &NewTarget, around: Surroundings<'_>) -> Result<u32, TreeFault>
+    ensures { result ≡ tree_verdict around.entry (new_target_row node.now) }
+{
+    let _ = around;
+    check_node(node.span, Ok(()), Ok(0))
+}

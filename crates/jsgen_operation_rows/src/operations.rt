@@ -1,0 +1,93 @@
+// Generated from tools/nodes/table.txt; edit that and run tools/nodes/generate.
+// Rows of a job: operations of one operand, and `new` (ECMA-262, clause 13).
+ghost use Rattle.std.specs.Prelude.{◌≡◌, false};
+ghost use Rattle.serde_json.specs.View.{view};
+ghost use Rattle.jsgen_tree.specs.Fields.{unary_expression_fields, new_target_fields};
+ghost use Rattle.jsgen_fields.specs.Reads.{Gives, read_node, read_typed};
+ghost use Rattle.jsgen_fields.specs.Kept.{entries, row_plain};
+ghost use Rattle.jsgen_fields.specs.Parts.{is_in_statements, is_in_expressions, is_in_collections};
+ghost use Rattle.jsgen_tree.specs.declared.types.NodeType.TheVariants as types;
+
+use jsgen_fields::InputFault;
+use jsgen_fields::fields::boxed;
+use jsgen_fields::kept::{ReadNode, Row, expression_row};
+use jsgen_fields::set_fields::needed_expression;
+use jsgen_fields::words::needed_unary_operator;
+use jsgen_pool::Kept;
+use jsgen_syntax::Span;
+use jsgen_tree::{Expression, NewTarget, NodeType, UnaryExpression};
+use serde_json::Value;
+use std::alloc::Global;
+
+#[tactic(auto, unfolding(jsgen_fields::specs::Reads::read_node))]
+fn read_unary_expression<N: ReadNode + Drop>(
+    alloc: Global,
+    kept: &mut Vec<Kept<Row<N>>>,
+    number: usize,
+    span: Span,
+    row: &Value,
+) -> Result<Row<N>, InputFault>
+    ensures { Gives (row_plain N.plain) result (entries N.plain kept.new.items)
+        (read_node number types.UnaryExpression unary_expression_fields span (view row.now) (entries N.plain kept.old.items)) }
+{
+    let operator = match needed_unary_operator(number, 2, row, "operator") {
+        Ok(operator) => operator,
+        Err(fault) => return Err(fault),
+    };
+    let argument = match needed_expression(alloc, kept, number, 3, row, "argument") {
+        Ok(argument) => argument,
+        Err(fault) => return Err(fault),
+    };
+    let node = UnaryExpression {
+        span,
+        operator,
+        argument,
+    };
+    match boxed(alloc, node) {
+        Ok(node) => expression_row(alloc, Expression::UnaryExpression(node)),
+        Err(fault) => Err(fault),
+    }
+}
+
+#[tactic(auto, unfolding(jsgen_fields::specs::Reads::read_node))]
+fn read_new_target<N: ReadNode + Drop>(
+    alloc: Global,
+    kept: &mut Vec<Kept<Row<N>>>,
+    number: usize,
+    span: Span,
+    row: &Value,
+) -> Result<Row<N>, InputFault>
+    ensures { Gives (row_plain N.plain) result (entries N.plain kept.new.items)
+        (read_node number types.NewTarget new_target_fields span (view row.now) (entries N.plain kept.old.items)) }
+{
+    let _ = kept;
+    let _ = number;
+    let _ = row;
+    let node = NewTarget { span };
+    match boxed(alloc, node) {
+        Ok(node) => expression_row(alloc, Expression::NewTarget(node)),
+        Err(fault) => Err(fault),
+    }
+}
+
+/// The row of a type of this part.
+pub fn read_in_operations<N: ReadNode + Drop>(
+    alloc: Global,
+    kept: &mut Vec<Kept<Row<N>>>,
+    node_type: NodeType,
+    number: usize,
+    span: Span,
+    row: &Value,
+) -> Result<Row<N>, InputFault>
+    requires not_in_statements { is_in_statements node_type ≡ false }
+    requires not_in_expressions { is_in_expressions node_type ≡ false }
+    requires not_in_collections { is_in_collections node_type ≡ false }
+    ensures { Gives (row_plain N.plain) result (entries N.plain kept.new.items)
+        (read_typed number node_type span (view row.now) (entries N.plain kept.old.items)) }
+{
+    match node_type {
+        NodeType::UnaryExpression => read_unary_expression(alloc, kept, number, span, row),
+        NodeType::NewTarget => read_new_target(alloc, kept, number, span, row),
+        _ => unreachable!(),
+    }
+}

@@ -1,0 +1,19 @@
+// Generated from tools/nodes/table.txt; edit that and run tools/nodes/generate.
+// Operations of one operand, and `new` (ECMA-262, clause 13).
+
+use crate::nodes::{ExpressionNode, Node};
+use jsgen_syntax::{Span, UnaryOperator};
+
+/// An operation by a sign or a word before its one operand (ECMA-262, 13.5).
+#[derive(Drop)]
+pub struct UnaryExpression<N = Node> {
+    pub span: Span,
+    pub operator: UnaryOperator,
+    pub argument: ExpressionNode<N>,
+}
+
+/// The meta property `new.target` (ECMA-262, 13.3.12).
+#[derive(Drop)]
+pub struct NewTarget {
+    pub span: Span,
+}
