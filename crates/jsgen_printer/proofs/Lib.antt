@@ -1,3 +1,4 @@
+pub mod Handed
 pub mod Operators
 pub mod Prefixes
 pub mod Stops

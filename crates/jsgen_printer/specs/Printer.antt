@@ -1,5 +1,5 @@
 -- What a printer stands for: a pen of the layout.
-use Rattle.std.specs.Prelude.{ℕ, List, Bool, false, nat_lt}
+use Rattle.std.specs.Prelude.{ℕ, List, [], ◌∷◌, Bool, false, nat_lt}
 use Rattle.std.specs.List.{list_all}
 use Rattle.std.specs.Str.{chars}
 use Rattle.jsgen_syntax.specs.Buffer.{buffer_bytes, indent_byte, indent_width}
@@ -65,6 +65,11 @@ pen_of p = record {
 -- the pen behind a name that no space stands before
 abbrev pub name_written : List ℕ → Pen → Pen
 name_written w pen = written (name_text pen.style.ascii w) (name_ending (has_escapes pen.style.ascii w)) pen
+
+-- the pen behind a text that was handed in; an empty one leaves what the code ends in as it is
+abbrev pub unless_empty : List ℕ → Pen → Pen → Pen
+unless_empty [] before behind = before
+unless_empty (c ∷ cs) before behind = behind
 
 -- the pen one level deeper, and at a level
 abbrev pub deepened : Pen → Pen

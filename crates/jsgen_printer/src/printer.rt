@@ -5,6 +5,9 @@ ghost use Rattle.jsgen_syntax.specs.Name.{goes_in_word};
 ghost use Rattle.jsgen_syntax.specs.declared.quote.Quote.TheVariants.{Single, Double};
 
 use crate::operator::Operator;
+
+mod handed;
+
 use jsgen_syntax::{
     BinaryOperator, CodeBuffer, IndentChar, JsStr, LogicalOperator, Memory, Quote, UnaryOperator,
 };
