@@ -1,11 +1,12 @@
 -- What a printer of programs shows of itself.
-use Rattle.std.specs.Prelude.{◌≡◌, ℕ, List, ◌++◌, Bool, true, false, Result, is_err, OnOk, OnErr}
-use Rattle.jsgen_syntax.specs.Buffer.{buffer_bytes, AppendsPrefix}
+use Rattle.std.specs.Prelude.{◌≡◌, ℕ, List, Bool, true, Result, is_err}
+use Rattle.std.specs.Str.{encode_utf8_all}
 use Rattle.jsgen_tree.specs.Options.{Options, options_plain}
 use Rattle.jsgen_tree.specs.Job.{JobData, no_tables}
 use Rattle.jsgen_tree.specs.Tree.{Tree}
-use Rattle.jsgen_syntax.specs.Strings.{quoted}
-use Rattle.jsgen_model.specs.Layout.{chosen_quote, style_of}
+use Rattle.jsgen_model.specs.Layout.{Pen}
+use Rattle.jsgen_model.specs.Printing.{Reaches}
+use Rattle.jsgen_printer.specs.Printer.{pen_of}
 use Rattle.jsgen.specs.declared.codegen.Codegen.{Codegen}
 
 -- how it prints
@@ -16,9 +17,13 @@ options_of c = options_plain c.options
 abbrev pub job_for : Codegen → Tree → JobData
 job_for c program = record { options = options_of c; tables = no_tables; program = program }
 
--- the bytes that print calls printed
+-- the text so far, and what matters of its end
+abbrev pub pen_at : Codegen → Pen
+pen_at c = pen_of c.printer
+
+-- the text so far, in bytes
 abbrev pub printed_so_far : Codegen → List ℕ
-printed_so_far c = buffer_bytes c.code
+printed_so_far c = encode_utf8_all (pen_at c).code
 
 -- whether a print call was made, and whether one failed
 abbrev pub has_printed : Codegen → Bool
@@ -27,18 +32,9 @@ has_printed c = c.has_printed
 abbrev pub has_failed : Codegen → Bool
 has_failed c = c.has_failed
 
--- a print call began, which has failed until it ends
-abbrev pub begun : Codegen → Codegen
-begun c = record c { has_printed = true; has_failed = true }
-
--- the characters of a string with these units, which a backtick never begins
-abbrev pub string_text : Options → List ℕ → List ℕ
-string_text options units = quoted (chosen_quote (style_of options) false units) options.ascii_only units
-
--- what a call prints: these bytes behind the code so far, and only some first ones of them where it fails
-pub record Prints {T E : Type 0} (old new : Codegen) (bytes : List ℕ) (result : Result T E) : Type 0 where
-  pub whole : OnOk result (printed_so_far new ≡ printed_so_far old ++ bytes)
-  pub part : OnErr result (AppendsPrefix (printed_so_far old) (printed_so_far new) bytes)
+-- what a call does: it goes on to this pen, and after want of memory it stops on the way there and has failed
+pub record Prints {T E : Type 0} (old new : Codegen) (pen : Pen) (result : Result T E) : Type 0 where
+  pub reaches : Reaches result (pen_at old) (pen_at new) pen
   pub failed : has_failed new ≡ is_err result
   pub printed : has_printed new ≡ true
   pub options : options_of new ≡ options_of old

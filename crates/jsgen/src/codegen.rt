@@ -1,28 +1,24 @@
 // The printer's public calls.
-ghost use Rattle.std.specs.Prelude.{◌≡◌, ◌<◌, [], ◌∷◌, false, flat_map, IfOk, string_bytes};
+ghost use Rattle.std.specs.Prelude.{◌≡◌, ◌<◌, [], ◌∷◌, true, false, flat_map, IfOk, string_bytes};
 ghost use Rattle.std.specs.Char.Escape.{encode_utf16};
 ghost use Rattle.jsgen_tree.specs.Options.{options_plain, default_options};
 ghost use Rattle.jsgen_tree.specs.Plain.{program_plain};
-ghost use Rattle.jsgen_syntax.specs.Escapes.{name_text};
 ghost use Rattle.jsgen_syntax.specs.Raw.{tag_free};
-ghost use Rattle.jsgen_syntax.specs.Units.{js_units};
-ghost use Rattle.jsgen_model.specs.Layout.{chosen_quote, style_of};
+ghost use Rattle.jsgen_model.specs.Items.{string};
+ghost use Rattle.jsgen_model.specs.Layout.{style_of, empty_pen, written, other_end, layout};
 ghost use Rattle.jsgen_model.specs.Spell.{text_bytes};
-ghost use Rattle.std.specs.Str.{chars, encode_utf8_all};
+ghost use Rattle.std.specs.Str.{chars};
 ghost use Rattle.jsgen_model.specs.Plain.{IsPlain, IsQuiet};
 ghost use Rattle.jsgen_model.specs.Reading.{IsReadAs};
 ghost use Rattle.jsgen_model.specs.Valid.{job_breaches, IsValid, Judges};
-ghost use Rattle.jsgen.specs.Codegen.{options_of, job_for, has_printed, has_failed, printed_so_far, begun, string_text, Prints};
+ghost use Rattle.jsgen_printer.specs.Printer.{pen_of, name_written, unless_empty};
 
 use jsgen_check::check_program;
 use jsgen_model::TreeFault;
 use jsgen_nodes::print_program;
 use jsgen_place::Settings;
 use jsgen_printer::Printer;
-use jsgen_syntax::{CodeBuffer, IndentChar, JsStr, Memory, Quote};
-use jsgen_text::{
-    cheapest_quote, print_name_text, print_str_escaping_script_close_tag, print_string_text,
-};
+use jsgen_syntax::{JsStr, Memory};
 use jsgen_tree::{CodegenOptions, Program};
 use std::alloc::Global;
 use std::marker::PhantomData;
@@ -46,29 +42,35 @@ pub struct CodegenReturn {
     pub code: String,
 }
 
-/// A printer: of a whole program by `build`, or of pieces of code, one print call after another.
+/// A printer: of a whole program by `build`, or of pieces of code, one call after another. Each piece goes on with what was
+/// printed before, so that a space stands where two pieces would be read as one.
 #[derive(Drop)]
 pub struct Codegen<'a> {
     alloc: Global,
     options: CodegenOptions,
-    code: CodeBuffer,
+    printer: Printer,
     has_printed: bool,
     has_failed: bool,
     lent: PhantomData<&'a ()>,
+    ghost fresh: { has_printed ≡ false → pen_of printer ≡ empty_pen (style_of (options_plain options)) 0 },
 }
 
 impl<'a> Codegen<'a> {
+    ghost use Rattle.jsgen.specs.Codegen.{options_of, job_for, has_printed, has_failed, pen_at, printed_so_far, Prints};
+
     /// A printer by the default options: of pretty text.
     pub fn new(alloc: Global) -> Codegen<'a>
         ensures options { options_of result ≡ default_options }
         ensures printed { has_printed result ≡ false }
         ensures failed { has_failed result ≡ false }
-        ensures empty { printed_so_far result ≡ [] }
+        ensures empty { pen_at result ≡ empty_pen (style_of default_options) 0 }
     {
+        let defaults = CodegenOptions::default();
+        let printer = Printer::new(alloc, &defaults);
         Codegen {
             alloc,
-            options: CodegenOptions::default(),
-            code: CodeBuffer::with_indent(alloc, IndentChar::Tab, 1),
+            options: defaults,
+            printer,
             has_printed: false,
             has_failed: false,
             lent: PhantomData,
@@ -81,12 +83,13 @@ impl<'a> Codegen<'a> {
         ensures options { options_of result ≡ options_plain options }
         ensures printed { has_printed result ≡ false }
         ensures failed { has_failed result ≡ has_failed self.entry }
-        ensures code { printed_so_far result ≡ printed_so_far self.entry }
+        ensures empty { pen_at result ≡ empty_pen (style_of (options_plain options)) 0 }
     {
+        let printer = Printer::new(self.alloc, &options);
         Codegen {
             alloc: self.alloc,
             options,
-            code: self.code,
+            printer,
             has_printed: self.has_printed,
             has_failed: self.has_failed,
             lent: PhantomData,
@@ -109,42 +112,46 @@ impl<'a> Codegen<'a> {
 
     // A print call begins: until it ends, it has failed.
     fn begin(&mut self)
-        ensures { self.new ≡ begun self.old }
+        ensures printed { has_printed self.new ≡ true }
+        ensures failed { has_failed self.new ≡ true }
+        ensures options { options_of self.new ≡ options_of self.old }
+        ensures pen { pen_at self.new ≡ pen_at self.old }
     {
         self.has_printed = true;
         self.has_failed = true;
     }
 
-    /// Prints one byte of ASCII.
+    /// Prints one byte of ASCII as it is.
     pub fn print_ascii_byte(&mut self, byte: u8) -> Result<(), CodegenError>
         requires ascii { byte < 128 }
         requires unfailed { has_failed self.old ≡ false }
-        ensures { Prints self.old self.new (byte ∷ []) result }
+        ensures { Prints self.old self.new (written (byte ∷ []) other_end (pen_at self.old)) result }
     {
         self.begin();
-        self.code.print_ascii_byte(byte)?;
+        self.printer.append_ascii_byte(byte)?;
         self.has_failed = false;
         Ok(())
     }
 
-    /// Prints the text as it is.
+    /// Prints the text as it is. Where it isn't empty, nothing is remembered of what was printed before.
     pub fn print_str(&mut self, s: &str) -> Result<(), CodegenError>
         requires unfailed { has_failed self.old ≡ false }
-        ensures { Prints self.old self.new s.now result }
+        ensures { Prints self.old self.new (unless_empty (chars s.now) (pen_at self.old) (written (chars s.now) other_end (pen_at self.old))) result }
     {
         self.begin();
-        self.code.print_str(s)?;
+        self.printer.append_text(s)?;
         self.has_failed = false;
         Ok(())
     }
 
-    /// Prints a name, with escapes for what isn't ASCII where the options ask for ASCII.
+    /// Prints a name, with no space before it, and with escapes for what isn't ASCII where the options ask for ASCII: the code
+    /// then ends in such a name, which a word that follows stands apart from.
     pub fn print_name(&mut self, s: &str) -> Result<(), CodegenError>
         requires unfailed { has_failed self.old ≡ false }
-        ensures { Prints self.old self.new (encode_utf8_all (name_text (options_of self.old).ascii_only (chars s.now))) result }
+        ensures { Prints self.old self.new (unless_empty (chars s.now) (pen_at self.old) (name_written (chars s.now) (pen_at self.old))) result }
     {
         self.begin();
-        print_name_text(&mut self.code, s, self.options.ascii_only)?;
+        self.printer.append_name(s)?;
         self.has_failed = false;
         Ok(())
     }
@@ -153,10 +160,10 @@ impl<'a> Codegen<'a> {
     /// that it stands in.
     pub fn print_str_escaping_script_close_tag(&mut self, s: &str) -> Result<(), CodegenError>
         requires unfailed { has_failed self.old ≡ false }
-        ensures { Prints self.old self.new (encode_utf8_all (tag_free (chars s.now))) result }
+        ensures { Prints self.old self.new (unless_empty (chars s.now) (pen_at self.old) (written (tag_free (chars s.now)) other_end (pen_at self.old))) result }
     {
         self.begin();
-        print_str_escaping_script_close_tag(&mut self.code, s)?;
+        self.printer.append_tag_free(s)?;
         self.has_failed = false;
         Ok(())
     }
@@ -165,33 +172,20 @@ impl<'a> Codegen<'a> {
     /// that makes it shortest, but never in backticks.
     pub fn print_string(&mut self, s: &str) -> Result<(), CodegenError>
         requires unfailed { has_failed self.old ≡ false }
-        ensures { Prints self.old self.new (encode_utf8_all (string_text (options_of self.old) (flat_map encode_utf16 (chars s.now)))) result }
+        ensures { Prints self.old self.new (layout (string false (flat_map encode_utf16 (chars s.now))) (pen_at self.old)) result }
     {
         self.begin();
         let value = JsStr::from_text(self.alloc, s)?;
-        let quote = self.string_quote(&value);
-        print_string_text(&mut self.code, &value, quote, self.options.ascii_only)?;
+        self.printer.print_string(&value, false)?;
         self.has_failed = false;
         Ok(())
-    }
-
-    fn string_quote(&self, value: &JsStr) -> Quote
-        ensures { result ≡ chosen_quote (style_of (options_of self.now)) false (js_units value.now) }
-    {
-        if self.options.minify {
-            cheapest_quote(value, false)
-        } else if self.options.single_quote {
-            Quote::Single
-        } else {
-            Quote::Double
-        }
     }
 
     /// The code so far, and nothing is copied.
     pub fn into_source_text(self) -> String
         ensures { string_bytes result ≡ printed_so_far self.entry }
     {
-        self.code.into_string()
+        self.printer.into_string()
     }
 
     /// Says Ok exactly where the program keeps each rule of a tree (docs/FORMAT.md, "Rules of a tree"), and otherwise
@@ -215,7 +209,7 @@ impl<'a> Codegen<'a> {
         ensures reads { IfOk result (λ printed. IsPlain (program_plain program.now) → IsQuiet (job_for self.entry (program_plain program.now))
             → IsReadAs (chars (string_bytes printed.code)) (job_for self.entry (program_plain program.now))) }
     {
-        let mut p = Printer::new(self.alloc, &self.options);
+        let mut p = self.printer;
         let settings = Settings {
             minified: self.options.minify,
         };
@@ -227,6 +221,8 @@ impl<'a> Codegen<'a> {
 }
 
 impl From<Codegen<'_>> for String {
+    ghost use Rattle.jsgen.specs.Codegen.{printed_so_far};
+
     ghost from_gives = { λ x y. string_bytes y ≡ printed_so_far x };
 
     /// The code so far.
