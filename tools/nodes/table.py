@@ -30,6 +30,7 @@ class Field:
     other: str = None   # another kind of value that a tree may hold there
     parts: list = None  # the fields of the format that a field by hand stands for
     needed: bool = False  # of a flag, that it is required
+    place: str = None   # the place that it is, where the rules speak of it by a name
 
     @property
     def is_list(self):
@@ -92,6 +93,7 @@ class Set:
 class Table:
     def __init__(self, path):
         self.files, self.nodes, self.words, self.sets = {}, {}, {}, {}
+        self.places = {}    # the set of each place that has a name
         self.read(path)
         self.check()
 
@@ -115,6 +117,9 @@ class Table:
                     elif head == "words":
                         name, short, spelling, *home = rest
                         at = self.words[name] = Words(name, short, spelling, home[1] if home else None, file)
+                    elif head == "place":
+                        self.places[rest[0]] = rest[1]
+                        at = None
                     elif head == "set":
                         at = self.sets[rest[0]] = Set(rest[0], rest[1:] == ["nests"])
                     else:
@@ -151,6 +156,8 @@ class Table:
                 kinds = [g for g in n.in_format() if g.name == "kind" and g.kind in self.words]
                 if f.only_for and f.only_for not in [w for g in kinds for w, _ in self.words[g.kind].words]:
                     raise SystemExit(f"{n.name}.{f.name}: the type has no field kind with the word {f.only_for}")
+                if f.place and self.places.get(f.place) != f.kind:
+                    raise SystemExit(f"{n.name}.{f.name}: no place {f.place} for {f.kind}")
                 if not f.unread and f.many and not self.is_child(f):
                     raise SystemExit(f"{n.name}.{f.name}: an optional value has no form yet")
         for w in self.words.values():
@@ -207,6 +214,7 @@ def read_field(line):
     line, _, doc = line.partition(" | ")
     line, _, default = line.strip().partition(" = ")
     line, _, only_for = line.strip().partition(" for ")
+    line, _, place = line.strip().partition(" at ")
     name, *rest = line.split()
     rust, parts = name, None
     if rest[0] == "as":
@@ -219,4 +227,4 @@ def read_field(line):
     kind = kind.removesuffix("!") if needed else kind
     bare = kind.rstrip("?*")
     return Field(name, rust, bare, kind[len(bare):], default or None, only_for.strip() or None, unread, doc.strip(),
-                 other or None, parts, needed)
+                 other or None, parts, needed, place.strip() or None)

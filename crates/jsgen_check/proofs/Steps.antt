@@ -7,9 +7,7 @@ use Rattle.std.proofs.lemmas.Result.{err_from_is_err_and}
 use Rattle.jsgen_tree.specs.declared.types.NodeSet.{NodeSet}
 use Rattle.jsgen_tree.specs.declared.types.NodeType.{NodeType}
 use Rattle.jsgen_tree.specs.Tree.{Tree, node, Atoms, Slots, optional, trees, holed}
-use Rattle.jsgen_tree.specs.Table.{child_sets}
-use Rattle.jsgen_tree.specs.Fields.{fields}
-use Rattle.jsgen_model.specs.Valid.{span_faults, own_faults, set_faults}
+use Rattle.jsgen_model.specs.Valid.{asked_sets, span_faults, own_faults, set_faults}
 use Rattle.jsgen_model.specs.declared.fault.TreeFault.{TreeFault}
 use Rattle.jsgen_rules.specs.Verdict.{verdict}
 use Rattle.jsgen_check.specs.declared.surroundings.Surroundings.{Surroundings}
@@ -56,7 +54,7 @@ pub last_child : {r a : Result ℕ TreeFault} → r ≡ a → r ≡ higher a (Ok
 last_child {r} {a} h = h ∙ none_behind a
 
 -- a row: its span, its own rules, and its children
-pub of_row : {r q : Result ℕ TreeFault} {p : Result (Unit {0}) TreeFault} (around : Surroundings) (type : NodeType) (a : Atoms) (slots : Slots) → r ≡ both (verdict (span_faults a.span)) (both p (raised q)) → p ≡ verdict (own_faults (surroundings_plain around) (node type a slots)) → q ≡ slots_verdict around (child_sets (fields type)) slots → r ≡ tree_verdict around (node type a slots)
+pub of_row : {r q : Result ℕ TreeFault} {p : Result (Unit {0}) TreeFault} (around : Surroundings) (type : NodeType) (a : Atoms) (slots : Slots) → r ≡ both (verdict (span_faults a.span)) (both p (raised q)) → p ≡ verdict (own_faults (surroundings_plain around) (node type a slots)) → q ≡ slots_verdict around (asked_sets type) slots → r ≡ tree_verdict around (node type a slots)
 of_row {r} {q} around type a slots h own below =
     let span = verdict (span_faults a.span) in
     let rules = verdict (own_faults (surroundings_plain around) (node type a slots)) in

@@ -4,11 +4,8 @@ use Rattle.std.proofs.lemmas.List.{append_assoc}
 use Rattle.jsgen_tree.specs.declared.types.NodeSet.{NodeSet}
 use Rattle.jsgen_tree.specs.declared.types.NodeType.{NodeType}
 use Rattle.jsgen_tree.specs.Tree.{Tree, node, Atoms, Slots, no_slots, one, maybe, many, maybe_many, Maybe, absent, given, Trees, no_trees, more, hole, MaybeTrees, no_list, listed, type_of}
-use Rattle.jsgen_tree.specs.Table.{child_sets}
-use Rattle.jsgen_tree.specs.Fields.{fields}
-use Rattle.jsgen_tree.specs.Sets.{in_set}
 use Rattle.jsgen_model.specs.Valid as valid
-use Rattle.jsgen_model.specs.Valid.{ChildPlace, breaches, span_faults, own_faults, set_faults, in_slots, in_maybe, in_trees, in_maybe_trees, height, height_of_slots, height_if_given, height_if_listed, greatest_height}
+use Rattle.jsgen_model.specs.Valid.{ChildPlace, asked_sets, may_stand, breaches, span_faults, own_faults, set_faults, in_slots, in_maybe, in_trees, in_maybe_trees, height, height_of_slots, height_if_given, height_if_listed, greatest_height}
 use Rattle.jsgen_model.specs.declared.fault.TreeFault.{TreeFault}
 use Rattle.jsgen_rules.specs.Verdict.{verdict}
 use Rattle.jsgen_check.specs.declared.surroundings.Surroundings.{Surroundings}
@@ -99,21 +96,21 @@ of_slots around [] slots = refl
 
 -- ---- nodes
 
-pub of_node : (around : Surroundings) (type : NodeType) (a : Atoms) (slots : Slots) → tree_verdict around (node type a slots) ≡ both (verdict (span_faults a.span)) (both (verdict (own_faults (surroundings_plain around) (node type a slots))) (raised (slots_verdict around (child_sets (fields type)) slots)))
+pub of_node : (around : Surroundings) (type : NodeType) (a : Atoms) (slots : Slots) → tree_verdict around (node type a slots) ≡ both (verdict (span_faults a.span)) (both (verdict (own_faults (surroundings_plain around) (node type a slots))) (raised (slots_verdict around (asked_sets type) slots)))
 unfolding tree_verdict
 of_node around type a slots =
     let span = span_faults a.span in
     let own = own_faults (surroundings_plain around) (node type a slots) in
-    let below = in_slots (surroundings_plain around) (map (place around) (child_sets (fields type))) slots in
+    let below = in_slots (surroundings_plain around) (map (place around) (asked_sets type)) slots in
     let height = height_of_slots slots in
-    ap (measured (suc height)) (append_assoc span own below) ∙ of_rules (suc height) span (own ++ below) ∙ ap (both (verdict span)) (of_rules (suc height) own below ∙ ap (both (verdict own)) (of_next height below ∙ ap raised (of_slots around (child_sets (fields type)) slots)))
+    ap (measured (suc height)) (append_assoc span own below) ∙ of_rules (suc height) span (own ++ below) ∙ ap (both (verdict span)) (of_rules (suc height) own below ∙ ap (both (verdict own)) (of_next height below ∙ ap raised (of_slots around (asked_sets type) slots)))
 
 -- a child, from its set and its own rules
 pub of_placed : (around : Surroundings) (s : NodeSet) (t : Tree) → child_verdict around s t ≡ both (verdict (set_faults s t)) (tree_verdict around t)
 unfolding child_verdict tree_verdict
 of_placed around s t = of_rules (height t) (set_faults s t) (breaches (surroundings_plain around) t)
 
-pub of_right_set : (around : Surroundings) (s : NodeSet) (t : Tree) → in_set s (type_of t) ≡ true → child_verdict around s t ≡ tree_verdict around t
+pub of_right_set : (around : Surroundings) (s : NodeSet) (t : Tree) → may_stand s (type_of t) ≡ true → child_verdict around s t ≡ tree_verdict around t
 unfolding child_verdict tree_verdict
 of_right_set around s t h = rw h
 

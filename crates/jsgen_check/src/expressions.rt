@@ -120,7 +120,7 @@ pub fn check_static_member_expression<N: CheckNode>(
 ) -> Result<u32, TreeFault>
     ensures { result ≡ tree_verdict around.entry (static_member_expression_row N.plain node.now) }
 {
-    let object = check_child(node.object.get(), NodeSet::Expression, around);
+    let object = check_child(node.object.get(), NodeSet::Link, around);
     let property = check_identifier_name(&node.property, around);
     check_node(node.span, Ok(()), higher(object, property))
 }
@@ -131,7 +131,7 @@ pub fn check_computed_member_expression<N: CheckNode>(
 ) -> Result<u32, TreeFault>
     ensures { result ≡ tree_verdict around.entry (computed_member_expression_row N.plain node.now) }
 {
-    let object = check_child(node.object.get(), NodeSet::Expression, around);
+    let object = check_child(node.object.get(), NodeSet::Link, around);
     let expression = check_child(node.expression.get(), NodeSet::Expression, around);
     check_node(node.span, Ok(()), higher(object, expression))
 }
@@ -142,7 +142,7 @@ pub fn check_call_expression<N: CheckNode>(
 ) -> Result<u32, TreeFault>
     ensures { result ≡ tree_verdict around.entry (call_expression_row N.plain node.now) }
 {
-    let callee = check_child(node.callee.get(), NodeSet::Expression, around);
+    let callee = check_child(node.callee.get(), NodeSet::Link, around);
     let arguments = check_arguments(&node.arguments, around);
     check_node(node.span, Ok(()), higher(callee, arguments))
 }

@@ -1,13 +1,14 @@
 // Generated from tools/nodes/table.txt; edit that and run tools/nodes/generate.
 // Operations of one operand, and `new` (ECMA-262, clause 13).
 ghost use Rattle.std.specs.Prelude.{◌≡◌};
-ghost use Rattle.jsgen_tree.specs.Rows.{unary_expression_row, new_target_row};
+ghost use Rattle.jsgen_tree.specs.Rows.{unary_expression_row, new_target_row, new_expression_row, super_row};
 ghost use Rattle.jsgen_check.specs.Verdict.{tree_verdict};
 
-use crate::heights::check_node;
+use crate::children::check_arguments;
+use crate::heights::{check_node, higher};
 use crate::{CheckNode, Surroundings, check_child};
 use jsgen_model::TreeFault;
-use jsgen_tree::{NewTarget, NodeSet, UnaryExpression};
+use jsgen_tree::{NewExpression, NewTarget, NodeSet, Super, UnaryExpression};
 
 pub fn check_unary_expression<N: CheckNode>(
     node: &UnaryExpression<N>,
@@ -21,6 +22,24 @@ pub fn check_unary_expression<N: CheckNode>(
 
 pub fn check_new_target(node: &NewTarget, around: Surroundings<'_>) -> Result<u32, TreeFault>
     ensures { result ≡ tree_verdict around.entry (new_target_row node.now) }
+{
+    let _ = around;
+    check_node(node.span, Ok(()), Ok(0))
+}
+
+pub fn check_new_expression<N: CheckNode>(
+    node: &NewExpression<N>,
+    around: Surroundings<'_>,
+) -> Result<u32, TreeFault>
+    ensures { result ≡ tree_verdict around.entry (new_expression_row N.plain node.now) }
+{
+    let callee = check_child(node.callee.get(), NodeSet::Expression, around);
+    let arguments = check_arguments(&node.arguments, around);
+    check_node(node.span, Ok(()), higher(callee, arguments))
+}
+
+pub fn check_super(node: &Super, around: Surroundings<'_>) -> Result<u32, TreeFault>
+    ensures { result ≡ tree_verdict around.entry (super_row node.now) }
 {
     let _ = around;
     check_node(node.span, Ok(()), Ok(0))

@@ -11,7 +11,9 @@ use crate::expressions::{
     check_null_literal, check_numeric_literal, check_parenthesized_expression,
     check_static_member_expression, check_string_literal, check_this_expression,
 };
-use crate::operations::{check_new_target, check_unary_expression};
+use crate::operations::{
+    check_new_expression, check_new_target, check_super, check_unary_expression,
+};
 use crate::statements::{
     check_binding_identifier, check_block_statement, check_empty_statement,
     check_expression_statement, check_if_statement, check_variable_declaration,
@@ -43,7 +45,9 @@ pub fn check_expression_set<N: CheckNode>(
         Expression::CallExpression(node) => check_call_expression(node, around),
         Expression::ArrayExpression(node) => check_array_expression(node, around),
         Expression::UnaryExpression(node) => check_unary_expression(node, around),
+        Expression::NewExpression(node) => check_new_expression(node, around),
         Expression::NewTarget(node) => check_new_target(node, around),
+        Expression::Super(node) => check_super(node, around),
     }
 }
 

@@ -5,7 +5,7 @@ ghost use Rattle.jsgen_fields.specs.Names.{first_named, type_named};
 
 use jsgen_tree::NodeType;
 
-const TYPE_NAMES: [(&str, NodeType); 26] = [
+const TYPE_NAMES: [(&str, NodeType); 28] = [
     ("Program", NodeType::Program),
     ("Directive", NodeType::Directive),
     ("VariableDeclaration", NodeType::VariableDeclaration),
@@ -35,6 +35,8 @@ const TYPE_NAMES: [(&str, NodeType); 26] = [
     ("ArrayExpression", NodeType::ArrayExpression),
     ("UnaryExpression", NodeType::UnaryExpression),
     ("NewTarget", NodeType::NewTarget),
+    ("NewExpression", NodeType::NewExpression),
+    ("Super", NodeType::Super),
 ];
 
 fn first_named(names: &[(&str, NodeType)], name: &str) -> Option<NodeType>

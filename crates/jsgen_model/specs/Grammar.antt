@@ -203,6 +203,11 @@ mutual
     a_coalesced_head : {c : Allowed} {ts : Tokens} {t : Tree} → ReadsExpression c Coalesced ts t → ReadsExpression c CoalesceHead ts t
     a_bit_or_head : {c : Allowed} {ts : Tokens} {t : Tree} → ReadsExpression c BitOr ts t → ReadsExpression c CoalesceHead ts t
     a_unary_operation : {c : Allowed} {mark : Bool} {ts : Tokens} {t : Tree} (o : UnaryOperator) → ReadsExpression c Unary ts t → ReadsExpression c Unary (piece mark (unary_piece o) ts) (tree.unary (bare (unary_operator o ∷ [])) t)
+    new_with_arguments : {c : Allowed} {ts a inside : Tokens} {f : Tree} {es : Trees} (mark next : Bool) → ts ≡ a ⧺ group next Round inside done → ReadsExpression c Member a f → ReadsArguments (with_in c) inside es → ReadsExpression c Member (piece mark (Word (codes "new")) ts) (tree.new_expression (nothing_of 1) f es)
+    new_alone : {c : Allowed} {mark : Bool} {ts : Tokens} {f : Tree} → ReadsExpression c New ts f → ReadsExpression c New (piece mark (Word (codes "new")) ts) (tree.new_expression (nothing_of 1) f no_trees)
+    a_named_member_of_super : {c : Allowed} {v : List ℕ} (w : List ℕ) (mark next last : Bool) → word_value w ≡ Some v → ReadsExpression c Member (piece mark (Word (codes "super")) (piece next (Sign dot) (piece last (Word w) done))) (tree.static_member (nothing_of 1) (tree.super (nothing_of 0)) (tree.identifier_name (named v)))
+    a_computed_member_of_super : {c : Allowed} {mark next : Bool} {inside : Tokens} {e : Tree} → ReadsExpression (with_in c) Expression inside e → ReadsExpression c Member (piece mark (Word (codes "super")) (group next Square inside done)) (tree.computed_member (nothing_of 1) (tree.super (nothing_of 0)) e)
+    a_call_of_super : {c : Allowed} {mark next : Bool} {inside : Tokens} {es : Trees} → ReadsArguments (with_in c) inside es → ReadsExpression c Call (piece mark (Word (codes "super")) (group next Round inside done)) (tree.call (nothing_of 2) (tree.super (nothing_of 0)) es)
     a_new_target : {c : Allowed} {mark next last : Bool} → ReadsExpression c Member (piece mark (Word (codes "new")) (piece next (Sign dot) (piece last (Word (codes "target")) done))) (tree.new_target (nothing_of 0))
     a_reference : {c : Allowed} {mark : Bool} {w v : List ℕ} → word_value w ≡ Some v → is_free_name v ≡ true → ReadsExpression c Primary (piece mark (Word w) done) (tree.identifier_reference (unnumbered v))
     a_this : {c : Allowed} {mark : Bool} → ReadsExpression c Primary (piece mark (Word (codes "this")) done) (tree.this_expression (nothing_of 0))

@@ -75,7 +75,7 @@ abbrev pub unbraced : Tree → Tree
 unbraced (tree.block a (more s no_trees)) = if ends_open s then s else tree.block a (more s no_trees)
 unbraced t = t
 
--- Parentheses, spans, the source and the kind of a program are away, and whether a call is pure; a directive is its value; a
+-- Parentheses, spans, the source and the kind of a program are away, and whether a call or `new` is pure; a directive is its value; a
 -- whole number is its digits; a chain of one logical operator is one list, however it was grouped; braces round a consequent
 -- that ends in an `if` without `else` are away.
 abbrev mutual
@@ -105,6 +105,8 @@ abbrev mutual
   normal (tree.spread a argument) = tree.spread (nothing_of 0) (normal argument)
   normal (tree.array a elements) = tree.array (nothing_of 0) (normal_trees elements)
   normal (tree.unary a argument) = tree.unary (bare (unary_operator (unary_expression_operator a) ∷ [])) (normal argument)
+  normal (tree.new_expression a callee arguments) = tree.new_expression (nothing_of 1) (normal callee) (normal_trees arguments)
+  normal (tree.super a) = tree.super (nothing_of 0)
   normal (tree.new_target a) = tree.new_target (nothing_of 0)
   normal (node type a slots) = node type (bare a.values) (normal_slots slots)
 

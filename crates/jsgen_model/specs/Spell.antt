@@ -88,6 +88,10 @@ linked place = in_front Postfix place
 abbrev pub called : Place → Place
 called place = record (in_front Postfix place) { context = record place.context { forbids_call = false } }
 
+-- what `new` stands before: no call may stand in it
+abbrev pub constructed : Place → Place
+constructed place = record (behind New place) { context = record place.context { forbids_call = true } }
+
 abbrev pub allow_in : Bool → Context → Context
 allow_in true context = record context { forbids_in = false }
 allow_in false context = context
@@ -203,6 +207,18 @@ unmixed o operand level = level
 -- a call stands in parentheses where something tighter is asked for, and where calls are forbidden
 abbrev pub call_wraps : Place → Bool
 call_wraps place = wraps New place || place.context.forbids_call
+
+abbrev pub any_given : Trees → Bool
+any_given no_trees = false
+any_given ts = true
+
+-- `new` may go without arguments in minified text, where none are given and no link stands behind it (ECMA-262, 13.3.5)
+abbrev pub needs_arguments : Place → Bool → Bool
+needs_arguments place some = not place.settings.minified || (some || wraps Postfix place)
+
+abbrev pub new_arguments : Bool → Items → Items
+new_arguments true items = brackets Round items
+new_arguments false items = nothing
 
 -- among statements a declaration has indentation and an end
 abbrev pub as_statement : Bool → Items → Items
@@ -375,6 +391,10 @@ abbrev mutual
   spell (tree.array a elements) place = brackets Square (on_lines (are_more 2 elements) (spell_elements (are_more 2 elements) elements (in_brackets Comma place) ⊕ comma_if (ends_in_hole elements)))
   spell (tree.unary a argument) place =
       wrapped (wraps Prefix place) (unary_sign (unary_expression_operator a) ⊕ (behind_unary (unary_expression_operator a) ⊕ spell argument (behind Exponentiation (within (wraps Prefix place) place))))
+  spell (tree.new_expression a callee arguments) place =
+      wrapped (wraps New place) (word (codes "new") ⊕ (soft_space ⊕ (spell callee (constructed (within (wraps New place) place))
+      ⊕ new_arguments (needs_arguments place (any_given arguments)) (spell_list arguments (in_brackets Comma place)))))
+  spell (tree.super a) place = word (codes "super")
   spell (tree.new_target a) place = word (codes "new") ⊕ (member_dot ⊕ word (codes "target"))
   spell t place = nothing
 

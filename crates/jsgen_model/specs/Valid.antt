@@ -1,10 +1,11 @@
 -- Validity: the rules that a tree breaks, each with the start of the node at which it is broken.
-use Rattle.std.specs.Prelude.{◌≡◌, ℕ, suc, max, List, [], ◌∷◌, ◌++◌, map, length, Bool, true, false, not, nat_lt, Contains, is_some, Result, Ok, Err, if◌then◌else◌}
+use Rattle.std.specs.Prelude.{◌≡◌, ℕ, suc, max, List, [], ◌∷◌, ◌++◌, map, length, Bool, true, false, not, ◌&&◌, ◌||◌, nat_lt, Contains, is_some, Result, Ok, Err, if◌then◌else◌}
 use Rattle.std.specs.Str.{encode_utf8_all}
 use Rattle.jsgen_syntax.specs.Name.{spells_name, is_free_name}
 use Rattle.jsgen_syntax.specs.Raw.{directive_value}
 use Rattle.jsgen_syntax.specs.declared.span.Span.{Span}
 use Rattle.jsgen_tree.specs.declared.types.NodeSet.{NodeSet}
+use Rattle.jsgen_tree.specs.declared.types.NodeSet.TheVariants as sets
 use Rattle.jsgen_tree.specs.declared.types.NodeType.{NodeType}
 use Rattle.jsgen_tree.specs.declared.types.NodeType.TheVariants as types
 use Rattle.jsgen_tree.specs.Options.{Options}
@@ -29,9 +30,21 @@ pub record ChildPlace : Type 0 where
   pub set : NodeSet
   pub around : Surroundings
 
+-- the object of a member and what is called: what a link goes on from
+abbrev pub linked : List NodeSet → List NodeSet
+linked [] = []
+linked (s ∷ ss) = sets.Link ∷ ss
+
+-- what a node's fields ask for
+abbrev pub asked_sets : NodeType → List NodeSet
+asked_sets types.StaticMemberExpression = linked (child_sets (fields types.StaticMemberExpression))
+asked_sets types.ComputedMemberExpression = linked (child_sets (fields types.ComputedMemberExpression))
+asked_sets types.CallExpression = linked (child_sets (fields types.CallExpression))
+asked_sets type = child_sets (fields type)
+
 -- the places of a node's children, field by field: so far the same surrounds them all as the node
 abbrev pub child_places : Surroundings → Tree → List ChildPlace
-child_places around t = map (λ set. record { set = set; around = around }) (child_sets (fields (type_of t)))
+child_places around t = map (λ set. record { set = set; around = around }) (asked_sets (type_of t))
 
 abbrev pub fault_if : Bool → TreeFault → List TreeFault
 fault_if true f = f ∷ []
@@ -122,9 +135,21 @@ own_faults around (tree.if_statement a test consequent alternate) = body_faults 
 own_faults around (tree.identifier_name a) = written_name_faults a.span (identifier_name_name a)
 own_faults around t = []
 
--- a child is of the set that its field asks for
+-- `super` is an expression that a link follows (ECMA-262, 13.3.7)
+abbrev pub is_super : NodeType → Bool
+is_super types.Super = true
+is_super type = false
+
+abbrev pub takes_super : NodeSet → Bool
+takes_super sets.Link = true
+takes_super set = false
+
+abbrev pub may_stand : NodeSet → NodeType → Bool
+may_stand set type = in_set set type && (takes_super set || not (is_super type))
+
+-- a child is of the set that its field asks for, and `super` only where it may be
 abbrev pub set_faults : NodeSet → Tree → List TreeFault
-set_faults set t = fault_if (not (in_set set (type_of t))) (faults.Place (span_of t).start)
+set_faults set t = fault_if (not (may_stand set (type_of t))) (faults.Place (span_of t).start)
 
 -- no field asks for a child that has no place
 abbrev pub place_faults : List ChildPlace → Tree → List TreeFault

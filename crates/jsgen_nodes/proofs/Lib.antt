@@ -5,3 +5,4 @@ pub mod IsNot
 pub mod Operations
 pub mod Parts
 pub mod Prefixes
+pub mod Constructions

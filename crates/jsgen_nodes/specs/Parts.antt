@@ -22,6 +22,8 @@ expression_part (expression.CallExpression b) = 0
 expression_part (expression.ArrayExpression b) = 1
 expression_part (expression.UnaryExpression b) = 2
 expression_part (expression.NewTarget b) = 2
+expression_part (expression.NewExpression b) = 2
+expression_part (expression.Super b) = 2
 
 abbrev pub statement_part : {N : Type 0} → Statement N → ℕ
 statement_part (statement.Declaration b) = 0

@@ -102,8 +102,8 @@ fn print_call<N: PrintNode>(
     print_in_brackets::<_, Arguments>(Bracket::Round, &node.arguments, p, within)
 }
 
-/// What a call is given.
-struct Arguments;
+/// What a call or a constructor is given.
+pub struct Arguments;
 
 #[tactic(auto, unfolding(crate::specs::Place::pen_after))]
 impl<N: PrintNode> PrintMember<Argument<N>> for Arguments {

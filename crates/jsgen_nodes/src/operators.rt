@@ -1,20 +1,23 @@
 // Operations of one operand, and `new` (ECMA-262, clause 13), one function for each row.
-ghost use Rattle.std.specs.Prelude.{◌≡◌};
-ghost use Rattle.jsgen_syntax.specs.declared.precedence.Precedence.TheVariants.{Exponentiation};
-ghost use Rattle.jsgen_tree.specs.Rows.{unary_expression_row, new_target_row, in_expression};
-ghost use Rattle.jsgen_model.specs.Items.{◌⊕◌};
+ghost use Rattle.std.specs.Prelude.{◌≡◌, map, codes};
+ghost use Rattle.jsgen_syntax.specs.declared.precedence.Precedence.TheVariants.{Comma, Exponentiation};
+ghost use Rattle.jsgen_tree.specs.Tree.{trees};
+ghost use Rattle.jsgen_tree.specs.Rows.{unary_expression_row, new_expression_row, super_row, new_target_row, in_argument, in_expression};
+ghost use Rattle.jsgen_model.specs.Items.{◌⊕◌, word, soft_space};
 ghost use Rattle.jsgen_model.specs.Layout.{layout};
-ghost use Rattle.jsgen_model.specs.Spell.{spell, behind, unary_sign, behind_unary};
+ghost use Rattle.jsgen_model.specs.Spell.{spell, spell_list, behind, in_brackets, constructed, any_given, needs_arguments, new_arguments, unary_sign, behind_unary};
 ghost use Rattle.jsgen_model.specs.Printing.{Reaches};
 ghost use Rattle.jsgen_printer.specs.Printer.{pen_of};
 ghost use Rattle.jsgen_place.specs.Place.{place_of};
 ghost use Rattle.jsgen_nodes.specs.Place.{pen_after};
 
 use crate::PrintNode;
+use crate::links::Arguments;
+use jsgen_lists::print_in_brackets;
 use jsgen_place::Place;
-use jsgen_printer::Printer;
+use jsgen_printer::{Bracket, Printer};
 use jsgen_syntax::{Memory, Precedence};
-use jsgen_tree::{NewTarget, UnaryExpression};
+use jsgen_tree::{Argument, NewExpression, NewTarget, Super, UnaryExpression};
 
 #[tactic(auto, unfolding(crate::specs::Place::pen_after))]
 pub fn print_unary_expression<N: PrintNode>(
@@ -45,6 +48,71 @@ fn print_unary_operation<N: PrintNode>(
     node.argument
         .get()
         .print(p, place.child(Precedence::Exponentiation))
+}
+
+#[tactic(auto, unfolding(crate::specs::Place::pen_after))]
+pub fn print_new_expression<N: PrintNode>(
+    node: &NewExpression<N>,
+    p: &mut Printer,
+    place: Place,
+) -> Result<(), Memory>
+    ensures { Reaches result (pen_of p.old) (pen_of p.new) (pen_after (new_expression_row N.plain node.now) place p.old) }
+{
+    let wrap = place.wraps(Precedence::New);
+    p.print_opening_if(wrap)?;
+    print_construction(node, p, place.within(wrap))?;
+    p.print_closing_if(wrap)
+}
+
+// `new`, what it stands before and what that is given, within the parentheses.
+#[tactic(auto, unfolding(crate::specs::Place::pen_after))]
+fn print_construction<N: PrintNode>(
+    node: &NewExpression<N>,
+    p: &mut Printer,
+    place: Place,
+) -> Result<(), Memory>
+    ensures { Reaches result (pen_of p.old) (pen_of p.new) (layout (word (codes "new") ⊕ (soft_space
+        ⊕ (spell (in_expression N.plain node.now.callee) (constructed (place_of place (pen_of p.old)))
+        ⊕ new_arguments (needs_arguments (place_of place (pen_of p.old)) (any_given (trees (map (in_argument N.plain) node.now.arguments.items))))
+        (spell_list (trees (map (in_argument N.plain) node.now.arguments.items)) (in_brackets Comma (place_of place (pen_of p.old))))))) (pen_of p.old)) }
+{
+    p.print_word("new")?;
+    p.print_soft_space()?;
+    node.callee.get().print(p, place.constructed())?;
+    print_new_arguments(&node.arguments, p, place)
+}
+
+// What a constructor is given: in minified text nothing may stand for nothing.
+#[tactic(auto, unfolding(crate::specs::Place::pen_after))]
+fn print_new_arguments<N: PrintNode>(
+    arguments: &[Argument<N>],
+    p: &mut Printer,
+    place: Place,
+) -> Result<(), Memory>
+    ensures { Reaches result (pen_of p.old) (pen_of p.new) (layout (new_arguments (needs_arguments (place_of place (pen_of p.old)) (any_given (trees (map (in_argument N.plain) arguments.now))))
+        (spell_list (trees (map (in_argument N.plain) arguments.now)) (in_brackets Comma (place_of place (pen_of p.old))))) (pen_of p.old)) }
+{
+    if place.needs_arguments(is_given(arguments)) {
+        let within = Place::in_brackets(Precedence::Comma, place.settings);
+        print_in_brackets::<_, Arguments>(Bracket::Round, arguments, p, within)
+    } else {
+        Ok(())
+    }
+}
+
+fn is_given<N: PrintNode>(arguments: &[Argument<N>]) -> bool
+    ensures { result ≡ any_given (trees (map (in_argument N.plain) arguments.now)) }
+{
+    !arguments.is_empty()
+}
+
+#[tactic(auto, unfolding(crate::specs::Place::pen_after))]
+pub fn print_super(node: &Super, p: &mut Printer, place: Place) -> Result<(), Memory>
+    ensures { Reaches result (pen_of p.old) (pen_of p.new) (pen_after (super_row node.now) place p.old) }
+{
+    let _ = node;
+    let _ = place;
+    p.print_word("super")
 }
 
 #[tactic(auto, unfolding(crate::specs::Place::pen_after))]

@@ -18,7 +18,9 @@ use crate::expressions::{
 use crate::links::{
     print_call_expression, print_computed_member_expression, print_static_member_expression,
 };
-use crate::operators::{print_new_target, print_unary_expression};
+use crate::operators::{
+    print_new_expression, print_new_target, print_super, print_unary_expression,
+};
 use crate::statements::{
     print_binding_identifier, print_expression_statement, print_variable_declaration,
 };
@@ -78,6 +80,8 @@ fn print_expression_in_operations<N: PrintNode>(
     match node {
         Expression::UnaryExpression(node) => print_unary_expression(node, p, place),
         Expression::NewTarget(node) => print_new_target(node, p, place),
+        Expression::NewExpression(node) => print_new_expression(node, p, place),
+        Expression::Super(node) => print_super(node, p, place),
         _ => unreachable!(),
     }
 }

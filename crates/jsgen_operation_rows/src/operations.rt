@@ -2,7 +2,7 @@
 // Rows of a job: operations of one operand, and `new` (ECMA-262, clause 13).
 ghost use Rattle.std.specs.Prelude.{◌≡◌, false};
 ghost use Rattle.serde_json.specs.View.{view};
-ghost use Rattle.jsgen_tree.specs.Fields.{unary_expression_fields, new_target_fields};
+ghost use Rattle.jsgen_tree.specs.Fields.{unary_expression_fields, new_target_fields, new_expression_fields, super_fields};
 ghost use Rattle.jsgen_fields.specs.Reads.{Gives, read_node, read_typed};
 ghost use Rattle.jsgen_fields.specs.Kept.{entries, row_plain};
 ghost use Rattle.jsgen_fields.specs.Parts.{is_in_statements, is_in_expressions, is_in_collections};
@@ -11,11 +11,12 @@ ghost use Rattle.jsgen_tree.specs.declared.types.NodeType.TheVariants as types;
 use jsgen_fields::InputFault;
 use jsgen_fields::fields::boxed;
 use jsgen_fields::kept::{ReadNode, Row, expression_row};
-use jsgen_fields::set_fields::needed_expression;
+use jsgen_fields::set_fields::{argument_list, needed_expression};
+use jsgen_fields::values::{field_not_given, optional_flag};
 use jsgen_fields::words::needed_unary_operator;
 use jsgen_pool::Kept;
 use jsgen_syntax::Span;
-use jsgen_tree::{Expression, NewTarget, NodeType, UnaryExpression};
+use jsgen_tree::{Expression, NewExpression, NewTarget, NodeType, Super, UnaryExpression};
 use serde_json::Value;
 use std::alloc::Global;
 
@@ -70,6 +71,66 @@ fn read_new_target<N: ReadNode + Drop>(
     }
 }
 
+#[tactic(auto, unfolding(jsgen_fields::specs::Reads::read_node))]
+fn read_new_expression<N: ReadNode + Drop>(
+    alloc: Global,
+    kept: &mut Vec<Kept<Row<N>>>,
+    number: usize,
+    span: Span,
+    row: &Value,
+) -> Result<Row<N>, InputFault>
+    ensures { Gives (row_plain N.plain) result (entries N.plain kept.new.items)
+        (read_node number types.NewExpression new_expression_fields span (view row.now) (entries N.plain kept.old.items)) }
+{
+    let callee = match needed_expression(alloc, kept, number, 2, row, "callee") {
+        Ok(callee) => callee,
+        Err(fault) => return Err(fault),
+    };
+    match field_not_given(number, 3, row, "type_arguments") {
+        Ok(()) => {}
+        Err(fault) => return Err(fault),
+    }
+    let arguments = match argument_list(alloc, kept, number, 4, row, "arguments") {
+        Ok(arguments) => arguments,
+        Err(fault) => return Err(fault),
+    };
+    let pure = match optional_flag(number, 5, row, "pure") {
+        Ok(pure) => pure,
+        Err(fault) => return Err(fault),
+    };
+    let node = NewExpression {
+        span,
+        callee,
+        arguments,
+        pure,
+    };
+    match boxed(alloc, node) {
+        Ok(node) => expression_row(alloc, Expression::NewExpression(node)),
+        Err(fault) => Err(fault),
+    }
+}
+
+#[tactic(auto, unfolding(jsgen_fields::specs::Reads::read_node))]
+fn read_super<N: ReadNode + Drop>(
+    alloc: Global,
+    kept: &mut Vec<Kept<Row<N>>>,
+    number: usize,
+    span: Span,
+    row: &Value,
+) -> Result<Row<N>, InputFault>
+    ensures { Gives (row_plain N.plain) result (entries N.plain kept.new.items)
+        (read_node number types.Super super_fields span (view row.now) (entries N.plain kept.old.items)) }
+{
+    let _ = kept;
+    let _ = number;
+    let _ = row;
+    let node = Super { span };
+    match boxed(alloc, node) {
+        Ok(node) => expression_row(alloc, Expression::Super(node)),
+        Err(fault) => Err(fault),
+    }
+}
+
 /// The row of a type of this part.
 pub fn read_in_operations<N: ReadNode + Drop>(
     alloc: Global,
@@ -88,6 +149,8 @@ pub fn read_in_operations<N: ReadNode + Drop>(
     match node_type {
         NodeType::UnaryExpression => read_unary_expression(alloc, kept, number, span, row),
         NodeType::NewTarget => read_new_target(alloc, kept, number, span, row),
+        NodeType::NewExpression => read_new_expression(alloc, kept, number, span, row),
+        NodeType::Super => read_super(alloc, kept, number, span, row),
         _ => unreachable!(),
     }
 }

@@ -125,6 +125,11 @@ expression_joined (grammar.a_conjunction m e l r) = made _ _ (piece m (Sign and_
 expression_joined (grammar.a_disjunction m e l r) = made _ _ (piece m (Sign or_or) _) e (expression_joined l) (expression_joined r)
 expression_joined (grammar.a_coalescing m e l r) = made _ _ (piece m (Sign nullish) _) e (expression_joined l) (expression_joined r)
 expression_joined (grammar.a_unary_operation {mark = m} o r) = unary_joined o m _ (expression_joined r)
+expression_joined (grammar.new_with_arguments {a = a} {inside = i} m n e r s) = made _ a (group n Round i done) e (expression_joined r) (and_from (may_be_given i) true (arguments_start s) refl)
+expression_joined (grammar.new_alone r) = expression_joined r
+expression_joined (grammar.a_named_member_of_super w m n l e) = refl
+expression_joined (grammar.a_computed_member_of_super {inside = i} r) = and_from (starts_well i) true (expression_starts r) refl
+expression_joined (grammar.a_call_of_super {inside = i} s) = and_from (may_be_given i) true (arguments_start s) refl
 expression_joined grammar.a_new_target = refl
 expression_joined (grammar.a_reference e h) = refl
 expression_joined grammar.a_this = refl

@@ -86,15 +86,15 @@ begins_with_name ts = false
 
 -- a keyword that is an operand
 abbrev is_keyword : List ℕ → Bool
-is_keyword w = list_any (bytes_eq w) (codes "this" ∷ codes "null" ∷ codes "true" ∷ codes "false" ∷ codes "new" ∷ [])
+is_keyword w = list_any (bytes_eq w) (codes "this" ∷ codes "null" ∷ codes "true" ∷ codes "false" ∷ codes "super" ∷ codes "new" ∷ [])
 
 -- the word may be an operand: a keyword, or a reference
 abbrev is_operand_word : List ℕ → Bool
 is_operand_word w = is_keyword w || option_map_or is_free_name (word_value w) false
 
--- an operator stands before its operand
+-- an operator, or `new`, stands before its operand
 abbrev is_prefix_word : List ℕ → Bool
-is_prefix_word w = list_any (bytes_eq w) (codes "typeof" ∷ codes "void" ∷ codes "delete" ∷ [])
+is_prefix_word w = list_any (bytes_eq w) (codes "typeof" ∷ codes "void" ∷ codes "delete" ∷ codes "new" ∷ [])
 
 abbrev is_prefix_sign : Punctuator → Bool
 is_prefix_sign plus = true
@@ -249,6 +249,11 @@ expression_starts (grammar.a_coalescing m e l r) = joined _ _ (piece m (Sign nul
 expression_starts (grammar.a_coalesced_head r) = expression_starts r
 expression_starts (grammar.a_bit_or_head r) = expression_starts r
 expression_starts (grammar.a_unary_operation {mark = m} o r) = unary_starts o m _ (expression_starts r)
+expression_starts (grammar.new_with_arguments {a = a} m n e r s) = or_right _ _ (joined _ a (group n Round _ done) refl e (expression_starts r))
+expression_starts (grammar.new_alone r) = or_right _ _ (expression_starts r)
+expression_starts (grammar.a_named_member_of_super w m n l e) = refl
+expression_starts (grammar.a_computed_member_of_super r) = refl
+expression_starts (grammar.a_call_of_super r) = refl
 expression_starts grammar.a_new_target = refl
 expression_starts (grammar.a_reference {w = w} e h) = or_left _ _ (and_from (is_operand_word w) true (or_right (is_keyword w) _ (ap (λ o. option_map_or is_free_name o false) e ∙ h)) refl)
 expression_starts grammar.a_this = refl

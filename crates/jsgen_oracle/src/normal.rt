@@ -1,7 +1,7 @@
 // The normal form of each type of node.
 ghost use Rattle.std.specs.Prelude.{◌≡◌, ◌∷◌, [], map, option_map, IfOk};
 ghost use Rattle.jsgen_tree.specs.Tree.{trees, holed, optional};
-ghost use Rattle.jsgen_tree.specs.Rows.{program_row, directive_row, block_statement_row, if_statement_row, variable_declaration_row, variable_declarator_row, numeric_literal_row, string_literal_row, logical_expression_row, identifier_name_row, static_member_expression_row, call_expression_row, spread_element_row, array_expression_row, expression_plain, statement_plain, declaration_plain, binding_pattern_plain, in_expression, in_statement, in_argument, in_array_expression_element};
+ghost use Rattle.jsgen_tree.specs.Rows.{program_row, directive_row, block_statement_row, if_statement_row, variable_declaration_row, variable_declarator_row, numeric_literal_row, string_literal_row, logical_expression_row, identifier_name_row, static_member_expression_row, call_expression_row, spread_element_row, array_expression_row, expression_plain, statement_plain, declaration_plain, binding_pattern_plain, in_expression, in_statement, in_argument, in_array_expression_element, new_expression_row};
 ghost use Rattle.jsgen_tree.specs.Plain.{node_plain};
 ghost use Rattle.jsgen_model.specs.Normal.{normal, normal_maybe, normal_trees, links, unbraced};
 ghost use Rattle.jsgen_oracle.specs.Form.{form_plain, forms_plain, holed_plain, optional_plain};
@@ -20,8 +20,8 @@ use jsgen_syntax::{JsStr, LogicalOperator, Memory};
 use jsgen_tree::{
     Argument, ArrayExpression, ArrayExpressionElement, BindingPattern, BlockStatement,
     CallExpression, Declaration, Directive, Expression, ExpressionNode, IdentifierName,
-    IfStatement, LogicalExpression, Node, NodeType, NumericLiteral, NumericValue, Program,
-    SpreadElement, Statement, StatementNode, StaticMemberExpression, StringLiteral,
+    IfStatement, LogicalExpression, NewExpression, Node, NodeType, NumericLiteral, NumericValue,
+    Program, SpreadElement, Statement, StatementNode, StaticMemberExpression, StringLiteral,
     VariableDeclaration, VariableDeclarator,
 };
 use std::alloc::Global;
@@ -288,6 +288,24 @@ fn call_expression_form<N: NormalNode>(
     )
 }
 
+fn new_expression_form<N: NormalNode>(
+    alloc: Global,
+    node: &NewExpression<N>,
+) -> Result<Form, Memory>
+    ensures { IfOk result (λ f. form_plain f ≡ normal (new_expression_row N.plain node.now)) }
+{
+    let values = one_value(alloc, Value::Nothing)?;
+    let callee = node.callee.get().normal_form(alloc)?;
+    let arguments = argument_forms(alloc, &node.arguments)?;
+    row_of_two(
+        alloc,
+        NodeType::NewExpression,
+        values,
+        Slot::One(callee),
+        Slot::Many(arguments),
+    )
+}
+
 fn argument_forms<N: NormalNode>(
     alloc: Global,
     arguments: &[Argument<N>],
@@ -413,6 +431,8 @@ fn expression_form<N: NormalNode>(alloc: Global, node: &Expression<N>) -> Result
                 node.argument.get(),
             )
         }
+        Expression::NewExpression(node) => new_expression_form(alloc, node),
+        Expression::Super(_) => Ok(leaf(alloc, NodeType::Super, Vec::new(alloc))),
         Expression::NewTarget(_) => Ok(leaf(alloc, NodeType::NewTarget, Vec::new(alloc))),
     }
 }

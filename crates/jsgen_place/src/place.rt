@@ -2,7 +2,7 @@
 ghost use Rattle.std.specs.Prelude.{◌≡◌, nat_le, false, true};
 ghost use Rattle.jsgen_syntax.specs.Precedence.{rank};
 ghost use Rattle.jsgen_model.specs.Layout.{Pen};
-ghost use Rattle.jsgen_model.specs.Spell.{is_forbidden, binary_wraps, goes_on, logical_wraps, called, call_wraps};
+ghost use Rattle.jsgen_model.specs.Spell.{is_forbidden, binary_wraps, goes_on, logical_wraps, called, call_wraps, needs_arguments};
 ghost use Rattle.jsgen_place.specs.Place.{place_of, place_within};
 
 use jsgen_syntax::{BinaryOperator, GetPrecedence, LogicalOperator, Precedence};
@@ -115,6 +115,22 @@ impl Place {
         }
     }
 
+    /// The place of what `new` stands before: no call may stand in it.
+    pub fn constructed(self) -> Place
+        ensures { result ≡ record { settings = self.settings; level = Precedence.New; context = record { forbids_in = self.context.forbids_in; forbids_call = true }; in_list = false; left_operand = false } }
+    {
+        Place {
+            settings: self.settings,
+            level: Precedence::New,
+            context: Context {
+                forbids_call: true,
+                ..self.context
+            },
+            in_list: false,
+            left_operand: false,
+        }
+    }
+
     /// The place within parentheses, where the test holds.
     pub fn within(self, test: bool) -> Place
         ensures { result ≡ place_within test self }
@@ -160,6 +176,13 @@ impl Place {
         ensures { (pen : Pen) → result ≡ call_wraps (place_of self pen) }
     {
         self.wraps(Precedence::New) || self.context.forbids_call
+    }
+
+    /// Whether `new` has parentheses here for its arguments, where there may be none.
+    pub fn needs_arguments(self, some: bool) -> bool
+        ensures { (pen : Pen) → result ≡ needs_arguments (place_of self pen) some }
+    {
+        !self.settings.minified || some || self.wraps(Precedence::Postfix)
     }
 
     fn goes_on(self, operator: LogicalOperator) -> bool

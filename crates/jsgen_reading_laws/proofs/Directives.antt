@@ -111,6 +111,11 @@ opens (grammar.with_arguments {a = a} {f = f} m e r s) = opens_behind _ a (group
 opens (grammar.a_named_member_of_call {a = a} {o = o} w m n e v r) = opens_behind _ a (piece m (Sign dot) _) o _ e (opens r) tt
 opens (grammar.a_computed_member_of_call {a = a} {o = o} m e r s) = opens_behind _ a (group m Square _ done) o _ e (opens r) tt
 opens (grammar.a_unary_operation {mark = m} o r) = unary_opens o m _ _
+opens (grammar.new_with_arguments m n e r s) = tt
+opens (grammar.new_alone r) = tt
+opens (grammar.a_named_member_of_super w m n l e) = tt
+opens (grammar.a_computed_member_of_super r) = tt
+opens (grammar.a_call_of_super r) = tt
 opens grammar.a_new_target = tt
 opens (grammar.a_reference e h) = tt
 opens grammar.a_this = tt

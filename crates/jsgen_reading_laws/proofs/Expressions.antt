@@ -27,7 +27,7 @@ use Rattle.jsgen_token_laws.proofs.Characters.{letters_spelled}
 use Rattle.jsgen_token_laws.proofs.Last.{After, line_of}
 use Rattle.jsgen_token_laws.proofs.Steps.{wrote_word, wrote_name, wrote_number, wrote_quoted, wrote_dot}
 use Rattle.jsgen_reading_laws.proofs.Levels.{level_of, under, from_primary, weaken_member, from_left}
-use Rattle.jsgen_reading_laws.proofs.Families.{IsExpression, IsElement, AreArguments, AreElements}
+use Rattle.jsgen_reading_laws.proofs.Families.{IsExpression, IsLink, IsElement, AreArguments, AreElements}
 use Rattle.jsgen_token_laws.proofs.Writes.{wrote_both}
 use Rattle.jsgen_reading_laws.proofs.Families as family
 use Rattle.jsgen_reading_laws.proofs.Asked.{asked}
@@ -37,7 +37,8 @@ use Rattle.jsgen_reading_laws.proofs.Good.{Good, Printed, may_begin}
 use Rattle.jsgen_reading_laws.proofs.Operations.{good_operation}
 use Rattle.jsgen_reading_laws.proofs.Prefixes.{word_begins, good_unary_operation}
 use Rattle.jsgen_reading_laws.proofs.Chains.{good_logical_operation}
-use Rattle.jsgen_reading_laws.proofs.Links.{ElementOf, ArgumentsAt, MoreArgumentsAt, good_named_member, good_computed_member, good_call, good_element, good_spread, no_arguments, first_of_arguments, no_more_arguments, one_more_argument}
+use Rattle.jsgen_reading_laws.proofs.Constructions.{good_construction}
+use Rattle.jsgen_reading_laws.proofs.Links.{ElementOf, ArgumentsAt, MoreArgumentsAt, LinkPrinted, link_expression, link_super, good_named_member, good_computed_member, good_call, good_element, good_spread, no_arguments, first_of_arguments, no_more_arguments, one_more_argument}
 use Rattle.jsgen_reading_laws.proofs.Collections.{ElementsOf, no_elements, first_of_elements, left_out_of_elements, good_array}
 
 -- ---- names and numbers
@@ -232,11 +233,16 @@ mutual
   printed_expression {c} (family.an_operation {a} {l} {r} v w) = good_operation c a l r (asked v).unary (printed_expression v) (printed_expression w)
   printed_expression {c} (family.a_logical_operation {a} {l} {r} v w) = good_logical_operation c a l r (printed_expression v) (printed_expression w) (asked v).mixed (asked w).mixed
   printed_expression {c} (family.a_unary_operation {a} {t} v) = good_unary_operation c a t (printed_expression v)
+  printed_expression {c} (family.a_construction {a} {f} {es} v w) = good_construction c a f es (printed_expression v) (printed_arguments w)
   printed_expression {c} (family.a_new_target {a}) = good_new_target c a
-  printed_expression {c} (family.a_named_member {a} {b} {o} m v h) = good_named_member c a b o m h (printed_expression v)
-  printed_expression {c} (family.a_computed_member {a} {o} {e} m v w) = good_computed_member c a o e m (printed_expression v) (printed_expression w)
-  printed_expression {c} (family.a_call {a} {f} {es} m v w) = good_call c a f es m (printed_expression v) (printed_arguments w)
+  printed_expression {c} (family.a_named_member {a} {b} {o} m v h) = good_named_member c a b o m h (printed_link v)
+  printed_expression {c} (family.a_computed_member {a} {o} {e} m v w) = good_computed_member c a o e m (printed_link v) (printed_expression w)
+  printed_expression {c} (family.a_call {a} {f} {es} m v w) = good_call c a f es m (printed_link v) (printed_arguments w)
   printed_expression {c} (family.an_array {a} {es} v) = good_array c a es (printed_elements v)
+
+  printed_link : {c : Allowed} {t : Tree} → IsLink c t → LinkPrinted c t
+  printed_link {c} (family.a_super {a}) = link_super c a
+  printed_link {c} (family.an_operand {t} v) = link_expression c t (printed_expression v)
 
   printed_arguments : {c : Allowed} {es : Trees} → AreArguments c es → ArgumentsAt c es
   printed_arguments {c} family.no_argument = no_arguments c

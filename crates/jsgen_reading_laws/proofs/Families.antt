@@ -1,9 +1,9 @@
 -- The trees over which the induction goes. They follow from the rules, one lemma a row.
-use Rattle.std.proofs.Common.{◌≡◌, ℕ, Bool, true, false, not, ◌&&◌, ◌++◌, List, [], ◌∷◌, Option, Some, None, is_some, refl, ap}
+use Rattle.std.proofs.Common.{◌≡◌, ℕ, Bool, true, false, not, ◌&&◌, ◌||◌, ◌++◌, List, [], ◌∷◌, Option, Some, None, is_some, refl, ap}
 use Rattle.std.proofs.lemmas.Bool.{both_ways, and_parts}
 use Rattle.jsgen_tree.specs.Atom.{Atom, text}
 use Rattle.jsgen_tree.specs.Atom as atoms
-use Rattle.jsgen_tree.specs.Tree.{Tree, Maybe, absent, given, Trees, no_trees, more, hole, Atoms, type_of, span_of}
+use Rattle.jsgen_tree.specs.Tree.{Tree, node, Maybe, absent, given, Trees, no_trees, more, hole, Atoms, type_of, span_of}
 use Rattle.jsgen_tree.specs.Nodes as tree
 use Rattle.jsgen_tree.specs.Values.{as_text, program_kind, directive_directive, binding_identifier_name, identifier_reference_name, identifier_name_name, numeric_literal_kind, string_literal_value, variable_declaration_declare, variable_declarator_definite, static_member_expression_optional, computed_member_expression_optional, call_expression_optional}
 use Rattle.jsgen_tree.specs.Everywhere.{EverywhereIfGiven, EverywhereInTrees}
@@ -20,9 +20,14 @@ use Rattle.jsgen_model.specs.declared.fault.TreeFault.TheVariants as faults
 use Rattle.jsgen_model.specs.Grammar.{Allowed, in_module}
 use Rattle.jsgen_model.specs.Plain.{IsPlain, is_plain_row, is_module, is_whole, is_raw, is_absent, has_no_hole}
 use Rattle.jsgen_model.specs.Normal.{or_none, directive_units}
-use Rattle.jsgen_model.specs.Valid.{Surroundings, ChildPlace, breaches, in_maybe, in_trees, fault_if, set_faults, span_faults, own_faults, body_faults, name_faults, directive_faults, written_name_faults, declaration_faults}
+use Rattle.jsgen_model.specs.Valid.{Surroundings, ChildPlace, takes_super, is_super, may_stand, breaches, in_maybe, in_trees, fault_if, set_faults, span_faults, own_faults, body_faults, name_faults, directive_faults, written_name_faults, declaration_faults}
 
 mutual
+  -- what a link goes on from
+  pub data IsLink : Allowed → Tree → Type 0 where
+    a_super : {c : Allowed} {a : Atoms} → IsLink c (tree.super a)
+    an_operand : {c : Allowed} {t : Tree} → IsExpression c t → IsLink c t
+
   pub data IsExpression : Allowed → Tree → Type 0 where
     a_reference : {c : Allowed} {a : Atoms} → is_free_name (identifier_reference_name a) ≡ true → IsExpression c (tree.identifier_reference a)
     a_this : {c : Allowed} {a : Atoms} → IsExpression c (tree.this_expression a)
@@ -31,10 +36,11 @@ mutual
     a_number : {c : Allowed} {a : Atoms} → is_whole (numeric_literal_kind a) a ≡ true → IsExpression c (tree.numeric_literal a)
     a_string : {c : Allowed} {a : Atoms} → are_units (string_literal_value a) ≡ true → IsExpression c (tree.string_literal a)
     in_parentheses : {c : Allowed} {a : Atoms} {t : Tree} → IsExpression c t → IsExpression c (tree.parenthesized a t)
-    a_named_member : {c : Allowed} {a b : Atoms} {o : Tree} → static_member_expression_optional a ≡ atoms.no_value → IsExpression c o → spells_name (identifier_name_name b) ≡ true → IsExpression c (tree.static_member a o (tree.identifier_name b))
-    a_computed_member : {c : Allowed} {a : Atoms} {o e : Tree} → computed_member_expression_optional a ≡ atoms.no_value → IsExpression c o → IsExpression c e → IsExpression c (tree.computed_member a o e)
-    a_call : {c : Allowed} {a : Atoms} {f : Tree} {es : Trees} → call_expression_optional a ≡ atoms.no_value → IsExpression c f → AreArguments c es → IsExpression c (tree.call a f es)
+    a_named_member : {c : Allowed} {a b : Atoms} {o : Tree} → static_member_expression_optional a ≡ atoms.no_value → IsLink c o → spells_name (identifier_name_name b) ≡ true → IsExpression c (tree.static_member a o (tree.identifier_name b))
+    a_computed_member : {c : Allowed} {a : Atoms} {o e : Tree} → computed_member_expression_optional a ≡ atoms.no_value → IsLink c o → IsExpression c e → IsExpression c (tree.computed_member a o e)
+    a_call : {c : Allowed} {a : Atoms} {f : Tree} {es : Trees} → call_expression_optional a ≡ atoms.no_value → IsLink c f → AreArguments c es → IsExpression c (tree.call a f es)
     a_unary_operation : {c : Allowed} {a : Atoms} {t : Tree} → IsExpression c t → IsExpression c (tree.unary a t)
+    a_construction : {c : Allowed} {a : Atoms} {f : Tree} {es : Trees} → IsExpression c f → AreArguments c es → IsExpression c (tree.new_expression a f es)
     a_new_target : {c : Allowed} {a : Atoms} → IsExpression c (tree.new_target a)
     an_operation : {c : Allowed} {a : Atoms} {l r : Tree} → IsExpression c l → IsExpression c r → IsExpression c (tree.binary a l r)
     a_logical_operation : {c : Allowed} {a : Atoms} {l r : Tree} → IsExpression c l → IsExpression c r → IsExpression c (tree.logical a l r)
@@ -115,9 +121,13 @@ none_unless false f e = absurd (cc)
 parts : (span own slots : List TreeFault) → (span ++ own) ++ slots ≡ [] → (own ≡ []) × (slots ≡ [])
 parts span own slots e = let h = none_three span own slots e in (h.1, h.2)
 
--- a child at its place, and the others
+-- a child that may stand at its place, and the others
+standing : (around : Surroundings) (s : NodeSet) (t : Tree) (others : List TreeFault) → (set_faults s t ++ breaches around t) ++ others ≡ [] → (may_stand s (type_of t) ≡ true) × (breaches around t ≡ []) × (others ≡ [])
+standing around s t others e = let h = none_three (set_faults s t) (breaches around t) others e in (none_unless (may_stand s (type_of t)) (faults.Place (span_of t).start) h.0, h.1, h.2)
+
+-- and so is of the set that its field asks for
 placed : (around : Surroundings) (s : NodeSet) (t : Tree) (others : List TreeFault) → (set_faults s t ++ breaches around t) ++ others ≡ [] → (in_set s (type_of t) ≡ true) × (breaches around t ≡ []) × (others ≡ [])
-placed around s t others e = let h = none_three (set_faults s t) (breaches around t) others e in (none_unless (in_set s (type_of t)) (faults.Place (span_of t).start) h.0, h.1, h.2)
+placed around s t others e = let h = standing around s t others e in ((and_parts (in_set s (type_of t)) (takes_super s || not (is_super (type_of t))) h.0).0, h.1, h.2)
 
 abbrev place_of : NodeSet → Surroundings → ChildPlace
 place_of s around = record { set = s; around = around }
@@ -135,7 +145,7 @@ holds_nothing v e = absurd (no_truth e)
 
 -- ---- the rows of expressions
 
-member_valid : (c : Allowed) (around : Surroundings) (a : Atoms) (o n : Tree) → static_member_expression_optional a ≡ atoms.no_value → IsExpression c o → IsPlain n → is_identifier_name (type_of n) ≡ true → breaches around n ≡ [] → IsExpression c (tree.static_member a o n)
+member_valid : (c : Allowed) (around : Surroundings) (a : Atoms) (o n : Tree) → static_member_expression_optional a ≡ atoms.no_value → IsLink c o → IsPlain n → is_identifier_name (type_of n) ≡ true → breaches around n ≡ [] → IsExpression c (tree.static_member a o n)
 member_valid c around a o (tree.identifier_name b) m v p s e = a_named_member m v (none_unless (spells_name (identifier_name_name b)) (faults.Name b.span.start) (parts (span_faults b.span) (written_name_faults b.span (identifier_name_name b)) [] e).0)
 member_valid c around a o n m v p s e = absurd (search no_truth)
 
@@ -155,8 +165,18 @@ expression_type t p s n = by (is_expression (type_of t)) refl
     by true e = refl
     by false e = absurd (none_other t p s n e)
 
+-- and so it is no `super`, which no argument is
+argument_stands : (t : Tree) → is_plain_row t ≡ true → may_stand sets.Argument (type_of t) ≡ true → is_spread t ≡ false → may_stand sets.Expression (type_of t) ≡ true
+argument_stands t p s n = let h = and_parts (is_argument (type_of t)) (false || not (is_super (type_of t))) s in both_ways (expression_type t p h.0 n) h.1
+
+-- what a link goes on from is `super`, or may stand anywhere
+link_valid : (c : Allowed) (t : Tree) → IsPlain t → may_stand sets.Link (type_of t) ≡ true → (may_stand sets.Expression (type_of t) ≡ true → IsExpression c t) → IsLink c t
+link_valid c (tree.super a) p s f = a_super
+link_valid c (node types.Super a slots) p s f = absurd (no_truth p.0)
+link_valid c t p s f = an_operand (f s)
+
 mutual
-  pub expression_valid : (c : Allowed) (around : Surroundings) (t : Tree) → IsPlain t → is_expression (type_of t) ≡ true → breaches around t ≡ [] → IsExpression c t
+  pub expression_valid : (c : Allowed) (around : Surroundings) (t : Tree) → IsPlain t → may_stand sets.Expression (type_of t) ≡ true → breaches around t ≡ [] → IsExpression c t
   expression_valid c around (tree.identifier_reference a) p s e = a_reference (none_unless (is_free_name (identifier_reference_name a)) (faults.Name a.span.start) (parts (span_faults a.span) (name_faults a.span (identifier_reference_name a)) [] e).0)
   expression_valid c around (tree.this_expression a) p s e = a_this
   expression_valid c around (tree.null_literal a) p s e = a_null
@@ -164,54 +184,58 @@ mutual
   expression_valid c around (tree.numeric_literal a) p s e = a_number p.0
   expression_valid c around (tree.string_literal a) p s e = a_string p.0
   expression_valid c around (tree.parenthesized a t) p s e =
-      let k = placed around sets.Expression t [] (parts (span_faults a.span) [] _ e).1 in
+      let k = standing around sets.Expression t [] (parts (span_faults a.span) [] _ e).1 in
       in_parentheses (expression_valid c around t p.1.0 k.0 k.1)
   expression_valid c around (tree.binary a l r) p s e =
-      let k = placed around sets.Expression l _ (parts (span_faults a.span) [] _ e).1 in
-      let j = placed around sets.Expression r [] k.2 in
+      let k = standing around sets.Expression l _ (parts (span_faults a.span) [] _ e).1 in
+      let j = standing around sets.Expression r [] k.2 in
       an_operation (expression_valid c around l p.1.0 k.0 k.1) (expression_valid c around r p.1.1.0 j.0 j.1)
   expression_valid c around (tree.logical a l r) p s e =
-      let k = placed around sets.Expression l _ (parts (span_faults a.span) [] _ e).1 in
-      let j = placed around sets.Expression r [] k.2 in
+      let k = standing around sets.Expression l _ (parts (span_faults a.span) [] _ e).1 in
+      let j = standing around sets.Expression r [] k.2 in
       a_logical_operation (expression_valid c around l p.1.0 k.0 k.1) (expression_valid c around r p.1.1.0 j.0 j.1)
   expression_valid c around (tree.static_member a o n) p s e =
-      let k = placed around sets.Expression o _ (parts (span_faults a.span) [] _ e).1 in
+      let k = standing around sets.Link o _ (parts (span_faults a.span) [] _ e).1 in
       let j = placed around sets.IdentifierName n [] k.2 in
-      member_valid c around a o n (holds_nothing (static_member_expression_optional a) p.0) (expression_valid c around o p.1.0 k.0 k.1) p.1.1.0 j.0 j.1
+      member_valid c around a o n (holds_nothing (static_member_expression_optional a) p.0) (link_valid c o p.1.0 k.0 (λ h. expression_valid c around o p.1.0 h k.1)) p.1.1.0 j.0 j.1
   expression_valid c around (tree.computed_member a o x) p s e =
-      let k = placed around sets.Expression o _ (parts (span_faults a.span) [] _ e).1 in
-      let j = placed around sets.Expression x [] k.2 in
-      a_computed_member (holds_nothing (computed_member_expression_optional a) p.0) (expression_valid c around o p.1.0 k.0 k.1) (expression_valid c around x p.1.1.0 j.0 j.1)
+      let k = standing around sets.Link o _ (parts (span_faults a.span) [] _ e).1 in
+      let j = standing around sets.Expression x [] k.2 in
+      a_computed_member (holds_nothing (computed_member_expression_optional a) p.0) (link_valid c o p.1.0 k.0 (λ h. expression_valid c around o p.1.0 h k.1)) (expression_valid c around x p.1.1.0 j.0 j.1)
   expression_valid c around (tree.call a f es) p s e =
-      let k = placed around sets.Expression f _ (parts (span_faults a.span) [] _ e).1 in
+      let k = standing around sets.Link f _ (parts (span_faults a.span) [] _ e).1 in
       let j = none_both (in_trees around (place_of sets.Argument around ∷ []) es) [] k.2 in
       let h = and_parts (is_absent (call_expression_optional a)) (has_no_hole es) p.0 in
-      a_call (holds_nothing (call_expression_optional a) h.0) (expression_valid c around f p.1.0 k.0 k.1) (arguments_valid c around es h.1 p.1.1.0 j.0)
+      a_call (holds_nothing (call_expression_optional a) h.0) (link_valid c f p.1.0 k.0 (λ h. expression_valid c around f p.1.0 h k.1)) (arguments_valid c around es h.1 p.1.1.0 j.0)
   expression_valid c around (tree.array a es) p s e =
       let j = none_both (in_trees around (place_of sets.ArrayExpressionElement around ∷ []) es) [] (parts (span_faults a.span) [] _ e).1 in
       an_array (elements_valid c around es p.1.0 j.0)
   expression_valid c around (tree.unary a t) p s e =
-      let k = placed around sets.Expression t [] (parts (span_faults a.span) [] _ e).1 in
+      let k = standing around sets.Expression t [] (parts (span_faults a.span) [] _ e).1 in
       a_unary_operation (expression_valid c around t p.1.0 k.0 k.1)
+  expression_valid c around (tree.new_expression a f es) p s e =
+      let k = standing around sets.Expression f _ (parts (span_faults a.span) [] _ e).1 in
+      let j = none_both (in_trees around (place_of sets.Argument around ∷ []) es) [] k.2 in
+      a_construction (expression_valid c around f p.1.0 k.0 k.1) (arguments_valid c around es p.0 p.1.1.0 j.0)
   expression_valid c around (tree.new_target a) p s e = a_new_target
   expression_valid c around t p s e = absurd (search no_truth)
 
   arguments_valid : (c : Allowed) (around : Surroundings) (es : Trees) → has_no_hole es ≡ true → EverywhereInTrees is_plain_row es → in_trees around (place_of sets.Argument around ∷ []) es ≡ [] → AreArguments c es
   arguments_valid c around no_trees n p e = no_argument
   arguments_valid c around (more (tree.spread a t) ts) n p e =
-      let k = placed around sets.Argument (tree.spread a t) _ e in
-      let j = placed around sets.Expression t [] (parts (span_faults a.span) [] _ k.1).1 in
+      let k = standing around sets.Argument (tree.spread a t) _ e in
+      let j = standing around sets.Expression t [] (parts (span_faults a.span) [] _ k.1).1 in
       first_argument (a_spread (expression_valid c around t p.0.1.0 j.0 j.1)) (arguments_valid c around ts n p.1 k.2)
-  arguments_valid c around (more t ts) n p e = let k = placed around sets.Argument t _ e in first_argument (an_element (expression_valid c around t p.0 (expression_type t p.0.0 k.0 refl) k.1)) (arguments_valid c around ts n p.1 k.2)
+  arguments_valid c around (more t ts) n p e = let k = standing around sets.Argument t _ e in first_argument (an_element (expression_valid c around t p.0 (argument_stands t p.0.0 k.0 refl) k.1)) (arguments_valid c around ts n p.1 k.2)
   arguments_valid c around (hole ts) n p e = absurd (no_truth n)
 
   elements_valid : (c : Allowed) (around : Surroundings) (es : Trees) → EverywhereInTrees is_plain_row es → in_trees around (place_of sets.ArrayExpressionElement around ∷ []) es ≡ [] → AreElements c es
   elements_valid c around no_trees p e = no_element
   elements_valid c around (more (tree.spread a t) ts) p e =
-      let k = placed around sets.ArrayExpressionElement (tree.spread a t) _ e in
-      let j = placed around sets.Expression t [] (parts (span_faults a.span) [] _ k.1).1 in
+      let k = standing around sets.ArrayExpressionElement (tree.spread a t) _ e in
+      let j = standing around sets.Expression t [] (parts (span_faults a.span) [] _ k.1).1 in
       first_element (a_spread (expression_valid c around t p.0.1.0 j.0 j.1)) (elements_valid c around ts p.1 k.2)
-  elements_valid c around (more t ts) p e = let k = placed around sets.ArrayExpressionElement t _ e in first_element (an_element (expression_valid c around t p.0 (expression_type t p.0.0 k.0 refl) k.1)) (elements_valid c around ts p.1 k.2)
+  elements_valid c around (more t ts) p e = let k = standing around sets.ArrayExpressionElement t _ e in first_element (an_element (expression_valid c around t p.0 (argument_stands t p.0.0 k.0 refl) k.1)) (elements_valid c around ts p.1 k.2)
   elements_valid c around (hole ts) p e = an_elision (elements_valid c around ts p e)
 
 -- ---- the rows of declarations
@@ -224,7 +248,7 @@ value_valid : (c : Allowed) (around : Surroundings) (m : Maybe) → EverywhereIf
 value_valid c around absent p e = no_value
 value_valid c around (given t) p e =
     let h = none_both (set_faults sets.Expression t) (breaches around t) e in
-    a_value (expression_valid c around t p (none_unless (is_expression (type_of t)) (faults.Place (span_of t).start) h.0) h.1)
+    a_value (expression_valid c around t p (none_unless (may_stand sets.Expression (type_of t)) (faults.Place (span_of t).start) h.0) h.1)
 
 declarator_valid : (c : Allowed) (around : Surroundings) (t : Tree) → IsPlain t → is_variable_declarator (type_of t) ≡ true → breaches around t ≡ [] → IsDeclarator c t
 declarator_valid c around (tree.variable_declarator a b m) p s e =
@@ -258,7 +282,7 @@ mutual
       let m = and_parts (is_absent (variable_declaration_declare a)) (has_no_hole ds) p.0 in
       a_declaration (holds_nothing (variable_declaration_declare a) m.0) (declarators_valid c around a ds m.1 p.1.0 h.0 k.0)
   item_valid c around (tree.expression_statement a t) p s e =
-      let k = placed around sets.Expression t [] (parts (span_faults a.span) [] _ e).1 in
+      let k = standing around sets.Expression t [] (parts (span_faults a.span) [] _ e).1 in
       a_statement (an_expression_statement (expression_valid c around t p.1.0 k.0 k.1))
   item_valid c around (tree.empty_statement a) p s e = a_statement an_empty_statement
   item_valid c around (tree.block a ss) p s e =
@@ -267,13 +291,13 @@ mutual
   item_valid c around (tree.if_statement a t u absent) p s e =
       let h = parts (span_faults a.span) (body_faults u ++ []) _ e in
       let b = none_both (body_faults u) [] h.0 in
-      let k = placed around sets.Expression t _ h.1 in
+      let k = standing around sets.Expression t _ h.1 in
       let j = placed around sets.Statement u [] k.2 in
       a_statement (an_if (expression_valid c around t p.1.0 k.0 k.1) (body_valid u b.0 (item_valid c around u p.1.1.0 j.0 j.1)))
   item_valid c around (tree.if_statement a t u (given v)) p s e =
       let h = parts (span_faults a.span) (body_faults u ++ body_faults v) _ e in
       let b = none_both (body_faults u) (body_faults v) h.0 in
-      let k = placed around sets.Expression t _ h.1 in
+      let k = standing around sets.Expression t _ h.1 in
       let j = placed around sets.Statement u _ k.2 in
       let i = placed around sets.Statement v [] j.2 in
       a_statement (an_if_with_else (expression_valid c around t p.1.0 k.0 k.1) (body_valid u b.0 (item_valid c around u p.1.1.0 j.0 j.1)) (body_valid v b.1 (item_valid c around v p.1.1.1.0 i.0 i.1)))

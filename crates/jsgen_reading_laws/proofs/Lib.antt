@@ -11,6 +11,7 @@ pub mod Chains
 pub mod Prefixes
 pub mod Links
 pub mod Collections
+pub mod Constructions
 pub mod Expressions
 pub mod Ends
 pub mod Stands

@@ -1,5 +1,5 @@
 -- Members and calls.
-use Rattle.std.proofs.Common.{◌≡◌, ℕ, Bool, true, false, Some, List, [], ◌∷◌, refl, sym, ap, subst, arith}
+use Rattle.std.proofs.Common.{◌≡◌, ℕ, Bool, true, false, not, codes, Some, List, [], ◌∷◌, refl, sym, ap, subst, arith}
 use Rattle.std.proofs.lemmas.Bool.{or_parts}
 use Rattle.jsgen_syntax.specs.Escapes.{name_text, word_value}
 use Rattle.jsgen_syntax.specs.Name.{spells_name}
@@ -14,15 +14,17 @@ use Rattle.jsgen_model.specs.Punctuator.{dot, ellipsis, Round, Square, opening, 
 use Rattle.jsgen_model.specs.Tokens.{Tokens, done, piece, group, ◌⧺◌, Word, Sign}
 use Rattle.jsgen_model.specs.Items.{◌⊕◌, brackets, member_dot, punctuator}
 use Rattle.jsgen_model.specs.Layout.{Pen, Start, other_end, layout, written, unless_printed}
-use Rattle.jsgen_model.specs.Grammar.{Allowed, Level, ReadsExpression, ReadsElement, ReadsArguments, ReadsArgumentList, with_in}
+use Rattle.jsgen_model.specs.Grammar.{Allowed, Level, ReadsExpression, ReadsElement, ReadsArguments, ReadsArgumentList, with_in, is_word, on_same_line}
 use Rattle.jsgen_model.specs.Grammar as grammar
 use Rattle.jsgen_model.specs.Normal.{normal, normal_trees, nothing_of, named}
 use Rattle.jsgen_model.specs.Spell.{Place, spell, spell_list, within, linked, called, in_brackets, wraps, call_wraps}
-use Rattle.jsgen_token_laws.proofs.Last.{Last, Open, After, line_of, Ready, begun_ready, Knows}
-use Rattle.jsgen_token_laws.proofs.Writes.{wrote_none, wrote_both}
-use Rattle.jsgen_token_laws.proofs.Steps.{wrote_name, wrote_dot, wrote_dots, within_brackets, brackets_written}
-use Rattle.jsgen_reading_laws.proofs.Levels.{number_of, operation_number, left_hand_side, level_of, under, lifted, unwrapped, from_left}
-use Rattle.jsgen_reading_laws.proofs.Good.{Good, Printed, begins_then, line_then, good_wrapped}
+use Rattle.jsgen_token_laws.proofs.Characters.{letters_spelled}
+use Rattle.jsgen_token_laws.proofs.Last.{Last, Open, After, line_of, Operand, Ready, begun_ready, Knows}
+use Rattle.jsgen_token_laws.proofs.Writes.{Writes, wrote_none, wrote_both}
+use Rattle.jsgen_token_laws.proofs.Steps.{wrote_word, wrote_name, wrote_dot, wrote_dots, within_brackets, brackets_written}
+use Rattle.jsgen_reading_laws.proofs.Levels.{number_of, operation_number, left_hand_side, level_of, under, weaken_member, lifted, unwrapped, from_left}
+use Rattle.jsgen_reading_laws.proofs.Good.{Good, Printed, may_begin, begins_then, line_then, good_wrapped}
+use Rattle.jsgen_reading_laws.proofs.Prefixes.{word_begins}
 use Rattle.jsgen_reading_laws.proofs.Lists.{Elements, ElementAt, MoreAt, Joins, no_more, one_more, whole_list}
 
 -- ---- a link behind a member or a call
@@ -37,16 +39,72 @@ linked_read : {c : Allowed} {a ts : Tokens} {o t : Tree} (no_call : Bool) → (R
 linked_read true f h r = f r
 linked_read false f h r = behind_callee refl f h r
 
+-- Between two pens stands what a link may go on from: an expression that is a member or a call, or `super`.
+pub record Linkable (p : Pen) (l : Last) (q : Pen) (c : Allowed) (no_call : Bool) (start : Start) (t : Tree) : Type 0 where
+  pub last : Last
+  pub tokens : Tokens
+  pub writes : Writes p l q last tokens
+  pub operand : Operand last
+  pub semicolon : q.pending_semicolon ≡ false
+  pub begins : (b : Tokens) → is_word (codes "function") b ≡ false → may_begin start (tokens ⧺ b) ≡ true
+  pub line : line_of l ≡ false → on_same_line tokens ≡ true
+  pub base : Tree
+  pub named : (w v : List ℕ) (mark next : Bool) → word_value w ≡ Some v → ReadsExpression c (left_hand_side no_call) (tokens ⧺ piece mark (Sign dot) (piece next (Word w) done)) (tree.static_member (nothing_of 1) base (tree.identifier_name (named v)))
+  pub computed : (mark : Bool) (inside : Tokens) (e : Tree) → ReadsExpression (with_in c) grammar.Expression inside e → ReadsExpression c (left_hand_side no_call) (tokens ⧺ group mark Square inside done) (tree.computed_member (nothing_of 1) base e)
+  pub called : no_call ≡ false → (mark : Bool) (inside : Tokens) (es : Trees) → ReadsArguments (with_in c) inside es → ReadsExpression c grammar.Call (tokens ⧺ group mark Round inside done) (tree.call (nothing_of 2) base es)
+  pub same : normal base ≡ normal t
+
+-- printed before a link
+abbrev pub LinkPrinted : Allowed → Tree → Type 0
+LinkPrinted c t = (place : Place) (p : Pen) (l : Last) → p.pending_semicolon ≡ false → Ready l → Knows p l → Linkable p l (layout (spell t (linked place)) p) (under place c) place.context.forbids_call place.start t
+
+pub link_expression : (c : Allowed) (t : Tree) → Printed c t → LinkPrinted c t
+link_expression c t f place p l z y k =
+    let no_call : Bool = place.context.forbids_call in
+    let g = f (linked place) p l z y k in
+    record {
+      last = g.last;
+      tokens = g.tokens;
+      writes = g.writes;
+      operand = g.operand;
+      semicolon = g.semicolon;
+      begins = g.begins;
+      line = g.line;
+      base = g.tree;
+      named = λ w v mark next x. linked_read no_call (λ r. grammar.a_named_member w mark next refl x r) (λ r. grammar.a_named_member_of_call w mark next refl x r) g.reads;
+      computed = λ mark inside e s. linked_read no_call (λ r. grammar.a_computed_member mark refl r s) (λ r. grammar.a_computed_member_of_call mark refl r s) g.reads;
+      called = λ n mark inside es s. grammar.with_arguments mark refl (subst (λ b. ReadsExpression (under place c) (left_hand_side b) g.tokens g.tree) n g.reads) s;
+      same = g.same;
+    }
+
+pub link_super : (c : Allowed) (a : Atoms) → LinkPrinted c (tree.super a)
+link_super c a place p l z y k =
+    let no_call : Bool = place.context.forbids_call in
+    record {
+      last = After (Word (codes "super"));
+      tokens = piece (line_of l) (Word (codes "super")) done;
+      writes = wrote_word (codes "super") p l (letters_spelled 115 (codes "uper") refl) k;
+      operand = tt;
+      semicolon = z;
+      begins = λ b n. word_begins (codes "super") (λ ts. refl) place.start (line_of l) b;
+      line = λ e. ap not e;
+      base = tree.super (nothing_of 0);
+      named = λ w v mark next x. weaken_member no_call (grammar.a_named_member_of_super w (line_of l) mark next x);
+      computed = λ mark inside e s. weaken_member no_call (grammar.a_computed_member_of_super s);
+      called = λ n mark inside es s. grammar.a_call_of_super s;
+      same = refl;
+    }
+
 -- ---- members
 
-pub good_named_member : (c : Allowed) (a b : Atoms) (o : Tree) → static_member_expression_optional a ≡ no_value → spells_name (identifier_name_name b) ≡ true → Printed c o → Printed c (tree.static_member a o (tree.identifier_name b))
+pub good_named_member : (c : Allowed) (a b : Atoms) (o : Tree) → static_member_expression_optional a ≡ no_value → spells_name (identifier_name_name b) ≡ true → LinkPrinted c o → Printed c (tree.static_member a o (tree.identifier_name b))
 good_named_member c a b o m h f place p l z y k =
     let v : List ℕ = identifier_name_name b in
     let p1 : Pen = layout (spell o (linked place)) p in
     let p2 : Pen = layout member_dot p1 in
     let w : List ℕ = name_text p2.style.ascii v in
     let x : word_value w ≡ Some v = word_text_value p2.style.ascii v h in
-    let g = f (linked place) p l z y k in
+    let g = f place p l z y k in
     let d = wrote_dot p1 g.last g.operand g.writes.knows in
     let n = wrote_name v p2 (After (Sign dot)) h d.knows in
     record {
@@ -57,15 +115,15 @@ good_named_member c a b o m h f place p l z y k =
       semicolon = g.semicolon;
       begins = λ ts i. begins_then place.start g.tokens (piece (line_of g.last) (Sign dot) (piece false (Word w) done)) ts g.begins refl;
       line = λ e. line_then g.tokens (piece (line_of g.last) (Sign dot) (piece false (Word w) done)) (g.line e);
-      tree = tree.static_member (nothing_of 1) g.tree (tree.identifier_name (named v));
-      reads = from_left place (linked_read place.context.forbids_call (λ r. grammar.a_named_member w (line_of g.last) false refl x r) (λ r. grammar.a_named_member_of_call w (line_of g.last) false refl x r) g.reads);
+      tree = tree.static_member (nothing_of 1) g.base (tree.identifier_name (named v));
+      reads = from_left place (g.named w v (line_of g.last) false x);
       same = λ i. tree.static_member (bare (sym m i ∷ [])) (g.same i) (tree.identifier_name (named v));
     }
 
 same_member : (a : Atoms) (u v x y : Tree) → computed_member_expression_optional a ≡ no_value → normal u ≡ normal x → normal v ≡ normal y → normal (tree.computed_member (nothing_of 1) u v) ≡ normal (tree.computed_member a x y)
 same_member a u v x y m e f = λ i. tree.computed_member (bare (sym m i ∷ [])) (e i) (f i)
 
-computed_parts : (c : Allowed) (a : Atoms) (o x : Tree) (place : Place) (p p1 q : Pen) (l : Last) → computed_member_expression_optional a ≡ no_value → (g : Good p l p1 (under place c) (left_hand_side place.context.forbids_call) place.start o) → Good (written (opening Square) other_end p1) (Open false) q (with_in c) grammar.Expression (in_brackets levels.Lowest place).start x → Good p l (written (closing Square) other_end q) (under place c) (level_of place) place.start (tree.computed_member a o x)
+computed_parts : (c : Allowed) (a : Atoms) (o x : Tree) (place : Place) (p p1 q : Pen) (l : Last) → computed_member_expression_optional a ≡ no_value → (g : Linkable p l p1 (under place c) place.context.forbids_call place.start o) → Good (written (opening Square) other_end p1) (Open false) q (with_in c) grammar.Expression (in_brackets levels.Lowest place).start x → Good p l (written (closing Square) other_end q) (under place c) (level_of place) place.start (tree.computed_member a o x)
 computed_parts c a o x place p p1 q l m g h = record {
   last = Open false;
   tokens = g.tokens ⧺ group (line_of g.last) Square h.tokens done;
@@ -74,16 +132,16 @@ computed_parts c a o x place p p1 q l m g h = record {
   semicolon = h.semicolon;
   begins = λ ts i. begins_then place.start g.tokens (group (line_of g.last) Square h.tokens done) ts g.begins refl;
   line = λ e. line_then g.tokens (group (line_of g.last) Square h.tokens done) (g.line e);
-  tree = tree.computed_member (nothing_of 1) g.tree h.tree;
-  reads = from_left place (linked_read place.context.forbids_call (λ r. grammar.a_computed_member (line_of g.last) refl r h.reads) (λ r. grammar.a_computed_member_of_call (line_of g.last) refl r h.reads) g.reads);
-  same = same_member a g.tree h.tree o x m g.same h.same;
+  tree = tree.computed_member (nothing_of 1) g.base h.tree;
+  reads = from_left place (g.computed (line_of g.last) h.tokens h.tree h.reads);
+  same = same_member a g.base h.tree o x m g.same h.same;
 }
 
-pub good_computed_member : (c : Allowed) (a : Atoms) (o x : Tree) → computed_member_expression_optional a ≡ no_value → Printed c o → Printed c x → Printed c (tree.computed_member a o x)
+pub good_computed_member : (c : Allowed) (a : Atoms) (o x : Tree) → computed_member_expression_optional a ≡ no_value → LinkPrinted c o → Printed c x → Printed c (tree.computed_member a o x)
 good_computed_member c a o x m f h place p l z y k =
     let p1 : Pen = layout (spell o (linked place)) p in
     let p2 : Pen = written (opening Square) other_end p1 in
-    let g = f (linked place) p l z y k in
+    let g = f place p l z y k in
     let i = h (in_brackets levels.Lowest place) p2 (Open false) g.semicolon tt (within_brackets Square p1 g.last g.writes.knows) in
     computed_parts c a o x place p p1 (layout (spell x (in_brackets levels.Lowest place)) p2) l m g i
 
@@ -144,7 +202,7 @@ one_more_argument c e es f m place = one_more (ReadsElement (with_in c)) (ReadsA
 same_call : (a : Atoms) (u x : Tree) (us xs : Trees) → call_expression_optional a ≡ no_value → normal u ≡ normal x → normal_trees us ≡ normal_trees xs → normal (tree.call (nothing_of 2) u us) ≡ normal (tree.call a x xs)
 same_call a u x us xs m e f = λ i. tree.call (bare (sym m i ∷ no_value ∷ [])) (e i) (f i)
 
-call_parts : (c : Allowed) (a : Atoms) (t : Tree) (es : Trees) (start : Start) (p p1 q : Pen) (l : Last) → call_expression_optional a ≡ no_value → (g : Good p l p1 c grammar.Callee start t) → Elements (ReadsArguments (with_in c)) (written (opening Round) other_end p1) (Open false) q es → Good p l (written (closing Round) other_end q) c grammar.Call start (tree.call a t es)
+call_parts : (c : Allowed) (a : Atoms) (t : Tree) (es : Trees) (start : Start) (p p1 q : Pen) (l : Last) → call_expression_optional a ≡ no_value → (g : Linkable p l p1 c false start t) → Elements (ReadsArguments (with_in c)) (written (opening Round) other_end p1) (Open false) q es → Good p l (written (closing Round) other_end q) c grammar.Call start (tree.call a t es)
 call_parts c a t es start p p1 q l m g h = record {
   last = Open false;
   tokens = g.tokens ⧺ group (line_of g.last) Round h.tokens done;
@@ -153,9 +211,9 @@ call_parts c a t es start p p1 q l m g h = record {
   semicolon = h.semicolon;
   begins = λ ts i. begins_then start g.tokens (group (line_of g.last) Round h.tokens done) ts g.begins refl;
   line = λ e. line_then g.tokens (group (line_of g.last) Round h.tokens done) (g.line e);
-  tree = tree.call (nothing_of 2) g.tree h.trees;
-  reads = grammar.with_arguments (line_of g.last) refl g.reads h.reads;
-  same = same_call a g.tree t h.trees es m g.same h.same;
+  tree = tree.call (nothing_of 2) g.base h.trees;
+  reads = g.called refl (line_of g.last) h.tokens h.trees h.reads;
+  same = same_call a g.base t h.trees es m g.same h.same;
 }
 
 -- without parentheses calls aren't forbidden
@@ -164,7 +222,7 @@ unwrapped_call {c} {ts} {u} place e r =
     let k = or_parts (wraps levels.New place) place.context.forbids_call e in
     unwrapped levels.New place k.0 (subst (λ b. ReadsExpression c (left_hand_side b) ts u) (sym k.1) (grammar.a_called_call r))
 
-pub good_call : (c : Allowed) (a : Atoms) (t : Tree) (es : Trees) → call_expression_optional a ≡ no_value → Printed c t → ArgumentsAt c es → Printed c (tree.call a t es)
+pub good_call : (c : Allowed) (a : Atoms) (t : Tree) (es : Trees) → call_expression_optional a ≡ no_value → LinkPrinted c t → ArgumentsAt c es → Printed c (tree.call a t es)
 good_call c a t es m f h place =
     good_wrapped c place grammar.Call (call_wraps place) (λ w. spell t (called (within w place)) ⊕ brackets Round (spell_list es (in_brackets levels.Comma place))) (tree.call a t es)
     (λ d ts u r. lifted false levels.Postfix levels.Lowest (omega arith) (grammar.a_called_call r)) (λ e ts u r. unwrapped_call place e r) inner
@@ -173,6 +231,7 @@ good_call c a t es m f h place =
     inner v e p l z y k =
         let p1 : Pen = layout (spell t (called (within v place))) p in
         let p2 : Pen = written (opening Round) other_end p1 in
-        let g = f (called (within v place)) p l z y k in
+        let at : Place = within v place in
+        let g = f (record at { context = record at.context { forbids_call = false } }) p l z y k in
         let i = h place p2 g.semicolon (within_brackets Round p1 g.last g.writes.knows) in
         call_parts (under (within v place) c) a t es (unless_printed v place.start) p p1 (layout (spell_list es (in_brackets levels.Comma place)) p2) l m g i

@@ -86,6 +86,8 @@ mutual
   normal_again (tree.array a elements) = ap (λ ts. tree.array (nothing_of 0) ts) (normal_trees_again elements)
   normal_again (tree.spread a argument) = ap (λ e. tree.spread (nothing_of 0) e) (normal_again argument)
   normal_again (tree.unary a argument) = ap (λ e. tree.unary (bare (unary_operator (unary_expression_operator a) ∷ [])) e) (normal_again argument)
+  normal_again (tree.new_expression a callee arguments) = let e = normal_again callee in let f = normal_trees_again arguments in λ i. tree.new_expression (nothing_of 1) (e i) (f i)
+  normal_again (tree.super a) = refl
   normal_again (tree.new_target a) = refl
   normal_again (node type a slots) = ap (λ s. node type (bare a.values) s) (normal_slots_again slots)
 

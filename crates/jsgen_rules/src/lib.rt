@@ -4,8 +4,7 @@
 ghost use Rattle.std.specs.Prelude.{◌≡◌, not};
 ghost use Rattle.std.specs.Str.{chars};
 ghost use Rattle.jsgen_syntax.specs.Name.{is_free_name};
-ghost use Rattle.jsgen_tree.specs.Sets.{in_set};
-ghost use Rattle.jsgen_model.specs.Valid.{span_faults, name_faults, written_name_faults, directive_faults, source_faults, fault_if};
+ghost use Rattle.jsgen_model.specs.Valid.{span_faults, name_faults, written_name_faults, directive_faults, source_faults, fault_if, is_super, takes_super, may_stand};
 ghost use Rattle.jsgen_model.specs.declared.fault.TreeFault.TheVariants as faults;
 ghost use Rattle.jsgen_rules.specs.Verdict.{verdict};
 
@@ -72,11 +71,29 @@ pub fn check_source(source: &str, span: Span) -> Result<(), TreeFault>
     Ok(())
 }
 
-/// A child is of the set that its field asks for.
-pub fn check_set(node_type: NodeType, set: NodeSet, start: u32) -> Result<(), TreeFault>
-    ensures { result ≡ verdict (fault_if (not (in_set set node_type)) (faults.Place start)) }
+fn is_super(node_type: NodeType) -> bool
+    ensures { result ≡ is_super node_type }
 {
-    if !node_type.is_in(set) {
+    matches!(&node_type, NodeType::Super)
+}
+
+fn takes_super(set: NodeSet) -> bool
+    ensures { result ≡ takes_super set }
+{
+    matches!(&set, NodeSet::Link)
+}
+
+fn may_stand(node_type: NodeType, set: NodeSet) -> bool
+    ensures { result ≡ may_stand set node_type }
+{
+    node_type.is_in(set) && (takes_super(set) || !is_super(node_type))
+}
+
+/// A child is of the set that its field asks for, and `super` stands only where a link follows it.
+pub fn check_set(node_type: NodeType, set: NodeSet, start: u32) -> Result<(), TreeFault>
+    ensures { result ≡ verdict (fault_if (not (may_stand set node_type)) (faults.Place start)) }
+{
+    if !may_stand(node_type, set) {
         return Err(TreeFault::Place { start });
     }
     Ok(())

@@ -114,6 +114,12 @@ unary_expression_fields = needs (codes "operator") (sorts.word unary_operator_wo
 abbrev pub new_target_fields : List Field
 new_target_fields = []
 
+abbrev pub new_expression_fields : List Field
+new_expression_fields = needs (codes "callee") (sorts.child sets.Expression) ∷ not_yet (codes "type_arguments") sorts.unread_child ∷ may_have (codes "arguments") (sorts.children sets.Argument) ∷ has_by_default (atoms.flag false) (codes "pure") sorts.flag ∷ []
+
+abbrev pub super_fields : List Field
+super_fields = []
+
 abbrev pub fields : NodeType → List Field
 fields types.Program = program_fields
 fields types.Directive = directive_fields
@@ -141,3 +147,5 @@ fields types.SpreadElement = spread_element_fields
 fields types.ArrayExpression = array_expression_fields
 fields types.UnaryExpression = unary_expression_fields
 fields types.NewTarget = new_target_fields
+fields types.NewExpression = new_expression_fields
+fields types.Super = super_fields

@@ -80,3 +80,9 @@ unary a argument = node types.UnaryExpression a (one argument no_slots)
 
 pattern abbrev pub new_target : Atoms → Tree
 new_target a = node types.NewTarget a no_slots
+
+pattern abbrev pub new_expression : Atoms → Tree → Trees → Tree
+new_expression a callee arguments = node types.NewExpression a (one callee (many arguments no_slots))
+
+pattern abbrev pub super : Atoms → Tree
+super a = node types.Super a no_slots

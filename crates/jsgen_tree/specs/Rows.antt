@@ -5,7 +5,7 @@ use Rattle.jsgen_syntax.specs.Units.{js_units}
 use Rattle.jsgen_tree.specs.Characters.{characters, numeric_values}
 use Rattle.jsgen_tree.specs.Tree.{Tree, optional, trees, holed}
 use Rattle.jsgen_tree.specs.Atom.{no_value, text, units, flag, source_kind, declaration_kind, binary_operator, logical_operator, unary_operator}
-use Rattle.jsgen_tree.specs.Nodes.{program, directive, variable_declaration, variable_declarator, binding_identifier, expression_statement, block, if_statement, empty_statement, identifier_reference, this_expression, null_literal, boolean_literal, numeric_literal, string_literal, parenthesized, binary, logical, identifier_name, static_member, computed_member, call, spread, array, unary, new_target}
+use Rattle.jsgen_tree.specs.Nodes.{program, directive, variable_declaration, variable_declarator, binding_identifier, expression_statement, block, if_statement, empty_statement, identifier_reference, this_expression, null_literal, boolean_literal, numeric_literal, string_literal, parenthesized, binary, logical, identifier_name, static_member, computed_member, call, spread, array, unary, new_target, new_expression, super}
 use Rattle.jsgen_tree.specs.declared.nodes.ExpressionNode.{ExpressionNode}
 use Rattle.jsgen_tree.specs.declared.nodes.DeclarationNode.{DeclarationNode}
 use Rattle.jsgen_tree.specs.declared.nodes.StatementNode.{StatementNode}
@@ -36,6 +36,8 @@ use Rattle.jsgen_tree.specs.declared.collections.SpreadElement.{SpreadElement}
 use Rattle.jsgen_tree.specs.declared.collections.ArrayExpression.{ArrayExpression}
 use Rattle.jsgen_tree.specs.declared.operations.UnaryExpression.{UnaryExpression}
 use Rattle.jsgen_tree.specs.declared.operations.NewTarget.{NewTarget}
+use Rattle.jsgen_tree.specs.declared.operations.NewExpression.{NewExpression}
+use Rattle.jsgen_tree.specs.declared.operations.Super.{Super}
 use Rattle.jsgen_tree.specs.declared.sets.Expression.{Expression}
 use Rattle.jsgen_tree.specs.declared.sets.Argument.{Argument}
 use Rattle.jsgen_tree.specs.declared.sets.ArrayExpressionElement.{ArrayExpressionElement}
@@ -151,6 +153,12 @@ unary_expression_row plain n = unary (record { span = n.span; values = unary_ope
 abbrev pub new_target_row : NewTarget → Tree
 new_target_row n = new_target (record { span = n.span; values = [] })
 
+abbrev pub new_expression_row : {N : Type 0} → (N → Tree) → NewExpression N → Tree
+new_expression_row plain n = new_expression (record { span = n.span; values = flag n.pure ∷ [] }) (in_expression plain n.callee) (trees (map (in_argument plain) n.arguments.items))
+
+abbrev pub super_row : Super → Tree
+super_row n = super (record { span = n.span; values = [] })
+
 -- ---- sets that nest
 
 abbrev pub expression_plain : {N : Type 0} → (N → Tree) → Expression N → Tree
@@ -168,7 +176,9 @@ expression_plain plain (expression.ComputedMemberExpression b) = computed_member
 expression_plain plain (expression.CallExpression b) = call_expression_row plain b.value
 expression_plain plain (expression.ArrayExpression b) = array_expression_row plain b.value
 expression_plain plain (expression.UnaryExpression b) = unary_expression_row plain b.value
+expression_plain plain (expression.NewExpression b) = new_expression_row plain b.value
 expression_plain plain (expression.NewTarget b) = new_target_row b.value
+expression_plain plain (expression.Super b) = super_row b.value
 
 abbrev pub declaration_plain : {N : Type 0} → (N → Tree) → Declaration N → Tree
 declaration_plain plain (declaration.VariableDeclaration b) = variable_declaration_row plain b.value

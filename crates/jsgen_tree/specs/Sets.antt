@@ -21,7 +21,9 @@ is_expression types.ComputedMemberExpression = true
 is_expression types.CallExpression = true
 is_expression types.ArrayExpression = true
 is_expression types.UnaryExpression = true
+is_expression types.NewExpression = true
 is_expression types.NewTarget = true
+is_expression types.Super = true
 is_expression other = false
 
 abbrev pub is_argument : NodeType → Bool
@@ -40,7 +42,9 @@ is_argument types.ComputedMemberExpression = true
 is_argument types.CallExpression = true
 is_argument types.ArrayExpression = true
 is_argument types.UnaryExpression = true
+is_argument types.NewExpression = true
 is_argument types.NewTarget = true
+is_argument types.Super = true
 is_argument other = false
 
 abbrev pub is_array_expression_element : NodeType → Bool
@@ -59,7 +63,9 @@ is_array_expression_element types.ComputedMemberExpression = true
 is_array_expression_element types.CallExpression = true
 is_array_expression_element types.ArrayExpression = true
 is_array_expression_element types.UnaryExpression = true
+is_array_expression_element types.NewExpression = true
 is_array_expression_element types.NewTarget = true
+is_array_expression_element types.Super = true
 is_array_expression_element other = false
 
 abbrev pub is_declaration : NodeType → Bool
@@ -99,3 +105,4 @@ in_set sets.Expression t = is_expression t
 in_set sets.IdentifierName t = is_identifier_name t
 in_set sets.Argument t = is_argument t
 in_set sets.ArrayExpressionElement t = is_array_expression_element t
+in_set sets.Link t = is_expression t

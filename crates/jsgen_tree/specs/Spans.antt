@@ -29,7 +29,9 @@ expression_span (expression.ComputedMemberExpression b) = b.value.span
 expression_span (expression.CallExpression b) = b.value.span
 expression_span (expression.ArrayExpression b) = b.value.span
 expression_span (expression.UnaryExpression b) = b.value.span
+expression_span (expression.NewExpression b) = b.value.span
 expression_span (expression.NewTarget b) = b.value.span
+expression_span (expression.Super b) = b.value.span
 
 abbrev pub argument_span : {N : Type 0} → (N → Span) → Argument N → Span
 argument_span own (argument.SpreadElement b) = b.value.span

@@ -148,3 +148,6 @@ call_expression_pure a = as_flag (value_at 1 a.values)
 
 abbrev pub unary_expression_operator : Atoms → UnaryOperator
 unary_expression_operator a = as_unary_operator (value_at 0 a.values)
+
+abbrev pub new_expression_pure : Atoms → Bool
+new_expression_pure a = as_flag (value_at 0 a.values)

@@ -29,7 +29,7 @@ pub use expressions::{
 pub use laws::fields_are_named;
 pub use nodes::{BindingPatternNode, DeclarationNode, ExpressionNode, Node, StatementNode};
 pub use numbers::NumericValue;
-pub use operations::{NewTarget, UnaryExpression};
+pub use operations::{NewExpression, NewTarget, Super, UnaryExpression};
 pub use options::{CodegenOptions, CommentOptions, LegalComment};
 pub use sets::{
     Argument, ArrayExpressionElement, BindingPattern, Declaration, Expression, Statement,

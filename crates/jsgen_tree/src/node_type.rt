@@ -31,7 +31,9 @@ impl Expression {
             Expression::CallExpression(_) => NodeType::CallExpression,
             Expression::ArrayExpression(_) => NodeType::ArrayExpression,
             Expression::UnaryExpression(_) => NodeType::UnaryExpression,
+            Expression::NewExpression(_) => NodeType::NewExpression,
             Expression::NewTarget(_) => NodeType::NewTarget,
+            Expression::Super(_) => NodeType::Super,
         }
     }
 }

@@ -2,6 +2,7 @@
 // Operations of one operand, and `new` (ECMA-262, clause 13).
 
 use crate::nodes::{ExpressionNode, Node};
+use crate::sets::Argument;
 use jsgen_syntax::{Span, UnaryOperator};
 
 /// An operation by a sign or a word before its one operand (ECMA-262, 13.5).
@@ -15,5 +16,21 @@ pub struct UnaryExpression<N = Node> {
 /// The meta property `new.target` (ECMA-262, 13.3.12).
 #[derive(Drop)]
 pub struct NewTarget {
+    pub span: Span,
+}
+
+/// What a constructor makes (ECMA-262, 13.3.5).
+#[derive(Drop)]
+pub struct NewExpression<N = Node> {
+    pub span: Span,
+    pub callee: ExpressionNode<N>,
+    pub arguments: Vec<Argument<N>>,
+    /// Making it has no effect but its result. Nothing is printed for it.
+    pub pure: bool,
+}
+
+/// The keyword `super`, which is the object of a member or what is called, and nothing else (ECMA-262, 13.3.7).
+#[derive(Drop)]
+pub struct Super {
     pub span: Span,
 }

@@ -8,7 +8,7 @@ use crate::expressions::{
     StaticMemberExpression, StringLiteral, ThisExpression,
 };
 use crate::nodes::{DeclarationNode, ExpressionNode, Node};
-use crate::operations::{NewTarget, UnaryExpression};
+use crate::operations::{NewExpression, NewTarget, Super, UnaryExpression};
 use crate::statements::{
     BindingIdentifier, BlockStatement, EmptyStatement, ExpressionStatement, IfStatement,
     VariableDeclaration,
@@ -30,7 +30,9 @@ pub enum Expression<N = Node> {
     CallExpression(Box<CallExpression<N>>),
     ArrayExpression(Box<ArrayExpression<N>>),
     UnaryExpression(Box<UnaryExpression<N>>),
+    NewExpression(Box<NewExpression<N>>),
     NewTarget(Box<NewTarget>),
+    Super(Box<Super>),
 }
 
 /// What a call is given.

@@ -12,7 +12,7 @@ use crate::expressions::{
     StaticMemberExpression, StringLiteral, ThisExpression,
 };
 use crate::nodes::Node;
-use crate::operations::{NewTarget, UnaryExpression};
+use crate::operations::{NewExpression, NewTarget, Super, UnaryExpression};
 use crate::sets::{
     Argument, ArrayExpressionElement, BindingPattern, Declaration, Expression, Statement,
 };
@@ -240,6 +240,22 @@ impl GetSpan for NewTarget {
     }
 }
 
+impl<N> GetSpan for NewExpression<N> {
+    ghost own_span = { λ n. n.span };
+
+    fn span(&self) -> Span {
+        self.span
+    }
+}
+
+impl GetSpan for Super {
+    ghost own_span = { λ n. n.span };
+
+    fn span(&self) -> Span {
+        self.span
+    }
+}
+
 impl<N> GetSpan for Expression<N> {
     ghost own_span = { λ n. expression_span n };
 
@@ -259,7 +275,9 @@ impl<N> GetSpan for Expression<N> {
             Expression::CallExpression(node) => node.span,
             Expression::ArrayExpression(node) => node.span,
             Expression::UnaryExpression(node) => node.span,
+            Expression::NewExpression(node) => node.span,
             Expression::NewTarget(node) => node.span,
+            Expression::Super(node) => node.span,
         }
     }
 }

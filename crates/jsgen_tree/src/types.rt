@@ -32,6 +32,8 @@ pub enum NodeType {
     ArrayExpression,
     UnaryExpression,
     NewTarget,
+    NewExpression,
+    Super,
 }
 
 /// What the child of a field may be: a member of a set, or a node of one type.
@@ -45,6 +47,7 @@ pub enum NodeSet {
     IdentifierName,
     Argument,
     ArrayExpressionElement,
+    Link,
 }
 
 impl NodeType {
@@ -61,6 +64,7 @@ impl NodeType {
             NodeSet::IdentifierName => matches!(&self, NodeType::IdentifierName),
             NodeSet::Argument => self.is_argument(),
             NodeSet::ArrayExpressionElement => self.is_array_expression_element(),
+            NodeSet::Link => self.is_expression(),
         }
     }
 
@@ -84,7 +88,9 @@ impl NodeType {
                 | NodeType::CallExpression
                 | NodeType::ArrayExpression
                 | NodeType::UnaryExpression
+                | NodeType::NewExpression
                 | NodeType::NewTarget
+                | NodeType::Super
         )
     }
 
@@ -109,7 +115,9 @@ impl NodeType {
                 | NodeType::CallExpression
                 | NodeType::ArrayExpression
                 | NodeType::UnaryExpression
+                | NodeType::NewExpression
                 | NodeType::NewTarget
+                | NodeType::Super
         )
     }
 
@@ -134,7 +142,9 @@ impl NodeType {
                 | NodeType::CallExpression
                 | NodeType::ArrayExpression
                 | NodeType::UnaryExpression
+                | NodeType::NewExpression
                 | NodeType::NewTarget
+                | NodeType::Super
         )
     }
 

@@ -100,7 +100,7 @@ def calls(table, n):
         elif f.many == "?":
             found.append((f.rust, f"{check_optional(f.kind)}(&{here}, around)", None, None))
         elif nests(table, f.kind):
-            found.append((f.rust, f"check_child({here}.get(), NodeSet::{f.kind}, around)", "get", None))
+            found.append((f.rust, f"check_child({here}.get(), NodeSet::{f.place or f.kind}, around)", "get", None))
         else:
             of_type = f.kind if f.kind in table.nodes else None
             found.append((f.rust, f"{check(f.kind)}(&{here}, around)", "deref" if of_type else None, of_type))

@@ -66,6 +66,7 @@ def sets(table):
             clauses = "".join(f"{test} types.{t} = true\n" for t in table.types_in(name))
             parts.append(f"abbrev pub {test} : NodeType → Bool\n{clauses}{test} other = false")
     clauses = "".join(f"\nin_set sets.{s} t = {tested(table, s)} t" for s in table.child_sets())
+    clauses += "".join(f"\nin_set sets.{p} t = {tested(table, s)} t" for p, s in table.places.items())
     parts.append(f"abbrev pub in_set : NodeSet → NodeType → Bool{clauses}")
     homes = [("Rattle.std.specs.Prelude", ["Bool", "true", "false"])] + types_in_antt(table)
     return layout.antt("The types in each set.", homes, TYPES, "\n\n".join(parts))

@@ -7,8 +7,9 @@ from table import snake
 def write(table):
     about = "The types of nodes, and the sets that a field's child may be of."
     types = "".join(f"    {n},\n" for n in table.nodes)
-    sets = "".join(f"    {s},\n" for s in table.child_sets())
+    sets = "".join(f"    {s},\n" for s in table.child_sets() + list(table.places))
     arms = "".join(f"            NodeSet::{s} => {test(table, s)},\n" for s in table.child_sets())
+    arms += "".join(f"            NodeSet::{p} => {test(table, s)},\n" for p, s in table.places.items())
     large = [s for s in table.sets if len(table.types_in(s)) > 1 and not is_other(table, s)]
     body = f"""/// The type of a node.
 #[derive(Clone, Copy, Debug, PartialEq, Eq)]

@@ -21,4 +21,5 @@ returns c = record {
   computed_member_expression = λ a. refl;
   call_expression = λ a. (refl, refl);
   unary_expression = λ a. refl;
+  new_expression = λ a. refl;
 }
