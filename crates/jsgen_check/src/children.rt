@@ -2,18 +2,21 @@
 // Lists, children that may be absent, and sets that don't nest.
 ghost use Rattle.std.specs.Prelude.{◌≡◌, map, option_map};
 ghost use Rattle.jsgen_tree.specs.Tree.{optional, trees, holed};
-ghost use Rattle.jsgen_tree.specs.Rows.{in_expression, in_argument, in_array_expression_element, in_statement, directive_row, variable_declarator_row};
+ghost use Rattle.jsgen_tree.specs.Rows.{in_expression, in_argument, in_array_expression_element, in_simple_assignment_target, in_statement, directive_row, variable_declarator_row};
 ghost use Rattle.jsgen_check.specs.Verdict.{child_verdict, maybe_verdict, children_verdict};
 ghost use Rattle.jsgen_tree.specs.declared.types.NodeSet.TheVariants as sets;
 
 use crate::collections::check_spread_element;
+use crate::expressions::{
+    check_computed_member_expression, check_identifier_reference, check_static_member_expression,
+};
 use crate::heights::higher;
 use crate::statements::{check_directive, check_variable_declarator};
 use crate::{CheckNode, Surroundings, check_child};
 use jsgen_model::TreeFault;
 use jsgen_tree::{
-    Argument, ArrayExpressionElement, Directive, ExpressionNode, NodeSet, StatementNode,
-    VariableDeclarator,
+    Argument, ArrayExpressionElement, Directive, ExpressionNode, NodeSet, SimpleAssignmentTarget,
+    StatementNode, VariableDeclarator,
 };
 
 pub fn check_directives(nodes: &[Directive], around: Surroundings<'_>) -> Result<u32, TreeFault>
@@ -143,6 +146,25 @@ pub fn check_array_expression_element<N: CheckNode>(
             node.get(),
             NodeSet::ArrayExpressionElement,
             around,
+        ),
+    }
+}
+
+pub fn check_simple_assignment_target<N: CheckNode>(
+    node: &SimpleAssignmentTarget<N>,
+    around: Surroundings<'_>,
+) -> Result<u32, TreeFault>
+    ensures { result ≡ child_verdict around.entry sets.SimpleAssignmentTarget (in_simple_assignment_target N.plain node.now) }
+{
+    match node {
+        SimpleAssignmentTarget::IdentifierReference(node) => check_identifier_reference(
+            node, around,
+        ),
+        SimpleAssignmentTarget::StaticMemberExpression(node) => check_static_member_expression(
+            node, around,
+        ),
+        SimpleAssignmentTarget::ComputedMemberExpression(node) => check_computed_member_expression(
+            node, around,
         ),
     }
 }

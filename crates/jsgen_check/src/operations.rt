@@ -1,14 +1,14 @@
 // Generated from tools/nodes/table.txt; edit that and run tools/nodes/generate.
 // Operations of one operand, and `new` (ECMA-262, clause 13).
 ghost use Rattle.std.specs.Prelude.{◌≡◌};
-ghost use Rattle.jsgen_tree.specs.Rows.{unary_expression_row, new_target_row, new_expression_row, super_row};
+ghost use Rattle.jsgen_tree.specs.Rows.{unary_expression_row, new_target_row, update_expression_row, new_expression_row, super_row};
 ghost use Rattle.jsgen_check.specs.Verdict.{tree_verdict};
 
-use crate::children::check_arguments;
+use crate::children::{check_arguments, check_simple_assignment_target};
 use crate::heights::{check_node, higher};
 use crate::{CheckNode, Surroundings, check_child};
 use jsgen_model::TreeFault;
-use jsgen_tree::{NewExpression, NewTarget, NodeSet, Super, UnaryExpression};
+use jsgen_tree::{NewExpression, NewTarget, NodeSet, Super, UnaryExpression, UpdateExpression};
 
 pub fn check_unary_expression<N: CheckNode>(
     node: &UnaryExpression<N>,
@@ -25,6 +25,16 @@ pub fn check_new_target(node: &NewTarget, around: Surroundings<'_>) -> Result<u3
 {
     let _ = around;
     check_node(node.span, Ok(()), Ok(0))
+}
+
+pub fn check_update_expression<N: CheckNode>(
+    node: &UpdateExpression<N>,
+    around: Surroundings<'_>,
+) -> Result<u32, TreeFault>
+    ensures { result ≡ tree_verdict around.entry (update_expression_row N.plain node.now) }
+{
+    let argument = check_simple_assignment_target(&node.argument, around);
+    check_node(node.span, Ok(()), argument)
 }
 
 pub fn check_new_expression<N: CheckNode>(

@@ -13,6 +13,7 @@ use crate::expressions::{
 };
 use crate::operations::{
     check_new_expression, check_new_target, check_super, check_unary_expression,
+    check_update_expression,
 };
 use crate::statements::{
     check_binding_identifier, check_block_statement, check_empty_statement,
@@ -45,6 +46,7 @@ pub fn check_expression_set<N: CheckNode>(
         Expression::CallExpression(node) => check_call_expression(node, around),
         Expression::ArrayExpression(node) => check_array_expression(node, around),
         Expression::UnaryExpression(node) => check_unary_expression(node, around),
+        Expression::UpdateExpression(node) => check_update_expression(node, around),
         Expression::NewExpression(node) => check_new_expression(node, around),
         Expression::NewTarget(node) => check_new_target(node, around),
         Expression::Super(node) => check_super(node, around),

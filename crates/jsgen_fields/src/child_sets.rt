@@ -3,15 +3,16 @@
 ghost use Rattle.std.specs.Prelude.{◌≡◌, IfOk, Some, None, option_map, if◌then◌else◌};
 ghost use Rattle.jsgen_tree.specs.Tree.{type_of};
 ghost use Rattle.jsgen_tree.specs.Sets.{in_set};
-ghost use Rattle.jsgen_tree.specs.Rows.{in_expression, in_argument, in_array_expression_element, in_declaration, in_statement, in_binding_pattern, directive_row, variable_declarator_row, identifier_name_row};
+ghost use Rattle.jsgen_tree.specs.Rows.{in_expression, in_argument, in_array_expression_element, in_simple_assignment_target, in_declaration, in_statement, in_binding_pattern, directive_row, variable_declarator_row, identifier_name_row, expression_plain};
 ghost use Rattle.jsgen_fields.specs.Kept.{row_plain};
 ghost use Rattle.jsgen_tree.specs.declared.types.NodeSet.TheVariants as sets;
 
 use crate::children::Child;
 use crate::kept::{ReadNode, Row};
 use jsgen_tree::{
-    Argument, ArrayExpressionElement, BindingPatternNode, DeclarationNode, Directive,
-    ExpressionNode, IdentifierName, NodeSet, Statement, StatementNode, VariableDeclarator,
+    Argument, ArrayExpressionElement, BindingPatternNode, DeclarationNode, Directive, Expression,
+    ExpressionNode, IdentifierName, NodeSet, SimpleAssignmentTarget, Statement, StatementNode,
+    VariableDeclarator,
 };
 use std::alloc::{AllocError, Global};
 
@@ -200,6 +201,30 @@ impl<N: ReadNode + Drop> Child<N> for ArrayExpressionElement<N> {
     }
 }
 
+impl<N: ReadNode + Drop> Child<N> for SimpleAssignmentTarget<N> {
+    ghost plain = { λ n. in_simple_assignment_target N.plain n };
+
+    ghost of_set = { sets.SimpleAssignmentTarget };
+
+    fn set() -> NodeSet {
+        NodeSet::SimpleAssignmentTarget
+    }
+
+    #[tactic(auto, using(crate::proofs::Sets::takes_simple_assignment_targets))]
+    fn from_row(alloc: Global, row: Row<N>) -> Result<Option<SimpleAssignmentTarget<N>>, AllocError>
+        ensures { IfOk result (λ child. option_map (in_simple_assignment_target N.plain) child
+            ≡ (if in_set sets.SimpleAssignmentTarget (type_of (row_plain N.plain row)) then Some (row_plain N.plain row) else None)) }
+    {
+        let _ = alloc;
+        match row {
+            Row::Expression(row) => Ok(simple_assignment_target_of_expression(Box::into_inner(
+                row,
+            ))),
+            _ => Ok(None),
+        }
+    }
+}
+
 // ---- a member of a set within the set, which stands in a box of its own
 
 fn statement_of_declaration<N: ReadNode + Drop>(
@@ -230,4 +255,26 @@ fn array_expression_element_of_expression<N: ReadNode + Drop>(
 {
     let expression = Box::new(alloc, expression)?;
     Ok(Some(ArrayExpressionElement::Expression(expression)))
+}
+
+// ---- a place that takes some types of a set
+
+fn simple_assignment_target_of_expression<N: ReadNode + Drop>(
+    row: Expression<N>,
+) -> Option<SimpleAssignmentTarget<N>>
+    ensures { option_map (in_simple_assignment_target N.plain) result
+        ≡ (if in_set sets.SimpleAssignmentTarget (type_of (expression_plain N.plain row)) then Some (expression_plain N.plain row) else None) }
+{
+    match row {
+        Expression::IdentifierReference(row) => Some(SimpleAssignmentTarget::IdentifierReference(
+            row,
+        )),
+        Expression::StaticMemberExpression(row) => Some(
+            SimpleAssignmentTarget::StaticMemberExpression(row),
+        ),
+        Expression::ComputedMemberExpression(row) => Some(
+            SimpleAssignmentTarget::ComputedMemberExpression(row),
+        ),
+        _ => None,
+    }
 }

@@ -5,7 +5,7 @@ ghost use Rattle.jsgen_fields.specs.Names.{first_named, type_named};
 
 use jsgen_tree::NodeType;
 
-const TYPE_NAMES: [(&str, NodeType); 28] = [
+const TYPE_NAMES: [(&str, NodeType); 29] = [
     ("Program", NodeType::Program),
     ("Directive", NodeType::Directive),
     ("VariableDeclaration", NodeType::VariableDeclaration),
@@ -35,6 +35,7 @@ const TYPE_NAMES: [(&str, NodeType); 28] = [
     ("ArrayExpression", NodeType::ArrayExpression),
     ("UnaryExpression", NodeType::UnaryExpression),
     ("NewTarget", NodeType::NewTarget),
+    ("UpdateExpression", NodeType::UpdateExpression),
     ("NewExpression", NodeType::NewExpression),
     ("Super", NodeType::Super),
 ];

@@ -1,5 +1,5 @@
 -- The grammar (ECMA-262, clauses 13 to 16): which lists of tokens are read as which tree, one production a line.
-use Rattle.std.specs.Prelude.{◌≡◌, ℕ, List, [], ◌∷◌, Bool, true, false, not, ◌&&◌, ◌||◌, Some, codes}
+use Rattle.std.specs.Prelude.{◌≡◌, ℕ, List, [], ◌∷◌, Bool, true, false, not, ◌&&◌, ◌||◌, Option, Some, None, codes}
 use Rattle.std.specs.Str.{bytes_eq}
 use Rattle.jsgen_syntax.specs.Escapes.{word_value}
 use Rattle.jsgen_syntax.specs.Strings.{is_backtick, string_value}
@@ -9,13 +9,15 @@ use Rattle.jsgen_syntax.specs.declared.operator.BinaryOperator.TheVariants as op
 use Rattle.jsgen_syntax.specs.declared.operator.LogicalOperator.TheVariants.{Or, And, Coalesce}
 use Rattle.jsgen_syntax.specs.declared.operator.UnaryOperator.{UnaryOperator}
 use Rattle.jsgen_syntax.specs.declared.operator.UnaryOperator.TheVariants as unary_operators
+use Rattle.jsgen_syntax.specs.declared.operator.UpdateOperator.{UpdateOperator}
+use Rattle.jsgen_syntax.specs.declared.operator.UpdateOperator.TheVariants as update_operators
 use Rattle.jsgen_tree.specs.declared.statements.VariableDeclarationKind.TheVariants.{Const}
 use Rattle.jsgen_syntax.specs.Name.{is_free_name}
-use Rattle.jsgen_tree.specs.Atom.{units, flag, binary_operator, logical_operator, unary_operator}
+use Rattle.jsgen_tree.specs.Atom.{units, flag, binary_operator, logical_operator, unary_operator, update_operator}
 use Rattle.jsgen_tree.specs.Tree.{Tree, Maybe, absent, given, Trees, no_trees, more, hole}
 use Rattle.jsgen_tree.specs.Places.{bare}
 use Rattle.jsgen_tree.specs.Nodes as tree
-use Rattle.jsgen_model.specs.Punctuator.{plus, minus, star, slash, percent, star_star, equal_equal, not_equal, equal_equal_equal, not_equal_equal, less, less_equal, greater, greater_equal, shift_left, shift_right, shift_right_zero, bit_and, bit_or, bit_xor, and_and, or_or, nullish, dot, ellipsis, comma, semicolon, equal, Round, Square, Brace, bang, tilde}
+use Rattle.jsgen_model.specs.Punctuator.{plus, minus, star, slash, percent, star_star, equal_equal, not_equal, equal_equal_equal, not_equal_equal, less, less_equal, greater, greater_equal, shift_left, shift_right, shift_right_zero, bit_and, bit_or, bit_xor, and_and, or_or, nullish, dot, ellipsis, comma, semicolon, equal, Round, Square, Brace, bang, tilde, Punctuator, plus_plus, minus_minus}
 use Rattle.jsgen_tree.specs.Nodes as tree
 use Rattle.jsgen_model.specs.Tokens.{Piece, Tokens, done, piece, group, ◌⧺◌, Word, Number, Quoted, Sign}
 use Rattle.jsgen_model.specs.Normal.{nothing_of, named, unnumbered, by_text, declared_as}
@@ -119,6 +121,19 @@ unary_piece unary_operators.UnaryNegation = Sign minus
 unary_piece unary_operators.BitwiseNot = Sign tilde
 unary_piece unary_operators.LogicalNot = Sign bang
 
+-- the sign of an update (13.4)
+abbrev pub update_sign : UpdateOperator → Punctuator
+update_sign update_operators.Increment = plus_plus
+update_sign update_operators.Decrement = minus_minus
+
+-- what an expression is as a simple target: a name or a member, maybe in parentheses (8.6.4)
+abbrev pub simple_target : Tree → Option Tree
+simple_target (tree.identifier_reference a) = Some (tree.identifier_reference a)
+simple_target (tree.static_member a object property) = Some (tree.static_member a object property)
+simple_target (tree.computed_member a object expression) = Some (tree.computed_member a object expression)
+simple_target (tree.parenthesized a expression) = simple_target expression
+simple_target t = None
+
 -- `in` stands where it is allowed
 abbrev pub may_stand : Allowed → BinaryOperator → Bool
 may_stand allowed operators.In = allowed.in_operator
@@ -203,6 +218,9 @@ mutual
     a_coalesced_head : {c : Allowed} {ts : Tokens} {t : Tree} → ReadsExpression c Coalesced ts t → ReadsExpression c CoalesceHead ts t
     a_bit_or_head : {c : Allowed} {ts : Tokens} {t : Tree} → ReadsExpression c BitOr ts t → ReadsExpression c CoalesceHead ts t
     a_unary_operation : {c : Allowed} {mark : Bool} {ts : Tokens} {t : Tree} (o : UnaryOperator) → ReadsExpression c Unary ts t → ReadsExpression c Unary (piece mark (unary_piece o) ts) (tree.unary (bare (unary_operator o ∷ [])) t)
+    an_update_before : {c : Allowed} {mark : Bool} {ts : Tokens} {t u : Tree} (o : UpdateOperator) → ReadsExpression c Unary ts t → simple_target t ≡ Some u → ReadsExpression c Update (piece mark (Sign (update_sign o)) ts) (tree.update (bare (update_operator o ∷ flag true ∷ [])) u)
+    -- on the line of its operand (12.10.1)
+    an_update_behind : {c : Allowed} {ts a : Tokens} {t u : Tree} (o : UpdateOperator) → ts ≡ a ⧺ piece false (Sign (update_sign o)) done → ReadsExpression c LeftHandSide a t → simple_target t ≡ Some u → ReadsExpression c Update ts (tree.update (bare (update_operator o ∷ flag false ∷ [])) u)
     new_with_arguments : {c : Allowed} {ts a inside : Tokens} {f : Tree} {es : Trees} (mark next : Bool) → ts ≡ a ⧺ group next Round inside done → ReadsExpression c Member a f → ReadsArguments (with_in c) inside es → ReadsExpression c Member (piece mark (Word (codes "new")) ts) (tree.new_expression (nothing_of 1) f es)
     new_alone : {c : Allowed} {mark : Bool} {ts : Tokens} {f : Tree} → ReadsExpression c New ts f → ReadsExpression c New (piece mark (Word (codes "new")) ts) (tree.new_expression (nothing_of 1) f no_trees)
     a_named_member_of_super : {c : Allowed} {v : List ℕ} (w : List ℕ) (mark next last : Bool) → word_value w ≡ Some v → ReadsExpression c Member (piece mark (Word (codes "super")) (piece next (Sign dot) (piece last (Word w) done))) (tree.static_member (nothing_of 1) (tree.super (nothing_of 0)) (tree.identifier_name (named v)))

@@ -1,5 +1,5 @@
 -- The text that items give, from a pen.
-use Rattle.std.specs.Prelude.{ℕ, suc, ◌*◌, List, [], ◌∷◌, ◌++◌, Bool, true, false, None, ◌||◌, ◌==◌, codes, replicate, if◌then◌else◌}
+use Rattle.std.specs.Prelude.{ℕ, suc, ◌*◌, List, [], ◌∷◌, ◌++◌, Bool, true, false, None, ◌&&◌, ◌||◌, ◌==◌, codes, replicate, if◌then◌else◌}
 use Rattle.std.specs.List.{last_or}
 use Rattle.std.specs.Option.{option_map_or}
 use Rattle.jsgen_syntax.specs.Name.{goes_in_word}
@@ -61,12 +61,12 @@ space_if false = []
 abbrev pub ends_in_word : List ℕ → Bool
 ends_in_word code = option_map_or goes_in_word (last_or None code) false
 
--- the last character but one is `<`
-abbrev pub ends_in_less_and_one : List ℕ → Bool
-ends_in_less_and_one [] = false
-ends_in_less_and_one (c ∷ []) = false
-ends_in_less_and_one (c ∷ d ∷ []) = c == 60
-ends_in_less_and_one (c ∷ d ∷ cs) = ends_in_less_and_one (d ∷ cs)
+-- the last two characters are `<!`
+abbrev pub ends_in_less_bang : List ℕ → Bool
+ends_in_less_bang [] = false
+ends_in_less_bang (c ∷ []) = false
+ends_in_less_bang (c ∷ d ∷ []) = (c == 60) && (d == 33)
+ends_in_less_bang (c ∷ d ∷ cs) = ends_in_less_bang (d ∷ cs)
 
 -- the sign would join the one that the code ends in: `+ +`, `+ ++`, `- -`, `- --`, `<! --`, `! ==` or `! ===`
 abbrev pub joins : Ending → List ℕ → Punctuator → Bool
@@ -74,7 +74,7 @@ joins (operator_end plus) code plus = true
 joins (operator_end plus) code plus_plus = true
 joins (operator_end minus) code minus = true
 joins (operator_end minus) code minus_minus = true
-joins (operator_end bang) code minus_minus = ends_in_less_and_one code
+joins (operator_end bang) code minus_minus = ends_in_less_bang code
 joins (operator_end bang) code equal_equal = true
 joins (operator_end bang) code equal_equal_equal = true
 joins ending code sign = false

@@ -64,6 +64,7 @@ is_plain_row (tree.call a callee arguments) = is_absent (call_expression_optiona
 is_plain_row (tree.spread a argument) = true
 is_plain_row (tree.array a elements) = true
 is_plain_row (tree.unary a argument) = true
+is_plain_row (tree.update a argument) = true
 is_plain_row (tree.new_expression a callee arguments) = has_no_hole arguments
 is_plain_row (tree.super a) = true
 is_plain_row (tree.new_target a) = true

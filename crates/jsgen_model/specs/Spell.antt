@@ -11,16 +11,18 @@ use Rattle.jsgen_syntax.specs.declared.operator.LogicalOperator.{LogicalOperator
 use Rattle.jsgen_syntax.specs.declared.operator.LogicalOperator.TheVariants as logical_operators
 use Rattle.jsgen_syntax.specs.declared.operator.UnaryOperator.{UnaryOperator}
 use Rattle.jsgen_syntax.specs.declared.operator.UnaryOperator.TheVariants as unary_operators
+use Rattle.jsgen_syntax.specs.declared.operator.UpdateOperator.{UpdateOperator}
+use Rattle.jsgen_syntax.specs.declared.operator.UpdateOperator.TheVariants as update_operators
 use Rattle.jsgen_tree.specs.declared.types.NodeType.{NodeType}
 use Rattle.jsgen_tree.specs.declared.types.NodeType.TheVariants as types
 use Rattle.jsgen_tree.specs.Inside.{without_parentheses, ends_open}
 use Rattle.jsgen_tree.specs.Words.{declaration_word}
 use Rattle.jsgen_tree.specs.Number.{NumericKind, Whole, Raw}
 use Rattle.jsgen_tree.specs.Tree.{Tree, Maybe, absent, given, Trees, no_trees, more, hole, Atoms, type_of}
-use Rattle.jsgen_tree.specs.Values.{as_text, directive_directive, variable_declaration_kind, binding_identifier_name, identifier_reference_name, identifier_name_name, boolean_literal_value, numeric_literal_kind, numeric_literal_digits, string_literal_value, binary_expression_operator, logical_expression_operator, unary_expression_operator}
+use Rattle.jsgen_tree.specs.Values.{as_text, directive_directive, variable_declaration_kind, binding_identifier_name, identifier_reference_name, identifier_name_name, boolean_literal_value, numeric_literal_kind, numeric_literal_digits, string_literal_value, binary_expression_operator, logical_expression_operator, unary_expression_operator, update_expression_operator, update_expression_prefix}
 use Rattle.jsgen_tree.specs.Job.{Tables, JobData}
 use Rattle.jsgen_tree.specs.Nodes as tree
-use Rattle.jsgen_model.specs.Punctuator.{ellipsis, comma, semicolon, equal, plus, minus, star, slash, percent, star_star, equal_equal, not_equal, equal_equal_equal, not_equal_equal, less, less_equal, greater, greater_equal, shift_left, shift_right, shift_right_zero, bit_and, bit_or, bit_xor, and_and, or_or, nullish, Round, Square, Brace, bang, tilde}
+use Rattle.jsgen_model.specs.Punctuator.{ellipsis, comma, semicolon, equal, plus, minus, star, slash, percent, star_star, equal_equal, not_equal, equal_equal_equal, not_equal_equal, less, less_equal, greater, greater_equal, shift_left, shift_right, shift_right_zero, bit_and, bit_or, bit_xor, and_and, or_or, nullish, Round, Square, Brace, bang, tilde, plus_plus, minus_minus}
 use Rattle.jsgen_model.specs.Items.{Items, nothing, ◌⊕◌, word, name, number, string, first_string, directive, punctuator, operator, member_dot, brackets, soft_space, soft_line, hard_space, body_space, deeper, indentation, wrapped, statement_end, due_semicolon, drop_semicolon, statement_begins}
 use Rattle.jsgen_model.specs.Layout.{Start, nowhere, statement, unless_printed, layout, empty_pen, style_of}
 
@@ -153,6 +155,19 @@ behind_unary unary_operators.Typeof = soft_space
 behind_unary unary_operators.Void = soft_space
 behind_unary unary_operators.Delete = soft_space
 behind_unary o = nothing
+
+abbrev pub update_item : UpdateOperator → Items
+update_item update_operators.Increment = operator plus_plus
+update_item update_operators.Decrement = operator minus_minus
+
+-- the operator stands before the operand, where the test holds, or behind it
+abbrev pub update_level : Bool → Precedence
+update_level true = Prefix
+update_level false = Postfix
+
+abbrev pub update_items : Bool → Items → Items → Items → Items
+update_items true item first last = item ⊕ last
+update_items false item first last = first ⊕ item
 
 -- operands and the operator between them, in parentheses where the test holds
 abbrev pub operation : Bool → Items → Items → Items → Items
@@ -391,6 +406,10 @@ abbrev mutual
   spell (tree.array a elements) place = brackets Square (on_lines (are_more 2 elements) (spell_elements (are_more 2 elements) elements (in_brackets Comma place) ⊕ comma_if (ends_in_hole elements)))
   spell (tree.unary a argument) place =
       wrapped (wraps Prefix place) (unary_sign (unary_expression_operator a) ⊕ (behind_unary (unary_expression_operator a) ⊕ spell argument (behind Exponentiation (within (wraps Prefix place) place))))
+  spell (tree.update a argument) place =
+      wrapped (wraps (update_level (update_expression_prefix a)) place) (update_items (update_expression_prefix a) (update_item (update_expression_operator a))
+      (spell argument (in_front Postfix (within (wraps (update_level (update_expression_prefix a)) place) place)))
+      (spell argument (behind Prefix (within (wraps (update_level (update_expression_prefix a)) place) place))))
   spell (tree.new_expression a callee arguments) place =
       wrapped (wraps New place) (word (codes "new") ⊕ (soft_space ⊕ (spell callee (constructed (within (wraps New place) place))
       ⊕ new_arguments (needs_arguments place (any_given arguments)) (spell_list arguments (in_brackets Comma place)))))

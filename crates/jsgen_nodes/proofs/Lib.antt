@@ -6,3 +6,4 @@ pub mod Operations
 pub mod Parts
 pub mod Prefixes
 pub mod Constructions
+pub mod Updates

@@ -22,6 +22,7 @@ expression_part (expression.CallExpression b) = 0
 expression_part (expression.ArrayExpression b) = 1
 expression_part (expression.UnaryExpression b) = 2
 expression_part (expression.NewTarget b) = 2
+expression_part (expression.UpdateExpression b) = 2
 expression_part (expression.NewExpression b) = 2
 expression_part (expression.Super b) = 2
 

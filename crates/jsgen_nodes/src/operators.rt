@@ -1,23 +1,27 @@
 // Operations of one operand, and `new` (ECMA-262, clause 13), one function for each row.
 ghost use Rattle.std.specs.Prelude.{◌≡◌, map, codes};
-ghost use Rattle.jsgen_syntax.specs.declared.precedence.Precedence.TheVariants.{Comma, Exponentiation};
+ghost use Rattle.jsgen_syntax.specs.declared.precedence.Precedence.TheVariants.{Comma, Exponentiation, Prefix, Postfix};
 ghost use Rattle.jsgen_tree.specs.Tree.{trees};
-ghost use Rattle.jsgen_tree.specs.Rows.{unary_expression_row, new_expression_row, super_row, new_target_row, in_argument, in_expression};
+ghost use Rattle.jsgen_tree.specs.Rows.{unary_expression_row, update_expression_row, in_simple_assignment_target, new_expression_row, super_row, new_target_row, in_argument, in_expression};
 ghost use Rattle.jsgen_model.specs.Items.{◌⊕◌, word, soft_space};
 ghost use Rattle.jsgen_model.specs.Layout.{layout};
-ghost use Rattle.jsgen_model.specs.Spell.{spell, spell_list, behind, in_brackets, constructed, any_given, needs_arguments, new_arguments, unary_sign, behind_unary};
+ghost use Rattle.jsgen_model.specs.Spell.{spell, spell_list, behind, in_front, update_item, update_items, in_brackets, constructed, any_given, needs_arguments, new_arguments, unary_sign, behind_unary};
 ghost use Rattle.jsgen_model.specs.Printing.{Reaches};
 ghost use Rattle.jsgen_printer.specs.Printer.{pen_of};
 ghost use Rattle.jsgen_place.specs.Place.{place_of};
 ghost use Rattle.jsgen_nodes.specs.Place.{pen_after};
 
 use crate::PrintNode;
-use crate::links::Arguments;
+use crate::expressions::print_identifier_reference;
+use crate::links::{Arguments, print_computed_member_expression, print_static_member_expression};
 use jsgen_lists::print_in_brackets;
-use jsgen_place::Place;
+use jsgen_place::{Place, update_level};
 use jsgen_printer::{Bracket, Printer};
 use jsgen_syntax::{Memory, Precedence};
-use jsgen_tree::{Argument, NewExpression, NewTarget, Super, UnaryExpression};
+use jsgen_tree::{
+    Argument, NewExpression, NewTarget, SimpleAssignmentTarget, Super, UnaryExpression,
+    UpdateExpression,
+};
 
 #[tactic(auto, unfolding(crate::specs::Place::pen_after))]
 pub fn print_unary_expression<N: PrintNode>(
@@ -48,6 +52,85 @@ fn print_unary_operation<N: PrintNode>(
     node.argument
         .get()
         .print(p, place.child(Precedence::Exponentiation))
+}
+
+#[tactic(auto, unfolding(crate::specs::Place::pen_after))]
+pub fn print_update_expression<N: PrintNode>(
+    node: &UpdateExpression<N>,
+    p: &mut Printer,
+    place: Place,
+) -> Result<(), Memory>
+    ensures { Reaches result (pen_of p.old) (pen_of p.new) (pen_after (update_expression_row N.plain node.now) place p.old) }
+{
+    let level = update_level(node.prefix);
+    let wrap = place.wraps(level);
+    p.print_opening_if(wrap)?;
+    print_update(node, p, place.within(wrap))?;
+    p.print_closing_if(wrap)
+}
+
+// The operator and its operand, within the parentheses.
+#[tactic(auto, unfolding(crate::specs::Place::pen_after))]
+fn print_update<N: PrintNode>(
+    node: &UpdateExpression<N>,
+    p: &mut Printer,
+    place: Place,
+) -> Result<(), Memory>
+    ensures { Reaches result (pen_of p.old) (pen_of p.new) (layout (update_items node.now.prefix (update_item node.now.operator)
+        (spell (in_simple_assignment_target N.plain node.now.argument) (in_front Postfix (place_of place (pen_of p.old))))
+        (spell (in_simple_assignment_target N.plain node.now.argument) (behind Prefix (place_of place (pen_of p.old))))) (pen_of p.old)) }
+{
+    if node.prefix {
+        print_update_before(node, p, place)
+    } else {
+        print_update_behind(node, p, place)
+    }
+}
+
+#[tactic(auto, unfolding(crate::specs::Place::pen_after))]
+fn print_update_before<N: PrintNode>(
+    node: &UpdateExpression<N>,
+    p: &mut Printer,
+    place: Place,
+) -> Result<(), Memory>
+    ensures { Reaches result (pen_of p.old) (pen_of p.new) (layout (update_item node.now.operator
+        ⊕ spell (in_simple_assignment_target N.plain node.now.argument) (behind Prefix (place_of place (pen_of p.old)))) (pen_of p.old)) }
+{
+    p.print_update_operator(node.operator)?;
+    print_simple_assignment_target(&node.argument, p, place.child(Precedence::Prefix))
+}
+
+#[tactic(auto, unfolding(crate::specs::Place::pen_after))]
+fn print_update_behind<N: PrintNode>(
+    node: &UpdateExpression<N>,
+    p: &mut Printer,
+    place: Place,
+) -> Result<(), Memory>
+    ensures { Reaches result (pen_of p.old) (pen_of p.new) (layout (spell (in_simple_assignment_target N.plain node.now.argument)
+        (in_front Postfix (place_of place (pen_of p.old))) ⊕ update_item node.now.operator) (pen_of p.old)) }
+{
+    print_simple_assignment_target(&node.argument, p, place.child(Precedence::Postfix))?;
+    p.print_update_operator(node.operator)
+}
+
+fn print_simple_assignment_target<N: PrintNode>(
+    node: &SimpleAssignmentTarget<N>,
+    p: &mut Printer,
+    place: Place,
+) -> Result<(), Memory>
+    ensures { Reaches result (pen_of p.old) (pen_of p.new) (pen_after (in_simple_assignment_target N.plain node.now) place p.old) }
+{
+    match node {
+        SimpleAssignmentTarget::IdentifierReference(node) => print_identifier_reference(
+            node, p, place,
+        ),
+        SimpleAssignmentTarget::StaticMemberExpression(node) => print_static_member_expression(
+            node, p, place,
+        ),
+        SimpleAssignmentTarget::ComputedMemberExpression(node) => print_computed_member_expression(
+            node, p, place,
+        ),
+    }
 }
 
 #[tactic(auto, unfolding(crate::specs::Place::pen_after))]

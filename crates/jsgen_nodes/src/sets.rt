@@ -20,6 +20,7 @@ use crate::links::{
 };
 use crate::operators::{
     print_new_expression, print_new_target, print_super, print_unary_expression,
+    print_update_expression,
 };
 use crate::statements::{
     print_binding_identifier, print_expression_statement, print_variable_declaration,
@@ -80,6 +81,7 @@ fn print_expression_in_operations<N: PrintNode>(
     match node {
         Expression::UnaryExpression(node) => print_unary_expression(node, p, place),
         Expression::NewTarget(node) => print_new_target(node, p, place),
+        Expression::UpdateExpression(node) => print_update_expression(node, p, place),
         Expression::NewExpression(node) => print_new_expression(node, p, place),
         Expression::Super(node) => print_super(node, p, place),
         _ => unreachable!(),

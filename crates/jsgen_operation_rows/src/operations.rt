@@ -2,7 +2,7 @@
 // Rows of a job: operations of one operand, and `new` (ECMA-262, clause 13).
 ghost use Rattle.std.specs.Prelude.{◌≡◌, false};
 ghost use Rattle.serde_json.specs.View.{view};
-ghost use Rattle.jsgen_tree.specs.Fields.{unary_expression_fields, new_target_fields, new_expression_fields, super_fields};
+ghost use Rattle.jsgen_tree.specs.Fields.{unary_expression_fields, new_target_fields, update_expression_fields, new_expression_fields, super_fields};
 ghost use Rattle.jsgen_fields.specs.Reads.{Gives, read_node, read_typed};
 ghost use Rattle.jsgen_fields.specs.Kept.{entries, row_plain};
 ghost use Rattle.jsgen_fields.specs.Parts.{is_in_statements, is_in_expressions, is_in_collections};
@@ -11,12 +11,14 @@ ghost use Rattle.jsgen_tree.specs.declared.types.NodeType.TheVariants as types;
 use jsgen_fields::InputFault;
 use jsgen_fields::fields::boxed;
 use jsgen_fields::kept::{ReadNode, Row, expression_row};
-use jsgen_fields::set_fields::{argument_list, needed_expression};
+use jsgen_fields::set_fields::{argument_list, needed_expression, needed_simple_assignment_target};
 use jsgen_fields::values::{field_not_given, optional_flag};
-use jsgen_fields::words::needed_unary_operator;
+use jsgen_fields::words::{needed_unary_operator, needed_update_operator};
 use jsgen_pool::Kept;
 use jsgen_syntax::Span;
-use jsgen_tree::{Expression, NewExpression, NewTarget, NodeType, Super, UnaryExpression};
+use jsgen_tree::{
+    Expression, NewExpression, NewTarget, NodeType, Super, UnaryExpression, UpdateExpression,
+};
 use serde_json::Value;
 use std::alloc::Global;
 
@@ -67,6 +69,41 @@ fn read_new_target<N: ReadNode + Drop>(
     let node = NewTarget { span };
     match boxed(alloc, node) {
         Ok(node) => expression_row(alloc, Expression::NewTarget(node)),
+        Err(fault) => Err(fault),
+    }
+}
+
+#[tactic(auto, unfolding(jsgen_fields::specs::Reads::read_node))]
+fn read_update_expression<N: ReadNode + Drop>(
+    alloc: Global,
+    kept: &mut Vec<Kept<Row<N>>>,
+    number: usize,
+    span: Span,
+    row: &Value,
+) -> Result<Row<N>, InputFault>
+    ensures { Gives (row_plain N.plain) result (entries N.plain kept.new.items)
+        (read_node number types.UpdateExpression update_expression_fields span (view row.now) (entries N.plain kept.old.items)) }
+{
+    let operator = match needed_update_operator(number, 2, row, "operator") {
+        Ok(operator) => operator,
+        Err(fault) => return Err(fault),
+    };
+    let prefix = match optional_flag(number, 3, row, "prefix") {
+        Ok(prefix) => prefix,
+        Err(fault) => return Err(fault),
+    };
+    let argument = match needed_simple_assignment_target(alloc, kept, number, 4, row, "argument") {
+        Ok(argument) => argument,
+        Err(fault) => return Err(fault),
+    };
+    let node = UpdateExpression {
+        span,
+        operator,
+        prefix,
+        argument,
+    };
+    match boxed(alloc, node) {
+        Ok(node) => expression_row(alloc, Expression::UpdateExpression(node)),
         Err(fault) => Err(fault),
     }
 }
@@ -149,6 +186,7 @@ pub fn read_in_operations<N: ReadNode + Drop>(
     match node_type {
         NodeType::UnaryExpression => read_unary_expression(alloc, kept, number, span, row),
         NodeType::NewTarget => read_new_target(alloc, kept, number, span, row),
+        NodeType::UpdateExpression => read_update_expression(alloc, kept, number, span, row),
         NodeType::NewExpression => read_new_expression(alloc, kept, number, span, row),
         NodeType::Super => read_super(alloc, kept, number, span, row),
         _ => unreachable!(),

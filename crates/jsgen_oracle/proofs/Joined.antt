@@ -11,10 +11,12 @@ use Rattle.jsgen_syntax.specs.declared.operator.BinaryOperator.{BinaryOperator}
 use Rattle.jsgen_syntax.specs.declared.operator.BinaryOperator.TheVariants as operators
 use Rattle.jsgen_syntax.specs.declared.operator.UnaryOperator.{UnaryOperator}
 use Rattle.jsgen_syntax.specs.declared.operator.UnaryOperator.TheVariants as unary_operators
+use Rattle.jsgen_syntax.specs.declared.operator.UpdateOperator.{UpdateOperator}
+use Rattle.jsgen_syntax.specs.declared.operator.UpdateOperator.TheVariants as update_operators
 use Rattle.jsgen_tree.specs.Tree.{Tree, Trees}
 use Rattle.jsgen_model.specs.Punctuator.{dot, ellipsis, comma, equal, star_star, and_and, or_or, nullish, semicolon, Round, Square, Brace}
 use Rattle.jsgen_model.specs.Tokens.{Tokens, done, piece, group, ◌⧺◌, Word, Quoted, Sign, longer_stands, AreTokensOf}
-use Rattle.jsgen_model.specs.Grammar.{Allowed, Level, operator_piece, ReadsExpression, ReadsElement, ReadsArguments, ReadsArgumentList, ReadsBinding, ReadsDeclarator, ReadsDeclarators, ReadsDeclaration, EndsBy, ReadsStatement, ReadsItem, ReadsStatements, ReadsBody, ReadsModule, a_module, unary_piece}
+use Rattle.jsgen_model.specs.Grammar.{Allowed, Level, operator_piece, ReadsExpression, ReadsElement, ReadsArguments, ReadsArgumentList, ReadsBinding, ReadsDeclarator, ReadsDeclarators, ReadsDeclaration, EndsBy, ReadsStatement, ReadsItem, ReadsStatements, ReadsBody, ReadsModule, a_module, unary_piece, update_sign}
 use Rattle.jsgen_model.specs.Grammar as grammar
 use Rattle.jsgen_token_laws.proofs.Plain.{all_plain}
 use Rattle.jsgen_token_laws.proofs.OneList.{one_token_list}
@@ -65,6 +67,10 @@ given ts h = h
 unary_joined : (o : UnaryOperator) (m : Bool) (b : Tokens) → is_joined b ≡ true → is_joined (piece m (unary_piece o) b) ≡ true
 unary_joined unary_operators.UnaryPlus m b h = h
 unary_joined o m b h = h
+
+update_joined : (o : UpdateOperator) (m : Bool) (b : Tokens) → is_joined b ≡ true → is_joined (piece m (Sign (update_sign o)) b) ≡ true
+update_joined update_operators.Increment m b h = h
+update_joined update_operators.Decrement m b h = h
 
 given_from : (ts : Tokens) → starts_well ts ≡ true → may_be_given ts ≡ true
 given_from ts h = given ts (element_from ts h)
@@ -125,6 +131,8 @@ expression_joined (grammar.a_conjunction m e l r) = made _ _ (piece m (Sign and_
 expression_joined (grammar.a_disjunction m e l r) = made _ _ (piece m (Sign or_or) _) e (expression_joined l) (expression_joined r)
 expression_joined (grammar.a_coalescing m e l r) = made _ _ (piece m (Sign nullish) _) e (expression_joined l) (expression_joined r)
 expression_joined (grammar.a_unary_operation {mark = m} o r) = unary_joined o m _ (expression_joined r)
+expression_joined (grammar.an_update_before {mark = m} {ts = ts} o r s) = update_joined o m ts (expression_joined r)
+expression_joined (grammar.an_update_behind {a = a} o e r s) = made _ a (piece false (Sign (update_sign o)) done) e (expression_joined r) (update_joined o false done refl)
 expression_joined (grammar.new_with_arguments {a = a} {inside = i} m n e r s) = made _ a (group n Round i done) e (expression_joined r) (and_from (may_be_given i) true (arguments_start s) refl)
 expression_joined (grammar.new_alone r) = expression_joined r
 expression_joined (grammar.a_named_member_of_super w m n l e) = refl

@@ -16,11 +16,13 @@ use Rattle.jsgen_syntax.specs.declared.operator.BinaryOperator.{BinaryOperator}
 use Rattle.jsgen_syntax.specs.declared.operator.BinaryOperator.TheVariants as operators
 use Rattle.jsgen_syntax.specs.declared.operator.UnaryOperator.{UnaryOperator}
 use Rattle.jsgen_syntax.specs.declared.operator.UnaryOperator.TheVariants as unary_operators
+use Rattle.jsgen_syntax.specs.declared.operator.UpdateOperator.{UpdateOperator}
+use Rattle.jsgen_syntax.specs.declared.operator.UpdateOperator.TheVariants as update_operators
 use Rattle.jsgen_tree.specs.Tree.{Tree, Trees}
 use Rattle.jsgen_model.specs.Punctuator.{Punctuator, dot, plus, minus, plus_plus, minus_minus, bang, tilde, star_star, and_and, or_or, nullish, semicolon, Bracket, Round, Square, Brace, opening, closing}
 use Rattle.jsgen_model.specs.Numbers.{spells_number}
 use Rattle.jsgen_model.specs.Tokens.{Tokens, done, piece, group, ◌⧺◌, Piece, Word, Number, Quoted, Sign, piece_text, is_blank, longer_stands, longer_number_stands, AreTokensOf}
-use Rattle.jsgen_model.specs.Grammar.{Allowed, Level, operator_piece, unary_piece, ReadsExpression, ReadsBinding, ReadsDeclarator, ReadsDeclarators, ReadsDeclaration, EndsBy, ReadsStatement, ReadsItem, ReadsStatements, ReadsBody, ReadsModule, a_module}
+use Rattle.jsgen_model.specs.Grammar.{Allowed, Level, operator_piece, unary_piece, update_sign, ReadsExpression, ReadsBinding, ReadsDeclarator, ReadsDeclarators, ReadsDeclaration, EndsBy, ReadsStatement, ReadsItem, ReadsStatements, ReadsBody, ReadsModule, a_module}
 use Rattle.jsgen_model.specs.Grammar as grammar
 use Rattle.jsgen_token_laws.proofs.Characters.{any_append}
 use Rattle.jsgen_token_laws.proofs.Plain.{all_plain}
@@ -73,8 +75,11 @@ joins (Number w) = false
 joins (Quoted q w) = false
 joins (Word w) = bytes_eq w (codes "in") || bytes_eq w (codes "instanceof")
 
+-- the sign of an update may stand between
 abbrev goes_on : Tokens → Bool
 goes_on done = true
+goes_on (piece m (Sign plus_plus) ts) = goes_on ts
+goes_on (piece m (Sign minus_minus) ts) = goes_on ts
 goes_on (piece m p ts) = joins p
 goes_on (group m Brace inside ts) = false
 goes_on (group m Square done ts) = false
@@ -101,6 +106,8 @@ is_prefix_sign plus = true
 is_prefix_sign minus = true
 is_prefix_sign bang = true
 is_prefix_sign tilde = true
+is_prefix_sign plus_plus = true
+is_prefix_sign minus_minus = true
 is_prefix_sign s = false
 
 -- an operand that a sign, a bracket or nothing follows, maybe behind operators of its own
@@ -136,6 +143,8 @@ begins_well ts = starts_well ts
 
 goes_further : (ts b : Tokens) → goes_on b ≡ true → goes_on ts ≡ true → goes_on (ts ⧺ b) ≡ true
 goes_further done b j h = j
+goes_further (piece n (Sign plus_plus) ts) b j h = goes_further ts b j h
+goes_further (piece n (Sign minus_minus) ts) b j h = goes_further ts b j h
 goes_further (piece n q ts) b j h = h
 goes_further (group n Round inside ts) b j h = refl
 goes_further (group n Square done ts) b j h = absurd (both_ways false refl h)
@@ -168,29 +177,29 @@ starts_further (group n Round inside ts) b j h = goes_further ts b j h
 starts_further (group n Square inside ts) b j h = goes_further ts b j h
 starts_further (group n Brace inside ts) b j h = absurd (both_ways false refl h)
 
-operator_joins : (o : BinaryOperator) → joins (operator_piece o) ≡ true
-operator_joins operators.BitwiseOR = refl
-operator_joins operators.BitwiseXOR = refl
-operator_joins operators.BitwiseAnd = refl
-operator_joins operators.Equality = refl
-operator_joins operators.Inequality = refl
-operator_joins operators.StrictEquality = refl
-operator_joins operators.StrictInequality = refl
-operator_joins operators.LessThan = refl
-operator_joins operators.LessEqualThan = refl
-operator_joins operators.GreaterThan = refl
-operator_joins operators.GreaterEqualThan = refl
-operator_joins operators.In = refl
-operator_joins operators.Instanceof = refl
-operator_joins operators.ShiftLeft = refl
-operator_joins operators.ShiftRight = refl
-operator_joins operators.ShiftRightZeroFill = refl
-operator_joins operators.Addition = refl
-operator_joins operators.Subtraction = refl
-operator_joins operators.Multiplication = refl
-operator_joins operators.Division = refl
-operator_joins operators.Remainder = refl
-operator_joins operators.Exponential = refl
+operator_joins : (o : BinaryOperator) (m : Bool) (b : Tokens) → goes_on (piece m (operator_piece o) b) ≡ true
+operator_joins operators.BitwiseOR m b = refl
+operator_joins operators.BitwiseXOR m b = refl
+operator_joins operators.BitwiseAnd m b = refl
+operator_joins operators.Equality m b = refl
+operator_joins operators.Inequality m b = refl
+operator_joins operators.StrictEquality m b = refl
+operator_joins operators.StrictInequality m b = refl
+operator_joins operators.LessThan m b = refl
+operator_joins operators.LessEqualThan m b = refl
+operator_joins operators.GreaterThan m b = refl
+operator_joins operators.GreaterEqualThan m b = refl
+operator_joins operators.In m b = refl
+operator_joins operators.Instanceof m b = refl
+operator_joins operators.ShiftLeft m b = refl
+operator_joins operators.ShiftRight m b = refl
+operator_joins operators.ShiftRightZeroFill m b = refl
+operator_joins operators.Addition m b = refl
+operator_joins operators.Subtraction m b = refl
+operator_joins operators.Multiplication m b = refl
+operator_joins operators.Division m b = refl
+operator_joins operators.Remainder m b = refl
+operator_joins operators.Exponential m b = refl
 
 unary_starts : (o : UnaryOperator) (m : Bool) (ts : Tokens) → starts_well ts ≡ true → starts_well (piece m (unary_piece o) ts) ≡ true
 unary_starts unary_operators.UnaryPlus m ts h = h
@@ -200,6 +209,14 @@ unary_starts unary_operators.BitwiseNot m ts h = h
 unary_starts unary_operators.Typeof m ts h = or_right (is_operand_word (codes "typeof") && goes_on ts) _ h
 unary_starts unary_operators.Void m ts h = or_right (is_operand_word (codes "void") && goes_on ts) _ h
 unary_starts unary_operators.Delete m ts h = or_right (is_operand_word (codes "delete") && goes_on ts) _ h
+
+update_starts : (o : UpdateOperator) (m : Bool) (ts : Tokens) → starts_well ts ≡ true → starts_well (piece m (Sign (update_sign o)) ts) ≡ true
+update_starts update_operators.Increment m ts h = h
+update_starts update_operators.Decrement m ts h = h
+
+update_goes : (o : UpdateOperator) (m : Bool) → goes_on (piece m (Sign (update_sign o)) done) ≡ true
+update_goes update_operators.Increment m = refl
+update_goes update_operators.Decrement m = refl
 
 -- what goes on behind an operand
 pub joined : (ts a b : Tokens) → goes_on b ≡ true → ts ≡ a ⧺ b → starts_well a ≡ true → starts_well ts ≡ true
@@ -240,7 +257,7 @@ expression_starts (grammar.a_computed_member {inside = i} m e r s) = joined _ _ 
 expression_starts (grammar.with_arguments m e r s) = joined _ _ (group m Round _ done) refl e (expression_starts r)
 expression_starts (grammar.a_named_member_of_call w m n e v r) = joined _ _ (piece m (Sign dot) _) refl e (expression_starts r)
 expression_starts (grammar.a_computed_member_of_call {inside = i} m e r s) = joined _ _ (group m Square i done) (element_goes m i done (expression_starts s)) e (expression_starts r)
-expression_starts (grammar.an_operation o m p q e l r) = joined _ _ (piece m (operator_piece o) _) (operator_joins o) e (expression_starts l)
+expression_starts (grammar.an_operation o m p q e l r) = joined _ _ (piece m (operator_piece o) _) (operator_joins o m _) e (expression_starts l)
 expression_starts (grammar.a_power m e l r) = joined _ _ (piece m (Sign star_star) _) refl e (expression_starts l)
 expression_starts (grammar.a_conjunction m e l r) = joined _ _ (piece m (Sign and_and) _) refl e (expression_starts l)
 expression_starts (grammar.a_disjunction m e l r) = joined _ _ (piece m (Sign or_or) _) refl e (expression_starts l)
@@ -249,6 +266,8 @@ expression_starts (grammar.a_coalescing m e l r) = joined _ _ (piece m (Sign nul
 expression_starts (grammar.a_coalesced_head r) = expression_starts r
 expression_starts (grammar.a_bit_or_head r) = expression_starts r
 expression_starts (grammar.a_unary_operation {mark = m} o r) = unary_starts o m _ (expression_starts r)
+expression_starts (grammar.an_update_before {mark = m} {ts = ts} o r s) = update_starts o m ts (expression_starts r)
+expression_starts (grammar.an_update_behind {a = a} o e r s) = joined _ a (piece false (Sign (update_sign o)) done) (update_goes o false) e (expression_starts r)
 expression_starts (grammar.new_with_arguments {a = a} m n e r s) = or_right _ _ (joined _ a (group n Round _ done) refl e (expression_starts r))
 expression_starts (grammar.new_alone r) = or_right _ _ (expression_starts r)
 expression_starts (grammar.a_named_member_of_super w m n l e) = refl

@@ -7,11 +7,13 @@ use Rattle.jsgen_syntax.specs.Name.{is_reserved, is_strict_reserved, is_free_nam
 use Rattle.jsgen_syntax.specs.Strings.{string_value}
 use Rattle.jsgen_syntax.specs.declared.quote.Quote.TheVariants.{Single, Double, Backtick}
 use Rattle.jsgen_syntax.specs.declared.operator.BinaryOperator.TheVariants.{Addition, Subtraction, Multiplication}
+use Rattle.jsgen_syntax.specs.declared.operator.UnaryOperator.TheVariants.{UnaryNegation, Typeof}
+use Rattle.jsgen_syntax.specs.declared.operator.UpdateOperator.TheVariants.{Increment}
 use Rattle.jsgen_tree.specs.Tree.{Tree, absent, given, Trees, no_trees, more}
-use Rattle.jsgen_model.specs.Punctuator.{Punctuator, plus, minus, star, star_star, comma, semicolon, dot, equal, Round, Square, Brace}
+use Rattle.jsgen_model.specs.Punctuator.{Punctuator, plus, plus_plus, minus, star, star_star, comma, semicolon, dot, equal, Round, Square, Brace}
 use Rattle.jsgen_model.specs.Numbers.{spells_number}
 use Rattle.jsgen_model.specs.Tokens.{Tokens, done, piece, group, ◌⧺◌, Word, Number, Quoted, Sign, longer_stands, longer_number_stands, AreTokensOf}
-use Rattle.jsgen_model.specs.Grammar.{Allowed, Level, Expression, Assignment, Multiplicative, Additive, Exponent, Update, Primary, in_module, with_in, ReadsExpression, ReadsBinding, ReadsDeclarator, ReadsDeclarators, ReadsDeclaration, ReadsStatement, ReadsItem, ReadsStatements, ReadsModule, a_module, starts_with_directive, starts_statement}
+use Rattle.jsgen_model.specs.Grammar.{Allowed, Level, Expression, Assignment, Multiplicative, Additive, Exponent, Unary, Update, LeftHandSide, Primary, in_module, with_in, ReadsExpression, ReadsBinding, ReadsDeclarator, ReadsDeclarators, ReadsDeclaration, ReadsStatement, ReadsItem, ReadsStatements, ReadsModule, a_module, starts_with_directive, starts_statement}
 use Rattle.jsgen_model.specs.Grammar as grammar
 use Rattle.jsgen_oracle.specs.Samples.{IsRead, IsNotRead}
 use Rattle.jsgen_oracle.specs.Samples as samples
@@ -179,6 +181,65 @@ members =
       ([], codes ".b(c)[1];", refl, refl, refl, refl, refl, ([], codes "b(c)[1];", refl, refl, refl, refl, refl, ([], codes "(c)[1];", refl, refl, refl, refl, refl, ([], codes "c", codes "[1];", refl, refl, refl, ([], [], refl, refl, refl, refl, refl, refl), ([], codes "1", codes ";", refl, refl, refl, ([], [], refl, refl, refl, refl, refl, refl), ([], [], refl, refl, refl, refl, refl, refl)))))),
       undirected refl (grammar.last_statement (item {a = all} refl (whole (grammar.a_multiplicative (grammar.an_exponent (grammar.a_unary (grammar.an_update (grammar.a_left_hand_side (grammar.a_call (grammar.a_computed_member_of_call {a = called} {inside = piece false (Number (codes "1")) done} false refl (grammar.with_arguments {a = callee} {inside = word (codes "c") done} false refl (grammar.a_called_member (grammar.a_named_member {a = word (codes "a") done} (codes "b") false false refl value_b (grammar.a_primary read_a))) (grammar.some_arguments (grammar.last_argument (grammar.an_element (value (first_of_sum read_c)))))) (whole (first_of_sum grammar.a_number)))))))))))),
     )
+
+-- ---- operators of one operand, `new` and `super`
+
+of_unary : {c : Allowed} {ts : Tokens} {t : Tree} → ReadsExpression c Unary ts t → ReadsExpression c Expression ts t
+of_unary r = whole (grammar.a_multiplicative (grammar.an_exponent (grammar.a_unary r)))
+
+of_left : {c : Allowed} {ts : Tokens} {t : Tree} → ReadsExpression c LeftHandSide ts t → ReadsExpression c Expression ts t
+of_left r = of_unary (grammar.an_update (grammar.a_left_hand_side r))
+
+pub two_minuses : IsRead (codes "- -a;") (samples.module_of (more (samples.statement_of (samples.unary_of UnaryNegation (samples.unary_of UnaryNegation samples.a))) no_trees))
+unfolding unicode_ident longer_stands word_value
+two_minuses = (
+  sign minus (sign minus (word (codes "a") (sign semicolon done))),
+  ([], codes " -a;", refl, refl, refl, refl, refl, (codes " ", codes "a;", refl, refl, refl, refl, refl, ([], codes ";", refl, refl, refl, refl, refl, ([], [], refl, refl, refl, refl, refl, refl)))),
+  undirected refl (grammar.last_statement (item {a = sign minus (sign minus (word (codes "a") done))} refl (of_unary (grammar.a_unary_operation UnaryNegation (grammar.a_unary_operation UnaryNegation (grammar.an_update (update read_a))))))),
+)
+
+pub type_of_member : IsRead (codes "typeof a.b;") (samples.module_of (more (samples.statement_of (samples.unary_of Typeof (samples.member_of samples.a (codes "b")))) no_trees))
+unfolding unicode_ident longer_stands word_value
+type_of_member =
+    let member = word (codes "a") (sign dot (word (codes "b") done)) in (
+      word (codes "typeof") (member ⧺ sign semicolon done),
+      ([], codes " a.b;", refl, refl, refl, refl, refl, (codes " ", codes ".b;", refl, refl, refl, refl, refl, ([], codes "b;", refl, refl, refl, refl, refl, ([], codes ";", refl, refl, refl, refl, refl, ([], [], refl, refl, refl, refl, refl, refl))))),
+      undirected refl (grammar.last_statement (item {a = word (codes "typeof") member} refl (of_unary (grammar.a_unary_operation Typeof (grammar.an_update (grammar.a_left_hand_side (grammar.a_new (grammar.a_member (grammar.a_named_member {a = word (codes "a") done} (codes "b") false false refl value_b (grammar.a_primary read_a)))))))))),
+    )
+
+pub update_before : IsRead (codes "++\n(a);") (samples.module_of (more (samples.statement_of (samples.incremented_before samples.a)) no_trees))
+unfolding unicode_ident longer_stands word_value
+update_before =
+    let target = group true Round (word (codes "a") done) done in (
+      sign plus_plus (target ⧺ sign semicolon done),
+      ([], codes "\n(a);", refl, refl, refl, refl, refl, (codes "\n", codes "a", codes ";", refl, refl, refl, ([], [], refl, refl, refl, refl, refl, refl), ([], [], refl, refl, refl, refl, refl, refl))),
+      undirected refl (grammar.last_statement (item {a = sign plus_plus target} refl (of_unary (grammar.an_update (grammar.an_update_before Increment (grammar.an_update (update (grammar.in_parentheses (whole (first_of_sum read_a))))) refl))))),
+    )
+
+pub update_behind : IsRead (codes "a++;") (samples.module_of (more (samples.statement_of (samples.incremented_behind samples.a)) no_trees))
+unfolding unicode_ident longer_stands word_value
+update_behind = (
+  word (codes "a") (sign plus_plus (sign semicolon done)),
+  ([], codes "++;", refl, refl, refl, refl, refl, ([], codes ";", refl, refl, refl, refl, refl, ([], [], refl, refl, refl, refl, refl, refl))),
+  undirected refl (grammar.last_statement (item {a = word (codes "a") (sign plus_plus done)} refl (of_unary (grammar.an_update (grammar.an_update_behind {a = word (codes "a") done} Increment refl (grammar.a_new (grammar.a_member (grammar.a_primary read_a))) refl))))),
+)
+
+pub two_news : IsRead (codes "new new a(b);") (samples.module_of (more (samples.statement_of (samples.new_of (samples.new_of samples.a (more samples.b no_trees)) no_trees)) no_trees))
+unfolding unicode_ident longer_stands word_value
+two_news =
+    let arguments = group false Round (word (codes "b") done) done in (
+      word (codes "new") (word (codes "new") (word (codes "a") (arguments ⧺ sign semicolon done))),
+      ([], codes " new a(b);", refl, refl, refl, refl, refl, (codes " ", codes " a(b);", refl, refl, refl, refl, refl, (codes " ", codes "(b);", refl, refl, refl, refl, refl, ([], codes "b", codes ";", refl, refl, refl, ([], [], refl, refl, refl, refl, refl, refl), ([], [], refl, refl, refl, refl, refl, refl))))),
+      undirected refl (grammar.last_statement (item {a = word (codes "new") (word (codes "new") (word (codes "a") arguments))} refl (of_left (grammar.a_new (grammar.new_alone (grammar.a_member (grammar.new_with_arguments {a = word (codes "a") done} {inside = word (codes "b") done} false false refl (grammar.a_primary read_a) (grammar.some_arguments (grammar.last_argument (value (first_of_sum read_b))))))))))),
+    )
+
+pub member_of_super : IsRead (codes "super.a;") (samples.module_of (more (samples.statement_of (samples.member_of samples.super (codes "a"))) no_trees))
+unfolding unicode_ident longer_stands word_value
+member_of_super = (
+  word (codes "super") (sign dot (word (codes "a") (sign semicolon done))),
+  ([], codes ".a;", refl, refl, refl, refl, refl, ([], codes "a;", refl, refl, refl, refl, refl, ([], codes ";", refl, refl, refl, refl, refl, ([], [], refl, refl, refl, refl, refl, refl)))),
+  undirected refl (grammar.last_statement (item {a = word (codes "super") (sign dot (word (codes "a") done))} refl (of_left (grammar.a_new (grammar.a_member (grammar.a_named_member_of_super (codes "a") false false false value_a)))))),
+)
 
 pub string : IsRead (codes "(\"a\");") (samples.module_of (more (samples.statement_of (samples.in_parentheses (samples.string_of (codes "a")))) no_trees))
 unfolding unicode_ident longer_stands word_value string_value

@@ -1,9 +1,12 @@
 -- What a few texts are read as by ECMA-262, worked out by hand, a few that aren't read, and which trees have one normal form.
-use Rattle.std.specs.Prelude.{◌≡◌, ℕ, List, [], ◌∷◌, codes}
+use Rattle.std.specs.Prelude.{◌≡◌, ℕ, List, [], ◌∷◌, true, false, codes}
 use Rattle.jsgen_syntax.specs.declared.operator.BinaryOperator.TheVariants.{Addition, Subtraction, Multiplication, Exponential}
 use Rattle.jsgen_syntax.specs.declared.operator.LogicalOperator.TheVariants.{Or, And}
+use Rattle.jsgen_syntax.specs.declared.operator.UnaryOperator.{UnaryOperator}
+use Rattle.jsgen_syntax.specs.declared.operator.UnaryOperator.TheVariants.{UnaryNegation, Typeof}
+use Rattle.jsgen_syntax.specs.declared.operator.UpdateOperator.TheVariants.{Increment}
 use Rattle.jsgen_tree.specs.declared.statements.VariableDeclarationKind.TheVariants.{Const}
-use Rattle.jsgen_tree.specs.Atom.{no_value, text, units, digits, numeric_kind, binary_operator, logical_operator}
+use Rattle.jsgen_tree.specs.Atom.{no_value, text, units, flag, digits, numeric_kind, binary_operator, logical_operator, unary_operator, update_operator}
 use Rattle.jsgen_tree.specs.Number.{Whole}
 use Rattle.jsgen_tree.specs.Tree.{Tree, Maybe, absent, given, Trees, no_trees, more}
 use Rattle.jsgen_tree.specs.Nodes as tree
@@ -73,6 +76,21 @@ element_of object expression = tree.computed_member (nothing_of 1) object expres
 abbrev pub call_of : Tree → Trees → Tree
 call_of callee arguments = tree.call (nothing_of 2) callee arguments
 
+abbrev pub unary_of : UnaryOperator → Tree → Tree
+unary_of operator argument = tree.unary (bare (unary_operator operator ∷ [])) argument
+
+abbrev pub incremented_before : Tree → Tree
+incremented_before argument = tree.update (bare (update_operator Increment ∷ flag true ∷ [])) argument
+
+abbrev pub incremented_behind : Tree → Tree
+incremented_behind argument = tree.update (bare (update_operator Increment ∷ flag false ∷ [])) argument
+
+abbrev pub new_of : Tree → Trees → Tree
+new_of callee arguments = tree.new_expression (nothing_of 1) callee arguments
+
+abbrev pub super : Tree
+super = tree.super (nothing_of 0)
+
 abbrev pub statement_of : Tree → Tree
 statement_of expression = tree.expression_statement (nothing_of 0) expression
 
@@ -110,6 +128,15 @@ pub record GrammarSamples : Type 0 where
   pub over_lines : IsRead (codes "a\n+b;") (module_of (more (statement_of (sum_of a b)) no_trees))
   -- members and calls group to the left (13.3)
   pub members : IsRead (codes "a.b(c)[1];") (module_of (more (statement_of (element_of (call_of (member_of a (codes "b")) (more c no_trees)) one)) no_trees))
+  -- operators before an operand group from the right (13.5)
+  pub two_minuses : IsRead (codes "- -a;") (module_of (more (statement_of (unary_of UnaryNegation (unary_of UnaryNegation a))) no_trees))
+  pub type_of_member : IsRead (codes "typeof a.b;") (module_of (more (statement_of (unary_of Typeof (member_of a (codes "b")))) no_trees))
+  -- `++` before its operand, from which a line end may part it, and behind it (13.4); parentheses round a target are away (8.6.4)
+  pub update_before : IsRead (codes "++\n(a);") (module_of (more (statement_of (incremented_before a)) no_trees))
+  pub update_behind : IsRead (codes "a++;") (module_of (more (statement_of (incremented_behind a)) no_trees))
+  -- arguments go with the last `new` that has none (13.3.5)
+  pub two_news : IsRead (codes "new new a(b);") (module_of (more (statement_of (new_of (new_of a (more b no_trees)) no_trees)) no_trees))
+  pub member_of_super : IsRead (codes "super.a;") (module_of (more (statement_of (member_of super (codes "a"))) no_trees))
   pub string : IsRead (codes "(\"a\");") (module_of (more (statement_of (in_parentheses (string_of (codes "a")))) no_trees))
   -- a template may begin a program, since it is no directive (11.2.1), and an escape is read
   pub template : IsRead (codes "`\\n`;") (module_of (more (statement_of (string_of (10 ∷ []))) no_trees))

@@ -1,5 +1,5 @@
 // Normal forms as plain data.
-use jsgen_syntax::{BinaryOperator, JsStr, LogicalOperator, UnaryOperator};
+use jsgen_syntax::{BinaryOperator, JsStr, LogicalOperator, UnaryOperator, UpdateOperator};
 use jsgen_tree::{NodeType, VariableDeclarationKind};
 
 /// A program in its normal form, or a node of one. Spans, the source and the kind of a program have no place in it.
@@ -28,6 +28,7 @@ pub enum Value {
     BinaryOperator(BinaryOperator),
     LogicalOperator(LogicalOperator),
     UnaryOperator(UnaryOperator),
+    UpdateOperator(UpdateOperator),
 }
 
 /// What a field of children holds.

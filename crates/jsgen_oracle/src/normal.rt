@@ -1,7 +1,7 @@
 // The normal form of each type of node.
 ghost use Rattle.std.specs.Prelude.{◌≡◌, ◌∷◌, [], map, option_map, IfOk};
 ghost use Rattle.jsgen_tree.specs.Tree.{trees, holed, optional};
-ghost use Rattle.jsgen_tree.specs.Rows.{program_row, directive_row, block_statement_row, if_statement_row, variable_declaration_row, variable_declarator_row, numeric_literal_row, string_literal_row, logical_expression_row, identifier_name_row, static_member_expression_row, call_expression_row, spread_element_row, array_expression_row, expression_plain, statement_plain, declaration_plain, binding_pattern_plain, in_expression, in_statement, in_argument, in_array_expression_element, new_expression_row};
+ghost use Rattle.jsgen_tree.specs.Rows.{program_row, directive_row, block_statement_row, if_statement_row, variable_declaration_row, variable_declarator_row, numeric_literal_row, string_literal_row, logical_expression_row, identifier_name_row, static_member_expression_row, call_expression_row, spread_element_row, array_expression_row, expression_plain, statement_plain, declaration_plain, binding_pattern_plain, in_expression, in_statement, in_argument, in_array_expression_element, new_expression_row, update_expression_row, in_simple_assignment_target};
 ghost use Rattle.jsgen_tree.specs.Plain.{node_plain};
 ghost use Rattle.jsgen_model.specs.Normal.{normal, normal_maybe, normal_trees, links, unbraced};
 ghost use Rattle.jsgen_oracle.specs.Form.{form_plain, forms_plain, holed_plain, optional_plain};
@@ -13,16 +13,17 @@ use crate::characters::characters_of;
 use crate::directive::directive_units;
 use crate::form::{Form, Slot, Value};
 use crate::shape::{
-    holed_list, identifier, leaf, list, literal, one_value, pair, row_of_two, single, single_by,
-    two_values,
+    holed_list, identifier, leaf, list, literal, one_value, pair, row, row_of_two, single,
+    single_by, two_values,
 };
 use jsgen_syntax::{JsStr, LogicalOperator, Memory};
 use jsgen_tree::{
     Argument, ArrayExpression, ArrayExpressionElement, BindingPattern, BlockStatement,
     CallExpression, Declaration, Directive, Expression, ExpressionNode, IdentifierName,
     IfStatement, LogicalExpression, NewExpression, Node, NodeType, NumericLiteral, NumericValue,
-    Program, SpreadElement, Statement, StatementNode, StaticMemberExpression, StringLiteral,
-    VariableDeclaration, VariableDeclarator,
+    Program, SimpleAssignmentTarget, SpreadElement, Statement, StatementNode,
+    StaticMemberExpression, StringLiteral, UpdateExpression, VariableDeclaration,
+    VariableDeclarator,
 };
 use std::alloc::Global;
 
@@ -288,6 +289,51 @@ fn call_expression_form<N: NormalNode>(
     )
 }
 
+fn update_expression_form<N: NormalNode>(
+    alloc: Global,
+    node: &UpdateExpression<N>,
+) -> Result<Form, Memory>
+    ensures { IfOk result (λ f. form_plain f ≡ normal (update_expression_row N.plain node.now)) }
+{
+    let values = two_values(
+        alloc,
+        Value::UpdateOperator(node.operator),
+        Value::Flag(node.prefix),
+    )?;
+    let argument = target_form(alloc, &node.argument)?;
+    row(
+        alloc,
+        NodeType::UpdateExpression,
+        values,
+        Slot::One(argument),
+    )
+}
+
+fn target_form<N: NormalNode>(
+    alloc: Global,
+    target: &SimpleAssignmentTarget<N>,
+) -> Result<Form, Memory>
+    ensures { IfOk result (λ f. form_plain f ≡ normal (in_simple_assignment_target N.plain target.now)) }
+{
+    match target {
+        SimpleAssignmentTarget::IdentifierReference(node) => {
+            identifier(alloc, NodeType::IdentifierReference, &node.name)
+        }
+        SimpleAssignmentTarget::StaticMemberExpression(node) => {
+            static_member_expression_form(alloc, node)
+        }
+        SimpleAssignmentTarget::ComputedMemberExpression(node) => {
+            pair(
+                alloc,
+                NodeType::ComputedMemberExpression,
+                Value::Nothing,
+                node.object.get(),
+                node.expression.get(),
+            )
+        }
+    }
+}
+
 fn new_expression_form<N: NormalNode>(
     alloc: Global,
     node: &NewExpression<N>,
@@ -431,6 +477,7 @@ fn expression_form<N: NormalNode>(alloc: Global, node: &Expression<N>) -> Result
                 node.argument.get(),
             )
         }
+        Expression::UpdateExpression(node) => update_expression_form(alloc, node),
         Expression::NewExpression(node) => new_expression_form(alloc, node),
         Expression::Super(_) => Ok(leaf(alloc, NodeType::Super, Vec::new(alloc))),
         Expression::NewTarget(_) => Ok(leaf(alloc, NodeType::NewTarget, Vec::new(alloc))),

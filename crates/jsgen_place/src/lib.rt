@@ -6,5 +6,5 @@ mod operands;
 mod place;
 
 pub use endings::if_ends_open;
-pub use operands::{Operand, left_level, right_level, unmixed};
+pub use operands::{Operand, left_level, right_level, unmixed, update_level};
 pub use place::{Context, Place, Settings};

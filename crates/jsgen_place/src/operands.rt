@@ -4,7 +4,7 @@ ghost use Rattle.jsgen_syntax.specs.declared.operator.BinaryOperator.TheVariants
 ghost use Rattle.jsgen_syntax.specs.declared.operator.LogicalOperator.TheVariants as logical_operators;
 ghost use Rattle.jsgen_tree.specs.Tree.{Tree};
 ghost use Rattle.jsgen_tree.specs.Inside.{without_parentheses};
-ghost use Rattle.jsgen_model.specs.Spell.{left_level, right_level, unmixed};
+ghost use Rattle.jsgen_model.specs.Spell.{left_level, right_level, update_level, unmixed};
 ghost use Rattle.jsgen_place.specs.Place.{operand_of};
 
 use jsgen_syntax::{BinaryOperator, GetPrecedence, LogicalOperator, Precedence};
@@ -57,6 +57,17 @@ pub fn right_level(operator: BinaryOperator) -> Precedence
     match operator {
         BinaryOperator::Exponential => Precedence::Multiply,
         _ => operator.precedence(),
+    }
+}
+
+/// The level of an update, by whether its operator stands before its operand.
+pub fn update_level(prefix: bool) -> Precedence
+    ensures { result ≡ update_level prefix }
+{
+    if prefix {
+        Precedence::Prefix
+    } else {
+        Precedence::Postfix
     }
 }
 

@@ -1,4 +1,5 @@
 pub mod Handed
+pub mod Bangs
 pub mod Operators
 pub mod Prefixes
 pub mod Stops

@@ -1,13 +1,15 @@
 -- Operators as items of the layout.
 use Rattle.std.proofs.Common.{◌≡◌, ◌++◌, true, refl}
 use Rattle.std.specs.Str.{chars}
-use Rattle.jsgen_syntax.specs.Operator.{binary_text, unary_text}
+use Rattle.jsgen_syntax.specs.Operator.{binary_text, unary_text, update_text}
 use Rattle.jsgen_syntax.specs.declared.operator.BinaryOperator.{BinaryOperator}
 use Rattle.jsgen_syntax.specs.declared.operator.BinaryOperator.TheVariants as operators
 use Rattle.jsgen_syntax.specs.declared.operator.UnaryOperator.{UnaryOperator}
 use Rattle.jsgen_syntax.specs.declared.operator.UnaryOperator.TheVariants as unary_operators
+use Rattle.jsgen_syntax.specs.declared.operator.UpdateOperator.{UpdateOperator}
+use Rattle.jsgen_syntax.specs.declared.operator.UpdateOperator.TheVariants as update_operators
 use Rattle.jsgen_model.specs.Layout.{Pen, layout, written, space_if}
-use Rattle.jsgen_model.specs.Spell.{operator_item, unary_sign}
+use Rattle.jsgen_model.specs.Spell.{operator_item, unary_sign, update_item}
 use Rattle.jsgen_printer.specs.Printer.{stands_apart, end_of, is_ascii}
 use Rattle.jsgen_printer.proofs.Texts.{ascii_chars}
 
@@ -33,3 +35,14 @@ unary_written o pen = refl
 
 pub unary_chars : (o : UnaryOperator) → chars (unary_text o) ≡ unary_text o
 unary_chars o = ascii_chars (unary_text o) (unary_ascii o)
+
+update_ascii : (o : UpdateOperator) → is_ascii (update_text o) ≡ true
+update_ascii update_operators.Increment = refl
+update_ascii update_operators.Decrement = refl
+
+pub update_written : (o : UpdateOperator) (pen : Pen) → layout (update_item o) pen ≡ written (space_if (stands_apart (update_item o) pen) ++ update_text o) (end_of (update_item o)) pen
+update_written update_operators.Increment pen = refl
+update_written update_operators.Decrement pen = refl
+
+pub update_chars : (o : UpdateOperator) → chars (update_text o) ≡ update_text o
+update_chars o = ascii_chars (update_text o) (update_ascii o)

@@ -8,7 +8,7 @@ use Rattle.jsgen_model.specs.Punctuator as punctuators
 use Rattle.jsgen_model.specs.Layout as layouts
 use Rattle.jsgen_model.specs.Layout.{Pen, written, is_apart, joins, name_ending, deeper_level}
 use Rattle.jsgen_model.specs.Items.{Items, word, operator}
-use Rattle.jsgen_model.specs.Spell.{operator_item, unary_sign}
+use Rattle.jsgen_model.specs.Spell.{operator_item, unary_sign, update_item}
 use Rattle.jsgen_printer.specs.declared.printer.Printer.{Printer}
 use Rattle.jsgen_printer.specs.declared.printer.Bracket.{Bracket}
 use Rattle.jsgen_printer.specs.declared.printer.Bracket.TheVariants as brackets
@@ -39,6 +39,7 @@ bracket_of brackets.Brace = punctuators.Brace
 abbrev pub sign_of : Operator → Items
 sign_of (operators.Binary o) = operator_item o
 sign_of (operators.Unary o) = unary_sign o
+sign_of (operators.Update o) = update_item o
 
 abbrev pub ending_of : Ending → layouts.Ending
 ending_of endings.Other = layouts.other_end

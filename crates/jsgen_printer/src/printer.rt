@@ -10,6 +10,7 @@ mod handed;
 
 use jsgen_syntax::{
     BinaryOperator, CodeBuffer, IndentChar, JsStr, LogicalOperator, Memory, Quote, UnaryOperator,
+    UpdateOperator,
 };
 use jsgen_text::{
     cheapest_quote, directive_quote, print_directive_raw, print_name_text, print_string_text,
@@ -63,16 +64,16 @@ pub struct Printer {
 impl Printer {
     ghost use Rattle.std.specs.Prelude.{IfOk, [], ◌∷◌, ◌++◌, decimal, replicate, string_bytes, true, IsTrue};
     ghost use Rattle.std.specs.Str.{chars, encode_utf8_all};
-    ghost use Rattle.jsgen_model.specs.Punctuator.{Round, opening, closing, ellipsis, comma, semicolon, equal, plus, minus, equal_equal, equal_equal_equal};
+    ghost use Rattle.jsgen_model.specs.Punctuator.{Round, opening, closing, ellipsis, comma, semicolon, equal, plus, minus, equal_equal, equal_equal_equal, plus_plus, minus_minus};
     ghost use Rattle.jsgen_model.specs.Items.{word, name, number, string, first_string, directive, member_dot, punctuator, soft_space, soft_line, hard_space, indentation, body_space, statement_end, due_semicolon, drop_semicolon, statement_begins};
     ghost use Rattle.jsgen_model.specs.Printing.{Reaches};
-    ghost use Rattle.jsgen_model.specs.Layout.{layout, written, written_if, other_end, space_if, ends_in_word, ends_in_escapes, is_apart, name_ending, joins, dot_joins, indented, chosen_quote, deeper_level, empty_pen, style_of};
+    ghost use Rattle.jsgen_model.specs.Layout.{layout, written, written_if, other_end, space_if, ends_in_word, ends_in_escapes, is_apart, name_ending, joins, dot_joins, indented, ends_in_less_bang, chosen_quote, deeper_level, empty_pen, style_of};
     ghost use Rattle.jsgen_syntax.specs.Buffer.{indent_byte};
     ghost use Rattle.jsgen_tree.specs.Options.{options_plain};
     ghost use Rattle.jsgen_syntax.specs.Units.{js_units};
     ghost use Rattle.jsgen_syntax.specs.Strings.{quote_char, quoted};
     ghost use Rattle.jsgen_syntax.specs.Raw.{directive_text};
-    ghost use Rattle.jsgen_model.specs.Spell.{operator_item, unary_sign, behind_unary, logical_item};
+    ghost use Rattle.jsgen_model.specs.Spell.{operator_item, unary_sign, behind_unary, update_item, logical_item};
     ghost use Rattle.jsgen_printer.specs.Printer.{bracket_of, pen_of, ending_of, stands_apart, name_written, is_ascii, deepened, at_depth};
 
     /// A printer that has printed nothing.
@@ -170,8 +171,18 @@ impl Printer {
         }
     }
 
+    fn update_stands_apart(&self, operator: UpdateOperator) -> bool
+        ensures { result ≡ stands_apart (update_item operator) (pen_of self.now) }
+    {
+        match operator {
+            UpdateOperator::Increment => self.ends_in_plus(),
+            UpdateOperator::Decrement => self.stands_apart_from_decrement(),
+        }
+    }
+
     fn ends_in_plus(&self) -> bool
-        ensures { result ≡ joins (pen_of self.now).ending (pen_of self.now).code plus }
+        ensures sign { result ≡ joins (pen_of self.now).ending (pen_of self.now).code plus }
+        ensures update { result ≡ joins (pen_of self.now).ending (pen_of self.now).code plus_plus }
     {
         matches!(
             &self.ending,
@@ -188,6 +199,23 @@ impl Printer {
             Ending::Operator(Operator::Binary(BinaryOperator::Subtraction))
                 | Ending::Operator(Operator::Unary(UnaryOperator::UnaryNegation))
         )
+    }
+
+    // Whether `--` stands apart: from a minus, and from a `!` behind `<`, with which it would begin a comment in a script.
+    fn stands_apart_from_decrement(&self) -> bool
+        ensures { result ≡ joins (pen_of self.now).ending (pen_of self.now).code minus_minus }
+    {
+        if self.ends_in_bang() {
+            self.ends_in_less_bang()
+        } else {
+            self.ends_in_minus()
+        }
+    }
+
+    fn ends_in_less_bang(&self) -> bool
+        ensures { result ≡ ends_in_less_bang (pen_of self.now).code }
+    {
+        self.code.as_bytes().ends_with(b"<!")
     }
 
     fn ends_in_bang(&self) -> bool
@@ -399,6 +427,16 @@ impl Printer {
         let apart = self.unary_stands_apart(operator);
         let text = operator.as_str();
         self.print_apart(apart, text, Ending::Operator(Operator::Unary(operator)))
+    }
+
+    /// An operator before or behind what it changes.
+    pub fn print_update_operator(&mut self, operator: UpdateOperator) -> Result<(), Memory>
+        ensures { Reaches result (pen_of self.old) (pen_of self.new)
+            (layout (update_item operator) (pen_of self.old)) }
+    {
+        let apart = self.update_stands_apart(operator);
+        let signs = operator.as_str();
+        self.print_apart(apart, signs, Ending::Operator(Operator::Update(operator)))
     }
 
     /// What stands between such an operator and its operand.

@@ -9,6 +9,8 @@ use Rattle.jsgen_syntax.specs.declared.operator.BinaryOperator.{BinaryOperator}
 use Rattle.jsgen_syntax.specs.declared.operator.BinaryOperator.TheVariants as operators
 use Rattle.jsgen_syntax.specs.declared.operator.UnaryOperator.{UnaryOperator}
 use Rattle.jsgen_syntax.specs.declared.operator.UnaryOperator.TheVariants as unary_operators
+use Rattle.jsgen_syntax.specs.declared.operator.UpdateOperator.{UpdateOperator}
+use Rattle.jsgen_syntax.specs.declared.operator.UpdateOperator.TheVariants as update_operators
 use Rattle.jsgen_syntax.proofs.Strings.{escaped_value}
 use Rattle.jsgen_tree.specs.Inside.{without_parentheses}
 use Rattle.jsgen_tree.specs.Atom.{units}
@@ -19,7 +21,7 @@ use Rattle.jsgen_model.specs.Punctuator.{dot, star_star, and_and, or_or, nullish
 use Rattle.jsgen_model.specs.Tokens.{Tokens, done, piece, group, ◌⧺◌, Quoted, Sign}
 use Rattle.jsgen_model.specs.Items.{Items, first_string, due_semicolon}
 use Rattle.jsgen_model.specs.Layout.{Pen, layout, written, other_end}
-use Rattle.jsgen_model.specs.Grammar.{Allowed, Level, EndsBy, ReadsExpression, ReadsStatement, ReadsItem, ReadsBody, operator_piece, unary_piece, starts_with_directive}
+use Rattle.jsgen_model.specs.Grammar.{Allowed, Level, EndsBy, ReadsExpression, ReadsStatement, ReadsItem, ReadsBody, operator_piece, unary_piece, update_sign, starts_with_directive}
 use Rattle.jsgen_model.specs.Grammar as grammar
 use Rattle.jsgen_model.specs.Normal.{normal, nothing_of}
 use Rattle.jsgen_model.specs.Spell.{Settings, spell, spell_body, string_in, unless_string, first_statement, among_statements, whole_statement}
@@ -73,6 +75,10 @@ unary_opens : (o : UnaryOperator) (m : Bool) (b : Tokens) (t : Tree) → Opens (
 unary_opens unary_operators.UnaryPlus m b t = tt
 unary_opens o m b t = tt
 
+update_goes : (o : UpdateOperator) (m : Bool) (b : Tokens) → Goes (piece m (Sign (update_sign o)) b)
+update_goes update_operators.Increment m b = tt
+update_goes update_operators.Decrement m b = tt
+
 opens : {c : Allowed} {g : Level} {ts : Tokens} {t : Tree} → ReadsExpression c g ts t → Opens ts t
 opens (grammar.an_assignment r) = opens r
 opens (grammar.a_conditional r) = opens r
@@ -111,6 +117,8 @@ opens (grammar.with_arguments {a = a} {f = f} m e r s) = opens_behind _ a (group
 opens (grammar.a_named_member_of_call {a = a} {o = o} w m n e v r) = opens_behind _ a (piece m (Sign dot) _) o _ e (opens r) tt
 opens (grammar.a_computed_member_of_call {a = a} {o = o} m e r s) = opens_behind _ a (group m Square _ done) o _ e (opens r) tt
 opens (grammar.a_unary_operation {mark = m} o r) = unary_opens o m _ _
+opens (grammar.an_update_before o r s) = tt
+opens (grammar.an_update_behind {a = a} {t = t} o e r s) = opens_behind _ a (piece false (Sign (update_sign o)) done) t _ e (opens r) (update_goes o false done)
 opens (grammar.new_with_arguments m n e r s) = tt
 opens (grammar.new_alone r) = tt
 opens (grammar.a_named_member_of_super w m n l e) = tt

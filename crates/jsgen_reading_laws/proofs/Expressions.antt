@@ -12,7 +12,8 @@ use Rattle.jsgen_model.specs.Punctuator.{dot}
 use Rattle.jsgen_model.specs.Items.{string, word, member_dot}
 use Rattle.jsgen_tree.specs.Atom.{units, flag}
 use Rattle.jsgen_tree.specs.Number.{NumericKind, Whole, Raw}
-use Rattle.jsgen_tree.specs.Tree.{Tree, Trees, Atoms}
+use Rattle.jsgen_tree.specs.Tree.{Tree, Trees, Atoms, type_of}
+use Rattle.jsgen_tree.specs.Sets.{is_simple_assignment_target}
 use Rattle.jsgen_tree.specs.Places.{bare}
 use Rattle.jsgen_tree.specs.Values.{identifier_reference_name, boolean_literal_value, numeric_literal_kind, numeric_literal_digits, string_literal_value}
 use Rattle.jsgen_tree.specs.Nodes as tree
@@ -33,13 +34,14 @@ use Rattle.jsgen_reading_laws.proofs.Families as family
 use Rattle.jsgen_reading_laws.proofs.Asked.{asked}
 use Rattle.jsgen_reading_laws.proofs.Names.{free_spelled, free_starts_none}
 use Rattle.jsgen_reading_laws.proofs.Numbers.{decimal_whole}
-use Rattle.jsgen_reading_laws.proofs.Good.{Good, Printed, may_begin}
+use Rattle.jsgen_reading_laws.proofs.Good.{Good, Printed, TargetPrinted, may_begin}
 use Rattle.jsgen_reading_laws.proofs.Operations.{good_operation}
 use Rattle.jsgen_reading_laws.proofs.Prefixes.{word_begins, good_unary_operation}
 use Rattle.jsgen_reading_laws.proofs.Chains.{good_logical_operation}
 use Rattle.jsgen_reading_laws.proofs.Constructions.{good_construction}
-use Rattle.jsgen_reading_laws.proofs.Links.{ElementOf, ArgumentsAt, MoreArgumentsAt, LinkPrinted, link_expression, link_super, good_named_member, good_computed_member, good_call, good_element, good_spread, no_arguments, first_of_arguments, no_more_arguments, one_more_argument}
+use Rattle.jsgen_reading_laws.proofs.Links.{ElementOf, ArgumentsAt, MoreArgumentsAt, LinkPrinted, link_expression, link_super, good_named_member, good_computed_member, good_call, good_element, good_spread, no_arguments, first_of_arguments, no_more_arguments, one_more_argument, named_target, computed_target}
 use Rattle.jsgen_reading_laws.proofs.Collections.{ElementsOf, no_elements, first_of_elements, left_out_of_elements, good_array}
+use Rattle.jsgen_reading_laws.proofs.Updates.{good_update}
 
 -- ---- names and numbers
 
@@ -49,23 +51,29 @@ name_begins statement line w v b e h n = ap not (free_starts_none w v b e h n)
 name_begins arrow_body line w v b e h n = refl
 name_begins default_export line w v b e h n = ap not (free_starts_none w v b e h n)
 
-pub good_reference : (c : Allowed) (a : Atoms) → is_free_name (identifier_reference_name a) ≡ true → Printed c (tree.identifier_reference a)
-good_reference c a h place p l z y k =
+pub reference_target : (c : Allowed) (a : Atoms) → is_free_name (identifier_reference_name a) ≡ true → TargetPrinted c (tree.identifier_reference a)
+reference_target c a h place p l z y k =
     let v : List ℕ = identifier_reference_name a in
     let w : List ℕ = name_text p.style.ascii v in
-    let e : word_value w ≡ Some v = word_text_value p.style.ascii v (free_spelled v h) in
-    record {
-      last = _;
-      tokens = piece (line_of l) (Word w) done;
-      writes = wrote_name v p l (free_spelled v h) k;
-      operand = tt;
-      semicolon = z;
-      begins = λ b n. name_begins place.start (line_of l) w v b e h n;
-      line = λ g. ap not g;
-      tree = tree.identifier_reference (unnumbered v);
-      reads = from_primary place (grammar.a_reference e h);
-      same = refl;
-    }
+    let e : word_value w ≡ Some v = word_text_value p.style.ascii v (free_spelled v h) in (
+      record {
+        last = After (Word w);
+        tokens = piece (line_of l) (Word w) done;
+        writes = wrote_name v p l (free_spelled v h) k;
+        operand = tt;
+        semicolon = z;
+        begins = λ b n. name_begins place.start (line_of l) w v b e h n;
+        line = λ g. ap not g;
+        tree = tree.identifier_reference (unnumbered v);
+        reads = from_primary place (grammar.a_reference e h);
+        same = refl;
+      },
+      refl,
+      refl,
+    )
+
+pub good_reference : (c : Allowed) (a : Atoms) → is_free_name (identifier_reference_name a) ≡ true → Printed c (tree.identifier_reference a)
+good_reference c a h place p l z y k = (reference_target c a h place p l z y k).0
 
 this_begins : (start : Start) (line : Bool) (b : Tokens) → may_begin start (piece line (Word (codes "this")) b) ≡ true
 this_begins nowhere line b = refl
@@ -233,12 +241,19 @@ mutual
   printed_expression {c} (family.an_operation {a} {l} {r} v w) = good_operation c a l r (asked v).unary (printed_expression v) (printed_expression w)
   printed_expression {c} (family.a_logical_operation {a} {l} {r} v w) = good_logical_operation c a l r (printed_expression v) (printed_expression w) (asked v).mixed (asked w).mixed
   printed_expression {c} (family.a_unary_operation {a} {t} v) = good_unary_operation c a t (printed_expression v)
+  printed_expression {c} (family.an_update {a} {t} s v) = good_update c a t (printed_target v s)
   printed_expression {c} (family.a_construction {a} {f} {es} v w) = good_construction c a f es (printed_expression v) (printed_arguments w)
   printed_expression {c} (family.a_new_target {a}) = good_new_target c a
   printed_expression {c} (family.a_named_member {a} {b} {o} m v h) = good_named_member c a b o m h (printed_link v)
   printed_expression {c} (family.a_computed_member {a} {o} {e} m v w) = good_computed_member c a o e m (printed_link v) (printed_expression w)
   printed_expression {c} (family.a_call {a} {f} {es} m v w) = good_call c a f es m (printed_link v) (printed_arguments w)
   printed_expression {c} (family.an_array {a} {es} v) = good_array c a es (printed_elements v)
+
+  printed_target : {c : Allowed} {t : Tree} → IsExpression c t → is_simple_assignment_target (type_of t) ≡ true → TargetPrinted c t
+  printed_target {c} (family.a_reference {a} h) s = reference_target c a h
+  printed_target {c} (family.a_named_member {a} {b} {o} m v h) s = named_target c a b o m h (printed_link v)
+  printed_target {c} (family.a_computed_member {a} {o} {e} m v w) s = computed_target c a o e m (printed_link v) (printed_expression w)
+  printed_target v s = absurd (both_ways false refl s)
 
   printed_link : {c : Allowed} {t : Tree} → IsLink c t → LinkPrinted c t
   printed_link {c} (family.a_super {a}) = link_super c a

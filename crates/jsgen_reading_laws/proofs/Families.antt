@@ -7,7 +7,7 @@ use Rattle.jsgen_tree.specs.Tree.{Tree, node, Maybe, absent, given, Trees, no_tr
 use Rattle.jsgen_tree.specs.Nodes as tree
 use Rattle.jsgen_tree.specs.Values.{as_text, program_kind, directive_directive, binding_identifier_name, identifier_reference_name, identifier_name_name, numeric_literal_kind, string_literal_value, variable_declaration_declare, variable_declarator_definite, static_member_expression_optional, computed_member_expression_optional, call_expression_optional}
 use Rattle.jsgen_tree.specs.Everywhere.{EverywhereIfGiven, EverywhereInTrees}
-use Rattle.jsgen_tree.specs.Sets.{in_set, is_expression, is_argument, is_statement, is_binding_pattern, is_variable_declarator, is_identifier_name, is_directive}
+use Rattle.jsgen_tree.specs.Sets.{in_set, is_expression, is_argument, is_statement, is_binding_pattern, is_variable_declarator, is_identifier_name, is_directive, is_simple_assignment_target}
 use Rattle.jsgen_tree.specs.declared.types.NodeType.{NodeType}
 use Rattle.jsgen_tree.specs.declared.types.NodeType.TheVariants as types
 use Rattle.jsgen_tree.specs.declared.types.NodeSet.{NodeSet}
@@ -40,6 +40,7 @@ mutual
     a_computed_member : {c : Allowed} {a : Atoms} {o e : Tree} → computed_member_expression_optional a ≡ atoms.no_value → IsLink c o → IsExpression c e → IsExpression c (tree.computed_member a o e)
     a_call : {c : Allowed} {a : Atoms} {f : Tree} {es : Trees} → call_expression_optional a ≡ atoms.no_value → IsLink c f → AreArguments c es → IsExpression c (tree.call a f es)
     a_unary_operation : {c : Allowed} {a : Atoms} {t : Tree} → IsExpression c t → IsExpression c (tree.unary a t)
+    an_update : {c : Allowed} {a : Atoms} {t : Tree} → is_simple_assignment_target (type_of t) ≡ true → IsExpression c t → IsExpression c (tree.update a t)
     a_construction : {c : Allowed} {a : Atoms} {f : Tree} {es : Trees} → IsExpression c f → AreArguments c es → IsExpression c (tree.new_expression a f es)
     a_new_target : {c : Allowed} {a : Atoms} → IsExpression c (tree.new_target a)
     an_operation : {c : Allowed} {a : Atoms} {l r : Tree} → IsExpression c l → IsExpression c r → IsExpression c (tree.binary a l r)
@@ -169,6 +170,13 @@ expression_type t p s n = by (is_expression (type_of t)) refl
 argument_stands : (t : Tree) → is_plain_row t ≡ true → may_stand sets.Argument (type_of t) ≡ true → is_spread t ≡ false → may_stand sets.Expression (type_of t) ≡ true
 argument_stands t p s n = let h = and_parts (is_argument (type_of t)) (false || not (is_super (type_of t))) s in both_ways (expression_type t p h.0 n) h.1
 
+-- what may be changed is an expression, and isn't `super`
+target_stands : (type : NodeType) → is_simple_assignment_target type ≡ true → may_stand sets.Expression type ≡ true
+target_stands types.IdentifierReference h = refl
+target_stands types.StaticMemberExpression h = refl
+target_stands types.ComputedMemberExpression h = refl
+target_stands type h = absurd (no_truth h)
+
 -- what a link goes on from is `super`, or may stand anywhere
 link_valid : (c : Allowed) (t : Tree) → IsPlain t → may_stand sets.Link (type_of t) ≡ true → (may_stand sets.Expression (type_of t) ≡ true → IsExpression c t) → IsLink c t
 link_valid c (tree.super a) p s f = a_super
@@ -213,6 +221,9 @@ mutual
   expression_valid c around (tree.unary a t) p s e =
       let k = standing around sets.Expression t [] (parts (span_faults a.span) [] _ e).1 in
       a_unary_operation (expression_valid c around t p.1.0 k.0 k.1)
+  expression_valid c around (tree.update a t) p s e =
+      let k = placed around sets.SimpleAssignmentTarget t [] (parts (span_faults a.span) [] _ e).1 in
+      an_update k.0 (expression_valid c around t p.1.0 (target_stands (type_of t) k.0) k.1)
   expression_valid c around (tree.new_expression a f es) p s e =
       let k = standing around sets.Expression f _ (parts (span_faults a.span) [] _ e).1 in
       let j = none_both (in_trees around (place_of sets.Argument around ∷ []) es) [] k.2 in

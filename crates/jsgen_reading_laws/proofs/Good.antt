@@ -1,13 +1,13 @@
 -- What is carried through the induction for expressions.
-use Rattle.std.proofs.Common.{◌≡◌, Bool, true, false, not, codes, refl, sym, ap, ◌∙◌, subst}
+use Rattle.std.proofs.Common.{◌≡◌, Bool, true, false, not, Some, codes, refl, sym, ap, ◌∙◌, subst}
 use Rattle.std.proofs.lemmas.Bool.{both_ways}
 use Rattle.jsgen_tree.specs.Tree.{Tree}
 use Rattle.jsgen_tree.specs.Nodes as tree
-use Rattle.jsgen_model.specs.Punctuator.{Round, Brace, opening, closing}
+use Rattle.jsgen_model.specs.Punctuator.{plus_plus, minus_minus, Round, Brace, opening, closing}
 use Rattle.jsgen_model.specs.Tokens.{Tokens, done, piece, group, ◌⧺◌, Piece, Word, Number, Quoted, Sign}
 use Rattle.jsgen_model.specs.Items.{Items, ◌⊕◌, soft_space, wrapped}
 use Rattle.jsgen_model.specs.Layout.{Pen, Start, nowhere, statement, arrow_body, default_export, layout, written_if, unless_printed}
-use Rattle.jsgen_model.specs.Grammar.{Allowed, Level, ReadsExpression, with_in, is_word, on_same_line, starts_statement, starts_declaration}
+use Rattle.jsgen_model.specs.Grammar.{Allowed, Level, ReadsExpression, with_in, is_word, on_same_line, starts_statement, starts_declaration, simple_target}
 use Rattle.jsgen_model.specs.Grammar as grammar
 use Rattle.jsgen_model.specs.Normal.{normal, nothing_of}
 use Rattle.jsgen_model.specs.Spell.{Place, spell, within}
@@ -49,11 +49,17 @@ pub record Good (p : Pen) (l : Last) (q : Pen) (c : Allowed) (level : Level) (st
 abbrev pub Printed : Allowed → Tree → Type 0
 Printed c t = (place : Place) (p : Pen) (l : Last) → p.pending_semicolon ≡ false → Ready l → Knows p l → Good p l (layout (spell t place) p) (under place c) (level_of place) place.start t
 
+-- and read as a simple target, which no line end follows
+abbrev pub TargetPrinted : Allowed → Tree → Type 0
+TargetPrinted c t = (place : Place) (p : Pen) (l : Last) → p.pending_semicolon ≡ false → Ready l → Knows p l → (g : Good p l (layout (spell t place) p) (under place c) (level_of place) place.start t) × (simple_target g.tree ≡ Some g.tree) × (line_of g.last ≡ false)
+
 pub operand_ready : (l : Last) → Operand l → Ready l
 operand_ready (Open line) o = tt
 operand_ready (After (Word w)) o = tt
 operand_ready (After (Number w)) o = tt
 operand_ready (After (Quoted q w)) o = tt
+operand_ready (After (Sign plus_plus)) o = tt
+operand_ready (After (Sign minus_minus)) o = tt
 operand_ready (After (Sign s)) o = absurd o
 
 -- a row that begins on the same line does so whatever follows

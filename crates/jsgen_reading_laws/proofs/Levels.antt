@@ -126,9 +126,12 @@ callee_is_left d (grammar.a_called_call r) = grammar.a_call r
 callee_is_left d (grammar.an_operation o m p h q s t) = absurd (omega (arith, operation_number o, ap number_of d))
 callee_is_left d r = absurd (omega (arith, ap number_of d))
 
+pub read_left : {c : Allowed} {ts : Tokens} {t : Tree} (no_call : Bool) → ReadsExpression c (left_hand_side no_call) ts t → ReadsExpression c grammar.LeftHandSide ts t
+read_left true r = grammar.a_new (grammar.a_member r)
+read_left false r = callee_is_left refl r
+
 weaken_postfix : {c : Allowed} {ts : Tokens} {t : Tree} (no_call : Bool) → ReadsExpression c (left_hand_side no_call) ts t → ReadsExpression c grammar.Update ts t
-weaken_postfix true r = grammar.a_left_hand_side (grammar.a_new (grammar.a_member r))
-weaken_postfix false r = grammar.a_left_hand_side (callee_is_left refl r)
+weaken_postfix no_call r = grammar.a_left_hand_side (read_left no_call r)
 
 weaken : {c : Allowed} {ts : Tokens} {t : Tree} (no_call : Bool) (l : Precedence) → ReadsExpression c (read_at no_call l) ts t → ReadsExpression c (read_at no_call (looser l)) ts t
 weaken no_call levels.Lowest r = r

@@ -12,6 +12,7 @@ pub mod Prefixes
 pub mod Links
 pub mod Collections
 pub mod Constructions
+pub mod Updates
 pub mod Expressions
 pub mod Ends
 pub mod Stands

@@ -14,7 +14,7 @@ use Rattle.jsgen_model.specs.Punctuator.{dot, ellipsis, Round, Square, opening, 
 use Rattle.jsgen_model.specs.Tokens.{Tokens, done, piece, group, ◌⧺◌, Word, Sign}
 use Rattle.jsgen_model.specs.Items.{◌⊕◌, brackets, member_dot, punctuator}
 use Rattle.jsgen_model.specs.Layout.{Pen, Start, other_end, layout, written, unless_printed}
-use Rattle.jsgen_model.specs.Grammar.{Allowed, Level, ReadsExpression, ReadsElement, ReadsArguments, ReadsArgumentList, with_in, is_word, on_same_line}
+use Rattle.jsgen_model.specs.Grammar.{Allowed, Level, ReadsExpression, ReadsElement, ReadsArguments, ReadsArgumentList, with_in, is_word, on_same_line, simple_target}
 use Rattle.jsgen_model.specs.Grammar as grammar
 use Rattle.jsgen_model.specs.Normal.{normal, normal_trees, nothing_of, named}
 use Rattle.jsgen_model.specs.Spell.{Place, spell, spell_list, within, linked, called, in_brackets, wraps, call_wraps}
@@ -23,7 +23,7 @@ use Rattle.jsgen_token_laws.proofs.Last.{Last, Open, After, line_of, Operand, Re
 use Rattle.jsgen_token_laws.proofs.Writes.{Writes, wrote_none, wrote_both}
 use Rattle.jsgen_token_laws.proofs.Steps.{wrote_word, wrote_name, wrote_dot, wrote_dots, within_brackets, brackets_written}
 use Rattle.jsgen_reading_laws.proofs.Levels.{number_of, operation_number, left_hand_side, level_of, under, weaken_member, lifted, unwrapped, from_left}
-use Rattle.jsgen_reading_laws.proofs.Good.{Good, Printed, may_begin, begins_then, line_then, good_wrapped}
+use Rattle.jsgen_reading_laws.proofs.Good.{Good, Printed, TargetPrinted, may_begin, begins_then, line_then, good_wrapped}
 use Rattle.jsgen_reading_laws.proofs.Prefixes.{word_begins}
 use Rattle.jsgen_reading_laws.proofs.Lists.{Elements, ElementAt, MoreAt, Joins, no_more, one_more, whole_list}
 
@@ -97,8 +97,8 @@ link_super c a place p l z y k =
 
 -- ---- members
 
-pub good_named_member : (c : Allowed) (a b : Atoms) (o : Tree) → static_member_expression_optional a ≡ no_value → spells_name (identifier_name_name b) ≡ true → LinkPrinted c o → Printed c (tree.static_member a o (tree.identifier_name b))
-good_named_member c a b o m h f place p l z y k =
+pub named_target : (c : Allowed) (a b : Atoms) (o : Tree) → static_member_expression_optional a ≡ no_value → spells_name (identifier_name_name b) ≡ true → LinkPrinted c o → TargetPrinted c (tree.static_member a o (tree.identifier_name b))
+named_target c a b o m h f place p l z y k =
     let v : List ℕ = identifier_name_name b in
     let p1 : Pen = layout (spell o (linked place)) p in
     let p2 : Pen = layout member_dot p1 in
@@ -106,44 +106,57 @@ good_named_member c a b o m h f place p l z y k =
     let x : word_value w ≡ Some v = word_text_value p2.style.ascii v h in
     let g = f place p l z y k in
     let d = wrote_dot p1 g.last g.operand g.writes.knows in
-    let n = wrote_name v p2 (After (Sign dot)) h d.knows in
-    record {
-      last = After (Word w);
-      tokens = g.tokens ⧺ piece (line_of g.last) (Sign dot) (piece false (Word w) done);
-      writes = wrote_both g.writes (wrote_both d n);
-      operand = tt;
-      semicolon = g.semicolon;
-      begins = λ ts i. begins_then place.start g.tokens (piece (line_of g.last) (Sign dot) (piece false (Word w) done)) ts g.begins refl;
-      line = λ e. line_then g.tokens (piece (line_of g.last) (Sign dot) (piece false (Word w) done)) (g.line e);
-      tree = tree.static_member (nothing_of 1) g.base (tree.identifier_name (named v));
-      reads = from_left place (g.named w v (line_of g.last) false x);
-      same = λ i. tree.static_member (bare (sym m i ∷ [])) (g.same i) (tree.identifier_name (named v));
-    }
+    let n = wrote_name v p2 (After (Sign dot)) h d.knows in (
+      record {
+        last = After (Word w);
+        tokens = g.tokens ⧺ piece (line_of g.last) (Sign dot) (piece false (Word w) done);
+        writes = wrote_both g.writes (wrote_both d n);
+        operand = tt;
+        semicolon = g.semicolon;
+        begins = λ ts i. begins_then place.start g.tokens (piece (line_of g.last) (Sign dot) (piece false (Word w) done)) ts g.begins refl;
+        line = λ e. line_then g.tokens (piece (line_of g.last) (Sign dot) (piece false (Word w) done)) (g.line e);
+        tree = tree.static_member (nothing_of 1) g.base (tree.identifier_name (named v));
+        reads = from_left place (g.named w v (line_of g.last) false x);
+        same = λ i. tree.static_member (bare (sym m i ∷ [])) (g.same i) (tree.identifier_name (named v));
+      },
+      refl,
+      refl,
+    )
+
+pub good_named_member : (c : Allowed) (a b : Atoms) (o : Tree) → static_member_expression_optional a ≡ no_value → spells_name (identifier_name_name b) ≡ true → LinkPrinted c o → Printed c (tree.static_member a o (tree.identifier_name b))
+good_named_member c a b o m h f place p l z y k = (named_target c a b o m h f place p l z y k).0
 
 same_member : (a : Atoms) (u v x y : Tree) → computed_member_expression_optional a ≡ no_value → normal u ≡ normal x → normal v ≡ normal y → normal (tree.computed_member (nothing_of 1) u v) ≡ normal (tree.computed_member a x y)
 same_member a u v x y m e f = λ i. tree.computed_member (bare (sym m i ∷ [])) (e i) (f i)
 
-computed_parts : (c : Allowed) (a : Atoms) (o x : Tree) (place : Place) (p p1 q : Pen) (l : Last) → computed_member_expression_optional a ≡ no_value → (g : Linkable p l p1 (under place c) place.context.forbids_call place.start o) → Good (written (opening Square) other_end p1) (Open false) q (with_in c) grammar.Expression (in_brackets levels.Lowest place).start x → Good p l (written (closing Square) other_end q) (under place c) (level_of place) place.start (tree.computed_member a o x)
-computed_parts c a o x place p p1 q l m g h = record {
-  last = Open false;
-  tokens = g.tokens ⧺ group (line_of g.last) Square h.tokens done;
-  writes = wrote_both g.writes (brackets_written Square p1 q g.last h.last h.tokens h.writes);
-  operand = tt;
-  semicolon = h.semicolon;
-  begins = λ ts i. begins_then place.start g.tokens (group (line_of g.last) Square h.tokens done) ts g.begins refl;
-  line = λ e. line_then g.tokens (group (line_of g.last) Square h.tokens done) (g.line e);
-  tree = tree.computed_member (nothing_of 1) g.base h.tree;
-  reads = from_left place (g.computed (line_of g.last) h.tokens h.tree h.reads);
-  same = same_member a g.base h.tree o x m g.same h.same;
-}
+computed_parts : (c : Allowed) (a : Atoms) (o x : Tree) (place : Place) (p p1 q : Pen) (l : Last) → computed_member_expression_optional a ≡ no_value → (g : Linkable p l p1 (under place c) place.context.forbids_call place.start o) → Good (written (opening Square) other_end p1) (Open false) q (with_in c) grammar.Expression (in_brackets levels.Lowest place).start x → (r : Good p l (written (closing Square) other_end q) (under place c) (level_of place) place.start (tree.computed_member a o x)) × (simple_target r.tree ≡ Some r.tree) × (line_of r.last ≡ false)
+computed_parts c a o x place p p1 q l m g h = (
+  record {
+    last = Open false;
+    tokens = g.tokens ⧺ group (line_of g.last) Square h.tokens done;
+    writes = wrote_both g.writes (brackets_written Square p1 q g.last h.last h.tokens h.writes);
+    operand = tt;
+    semicolon = h.semicolon;
+    begins = λ ts i. begins_then place.start g.tokens (group (line_of g.last) Square h.tokens done) ts g.begins refl;
+    line = λ e. line_then g.tokens (group (line_of g.last) Square h.tokens done) (g.line e);
+    tree = tree.computed_member (nothing_of 1) g.base h.tree;
+    reads = from_left place (g.computed (line_of g.last) h.tokens h.tree h.reads);
+    same = same_member a g.base h.tree o x m g.same h.same;
+  },
+  refl,
+  refl,
+)
 
-pub good_computed_member : (c : Allowed) (a : Atoms) (o x : Tree) → computed_member_expression_optional a ≡ no_value → LinkPrinted c o → Printed c x → Printed c (tree.computed_member a o x)
-good_computed_member c a o x m f h place p l z y k =
+pub computed_target : (c : Allowed) (a : Atoms) (o x : Tree) → computed_member_expression_optional a ≡ no_value → LinkPrinted c o → Printed c x → TargetPrinted c (tree.computed_member a o x)
+computed_target c a o x m f h place p l z y k =
     let p1 : Pen = layout (spell o (linked place)) p in
     let p2 : Pen = written (opening Square) other_end p1 in
     let g = f place p l z y k in
     let i = h (in_brackets levels.Lowest place) p2 (Open false) g.semicolon tt (within_brackets Square p1 g.last g.writes.knows) in
     computed_parts c a o x place p p1 (layout (spell x (in_brackets levels.Lowest place)) p2) l m g i
+
+pub good_computed_member : (c : Allowed) (a : Atoms) (o x : Tree) → computed_member_expression_optional a ≡ no_value → LinkPrinted c o → Printed c x → Printed c (tree.computed_member a o x)
+good_computed_member c a o x m f h place p l z y k = (computed_target c a o x m f h place p l z y k).0
 
 -- ---- elements: expressions, and those whose values are spread
 

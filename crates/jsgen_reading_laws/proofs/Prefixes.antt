@@ -67,7 +67,7 @@ good_prefix item x gap operand e t c start g h before soft build f p l z y k =
 
 -- ---- signs and words
 
-sign_begins : (s : Punctuator) (start : Start) (line : Bool) (ts : Tokens) → may_begin start (piece line (Sign s) ts) ≡ true
+pub sign_begins : (s : Punctuator) (start : Start) (line : Bool) (ts : Tokens) → may_begin start (piece line (Sign s) ts) ≡ true
 sign_begins s nowhere line ts = refl
 sign_begins s statement line ts = refl
 sign_begins s arrow_body line ts = refl

@@ -8,7 +8,7 @@ use Rattle.jsgen_syntax.specs.Name.{starts_name, continues_name, goes_in_word}
 use Rattle.jsgen_syntax.specs.Strings.{quote_char}
 use Rattle.jsgen_syntax.specs.declared.quote.Quote.{Quote}
 use Rattle.jsgen_syntax.specs.declared.quote.Quote.TheVariants as quotes
-use Rattle.jsgen_model.specs.Punctuator.{Punctuator, punctuator_text, dot, ellipsis, comma, question_dot, slash, plus, minus, Bracket, Round, Square, Brace, opening, closing}
+use Rattle.jsgen_model.specs.Punctuator.{Punctuator, punctuator_text, dot, ellipsis, comma, question_dot, slash, plus, minus, Bracket, Round, Square, Brace, opening, closing, plus_plus, minus_minus}
 use Rattle.jsgen_model.specs.Tokens.{Piece, Word, Number, Quoted, Sign, ends_before, spells_whole, may_precede, stands, longer_stands}
 use Rattle.jsgen_model.specs.Layout.{Pen, Ending, operator_end, number_end, is_apart, space_if}
 use Rattle.jsgen_token_laws.proofs.Characters.{goes_on_in_sign, none_longer, behind_itself, no_word_no_name, no_word_no_start, no_word_no_digit, word_no_sign, not_that, continues_goes, starts_no_digit, digit_goes}
@@ -29,8 +29,10 @@ abbrev pub Clear : Last → List ℕ → Type 0
 Clear (Open line) r = Unit {0}
 Clear (After p) r = ends_before p r ≡ true
 
--- an operand, or nothing, stands at the end
+-- an operand, maybe with the sign of an update, or nothing stands at the end
 abbrev pub Operand : Last → Type 0
+Operand (After (Sign plus_plus)) = Unit {0}
+Operand (After (Sign minus_minus)) = Unit {0}
 Operand (After (Sign s)) = ⊥
 Operand l = Unit {0}
 
@@ -131,11 +133,22 @@ clear_closing Brace l r = clear_apart l 125 r refl refl refl
 
 -- ---- what may stand behind an operand
 
+-- no sign is longer than that of an update and begins with it
+pub increment_clear : (c : ℕ) (r : List ℕ) → Clear (After (Sign plus_plus)) (c ∷ r)
+unfolding longer_stands
+increment_clear c r = refl
+
+pub decrement_clear : (c : ℕ) (r : List ℕ) → Clear (After (Sign minus_minus)) (c ∷ r)
+unfolding longer_stands
+decrement_clear c r = refl
+
 clear_operand : (code : List ℕ) (e : Ending) (l : Last) (c : ℕ) (r : List ℕ) → Operand l → Ended code e l → goes_in_word c ≡ false → (c == 46) ≡ false → (c == 92) ≡ false → Clear l (c ∷ r)
 clear_operand code e (Open line) c r o k h d b = tt
 clear_operand code e (After (Word w)) c r o k h d b = word_ends w c r h b
 clear_operand code e (After (Number w)) c r o k h d b = whole_ends w c r k.2 (no_word_no_start c h) (no_word_no_digit c h) d b
 clear_operand code e (After (Quoted q w)) c r o k h d b = refl
+clear_operand code e (After (Sign plus_plus)) c r o k h d b = increment_clear c r
+clear_operand code e (After (Sign minus_minus)) c r o k h d b = decrement_clear c r
 clear_operand code e (After (Sign s)) c r o k h d b = absurd o
 
 -- a sign that doesn't begin with a dot

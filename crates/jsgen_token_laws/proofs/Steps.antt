@@ -7,13 +7,13 @@ use Rattle.jsgen_syntax.specs.Name.{spells_name, goes_in_word}
 use Rattle.jsgen_syntax.specs.Strings.{quote_char, string_value}
 use Rattle.jsgen_syntax.specs.Escapes.{name_text, has_escapes}
 use Rattle.jsgen_syntax.specs.declared.quote.Quote.{Quote}
-use Rattle.jsgen_model.specs.Punctuator.{Punctuator, Bracket, punctuator_text, plus, minus, dot, ellipsis, comma, semicolon, Round, opening, closing}
+use Rattle.jsgen_model.specs.Punctuator.{Punctuator, Bracket, punctuator_text, plus, minus, dot, ellipsis, comma, semicolon, Round, opening, closing, plus_plus, minus_minus}
 use Rattle.jsgen_model.specs.Tokens.{longer_stands, Tokens, done, piece, group, Word, Number, Quoted, Sign, is_spelled, is_blank, is_line_terminator, has_line_end, spells_whole}
 use Rattle.jsgen_model.specs.Items.{member_dot, word, name, number, punctuator, operator, soft_space, soft_line, hard_space, body_space, indentation, due_semicolon, statement_begins}
 use Rattle.jsgen_model.specs.Layout.{Pen, Ending, other_end, operator_end, layout, written, written_if, text_if, ending_unless, is_apart, ends_in_escapes, name_ending, space_if, joins, dot_joins, indented, indent_or_space, at_indentation, end_statement}
 use Rattle.jsgen_token_laws.proofs.Characters.{goes_on_in_sign, ends_in_word_behind, all_goes, whole_digits, digit_goes, all_follow}
 use Rattle.jsgen_token_laws.proofs.Words.{word_begins, unescaped, name_spelled, spelled_name}
-use Rattle.jsgen_token_laws.proofs.Last.{Last, Open, After, line_of, Clear, Operand, Ready, Begun, Remembers, Ended, is_indent, Knows, NoDot, word_ends, clear_apart, clear_dots, clear_quote, clear_quoted, clear_space, clear_operator, clear_word, clear_digit}
+use Rattle.jsgen_token_laws.proofs.Last.{Last, Open, After, line_of, Clear, Operand, Ready, Begun, Remembers, Ended, is_indent, Knows, NoDot, word_ends, clear_apart, clear_dots, clear_quote, clear_quoted, clear_space, clear_operator, clear_word, clear_digit, increment_clear, decrement_clear}
 use Rattle.jsgen_token_laws.proofs.Writes.{Writes, wrote_none, wrote_and_none, wrote_blank, wrote_piece, wrote_brackets}
 
 -- ---- gaps
@@ -320,6 +320,32 @@ wrote_minus p l k =
     let b : Bool = joins p.ending p.code minus in
     wrote_piece p (layout (operator minus) p) l (space_if b) (Sign minus) (line_of l) (space_blank b) (space_mark b (line_of l)) refl (λ r. minus_clear p.code p.ending l r k.ending) refl (record { indent = k.indent; ending = refl })
 
+increment_apart : (code : List ℕ) (e : Ending) (l : Last) (r : List ℕ) → Ended code e l → Clear l (space_if (joins e code plus_plus) ++ (43 ∷ 43 ∷ r))
+increment_apart code e (Open line) r k = tt
+increment_apart code e (After (Word w)) r k = spaced_operator plus_plus code e (After (Word w)) (joins e code plus_plus) r tt tt k
+increment_apart code e (After (Number w)) r k = spaced_operator plus_plus code e (After (Number w)) (joins e code plus_plus) r tt tt k
+increment_apart code e (After (Quoted q w)) r k = clear_quoted q w (space_if (joins e code plus_plus) ++ (43 ∷ 43 ∷ r))
+increment_apart code e (After (Sign plus)) r k = spaced_since (After (Sign plus)) (joins e code plus_plus) (43 ∷ 43 ∷ r) (ap (λ x. joins x code plus_plus) k)
+increment_apart code e (After (Sign s)) r k = spaced_or (After (Sign s)) (joins e code plus_plus) (43 ∷ 43 ∷ r) (plus_behind s (43 ∷ r) tt)
+
+decrement_apart : (code : List ℕ) (e : Ending) (l : Last) (r : List ℕ) → Ended code e l → Clear l (space_if (joins e code minus_minus) ++ (45 ∷ 45 ∷ r))
+decrement_apart code e (Open line) r k = tt
+decrement_apart code e (After (Word w)) r k = spaced_operator minus_minus code e (After (Word w)) (joins e code minus_minus) r tt tt k
+decrement_apart code e (After (Number w)) r k = spaced_operator minus_minus code e (After (Number w)) (joins e code minus_minus) r tt tt k
+decrement_apart code e (After (Quoted q w)) r k = clear_quoted q w (space_if (joins e code minus_minus) ++ (45 ∷ 45 ∷ r))
+decrement_apart code e (After (Sign minus)) r k = spaced_since (After (Sign minus)) (joins e code minus_minus) (45 ∷ 45 ∷ r) (ap (λ x. joins x code minus_minus) k)
+decrement_apart code e (After (Sign s)) r k = spaced_or (After (Sign s)) (joins e code minus_minus) (45 ∷ 45 ∷ r) (minus_behind s (45 ∷ r) tt)
+
+pub wrote_increment : (p : Pen) (l : Last) → Knows p l → Writes p l (layout (operator plus_plus) p) (After (Sign plus_plus)) (piece (line_of l) (Sign plus_plus) done)
+wrote_increment p l k =
+    let b : Bool = joins p.ending p.code plus_plus in
+    wrote_piece p (layout (operator plus_plus) p) l (space_if b) (Sign plus_plus) (line_of l) (space_blank b) (space_mark b (line_of l)) refl (λ r. increment_apart p.code p.ending l r k.ending) refl (record { indent = k.indent; ending = tt })
+
+pub wrote_decrement : (p : Pen) (l : Last) → Knows p l → Writes p l (layout (operator minus_minus) p) (After (Sign minus_minus)) (piece (line_of l) (Sign minus_minus) done)
+wrote_decrement p l k =
+    let b : Bool = joins p.ending p.code minus_minus in
+    wrote_piece p (layout (operator minus_minus) p) l (space_if b) (Sign minus_minus) (line_of l) (space_blank b) (space_mark b (line_of l)) refl (λ r. decrement_apart p.code p.ending l r k.ending) refl (record { indent = k.indent; ending = tt })
+
 -- a sign of one character, with which no other sign goes on
 pub wrote_prefix : (s : Punctuator) (c : ℕ) (p : Pen) (l : Last) → punctuator_text s ≡ c ∷ [] → goes_in_word c ≡ false → goes_on_in_sign c ≡ false → (c == 92) ≡ false → Knows p l → Writes p l (layout (operator s) p) (After (Sign s)) (piece (line_of l) (Sign s) done)
 wrote_prefix s c p l e h g n k =
@@ -334,6 +360,8 @@ dot_apart (Open line) e code r o k = tt
 dot_apart (After (Word w)) e code r o k = spaced_or (After (Word w)) (dot_joins e) (46 ∷ r) (word_ends w 46 r refl refl)
 dot_apart (After (Number w)) e code r o k = spaced_since (After (Number w)) (dot_joins e) (46 ∷ r) (ap dot_joins k.1)
 dot_apart (After (Quoted q w)) e code r o k = clear_quoted q w (space_if (dot_joins e) ++ (46 ∷ r))
+dot_apart (After (Sign plus_plus)) e code r o k = spaced_or (After (Sign plus_plus)) (dot_joins e) (46 ∷ r) (increment_clear 46 r)
+dot_apart (After (Sign minus_minus)) e code r o k = spaced_or (After (Sign minus_minus)) (dot_joins e) (46 ∷ r) (decrement_clear 46 r)
 dot_apart (After (Sign s)) e code r o k = absurd o
 
 pub wrote_dot : (p : Pen) (l : Last) → Operand l → Knows p l → Writes p l (layout member_dot p) (After (Sign dot)) (piece (line_of l) (Sign dot) done)

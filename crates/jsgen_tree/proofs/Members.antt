@@ -30,6 +30,7 @@ of_expression h (expressions.ComputedMemberExpression b) = refl
 of_expression h (expressions.CallExpression b) = refl
 of_expression h (expressions.ArrayExpression b) = refl
 of_expression h (expressions.UnaryExpression b) = refl
+of_expression h (expressions.UpdateExpression b) = refl
 of_expression h (expressions.NewExpression b) = refl
 of_expression h (expressions.NewTarget b) = refl
 of_expression h (expressions.Super b) = refl

@@ -7,6 +7,7 @@ use Rattle.jsgen_tree.specs.Number.{NumericKind}
 use Rattle.jsgen_syntax.specs.declared.operator.BinaryOperator.{BinaryOperator}
 use Rattle.jsgen_syntax.specs.declared.operator.LogicalOperator.{LogicalOperator}
 use Rattle.jsgen_syntax.specs.declared.operator.UnaryOperator.{UnaryOperator}
+use Rattle.jsgen_syntax.specs.declared.operator.UpdateOperator.{UpdateOperator}
 
 pub data Atom : Type 0 where
   -- of a field that is absent
@@ -23,3 +24,4 @@ pub data Atom : Type 0 where
   binary_operator : BinaryOperator → Atom
   logical_operator : LogicalOperator → Atom
   unary_operator : UnaryOperator → Atom
+  update_operator : UpdateOperator → Atom

@@ -13,6 +13,7 @@ use Rattle.jsgen_tree.specs.Number as numeric_kinds
 use Rattle.jsgen_syntax.specs.declared.operator.BinaryOperator.TheVariants as binary_operators
 use Rattle.jsgen_syntax.specs.declared.operator.LogicalOperator.TheVariants as logical_operators
 use Rattle.jsgen_syntax.specs.declared.operator.UnaryOperator.TheVariants as unary_operators
+use Rattle.jsgen_syntax.specs.declared.operator.UpdateOperator.TheVariants as update_operators
 
 -- ---- words
 
@@ -33,6 +34,9 @@ logical_operator_words = means (codes "||") (atoms.logical_operator logical_oper
 
 abbrev pub unary_operator_words : List Word
 unary_operator_words = means (codes "+") (atoms.unary_operator unary_operators.UnaryPlus) ∷ means (codes "-") (atoms.unary_operator unary_operators.UnaryNegation) ∷ means (codes "!") (atoms.unary_operator unary_operators.LogicalNot) ∷ means (codes "~") (atoms.unary_operator unary_operators.BitwiseNot) ∷ means (codes "typeof") (atoms.unary_operator unary_operators.Typeof) ∷ means (codes "void") (atoms.unary_operator unary_operators.Void) ∷ means (codes "delete") (atoms.unary_operator unary_operators.Delete) ∷ []
+
+abbrev pub update_operator_words : List Word
+update_operator_words = means (codes "++") (atoms.update_operator update_operators.Increment) ∷ means (codes "--") (atoms.update_operator update_operators.Decrement) ∷ []
 
 -- ---- fields: one list for each type, in the order of their numbers, from 2 on
 
@@ -114,6 +118,9 @@ unary_expression_fields = needs (codes "operator") (sorts.word unary_operator_wo
 abbrev pub new_target_fields : List Field
 new_target_fields = []
 
+abbrev pub update_expression_fields : List Field
+update_expression_fields = needs (codes "operator") (sorts.word update_operator_words) ∷ has_by_default (atoms.flag false) (codes "prefix") sorts.flag ∷ needs (codes "argument") (sorts.child sets.SimpleAssignmentTarget) ∷ []
+
 abbrev pub new_expression_fields : List Field
 new_expression_fields = needs (codes "callee") (sorts.child sets.Expression) ∷ not_yet (codes "type_arguments") sorts.unread_child ∷ may_have (codes "arguments") (sorts.children sets.Argument) ∷ has_by_default (atoms.flag false) (codes "pure") sorts.flag ∷ []
 
@@ -147,5 +154,6 @@ fields types.SpreadElement = spread_element_fields
 fields types.ArrayExpression = array_expression_fields
 fields types.UnaryExpression = unary_expression_fields
 fields types.NewTarget = new_target_fields
+fields types.UpdateExpression = update_expression_fields
 fields types.NewExpression = new_expression_fields
 fields types.Super = super_fields

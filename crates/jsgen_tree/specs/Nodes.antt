@@ -81,6 +81,9 @@ unary a argument = node types.UnaryExpression a (one argument no_slots)
 pattern abbrev pub new_target : Atoms → Tree
 new_target a = node types.NewTarget a no_slots
 
+pattern abbrev pub update : Atoms → Tree → Tree
+update a argument = node types.UpdateExpression a (one argument no_slots)
+
 pattern abbrev pub new_expression : Atoms → Tree → Trees → Tree
 new_expression a callee arguments = node types.NewExpression a (one callee (many arguments no_slots))
 

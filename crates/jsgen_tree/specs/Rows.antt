@@ -4,8 +4,8 @@ use Rattle.std.specs.Prelude.{[], ◌∷◌, map, option_map}
 use Rattle.jsgen_syntax.specs.Units.{js_units}
 use Rattle.jsgen_tree.specs.Characters.{characters, numeric_values}
 use Rattle.jsgen_tree.specs.Tree.{Tree, optional, trees, holed}
-use Rattle.jsgen_tree.specs.Atom.{no_value, text, units, flag, source_kind, declaration_kind, binary_operator, logical_operator, unary_operator}
-use Rattle.jsgen_tree.specs.Nodes.{program, directive, variable_declaration, variable_declarator, binding_identifier, expression_statement, block, if_statement, empty_statement, identifier_reference, this_expression, null_literal, boolean_literal, numeric_literal, string_literal, parenthesized, binary, logical, identifier_name, static_member, computed_member, call, spread, array, unary, new_target, new_expression, super}
+use Rattle.jsgen_tree.specs.Atom.{no_value, text, units, flag, source_kind, declaration_kind, binary_operator, logical_operator, unary_operator, update_operator}
+use Rattle.jsgen_tree.specs.Nodes.{program, directive, variable_declaration, variable_declarator, binding_identifier, expression_statement, block, if_statement, empty_statement, identifier_reference, this_expression, null_literal, boolean_literal, numeric_literal, string_literal, parenthesized, binary, logical, identifier_name, static_member, computed_member, call, spread, array, unary, new_target, update, new_expression, super}
 use Rattle.jsgen_tree.specs.declared.nodes.ExpressionNode.{ExpressionNode}
 use Rattle.jsgen_tree.specs.declared.nodes.DeclarationNode.{DeclarationNode}
 use Rattle.jsgen_tree.specs.declared.nodes.StatementNode.{StatementNode}
@@ -36,17 +36,20 @@ use Rattle.jsgen_tree.specs.declared.collections.SpreadElement.{SpreadElement}
 use Rattle.jsgen_tree.specs.declared.collections.ArrayExpression.{ArrayExpression}
 use Rattle.jsgen_tree.specs.declared.operations.UnaryExpression.{UnaryExpression}
 use Rattle.jsgen_tree.specs.declared.operations.NewTarget.{NewTarget}
+use Rattle.jsgen_tree.specs.declared.operations.UpdateExpression.{UpdateExpression}
 use Rattle.jsgen_tree.specs.declared.operations.NewExpression.{NewExpression}
 use Rattle.jsgen_tree.specs.declared.operations.Super.{Super}
 use Rattle.jsgen_tree.specs.declared.sets.Expression.{Expression}
 use Rattle.jsgen_tree.specs.declared.sets.Argument.{Argument}
 use Rattle.jsgen_tree.specs.declared.sets.ArrayExpressionElement.{ArrayExpressionElement}
+use Rattle.jsgen_tree.specs.declared.sets.SimpleAssignmentTarget.{SimpleAssignmentTarget}
 use Rattle.jsgen_tree.specs.declared.sets.Declaration.{Declaration}
 use Rattle.jsgen_tree.specs.declared.sets.Statement.{Statement}
 use Rattle.jsgen_tree.specs.declared.sets.BindingPattern.{BindingPattern}
 use Rattle.jsgen_tree.specs.declared.sets.Expression.TheVariants as expression
 use Rattle.jsgen_tree.specs.declared.sets.Argument.TheVariants as argument
 use Rattle.jsgen_tree.specs.declared.sets.ArrayExpressionElement.TheVariants as array_expression_element
+use Rattle.jsgen_tree.specs.declared.sets.SimpleAssignmentTarget.TheVariants as simple_assignment_target
 use Rattle.jsgen_tree.specs.declared.sets.Declaration.TheVariants as declaration
 use Rattle.jsgen_tree.specs.declared.sets.Statement.TheVariants as statement
 use Rattle.jsgen_tree.specs.declared.sets.BindingPattern.TheVariants as binding_pattern
@@ -153,6 +156,14 @@ unary_expression_row plain n = unary (record { span = n.span; values = unary_ope
 abbrev pub new_target_row : NewTarget → Tree
 new_target_row n = new_target (record { span = n.span; values = [] })
 
+abbrev pub in_simple_assignment_target : {N : Type 0} → (N → Tree) → SimpleAssignmentTarget N → Tree
+in_simple_assignment_target plain (simple_assignment_target.IdentifierReference b) = identifier_reference_row b.value
+in_simple_assignment_target plain (simple_assignment_target.StaticMemberExpression b) = static_member_expression_row plain b.value
+in_simple_assignment_target plain (simple_assignment_target.ComputedMemberExpression b) = computed_member_expression_row plain b.value
+
+abbrev pub update_expression_row : {N : Type 0} → (N → Tree) → UpdateExpression N → Tree
+update_expression_row plain n = update (record { span = n.span; values = update_operator n.operator ∷ flag n.prefix ∷ [] }) (in_simple_assignment_target plain n.argument)
+
 abbrev pub new_expression_row : {N : Type 0} → (N → Tree) → NewExpression N → Tree
 new_expression_row plain n = new_expression (record { span = n.span; values = flag n.pure ∷ [] }) (in_expression plain n.callee) (trees (map (in_argument plain) n.arguments.items))
 
@@ -176,6 +187,7 @@ expression_plain plain (expression.ComputedMemberExpression b) = computed_member
 expression_plain plain (expression.CallExpression b) = call_expression_row plain b.value
 expression_plain plain (expression.ArrayExpression b) = array_expression_row plain b.value
 expression_plain plain (expression.UnaryExpression b) = unary_expression_row plain b.value
+expression_plain plain (expression.UpdateExpression b) = update_expression_row plain b.value
 expression_plain plain (expression.NewExpression b) = new_expression_row plain b.value
 expression_plain plain (expression.NewTarget b) = new_target_row b.value
 expression_plain plain (expression.Super b) = super_row b.value

@@ -21,6 +21,7 @@ is_expression types.ComputedMemberExpression = true
 is_expression types.CallExpression = true
 is_expression types.ArrayExpression = true
 is_expression types.UnaryExpression = true
+is_expression types.UpdateExpression = true
 is_expression types.NewExpression = true
 is_expression types.NewTarget = true
 is_expression types.Super = true
@@ -42,6 +43,7 @@ is_argument types.ComputedMemberExpression = true
 is_argument types.CallExpression = true
 is_argument types.ArrayExpression = true
 is_argument types.UnaryExpression = true
+is_argument types.UpdateExpression = true
 is_argument types.NewExpression = true
 is_argument types.NewTarget = true
 is_argument types.Super = true
@@ -63,10 +65,17 @@ is_array_expression_element types.ComputedMemberExpression = true
 is_array_expression_element types.CallExpression = true
 is_array_expression_element types.ArrayExpression = true
 is_array_expression_element types.UnaryExpression = true
+is_array_expression_element types.UpdateExpression = true
 is_array_expression_element types.NewExpression = true
 is_array_expression_element types.NewTarget = true
 is_array_expression_element types.Super = true
 is_array_expression_element other = false
+
+abbrev pub is_simple_assignment_target : NodeType → Bool
+is_simple_assignment_target types.IdentifierReference = true
+is_simple_assignment_target types.StaticMemberExpression = true
+is_simple_assignment_target types.ComputedMemberExpression = true
+is_simple_assignment_target other = false
 
 abbrev pub is_declaration : NodeType → Bool
 is_declaration types.VariableDeclaration = true
@@ -105,4 +114,5 @@ in_set sets.Expression t = is_expression t
 in_set sets.IdentifierName t = is_identifier_name t
 in_set sets.Argument t = is_argument t
 in_set sets.ArrayExpressionElement t = is_array_expression_element t
+in_set sets.SimpleAssignmentTarget t = is_simple_assignment_target t
 in_set sets.Link t = is_expression t

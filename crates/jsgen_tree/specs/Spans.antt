@@ -4,12 +4,14 @@ use Rattle.jsgen_syntax.specs.declared.span.Span.{Span}
 use Rattle.jsgen_tree.specs.declared.sets.Expression.{Expression}
 use Rattle.jsgen_tree.specs.declared.sets.Argument.{Argument}
 use Rattle.jsgen_tree.specs.declared.sets.ArrayExpressionElement.{ArrayExpressionElement}
+use Rattle.jsgen_tree.specs.declared.sets.SimpleAssignmentTarget.{SimpleAssignmentTarget}
 use Rattle.jsgen_tree.specs.declared.sets.Declaration.{Declaration}
 use Rattle.jsgen_tree.specs.declared.sets.Statement.{Statement}
 use Rattle.jsgen_tree.specs.declared.sets.BindingPattern.{BindingPattern}
 use Rattle.jsgen_tree.specs.declared.sets.Expression.TheVariants as expression
 use Rattle.jsgen_tree.specs.declared.sets.Argument.TheVariants as argument
 use Rattle.jsgen_tree.specs.declared.sets.ArrayExpressionElement.TheVariants as array_expression_element
+use Rattle.jsgen_tree.specs.declared.sets.SimpleAssignmentTarget.TheVariants as simple_assignment_target
 use Rattle.jsgen_tree.specs.declared.sets.Declaration.TheVariants as declaration
 use Rattle.jsgen_tree.specs.declared.sets.Statement.TheVariants as statement
 use Rattle.jsgen_tree.specs.declared.sets.BindingPattern.TheVariants as binding_pattern
@@ -29,6 +31,7 @@ expression_span (expression.ComputedMemberExpression b) = b.value.span
 expression_span (expression.CallExpression b) = b.value.span
 expression_span (expression.ArrayExpression b) = b.value.span
 expression_span (expression.UnaryExpression b) = b.value.span
+expression_span (expression.UpdateExpression b) = b.value.span
 expression_span (expression.NewExpression b) = b.value.span
 expression_span (expression.NewTarget b) = b.value.span
 expression_span (expression.Super b) = b.value.span
@@ -40,6 +43,11 @@ argument_span own (argument.Expression b) = own b.value.node
 abbrev pub array_expression_element_span : {N : Type 0} → (N → Span) → ArrayExpressionElement N → Span
 array_expression_element_span own (array_expression_element.SpreadElement b) = b.value.span
 array_expression_element_span own (array_expression_element.Expression b) = own b.value.node
+
+abbrev pub simple_assignment_target_span : {N : Type 0} → SimpleAssignmentTarget N → Span
+simple_assignment_target_span (simple_assignment_target.IdentifierReference b) = b.value.span
+simple_assignment_target_span (simple_assignment_target.StaticMemberExpression b) = b.value.span
+simple_assignment_target_span (simple_assignment_target.ComputedMemberExpression b) = b.value.span
 
 abbrev pub declaration_span : {N : Type 0} → Declaration N → Span
 declaration_span (declaration.VariableDeclaration b) = b.value.span

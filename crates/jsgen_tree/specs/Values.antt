@@ -7,7 +7,8 @@ use Rattle.jsgen_tree.specs.Number.{NumericKind}
 use Rattle.jsgen_syntax.specs.declared.operator.BinaryOperator.{BinaryOperator}
 use Rattle.jsgen_syntax.specs.declared.operator.LogicalOperator.{LogicalOperator}
 use Rattle.jsgen_syntax.specs.declared.operator.UnaryOperator.{UnaryOperator}
-use Rattle.jsgen_tree.specs.Atom.{Atom, text, units, digits, flag, source_kind, declaration_kind, numeric_kind, binary_operator, logical_operator, unary_operator}
+use Rattle.jsgen_syntax.specs.declared.operator.UpdateOperator.{UpdateOperator}
+use Rattle.jsgen_tree.specs.Atom.{Atom, text, units, digits, flag, source_kind, declaration_kind, numeric_kind, binary_operator, logical_operator, unary_operator, update_operator}
 use Rattle.jsgen_tree.specs.Tree.{Atoms}
 use Rattle.jsgen_tree.specs.Places.{value_at}
 use Rattle.jsgen_syntax.specs.declared.span.SourceKind.TheVariants as source_kinds
@@ -16,6 +17,7 @@ use Rattle.jsgen_tree.specs.Number as numeric_kinds
 use Rattle.jsgen_syntax.specs.declared.operator.BinaryOperator.TheVariants as binary_operators
 use Rattle.jsgen_syntax.specs.declared.operator.LogicalOperator.TheVariants as logical_operators
 use Rattle.jsgen_syntax.specs.declared.operator.UnaryOperator.TheVariants as unary_operators
+use Rattle.jsgen_syntax.specs.declared.operator.UpdateOperator.TheVariants as update_operators
 
 -- ---- kinds of values; where the value is of another kind, any
 
@@ -58,6 +60,10 @@ as_logical_operator v = logical_operators.Or
 abbrev pub as_unary_operator : Atom → UnaryOperator
 as_unary_operator (unary_operator x) = x
 as_unary_operator v = unary_operators.UnaryPlus
+
+abbrev pub as_update_operator : Atom → UpdateOperator
+as_update_operator (update_operator x) = x
+as_update_operator v = update_operators.Increment
 
 -- ---- fields, by the type of the node and the field's name
 
@@ -148,6 +154,12 @@ call_expression_pure a = as_flag (value_at 1 a.values)
 
 abbrev pub unary_expression_operator : Atoms → UnaryOperator
 unary_expression_operator a = as_unary_operator (value_at 0 a.values)
+
+abbrev pub update_expression_operator : Atoms → UpdateOperator
+update_expression_operator a = as_update_operator (value_at 0 a.values)
+
+abbrev pub update_expression_prefix : Atoms → Bool
+update_expression_prefix a = as_flag (value_at 1 a.values)
 
 abbrev pub new_expression_pure : Atoms → Bool
 new_expression_pure a = as_flag (value_at 0 a.values)

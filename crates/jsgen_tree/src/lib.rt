@@ -29,10 +29,11 @@ pub use expressions::{
 pub use laws::fields_are_named;
 pub use nodes::{BindingPatternNode, DeclarationNode, ExpressionNode, Node, StatementNode};
 pub use numbers::NumericValue;
-pub use operations::{NewExpression, NewTarget, Super, UnaryExpression};
+pub use operations::{NewExpression, NewTarget, Super, UnaryExpression, UpdateExpression};
 pub use options::{CodegenOptions, CommentOptions, LegalComment};
 pub use sets::{
-    Argument, ArrayExpressionElement, BindingPattern, Declaration, Expression, Statement,
+    Argument, ArrayExpressionElement, BindingPattern, Declaration, Expression,
+    SimpleAssignmentTarget, Statement,
 };
 pub use span::GetSpan;
 pub use statements::{

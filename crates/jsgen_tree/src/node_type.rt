@@ -2,12 +2,13 @@
 // The type of a member of each set.
 ghost use Rattle.std.specs.Prelude.{◌≡◌};
 ghost use Rattle.jsgen_tree.specs.Tree.{type_of};
-ghost use Rattle.jsgen_tree.specs.Rows.{expression_plain, declaration_plain, statement_plain, binding_pattern_plain, in_argument, in_array_expression_element};
+ghost use Rattle.jsgen_tree.specs.Rows.{expression_plain, declaration_plain, statement_plain, binding_pattern_plain, in_argument, in_array_expression_element, in_simple_assignment_target};
 ghost use Rattle.jsgen_tree.specs.Plain.{node_plain};
 
 use crate::nodes::Node;
 use crate::sets::{
-    Argument, ArrayExpressionElement, BindingPattern, Declaration, Expression, Statement,
+    Argument, ArrayExpressionElement, BindingPattern, Declaration, Expression,
+    SimpleAssignmentTarget, Statement,
 };
 use crate::types::NodeType;
 
@@ -31,6 +32,7 @@ impl Expression {
             Expression::CallExpression(_) => NodeType::CallExpression,
             Expression::ArrayExpression(_) => NodeType::ArrayExpression,
             Expression::UnaryExpression(_) => NodeType::UnaryExpression,
+            Expression::UpdateExpression(_) => NodeType::UpdateExpression,
             Expression::NewExpression(_) => NodeType::NewExpression,
             Expression::NewTarget(_) => NodeType::NewTarget,
             Expression::Super(_) => NodeType::Super,
@@ -58,6 +60,20 @@ impl ArrayExpressionElement {
         match self {
             ArrayExpressionElement::SpreadElement(_) => NodeType::SpreadElement,
             ArrayExpressionElement::Expression(node) => node.get().node_type(),
+        }
+    }
+}
+
+impl SimpleAssignmentTarget {
+    /// The type of the node.
+    pub fn node_type(&self) -> NodeType
+        ensures { result ≡ type_of (in_simple_assignment_target node_plain self.now) }
+    {
+        match self {
+            SimpleAssignmentTarget::IdentifierReference(_) => NodeType::IdentifierReference,
+            SimpleAssignmentTarget::StaticMemberExpression(_) => NodeType::StaticMemberExpression,
+            SimpleAssignmentTarget::ComputedMemberExpression(_) =>
+                NodeType::ComputedMemberExpression,
         }
     }
 }

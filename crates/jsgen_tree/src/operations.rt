@@ -2,8 +2,8 @@
 // Operations of one operand, and `new` (ECMA-262, clause 13).
 
 use crate::nodes::{ExpressionNode, Node};
-use crate::sets::Argument;
-use jsgen_syntax::{Span, UnaryOperator};
+use crate::sets::{Argument, SimpleAssignmentTarget};
+use jsgen_syntax::{Span, UnaryOperator, UpdateOperator};
 
 /// An operation by a sign or a word before its one operand (ECMA-262, 13.5).
 #[derive(Drop)]
@@ -17,6 +17,15 @@ pub struct UnaryExpression<N = Node> {
 #[derive(Drop)]
 pub struct NewTarget {
     pub span: Span,
+}
+
+/// An operation by `++` or `--`, before its operand or behind it (ECMA-262, 13.4).
+#[derive(Drop)]
+pub struct UpdateExpression<N = Node> {
+    pub span: Span,
+    pub operator: UpdateOperator,
+    pub prefix: bool,
+    pub argument: SimpleAssignmentTarget<N>,
 }
 
 /// What a constructor makes (ECMA-262, 13.3.5).

@@ -8,7 +8,7 @@ use crate::expressions::{
     StaticMemberExpression, StringLiteral, ThisExpression,
 };
 use crate::nodes::{DeclarationNode, ExpressionNode, Node};
-use crate::operations::{NewExpression, NewTarget, Super, UnaryExpression};
+use crate::operations::{NewExpression, NewTarget, Super, UnaryExpression, UpdateExpression};
 use crate::statements::{
     BindingIdentifier, BlockStatement, EmptyStatement, ExpressionStatement, IfStatement,
     VariableDeclaration,
@@ -30,6 +30,7 @@ pub enum Expression<N = Node> {
     CallExpression(Box<CallExpression<N>>),
     ArrayExpression(Box<ArrayExpression<N>>),
     UnaryExpression(Box<UnaryExpression<N>>),
+    UpdateExpression(Box<UpdateExpression<N>>),
     NewExpression(Box<NewExpression<N>>),
     NewTarget(Box<NewTarget>),
     Super(Box<Super>),
@@ -47,6 +48,14 @@ pub enum Argument<N = Node> {
 pub enum ArrayExpressionElement<N = Node> {
     SpreadElement(Box<SpreadElement<N>>),
     Expression(Box<ExpressionNode<N>>),
+}
+
+/// What may be changed as it stands.
+#[derive(Drop)]
+pub enum SimpleAssignmentTarget<N = Node> {
+    IdentifierReference(Box<IdentifierReference>),
+    StaticMemberExpression(Box<StaticMemberExpression<N>>),
+    ComputedMemberExpression(Box<ComputedMemberExpression<N>>),
 }
 
 #[derive(Drop)]

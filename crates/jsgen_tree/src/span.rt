@@ -3,7 +3,7 @@
 ghost use Rattle.std.specs.Prelude.{◌≡◌};
 ghost use Rattle.jsgen_tree.specs.Tree.{span_of};
 ghost use Rattle.jsgen_tree.specs.Plain.{node_plain};
-ghost use Rattle.jsgen_tree.specs.Spans.{expression_span, argument_span, array_expression_element_span, declaration_span, statement_span, binding_pattern_span};
+ghost use Rattle.jsgen_tree.specs.Spans.{expression_span, argument_span, array_expression_element_span, simple_assignment_target_span, declaration_span, statement_span, binding_pattern_span};
 
 use crate::collections::{ArrayExpression, SpreadElement};
 use crate::expressions::{
@@ -12,9 +12,10 @@ use crate::expressions::{
     StaticMemberExpression, StringLiteral, ThisExpression,
 };
 use crate::nodes::Node;
-use crate::operations::{NewExpression, NewTarget, Super, UnaryExpression};
+use crate::operations::{NewExpression, NewTarget, Super, UnaryExpression, UpdateExpression};
 use crate::sets::{
-    Argument, ArrayExpressionElement, BindingPattern, Declaration, Expression, Statement,
+    Argument, ArrayExpressionElement, BindingPattern, Declaration, Expression,
+    SimpleAssignmentTarget, Statement,
 };
 use crate::statements::{
     BindingIdentifier, BlockStatement, Directive, EmptyStatement, ExpressionStatement, IfStatement,
@@ -240,6 +241,14 @@ impl GetSpan for NewTarget {
     }
 }
 
+impl<N> GetSpan for UpdateExpression<N> {
+    ghost own_span = { λ n. n.span };
+
+    fn span(&self) -> Span {
+        self.span
+    }
+}
+
 impl<N> GetSpan for NewExpression<N> {
     ghost own_span = { λ n. n.span };
 
@@ -275,6 +284,7 @@ impl<N> GetSpan for Expression<N> {
             Expression::CallExpression(node) => node.span,
             Expression::ArrayExpression(node) => node.span,
             Expression::UnaryExpression(node) => node.span,
+            Expression::UpdateExpression(node) => node.span,
             Expression::NewExpression(node) => node.span,
             Expression::NewTarget(node) => node.span,
             Expression::Super(node) => node.span,
@@ -300,6 +310,18 @@ impl<N: GetSpan> GetSpan for ArrayExpressionElement<N> {
         match self {
             ArrayExpressionElement::SpreadElement(node) => node.span,
             ArrayExpressionElement::Expression(node) => node.get().span(),
+        }
+    }
+}
+
+impl<N> GetSpan for SimpleAssignmentTarget<N> {
+    ghost own_span = { λ n. simple_assignment_target_span n };
+
+    fn span(&self) -> Span {
+        match self {
+            SimpleAssignmentTarget::IdentifierReference(node) => node.span,
+            SimpleAssignmentTarget::StaticMemberExpression(node) => node.span,
+            SimpleAssignmentTarget::ComputedMemberExpression(node) => node.span,
         }
     }
 }

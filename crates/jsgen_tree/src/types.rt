@@ -1,7 +1,7 @@
 // Generated from tools/nodes/table.txt; edit that and run tools/nodes/generate.
 // The types of nodes, and the sets that a field's child may be of.
 ghost use Rattle.std.specs.Prelude.{◌≡◌};
-ghost use Rattle.jsgen_tree.specs.Sets.{in_set, is_expression, is_argument, is_array_expression_element, is_statement};
+ghost use Rattle.jsgen_tree.specs.Sets.{in_set, is_expression, is_argument, is_array_expression_element, is_simple_assignment_target, is_statement};
 
 /// The type of a node.
 #[derive(Clone, Copy, Debug, PartialEq, Eq)]
@@ -32,6 +32,7 @@ pub enum NodeType {
     ArrayExpression,
     UnaryExpression,
     NewTarget,
+    UpdateExpression,
     NewExpression,
     Super,
 }
@@ -47,6 +48,7 @@ pub enum NodeSet {
     IdentifierName,
     Argument,
     ArrayExpressionElement,
+    SimpleAssignmentTarget,
     Link,
 }
 
@@ -64,6 +66,7 @@ impl NodeType {
             NodeSet::IdentifierName => matches!(&self, NodeType::IdentifierName),
             NodeSet::Argument => self.is_argument(),
             NodeSet::ArrayExpressionElement => self.is_array_expression_element(),
+            NodeSet::SimpleAssignmentTarget => self.is_simple_assignment_target(),
             NodeSet::Link => self.is_expression(),
         }
     }
@@ -88,6 +91,7 @@ impl NodeType {
                 | NodeType::CallExpression
                 | NodeType::ArrayExpression
                 | NodeType::UnaryExpression
+                | NodeType::UpdateExpression
                 | NodeType::NewExpression
                 | NodeType::NewTarget
                 | NodeType::Super
@@ -115,6 +119,7 @@ impl NodeType {
                 | NodeType::CallExpression
                 | NodeType::ArrayExpression
                 | NodeType::UnaryExpression
+                | NodeType::UpdateExpression
                 | NodeType::NewExpression
                 | NodeType::NewTarget
                 | NodeType::Super
@@ -142,9 +147,22 @@ impl NodeType {
                 | NodeType::CallExpression
                 | NodeType::ArrayExpression
                 | NodeType::UnaryExpression
+                | NodeType::UpdateExpression
                 | NodeType::NewExpression
                 | NodeType::NewTarget
                 | NodeType::Super
+        )
+    }
+
+    /// Whether nodes of this type are in `SimpleAssignmentTarget`.
+    pub fn is_simple_assignment_target(self) -> bool
+        ensures { result ≡ is_simple_assignment_target self }
+    {
+        matches!(
+            &self,
+            NodeType::IdentifierReference
+                | NodeType::StaticMemberExpression
+                | NodeType::ComputedMemberExpression
         )
     }
 

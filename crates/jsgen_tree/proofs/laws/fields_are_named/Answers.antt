@@ -21,5 +21,6 @@ returns c = record {
   computed_member_expression = λ a. refl;
   call_expression = λ a. (refl, refl);
   unary_expression = λ a. refl;
+  update_expression = λ a. (refl, refl);
   new_expression = λ a. refl;
 }
