@@ -1,6 +1,6 @@
 -- The trees over which the induction goes. They follow from the rules, one lemma a row.
 use Rattle.std.proofs.Common.{◌≡◌, ℕ, Bool, true, false, not, ◌&&◌, ◌||◌, ◌++◌, List, [], ◌∷◌, Option, Some, None, is_some, refl, ap}
-use Rattle.std.proofs.lemmas.Bool.{both_ways, and_parts}
+use Rattle.std.proofs.lemmas.Bool.{both_ways, and_parts, and_from}
 use Rattle.jsgen_tree.specs.Atom.{Atom, text}
 use Rattle.jsgen_tree.specs.Atom as atoms
 use Rattle.jsgen_tree.specs.Tree.{Tree, node, Maybe, absent, given, Trees, no_trees, more, hole, Atoms, type_of, span_of}
@@ -168,7 +168,7 @@ expression_type t p s n = by (is_expression (type_of t)) refl
 
 -- and so it is no `super`, which no argument is
 argument_stands : (t : Tree) → is_plain_row t ≡ true → may_stand sets.Argument (type_of t) ≡ true → is_spread t ≡ false → may_stand sets.Expression (type_of t) ≡ true
-argument_stands t p s n = let h = and_parts (is_argument (type_of t)) (false || not (is_super (type_of t))) s in both_ways (expression_type t p h.0 n) h.1
+argument_stands t p s n = let h = and_parts (is_argument (type_of t)) (false || not (is_super (type_of t))) s in and_from (is_expression (type_of t)) (false || not (is_super (type_of t))) (expression_type t p h.0 n) h.1
 
 -- what may be changed is an expression, and isn't `super`
 target_stands : (type : NodeType) → is_simple_assignment_target type ≡ true → may_stand sets.Expression type ≡ true
