@@ -20,7 +20,7 @@ from pathlib import Path
 
 from gate import TICK, TOP, measured
 
-WATCHED = ("jsgen_printer", "jsgen_nodes", "jsgen_fields", "jsgen_expression_rows", "jsgen_statement_rows", "jsgen_rows")
+WATCHED = ("jsgen_printer", "jsgen_nodes", "jsgen_fields", "jsgen_expression_rows", "jsgen_collection_rows", "jsgen_operation_rows", "jsgen_statement_rows", "jsgen_rows")
 FAMILIES = {"Expression": "synthetic_expressions", "Statement": "synthetic_statements"}
 PARTS = (".ci", "HANDLES", "crates", "crates.txt", "docs", "tools", "tests")
 
@@ -134,7 +134,8 @@ good_{new} c a {children} f place p l z y k = let g = f place p l z y k in recor
 
 def pair(copy, k):
     new, row, name = f"pair_{k}", f"pair_{k}_expression", f"Pair{k.title()}Expression"
-    into_table(copy, "Expression", f"{name} 13.3.2 {new}", ("object Expression", "optional unread flag", "expression Expression"))
+    into_table(copy, "Expression", f"{name} 13.3.2 {new}", ("object Expression at Link", "optional unread flag", "expression Expression"))
+    copy.copy_clause(MODEL + "Valid.antt", "asked_sets types.ComputedMemberExpression", *[("ComputedMemberExpression", name)] * 2)
     into_definitions(copy, "computed_member a object expression", f"{new} a object expression")
     into_expressions(copy, "computed_member", new, "o x", "(o x : Tree)")
     copy.copy_function(NODES + "links.rt", "print_computed_member_expression", ("print_computed_member_expression", f"print_{row}"),
@@ -145,7 +146,8 @@ def pair(copy, k):
 
 def call(copy, k):
     new, row, name = f"call_{k}", f"call_{k}_expression", f"Call{k.title()}Expression"
-    into_table(copy, "Expression", f"{name} 13.3.6 {new}", ("callee Expression", "arguments Argument*", "optional unread flag", "pure flag"))
+    into_table(copy, "Expression", f"{name} 13.3.6 {new}", ("callee Expression at Link", "arguments Argument*", "optional unread flag", "pure flag"))
+    copy.copy_clause(MODEL + "Valid.antt", "asked_sets types.CallExpression", *[("CallExpression", name)] * 2)
     into_definitions(copy, "call a callee arguments", f"{new} a callee arguments")
     into_expressions(copy, "call", new, "t es", "(t : Tree) (es : Trees)")
     types = ("call_expression_row", f"{row}_row"), ("CallExpression", name)
@@ -190,6 +192,9 @@ def grown(folder, number):
         (pair, call, group)[at % 3](copy, code(at // 3))
     subprocess.run([folder / "tools/nodes/generate"], check=True, stdout=subprocess.DEVNULL)
     further_crates(copy)
+    for file in FAMILIES.values():
+        if (folder / f"crates/jsgen_check/src/{file}.rt").exists():
+            copy.change("crates/jsgen_check/src/lib.rt", lambda text: text.replace("mod statements;\n", f"mod statements;\nmod {file};\n", 1))
     for crate in sorted(p.parent for p in (folder / "crates").glob("*/src")):
         subprocess.run(["rt", "fmt"], cwd=crate, check=True, stdout=subprocess.DEVNULL)
 
