@@ -16,7 +16,7 @@ def nests(table, kind):
 
 def plural(name):
     name = snake(name)
-    return f"{name[:-1] + 'ie' if name.endswith('y') else name + 'e' if name.endswith('s') else name}s"
+    return f"{name[:-1] + 'ie' if name.endswith('y') and name[-2] not in 'aeiou' else name + 'e' if name.endswith('s') else name}s"
 
 
 def typed(table, name):

@@ -2,21 +2,22 @@
 // Lists, children that may be absent, and sets that don't nest.
 ghost use Rattle.std.specs.Prelude.{◌≡◌, map, option_map};
 ghost use Rattle.jsgen_tree.specs.Tree.{optional, trees, holed};
-ghost use Rattle.jsgen_tree.specs.Rows.{in_expression, in_argument, in_array_expression_element, in_simple_assignment_target, in_statement, directive_row, variable_declarator_row};
+ghost use Rattle.jsgen_tree.specs.Rows.{in_expression, in_argument, in_array_expression_element, in_simple_assignment_target, in_object_property_kind, in_property_key, in_statement, directive_row, variable_declarator_row};
 ghost use Rattle.jsgen_check.specs.Verdict.{child_verdict, maybe_verdict, children_verdict};
 ghost use Rattle.jsgen_tree.specs.declared.types.NodeSet.TheVariants as sets;
 
-use crate::collections::check_spread_element;
+use crate::collections::{check_object_property, check_spread_element};
 use crate::expressions::{
-    check_computed_member_expression, check_identifier_reference, check_static_member_expression,
+    check_computed_member_expression, check_identifier_name, check_identifier_reference,
+    check_static_member_expression,
 };
 use crate::heights::higher;
 use crate::statements::{check_directive, check_variable_declarator};
 use crate::{CheckNode, Surroundings, check_child};
 use jsgen_model::TreeFault;
 use jsgen_tree::{
-    Argument, ArrayExpressionElement, Directive, ExpressionNode, NodeSet, SimpleAssignmentTarget,
-    StatementNode, VariableDeclarator,
+    Argument, ArrayExpressionElement, Directive, ExpressionNode, NodeSet, ObjectPropertyKind,
+    PropertyKey, SimpleAssignmentTarget, StatementNode, VariableDeclarator,
 };
 
 pub fn check_directives(nodes: &[Directive], around: Surroundings<'_>) -> Result<u32, TreeFault>
@@ -67,6 +68,20 @@ pub fn check_arguments<N: CheckNode>(
     let mut below = Ok(0);
     for node in nodes {
         let found = check_argument(node, around);
+        below = higher(below, found);
+    }
+    below
+}
+
+pub fn check_object_property_kinds<N: CheckNode>(
+    nodes: &[ObjectPropertyKind<N>],
+    around: Surroundings<'_>,
+) -> Result<u32, TreeFault>
+    ensures { result ≡ children_verdict around.entry sets.ObjectPropertyKind (trees (map (in_object_property_kind N.plain) nodes.now)) }
+{
+    let mut below = Ok(0);
+    for node in nodes {
+        let found = check_object_property_kind(node, around);
         below = higher(below, found);
     }
     below
@@ -166,5 +181,29 @@ pub fn check_simple_assignment_target<N: CheckNode>(
         SimpleAssignmentTarget::ComputedMemberExpression(node) => check_computed_member_expression(
             node, around,
         ),
+    }
+}
+
+pub fn check_object_property_kind<N: CheckNode>(
+    node: &ObjectPropertyKind<N>,
+    around: Surroundings<'_>,
+) -> Result<u32, TreeFault>
+    ensures { result ≡ child_verdict around.entry sets.ObjectPropertyKind (in_object_property_kind N.plain node.now) }
+{
+    match node {
+        ObjectPropertyKind::ObjectProperty(node) => check_object_property(node, around),
+        ObjectPropertyKind::SpreadElement(node) => check_spread_element(node, around),
+    }
+}
+
+pub fn check_property_key<N: CheckNode>(
+    node: &PropertyKey<N>,
+    around: Surroundings<'_>,
+) -> Result<u32, TreeFault>
+    ensures { result ≡ child_verdict around.entry sets.PropertyKey (in_property_key N.plain node.now) }
+{
+    match node {
+        PropertyKey::IdentifierName(node) => check_identifier_name(node, around),
+        PropertyKey::Expression(node) => check_child(node.get(), NodeSet::PropertyKey, around),
     }
 }

@@ -32,7 +32,10 @@ use jsgen_tree::{CodegenOptions, GetSpan, Node, NodeSet, NodeType, Program};
 
 /// What the checks ask of a child. Only `Node` implements it.
 pub trait CheckNode {
+    ghost use Rattle.std.specs.Prelude.{option_map};
+    ghost use Rattle.std.specs.Str.{chars};
     ghost use Rattle.jsgen_tree.specs.Tree.{Tree};
+    ghost use Rattle.jsgen_tree.specs.Inside.{without_parentheses, reference_in, written_name_in};
 
     ghost plain: { Self → Tree };
 
@@ -41,6 +44,14 @@ pub trait CheckNode {
 
     fn start(&self) -> u32
         ensures { result ≡ (span_of (plain self.now)).start };
+
+    /// The name that it looks up, without the parentheses that it may have round it.
+    fn reference(&self) -> Option<&str>
+        ensures { option_map (λ s. chars s.now) result ≡ reference_in (without_parentheses (plain self.now)) };
+
+    /// The name that stands there as it is written.
+    fn written_name(&self) -> Option<&str>
+        ensures { option_map (λ s. chars s.now) result ≡ written_name_in (plain self.now) };
 
     /// Where no rule is broken, how many nodes stand on the longest way down, counted up to what 32 bits hold.
     fn check(&self, around: Surroundings<'_>) -> Result<u32, TreeFault>
@@ -76,6 +87,14 @@ impl CheckNode for Node {
 
     fn start(&self) -> u32 {
         self.span().start
+    }
+
+    fn reference(&self) -> Option<&str> {
+        self.reference()
+    }
+
+    fn written_name(&self) -> Option<&str> {
+        self.written_name()
     }
 
     #[cycle(node)]

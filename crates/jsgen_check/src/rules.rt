@@ -1,10 +1,15 @@
 // The rules that the rows of some types have of their own, beside their spans and their children's sets.
 #![tactic(auto, unfolding(jsgen_rules::specs::Verdict::verdict))]
 
-ghost use Rattle.std.specs.Prelude.{◌≡◌, map, option_map};
-ghost use Rattle.jsgen_tree.specs.Tree.{optional, trees};
-ghost use Rattle.jsgen_tree.specs.Rows.{directive_row, variable_declaration_row, variable_declarator_row, binding_identifier_row, if_statement_row, identifier_reference_row, identifier_name_row, in_statement};
-ghost use Rattle.jsgen_model.specs.Valid.{own_faults, body_faults, alternate_faults, declaration_faults, is_lexical_type};
+ghost use Rattle.std.specs.Prelude.{◌≡◌, map, not, false, option_map, if◌then◌else◌};
+ghost use Rattle.std.specs.Option.{option_map_or};
+ghost use Rattle.std.specs.Str.{chars};
+ghost use Rattle.jsgen_tree.specs.Tree.{optional, trees, type_of, span_of};
+ghost use Rattle.jsgen_tree.specs.Sets.{is_expression};
+ghost use Rattle.jsgen_tree.specs.Inside.{without_parentheses, reference_in, written_name_in, is_proto};
+ghost use Rattle.jsgen_tree.specs.Rows.{directive_row, variable_declaration_row, variable_declarator_row, binding_identifier_row, if_statement_row, identifier_reference_row, identifier_name_row, object_property_row, in_statement, in_property_key, in_expression};
+ghost use Rattle.jsgen_model.specs.Valid.{own_faults, fault_if, body_faults, alternate_faults, declaration_faults, key_faults, named_faults, shorthand_faults, is_literal_key, is_lexical_type};
+ghost use Rattle.jsgen_model.specs.declared.fault.TreeFault.TheVariants.{Name};
 ghost use Rattle.jsgen_rules.specs.Verdict.{verdict};
 ghost use Rattle.jsgen_check.specs.Verdict.{surroundings_plain};
 
@@ -13,8 +18,9 @@ use jsgen_model::TreeFault;
 use jsgen_rules::{check_name, check_raw, check_written_name};
 use jsgen_syntax::Span;
 use jsgen_tree::{
-    BindingIdentifier, Directive, IdentifierName, IdentifierReference, IfStatement, NodeType,
-    StatementNode, VariableDeclaration, VariableDeclarator,
+    BindingIdentifier, Directive, ExpressionNode, IdentifierName, IdentifierReference, IfStatement,
+    NodeType, ObjectProperty, PropertyKey, StatementNode, VariableDeclaration, VariableDeclarator,
+    is_proto,
 };
 
 #[tactic(auto)]
@@ -120,4 +126,119 @@ pub fn check_if_statement_rules<N: CheckNode>(
     let _ = around;
     check_body(node.consequent.get())?;
     check_alternate(&node.alternate)
+}
+
+fn key_type<N: CheckNode>(key: &PropertyKey<N>) -> NodeType
+    ensures { result ≡ type_of (in_property_key N.plain key.now) }
+{
+    match key {
+        PropertyKey::IdentifierName(_) => NodeType::IdentifierName,
+        PropertyKey::Expression(node) => node.get().node_type(),
+    }
+}
+
+fn key_start<N: CheckNode>(key: &PropertyKey<N>) -> u32
+    ensures { result ≡ (span_of (in_property_key N.plain key.now)).start }
+{
+    match key {
+        PropertyKey::IdentifierName(node) => node.span.start,
+        PropertyKey::Expression(node) => node.get().start(),
+    }
+}
+
+fn key_name<N: CheckNode>(key: &PropertyKey<N>) -> Option<&str>
+    ensures { option_map (λ s. chars s.now) result ≡ written_name_in (in_property_key N.plain key.now) }
+{
+    match key {
+        PropertyKey::IdentifierName(node) => Some(node.name.as_str()),
+        PropertyKey::Expression(node) => node.get().written_name(),
+    }
+}
+
+/// Whether a node of this type is a key where it isn't computed.
+fn is_literal_key(node_type: NodeType) -> bool
+    ensures { result ≡ is_literal_key node_type }
+{
+    matches!(
+        node_type,
+        NodeType::IdentifierName | NodeType::StringLiteral | NodeType::NumericLiteral
+    )
+}
+
+fn may_be_key(computed: bool, node_type: NodeType) -> bool
+    ensures { result ≡ if computed then is_expression node_type else is_literal_key node_type }
+{
+    if computed {
+        node_type.is_expression()
+    } else {
+        is_literal_key(node_type)
+    }
+}
+
+fn check_key<N: CheckNode>(computed: bool, key: &PropertyKey<N>) -> Result<(), TreeFault>
+    ensures { result ≡ verdict (key_faults computed (in_property_key N.plain key.now)) }
+{
+    if may_be_key(computed, key_type(key)) {
+        Ok(())
+    } else {
+        Err(TreeFault::Place {
+            start: key_start(key),
+        })
+    }
+}
+
+fn is_proto_key<N: CheckNode>(key: &PropertyKey<N>) -> bool
+    ensures { result ≡ option_map_or is_proto (written_name_in (in_property_key N.plain key.now)) false }
+{
+    match key_name(key) {
+        Some(name) => is_proto(name),
+        None => false,
+    }
+}
+
+/// That a reference is of `__proto__`.
+fn check_named<N: CheckNode>(value: &ExpressionNode<N>) -> Result<(), TreeFault>
+    ensures { result ≡ verdict (named_faults (span_of (in_expression N.plain value.now)) (reference_in (without_parentheses (in_expression N.plain value.now)))) }
+{
+    let start = value.get().start();
+    match value.get().reference() {
+        Some(name) => check_proto(name, start),
+        None => Err(TreeFault::Place { start }),
+    }
+}
+
+fn check_proto(name: &str, start: u32) -> Result<(), TreeFault>
+    ensures { result ≡ verdict (fault_if (not (is_proto (chars name.now))) (Name start)) }
+{
+    if is_proto(name) {
+        Ok(())
+    } else {
+        Err(TreeFault::Name { start })
+    }
+}
+
+fn check_shorthand<N: CheckNode>(
+    shorthand: bool,
+    key: &PropertyKey<N>,
+    value: &ExpressionNode<N>,
+) -> Result<(), TreeFault>
+    ensures { result ≡ verdict (shorthand_faults shorthand (in_property_key N.plain key.now) (in_expression N.plain value.now)) }
+{
+    if shorthand && is_proto_key(key) {
+        check_named(value)
+    } else {
+        Ok(())
+    }
+}
+
+#[tactic(auto)]
+pub fn check_object_property_rules<N: CheckNode>(
+    node: &ObjectProperty<N>,
+    around: Surroundings<'_>,
+) -> Result<(), TreeFault>
+    ensures { result ≡ verdict (own_faults (surroundings_plain around.entry) (object_property_row N.plain node.now)) }
+{
+    let _ = around;
+    check_key(node.computed, &node.key)?;
+    check_shorthand(node.shorthand, &node.key, &node.value)
 }

@@ -4,7 +4,7 @@ ghost use Rattle.std.specs.Prelude.{◌≡◌};
 ghost use Rattle.jsgen_tree.specs.Rows.{expression_plain, declaration_plain, statement_plain, binding_pattern_plain};
 ghost use Rattle.jsgen_check.specs.Verdict.{tree_verdict};
 
-use crate::collections::check_array_expression;
+use crate::collections::{check_array_expression, check_object_expression};
 use crate::expressions::{
     check_binary_expression, check_boolean_literal, check_call_expression,
     check_computed_member_expression, check_identifier_reference, check_logical_expression,
@@ -45,6 +45,7 @@ pub fn check_expression_set<N: CheckNode>(
         ),
         Expression::CallExpression(node) => check_call_expression(node, around),
         Expression::ArrayExpression(node) => check_array_expression(node, around),
+        Expression::ObjectExpression(node) => check_object_expression(node, around),
         Expression::UnaryExpression(node) => check_unary_expression(node, around),
         Expression::UpdateExpression(node) => check_update_expression(node, around),
         Expression::NewExpression(node) => check_new_expression(node, around),

@@ -2,7 +2,7 @@
 // Rows of a job: arrays and objects (ECMA-262, 13.2.4 and 13.2.5), and what is spread in them and in arguments.
 ghost use Rattle.std.specs.Prelude.{◌≡◌, true};
 ghost use Rattle.serde_json.specs.View.{view};
-ghost use Rattle.jsgen_tree.specs.Fields.{spread_element_fields, array_expression_fields};
+ghost use Rattle.jsgen_tree.specs.Fields.{spread_element_fields, array_expression_fields, object_property_fields, object_expression_fields};
 ghost use Rattle.jsgen_fields.specs.Reads.{Gives, read_node, read_typed};
 ghost use Rattle.jsgen_fields.specs.Kept.{entries, row_plain};
 ghost use Rattle.jsgen_fields.specs.Parts.{is_in_collections};
@@ -11,10 +11,17 @@ ghost use Rattle.jsgen_tree.specs.declared.types.NodeType.TheVariants as types;
 use jsgen_fields::InputFault;
 use jsgen_fields::fields::boxed;
 use jsgen_fields::kept::{ReadNode, Row, expression_row};
-use jsgen_fields::set_fields::{array_expression_element_or_hole_list, needed_expression};
+use jsgen_fields::set_fields::{
+    array_expression_element_or_hole_list, needed_expression, needed_property_key,
+    object_property_kind_list,
+};
+use jsgen_fields::values::{field_not_given, optional_flag};
+use jsgen_fields::words::needed_property_kind;
 use jsgen_pool::Kept;
 use jsgen_syntax::Span;
-use jsgen_tree::{ArrayExpression, Expression, NodeType, SpreadElement};
+use jsgen_tree::{
+    ArrayExpression, Expression, NodeType, ObjectExpression, ObjectProperty, SpreadElement,
+};
 use serde_json::Value;
 use std::alloc::Global;
 
@@ -64,6 +71,77 @@ fn read_array_expression<N: ReadNode + Drop>(
     }
 }
 
+#[tactic(auto, unfolding(jsgen_fields::specs::Reads::read_node))]
+fn read_object_property<N: ReadNode + Drop>(
+    alloc: Global,
+    kept: &mut Vec<Kept<Row<N>>>,
+    number: usize,
+    span: Span,
+    row: &Value,
+) -> Result<Row<N>, InputFault>
+    ensures { Gives (row_plain N.plain) result (entries N.plain kept.new.items)
+        (read_node number types.ObjectProperty object_property_fields span (view row.now) (entries N.plain kept.old.items)) }
+{
+    let kind = match needed_property_kind(number, 2, row, "kind") {
+        Ok(kind) => kind,
+        Err(fault) => return Err(fault),
+    };
+    let key = match needed_property_key(alloc, kept, number, 3, row, "key") {
+        Ok(key) => key,
+        Err(fault) => return Err(fault),
+    };
+    let value = match needed_expression(alloc, kept, number, 4, row, "value") {
+        Ok(value) => value,
+        Err(fault) => return Err(fault),
+    };
+    match field_not_given(number, 5, row, "method") {
+        Ok(()) => {}
+        Err(fault) => return Err(fault),
+    }
+    let shorthand = match optional_flag(number, 6, row, "shorthand") {
+        Ok(shorthand) => shorthand,
+        Err(fault) => return Err(fault),
+    };
+    let computed = match optional_flag(number, 7, row, "computed") {
+        Ok(computed) => computed,
+        Err(fault) => return Err(fault),
+    };
+    let node = ObjectProperty {
+        span,
+        kind,
+        key,
+        value,
+        shorthand,
+        computed,
+    };
+    match boxed(alloc, node) {
+        Ok(node) => Ok(Row::ObjectProperty(node)),
+        Err(fault) => Err(fault),
+    }
+}
+
+#[tactic(auto, unfolding(jsgen_fields::specs::Reads::read_node))]
+fn read_object_expression<N: ReadNode + Drop>(
+    alloc: Global,
+    kept: &mut Vec<Kept<Row<N>>>,
+    number: usize,
+    span: Span,
+    row: &Value,
+) -> Result<Row<N>, InputFault>
+    ensures { Gives (row_plain N.plain) result (entries N.plain kept.new.items)
+        (read_node number types.ObjectExpression object_expression_fields span (view row.now) (entries N.plain kept.old.items)) }
+{
+    let properties = match object_property_kind_list(alloc, kept, number, 2, row, "properties") {
+        Ok(properties) => properties,
+        Err(fault) => return Err(fault),
+    };
+    let node = ObjectExpression { span, properties };
+    match boxed(alloc, node) {
+        Ok(node) => expression_row(alloc, Expression::ObjectExpression(node)),
+        Err(fault) => Err(fault),
+    }
+}
+
 /// The row of a type of this part.
 pub fn read_in_collections<N: ReadNode + Drop>(
     alloc: Global,
@@ -80,6 +158,8 @@ pub fn read_in_collections<N: ReadNode + Drop>(
     match node_type {
         NodeType::SpreadElement => read_spread_element(alloc, kept, number, span, row),
         NodeType::ArrayExpression => read_array_expression(alloc, kept, number, span, row),
+        NodeType::ObjectProperty => read_object_property(alloc, kept, number, span, row),
+        NodeType::ObjectExpression => read_object_expression(alloc, kept, number, span, row),
         _ => unreachable!(),
     }
 }

@@ -35,4 +35,6 @@ is_in_expressions other = false
 abbrev pub is_in_collections : NodeType → Bool
 is_in_collections types.SpreadElement = true
 is_in_collections types.ArrayExpression = true
+is_in_collections types.ObjectProperty = true
+is_in_collections types.ObjectExpression = true
 is_in_collections other = false

@@ -3,7 +3,7 @@
 ghost use Rattle.std.specs.Prelude.{◌≡◌, IfOk, Some, None, option_map, if◌then◌else◌};
 ghost use Rattle.jsgen_tree.specs.Tree.{type_of};
 ghost use Rattle.jsgen_tree.specs.Sets.{in_set};
-ghost use Rattle.jsgen_tree.specs.Rows.{in_expression, in_argument, in_array_expression_element, in_simple_assignment_target, in_declaration, in_statement, in_binding_pattern, directive_row, variable_declarator_row, identifier_name_row, expression_plain};
+ghost use Rattle.jsgen_tree.specs.Rows.{in_expression, in_argument, in_array_expression_element, in_simple_assignment_target, in_object_property_kind, in_property_key, in_declaration, in_statement, in_binding_pattern, directive_row, variable_declarator_row, identifier_name_row, expression_plain};
 ghost use Rattle.jsgen_fields.specs.Kept.{row_plain};
 ghost use Rattle.jsgen_tree.specs.declared.types.NodeSet.TheVariants as sets;
 
@@ -11,8 +11,8 @@ use crate::children::Child;
 use crate::kept::{ReadNode, Row};
 use jsgen_tree::{
     Argument, ArrayExpressionElement, BindingPatternNode, DeclarationNode, Directive, Expression,
-    ExpressionNode, IdentifierName, NodeSet, SimpleAssignmentTarget, Statement, StatementNode,
-    VariableDeclarator,
+    ExpressionNode, IdentifierName, NodeSet, ObjectPropertyKind, PropertyKey,
+    SimpleAssignmentTarget, Statement, StatementNode, VariableDeclarator,
 };
 use std::alloc::{AllocError, Global};
 
@@ -201,6 +201,54 @@ impl<N: ReadNode + Drop> Child<N> for ArrayExpressionElement<N> {
     }
 }
 
+impl<N: ReadNode + Drop> Child<N> for PropertyKey<N> {
+    ghost plain = { λ n. in_property_key N.plain n };
+
+    ghost of_set = { sets.PropertyKey };
+
+    fn set() -> NodeSet {
+        NodeSet::PropertyKey
+    }
+
+    #[tactic(auto, using(crate::proofs::Sets::takes_property_keys))]
+    fn from_row(alloc: Global, row: Row<N>) -> Result<Option<PropertyKey<N>>, AllocError>
+        ensures { IfOk result (λ child. option_map (in_property_key N.plain) child
+            ≡ (if in_set sets.PropertyKey (type_of (row_plain N.plain row)) then Some (row_plain N.plain row) else None)) }
+    {
+        match row {
+            Row::Expression(row) => property_key_of_expression(
+                alloc,
+                N::expression_node(Box::into_inner(row)),
+            ),
+            Row::IdentifierName(row) => Ok(Some(PropertyKey::IdentifierName(row))),
+            _ => Ok(None),
+        }
+    }
+}
+
+impl<N: ReadNode + Drop> Child<N> for ObjectPropertyKind<N> {
+    ghost plain = { λ n. in_object_property_kind N.plain n };
+
+    ghost of_set = { sets.ObjectPropertyKind };
+
+    fn set() -> NodeSet {
+        NodeSet::ObjectPropertyKind
+    }
+
+    #[tactic(auto, using(crate::proofs::Sets::takes_object_property_kinds))]
+    fn from_row(alloc: Global, row: Row<N>) -> Result<Option<ObjectPropertyKind<N>>, AllocError>
+        ensures { IfOk result (λ child. option_map (in_object_property_kind N.plain) child
+            ≡ (if in_set sets.ObjectPropertyKind (type_of (row_plain N.plain row)) then Some (row_plain N.plain row) else None)) }
+    {
+        let _ = alloc;
+        match row {
+            Row::SpreadElement(row) => Ok(Some(ObjectPropertyKind::SpreadElement(row))),
+            Row::ObjectProperty(row) => Ok(Some(ObjectPropertyKind::ObjectProperty(row))),
+            _ => Ok(None),
+        }
+    }
+}
+
 impl<N: ReadNode + Drop> Child<N> for SimpleAssignmentTarget<N> {
     ghost plain = { λ n. in_simple_assignment_target N.plain n };
 
@@ -255,6 +303,16 @@ fn array_expression_element_of_expression<N: ReadNode + Drop>(
 {
     let expression = Box::new(alloc, expression)?;
     Ok(Some(ArrayExpressionElement::Expression(expression)))
+}
+
+fn property_key_of_expression<N: ReadNode + Drop>(
+    alloc: Global,
+    expression: ExpressionNode<N>,
+) -> Result<Option<PropertyKey<N>>, AllocError>
+    ensures { IfOk result (λ child. option_map (in_property_key N.plain) child ≡ Some (in_expression N.plain expression)) }
+{
+    let expression = Box::new(alloc, expression)?;
+    Ok(Some(PropertyKey::Expression(expression)))
 }
 
 // ---- a place that takes some types of a set

@@ -13,8 +13,8 @@ use crate::others::OtherStatement;
 use jsgen_pool::Typed;
 use jsgen_tree::{
     BindingPattern, BindingPatternNode, Declaration, DeclarationNode, Directive, Expression,
-    ExpressionNode, IdentifierName, Node, NodeType, Program, SpreadElement, Statement,
-    StatementNode, VariableDeclarator,
+    ExpressionNode, IdentifierName, Node, NodeType, ObjectProperty, Program, SpreadElement,
+    Statement, StatementNode, VariableDeclarator,
 };
 use std::alloc::Global;
 
@@ -31,6 +31,7 @@ pub enum Row<N = Node> {
     Expression(Box<Expression<N>>),
     IdentifierName(Box<IdentifierName>),
     SpreadElement(Box<SpreadElement<N>>),
+    ObjectProperty(Box<ObjectProperty<N>>),
 }
 
 // ---- what becomes of a row
@@ -127,6 +128,7 @@ impl<N: ReadNode> Typed for Row<N> {
             Row::Expression(row) => N::expression_type(&**row),
             Row::IdentifierName(_) => NodeType::IdentifierName,
             Row::SpreadElement(_) => NodeType::SpreadElement,
+            Row::ObjectProperty(_) => NodeType::ObjectProperty,
         }
     }
 }

@@ -5,7 +5,7 @@ ghost use Rattle.jsgen_fields.specs.Names.{first_named, type_named};
 
 use jsgen_tree::NodeType;
 
-const TYPE_NAMES: [(&str, NodeType); 29] = [
+const TYPE_NAMES: [(&str, NodeType); 31] = [
     ("Program", NodeType::Program),
     ("Directive", NodeType::Directive),
     ("VariableDeclaration", NodeType::VariableDeclaration),
@@ -33,6 +33,8 @@ const TYPE_NAMES: [(&str, NodeType); 29] = [
     ("CallExpression", NodeType::CallExpression),
     ("SpreadElement", NodeType::SpreadElement),
     ("ArrayExpression", NodeType::ArrayExpression),
+    ("ObjectProperty", NodeType::ObjectProperty),
+    ("ObjectExpression", NodeType::ObjectExpression),
     ("UnaryExpression", NodeType::UnaryExpression),
     ("NewTarget", NodeType::NewTarget),
     ("UpdateExpression", NodeType::UpdateExpression),

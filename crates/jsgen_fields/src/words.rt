@@ -2,16 +2,16 @@
 // Fields that hold a word.
 ghost use Rattle.std.specs.Prelude.{◌≡◌, true, option_map};
 ghost use Rattle.serde_json.specs.View.{view};
-ghost use Rattle.jsgen_tree.specs.Atom.{no_value, source_kind, declaration_kind, binary_operator, logical_operator, unary_operator, update_operator};
+ghost use Rattle.jsgen_tree.specs.Atom.{no_value, source_kind, declaration_kind, binary_operator, logical_operator, property_kind, unary_operator, update_operator};
 ghost use Rattle.jsgen_tree.specs.Table.{word};
-ghost use Rattle.jsgen_tree.specs.Fields.{source_kind_words, declaration_kind_words, binary_operator_words, logical_operator_words, unary_operator_words, update_operator_words};
+ghost use Rattle.jsgen_tree.specs.Fields.{source_kind_words, declaration_kind_words, binary_operator_words, logical_operator_words, property_kind_words, unary_operator_words, update_operator_words};
 ghost use Rattle.jsgen_fields.specs.Reads.{read_value};
 ghost use Rattle.jsgen_fields.specs.Values.{Same, at, field as value_under, word_meaning, words_of_length};
 
 use crate::values::{needed_value, text_in};
 use crate::{At, InputFault};
 use jsgen_syntax::{BinaryOperator, LogicalOperator, SourceKind, UnaryOperator, UpdateOperator};
-use jsgen_tree::VariableDeclarationKind;
+use jsgen_tree::{PropertyKind, VariableDeclarationKind};
 use serde_json::Value;
 
 #[tactic(auto, unfolding(crate::specs::Reads::read_value))]
@@ -150,6 +150,24 @@ pub fn needed_logical_operator(
         "||" => Ok(LogicalOperator::Or),
         "&&" => Ok(LogicalOperator::And),
         "??" => Ok(LogicalOperator::Coalesce),
+        _ => Err(InputFault::Wrong(at)),
+    }
+}
+
+#[tactic(auto, unfolding(crate::specs::Reads::read_value))]
+pub fn needed_property_kind(
+    number: usize,
+    field: usize,
+    row: &Value,
+    name: &str,
+) -> Result<PropertyKind, InputFault>
+    ensures { Same (λ o. property_kind o) result
+        (read_value (at number field) true no_value (word property_kind_words) (value_under name.now (view row.now))) }
+{
+    let at = At::of_row(number, field);
+    let value = needed_value(at, row, name)?;
+    match text_in(at, value)? {
+        "init" => Ok(PropertyKind::Init),
         _ => Err(InputFault::Wrong(at)),
     }
 }

@@ -1,20 +1,21 @@
 -- Lists in which members may be left out: what a turn leaves, and where a member stands.
-use Rattle.std.proofs.Common.{◌≡◌, ℕ, Bool, true, false, Option, Some, None, is_some, List, [], ◌∷◌, map, length, slice_get, zero, suc, ◌-◌, nat_lt, Result, refl, ap, sym, subst, ◌∙◌, arith}
-use Rattle.std.proofs.lemmas.Bool.{both_ways}
+use Rattle.std.proofs.Common.{◌≡◌, ℕ, Bool, true, false, Option, Some, None, is_some, List, [], ◌∷◌, map, length, slice_get, zero, suc, ◌-◌, ◌≤◌, ◌<◌, nat_lt, Result, refl, ap, sym, subst, ◌∙◌, arith}
+use Rattle.std.specs.Bool.{◌==◌}
+use Rattle.std.proofs.lemmas.Bool.{both_ways, lt-ltb}
 use Rattle.std.proofs.lemmas.Option.{same_Some}
 use Rattle.jsgen_tree.specs.Tree.{Tree, holed}
 use Rattle.jsgen_model.specs.Punctuator.{comma}
-use Rattle.jsgen_model.specs.Items.{Items, ◌⊕◌, punctuator, soft_line}
+use Rattle.jsgen_model.specs.Items.{Items, ◌⊕◌, punctuator, soft_space, soft_line}
 use Rattle.jsgen_model.specs.Layout.{Pen, nowhere, layout, indented, indent_or_space, at_indentation, unless_printed, not}
 use Rattle.jsgen_model.specs.Spell as spells
-use Rattle.jsgen_model.specs.Spell.{spell_elements, spell_more_elements, next_line, line_or_space, on_lines, are_more, count, ends_in_hole}
+use Rattle.jsgen_model.specs.Spell.{spell_elements, spell_more_elements, next_line, line_or_space, on_lines, object_inside, are_more, count, ends_in_hole}
 use Rattle.jsgen_model.specs.Printing.{IsPrefix, Stops, Reaches}
 use Rattle.jsgen_printer.specs.Printer.{deepened, at_depth}
 use Rattle.jsgen_printer.proofs.Prefixes.{whole_prefix}
 use Rattle.jsgen_printer.proofs.Stops.{layout_appends, layout_more, stops_within, stops_second, reaches_last}
 use Rattle.jsgen_place.specs.declared.place.Place.{Place}
 use Rattle.jsgen_place.specs.Place.{place_of}
-use Rattle.jsgen_lists.specs.Lists.{listed, element_items}
+use Rattle.jsgen_lists.specs.Lists.{listed, element_items, all_elements}
 use Rattle.jsgen_lists.proofs.Turns.{begun_nowhere, still_nowhere}
 
 -- ---- the first of the members
@@ -50,6 +51,9 @@ line_nowhere pen h = indentation_nowhere pen.style.minified (layout soft_line pe
 between_nowhere : (lines : Bool) (pen : Pen) → pen.start ≡ nowhere → (layout (line_or_space lines) pen).start ≡ nowhere
 between_nowhere true pen h = line_nowhere pen h
 between_nowhere false pen h = soft_nowhere pen h
+
+pub space_nowhere : (pen : Pen) → pen.start ≡ nowhere → (layout soft_space pen).start ≡ nowhere
+space_nowhere pen h = soft_nowhere pen h
 
 behind_between : (lines : Bool) (place : Place) (at spaced : Pen) → at.start ≡ nowhere → spaced ≡ layout (line_or_space lines) at → place_of place spaced ≡ listed place
 behind_between lines place at spaced none hs = begun_nowhere place spaced (ap (λ p. p.start) hs ∙ between_nowhere lines at none)
@@ -113,3 +117,32 @@ at_last f (y ∷ z ∷ zs) (suc n) x l e = ends_as_behind (f y) (f z) (map f zs)
 pub last_left_out : {A : Type 0} (f : A → Option Tree) (xs : List A) (x : A) → Some x ≡ slice_get xs (length xs - 1) → ends_in_hole (holed (map f xs)) ≡ not (is_some (f x))
 last_left_out f [] x e = absurd (both_ways true (ap is_some e) refl)
 last_left_out f (y ∷ ys) x e = at_last f (y ∷ ys) (length ys) x refl (e ∙ ap (slice_get (y ∷ ys)) (omega arith))
+
+-- ---- between spaces
+
+pub padded_end : {T E : Type 0} (r : Result T E) (items : Items) (old spaced mid new : Pen) → spaced ≡ layout soft_space old → mid ≡ layout items spaced → Reaches r mid new (layout soft_space mid) → Reaches r old new (layout (soft_space ⊕ (items ⊕ soft_space)) old)
+padded_end r items old spaced mid new hs hm h =
+    let inside : mid ≡ layout items (layout soft_space old) = hm ∙ ap (λ p. layout items p) hs in
+    reaches_last r old mid new (layout soft_space mid) (layout (soft_space ⊕ (items ⊕ soft_space)) old) h (subst (λ p. IsPrefix old.code p.code) (sym inside) (layout_more items (layout soft_space old) (layout_appends soft_space old))) (ap (λ p. layout soft_space p) inside)
+
+-- ---- an object, by how many properties it has
+
+one_inside : (o : Option Tree) (place : spells.Place) → soft_space ⊕ (all_elements false (holed (o ∷ [])) place ⊕ soft_space) ≡ object_inside (holed (o ∷ [])) (all_elements (are_more 1 (holed (o ∷ []))) (holed (o ∷ [])) place)
+one_inside None place = refl
+one_inside (Some t) place = refl
+
+pub single_inside : {A : Type 0} (f : A → Option Tree) (xs : List A) (place : spells.Place) → length xs ≤ 1 → length xs == 0 ≡ false → soft_space ⊕ (all_elements false (holed (map f xs)) place ⊕ soft_space) ≡ object_inside (holed (map f xs)) (all_elements (are_more 1 (holed (map f xs))) (holed (map f xs)) place)
+single_inside f [] place h e = absurd (both_ways true e refl)
+single_inside f (x ∷ []) place h e = one_inside (f x) place
+single_inside f (x ∷ y ∷ xs) place h e = absurd (omega (arith, h))
+
+many_inside : (o p : Option Tree) (os : List (Option Tree)) (items : Items) → on_lines true items ≡ object_inside (holed (o ∷ p ∷ os)) items
+many_inside None None os items = refl
+many_inside None (Some t) os items = refl
+many_inside (Some t) None os items = refl
+many_inside (Some t) (Some u) os items = refl
+
+pub more_inside : {A : Type 0} (f : A → Option Tree) (xs : List A) (place : spells.Place) → 1 < length xs → on_lines true (all_elements true (holed (map f xs)) place) ≡ object_inside (holed (map f xs)) (all_elements (are_more 1 (holed (map f xs))) (holed (map f xs)) place)
+more_inside f [] place h = absurd (omega (arith, h))
+more_inside f (x ∷ []) place h = absurd (omega (arith, h))
+more_inside f (x ∷ y ∷ xs) place h = ap (λ b. on_lines true (all_elements b (holed (map f (x ∷ y ∷ xs))) place)) (sym (are_more_than 1 f (x ∷ y ∷ xs) ∙ lt-ltb 1 (suc (suc (length xs))) h)) ∙ many_inside (f x) (f y) (map f xs) (all_elements (are_more 1 (holed (map f (x ∷ y ∷ xs)))) (holed (map f (x ∷ y ∷ xs))) place)

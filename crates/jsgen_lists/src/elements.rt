@@ -1,10 +1,10 @@
 // Lists in which members may be left out, on one line or each on a line of its own.
-ghost use Rattle.std.specs.Prelude.{◌≡◌, true, map, not, Option, is_some};
+ghost use Rattle.std.specs.Prelude.{◌≡◌, true, false, map, not, Option, is_some};
 ghost use Rattle.jsgen_tree.specs.Tree.{Tree, holed};
-ghost use Rattle.jsgen_model.specs.Punctuator.{Square};
-ghost use Rattle.jsgen_model.specs.Items.{◌⊕◌, brackets};
+ghost use Rattle.jsgen_model.specs.Punctuator.{Square, Brace};
+ghost use Rattle.jsgen_model.specs.Items.{◌⊕◌, brackets, soft_space};
 ghost use Rattle.jsgen_model.specs.Layout.{layout, nowhere};
-ghost use Rattle.jsgen_model.specs.Spell.{spell_elements, spell_more_elements, next_line, line_or_space, on_lines, are_more, ends_in_hole, comma_if};
+ghost use Rattle.jsgen_model.specs.Spell.{spell_elements, spell_more_elements, next_line, line_or_space, on_lines, object_inside, are_more, ends_in_hole, comma_if};
 ghost use Rattle.jsgen_model.specs.Printing.{Reaches};
 ghost use Rattle.jsgen_printer.specs.Printer.{pen_of};
 ghost use Rattle.jsgen_place.specs.Place.{place_of};
@@ -40,6 +40,51 @@ pub fn print_array<E, L: PrintElement<E>>(
     p.print_opening(Bracket::Square)?;
     print_lines::<E, L>(lines, elements, p, place)?;
     p.print_closing(Bracket::Square)
+}
+
+/// An object: its properties in braces, a single one between spaces, and more on lines of their own.
+pub fn print_object<E, L: PrintElement<E>>(
+    properties: &[E],
+    p: &mut Printer,
+    place: Place,
+) -> Result<(), Memory>
+    ensures { Reaches result (pen_of p.old) (pen_of p.new) (layout (brackets Brace (object_inside (holed (map L.plain properties.now))
+        (all_elements (are_more 1 (holed (map L.plain properties.now))) (holed (map L.plain properties.now)) (listed place)))) (pen_of p.old)) }
+{
+    p.print_opening(Bracket::Brace)?;
+    print_inside::<E, L>(properties, p, place)?;
+    p.print_closing(Bracket::Brace)
+}
+
+fn print_inside<E, L: PrintElement<E>>(
+    properties: &[E],
+    p: &mut Printer,
+    place: Place,
+) -> Result<(), Memory>
+    requires { (pen_of p.old).start ≡ nowhere }
+    ensures { Reaches result (pen_of p.old) (pen_of p.new) (layout (object_inside (holed (map L.plain properties.now))
+        (all_elements (are_more 1 (holed (map L.plain properties.now))) (holed (map L.plain properties.now)) (listed place))) (pen_of p.old)) }
+{
+    if properties.len() > 1 {
+        print_on_lines::<E, L>(properties, p, place)
+    } else if properties.is_empty() {
+        print_all::<E, L>(false, properties, p, place)
+    } else {
+        print_single::<E, L>(properties, p, place)
+    }
+}
+
+fn print_single<E, L: PrintElement<E>>(
+    properties: &[E],
+    p: &mut Printer,
+    place: Place,
+) -> Result<(), Memory>
+    requires { (pen_of p.old).start ≡ nowhere }
+    ensures { Reaches result (pen_of p.old) (pen_of p.new) (layout (soft_space ⊕ (all_elements false (holed (map L.plain properties.now)) (listed place) ⊕ soft_space)) (pen_of p.old)) }
+{
+    p.print_soft_space()?;
+    print_all::<E, L>(false, properties, p, place)?;
+    p.print_soft_space()
 }
 
 fn are_more<E, L: PrintElement<E>>(count: usize, elements: &[E]) -> bool

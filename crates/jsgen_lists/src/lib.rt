@@ -5,6 +5,6 @@ mod elements;
 mod members;
 mod statements;
 
-pub use elements::{PrintElement, print_array};
+pub use elements::{PrintElement, print_array, print_object};
 pub use members::{PrintMember, print_in_brackets, print_more};
 pub use statements::{PrintStatement, print_statements, print_whole_body};

@@ -13,12 +13,12 @@ use Rattle.jsgen_syntax.specs.declared.operator.UpdateOperator.{UpdateOperator}
 use Rattle.jsgen_syntax.specs.declared.operator.UpdateOperator.TheVariants as update_operators
 use Rattle.jsgen_tree.specs.declared.statements.VariableDeclarationKind.TheVariants.{Const}
 use Rattle.jsgen_syntax.specs.Name.{is_free_name}
-use Rattle.jsgen_tree.specs.Atom.{units, flag, binary_operator, logical_operator, unary_operator, update_operator}
-use Rattle.jsgen_tree.specs.Tree.{Tree, Maybe, absent, given, Trees, no_trees, more, hole}
+use Rattle.jsgen_tree.specs.Atom.{units, flag, binary_operator, logical_operator, unary_operator, update_operator, no_value, property_kind}
+use Rattle.jsgen_tree.specs.Tree.{Tree, Maybe, absent, given, Trees, no_trees, more, hole, Atoms}
 use Rattle.jsgen_tree.specs.Places.{bare}
 use Rattle.jsgen_tree.specs.Nodes as tree
-use Rattle.jsgen_model.specs.Punctuator.{plus, minus, star, slash, percent, star_star, equal_equal, not_equal, equal_equal_equal, not_equal_equal, less, less_equal, greater, greater_equal, shift_left, shift_right, shift_right_zero, bit_and, bit_or, bit_xor, and_and, or_or, nullish, dot, ellipsis, comma, semicolon, equal, Round, Square, Brace, bang, tilde, Punctuator, plus_plus, minus_minus}
-use Rattle.jsgen_tree.specs.Nodes as tree
+use Rattle.jsgen_model.specs.Punctuator.{plus, minus, star, slash, percent, star_star, equal_equal, not_equal, equal_equal_equal, not_equal_equal, less, less_equal, greater, greater_equal, shift_left, shift_right, shift_right_zero, bit_and, bit_or, bit_xor, and_and, or_or, nullish, dot, ellipsis, comma, semicolon, equal, Round, Square, Brace, bang, tilde, Punctuator, plus_plus, minus_minus, colon}
+use Rattle.jsgen_tree.specs.declared.collections.PropertyKind.TheVariants.{Init}
 use Rattle.jsgen_model.specs.Tokens.{Piece, Tokens, done, piece, group, ◌⧺◌, Word, Number, Quoted, Sign}
 use Rattle.jsgen_model.specs.Normal.{nothing_of, named, unnumbered, by_text, declared_as}
 
@@ -36,6 +36,10 @@ in_module = record { in_operator = true; yield_operand = false; await_operand = 
 -- within a group, and in a statement that is no loop's head, `in` may stand
 abbrev pub with_in : Allowed → Allowed
 with_in allowed = record allowed { in_operator = true }
+
+-- of a property with a value: whether its name alone says it, and whether its key is computed
+abbrev pub property_values : Bool → Bool → Atoms
+property_values shorthand computed = bare (property_kind Init ∷ no_value ∷ flag shorthand ∷ flag computed ∷ [])
 
 -- the levels of expressions, from the loosest to the tightest. A callee is what arguments may follow: a member or a call (13.3)
 pub data Level : Type 0 where
@@ -236,6 +240,26 @@ mutual
     a_string : {c : Allowed} {mark : Bool} {q : Quote} {w us : List ℕ} → string_value q w ≡ Some us → ReadsExpression c Primary (piece mark (Quoted q w) done) (tree.string_literal (bare (units us ∷ [])))
     in_parentheses : {c : Allowed} {mark : Bool} {ts : Tokens} {t : Tree} → ReadsExpression (with_in c) Expression ts t → ReadsExpression c Primary (group mark Round ts done) (tree.parenthesized (nothing_of 0) t)
     an_array : {c : Allowed} {mark : Bool} {inside : Tokens} {es : Trees} → ReadsElements (with_in c) inside es → ReadsExpression c Primary (group mark Square inside done) (tree.array (nothing_of 0) es)
+    an_object : {c : Allowed} {mark : Bool} {inside : Tokens} {ps : Trees} → ReadsProperties (with_in c) inside ps → ReadsExpression c Primary (group mark Brace inside done) (tree.object_expression (nothing_of 0) ps)
+
+  -- between the braces of an object (13.2.5); a comma may end the list
+  pub data ReadsProperties : Allowed → Tokens → Trees → Type 0 where
+    no_property : {c : Allowed} → ReadsProperties c done no_trees
+    last_property : {c : Allowed} {ts : Tokens} {t : Tree} → ReadsProperty c ts t → ReadsProperties c ts (more t no_trees)
+    first_property : {c : Allowed} {ts a b : Tokens} {t : Tree} {us : Trees} (mark : Bool) → ts ≡ a ⧺ piece mark (Sign comma) b → ReadsProperty c a t → ReadsProperties c b us → ReadsProperties c ts (more t us)
+
+  -- a property (13.2.5): a name that is its key and its value, a key with a value, or an object whose properties are spread
+  pub data ReadsProperty : Allowed → Tokens → Tree → Type 0 where
+    a_shorthand : {c : Allowed} {mark : Bool} {w v : List ℕ} → word_value w ≡ Some v → is_free_name v ≡ true → ReadsProperty c (piece mark (Word w) done) (tree.object_property (property_values true false) (tree.identifier_name (named v)) (tree.identifier_reference (unnumbered v)))
+    a_property : {c : Allowed} {computed : Bool} {ts a b : Tokens} {k e : Tree} (mark : Bool) → ts ≡ a ⧺ piece mark (Sign colon) b → ReadsKey c computed a k → ReadsExpression c Assignment b e → ReadsProperty c ts (tree.object_property (property_values false computed) k e)
+    a_spread_property : {c : Allowed} {mark : Bool} {ts : Tokens} {e : Tree} → ReadsExpression c Assignment ts e → ReadsProperty c (piece mark (Sign ellipsis) ts) (tree.spread (nothing_of 0) e)
+
+  -- a property's name (13.2.5); the flag tells that it is computed
+  pub data ReadsKey : Allowed → Bool → Tokens → Tree → Type 0 where
+    a_name_key : {c : Allowed} {mark : Bool} {w v : List ℕ} → word_value w ≡ Some v → ReadsKey c false (piece mark (Word w) done) (tree.identifier_name (named v))
+    a_string_key : {c : Allowed} {mark : Bool} {q : Quote} {w us : List ℕ} → is_backtick q ≡ false → string_value q w ≡ Some us → ReadsKey c false (piece mark (Quoted q w) done) (tree.string_literal (bare (units us ∷ [])))
+    a_number_key : {c : Allowed} {mark : Bool} {w : List ℕ} → ReadsKey c false (piece mark (Number w) done) (tree.numeric_literal (by_text w))
+    a_computed_key : {c : Allowed} {mark : Bool} {inside : Tokens} {e : Tree} → ReadsExpression (with_in c) Assignment inside e → ReadsKey c true (group mark Square inside done) e
 
   -- between the brackets of an array (13.2.4): elements, each with a comma behind it, of which the last may be omitted; a comma that no element stands before leaves one out
   pub data ReadsElements : Allowed → Tokens → Trees → Type 0 where

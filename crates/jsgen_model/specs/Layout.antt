@@ -155,9 +155,14 @@ deeper_level false depth = suc depth
 
 -- ---- strings
 
+-- where no backticks may stand, double quotes stand in their place
+abbrev pub but_backticks : Quote → Quote
+but_backticks Backtick = Double
+but_backticks quote = quote
+
 -- minified, the quote is the one that gives the shortest text
 abbrev pub chosen_quote : Style → Bool → List ℕ → Quote
-chosen_quote style backticks units = if style.minified then cheapest backticks units else style.quote
+chosen_quote style backticks units = if style.minified then cheapest backticks units else (if backticks then style.quote else but_backticks style.quote)
 
 -- a first statement: minified in backticks, and else in parentheses
 abbrev pub first_text : Style → List ℕ → List ℕ

@@ -1,16 +1,17 @@
 -- What two trees of one meaning have in common.
-use Rattle.std.specs.Prelude.{ℕ, List, [], ◌∷◌, Bool, true, false, Option, Some, None, decimal, if◌then◌else◌}
-use Rattle.jsgen_tree.specs.Atom.{Atom, no_value, text, units, flag, numeric_kind, declaration_kind, binary_operator, logical_operator, unary_operator, update_operator}
+use Rattle.std.specs.Prelude.{ℕ, List, [], ◌∷◌, Bool, true, false, Option, Some, None, decimal, if◌then◌else◌, ◌&&◌}
+use Rattle.jsgen_tree.specs.Atom.{Atom, no_value, text, units, flag, numeric_kind, declaration_kind, binary_operator, logical_operator, unary_operator, update_operator, property_kind}
+use Rattle.std.specs.Option.{option_map_or}
 use Rattle.jsgen_tree.specs.Number.{NumericKind, Whole, Raw}
 use Rattle.jsgen_tree.specs.Tree.{Tree, node, Slots, no_slots, one, maybe, many, maybe_many, Maybe, absent, given, Trees, no_trees, more, hole, MaybeTrees, no_list, listed, Atoms}
 use Rattle.jsgen_tree.specs.declared.types.NodeType.TheVariants as types
 use Rattle.jsgen_tree.specs.Places.{bare, absent_values}
-use Rattle.jsgen_tree.specs.Values.{directive_directive, variable_declaration_kind, binding_identifier_name, identifier_reference_name, identifier_name_name, boolean_literal_value, numeric_literal_kind, numeric_literal_digits, numeric_literal_text, string_literal_value, binary_expression_operator, logical_expression_operator, unary_expression_operator, update_expression_operator, update_expression_prefix, variable_declaration_declare, variable_declarator_definite, static_member_expression_optional, computed_member_expression_optional, call_expression_optional}
+use Rattle.jsgen_tree.specs.Values.{directive_directive, variable_declaration_kind, binding_identifier_name, identifier_reference_name, identifier_name_name, boolean_literal_value, numeric_literal_kind, numeric_literal_digits, numeric_literal_text, string_literal_value, binary_expression_operator, logical_expression_operator, unary_expression_operator, update_expression_operator, update_expression_prefix, variable_declaration_declare, variable_declarator_definite, static_member_expression_optional, computed_member_expression_optional, call_expression_optional, object_property_kind, object_property_method, object_property_shorthand, object_property_computed}
 use Rattle.jsgen_syntax.specs.Raw.{directive_value}
 use Rattle.jsgen_syntax.specs.declared.operator.LogicalOperator.{LogicalOperator}
 use Rattle.jsgen_syntax.specs.declared.operator.LogicalOperator.TheVariants.{Or, And, Coalesce}
 use Rattle.jsgen_tree.specs.declared.statements.VariableDeclarationKind.{VariableDeclarationKind}
-use Rattle.jsgen_tree.specs.Inside.{ends_open}
+use Rattle.jsgen_tree.specs.Inside.{ends_open, written_name_in, is_proto}
 use Rattle.jsgen_tree.specs.Nodes as tree
 
 -- ---- what a normal form holds: one value for each field, and none of a field that doesn't count
@@ -75,9 +76,13 @@ abbrev pub unbraced : Tree → Tree
 unbraced (tree.block a (more s no_trees)) = if ends_open s then s else tree.block a (more s no_trees)
 unbraced t = t
 
+-- the property `__proto__` that its value alone says, which is another thing than `__proto__: __proto__`
+abbrev pub is_proto_shorthand : Bool → Tree → Bool
+is_proto_shorthand shorthand key = option_map_or is_proto (written_name_in key) false && shorthand
+
 -- Parentheses, spans, the source and the kind of a program are away, and whether a call or `new` is pure; a directive is its value; a
 -- whole number is its digits; a chain of one logical operator is one list, however it was grouped; braces round a consequent
--- that ends in an `if` without `else` are away.
+-- that ends in an `if` without `else` are away; a property that its value alone says is written out, but for `__proto__`.
 abbrev mutual
   pub normal : Tree → Tree
   normal (tree.program a directives body) = tree.program (nothing_of 4) (normal_trees directives) (normal_trees body)
@@ -109,6 +114,8 @@ abbrev mutual
   normal (tree.new_expression a callee arguments) = tree.new_expression (nothing_of 1) (normal callee) (normal_trees arguments)
   normal (tree.super a) = tree.super (nothing_of 0)
   normal (tree.new_target a) = tree.new_target (nothing_of 0)
+  normal (tree.object_expression a properties) = tree.object_expression (nothing_of 0) (normal_trees properties)
+  normal (tree.object_property a key value) = tree.object_property (bare (property_kind (object_property_kind a) ∷ object_property_method a ∷ flag (is_proto_shorthand (object_property_shorthand a) key) ∷ flag (object_property_computed a) ∷ [])) (normal key) (normal value)
   normal (node type a slots) = node type (bare a.values) (normal_slots slots)
 
   pub normal_slots : Slots → Slots

@@ -9,7 +9,7 @@ use Rattle.jsgen_tree.specs.Tree.{Tree, node, Trees, no_trees, more, hole, Atoms
 use Rattle.jsgen_tree.specs.Nodes as tree
 use Rattle.jsgen_tree.specs.Table.{value_named}
 use Rattle.jsgen_tree.specs.Fields.{fields}
-use Rattle.jsgen_tree.specs.Values.{as_flag, program_kind, directive_directive, numeric_literal_kind, numeric_literal_digits, string_literal_value, variable_declaration_declare, variable_declarator_definite, static_member_expression_optional, computed_member_expression_optional, call_expression_optional}
+use Rattle.jsgen_tree.specs.Values.{as_flag, program_kind, directive_directive, numeric_literal_kind, numeric_literal_digits, string_literal_value, variable_declaration_declare, variable_declarator_definite, static_member_expression_optional, computed_member_expression_optional, call_expression_optional, object_property_method}
 use Rattle.jsgen_tree.specs.Everywhere.{Everywhere}
 use Rattle.jsgen_tree.specs.Options.{Comments, is_none}
 use Rattle.jsgen_tree.specs.Job.{JobData}
@@ -68,6 +68,8 @@ is_plain_row (tree.update a argument) = true
 is_plain_row (tree.new_expression a callee arguments) = has_no_hole arguments
 is_plain_row (tree.super a) = true
 is_plain_row (tree.new_target a) = true
+is_plain_row (tree.object_expression a properties) = has_no_hole properties
+is_plain_row (tree.object_property a key value) = is_absent (object_property_method a)
 is_plain_row t = false
 
 abbrev pub IsPlain : Tree → Type 0

@@ -1,6 +1,7 @@
 -- How each node is spelled: one row, one clause.
 use Rattle.std.specs.Prelude.{ℕ, suc, List, Bool, true, false, not, ◌&&◌, ◌||◌, ◌==◌, nat_le, nat_lt, codes, decimal, Option, Some, None, if◌then◌else◌}
-use Rattle.std.specs.Str.{encode_utf8_all}
+use Rattle.std.specs.Option.{option_map_or}
+use Rattle.std.specs.Str.{encode_utf8_all, bytes_eq}
 use Rattle.jsgen_syntax.specs.Precedence.{rank}
 use Rattle.jsgen_syntax.specs.Operator.{binary_level, lower_level, logical_level, logical_lower_level}
 use Rattle.jsgen_syntax.specs.declared.precedence.Precedence.{Precedence}
@@ -15,16 +16,16 @@ use Rattle.jsgen_syntax.specs.declared.operator.UpdateOperator.{UpdateOperator}
 use Rattle.jsgen_syntax.specs.declared.operator.UpdateOperator.TheVariants as update_operators
 use Rattle.jsgen_tree.specs.declared.types.NodeType.{NodeType}
 use Rattle.jsgen_tree.specs.declared.types.NodeType.TheVariants as types
-use Rattle.jsgen_tree.specs.Inside.{without_parentheses, ends_open}
+use Rattle.jsgen_tree.specs.Inside.{without_parentheses, ends_open, reference_in, written_name_in, is_proto}
 use Rattle.jsgen_tree.specs.Words.{declaration_word}
 use Rattle.jsgen_tree.specs.Number.{NumericKind, Whole, Raw}
 use Rattle.jsgen_tree.specs.Tree.{Tree, Maybe, absent, given, Trees, no_trees, more, hole, Atoms, type_of}
-use Rattle.jsgen_tree.specs.Values.{as_text, directive_directive, variable_declaration_kind, binding_identifier_name, identifier_reference_name, identifier_name_name, boolean_literal_value, numeric_literal_kind, numeric_literal_digits, string_literal_value, binary_expression_operator, logical_expression_operator, unary_expression_operator, update_expression_operator, update_expression_prefix}
+use Rattle.jsgen_tree.specs.Values.{as_text, directive_directive, variable_declaration_kind, binding_identifier_name, identifier_reference_name, identifier_name_name, boolean_literal_value, numeric_literal_kind, numeric_literal_digits, string_literal_value, binary_expression_operator, logical_expression_operator, unary_expression_operator, update_expression_operator, update_expression_prefix, object_property_shorthand, object_property_computed}
 use Rattle.jsgen_tree.specs.Job.{Tables, JobData}
 use Rattle.jsgen_tree.specs.Nodes as tree
-use Rattle.jsgen_model.specs.Punctuator.{ellipsis, comma, semicolon, equal, plus, minus, star, slash, percent, star_star, equal_equal, not_equal, equal_equal_equal, not_equal_equal, less, less_equal, greater, greater_equal, shift_left, shift_right, shift_right_zero, bit_and, bit_or, bit_xor, and_and, or_or, nullish, Round, Square, Brace, bang, tilde, plus_plus, minus_minus}
+use Rattle.jsgen_model.specs.Punctuator.{ellipsis, comma, semicolon, equal, plus, minus, star, slash, percent, star_star, equal_equal, not_equal, equal_equal_equal, not_equal_equal, less, less_equal, greater, greater_equal, shift_left, shift_right, shift_right_zero, bit_and, bit_or, bit_xor, and_and, or_or, nullish, Round, Square, Brace, bang, tilde, plus_plus, minus_minus, colon}
 use Rattle.jsgen_model.specs.Items.{Items, nothing, ◌⊕◌, word, name, number, string, first_string, directive, punctuator, operator, member_dot, brackets, soft_space, soft_line, hard_space, body_space, deeper, indentation, wrapped, statement_end, due_semicolon, drop_semicolon, statement_begins}
-use Rattle.jsgen_model.specs.Layout.{Start, nowhere, statement, unless_printed, layout, empty_pen, style_of}
+use Rattle.jsgen_model.specs.Layout.{Start, nowhere, statement, arrow_body, unless_printed, layout, empty_pen, style_of}
 
 -- what an expression's surroundings forbid
 pub record Context : Type 0 where
@@ -355,6 +356,42 @@ abbrev pub comma_if : Bool → Items
 comma_if true = punctuator comma
 comma_if false = nothing
 
+-- what begins so may not begin with a brace (ECMA-262, 14.5 and 15.3)
+abbrev pub bars_brace : Start → Bool
+bars_brace statement = true
+bars_brace arrow_body = true
+bars_brace start = false
+
+-- what stands in the braces of an object: a single property with a space on each side, more on lines of their own
+abbrev pub object_inside : Trees → Items → Items
+object_inside no_trees items = items
+object_inside (more t no_trees) items = soft_space ⊕ (items ⊕ soft_space)
+object_inside (hole no_trees) items = soft_space ⊕ (items ⊕ soft_space)
+object_inside ts items = on_lines true items
+
+-- a string that is a key is never in backticks
+abbrev pub key_text : Tree → Items → Items
+key_text (tree.string_literal a) items = string false (string_literal_value a)
+key_text key items = items
+
+-- a key as it stands within brackets, where it is computed, or else alone
+abbrev pub key_items : Bool → Tree → Items → Items → Items
+key_items true key inside alone = brackets Square (key_text key inside)
+key_items false key inside alone = key_text key alone
+
+-- Whether the value of a property, which may be a reference, says the key, which is this name. `{ __proto__ }` is a property of
+-- that name, and `{ __proto__: __proto__ }` sets the prototype (ECMA-262, 13.2.5.5), so there the property tells.
+abbrev pub says_name : Bool → List ℕ → Option (List ℕ) → Bool
+says_name shorthand w reference = if is_proto w then shorthand else option_map_or (λ v. bytes_eq v w) reference false
+
+abbrev pub is_short : Bool → Tree → Tree → Bool
+is_short shorthand key value = option_map_or (λ w. says_name shorthand w (reference_in (without_parentheses value))) (written_name_in key) false
+
+-- a property: its value alone, or its key and the value behind it
+abbrev pub property_items : Bool → Items → Items → Items → Items
+property_items true key alone behind_key = alone
+property_items false key alone behind_key = key ⊕ (punctuator colon ⊕ (soft_space ⊕ behind_key))
+
 -- ECMA-262, 12.9.2
 abbrev pub truth_word : Bool → List ℕ
 truth_word true = codes "true"
@@ -415,6 +452,11 @@ abbrev mutual
       ⊕ new_arguments (needs_arguments place (any_given arguments)) (spell_list arguments (in_brackets Comma place)))))
   spell (tree.super a) place = word (codes "super")
   spell (tree.new_target a) place = word (codes "new") ⊕ (member_dot ⊕ word (codes "target"))
+  -- up to one property stands on one line; as in an array, a comma would stand behind a last one that is left out, but none is
+  spell (tree.object_expression a properties) place = wrapped (bars_brace place.start) (brackets Brace (object_inside properties (spell_elements (are_more 1 properties) properties (in_brackets Comma place) ⊕ comma_if (ends_in_hole properties))))
+  spell (tree.object_property a key value) place =
+      property_items (is_short (object_property_shorthand a) key value) (key_items (object_property_computed a) key (spell key (in_brackets Comma place)) (spell key (in_front Comma place)))
+      (spell value (in_front Comma place)) (spell value (in_brackets Comma place))
   spell t place = nothing
 
   -- the directives of a body, each with a semicolon of its own

@@ -1,5 +1,6 @@
 -- Validity: the rules that a tree breaks, each with the start of the node at which it is broken.
-use Rattle.std.specs.Prelude.{◌≡◌, ℕ, suc, max, List, [], ◌∷◌, ◌++◌, map, length, Bool, true, false, not, ◌&&◌, ◌||◌, nat_lt, Contains, is_some, Result, Ok, Err, if◌then◌else◌}
+use Rattle.std.specs.Prelude.{◌≡◌, ℕ, suc, max, List, [], ◌∷◌, ◌++◌, map, length, Bool, true, false, not, ◌&&◌, ◌||◌, nat_lt, Contains, is_some, Result, Ok, Err, if◌then◌else◌, Option, Some, None}
+use Rattle.std.specs.Option.{option_map_or}
 use Rattle.std.specs.Str.{encode_utf8_all}
 use Rattle.jsgen_syntax.specs.Name.{spells_name, is_free_name}
 use Rattle.jsgen_syntax.specs.Raw.{directive_value}
@@ -12,10 +13,11 @@ use Rattle.jsgen_tree.specs.Options.{Options}
 use Rattle.jsgen_tree.specs.Job.{Tables, JobData}
 use Rattle.jsgen_tree.specs.Table.{child_sets}
 use Rattle.jsgen_tree.specs.Fields.{fields}
-use Rattle.jsgen_tree.specs.Sets.{in_set}
+use Rattle.jsgen_tree.specs.Sets.{in_set, is_expression}
+use Rattle.jsgen_tree.specs.Inside.{without_parentheses, reference_in, written_name_in, is_proto}
 use Rattle.jsgen_tree.specs.Tree.{Tree, node, Slots, no_slots, one, maybe, many, maybe_many, Maybe, absent, given, Trees, no_trees, more, hole, MaybeTrees, no_list, listed, Atoms, type_of, span_of}
 use Rattle.jsgen_tree.specs.Nodes as tree
-use Rattle.jsgen_tree.specs.Values.{as_text, program_source, directive_directive, binding_identifier_name, identifier_reference_name, identifier_name_name}
+use Rattle.jsgen_tree.specs.Values.{as_text, program_source, directive_directive, binding_identifier_name, identifier_reference_name, identifier_name_name, object_property_shorthand, object_property_computed}
 use Rattle.jsgen_model.specs.declared.fault.TreeFault.{TreeFault}
 use Rattle.jsgen_model.specs.declared.fault.TreeFault.TheVariants as faults
 
@@ -88,6 +90,24 @@ abbrev pub alternate_faults : Maybe → List TreeFault
 alternate_faults absent = []
 alternate_faults (given t) = body_faults t
 
+-- a key that isn't computed is a name, a string or a number (ECMA-262, 13.2.5), and one that is, is an expression
+abbrev pub is_literal_key : NodeType → Bool
+is_literal_key types.IdentifierName = true
+is_literal_key types.StringLiteral = true
+is_literal_key types.NumericLiteral = true
+is_literal_key type = false
+
+abbrev pub key_faults : Bool → Tree → List TreeFault
+key_faults computed key = fault_if (not (if computed then is_expression (type_of key) else is_literal_key (type_of key))) (faults.Place (span_of key).start)
+
+-- the value of a property `__proto__` that it alone says is a reference of that name
+abbrev pub named_faults : Span → Option (List ℕ) → List TreeFault
+named_faults s None = faults.Place s.start ∷ []
+named_faults s (Some name) = fault_if (not (is_proto name)) (faults.Name s.start)
+
+abbrev pub shorthand_faults : Bool → Tree → Tree → List TreeFault
+shorthand_faults shorthand key value = if shorthand && option_map_or is_proto (written_name_in key) false then named_faults (span_of value) (reference_in (without_parentheses value)) else []
+
 -- offsets of the source don't fit 32 bits
 abbrev pub is_too_long : List ℕ → Bool
 is_too_long source = nat_lt 4294967295 (length (encode_utf8_all source))
@@ -133,6 +153,7 @@ own_faults around (tree.binding_identifier a) = name_faults a.span (binding_iden
 own_faults around (tree.identifier_reference a) = name_faults a.span (identifier_reference_name a)
 own_faults around (tree.if_statement a test consequent alternate) = body_faults consequent ++ alternate_faults alternate
 own_faults around (tree.identifier_name a) = written_name_faults a.span (identifier_name_name a)
+own_faults around (tree.object_property a key value) = key_faults (object_property_computed a) key ++ shorthand_faults (object_property_shorthand a) key value
 own_faults around t = []
 
 -- `super` is an expression that a link follows (ECMA-262, 13.3.7)

@@ -2,6 +2,7 @@ pub mod BlockStops
 pub mod Braces
 pub mod Elsewhere
 pub mod IsNot
+pub mod Keys
 pub mod Operations
 pub mod Parts
 pub mod Prefixes

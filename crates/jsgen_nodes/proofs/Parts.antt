@@ -23,21 +23,22 @@ expression_past_0 (expressions.ComputedMemberExpression b) no_0 no_1 no_2 no_3 n
 expression_past_0 (expressions.CallExpression b) no_0 no_1 no_2 no_3 no_4 no_5 no_6 no_7 no_8 no_9 no_10 no_11 = absurd (no_11 b refl)
 expression_past_0 n no_0 no_1 no_2 no_3 no_4 no_5 no_6 no_7 no_8 no_9 no_10 no_11 = refl
 
-pub expression_past_1 : {N : Type 0} (n : Expression N) → nat_le 1 (expression_part n) ≡ true → IsNot n expressions.ArrayExpression → nat_le 2 (expression_part n) ≡ true
-expression_past_1 (expressions.IdentifierReference b) later no_0 = let no : false ≡ true = later in cc
-expression_past_1 (expressions.ThisExpression b) later no_0 = let no : false ≡ true = later in cc
-expression_past_1 (expressions.NullLiteral b) later no_0 = let no : false ≡ true = later in cc
-expression_past_1 (expressions.BooleanLiteral b) later no_0 = let no : false ≡ true = later in cc
-expression_past_1 (expressions.NumericLiteral b) later no_0 = let no : false ≡ true = later in cc
-expression_past_1 (expressions.StringLiteral b) later no_0 = let no : false ≡ true = later in cc
-expression_past_1 (expressions.ParenthesizedExpression b) later no_0 = let no : false ≡ true = later in cc
-expression_past_1 (expressions.BinaryExpression b) later no_0 = let no : false ≡ true = later in cc
-expression_past_1 (expressions.LogicalExpression b) later no_0 = let no : false ≡ true = later in cc
-expression_past_1 (expressions.StaticMemberExpression b) later no_0 = let no : false ≡ true = later in cc
-expression_past_1 (expressions.ComputedMemberExpression b) later no_0 = let no : false ≡ true = later in cc
-expression_past_1 (expressions.CallExpression b) later no_0 = let no : false ≡ true = later in cc
-expression_past_1 (expressions.ArrayExpression b) later no_0 = absurd (no_0 b refl)
-expression_past_1 n later no_0 = refl
+pub expression_past_1 : {N : Type 0} (n : Expression N) → nat_le 1 (expression_part n) ≡ true → IsNot n expressions.ArrayExpression → IsNot n expressions.ObjectExpression → nat_le 2 (expression_part n) ≡ true
+expression_past_1 (expressions.IdentifierReference b) later no_0 no_1 = let no : false ≡ true = later in cc
+expression_past_1 (expressions.ThisExpression b) later no_0 no_1 = let no : false ≡ true = later in cc
+expression_past_1 (expressions.NullLiteral b) later no_0 no_1 = let no : false ≡ true = later in cc
+expression_past_1 (expressions.BooleanLiteral b) later no_0 no_1 = let no : false ≡ true = later in cc
+expression_past_1 (expressions.NumericLiteral b) later no_0 no_1 = let no : false ≡ true = later in cc
+expression_past_1 (expressions.StringLiteral b) later no_0 no_1 = let no : false ≡ true = later in cc
+expression_past_1 (expressions.ParenthesizedExpression b) later no_0 no_1 = let no : false ≡ true = later in cc
+expression_past_1 (expressions.BinaryExpression b) later no_0 no_1 = let no : false ≡ true = later in cc
+expression_past_1 (expressions.LogicalExpression b) later no_0 no_1 = let no : false ≡ true = later in cc
+expression_past_1 (expressions.StaticMemberExpression b) later no_0 no_1 = let no : false ≡ true = later in cc
+expression_past_1 (expressions.ComputedMemberExpression b) later no_0 no_1 = let no : false ≡ true = later in cc
+expression_past_1 (expressions.CallExpression b) later no_0 no_1 = let no : false ≡ true = later in cc
+expression_past_1 (expressions.ArrayExpression b) later no_0 no_1 = absurd (no_0 b refl)
+expression_past_1 (expressions.ObjectExpression b) later no_0 no_1 = absurd (no_1 b refl)
+expression_past_1 n later no_0 no_1 = refl
 
 pub expression_past_2 : {N : Type 0} (n : Expression N) → nat_le 2 (expression_part n) ≡ true → IsNot n expressions.UnaryExpression → IsNot n expressions.NewTarget → IsNot n expressions.UpdateExpression → IsNot n expressions.NewExpression → IsNot n expressions.Super → ⊥
 expression_past_2 (expressions.IdentifierReference b) later no_0 no_1 no_2 no_3 no_4 = let no : false ≡ true = later in cc
@@ -53,6 +54,7 @@ expression_past_2 (expressions.StaticMemberExpression b) later no_0 no_1 no_2 no
 expression_past_2 (expressions.ComputedMemberExpression b) later no_0 no_1 no_2 no_3 no_4 = let no : false ≡ true = later in cc
 expression_past_2 (expressions.CallExpression b) later no_0 no_1 no_2 no_3 no_4 = let no : false ≡ true = later in cc
 expression_past_2 (expressions.ArrayExpression b) later no_0 no_1 no_2 no_3 no_4 = let no : false ≡ true = later in cc
+expression_past_2 (expressions.ObjectExpression b) later no_0 no_1 no_2 no_3 no_4 = let no : false ≡ true = later in cc
 expression_past_2 (expressions.UnaryExpression b) later no_0 no_1 no_2 no_3 no_4 = absurd (no_0 b refl)
 expression_past_2 (expressions.NewTarget b) later no_0 no_1 no_2 no_3 no_4 = absurd (no_1 b refl)
 expression_past_2 (expressions.UpdateExpression b) later no_0 no_1 no_2 no_3 no_4 = absurd (no_2 b refl)

@@ -1,3 +1,4 @@
 pub mod Blocks
+pub mod Keys
 pub mod Parts
 pub mod Place

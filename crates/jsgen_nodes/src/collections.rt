@@ -1,19 +1,31 @@
 // Arrays and objects (ECMA-262, 13.2.4 and 13.2.5), and what is spread, one function for each row.
-ghost use Rattle.std.specs.Prelude.{◌≡◌, option_map};
-ghost use Rattle.jsgen_tree.specs.Rows.{spread_element_row, array_expression_row, in_array_expression_element};
+ghost use Rattle.std.specs.Prelude.{◌≡◌, Some, map, option_map};
+ghost use Rattle.std.specs.Str.{chars};
+ghost use Rattle.jsgen_syntax.specs.Units.{js_units};
+ghost use Rattle.jsgen_syntax.specs.declared.precedence.Precedence.TheVariants.{Comma};
+ghost use Rattle.jsgen_tree.specs.Tree.{trees};
+ghost use Rattle.jsgen_tree.specs.Inside.{written_name_in};
+ghost use Rattle.jsgen_tree.specs.Rows.{spread_element_row, array_expression_row, in_array_expression_element, object_property_row, object_expression_row, in_object_property_kind, in_property_key, in_expression};
+ghost use Rattle.jsgen_model.specs.Punctuator.{Square, Brace, colon};
+ghost use Rattle.jsgen_model.specs.Items.{◌⊕◌, brackets, punctuator, soft_space};
 ghost use Rattle.jsgen_model.specs.Layout.{layout};
-ghost use Rattle.jsgen_model.specs.Spell.{spell};
+ghost use Rattle.jsgen_model.specs.Spell.{spell, in_brackets, in_front, are_more, object_inside, spell_elements, ends_in_hole, comma_if, is_short, key_items, key_text, string_in};
 ghost use Rattle.jsgen_model.specs.Printing.{Reaches};
 ghost use Rattle.jsgen_printer.specs.Printer.{pen_of};
 ghost use Rattle.jsgen_place.specs.Place.{place_of};
+ghost use Rattle.jsgen_nodes.specs.Keys.{is_string};
 ghost use Rattle.jsgen_nodes.specs.Place.{pen_after};
 
 use crate::PrintNode;
-use jsgen_lists::{PrintElement, print_array};
-use jsgen_place::Place;
-use jsgen_printer::Printer;
-use jsgen_syntax::{Memory, Precedence};
-use jsgen_tree::{ArrayExpression, ArrayExpressionElement, SpreadElement};
+use crate::links::print_identifier_name;
+use jsgen_lists::{PrintElement, print_array, print_object};
+use jsgen_place::{Place, says_name};
+use jsgen_printer::{Bracket, Printer};
+use jsgen_syntax::{JsStr, Memory, Precedence};
+use jsgen_tree::{
+    ArrayExpression, ArrayExpressionElement, ExpressionNode, NodeType, ObjectExpression,
+    ObjectProperty, ObjectPropertyKind, PropertyKey, SpreadElement,
+};
 
 #[tactic(auto, unfolding(crate::specs::Place::pen_after))]
 pub fn print_spread_element<N: PrintNode>(
@@ -76,4 +88,199 @@ fn print_array_element<N: PrintNode>(
         ArrayExpressionElement::SpreadElement(node) => print_spread_element(node, p, place),
         ArrayExpressionElement::Expression(node) => node.get().print(p, place),
     }
+}
+
+#[tactic(auto, unfolding(crate::specs::Place::pen_after))]
+pub fn print_object_expression<N: PrintNode>(
+    node: &ObjectExpression<N>,
+    p: &mut Printer,
+    place: Place,
+) -> Result<(), Memory>
+    ensures { Reaches result (pen_of p.old) (pen_of p.new) (pen_after (object_expression_row N.plain node.now) place p.old) }
+{
+    let wrap = p.bars_brace();
+    p.print_opening_if(wrap)?;
+    print_properties(&node.properties, p, place)?;
+    p.print_closing_if(wrap)
+}
+
+// The braces and what is in them.
+#[tactic(auto, unfolding(crate::specs::Place::pen_after))]
+fn print_properties<N: PrintNode>(
+    properties: &[ObjectPropertyKind<N>],
+    p: &mut Printer,
+    place: Place,
+) -> Result<(), Memory>
+    ensures { Reaches result (pen_of p.old) (pen_of p.new) (layout (brackets Brace (object_inside (trees (map (in_object_property_kind N.plain) properties.now))
+        (spell_elements (are_more 1 (trees (map (in_object_property_kind N.plain) properties.now))) (trees (map (in_object_property_kind N.plain) properties.now)) (in_brackets Comma (place_of place (pen_of p.old)))
+        ⊕ comma_if (ends_in_hole (trees (map (in_object_property_kind N.plain) properties.now)))))) (pen_of p.old)) }
+{
+    let within = Place::in_brackets(Precedence::Comma, place.settings);
+    print_object::<_, Properties>(properties, p, within)
+}
+
+/// The properties of an object, of which none is left out.
+struct Properties;
+
+#[tactic(auto, unfolding(crate::specs::Place::pen_after))]
+impl<N: PrintNode> PrintElement<ObjectPropertyKind<N>> for Properties {
+    ghost plain = { λ m. Some (in_object_property_kind N.plain m) };
+
+    fn is_left_out(element: &ObjectPropertyKind<N>) -> bool {
+        let _ = element;
+        false
+    }
+
+    fn print_element(
+        element: &ObjectPropertyKind<N>,
+        p: &mut Printer,
+        place: Place,
+    ) -> Result<(), Memory> {
+        match element {
+            ObjectPropertyKind::ObjectProperty(node) => print_object_property(node, p, place),
+            ObjectPropertyKind::SpreadElement(node) => print_spread_element(node, p, place),
+        }
+    }
+}
+
+#[tactic(auto, unfolding(crate::specs::Place::pen_after))]
+fn print_object_property<N: PrintNode>(
+    node: &ObjectProperty<N>,
+    p: &mut Printer,
+    place: Place,
+) -> Result<(), Memory>
+    ensures { Reaches result (pen_of p.old) (pen_of p.new) (pen_after (object_property_row N.plain node.now) place p.old) }
+{
+    if is_short(node) {
+        node.value.get().print(p, place.child(Precedence::Comma))
+    } else {
+        print_whole_property(node, p, place)
+    }
+}
+
+// With its key.
+#[tactic(auto, unfolding(crate::specs::Place::pen_after))]
+fn print_whole_property<N: PrintNode>(
+    node: &ObjectProperty<N>,
+    p: &mut Printer,
+    place: Place,
+) -> Result<(), Memory>
+    ensures { Reaches result (pen_of p.old) (pen_of p.new) (layout (key_items node.now.computed (in_property_key N.plain node.now.key) (spell (in_property_key N.plain node.now.key) (in_brackets Comma (place_of place (pen_of p.old))))
+        (spell (in_property_key N.plain node.now.key) (in_front Comma (place_of place (pen_of p.old))))
+        ⊕ (punctuator colon ⊕ (soft_space ⊕ spell (in_expression N.plain node.now.value) (in_brackets Comma (place_of place (pen_of p.old)))))) (pen_of p.old)) }
+{
+    print_key(&node.key, node.computed, p, place)?;
+    print_property_value(&node.value, p, place)
+}
+
+fn is_short<N: PrintNode>(node: &ObjectProperty<N>) -> bool
+    ensures { result ≡ is_short node.now.shorthand (in_property_key N.plain node.now.key) (in_expression N.plain node.now.value) }
+{
+    match key_name(&node.key) {
+        Some(name) => says_name(node.shorthand, name, node.value.get().reference()),
+        None => false,
+    }
+}
+
+fn key_name<N: PrintNode>(key: &PropertyKey<N>) -> Option<&str>
+    ensures { option_map (λ s. chars s.now) result ≡ written_name_in (in_property_key N.plain key.now) }
+{
+    match key {
+        PropertyKey::IdentifierName(node) => Some(node.name.as_str()),
+        PropertyKey::Expression(node) => node.get().written_name(),
+    }
+}
+
+// In brackets where it is computed.
+#[tactic(auto, unfolding(crate::specs::Place::pen_after))]
+fn print_key<N: PrintNode>(
+    key: &PropertyKey<N>,
+    computed: bool,
+    p: &mut Printer,
+    place: Place,
+) -> Result<(), Memory>
+    ensures { Reaches result (pen_of p.old) (pen_of p.new) (layout (key_items computed (in_property_key N.plain key.now) (spell (in_property_key N.plain key.now) (in_brackets Comma (place_of place (pen_of p.old))))
+        (spell (in_property_key N.plain key.now) (in_front Comma (place_of place (pen_of p.old))))) (pen_of p.old)) }
+{
+    if computed {
+        print_computed_key(key, p, place)
+    } else {
+        print_key_text(key, p, place.child(Precedence::Comma))
+    }
+}
+
+#[tactic(auto, unfolding(crate::specs::Place::pen_after))]
+fn print_computed_key<N: PrintNode>(
+    key: &PropertyKey<N>,
+    p: &mut Printer,
+    place: Place,
+) -> Result<(), Memory>
+    ensures { Reaches result (pen_of p.old) (pen_of p.new) (layout (brackets Square (key_text (in_property_key N.plain key.now) (spell (in_property_key N.plain key.now) (in_brackets Comma (place_of place (pen_of p.old)))))) (pen_of p.old)) }
+{
+    let within = Place::in_brackets(Precedence::Comma, place.settings);
+    p.print_opening(Bracket::Square)?;
+    print_key_text(key, p, within)?;
+    p.print_closing(Bracket::Square)
+}
+
+#[tactic(auto, unfolding(crate::specs::Place::pen_after))]
+fn print_key_text<N: PrintNode>(
+    key: &PropertyKey<N>,
+    p: &mut Printer,
+    place: Place,
+) -> Result<(), Memory>
+    ensures { Reaches result (pen_of p.old) (pen_of p.new) (layout (key_text (in_property_key N.plain key.now) (spell (in_property_key N.plain key.now) (place_of place (pen_of p.old)))) (pen_of p.old)) }
+{
+    match key {
+        PropertyKey::IdentifierName(node) => print_identifier_name(node, p, place),
+        PropertyKey::Expression(node) => print_key_expression(node, p, place),
+    }
+}
+
+// A string is never in backticks there.
+#[tactic(auto, unfolding(crate::specs::Place::pen_after))]
+fn print_key_expression<N: PrintNode>(
+    key: &ExpressionNode<N>,
+    p: &mut Printer,
+    place: Place,
+) -> Result<(), Memory>
+    ensures { Reaches result (pen_of p.old) (pen_of p.new) (layout (key_text (in_expression N.plain key.now) (spell (in_expression N.plain key.now) (place_of place (pen_of p.old)))) (pen_of p.old)) }
+{
+    match key_string(key.get()) {
+        Some(value) => p.print_string(value, false),
+        None => key.get().print(p, place),
+    }
+}
+
+// The string that a key is, where no parentheses are round it.
+fn key_string<N: PrintNode>(key: &N) -> Option<&JsStr>
+    ensures { option_map (λ v. js_units v.now) result ≡ string_in (N.plain key.now) }
+{
+    if is_string(key.node_type()) {
+        key.string()
+    } else {
+        None
+    }
+}
+
+fn is_string(node_type: NodeType) -> bool
+    ensures { result ≡ is_string node_type }
+{
+    matches!(node_type, NodeType::StringLiteral)
+}
+
+// Behind its key.
+#[tactic(auto, unfolding(crate::specs::Place::pen_after))]
+fn print_property_value<N: PrintNode>(
+    value: &ExpressionNode<N>,
+    p: &mut Printer,
+    place: Place,
+) -> Result<(), Memory>
+    ensures { Reaches result (pen_of p.old) (pen_of p.new) (layout (punctuator colon ⊕ (soft_space ⊕ spell (in_expression N.plain value.now) (in_brackets Comma (place_of place (pen_of p.old))))) (pen_of p.old)) }
+{
+    p.print_colon()?;
+    p.print_soft_space()?;
+    value
+        .get()
+        .print(p, Place::in_brackets(Precedence::Comma, place.settings))
 }

@@ -15,7 +15,8 @@ mod strings;
 ghost use Rattle.std.specs.Prelude.{◌≡◌, option_map};
 ghost use Rattle.jsgen_syntax.specs.Units.{js_units};
 ghost use Rattle.jsgen_tree.specs.Tree.{Tree, type_of};
-ghost use Rattle.jsgen_tree.specs.Inside.{without_parentheses, ends_open};
+ghost use Rattle.std.specs.Str.{chars};
+ghost use Rattle.jsgen_tree.specs.Inside.{without_parentheses, ends_open, reference_in, written_name_in};
 ghost use Rattle.jsgen_tree.specs.Plain.{node_plain};
 ghost use Rattle.jsgen_model.specs.Spell.{string_in, string_statement};
 ghost use Rattle.jsgen_model.specs.Printing.{Reaches};
@@ -66,6 +67,14 @@ pub trait PrintNode {
     /// Whether it ends in an `if` without `else`.
     fn ends_open(&self) -> bool
         ensures { result ≡ ends_open (plain self.now) };
+
+    /// The name that it looks up, without the parentheses that it may have round it.
+    fn reference(&self) -> Option<&str>
+        ensures { option_map (λ s. chars s.now) result ≡ reference_in (without_parentheses (plain self.now)) };
+
+    /// The name that stands there as it is written.
+    fn written_name(&self) -> Option<&str>
+        ensures { option_map (λ s. chars s.now) result ≡ written_name_in (plain self.now) };
 }
 
 /// The knot: the one recursion.
@@ -124,5 +133,13 @@ impl PrintNode for Node {
             Node::Declaration(node) => declaration_ends_open(node),
             Node::BindingPattern(node) => binding_pattern_ends_open(node),
         }
+    }
+
+    fn reference(&self) -> Option<&str> {
+        self.reference()
+    }
+
+    fn written_name(&self) -> Option<&str> {
+        self.written_name()
     }
 }

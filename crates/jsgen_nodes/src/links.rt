@@ -24,7 +24,11 @@ use jsgen_tree::{
 };
 
 #[tactic(auto, unfolding(crate::specs::Place::pen_after))]
-fn print_identifier_name(node: &IdentifierName, p: &mut Printer, place: Place) -> Result<(), Memory>
+pub(crate) fn print_identifier_name(
+    node: &IdentifierName,
+    p: &mut Printer,
+    place: Place,
+) -> Result<(), Memory>
     ensures { Reaches result (pen_of p.old) (pen_of p.new) (pen_after (identifier_name_row node.now) place p.old) }
 {
     let _ = place;

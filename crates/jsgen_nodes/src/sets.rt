@@ -9,7 +9,7 @@ ghost use Rattle.jsgen_nodes.specs.Parts.{expression_part, statement_part};
 
 use crate::PrintNode;
 use crate::blocks::{print_block_statement, print_empty_statement, print_if_statement};
-use crate::collections::print_array_expression;
+use crate::collections::{print_array_expression, print_object_expression};
 use crate::expressions::{
     print_binary_expression, print_boolean_literal, print_identifier_reference,
     print_logical_expression, print_null_literal, print_numeric_literal,
@@ -66,6 +66,7 @@ fn print_expression_in_collections<N: PrintNode>(
 {
     match node {
         Expression::ArrayExpression(node) => print_array_expression(node, p, place),
+        Expression::ObjectExpression(node) => print_object_expression(node, p, place),
         _ => print_expression_in_operations(node, p, place),
     }
 }

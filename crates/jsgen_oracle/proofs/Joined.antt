@@ -148,6 +148,7 @@ expression_joined grammar.a_number = refl
 expression_joined (grammar.a_string e) = refl
 expression_joined (grammar.in_parentheses {ts = ts} r) = and_from (may_be_given ts) true (given_from ts (expression_starts r)) refl
 expression_joined (grammar.an_array r) = refl
+expression_joined (grammar.an_object r) = refl
 
 binding_joined : {c : Allowed} {ts : Tokens} {t : Tree} → ReadsBinding c ts t → is_joined ts ≡ true
 binding_joined (grammar.a_bound_name e h) = refl

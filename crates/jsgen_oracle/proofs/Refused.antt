@@ -118,6 +118,7 @@ starts_well (piece m (Number w) ts) = goes_on ts
 starts_well (piece m (Quoted q w) ts) = goes_on ts
 starts_well (group m Round inside ts) = goes_on ts
 starts_well (group m Square inside ts) = goes_on ts
+starts_well (group m Brace inside ts) = goes_on ts
 starts_well ts = false
 
 abbrev begins_with_const : Tokens → Bool
@@ -175,7 +176,7 @@ starts_further (piece n (Quoted q w) ts) b j h = goes_further ts b j h
 starts_further (piece n (Sign r) ts) b j h = let k = and_parts (is_prefix_sign r) (starts_well ts) h in and_from _ _ k.0 (starts_further ts b j k.1)
 starts_further (group n Round inside ts) b j h = goes_further ts b j h
 starts_further (group n Square inside ts) b j h = goes_further ts b j h
-starts_further (group n Brace inside ts) b j h = absurd (both_ways false refl h)
+starts_further (group n Brace inside ts) b j h = goes_further ts b j h
 
 operator_joins : (o : BinaryOperator) (m : Bool) (b : Tokens) → goes_on (piece m (operator_piece o) b) ≡ true
 operator_joins operators.BitwiseOR m b = refl
@@ -283,6 +284,7 @@ expression_starts grammar.a_number = refl
 expression_starts (grammar.a_string e) = refl
 expression_starts (grammar.in_parentheses r) = refl
 expression_starts (grammar.an_array r) = refl
+expression_starts (grammar.an_object r) = refl
 
 binding_starts : {c : Allowed} {ts : Tokens} {t : Tree} → ReadsBinding c ts t → begins_with_name ts ≡ true
 binding_starts (grammar.a_bound_name e h) = refl
@@ -306,7 +308,7 @@ operand_begins (piece m (Sign semicolon) ts) h = refl
 operand_begins (piece m (Sign r) ts) h = h
 operand_begins (group m Round inside ts) h = h
 operand_begins (group m Square inside ts) h = h
-operand_begins (group m Brace inside ts) h = absurd (both_ways false refl h)
+operand_begins (group m Brace inside ts) h = refl
 
 declaration_begins : {c : Allowed} {ts : Tokens} {t : Tree} → ReadsDeclaration c ts t → (b : Tokens) → begins_well (ts ⧺ b) ≡ true
 declaration_begins (grammar.a_const {ts = ts} r) b = or_right _ _ (or_left _ _ (named_further ts b (declarators_start r)))

@@ -1,6 +1,6 @@
 // Normal forms as plain data.
 use jsgen_syntax::{BinaryOperator, JsStr, LogicalOperator, UnaryOperator, UpdateOperator};
-use jsgen_tree::{NodeType, VariableDeclarationKind};
+use jsgen_tree::{NodeType, PropertyKind, VariableDeclarationKind};
 
 /// A program in its normal form, or a node of one. Spans, the source and the kind of a program have no place in it.
 #[derive(Drop, PartialEq, Eq)]
@@ -29,6 +29,7 @@ pub enum Value {
     LogicalOperator(LogicalOperator),
     UnaryOperator(UnaryOperator),
     UpdateOperator(UpdateOperator),
+    PropertyKind(PropertyKind),
 }
 
 /// What a field of children holds.

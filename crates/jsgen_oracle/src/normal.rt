@@ -1,10 +1,14 @@
 // The normal form of each type of node.
-ghost use Rattle.std.specs.Prelude.{◌≡◌, ◌∷◌, [], map, option_map, IfOk};
+ghost use Rattle.std.specs.Prelude.{◌≡◌, ◌∷◌, [], ◌&&◌, false, map, option_map, IfOk};
+ghost use Rattle.std.specs.Option.{option_map_or};
+ghost use Rattle.std.specs.Str.{chars};
 ghost use Rattle.jsgen_tree.specs.Tree.{trees, holed, optional};
-ghost use Rattle.jsgen_tree.specs.Rows.{program_row, directive_row, block_statement_row, if_statement_row, variable_declaration_row, variable_declarator_row, numeric_literal_row, string_literal_row, logical_expression_row, identifier_name_row, static_member_expression_row, call_expression_row, spread_element_row, array_expression_row, expression_plain, statement_plain, declaration_plain, binding_pattern_plain, in_expression, in_statement, in_argument, in_array_expression_element, new_expression_row, update_expression_row, in_simple_assignment_target};
+ghost use Rattle.jsgen_tree.specs.Rows.{program_row, directive_row, block_statement_row, if_statement_row, variable_declaration_row, variable_declarator_row, numeric_literal_row, string_literal_row, logical_expression_row, identifier_name_row, static_member_expression_row, call_expression_row, spread_element_row, array_expression_row, expression_plain, statement_plain, declaration_plain, binding_pattern_plain, in_expression, in_statement, in_argument, in_array_expression_element, new_expression_row, update_expression_row, in_simple_assignment_target, object_property_row, object_expression_row, in_object_property_kind, in_property_key};
+ghost use Rattle.jsgen_tree.specs.Atom.{no_value, flag, property_kind};
+ghost use Rattle.jsgen_tree.specs.Inside.{written_name_in, is_proto};
 ghost use Rattle.jsgen_tree.specs.Plain.{node_plain};
-ghost use Rattle.jsgen_model.specs.Normal.{normal, normal_maybe, normal_trees, links, unbraced};
-ghost use Rattle.jsgen_oracle.specs.Form.{form_plain, forms_plain, holed_plain, optional_plain};
+ghost use Rattle.jsgen_model.specs.Normal.{normal, normal_maybe, normal_trees, links, unbraced, is_proto_shorthand};
+ghost use Rattle.jsgen_oracle.specs.Form.{form_plain, forms_plain, holed_plain, optional_plain, value_plain};
 ghost use Rattle.jsgen_oracle.specs.declared.form.Value.TheVariants.{Nothing};
 
 use crate::braces::unbraced;
@@ -21,20 +25,27 @@ use jsgen_tree::{
     Argument, ArrayExpression, ArrayExpressionElement, BindingPattern, BlockStatement,
     CallExpression, Declaration, Directive, Expression, ExpressionNode, IdentifierName,
     IfStatement, LogicalExpression, NewExpression, Node, NodeType, NumericLiteral, NumericValue,
-    Program, SimpleAssignmentTarget, SpreadElement, Statement, StatementNode,
-    StaticMemberExpression, StringLiteral, UpdateExpression, VariableDeclaration,
-    VariableDeclarator,
+    ObjectExpression, ObjectProperty, ObjectPropertyKind, Program, PropertyKey,
+    SimpleAssignmentTarget, SpreadElement, Statement, StatementNode, StaticMemberExpression,
+    StringLiteral, UpdateExpression, VariableDeclaration, VariableDeclarator, is_proto,
 };
 use std::alloc::Global;
 
 /// What the normal form asks of a child. Only `Node` implements it.
 pub trait NormalNode {
+    ghost use Rattle.std.specs.Prelude.{option_map};
+    ghost use Rattle.std.specs.Str.{chars};
     ghost use Rattle.jsgen_tree.specs.Tree.{Tree};
+    ghost use Rattle.jsgen_tree.specs.Inside.{written_name_in};
 
     ghost plain: { Self → Tree };
 
     fn normal_form(&self, alloc: Global) -> Result<Form, Memory>
         ensures { IfOk result (λ f. form_plain f ≡ normal (plain self.now)) };
+
+    /// The name that stands there as it is written.
+    fn written_name(&self) -> Option<&str>
+        ensures { option_map (λ s. chars s.now) result ≡ written_name_in (plain self.now) };
 }
 
 // ---- programs and statements
@@ -430,6 +441,106 @@ fn element_form<N: NormalNode>(
     }
 }
 
+fn object_expression_form<N: NormalNode>(
+    alloc: Global,
+    node: &ObjectExpression<N>,
+) -> Result<Form, Memory>
+    ensures { IfOk result (λ f. form_plain f ≡ normal (object_expression_row N.plain node.now)) }
+{
+    let properties = property_forms(alloc, &node.properties)?;
+    list(
+        alloc,
+        NodeType::ObjectExpression,
+        Vec::new(alloc),
+        properties,
+    )
+}
+
+fn property_forms<N: NormalNode>(
+    alloc: Global,
+    properties: &[ObjectPropertyKind<N>],
+) -> Result<Vec<Form>, Memory>
+    ensures { IfOk result (λ fs. forms_plain fs.items ≡ normal_trees (trees (map (in_object_property_kind N.plain) properties.now))) }
+{
+    let mut forms = Vec::new(alloc);
+    for property in properties {
+        forms.push(property_form(alloc, property)?)?;
+    }
+    Ok(forms)
+}
+
+fn property_form<N: NormalNode>(
+    alloc: Global,
+    property: &ObjectPropertyKind<N>,
+) -> Result<Form, Memory>
+    ensures { IfOk result (λ f. form_plain f ≡ normal (in_object_property_kind N.plain property.now)) }
+{
+    match property {
+        ObjectPropertyKind::ObjectProperty(node) => object_property_form(alloc, node),
+        ObjectPropertyKind::SpreadElement(node) => spread_element_form(alloc, node),
+    }
+}
+
+fn object_property_form<N: NormalNode>(
+    alloc: Global,
+    node: &ObjectProperty<N>,
+) -> Result<Form, Memory>
+    ensures { IfOk result (λ f. form_plain f ≡ normal (object_property_row N.plain node.now)) }
+{
+    let values = property_values(alloc, node)?;
+    let key = key_form(alloc, &node.key)?;
+    let value = node.value.get().normal_form(alloc)?;
+    row_of_two(
+        alloc,
+        NodeType::ObjectProperty,
+        values,
+        Slot::One(key),
+        Slot::One(value),
+    )
+}
+
+fn property_values<N: NormalNode>(
+    alloc: Global,
+    node: &ObjectProperty<N>,
+) -> Result<Vec<Value>, Memory>
+    ensures { IfOk result (λ v. map value_plain v.items ≡ property_kind node.now.kind ∷ no_value ∷ flag (is_proto_shorthand node.now.shorthand (in_property_key N.plain node.now.key)) ∷ flag node.now.computed ∷ []) }
+{
+    let shorthand = is_proto_key(&node.key) && node.shorthand;
+    Ok(vec![in alloc;
+        Value::PropertyKind(node.kind),
+        Value::Nothing,
+        Value::Flag(shorthand),
+        Value::Flag(node.computed),
+    ]?)
+}
+
+fn key_name<N: NormalNode>(key: &PropertyKey<N>) -> Option<&str>
+    ensures { option_map (λ s. chars s.now) result ≡ written_name_in (in_property_key N.plain key.now) }
+{
+    match key {
+        PropertyKey::IdentifierName(node) => Some(node.name.as_str()),
+        PropertyKey::Expression(node) => node.get().written_name(),
+    }
+}
+
+fn is_proto_key<N: NormalNode>(key: &PropertyKey<N>) -> bool
+    ensures { result ≡ option_map_or is_proto (written_name_in (in_property_key N.plain key.now)) false }
+{
+    match key_name(key) {
+        Some(name) => is_proto(name),
+        None => false,
+    }
+}
+
+fn key_form<N: NormalNode>(alloc: Global, key: &PropertyKey<N>) -> Result<Form, Memory>
+    ensures { IfOk result (λ f. form_plain f ≡ normal (in_property_key N.plain key.now)) }
+{
+    match key {
+        PropertyKey::IdentifierName(node) => identifier_name_form(alloc, node),
+        PropertyKey::Expression(node) => node.get().normal_form(alloc),
+    }
+}
+
 // ---- sets; a row that the normal form only copies is an arm
 
 fn expression_form<N: NormalNode>(alloc: Global, node: &Expression<N>) -> Result<Form, Memory>
@@ -481,6 +592,7 @@ fn expression_form<N: NormalNode>(alloc: Global, node: &Expression<N>) -> Result
         Expression::NewExpression(node) => new_expression_form(alloc, node),
         Expression::Super(_) => Ok(leaf(alloc, NodeType::Super, Vec::new(alloc))),
         Expression::NewTarget(_) => Ok(leaf(alloc, NodeType::NewTarget, Vec::new(alloc))),
+        Expression::ObjectExpression(node) => object_expression_form(alloc, node),
     }
 }
 
@@ -528,5 +640,9 @@ impl NormalNode for Node {
             Node::Declaration(declaration) => declaration_form(alloc, declaration),
             Node::BindingPattern(pattern) => binding_pattern_form(alloc, pattern),
         }
+    }
+
+    fn written_name(&self) -> Option<&str> {
+        self.written_name()
     }
 }

@@ -4,7 +4,9 @@
 mod endings;
 mod operands;
 mod place;
+mod properties;
 
 pub use endings::if_ends_open;
 pub use operands::{Operand, left_level, right_level, unmixed, update_level};
 pub use place::{Context, Place, Settings};
+pub use properties::says_name;

@@ -3,6 +3,7 @@ ghost use Rattle.std.specs.Prelude.{◌≡◌, ◌^◌, ◌≤◌, ◌*◌, if�
 ghost use Rattle.jsgen_syntax.specs.Buffer.{indent_width};
 ghost use Rattle.jsgen_syntax.specs.Name.{goes_in_word};
 ghost use Rattle.jsgen_syntax.specs.declared.quote.Quote.TheVariants.{Single, Double};
+ghost use Rattle.jsgen_model.specs.Layout.{but_backticks};
 
 use crate::operator::Operator;
 
@@ -64,7 +65,7 @@ pub struct Printer {
 impl Printer {
     ghost use Rattle.std.specs.Prelude.{IfOk, [], ◌∷◌, ◌++◌, decimal, replicate, string_bytes, true, IsTrue};
     ghost use Rattle.std.specs.Str.{chars, encode_utf8_all};
-    ghost use Rattle.jsgen_model.specs.Punctuator.{Round, opening, closing, ellipsis, comma, semicolon, equal, plus, minus, equal_equal, equal_equal_equal, plus_plus, minus_minus};
+    ghost use Rattle.jsgen_model.specs.Punctuator.{Round, opening, closing, ellipsis, comma, semicolon, equal, plus, minus, equal_equal, equal_equal_equal, plus_plus, minus_minus, colon};
     ghost use Rattle.jsgen_model.specs.Items.{word, name, number, string, first_string, directive, member_dot, punctuator, soft_space, soft_line, hard_space, indentation, body_space, statement_end, due_semicolon, drop_semicolon, statement_begins};
     ghost use Rattle.jsgen_model.specs.Printing.{Reaches};
     ghost use Rattle.jsgen_model.specs.Layout.{layout, written, written_if, other_end, space_if, ends_in_word, ends_in_escapes, is_apart, name_ending, joins, dot_joins, indented, ends_in_less_bang, chosen_quote, deeper_level, empty_pen, style_of};
@@ -73,7 +74,7 @@ impl Printer {
     ghost use Rattle.jsgen_syntax.specs.Units.{js_units};
     ghost use Rattle.jsgen_syntax.specs.Strings.{quote_char, quoted};
     ghost use Rattle.jsgen_syntax.specs.Raw.{directive_text};
-    ghost use Rattle.jsgen_model.specs.Spell.{operator_item, unary_sign, behind_unary, update_item, logical_item};
+    ghost use Rattle.jsgen_model.specs.Spell.{operator_item, unary_sign, behind_unary, update_item, logical_item, bars_brace};
     ghost use Rattle.jsgen_printer.specs.Printer.{bracket_of, pen_of, ending_of, stands_apart, name_written, is_ascii, deepened, at_depth};
 
     /// A printer that has printed nothing.
@@ -281,8 +282,10 @@ impl Printer {
     {
         if self.minify {
             cheapest_quote(value, backticks)
-        } else {
+        } else if backticks {
             self.quote
+        } else {
+            but_backticks(self.quote)
         }
     }
 
@@ -351,6 +354,13 @@ impl Printer {
         Ok(())
     }
 
+    /// Whether a brace at the end of the code would not open an object (ECMA-262, 14.5).
+    pub fn bars_brace(&self) -> bool
+        ensures { result ≡ bars_brace (pen_of self.now).start }
+    {
+        matches!(&self.start, Start::Statement)
+    }
+
     pub fn print_opening(&mut self, bracket: Bracket) -> Result<(), Memory>
         ensures { Reaches result (pen_of self.old) (pen_of self.new)
             (written (opening (bracket_of bracket)) other_end (pen_of self.old)) }
@@ -390,6 +400,12 @@ impl Printer {
         ensures { Reaches result (pen_of self.old) (pen_of self.new) (layout (punctuator comma) (pen_of self.old)) }
     {
         self.print_str(",", Ending::Other)
+    }
+
+    pub fn print_colon(&mut self) -> Result<(), Memory>
+        ensures { Reaches result (pen_of self.old) (pen_of self.new) (layout (punctuator colon) (pen_of self.old)) }
+    {
+        self.print_str(":", Ending::Other)
     }
 
     pub fn print_ellipsis(&mut self) -> Result<(), Memory>
@@ -604,6 +620,17 @@ fn wanted_quote(single: bool) -> Quote
     ensures { result ≡ if single then Single else Double }
 {
     if single { Quote::Single } else { Quote::Double }
+}
+
+// A quote that is never a backtick.
+fn but_backticks(quote: Quote) -> Quote
+    ensures { result ≡ but_backticks quote }
+{
+    match quote {
+        Quote::Backtick => Quote::Double,
+        Quote::Single => Quote::Single,
+        Quote::Double => Quote::Double,
+    }
 }
 
 // What can stand in a word, seen from its last byte.

@@ -134,6 +134,7 @@ opens grammar.a_number = tt
 opens (grammar.a_string e) = refl
 opens (grammar.in_parentheses r) = tt
 opens (grammar.an_array r) = tt
+opens (grammar.an_object r) = tt
 
 -- whatever follows
 abbrev pub Apart : Tokens → Type 0

@@ -3,10 +3,10 @@ use Rattle.std.proofs.Common.{◌≡◌, ℕ, Bool, true, false, refl, ap, ◌�
 use Rattle.jsgen_tree.specs.Tree.{Tree, Trees, no_trees, more, hole}
 use Rattle.jsgen_model.specs.Punctuator.{comma}
 use Rattle.jsgen_model.specs.Tokens.{Tokens, done, piece, ◌⧺◌, Sign}
-use Rattle.jsgen_model.specs.Items.{Items, ◌⊕◌, punctuator, soft_line}
+use Rattle.jsgen_model.specs.Items.{Items, ◌⊕◌, punctuator, soft_space, soft_line}
 use Rattle.jsgen_model.specs.Layout.{Pen, layout, deeper_level}
 use Rattle.jsgen_model.specs.Normal.{normal_trees}
-use Rattle.jsgen_model.specs.Spell.{Place, spell, spell_elements, next_line, line_or_space, on_lines, ends_in_hole, comma_if}
+use Rattle.jsgen_model.specs.Spell.{Place, spell, spell_elements, next_line, line_or_space, on_lines, ends_in_hole, comma_if, object_inside}
 use Rattle.jsgen_token_laws.proofs.Last.{Last, After, line_of, Begun, Knows}
 use Rattle.jsgen_token_laws.proofs.Writes.{Writes, wrote_none, wrote_both, wrote_and_none}
 use Rattle.jsgen_token_laws.proofs.Steps.{Gap, gap, wrote_comma, soft_space_written, soft_line_written, indentation_written}
@@ -139,3 +139,32 @@ lined L items ts f p l z b k =
 pub inside_lines : (L : Tokens → Trees → Type 0) (lines : Bool) (items : Items) (ts : Trees) → InsideOf L items ts → InsideOf L (on_lines lines items) ts
 inside_lines L true items ts f = lined L items ts f
 inside_lines L false items ts f = f
+
+-- ---- in the braces of an object
+
+-- with a space on each side
+padded : (L : Tokens → Trees → Type 0) (items : Items) (ts : Trees) → InsideOf L items ts → InsideOf L (soft_space ⊕ (items ⊕ soft_space)) ts
+padded L items ts f p l z b k =
+    let p1 : Pen = layout soft_space p in
+    let p2 : Pen = layout items p1 in
+    let a = soft_space_written p l k in
+    let g = f p1 a.last (a.semicolon ∙ z) (a.begun b) a.writes.knows in
+    let s = soft_space_written p2 g.last g.writes.knows in
+    record {
+      last = s.last;
+      tokens = g.tokens;
+      writes = wrote_and_none (wrote_both a.writes g.writes) s.writes;
+      semicolon = s.semicolon ∙ g.semicolon;
+      trees = g.trees;
+      reads = g.reads;
+      same = g.same;
+    }
+
+pub inside_braces : (L : Tokens → Trees → Type 0) (items : Items) (ts : Trees) → InsideOf L items ts → InsideOf L (object_inside ts items) ts
+inside_braces L items no_trees f = f
+inside_braces L items (more t no_trees) f = padded L items (more t no_trees) f
+inside_braces L items (more t (more u us)) f = lined L items (more t (more u us)) f
+inside_braces L items (more t (hole us)) f = lined L items (more t (hole us)) f
+inside_braces L items (hole no_trees) f = padded L items (hole no_trees) f
+inside_braces L items (hole (more u us)) f = lined L items (hole (more u us)) f
+inside_braces L items (hole (hole us)) f = lined L items (hole (hole us)) f

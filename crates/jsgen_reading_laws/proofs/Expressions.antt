@@ -28,7 +28,7 @@ use Rattle.jsgen_token_laws.proofs.Characters.{letters_spelled}
 use Rattle.jsgen_token_laws.proofs.Last.{After, line_of}
 use Rattle.jsgen_token_laws.proofs.Steps.{wrote_word, wrote_name, wrote_number, wrote_quoted, wrote_dot}
 use Rattle.jsgen_reading_laws.proofs.Levels.{level_of, under, from_primary, weaken_member, from_left}
-use Rattle.jsgen_reading_laws.proofs.Families.{IsExpression, IsLink, IsElement, AreArguments, AreElements}
+use Rattle.jsgen_reading_laws.proofs.Families.{IsExpression, IsLink, IsElement, AreArguments, AreElements, IsProperty, AreProperties, IsKey}
 use Rattle.jsgen_token_laws.proofs.Writes.{wrote_both}
 use Rattle.jsgen_reading_laws.proofs.Families as family
 use Rattle.jsgen_reading_laws.proofs.Asked.{asked}
@@ -40,8 +40,9 @@ use Rattle.jsgen_reading_laws.proofs.Prefixes.{word_begins, good_unary_operation
 use Rattle.jsgen_reading_laws.proofs.Chains.{good_logical_operation}
 use Rattle.jsgen_reading_laws.proofs.Constructions.{good_construction}
 use Rattle.jsgen_reading_laws.proofs.Links.{ElementOf, ArgumentsAt, MoreArgumentsAt, LinkPrinted, link_expression, link_super, good_named_member, good_computed_member, good_call, good_element, good_spread, no_arguments, first_of_arguments, no_more_arguments, one_more_argument, named_target, computed_target}
-use Rattle.jsgen_reading_laws.proofs.Collections.{ElementsOf, no_elements, first_of_elements, left_out_of_elements, good_array}
+use Rattle.jsgen_reading_laws.proofs.Collections.{ElementsOf, no_elements, first_of_elements, left_out_of_elements, good_array, PropertiesOf, no_properties, first_of_properties, good_object}
 use Rattle.jsgen_reading_laws.proofs.Updates.{good_update}
+use Rattle.jsgen_reading_laws.proofs.Properties.{KeyOf, PropertyOf, good_name_key, good_string_key, good_number_key, good_computed_key, good_spread_property, good_property}
 
 -- ---- names and numbers
 
@@ -248,6 +249,7 @@ mutual
   printed_expression {c} (family.a_computed_member {a} {o} {e} m v w) = good_computed_member c a o e m (printed_link v) (printed_expression w)
   printed_expression {c} (family.a_call {a} {f} {es} m v w) = good_call c a f es m (printed_link v) (printed_arguments w)
   printed_expression {c} (family.an_array {a} {es} v) = good_array c a es (printed_elements v)
+  printed_expression {c} (family.an_object {a} {ps} v) = good_object c a ps (printed_properties v)
 
   printed_target : {c : Allowed} {t : Tree} → IsExpression c t → is_simple_assignment_target (type_of t) ≡ true → TargetPrinted c t
   printed_target {c} (family.a_reference {a} h) s = reference_target c a h
@@ -266,6 +268,20 @@ mutual
   more_arguments : {c : Allowed} {es : Trees} → AreArguments c es → MoreArgumentsAt c es
   more_arguments {c} family.no_argument = no_more_arguments c
   more_arguments {c} (family.first_argument {e} {es} v w) = one_more_argument c e es (printed_element v) (more_arguments w)
+
+  printed_properties : {c : Allowed} {ps : Trees} → AreProperties c ps → PropertiesOf c ps
+  printed_properties {c} family.no_property = no_properties c
+  printed_properties {c} (family.first_property {t} {ts} v w) = first_of_properties c t ts (printed_property v) (printed_properties w)
+
+  printed_property : {c : Allowed} {t : Tree} → IsProperty c t → PropertyOf c t
+  printed_property {c} (family.a_spread_property {a} {e} v) = good_spread_property c a e (printed_expression v)
+  printed_property {c} (family.a_property {computed} {a} {k} {v = x} m d key f value) = good_property c a computed k x m d f key value (printed_key key) (printed_expression value)
+
+  printed_key : {c : Allowed} {computed : Bool} {t : Tree} → IsKey c computed t → KeyOf c computed t
+  printed_key {c} (family.a_name_key {a} h) = good_name_key c a h
+  printed_key {c} (family.a_string_key {a} h) = good_string_key c a h
+  printed_key {c} (family.a_number_key {a} h) = good_number_key c a h
+  printed_key {c} (family.a_computed_key {t} v) = good_computed_key v (printed_expression v)
 
   printed_elements : {c : Allowed} {es : Trees} → AreElements c es → ElementsOf c es
   printed_elements {c} family.no_element = no_elements c

@@ -5,9 +5,9 @@ use Rattle.jsgen_tree.specs.Atom.{Atom, text}
 use Rattle.jsgen_tree.specs.Atom as atoms
 use Rattle.jsgen_tree.specs.Tree.{Tree, node, Maybe, absent, given, Trees, no_trees, more, hole, Atoms, type_of, span_of}
 use Rattle.jsgen_tree.specs.Nodes as tree
-use Rattle.jsgen_tree.specs.Values.{as_text, program_kind, directive_directive, binding_identifier_name, identifier_reference_name, identifier_name_name, numeric_literal_kind, string_literal_value, variable_declaration_declare, variable_declarator_definite, static_member_expression_optional, computed_member_expression_optional, call_expression_optional}
+use Rattle.jsgen_tree.specs.Values.{as_text, program_kind, directive_directive, binding_identifier_name, identifier_reference_name, identifier_name_name, numeric_literal_kind, string_literal_value, variable_declaration_declare, variable_declarator_definite, static_member_expression_optional, computed_member_expression_optional, call_expression_optional, object_property_method, object_property_shorthand, object_property_computed}
 use Rattle.jsgen_tree.specs.Everywhere.{EverywhereIfGiven, EverywhereInTrees}
-use Rattle.jsgen_tree.specs.Sets.{in_set, is_expression, is_argument, is_statement, is_binding_pattern, is_variable_declarator, is_identifier_name, is_directive, is_simple_assignment_target}
+use Rattle.jsgen_tree.specs.Sets.{in_set, is_expression, is_argument, is_statement, is_binding_pattern, is_variable_declarator, is_identifier_name, is_directive, is_simple_assignment_target, is_object_property_kind}
 use Rattle.jsgen_tree.specs.declared.types.NodeType.{NodeType}
 use Rattle.jsgen_tree.specs.declared.types.NodeType.TheVariants as types
 use Rattle.jsgen_tree.specs.declared.types.NodeSet.{NodeSet}
@@ -20,7 +20,7 @@ use Rattle.jsgen_model.specs.declared.fault.TreeFault.TheVariants as faults
 use Rattle.jsgen_model.specs.Grammar.{Allowed, in_module}
 use Rattle.jsgen_model.specs.Plain.{IsPlain, is_plain_row, is_module, is_whole, is_raw, is_absent, has_no_hole}
 use Rattle.jsgen_model.specs.Normal.{or_none, directive_units}
-use Rattle.jsgen_model.specs.Valid.{Surroundings, ChildPlace, takes_super, is_super, may_stand, breaches, in_maybe, in_trees, fault_if, set_faults, span_faults, own_faults, body_faults, name_faults, directive_faults, written_name_faults, declaration_faults}
+use Rattle.jsgen_model.specs.Valid.{Surroundings, ChildPlace, takes_super, is_super, may_stand, breaches, in_maybe, in_trees, fault_if, set_faults, span_faults, own_faults, body_faults, name_faults, directive_faults, written_name_faults, declaration_faults, is_literal_key, key_faults, shorthand_faults}
 
 mutual
   -- what a link goes on from
@@ -46,6 +46,23 @@ mutual
     an_operation : {c : Allowed} {a : Atoms} {l r : Tree} → IsExpression c l → IsExpression c r → IsExpression c (tree.binary a l r)
     a_logical_operation : {c : Allowed} {a : Atoms} {l r : Tree} → IsExpression c l → IsExpression c r → IsExpression c (tree.logical a l r)
     an_array : {c : Allowed} {a : Atoms} {es : Trees} → AreElements c es → IsExpression c (tree.array a es)
+    an_object : {c : Allowed} {a : Atoms} {ps : Trees} → AreProperties c ps → IsExpression c (tree.object_expression a ps)
+
+  pub data AreProperties : Allowed → Trees → Type 0 where
+    no_property : {c : Allowed} → AreProperties c no_trees
+    first_property : {c : Allowed} {t : Tree} {ts : Trees} → IsProperty c t → AreProperties c ts → AreProperties c (more t ts)
+
+  -- a property, or an object whose properties are spread
+  pub data IsProperty : Allowed → Tree → Type 0 where
+    a_property : {c : Allowed} {computed : Bool} {a : Atoms} {k v : Tree} → object_property_method a ≡ atoms.no_value → object_property_computed a ≡ computed → IsKey c computed k → shorthand_faults (object_property_shorthand a) k v ≡ [] → IsExpression c v → IsProperty c (tree.object_property a k v)
+    a_spread_property : {c : Allowed} {a : Atoms} {e : Tree} → IsExpression c e → IsProperty c (tree.spread a e)
+
+  -- the flag tells that the key is computed
+  pub data IsKey : Allowed → Bool → Tree → Type 0 where
+    a_name_key : {c : Allowed} {a : Atoms} → spells_name (identifier_name_name a) ≡ true → IsKey c false (tree.identifier_name a)
+    a_string_key : {c : Allowed} {a : Atoms} → are_units (string_literal_value a) ≡ true → IsKey c false (tree.string_literal a)
+    a_number_key : {c : Allowed} {a : Atoms} → is_whole (numeric_literal_kind a) a ≡ true → IsKey c false (tree.numeric_literal a)
+    a_computed_key : {c : Allowed} {t : Tree} → IsExpression c t → IsKey c true t
 
   pub data AreArguments : Allowed → Trees → Type 0 where
     no_argument : {c : Allowed} → AreArguments c no_trees
@@ -114,7 +131,7 @@ none_if : (b : Bool) (f : TreeFault) → fault_if b f ≡ [] → b ≡ false
 none_if true f e = absurd (cc)
 none_if false f e = refl
 
-none_unless : (b : Bool) (f : TreeFault) → fault_if (not b) f ≡ [] → b ≡ true
+pub none_unless : (b : Bool) (f : TreeFault) → fault_if (not b) f ≡ [] → b ≡ true
 none_unless true f e = refl
 none_unless false f e = absurd (cc)
 
@@ -183,6 +200,31 @@ link_valid c (tree.super a) p s f = a_super
 link_valid c (node types.Super a slots) p s f = absurd (no_truth p.0)
 link_valid c t p s f = an_operand (f s)
 
+-- what isn't spread in an object is a property
+abbrev is_in_object : Tree → Bool
+is_in_object (tree.spread a t) = true
+is_in_object (tree.object_property a k v) = true
+is_in_object t = false
+
+none_in_object : (t : Tree) → is_plain_row t ≡ true → is_object_property_kind (type_of t) ≡ true → is_in_object t ≡ false → ⊥
+none_in_object (tree.spread a t) p s n = no_falsehood n
+none_in_object (tree.object_property a k v) p s n = no_falsehood n
+none_in_object t p s n = search no_truth
+
+-- a key that is an expression is no `super`
+key_stands : (type : NodeType) → is_expression type ≡ true → may_stand sets.PropertyKey type ≡ true → may_stand sets.Expression type ≡ true
+key_stands type s m = and_from (is_expression type) (false || not (is_super type)) s (and_parts (in_set sets.PropertyKey type) (false || not (is_super type)) m).1
+
+literal_key_valid : (c : Allowed) (around : Surroundings) (k : Tree) → IsPlain k → is_literal_key (type_of k) ≡ true → breaches around k ≡ [] → IsKey c false k
+literal_key_valid c around (tree.identifier_name a) p s e = a_name_key (none_unless (spells_name (identifier_name_name a)) (faults.Name a.span.start) (parts (span_faults a.span) (written_name_faults a.span (identifier_name_name a)) [] e).0)
+literal_key_valid c around (tree.string_literal a) p s e = a_string_key p.0
+literal_key_valid c around (tree.numeric_literal a) p s e = a_number_key p.0
+literal_key_valid c around k p s e = absurd (search no_truth)
+
+key_valid : (c : Allowed) (around : Surroundings) (computed : Bool) (k : Tree) → IsPlain k → key_faults computed k ≡ [] → breaches around k ≡ [] → (is_expression (type_of k) ≡ true → IsExpression c k) → IsKey c computed k
+key_valid c around true k p f e h = a_computed_key (h (none_unless (is_expression (type_of k)) (faults.Place (span_of k).start) f))
+key_valid c around false k p f e h = literal_key_valid c around k p (none_unless (is_literal_key (type_of k)) (faults.Place (span_of k).start) f) e
+
 mutual
   pub expression_valid : (c : Allowed) (around : Surroundings) (t : Tree) → IsPlain t → may_stand sets.Expression (type_of t) ≡ true → breaches around t ≡ [] → IsExpression c t
   expression_valid c around (tree.identifier_reference a) p s e = a_reference (none_unless (is_free_name (identifier_reference_name a)) (faults.Name a.span.start) (parts (span_faults a.span) (name_faults a.span (identifier_reference_name a)) [] e).0)
@@ -229,6 +271,9 @@ mutual
       let j = none_both (in_trees around (place_of sets.Argument around ∷ []) es) [] k.2 in
       a_construction (expression_valid c around f p.1.0 k.0 k.1) (arguments_valid c around es p.0 p.1.1.0 j.0)
   expression_valid c around (tree.new_target a) p s e = a_new_target
+  expression_valid c around (tree.object_expression a ps) p s e =
+      let j = none_both (in_trees around (place_of sets.ObjectPropertyKind around ∷ []) ps) [] (parts (span_faults a.span) [] _ e).1 in
+      an_object (properties_valid c around ps p.0 p.1.0 j.0)
   expression_valid c around t p s e = absurd (search no_truth)
 
   arguments_valid : (c : Allowed) (around : Surroundings) (es : Trees) → has_no_hole es ≡ true → EverywhereInTrees is_plain_row es → in_trees around (place_of sets.Argument around ∷ []) es ≡ [] → AreArguments c es
@@ -239,6 +284,22 @@ mutual
       first_argument (a_spread (expression_valid c around t p.0.1.0 j.0 j.1)) (arguments_valid c around ts n p.1 k.2)
   arguments_valid c around (more t ts) n p e = let k = standing around sets.Argument t _ e in first_argument (an_element (expression_valid c around t p.0 (argument_stands t p.0.0 k.0 refl) k.1)) (arguments_valid c around ts n p.1 k.2)
   arguments_valid c around (hole ts) n p e = absurd (no_truth n)
+
+  properties_valid : (c : Allowed) (around : Surroundings) (ps : Trees) → has_no_hole ps ≡ true → EverywhereInTrees is_plain_row ps → in_trees around (place_of sets.ObjectPropertyKind around ∷ []) ps ≡ [] → AreProperties c ps
+  properties_valid c around no_trees n p e = no_property
+  properties_valid c around (more (tree.spread a t) ts) n p e =
+      let k = standing around sets.ObjectPropertyKind (tree.spread a t) _ e in
+      let j = standing around sets.Expression t [] (parts (span_faults a.span) [] _ k.1).1 in
+      first_property (a_spread_property (expression_valid c around t p.0.1.0 j.0 j.1)) (properties_valid c around ts n p.1 k.2)
+  properties_valid c around (more (tree.object_property a x v) ts) n p e =
+      let k = placed around sets.ObjectPropertyKind (tree.object_property a x v) _ e in
+      let h = parts (span_faults a.span) (key_faults (object_property_computed a) x ++ shorthand_faults (object_property_shorthand a) x v) _ k.1 in
+      let f = none_both (key_faults (object_property_computed a) x) (shorthand_faults (object_property_shorthand a) x v) h.0 in
+      let j = standing around sets.PropertyKey x _ h.1 in
+      let i = standing around sets.Expression v [] j.2 in
+      first_property (a_property (holds_nothing (object_property_method a) p.0.0) refl (key_valid c around (object_property_computed a) x p.0.1.0 f.0 j.1 (λ s. expression_valid c around x p.0.1.0 (key_stands (type_of x) s j.0) j.1)) f.1 (expression_valid c around v p.0.1.1.0 i.0 i.1)) (properties_valid c around ts n p.1 k.2)
+  properties_valid c around (more t ts) n p e = let k = placed around sets.ObjectPropertyKind t _ e in absurd (none_in_object t p.0.0 k.0 refl)
+  properties_valid c around (hole ts) n p e = absurd (no_truth n)
 
   elements_valid : (c : Allowed) (around : Surroundings) (es : Trees) → EverywhereInTrees is_plain_row es → in_trees around (place_of sets.ArrayExpressionElement around ∷ []) es ≡ [] → AreElements c es
   elements_valid c around no_trees p e = no_element

@@ -1,14 +1,15 @@
 -- A normal form is its own.
-use Rattle.std.proofs.Common.{◌≡◌, Bool, true, false, cond, [], ◌∷◌, refl, ap, ◌∙◌}
+use Rattle.std.specs.Option.{option_map_or}
+use Rattle.std.proofs.Common.{◌≡◌, Bool, true, false, ◌&&◌, cond, [], ◌∷◌, refl, ap, ◌∙◌}
 use Rattle.jsgen_syntax.specs.declared.operator.LogicalOperator.{LogicalOperator}
-use Rattle.jsgen_tree.specs.Atom.{no_value, declaration_kind, binary_operator, logical_operator, unary_operator, update_operator, flag}
+use Rattle.jsgen_tree.specs.Atom.{no_value, declaration_kind, binary_operator, logical_operator, unary_operator, update_operator, flag, property_kind}
 use Rattle.jsgen_tree.specs.Tree.{Tree, node, Slots, no_slots, one, maybe, many, maybe_many, Maybe, absent, given, Trees, no_trees, more, hole, MaybeTrees, no_list, listed}
 use Rattle.jsgen_tree.specs.Places.{bare}
-use Rattle.jsgen_tree.specs.Values.{variable_declaration_kind, variable_declaration_declare, variable_declarator_definite, static_member_expression_optional, computed_member_expression_optional, call_expression_optional, binary_expression_operator, logical_expression_operator, unary_expression_operator, update_expression_operator, update_expression_prefix}
-use Rattle.jsgen_tree.specs.Inside.{ends_open}
+use Rattle.jsgen_tree.specs.Values.{variable_declaration_kind, variable_declaration_declare, variable_declarator_definite, static_member_expression_optional, computed_member_expression_optional, call_expression_optional, binary_expression_operator, logical_expression_operator, unary_expression_operator, update_expression_operator, update_expression_prefix, identifier_name_name, object_property_kind, object_property_method, object_property_shorthand, object_property_computed}
+use Rattle.jsgen_tree.specs.Inside.{ends_open, written_name_in, is_proto}
 use Rattle.jsgen_tree.specs.Nodes as tree
 use Rattle.std.proofs.lemmas.Bool.{both_ways}
-use Rattle.jsgen_model.specs.Normal.{normal, normal_slots, normal_maybe, normal_trees, normal_maybe_trees, unbraced, nothing_of, chain, same_operator, joined, links}
+use Rattle.jsgen_model.specs.Normal.{normal, normal_slots, normal_maybe, normal_trees, normal_maybe_trees, unbraced, nothing_of, is_proto_shorthand, chain, same_operator, joined, links}
 
 -- ---- chains
 
@@ -57,6 +58,21 @@ unbraced_again (tree.block a (more s no_trees)) e = go (ends_open s) refl
     go false o = ap unbraced e ∙ ap (λ b. cond b s (tree.block a (more s no_trees))) o
 unbraced_again t e = ap unbraced e
 
+-- ---- properties
+
+and_again : (a b : Bool) → (a && (a && b)) ≡ (a && b)
+and_again true b = refl
+and_again false b = refl
+
+and_false : (b : Bool) → (b && false) ≡ false
+and_false true = refl
+and_false false = refl
+
+-- what is no shorthand of `__proto__` stays none
+proto_again : (s : Bool) (key : Tree) → is_proto_shorthand (is_proto_shorthand s key) (normal key) ≡ is_proto_shorthand s key
+proto_again s (tree.identifier_name a) = and_again (is_proto (identifier_name_name a)) s
+proto_again s key = and_false (option_map_or is_proto (written_name_in (normal key)) false)
+
 -- ---- the whole
 
 mutual
@@ -84,6 +100,12 @@ mutual
   normal_again (tree.computed_member a object expression) = let e = normal_again object in let f = normal_again expression in λ i. tree.computed_member (bare (computed_member_expression_optional a ∷ [])) (e i) (f i)
   normal_again (tree.call a callee arguments) = let e = normal_again callee in let f = normal_trees_again arguments in λ i. tree.call (bare (call_expression_optional a ∷ no_value ∷ [])) (e i) (f i)
   normal_again (tree.array a elements) = ap (λ ts. tree.array (nothing_of 0) ts) (normal_trees_again elements)
+  normal_again (tree.object_expression a properties) = ap (λ ts. tree.object_expression (nothing_of 0) ts) (normal_trees_again properties)
+  normal_again (tree.object_property a key value) =
+      let e = normal_again key in
+      let f = normal_again value in
+      let g = proto_again (object_property_shorthand a) key in
+      λ i. tree.object_property (bare (property_kind (object_property_kind a) ∷ object_property_method a ∷ flag (g i) ∷ flag (object_property_computed a) ∷ [])) (e i) (f i)
   normal_again (tree.spread a argument) = ap (λ e. tree.spread (nothing_of 0) e) (normal_again argument)
   normal_again (tree.unary a argument) = ap (λ e. tree.unary (bare (unary_operator (unary_expression_operator a) ∷ [])) e) (normal_again argument)
   normal_again (tree.update a argument) = ap (λ e. tree.update (bare (update_operator (update_expression_operator a) ∷ flag (update_expression_prefix a) ∷ [])) e) (normal_again argument)

@@ -61,7 +61,10 @@ fn is_in_collections(node_type: NodeType) -> bool
 {
     matches!(
         &node_type,
-        NodeType::SpreadElement | NodeType::ArrayExpression
+        NodeType::SpreadElement
+            | NodeType::ArrayExpression
+            | NodeType::ObjectProperty
+            | NodeType::ObjectExpression
     )
 }
 

@@ -5,18 +5,24 @@ use Rattle.std.proofs.Common.{Box, None, Some}
 use Rattle.jsgen_tree.specs.declared.sets.Argument.{Argument}
 use Rattle.jsgen_tree.specs.declared.sets.ArrayExpressionElement.{ArrayExpressionElement}
 use Rattle.jsgen_tree.specs.declared.sets.SimpleAssignmentTarget.{SimpleAssignmentTarget}
+use Rattle.jsgen_tree.specs.declared.sets.ObjectPropertyKind.{ObjectPropertyKind}
+use Rattle.jsgen_tree.specs.declared.sets.PropertyKey.{PropertyKey}
 use Rattle.jsgen_tree.specs.declared.nodes.ExpressionNode.{ExpressionNode}
 use Rattle.jsgen_tree.specs.declared.nodes.StatementNode.{StatementNode}
 use Rattle.jsgen_tree.specs.declared.statements.VariableDeclarator.{VariableDeclarator}
 use Rattle.jsgen_tree.specs.declared.statements.IfStatement.{IfStatement}
 use Rattle.jsgen_tree.specs.declared.expressions.IdentifierReference.{IdentifierReference}
+use Rattle.jsgen_tree.specs.declared.expressions.IdentifierName.{IdentifierName}
 use Rattle.jsgen_tree.specs.declared.expressions.StaticMemberExpression.{StaticMemberExpression}
 use Rattle.jsgen_tree.specs.declared.expressions.ComputedMemberExpression.{ComputedMemberExpression}
 use Rattle.jsgen_tree.specs.declared.collections.SpreadElement.{SpreadElement}
+use Rattle.jsgen_tree.specs.declared.collections.ObjectProperty.{ObjectProperty}
 use Rattle.jsgen_tree.specs.declared.operations.UpdateExpression.{UpdateExpression}
 use Rattle.jsgen_tree.specs.declared.sets.Argument.TheVariants as arguments
 use Rattle.jsgen_tree.specs.declared.sets.ArrayExpressionElement.TheVariants as array_expression_elements
 use Rattle.jsgen_tree.specs.declared.sets.SimpleAssignmentTarget.TheVariants as simple_assignment_targets
+use Rattle.jsgen_tree.specs.declared.sets.ObjectPropertyKind.TheVariants as object_property_kinds
+use Rattle.jsgen_tree.specs.declared.sets.PropertyKey.TheVariants as property_keys
 
 -- ---- a member of a set that doesn't nest, by its type
 
@@ -33,6 +39,14 @@ with_simple_assignment_target P of_identifier_reference of_static_member_express
 with_simple_assignment_target P of_identifier_reference of_static_member_expression of_computed_member_expression (simple_assignment_targets.StaticMemberExpression b) = of_static_member_expression b
 with_simple_assignment_target P of_identifier_reference of_static_member_expression of_computed_member_expression (simple_assignment_targets.ComputedMemberExpression b) = of_computed_member_expression b
 
+pub with_object_property_kind : {N : Type 0} (P : ObjectPropertyKind N → Type 0) → ((b : Box (ObjectProperty N) Global) → P (object_property_kinds.ObjectProperty b)) → ((b : Box (SpreadElement N) Global) → P (object_property_kinds.SpreadElement b)) → (n : ObjectPropertyKind N) → P n
+with_object_property_kind P of_object_property of_spread_element (object_property_kinds.ObjectProperty b) = of_object_property b
+with_object_property_kind P of_object_property of_spread_element (object_property_kinds.SpreadElement b) = of_spread_element b
+
+pub with_property_key : {N : Type 0} (P : PropertyKey N → Type 0) → ((b : Box IdentifierName Global) → P (property_keys.IdentifierName b)) → ((b : Box (ExpressionNode N) Global) → P (property_keys.Expression b)) → (n : PropertyKey N) → P n
+with_property_key P of_identifier_name of_expression (property_keys.IdentifierName b) = of_identifier_name b
+with_property_key P of_identifier_name of_expression (property_keys.Expression b) = of_expression b
+
 -- ---- a struct with an optional child, and without it
 
 pub variable_declarator_by_init : {N : Type 0} (P : VariableDeclarator N → Type 0) → ((n : VariableDeclarator N) → P (record n { init = None })) → ((c : ExpressionNode N) (n : VariableDeclarator N) → P (record n { init = Some c })) → (n : VariableDeclarator N) → P n
@@ -40,6 +54,12 @@ variable_declarator_by_init P none some n = elim n.init as (λ o. P (record n { 
 
 pub if_statement_by_alternate : {N : Type 0} (P : IfStatement N → Type 0) → ((n : IfStatement N) → P (record n { alternate = None })) → ((c : StatementNode N) (n : IfStatement N) → P (record n { alternate = Some c })) → (n : IfStatement N) → P n
 if_statement_by_alternate P none some n = elim n.alternate as (λ o. P (record n { alternate = o })) [ None ↦ none n | Some c ↦ some c n ]
+
+pub object_property_by_key : {N : Type 0} (P : ObjectProperty N → Type 0) → ((b : Box IdentifierName Global) (n : ObjectProperty N) → P (record n { key = (property_keys.IdentifierName b) })) → ((b : Box (ExpressionNode N) Global) (n : ObjectProperty N) → P (record n { key = (property_keys.Expression b) })) → (n : ObjectProperty N) → P n
+object_property_by_key P of_identifier_name of_expression n = elim n.key as (λ o. P (record n { key = o })) [ property_keys.IdentifierName b ↦ of_identifier_name b n | property_keys.Expression b ↦ of_expression b n ]
+
+pub boxed_object_property_by_key : {N : Type 0} (P : Box (ObjectProperty N) Global → Type 0) → ((b : Box IdentifierName Global) (n : Box (ObjectProperty N) Global) → P (record n { value = record n.value { key = (property_keys.IdentifierName b) } })) → ((b : Box (ExpressionNode N) Global) (n : Box (ObjectProperty N) Global) → P (record n { value = record n.value { key = (property_keys.Expression b) } })) → (n : Box (ObjectProperty N) Global) → P n
+boxed_object_property_by_key P of_identifier_name of_expression n = elim n.value.key as (λ o. P (record n { value = record n.value { key = o } })) [ property_keys.IdentifierName b ↦ of_identifier_name b n | property_keys.Expression b ↦ of_expression b n ]
 
 pub update_expression_by_argument : {N : Type 0} (P : UpdateExpression N → Type 0) → ((b : Box IdentifierReference Global) (n : UpdateExpression N) → P (record n { argument = (simple_assignment_targets.IdentifierReference b) })) → ((b : Box (StaticMemberExpression N) Global) (n : UpdateExpression N) → P (record n { argument = (simple_assignment_targets.StaticMemberExpression b) })) → ((b : Box (ComputedMemberExpression N) Global) (n : UpdateExpression N) → P (record n { argument = (simple_assignment_targets.ComputedMemberExpression b) })) → (n : UpdateExpression N) → P n
 update_expression_by_argument P of_identifier_reference of_static_member_expression of_computed_member_expression n = elim n.argument as (λ o. P (record n { argument = o })) [ simple_assignment_targets.IdentifierReference b ↦ of_identifier_reference b n | simple_assignment_targets.StaticMemberExpression b ↦ of_static_member_expression b n | simple_assignment_targets.ComputedMemberExpression b ↦ of_computed_member_expression b n ]

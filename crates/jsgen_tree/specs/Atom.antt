@@ -6,6 +6,7 @@ use Rattle.jsgen_tree.specs.declared.statements.VariableDeclarationKind.{Variabl
 use Rattle.jsgen_tree.specs.Number.{NumericKind}
 use Rattle.jsgen_syntax.specs.declared.operator.BinaryOperator.{BinaryOperator}
 use Rattle.jsgen_syntax.specs.declared.operator.LogicalOperator.{LogicalOperator}
+use Rattle.jsgen_tree.specs.declared.collections.PropertyKind.{PropertyKind}
 use Rattle.jsgen_syntax.specs.declared.operator.UnaryOperator.{UnaryOperator}
 use Rattle.jsgen_syntax.specs.declared.operator.UpdateOperator.{UpdateOperator}
 
@@ -23,5 +24,6 @@ pub data Atom : Type 0 where
   numeric_kind : NumericKind → Atom
   binary_operator : BinaryOperator → Atom
   logical_operator : LogicalOperator → Atom
+  property_kind : PropertyKind → Atom
   unary_operator : UnaryOperator → Atom
   update_operator : UpdateOperator → Atom

@@ -12,6 +12,7 @@ use Rattle.jsgen_tree.specs.declared.statements.VariableDeclarationKind.TheVaria
 use Rattle.jsgen_tree.specs.Number as numeric_kinds
 use Rattle.jsgen_syntax.specs.declared.operator.BinaryOperator.TheVariants as binary_operators
 use Rattle.jsgen_syntax.specs.declared.operator.LogicalOperator.TheVariants as logical_operators
+use Rattle.jsgen_tree.specs.declared.collections.PropertyKind.TheVariants as property_kinds
 use Rattle.jsgen_syntax.specs.declared.operator.UnaryOperator.TheVariants as unary_operators
 use Rattle.jsgen_syntax.specs.declared.operator.UpdateOperator.TheVariants as update_operators
 
@@ -31,6 +32,9 @@ binary_operator_words = means (codes "==") (atoms.binary_operator binary_operato
 
 abbrev pub logical_operator_words : List Word
 logical_operator_words = means (codes "||") (atoms.logical_operator logical_operators.Or) ∷ means (codes "&&") (atoms.logical_operator logical_operators.And) ∷ means (codes "??") (atoms.logical_operator logical_operators.Coalesce) ∷ []
+
+abbrev pub property_kind_words : List Word
+property_kind_words = means (codes "init") (atoms.property_kind property_kinds.Init) ∷ []
 
 abbrev pub unary_operator_words : List Word
 unary_operator_words = means (codes "+") (atoms.unary_operator unary_operators.UnaryPlus) ∷ means (codes "-") (atoms.unary_operator unary_operators.UnaryNegation) ∷ means (codes "!") (atoms.unary_operator unary_operators.LogicalNot) ∷ means (codes "~") (atoms.unary_operator unary_operators.BitwiseNot) ∷ means (codes "typeof") (atoms.unary_operator unary_operators.Typeof) ∷ means (codes "void") (atoms.unary_operator unary_operators.Void) ∷ means (codes "delete") (atoms.unary_operator unary_operators.Delete) ∷ []
@@ -112,6 +116,12 @@ spread_element_fields = needs (codes "argument") (sorts.child sets.Expression) �
 abbrev pub array_expression_fields : List Field
 array_expression_fields = may_have (codes "elements") (sorts.children_or_holes sets.ArrayExpressionElement) ∷ []
 
+abbrev pub object_property_fields : List Field
+object_property_fields = needs (codes "kind") (sorts.word property_kind_words) ∷ needs (codes "key") (sorts.child sets.PropertyKey) ∷ needs (codes "value") (sorts.child sets.Expression) ∷ not_yet (codes "method") sorts.flag ∷ has_by_default (atoms.flag false) (codes "shorthand") sorts.flag ∷ has_by_default (atoms.flag false) (codes "computed") sorts.flag ∷ []
+
+abbrev pub object_expression_fields : List Field
+object_expression_fields = may_have (codes "properties") (sorts.children sets.ObjectPropertyKind) ∷ []
+
 abbrev pub unary_expression_fields : List Field
 unary_expression_fields = needs (codes "operator") (sorts.word unary_operator_words) ∷ needs (codes "argument") (sorts.child sets.Expression) ∷ []
 
@@ -152,6 +162,8 @@ fields types.ComputedMemberExpression = computed_member_expression_fields
 fields types.CallExpression = call_expression_fields
 fields types.SpreadElement = spread_element_fields
 fields types.ArrayExpression = array_expression_fields
+fields types.ObjectProperty = object_property_fields
+fields types.ObjectExpression = object_expression_fields
 fields types.UnaryExpression = unary_expression_fields
 fields types.NewTarget = new_target_fields
 fields types.UpdateExpression = update_expression_fields

@@ -1,7 +1,9 @@
--- What a statement ends in, and what stands within the parentheses of an expression.
-use Rattle.std.specs.Prelude.{◌≡◌, Bool, true, false, if◌then◌else◌}
+-- What a statement ends in, what stands within the parentheses of an expression, and which name a node is.
+use Rattle.std.specs.Prelude.{◌≡◌, ℕ, List, Bool, true, false, Option, Some, None, codes, if◌then◌else◌}
+use Rattle.std.specs.Str.{bytes_eq}
 use Rattle.jsgen_tree.specs.Tree.{Tree, absent, given, type_of}
-use Rattle.jsgen_tree.specs.Nodes.{parenthesized, if_statement}
+use Rattle.jsgen_tree.specs.Nodes.{parenthesized, if_statement, identifier_reference, identifier_name}
+use Rattle.jsgen_tree.specs.Values.{identifier_reference_name, identifier_name_name}
 use Rattle.jsgen_tree.specs.Sets.{is_expression}
 
 -- a statement ends in an `if` without `else`
@@ -18,3 +20,19 @@ without_parentheses t = t
 -- an expression, and what stands within its parentheses
 abbrev pub IsInside : Tree → Tree → Type 0
 IsInside outer inner = (is_expression (type_of outer) ≡ true) × (inner ≡ without_parentheses outer)
+
+-- ---- names
+
+-- the name that is looked up
+abbrev pub reference_in : Tree → Option (List ℕ)
+reference_in (identifier_reference a) = Some (identifier_reference_name a)
+reference_in t = None
+
+-- the name that stands there as it is written
+abbrev pub written_name_in : Tree → Option (List ℕ)
+written_name_in (identifier_name a) = Some (identifier_name_name a)
+written_name_in t = None
+
+-- the name by which a property with a value sets the prototype (ECMA-262, 13.2.5.5)
+abbrev pub is_proto : List ℕ → Bool
+is_proto name = bytes_eq name (codes "__proto__")

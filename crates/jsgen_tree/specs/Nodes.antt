@@ -75,6 +75,12 @@ spread a argument = node types.SpreadElement a (one argument no_slots)
 pattern abbrev pub array : Atoms → Trees → Tree
 array a elements = node types.ArrayExpression a (many elements no_slots)
 
+pattern abbrev pub object_property : Atoms → Tree → Tree → Tree
+object_property a key value = node types.ObjectProperty a (one key (one value no_slots))
+
+pattern abbrev pub object_expression : Atoms → Trees → Tree
+object_expression a properties = node types.ObjectExpression a (many properties no_slots)
+
 pattern abbrev pub unary : Atoms → Tree → Tree
 unary a argument = node types.UnaryExpression a (one argument no_slots)
 

@@ -4,8 +4,8 @@ use Rattle.std.specs.Prelude.{[], ◌∷◌, map, option_map}
 use Rattle.jsgen_syntax.specs.Units.{js_units}
 use Rattle.jsgen_tree.specs.Characters.{characters, numeric_values}
 use Rattle.jsgen_tree.specs.Tree.{Tree, optional, trees, holed}
-use Rattle.jsgen_tree.specs.Atom.{no_value, text, units, flag, source_kind, declaration_kind, binary_operator, logical_operator, unary_operator, update_operator}
-use Rattle.jsgen_tree.specs.Nodes.{program, directive, variable_declaration, variable_declarator, binding_identifier, expression_statement, block, if_statement, empty_statement, identifier_reference, this_expression, null_literal, boolean_literal, numeric_literal, string_literal, parenthesized, binary, logical, identifier_name, static_member, computed_member, call, spread, array, unary, new_target, update, new_expression, super}
+use Rattle.jsgen_tree.specs.Atom.{no_value, text, units, flag, source_kind, declaration_kind, binary_operator, logical_operator, property_kind, unary_operator, update_operator}
+use Rattle.jsgen_tree.specs.Nodes.{program, directive, variable_declaration, variable_declarator, binding_identifier, expression_statement, block, if_statement, empty_statement, identifier_reference, this_expression, null_literal, boolean_literal, numeric_literal, string_literal, parenthesized, binary, logical, identifier_name, static_member, computed_member, call, spread, array, object_property, object_expression, unary, new_target, update, new_expression, super}
 use Rattle.jsgen_tree.specs.declared.nodes.ExpressionNode.{ExpressionNode}
 use Rattle.jsgen_tree.specs.declared.nodes.DeclarationNode.{DeclarationNode}
 use Rattle.jsgen_tree.specs.declared.nodes.StatementNode.{StatementNode}
@@ -34,6 +34,8 @@ use Rattle.jsgen_tree.specs.declared.expressions.ComputedMemberExpression.{Compu
 use Rattle.jsgen_tree.specs.declared.expressions.CallExpression.{CallExpression}
 use Rattle.jsgen_tree.specs.declared.collections.SpreadElement.{SpreadElement}
 use Rattle.jsgen_tree.specs.declared.collections.ArrayExpression.{ArrayExpression}
+use Rattle.jsgen_tree.specs.declared.collections.ObjectProperty.{ObjectProperty}
+use Rattle.jsgen_tree.specs.declared.collections.ObjectExpression.{ObjectExpression}
 use Rattle.jsgen_tree.specs.declared.operations.UnaryExpression.{UnaryExpression}
 use Rattle.jsgen_tree.specs.declared.operations.NewTarget.{NewTarget}
 use Rattle.jsgen_tree.specs.declared.operations.UpdateExpression.{UpdateExpression}
@@ -43,6 +45,8 @@ use Rattle.jsgen_tree.specs.declared.sets.Expression.{Expression}
 use Rattle.jsgen_tree.specs.declared.sets.Argument.{Argument}
 use Rattle.jsgen_tree.specs.declared.sets.ArrayExpressionElement.{ArrayExpressionElement}
 use Rattle.jsgen_tree.specs.declared.sets.SimpleAssignmentTarget.{SimpleAssignmentTarget}
+use Rattle.jsgen_tree.specs.declared.sets.ObjectPropertyKind.{ObjectPropertyKind}
+use Rattle.jsgen_tree.specs.declared.sets.PropertyKey.{PropertyKey}
 use Rattle.jsgen_tree.specs.declared.sets.Declaration.{Declaration}
 use Rattle.jsgen_tree.specs.declared.sets.Statement.{Statement}
 use Rattle.jsgen_tree.specs.declared.sets.BindingPattern.{BindingPattern}
@@ -50,6 +54,8 @@ use Rattle.jsgen_tree.specs.declared.sets.Expression.TheVariants as expression
 use Rattle.jsgen_tree.specs.declared.sets.Argument.TheVariants as argument
 use Rattle.jsgen_tree.specs.declared.sets.ArrayExpressionElement.TheVariants as array_expression_element
 use Rattle.jsgen_tree.specs.declared.sets.SimpleAssignmentTarget.TheVariants as simple_assignment_target
+use Rattle.jsgen_tree.specs.declared.sets.ObjectPropertyKind.TheVariants as object_property_kind
+use Rattle.jsgen_tree.specs.declared.sets.PropertyKey.TheVariants as property_key
 use Rattle.jsgen_tree.specs.declared.sets.Declaration.TheVariants as declaration
 use Rattle.jsgen_tree.specs.declared.sets.Statement.TheVariants as statement
 use Rattle.jsgen_tree.specs.declared.sets.BindingPattern.TheVariants as binding_pattern
@@ -150,6 +156,20 @@ in_array_expression_element plain (array_expression_element.Expression b) = in_e
 abbrev pub array_expression_row : {N : Type 0} → (N → Tree) → ArrayExpression N → Tree
 array_expression_row plain n = array (record { span = n.span; values = [] }) (holed (map (option_map (in_array_expression_element plain)) n.elements.items))
 
+abbrev pub in_property_key : {N : Type 0} → (N → Tree) → PropertyKey N → Tree
+in_property_key plain (property_key.IdentifierName b) = identifier_name_row b.value
+in_property_key plain (property_key.Expression b) = in_expression plain b.value
+
+abbrev pub object_property_row : {N : Type 0} → (N → Tree) → ObjectProperty N → Tree
+object_property_row plain n = object_property (record { span = n.span; values = property_kind n.kind ∷ no_value ∷ flag n.shorthand ∷ flag n.computed ∷ [] }) (in_property_key plain n.key) (in_expression plain n.value)
+
+abbrev pub in_object_property_kind : {N : Type 0} → (N → Tree) → ObjectPropertyKind N → Tree
+in_object_property_kind plain (object_property_kind.ObjectProperty b) = object_property_row plain b.value
+in_object_property_kind plain (object_property_kind.SpreadElement b) = spread_element_row plain b.value
+
+abbrev pub object_expression_row : {N : Type 0} → (N → Tree) → ObjectExpression N → Tree
+object_expression_row plain n = object_expression (record { span = n.span; values = [] }) (trees (map (in_object_property_kind plain) n.properties.items))
+
 abbrev pub unary_expression_row : {N : Type 0} → (N → Tree) → UnaryExpression N → Tree
 unary_expression_row plain n = unary (record { span = n.span; values = unary_operator n.operator ∷ [] }) (in_expression plain n.argument)
 
@@ -186,6 +206,7 @@ expression_plain plain (expression.StaticMemberExpression b) = static_member_exp
 expression_plain plain (expression.ComputedMemberExpression b) = computed_member_expression_row plain b.value
 expression_plain plain (expression.CallExpression b) = call_expression_row plain b.value
 expression_plain plain (expression.ArrayExpression b) = array_expression_row plain b.value
+expression_plain plain (expression.ObjectExpression b) = object_expression_row plain b.value
 expression_plain plain (expression.UnaryExpression b) = unary_expression_row plain b.value
 expression_plain plain (expression.UpdateExpression b) = update_expression_row plain b.value
 expression_plain plain (expression.NewExpression b) = new_expression_row plain b.value

@@ -20,6 +20,7 @@ is_expression types.StaticMemberExpression = true
 is_expression types.ComputedMemberExpression = true
 is_expression types.CallExpression = true
 is_expression types.ArrayExpression = true
+is_expression types.ObjectExpression = true
 is_expression types.UnaryExpression = true
 is_expression types.UpdateExpression = true
 is_expression types.NewExpression = true
@@ -42,6 +43,7 @@ is_argument types.StaticMemberExpression = true
 is_argument types.ComputedMemberExpression = true
 is_argument types.CallExpression = true
 is_argument types.ArrayExpression = true
+is_argument types.ObjectExpression = true
 is_argument types.UnaryExpression = true
 is_argument types.UpdateExpression = true
 is_argument types.NewExpression = true
@@ -64,6 +66,7 @@ is_array_expression_element types.StaticMemberExpression = true
 is_array_expression_element types.ComputedMemberExpression = true
 is_array_expression_element types.CallExpression = true
 is_array_expression_element types.ArrayExpression = true
+is_array_expression_element types.ObjectExpression = true
 is_array_expression_element types.UnaryExpression = true
 is_array_expression_element types.UpdateExpression = true
 is_array_expression_element types.NewExpression = true
@@ -76,6 +79,34 @@ is_simple_assignment_target types.IdentifierReference = true
 is_simple_assignment_target types.StaticMemberExpression = true
 is_simple_assignment_target types.ComputedMemberExpression = true
 is_simple_assignment_target other = false
+
+abbrev pub is_object_property_kind : NodeType → Bool
+is_object_property_kind types.ObjectProperty = true
+is_object_property_kind types.SpreadElement = true
+is_object_property_kind other = false
+
+abbrev pub is_property_key : NodeType → Bool
+is_property_key types.IdentifierName = true
+is_property_key types.IdentifierReference = true
+is_property_key types.ThisExpression = true
+is_property_key types.NullLiteral = true
+is_property_key types.BooleanLiteral = true
+is_property_key types.NumericLiteral = true
+is_property_key types.StringLiteral = true
+is_property_key types.BinaryExpression = true
+is_property_key types.LogicalExpression = true
+is_property_key types.ParenthesizedExpression = true
+is_property_key types.StaticMemberExpression = true
+is_property_key types.ComputedMemberExpression = true
+is_property_key types.CallExpression = true
+is_property_key types.ArrayExpression = true
+is_property_key types.ObjectExpression = true
+is_property_key types.UnaryExpression = true
+is_property_key types.UpdateExpression = true
+is_property_key types.NewExpression = true
+is_property_key types.NewTarget = true
+is_property_key types.Super = true
+is_property_key other = false
 
 abbrev pub is_declaration : NodeType → Bool
 is_declaration types.VariableDeclaration = true
@@ -114,5 +145,7 @@ in_set sets.Expression t = is_expression t
 in_set sets.IdentifierName t = is_identifier_name t
 in_set sets.Argument t = is_argument t
 in_set sets.ArrayExpressionElement t = is_array_expression_element t
+in_set sets.PropertyKey t = is_property_key t
+in_set sets.ObjectPropertyKind t = is_object_property_kind t
 in_set sets.SimpleAssignmentTarget t = is_simple_assignment_target t
 in_set sets.Link t = is_expression t

@@ -5,6 +5,8 @@ use Rattle.jsgen_tree.specs.declared.sets.Expression.{Expression}
 use Rattle.jsgen_tree.specs.declared.sets.Argument.{Argument}
 use Rattle.jsgen_tree.specs.declared.sets.ArrayExpressionElement.{ArrayExpressionElement}
 use Rattle.jsgen_tree.specs.declared.sets.SimpleAssignmentTarget.{SimpleAssignmentTarget}
+use Rattle.jsgen_tree.specs.declared.sets.ObjectPropertyKind.{ObjectPropertyKind}
+use Rattle.jsgen_tree.specs.declared.sets.PropertyKey.{PropertyKey}
 use Rattle.jsgen_tree.specs.declared.sets.Declaration.{Declaration}
 use Rattle.jsgen_tree.specs.declared.sets.Statement.{Statement}
 use Rattle.jsgen_tree.specs.declared.sets.BindingPattern.{BindingPattern}
@@ -12,6 +14,8 @@ use Rattle.jsgen_tree.specs.declared.sets.Expression.TheVariants as expression
 use Rattle.jsgen_tree.specs.declared.sets.Argument.TheVariants as argument
 use Rattle.jsgen_tree.specs.declared.sets.ArrayExpressionElement.TheVariants as array_expression_element
 use Rattle.jsgen_tree.specs.declared.sets.SimpleAssignmentTarget.TheVariants as simple_assignment_target
+use Rattle.jsgen_tree.specs.declared.sets.ObjectPropertyKind.TheVariants as object_property_kind
+use Rattle.jsgen_tree.specs.declared.sets.PropertyKey.TheVariants as property_key
 use Rattle.jsgen_tree.specs.declared.sets.Declaration.TheVariants as declaration
 use Rattle.jsgen_tree.specs.declared.sets.Statement.TheVariants as statement
 use Rattle.jsgen_tree.specs.declared.sets.BindingPattern.TheVariants as binding_pattern
@@ -30,6 +34,7 @@ expression_span (expression.StaticMemberExpression b) = b.value.span
 expression_span (expression.ComputedMemberExpression b) = b.value.span
 expression_span (expression.CallExpression b) = b.value.span
 expression_span (expression.ArrayExpression b) = b.value.span
+expression_span (expression.ObjectExpression b) = b.value.span
 expression_span (expression.UnaryExpression b) = b.value.span
 expression_span (expression.UpdateExpression b) = b.value.span
 expression_span (expression.NewExpression b) = b.value.span
@@ -48,6 +53,14 @@ abbrev pub simple_assignment_target_span : {N : Type 0} → SimpleAssignmentTarg
 simple_assignment_target_span (simple_assignment_target.IdentifierReference b) = b.value.span
 simple_assignment_target_span (simple_assignment_target.StaticMemberExpression b) = b.value.span
 simple_assignment_target_span (simple_assignment_target.ComputedMemberExpression b) = b.value.span
+
+abbrev pub object_property_kind_span : {N : Type 0} → ObjectPropertyKind N → Span
+object_property_kind_span (object_property_kind.ObjectProperty b) = b.value.span
+object_property_kind_span (object_property_kind.SpreadElement b) = b.value.span
+
+abbrev pub property_key_span : {N : Type 0} → (N → Span) → PropertyKey N → Span
+property_key_span own (property_key.IdentifierName b) = b.value.span
+property_key_span own (property_key.Expression b) = own b.value.node
 
 abbrev pub declaration_span : {N : Type 0} → Declaration N → Span
 declaration_span (declaration.VariableDeclaration b) = b.value.span

@@ -6,9 +6,10 @@ use Rattle.jsgen_tree.specs.declared.statements.VariableDeclarationKind.{Variabl
 use Rattle.jsgen_tree.specs.Number.{NumericKind}
 use Rattle.jsgen_syntax.specs.declared.operator.BinaryOperator.{BinaryOperator}
 use Rattle.jsgen_syntax.specs.declared.operator.LogicalOperator.{LogicalOperator}
+use Rattle.jsgen_tree.specs.declared.collections.PropertyKind.{PropertyKind}
 use Rattle.jsgen_syntax.specs.declared.operator.UnaryOperator.{UnaryOperator}
 use Rattle.jsgen_syntax.specs.declared.operator.UpdateOperator.{UpdateOperator}
-use Rattle.jsgen_tree.specs.Atom.{Atom, text, units, digits, flag, source_kind, declaration_kind, numeric_kind, binary_operator, logical_operator, unary_operator, update_operator}
+use Rattle.jsgen_tree.specs.Atom.{Atom, text, units, digits, flag, source_kind, declaration_kind, numeric_kind, binary_operator, logical_operator, property_kind, unary_operator, update_operator}
 use Rattle.jsgen_tree.specs.Tree.{Atoms}
 use Rattle.jsgen_tree.specs.Places.{value_at}
 use Rattle.jsgen_syntax.specs.declared.span.SourceKind.TheVariants as source_kinds
@@ -16,6 +17,7 @@ use Rattle.jsgen_tree.specs.declared.statements.VariableDeclarationKind.TheVaria
 use Rattle.jsgen_tree.specs.Number as numeric_kinds
 use Rattle.jsgen_syntax.specs.declared.operator.BinaryOperator.TheVariants as binary_operators
 use Rattle.jsgen_syntax.specs.declared.operator.LogicalOperator.TheVariants as logical_operators
+use Rattle.jsgen_tree.specs.declared.collections.PropertyKind.TheVariants as property_kinds
 use Rattle.jsgen_syntax.specs.declared.operator.UnaryOperator.TheVariants as unary_operators
 use Rattle.jsgen_syntax.specs.declared.operator.UpdateOperator.TheVariants as update_operators
 
@@ -56,6 +58,10 @@ as_binary_operator v = binary_operators.Equality
 abbrev pub as_logical_operator : Atom → LogicalOperator
 as_logical_operator (logical_operator x) = x
 as_logical_operator v = logical_operators.Or
+
+abbrev pub as_property_kind : Atom → PropertyKind
+as_property_kind (property_kind x) = x
+as_property_kind v = property_kinds.Init
 
 abbrev pub as_unary_operator : Atom → UnaryOperator
 as_unary_operator (unary_operator x) = x
@@ -151,6 +157,19 @@ call_expression_optional a = value_at 0 a.values
 
 abbrev pub call_expression_pure : Atoms → Bool
 call_expression_pure a = as_flag (value_at 1 a.values)
+
+abbrev pub object_property_kind : Atoms → PropertyKind
+object_property_kind a = as_property_kind (value_at 0 a.values)
+
+-- not read yet
+abbrev pub object_property_method : Atoms → Atom
+object_property_method a = value_at 1 a.values
+
+abbrev pub object_property_shorthand : Atoms → Bool
+object_property_shorthand a = as_flag (value_at 2 a.values)
+
+abbrev pub object_property_computed : Atoms → Bool
+object_property_computed a = as_flag (value_at 3 a.values)
 
 abbrev pub unary_expression_operator : Atoms → UnaryOperator
 unary_expression_operator a = as_unary_operator (value_at 0 a.values)

@@ -1,9 +1,28 @@
 // Generated from tools/nodes/table.txt; edit that and run tools/nodes/generate.
 // Arrays and objects (ECMA-262, 13.2.4 and 13.2.5), and what is spread in them and in arguments.
+ghost use Rattle.std.specs.Prelude.{◌≡◌};
+ghost use Rattle.jsgen_tree.specs.Words.{property_word};
 
 use crate::nodes::{ExpressionNode, Node};
-use crate::sets::ArrayExpressionElement;
+use crate::sets::{ArrayExpressionElement, ObjectPropertyKind, PropertyKey};
 use jsgen_syntax::Span;
+
+/// What a property is: so far one with a value.
+#[derive(Clone, Copy, Debug, PartialEq, Eq)]
+pub enum PropertyKind {
+    Init,
+}
+
+impl PropertyKind {
+    /// The spelling.
+    pub fn as_str(self) -> &'static str
+        ensures { result.now ≡ property_word self }
+    {
+        match self {
+            PropertyKind::Init => "init",
+        }
+    }
+}
 
 /// The values of an expression, one by one, among the elements of an array or among arguments (ECMA-262, 13.2.4).
 #[derive(Drop)]
@@ -17,4 +36,23 @@ pub struct SpreadElement<N = Node> {
 pub struct ArrayExpression<N = Node> {
     pub span: Span,
     pub elements: Vec<Option<ArrayExpressionElement<N>>>,
+}
+
+/// A property by its key and its value (ECMA-262, 13.2.5).
+#[derive(Drop)]
+pub struct ObjectProperty<N = Node> {
+    pub span: Span,
+    pub kind: PropertyKind,
+    pub key: PropertyKey<N>,
+    pub value: ExpressionNode<N>,
+    /// Of a key `__proto__` it tells the property from one that sets the prototype. Of other keys nothing depends on it.
+    pub shorthand: bool,
+    pub computed: bool,
+}
+
+/// An object by its properties (ECMA-262, 13.2.5).
+#[derive(Drop)]
+pub struct ObjectExpression<N = Node> {
+    pub span: Span,
+    pub properties: Vec<ObjectPropertyKind<N>>,
 }

@@ -10,6 +10,7 @@ mod collections;
 mod expressions;
 mod inside;
 mod laws;
+mod names;
 mod node_type;
 mod nodes;
 mod numbers;
@@ -20,20 +21,23 @@ mod span;
 mod statements;
 mod types;
 
-pub use collections::{ArrayExpression, SpreadElement};
+pub use collections::{
+    ArrayExpression, ObjectExpression, ObjectProperty, PropertyKind, SpreadElement,
+};
 pub use expressions::{
     BinaryExpression, BooleanLiteral, CallExpression, ComputedMemberExpression, IdentifierName,
     IdentifierReference, LogicalExpression, NullLiteral, NumericLiteral, ParenthesizedExpression,
     StaticMemberExpression, StringLiteral, ThisExpression,
 };
 pub use laws::fields_are_named;
+pub use names::is_proto;
 pub use nodes::{BindingPatternNode, DeclarationNode, ExpressionNode, Node, StatementNode};
 pub use numbers::NumericValue;
 pub use operations::{NewExpression, NewTarget, Super, UnaryExpression, UpdateExpression};
 pub use options::{CodegenOptions, CommentOptions, LegalComment};
 pub use sets::{
-    Argument, ArrayExpressionElement, BindingPattern, Declaration, Expression,
-    SimpleAssignmentTarget, Statement,
+    Argument, ArrayExpressionElement, BindingPattern, Declaration, Expression, ObjectPropertyKind,
+    PropertyKey, SimpleAssignmentTarget, Statement,
 };
 pub use span::GetSpan;
 pub use statements::{

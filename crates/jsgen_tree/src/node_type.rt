@@ -2,13 +2,13 @@
 // The type of a member of each set.
 ghost use Rattle.std.specs.Prelude.{◌≡◌};
 ghost use Rattle.jsgen_tree.specs.Tree.{type_of};
-ghost use Rattle.jsgen_tree.specs.Rows.{expression_plain, declaration_plain, statement_plain, binding_pattern_plain, in_argument, in_array_expression_element, in_simple_assignment_target};
+ghost use Rattle.jsgen_tree.specs.Rows.{expression_plain, declaration_plain, statement_plain, binding_pattern_plain, in_argument, in_array_expression_element, in_simple_assignment_target, in_object_property_kind, in_property_key};
 ghost use Rattle.jsgen_tree.specs.Plain.{node_plain};
 
 use crate::nodes::Node;
 use crate::sets::{
-    Argument, ArrayExpressionElement, BindingPattern, Declaration, Expression,
-    SimpleAssignmentTarget, Statement,
+    Argument, ArrayExpressionElement, BindingPattern, Declaration, Expression, ObjectPropertyKind,
+    PropertyKey, SimpleAssignmentTarget, Statement,
 };
 use crate::types::NodeType;
 
@@ -31,6 +31,7 @@ impl Expression {
             Expression::ComputedMemberExpression(_) => NodeType::ComputedMemberExpression,
             Expression::CallExpression(_) => NodeType::CallExpression,
             Expression::ArrayExpression(_) => NodeType::ArrayExpression,
+            Expression::ObjectExpression(_) => NodeType::ObjectExpression,
             Expression::UnaryExpression(_) => NodeType::UnaryExpression,
             Expression::UpdateExpression(_) => NodeType::UpdateExpression,
             Expression::NewExpression(_) => NodeType::NewExpression,
@@ -74,6 +75,30 @@ impl SimpleAssignmentTarget {
             SimpleAssignmentTarget::StaticMemberExpression(_) => NodeType::StaticMemberExpression,
             SimpleAssignmentTarget::ComputedMemberExpression(_) =>
                 NodeType::ComputedMemberExpression,
+        }
+    }
+}
+
+impl ObjectPropertyKind {
+    /// The type of the node.
+    pub fn node_type(&self) -> NodeType
+        ensures { result ≡ type_of (in_object_property_kind node_plain self.now) }
+    {
+        match self {
+            ObjectPropertyKind::ObjectProperty(_) => NodeType::ObjectProperty,
+            ObjectPropertyKind::SpreadElement(_) => NodeType::SpreadElement,
+        }
+    }
+}
+
+impl PropertyKey {
+    /// The type of the node.
+    pub fn node_type(&self) -> NodeType
+        ensures { result ≡ type_of (in_property_key node_plain self.now) }
+    {
+        match self {
+            PropertyKey::IdentifierName(_) => NodeType::IdentifierName,
+            PropertyKey::Expression(node) => node.get().node_type(),
         }
     }
 }

@@ -1,9 +1,9 @@
 // Generated from tools/nodes/table.txt; edit that and run tools/nodes/generate.
 // Sets: what may stand in one place. A set within a set is one variant of the inner one's name.
 
-use crate::collections::{ArrayExpression, SpreadElement};
+use crate::collections::{ArrayExpression, ObjectExpression, ObjectProperty, SpreadElement};
 use crate::expressions::{
-    BinaryExpression, BooleanLiteral, CallExpression, ComputedMemberExpression,
+    BinaryExpression, BooleanLiteral, CallExpression, ComputedMemberExpression, IdentifierName,
     IdentifierReference, LogicalExpression, NullLiteral, NumericLiteral, ParenthesizedExpression,
     StaticMemberExpression, StringLiteral, ThisExpression,
 };
@@ -29,6 +29,7 @@ pub enum Expression<N = Node> {
     ComputedMemberExpression(Box<ComputedMemberExpression<N>>),
     CallExpression(Box<CallExpression<N>>),
     ArrayExpression(Box<ArrayExpression<N>>),
+    ObjectExpression(Box<ObjectExpression<N>>),
     UnaryExpression(Box<UnaryExpression<N>>),
     UpdateExpression(Box<UpdateExpression<N>>),
     NewExpression(Box<NewExpression<N>>),
@@ -56,6 +57,20 @@ pub enum SimpleAssignmentTarget<N = Node> {
     IdentifierReference(Box<IdentifierReference>),
     StaticMemberExpression(Box<StaticMemberExpression<N>>),
     ComputedMemberExpression(Box<ComputedMemberExpression<N>>),
+}
+
+/// What may stand in an object.
+#[derive(Drop)]
+pub enum ObjectPropertyKind<N = Node> {
+    ObjectProperty(Box<ObjectProperty<N>>),
+    SpreadElement(Box<SpreadElement<N>>),
+}
+
+/// What a property is known by.
+#[derive(Drop)]
+pub enum PropertyKey<N = Node> {
+    IdentifierName(Box<IdentifierName>),
+    Expression(Box<ExpressionNode<N>>),
 }
 
 #[derive(Drop)]

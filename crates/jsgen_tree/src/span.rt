@@ -3,9 +3,9 @@
 ghost use Rattle.std.specs.Prelude.{◌≡◌};
 ghost use Rattle.jsgen_tree.specs.Tree.{span_of};
 ghost use Rattle.jsgen_tree.specs.Plain.{node_plain};
-ghost use Rattle.jsgen_tree.specs.Spans.{expression_span, argument_span, array_expression_element_span, simple_assignment_target_span, declaration_span, statement_span, binding_pattern_span};
+ghost use Rattle.jsgen_tree.specs.Spans.{expression_span, argument_span, array_expression_element_span, simple_assignment_target_span, object_property_kind_span, property_key_span, declaration_span, statement_span, binding_pattern_span};
 
-use crate::collections::{ArrayExpression, SpreadElement};
+use crate::collections::{ArrayExpression, ObjectExpression, ObjectProperty, SpreadElement};
 use crate::expressions::{
     BinaryExpression, BooleanLiteral, CallExpression, ComputedMemberExpression, IdentifierName,
     IdentifierReference, LogicalExpression, NullLiteral, NumericLiteral, ParenthesizedExpression,
@@ -14,8 +14,8 @@ use crate::expressions::{
 use crate::nodes::Node;
 use crate::operations::{NewExpression, NewTarget, Super, UnaryExpression, UpdateExpression};
 use crate::sets::{
-    Argument, ArrayExpressionElement, BindingPattern, Declaration, Expression,
-    SimpleAssignmentTarget, Statement,
+    Argument, ArrayExpressionElement, BindingPattern, Declaration, Expression, ObjectPropertyKind,
+    PropertyKey, SimpleAssignmentTarget, Statement,
 };
 use crate::statements::{
     BindingIdentifier, BlockStatement, Directive, EmptyStatement, ExpressionStatement, IfStatement,
@@ -225,6 +225,22 @@ impl<N> GetSpan for ArrayExpression<N> {
     }
 }
 
+impl<N> GetSpan for ObjectProperty<N> {
+    ghost own_span = { λ n. n.span };
+
+    fn span(&self) -> Span {
+        self.span
+    }
+}
+
+impl<N> GetSpan for ObjectExpression<N> {
+    ghost own_span = { λ n. n.span };
+
+    fn span(&self) -> Span {
+        self.span
+    }
+}
+
 impl<N> GetSpan for UnaryExpression<N> {
     ghost own_span = { λ n. n.span };
 
@@ -283,6 +299,7 @@ impl<N> GetSpan for Expression<N> {
             Expression::ComputedMemberExpression(node) => node.span,
             Expression::CallExpression(node) => node.span,
             Expression::ArrayExpression(node) => node.span,
+            Expression::ObjectExpression(node) => node.span,
             Expression::UnaryExpression(node) => node.span,
             Expression::UpdateExpression(node) => node.span,
             Expression::NewExpression(node) => node.span,
@@ -322,6 +339,28 @@ impl<N> GetSpan for SimpleAssignmentTarget<N> {
             SimpleAssignmentTarget::IdentifierReference(node) => node.span,
             SimpleAssignmentTarget::StaticMemberExpression(node) => node.span,
             SimpleAssignmentTarget::ComputedMemberExpression(node) => node.span,
+        }
+    }
+}
+
+impl<N> GetSpan for ObjectPropertyKind<N> {
+    ghost own_span = { λ n. object_property_kind_span n };
+
+    fn span(&self) -> Span {
+        match self {
+            ObjectPropertyKind::ObjectProperty(node) => node.span,
+            ObjectPropertyKind::SpreadElement(node) => node.span,
+        }
+    }
+}
+
+impl<N: GetSpan> GetSpan for PropertyKey<N> {
+    ghost own_span = { λ n. property_key_span N.own_span n };
+
+    fn span(&self) -> Span {
+        match self {
+            PropertyKey::IdentifierName(node) => node.span,
+            PropertyKey::Expression(node) => node.get().span(),
         }
     }
 }

@@ -1,7 +1,7 @@
 // Generated from tools/nodes/table.txt; edit that and run tools/nodes/generate.
 // The types of nodes, and the sets that a field's child may be of.
 ghost use Rattle.std.specs.Prelude.{◌≡◌};
-ghost use Rattle.jsgen_tree.specs.Sets.{in_set, is_expression, is_argument, is_array_expression_element, is_simple_assignment_target, is_statement};
+ghost use Rattle.jsgen_tree.specs.Sets.{in_set, is_expression, is_argument, is_array_expression_element, is_simple_assignment_target, is_object_property_kind, is_property_key, is_statement};
 
 /// The type of a node.
 #[derive(Clone, Copy, Debug, PartialEq, Eq)]
@@ -30,6 +30,8 @@ pub enum NodeType {
     CallExpression,
     SpreadElement,
     ArrayExpression,
+    ObjectProperty,
+    ObjectExpression,
     UnaryExpression,
     NewTarget,
     UpdateExpression,
@@ -48,6 +50,8 @@ pub enum NodeSet {
     IdentifierName,
     Argument,
     ArrayExpressionElement,
+    PropertyKey,
+    ObjectPropertyKind,
     SimpleAssignmentTarget,
     Link,
 }
@@ -66,6 +70,8 @@ impl NodeType {
             NodeSet::IdentifierName => matches!(&self, NodeType::IdentifierName),
             NodeSet::Argument => self.is_argument(),
             NodeSet::ArrayExpressionElement => self.is_array_expression_element(),
+            NodeSet::PropertyKey => self.is_property_key(),
+            NodeSet::ObjectPropertyKind => self.is_object_property_kind(),
             NodeSet::SimpleAssignmentTarget => self.is_simple_assignment_target(),
             NodeSet::Link => self.is_expression(),
         }
@@ -90,6 +96,7 @@ impl NodeType {
                 | NodeType::ComputedMemberExpression
                 | NodeType::CallExpression
                 | NodeType::ArrayExpression
+                | NodeType::ObjectExpression
                 | NodeType::UnaryExpression
                 | NodeType::UpdateExpression
                 | NodeType::NewExpression
@@ -118,6 +125,7 @@ impl NodeType {
                 | NodeType::ComputedMemberExpression
                 | NodeType::CallExpression
                 | NodeType::ArrayExpression
+                | NodeType::ObjectExpression
                 | NodeType::UnaryExpression
                 | NodeType::UpdateExpression
                 | NodeType::NewExpression
@@ -146,6 +154,7 @@ impl NodeType {
                 | NodeType::ComputedMemberExpression
                 | NodeType::CallExpression
                 | NodeType::ArrayExpression
+                | NodeType::ObjectExpression
                 | NodeType::UnaryExpression
                 | NodeType::UpdateExpression
                 | NodeType::NewExpression
@@ -163,6 +172,42 @@ impl NodeType {
             NodeType::IdentifierReference
                 | NodeType::StaticMemberExpression
                 | NodeType::ComputedMemberExpression
+        )
+    }
+
+    /// Whether nodes of this type are in `ObjectPropertyKind`.
+    pub fn is_object_property_kind(self) -> bool
+        ensures { result ≡ is_object_property_kind self }
+    {
+        matches!(&self, NodeType::ObjectProperty | NodeType::SpreadElement)
+    }
+
+    /// Whether nodes of this type are in `PropertyKey`.
+    pub fn is_property_key(self) -> bool
+        ensures { result ≡ is_property_key self }
+    {
+        matches!(
+            &self,
+            NodeType::IdentifierName
+                | NodeType::IdentifierReference
+                | NodeType::ThisExpression
+                | NodeType::NullLiteral
+                | NodeType::BooleanLiteral
+                | NodeType::NumericLiteral
+                | NodeType::StringLiteral
+                | NodeType::BinaryExpression
+                | NodeType::LogicalExpression
+                | NodeType::ParenthesizedExpression
+                | NodeType::StaticMemberExpression
+                | NodeType::ComputedMemberExpression
+                | NodeType::CallExpression
+                | NodeType::ArrayExpression
+                | NodeType::ObjectExpression
+                | NodeType::UnaryExpression
+                | NodeType::UpdateExpression
+                | NodeType::NewExpression
+                | NodeType::NewTarget
+                | NodeType::Super
         )
     }
 

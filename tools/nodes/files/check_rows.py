@@ -300,7 +300,9 @@ def inner_answers(table, s):
     for m in s.members:
         goal = f"returns-in-{m}"
         if m in table.nodes:
-            parts.append(f"pub {goal} : goal.{goal}\n{goal} {g}c = rw c.in-{m}.is ((rw c.deref.ensures at c.{check(m)}.ensures) ∙ sym (of_right_set _ sets.{s.name} _ refl))")
+            # the first is known by no arm
+            deref = f"deref-in-{m}" if parts else "deref"
+            parts.append(f"pub {goal} : goal.{goal}\n{goal} {g}c = rw c.in-{m}.is ((rw c.{deref}.ensures at c.{check(m)}.ensures) ∙ sym (of_right_set _ sets.{s.name} _ refl))")
     homes = [("Rattle.std.proofs.Common", ["◌≡◌", "refl", "sym", "◌∙◌"]), (f"{PROOFS}.Verdicts", ["of_right_set"])]
     aliases = [(f"{SPECS}.declared.types.NodeSet.TheVariants", "sets"), (f"{PROOFS}.children.{check(s.name)}.Goals", "goal")]
     return layout.antt("A member of one type is of the set.", homes, aliases, "\n\n".join(parts))

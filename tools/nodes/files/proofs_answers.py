@@ -10,6 +10,8 @@ def write(table):
             answers(table, "span.NodeGetSpan.+node_span", "returns-in-{s.name}", "{name}_spans"),
         "proofs/+node_type/Answers.antt":
             answers(table, "+node_type", "nodes::Node::node_type-returns-in-{s.name}", "plain_{name}"),
+        "proofs/+written_name/Answers.antt":
+            answers(table, "+written_name", "nodes::Node::written_name-returns-in-{s.name}", "plain_{name}"),
     }
 
 

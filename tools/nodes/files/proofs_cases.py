@@ -99,6 +99,7 @@ def opening(table, n, f, boxed):
 
 def openings(table):
     held = {f.kind for n in table.nodes.values() for f in to_open(table, n)}
+    held |= {m for s in sets_by_type(table) for m in s.members}
     return [opening(table, n, f, boxed) for n in table.nodes.values() for f in to_open(table, n)
             for boxed in [False, True] if not boxed or n.name in held]
 

@@ -93,7 +93,7 @@ def of_box(table, name):
     if name in table.sets:
         return "(λ b. refl)"
     n = table.nodes[name]
-    return f"(λ b. {same_each(table, n)} b.value)" if to_open(table, n) else f"(λ b. {same_slots(table, n, 'b.value', 'n', {})})"
+    return opened(table, n, "n", True, "_", {}, lambda there: f"(λ n. {same_slots(table, n, 'n.value', 'n', there)})")
 
 def same_member(table, name):
     """The same for each member of a list."""

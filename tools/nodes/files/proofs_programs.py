@@ -83,11 +83,20 @@ def child(table, f, at, name, there):
 
 
 def in_box(table, name, box):
-    """Why a member of a set is plain, in its box."""
+    """Why the member of a set in this box is plain."""
     if name in table.sets:
         return f"h {box}.value.node"
+    if to_open(table, table.nodes[name]):
+        raise SystemExit(f"{name}: in a set that is a child alone, a type that has to be opened has no form yet")
+    return row(table, table.nodes[name], f"{box}.value", "n", {})
+
+
+def each_box(table, name):
+    """Why each member of a set is plain, in its box."""
+    if name in table.sets or not to_open(table, table.nodes[name]):
+        return f"(λ b. {in_box(table, name, 'b')})"
     n = table.nodes[name]
-    return f"{each(table, n)} {box}.value" if to_open(table, n) else row(table, n, f"{box}.value", "n", {})
+    return opened(table, n, "n", True, "_", {}, lambda there: f"(λ n. {row(table, n, 'n.value', 'n', there)})")
 
 
 def one_of_many(table, kind):
@@ -96,5 +105,5 @@ def one_of_many(table, kind):
     s = table.sets[kind]
     if s.nests:
         return "(λ n. h n.node)"
-    inside = "".join(f" (λ b. {in_box(table, m, 'b')})" for m in s.members)
+    inside = "".join(f" {each_box(table, m)}" for m in s.members)
     return f"(with_{snake(kind)} _{inside})"

@@ -9,7 +9,7 @@ pub returns-in-IdentifierReference : goal.returns-in-IdentifierReference
 returns-in-IdentifierReference g c = rw c.in-IdentifierReference.is ((rw c.deref.ensures at c.check_identifier_reference.ensures) ∙ sym (of_right_set _ sets.SimpleAssignmentTarget _ refl))
 
 pub returns-in-StaticMemberExpression : goal.returns-in-StaticMemberExpression
-returns-in-StaticMemberExpression g c = rw c.in-StaticMemberExpression.is ((rw c.deref.ensures at c.check_static_member_expression.ensures) ∙ sym (of_right_set _ sets.SimpleAssignmentTarget _ refl))
+returns-in-StaticMemberExpression g c = rw c.in-StaticMemberExpression.is ((rw c.deref-in-StaticMemberExpression.ensures at c.check_static_member_expression.ensures) ∙ sym (of_right_set _ sets.SimpleAssignmentTarget _ refl))
 
 pub returns-in-ComputedMemberExpression : goal.returns-in-ComputedMemberExpression
-returns-in-ComputedMemberExpression g c = rw c.in-ComputedMemberExpression.is ((rw c.deref.ensures at c.check_computed_member_expression.ensures) ∙ sym (of_right_set _ sets.SimpleAssignmentTarget _ refl))
+returns-in-ComputedMemberExpression g c = rw c.in-ComputedMemberExpression.is ((rw c.deref-in-ComputedMemberExpression.ensures at c.check_computed_member_expression.ensures) ∙ sym (of_right_set _ sets.SimpleAssignmentTarget _ refl))

@@ -20,6 +20,7 @@ returns c = record {
   static_member_expression = λ a. refl;
   computed_member_expression = λ a. refl;
   call_expression = λ a. (refl, refl);
+  object_property = λ a. (refl, refl, refl, refl);
   unary_expression = λ a. refl;
   update_expression = λ a. (refl, refl);
   new_expression = λ a. refl;

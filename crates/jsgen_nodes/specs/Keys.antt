@@ -1,0 +1,8 @@
+-- Keys of properties.
+use Rattle.std.specs.Prelude.{Bool, true, false}
+use Rattle.jsgen_tree.specs.declared.types.NodeType.{NodeType}
+use Rattle.jsgen_tree.specs.declared.types.NodeType.TheVariants as types
+
+abbrev pub is_string : NodeType → Bool
+is_string types.StringLiteral = true
+is_string type = false

@@ -1,0 +1,34 @@
+// Which properties are printed as a name alone.
+ghost use Rattle.std.specs.Prelude.{◌≡◌, bytes_eq, false, option_map};
+ghost use Rattle.std.specs.Option.{option_map_or};
+ghost use Rattle.std.specs.Str.{chars};
+ghost use Rattle.jsgen_model.specs.Spell.{says_name};
+
+use jsgen_tree::is_proto;
+
+/// Whether a property's value, which may be this reference, says the name that is its key. Of `__proto__` only the property
+/// tells (ECMA-262, 13.2.5.5).
+pub fn says_name(shorthand: bool, name: &str, reference: Option<&str>) -> bool
+    ensures { result ≡ says_name shorthand (chars name.now) (option_map (λ s. chars s.now) reference.entry) }
+{
+    if is_proto(name) {
+        shorthand
+    } else {
+        is_reference_to(name, reference)
+    }
+}
+
+fn is_reference_to(name: &str, reference: Option<&str>) -> bool
+    ensures { result ≡ option_map_or (λ v. bytes_eq v (chars name.now)) (option_map (λ s. chars s.now) reference.entry) false }
+{
+    match reference {
+        Some(text) => is_same(text, name),
+        None => false,
+    }
+}
+
+fn is_same(a: &str, b: &str) -> bool
+    ensures { result ≡ bytes_eq (chars a.now) (chars b.now) }
+{
+    a == b
+}

@@ -1,0 +1,333 @@
+-- Keys and properties.
+use Rattle.std.proofs.Common.{◌≡◌, ℕ, Bool, true, false, ◌&&◌, cond, if◌then◌else◌, decimal, nat_le, Option, Some, None, is_some, List, [], ◌∷◌, bytes_eq, refl, sym, ap, ◌∙◌, subst}
+use Rattle.std.specs.Option.{option_map_or}
+use Rattle.std.proofs.lemmas.Bool.{both_ways, ltb-true}
+use Rattle.std.proofs.lemmas.Option.{same_Some}
+use Rattle.std.proofs.lemmas.Slice.Eq.{bytes_eq-Decides}
+use Rattle.jsgen_syntax.specs.Escapes.{name_text}
+use Rattle.jsgen_syntax.specs.Name.{spells_name, is_free_name}
+use Rattle.jsgen_syntax.specs.Strings.{escaped, string_value, is_backtick, cheapest_of, quote_cost}
+use Rattle.jsgen_syntax.specs.Wtf8.{are_units}
+use Rattle.jsgen_syntax.specs.declared.quote.Quote.{Quote}
+use Rattle.jsgen_syntax.specs.declared.quote.Quote.TheVariants as quotes
+use Rattle.jsgen_syntax.specs.declared.precedence.Precedence.TheVariants as levels
+use Rattle.jsgen_syntax.proofs.Escapes.{word_text_value}
+use Rattle.jsgen_syntax.proofs.Strings.{escaped_value}
+use Rattle.jsgen_tree.specs.Atom.{no_value, units, flag, property_kind}
+use Rattle.jsgen_tree.specs.Number.{NumericKind, Whole, Raw}
+use Rattle.jsgen_tree.specs.Tree.{Tree, Atoms, span_of}
+use Rattle.jsgen_tree.specs.Nodes as tree
+use Rattle.jsgen_tree.specs.Places.{bare}
+use Rattle.jsgen_tree.specs.Inside.{without_parentheses, reference_in, written_name_in, is_proto}
+use Rattle.jsgen_tree.specs.Values.{identifier_name_name, identifier_reference_name, numeric_literal_kind, numeric_literal_digits, string_literal_value, object_property_kind, object_property_method, object_property_shorthand, object_property_computed}
+use Rattle.jsgen_tree.specs.declared.collections.PropertyKind.{PropertyKind}
+use Rattle.jsgen_tree.specs.declared.collections.PropertyKind.TheVariants as kinds
+use Rattle.jsgen_model.specs.declared.fault.TreeFault.{TreeFault}
+use Rattle.jsgen_model.specs.Punctuator.{colon, ellipsis, Square, opening}
+use Rattle.jsgen_model.specs.Tokens.{Tokens, done, piece, group, ◌⧺◌, Word, Number, Quoted, Sign}
+use Rattle.jsgen_model.specs.Items.{Items, name, string, punctuator, soft_space}
+use Rattle.jsgen_model.specs.Layout.{Pen, Style, other_end, layout, written, chosen_quote, but_backticks}
+use Rattle.jsgen_model.specs.Grammar.{Allowed, ReadsExpression, ReadsKey, ReadsProperty, property_values, with_in}
+use Rattle.jsgen_model.specs.Grammar as grammar
+use Rattle.jsgen_model.specs.Normal.{normal, nothing_of, named, unnumbered, by_text, number_text, is_proto_shorthand}
+use Rattle.jsgen_model.specs.Plain.{is_whole}
+use Rattle.jsgen_model.specs.Spell.{Place, spell, in_brackets, in_front, key_text, key_items, says_name, is_short, property_items, number_item}
+use Rattle.jsgen_model.specs.Valid.{named_faults, shorthand_faults}
+use Rattle.jsgen_token_laws.proofs.Last.{Last, Open, After, line_of, Operand, Begun, begun_ready, Knows}
+use Rattle.jsgen_token_laws.proofs.Writes.{Writes, wrote_both}
+use Rattle.jsgen_token_laws.proofs.Steps.{wrote_name, wrote_number, wrote_quoted, wrote_punctuator, wrote_dots, within_brackets, brackets_written, soft_space_written}
+use Rattle.jsgen_reading_laws.proofs.Families.{IsExpression, IsKey, none_unless}
+use Rattle.jsgen_reading_laws.proofs.Families as family
+use Rattle.jsgen_reading_laws.proofs.Names.{free_spelled}
+use Rattle.jsgen_reading_laws.proofs.Numbers.{decimal_whole}
+use Rattle.jsgen_reading_laws.proofs.Levels.{from_primary}
+use Rattle.jsgen_reading_laws.proofs.Good.{Good, Printed}
+use Rattle.jsgen_reading_laws.proofs.Lists.{Element, ElementAt}
+use Rattle.jsgen_reading_laws.proofs.Asked.{asked}
+
+-- ---- keys
+
+-- between two pens stands a key
+pub record GoodKey (p : Pen) (l : Last) (q : Pen) (c : Allowed) (computed : Bool) (t : Tree) : Type 0 where
+  pub last : Last
+  pub tokens : Tokens
+  pub writes : Writes p l q last tokens
+  pub operand : Operand last
+  pub semicolon : q.pending_semicolon ≡ false
+  pub tree : Tree
+  pub reads : ReadsKey c computed tokens tree
+  pub same : normal tree ≡ normal t
+
+-- at the place of its property
+abbrev pub KeyOf : Allowed → Bool → Tree → Type 0
+KeyOf c computed t = (place : Place) (p : Pen) (l : Last) → p.pending_semicolon ≡ false → Begun l → Knows p l → GoodKey p l (layout (key_items computed t (spell t (in_brackets levels.Comma place)) (spell t (in_front levels.Comma place))) p) (with_in c) computed t
+
+pub good_name_key : (c : Allowed) (a : Atoms) → spells_name (identifier_name_name a) ≡ true → KeyOf c false (tree.identifier_name a)
+good_name_key c a h place p l z b k =
+    let v : List ℕ = identifier_name_name a in
+    record {
+      last = _;
+      tokens = piece (line_of l) (Word (name_text p.style.ascii v)) done;
+      writes = wrote_name v p l h k;
+      operand = tt;
+      semicolon = z;
+      tree = tree.identifier_name (named v);
+      reads = grammar.a_name_key (word_text_value p.style.ascii v h);
+      same = refl;
+    }
+
+-- a string that may not stand in backticks doesn't
+cheapest_plain : (b : Bool) → is_backtick (if b then quotes.Double else quotes.Single) ≡ false
+cheapest_plain true = refl
+cheapest_plain false = refl
+
+other_plain : (q : Quote) → is_backtick (but_backticks q) ≡ false
+other_plain quotes.Backtick = refl
+other_plain quotes.Single = refl
+other_plain quotes.Double = refl
+
+no_backticks : (style : Style) (us : List ℕ) → is_backtick (chosen_quote style false us) ≡ false
+no_backticks style us = go style.minified
+  where
+    go : (b : Bool) → is_backtick (if b then cheapest_of false (quote_cost quotes.Single us) (quote_cost quotes.Double us) (quote_cost quotes.Backtick us) else but_backticks style.quote) ≡ false
+    go true = cheapest_plain (nat_le (quote_cost quotes.Double us) (quote_cost quotes.Single us))
+    go false = other_plain style.quote
+
+pub good_string_key : (c : Allowed) (a : Atoms) → are_units (string_literal_value a) ≡ true → KeyOf c false (tree.string_literal a)
+good_string_key c a h place p l z b k =
+    let us : List ℕ = string_literal_value a in
+    let q : Quote = chosen_quote p.style false us in
+    let w : List ℕ = escaped q p.style.ascii us in
+    let e : string_value q w ≡ Some us = escaped_value q p.style.ascii us h in
+    record {
+      last = After (Quoted q w);
+      tokens = piece (line_of l) (Quoted q w) done;
+      writes = wrote_quoted q w us p (layout (string false us) p) l e refl refl k;
+      operand = tt;
+      semicolon = z;
+      tree = tree.string_literal (bare (units us ∷ []));
+      reads = grammar.a_string_key (no_backticks p.style us) e;
+      same = refl;
+    }
+
+pub good_number_key : (c : Allowed) (a : Atoms) → is_whole (numeric_literal_kind a) a ≡ true → KeyOf c false (tree.numeric_literal a)
+good_number_key c a h place p l z b k = by (numeric_literal_kind a) refl h
+  where
+    w : List ℕ
+    w = decimal (numeric_literal_digits a)
+
+    by : (kind : NumericKind) → numeric_literal_kind a ≡ kind → is_whole kind a ≡ true → GoodKey p l (layout (number_item kind a) p) (with_in c) false (tree.numeric_literal a)
+    by Whole e h = record {
+      last = _;
+      tokens = piece (line_of l) (Number w) done;
+      writes = wrote_number w p l (decimal_whole (numeric_literal_digits a) (ltb-true (numeric_literal_digits a) _ h)) (begun_ready l b) k;
+      operand = tt;
+      semicolon = z;
+      tree = tree.numeric_literal (by_text w);
+      reads = grammar.a_number_key;
+      same = ap (λ x. tree.numeric_literal (by_text (number_text x a))) (sym e);
+    }
+    by Raw e h = absurd (both_ways false refl h)
+
+-- a key in brackets is an expression, but no string in backticks
+abbrev ComputedText : Allowed → Tree → Type 0
+ComputedText c t = (place : Place) (p : Pen) → p.pending_semicolon ≡ false → Knows p (Open false) → Element (ReadsExpression (with_in c) grammar.Assignment) p (Open false) (layout (key_text t (spell t (in_brackets levels.Comma place))) p) t
+
+computed_text : {c : Allowed} {t : Tree} → IsExpression c t → Printed c t → ComputedText c t
+computed_text {c} (family.a_string {a} h) f place p z k =
+    let us : List ℕ = string_literal_value a in
+    let q : Quote = chosen_quote p.style false us in
+    let w : List ℕ = escaped q p.style.ascii us in
+    let e : string_value q w ≡ Some us = escaped_value q p.style.ascii us h in
+    record {
+      last = After (Quoted q w);
+      tokens = piece false (Quoted q w) done;
+      writes = wrote_quoted q w us p (layout (string false us) p) (Open false) e refl refl k;
+      operand = tt;
+      semicolon = z;
+      tree = tree.string_literal (bare (units us ∷ []));
+      reads = from_primary (in_brackets levels.Comma place) (grammar.a_string e);
+      same = refl;
+    }
+computed_text {c} v f place p z k =
+    let g = f (in_brackets levels.Comma place) p (Open false) z tt k in
+    record { last = g.last; tokens = g.tokens; writes = g.writes; operand = g.operand; semicolon = g.semicolon; tree = g.tree; reads = g.reads; same = g.same }
+
+pub good_computed_key : {c : Allowed} {t : Tree} → IsExpression c t → Printed c t → KeyOf c true t
+good_computed_key {c} {t} v f place p l z b k =
+    let p1 : Pen = written (opening Square) other_end p in
+    let g = computed_text v f place p1 z (within_brackets Square p l k) in
+    record {
+      last = Open false;
+      tokens = group (line_of l) Square g.tokens done;
+      writes = brackets_written Square p (layout (key_text t (spell t (in_brackets levels.Comma place))) p1) l g.last g.tokens g.writes;
+      operand = tt;
+      semicolon = g.semicolon;
+      tree = g.tree;
+      reads = grammar.a_computed_key g.reads;
+      same = g.same;
+    }
+
+-- ---- properties
+
+abbrev pub PropertyOf : Allowed → Tree → Type 0
+PropertyOf c t = (place : Place) → ElementAt (ReadsProperty (with_in c)) (in_brackets levels.Comma place) t
+
+pub good_spread_property : (c : Allowed) (a : Atoms) (e : Tree) → Printed c e → PropertyOf c (tree.spread a e)
+good_spread_property c a e f place p l z b k =
+    let o = wrote_dots p l b k in
+    let g = f (in_brackets levels.Comma place) (layout (punctuator ellipsis) p) (After (Sign ellipsis)) z tt o.knows in
+    record {
+      last = g.last;
+      tokens = piece (line_of l) (Sign ellipsis) g.tokens;
+      writes = wrote_both o g.writes;
+      operand = g.operand;
+      semicolon = g.semicolon;
+      tree = tree.spread (nothing_of 0) g.tree;
+      reads = grammar.a_spread_property g.reads;
+      same = ap (λ t. tree.spread (nothing_of 0) t) g.same;
+    }
+
+-- ---- where the value says the key
+
+-- an expression that is a reference of this name, in parentheses or not
+record Refers (t : Tree) (v : List ℕ) : Type 0 where
+  spelled : (place : Place) → spell t place ≡ name v
+  free : is_free_name v ≡ true
+  form : normal t ≡ tree.identifier_reference (unnumbered v)
+
+none_is_some : (v : List ℕ) → None ≡ Some v → ⊥
+none_is_some v e = both_ways false refl (ap is_some e)
+
+referred : {c : Allowed} {t : Tree} → IsExpression c t → (v : List ℕ) → reference_in (without_parentheses t) ≡ Some v → Refers t v
+referred (family.a_reference {a} h) v s =
+    let e = same_Some (identifier_reference_name a) v s in
+    record { spelled = λ place. ap (λ w. name w) e; free = subst (λ w. is_free_name w ≡ true) e h; form = ap (λ w. tree.identifier_reference (unnumbered w)) e }
+referred (family.in_parentheses {a} {t} w) v s =
+    let r = referred w v (subst (λ b. reference_in (cond b (without_parentheses t) (tree.parenthesized a t)) ≡ Some v) (asked w).expression s) in
+    record { spelled = r.spelled; free = r.free; form = r.form }
+referred w v s = absurd (none_is_some v s)
+
+-- the name of a value is the key's
+record Says (shorthand : Bool) (w : List ℕ) (o : Option (List ℕ)) : Type 0 where
+  reference : o ≡ Some w
+  proto : (is_proto w && true) ≡ (is_proto w && shorthand)
+
+none_named : (faults rest : List TreeFault) → (x : TreeFault) → x ∷ rest ≡ [] → ⊥
+none_named faults rest x e = cc
+
+-- of `__proto__` by the rule, and of other names by the test
+by_rule : (shorthand : Bool) (w : List ℕ) (value : Tree) (o : Option (List ℕ)) → is_proto w ≡ true → shorthand ≡ true → named_faults (span_of value) o ≡ [] → Says shorthand w o
+by_rule shorthand w value None e s f = absurd (none_named [] [] _ f)
+by_rule shorthand w value (Some v) e s f =
+    let n : is_proto v ≡ true = none_unless (is_proto v) _ f in
+    record { reference = ap (λ x. Some x) ((bytes_eq-Decides v _).0 n ∙ sym ((bytes_eq-Decides w _).0 e)); proto = ap (λ x. is_proto w && x) (sym s) }
+
+by_name : (shorthand : Bool) (w : List ℕ) (o : Option (List ℕ)) → is_proto w ≡ false → option_map_or (λ v. bytes_eq v w) o false ≡ true → Says shorthand w o
+by_name shorthand w None e h = absurd (both_ways false refl h)
+by_name shorthand w (Some v) e h = record { reference = ap (λ x. Some x) ((bytes_eq-Decides v w).0 h); proto = ap (λ x. x && true) e ∙ ap (λ x. x && shorthand) (sym e) }
+
+said : (shorthand : Bool) (a : Atoms) (value : Tree) → shorthand_faults shorthand (tree.identifier_name a) value ≡ [] → is_short shorthand (tree.identifier_name a) value ≡ true → Says shorthand (identifier_name_name a) (reference_in (without_parentheses value))
+said shorthand a value f h = by (is_proto (identifier_name_name a)) refl f h
+  where
+    w : List ℕ
+    w = identifier_name_name a
+
+    o : Option (List ℕ)
+    o = reference_in (without_parentheses value)
+
+    by : (b : Bool) → is_proto w ≡ b → (if shorthand && b then named_faults (span_of value) o else []) ≡ [] → (if b then shorthand else option_map_or (λ v. bytes_eq v w) o false) ≡ true → Says shorthand w o
+    by true e f h = by_rule shorthand w value o e h (subst (λ s. (if s && true then named_faults (span_of value) o else []) ≡ []) h f)
+    by false e f h = by_name shorthand w o e h
+
+-- there is one kind of property so far
+only_kind : (k : PropertyKind) → kinds.Init ≡ k
+only_kind kinds.Init = refl
+
+same_property : (a : Atoms) (s b : Bool) (k v x y : Tree) → object_property_method a ≡ no_value → is_proto_shorthand s k ≡ is_proto_shorthand (object_property_shorthand a) x → object_property_computed a ≡ b → normal k ≡ normal x → normal v ≡ normal y → normal (tree.object_property (property_values s b) k v) ≡ normal (tree.object_property a x y)
+same_property a s b k v x y m h d e f = λ i. tree.object_property (bare (property_kind (only_kind (object_property_kind a) i) ∷ sym m i ∷ flag (h i) ∷ flag (sym d i) ∷ [])) (e i) (f i)
+
+good_short_property : (c : Allowed) (a b : Atoms) (v : Tree) → object_property_method a ≡ no_value → object_property_computed a ≡ false → shorthand_faults (object_property_shorthand a) (tree.identifier_name b) v ≡ [] → is_short (object_property_shorthand a) (tree.identifier_name b) v ≡ true → IsExpression c v → PropertyOf c (tree.object_property a (tree.identifier_name b) v)
+good_short_property c a b v m d f h value place p l z y k =
+    let w : List ℕ = identifier_name_name b in
+    let says = said (object_property_shorthand a) b v f h in
+    let r = referred value w says.reference in
+    let items : Items = property_items true (key_items (object_property_computed a) (tree.identifier_name b) (name w) (name w)) (name w) (name w) in
+    let laid : layout (spell (tree.object_property a (tree.identifier_name b) v) (in_brackets levels.Comma place)) p ≡ layout (name w) p = ap (λ s. layout (property_items s (key_items (object_property_computed a) (tree.identifier_name b) (name w) (name w)) (spell v (in_front levels.Comma (in_brackets levels.Comma place))) (spell v (in_brackets levels.Comma (in_brackets levels.Comma place)))) p) h ∙ ap (λ i. layout i p) (r.spelled (in_front levels.Comma (in_brackets levels.Comma place))) in
+    subst (λ q. Element (ReadsProperty (with_in c)) p l q (tree.object_property a (tree.identifier_name b) v)) (sym laid) (record {
+      last = _;
+      tokens = piece (line_of l) (Word (name_text p.style.ascii w)) done;
+      writes = wrote_name w p l (free_spelled w r.free) k;
+      operand = tt;
+      semicolon = z;
+      tree = tree.object_property (property_values true false) (tree.identifier_name (named w)) (tree.identifier_reference (unnumbered w));
+      reads = grammar.a_shorthand (word_text_value p.style.ascii w (free_spelled w r.free)) r.free;
+      same = same_property a true false (tree.identifier_name (named w)) (tree.identifier_reference (unnumbered w)) (tree.identifier_name b) v m says.proto d refl (sym r.form);
+    })
+
+-- an expression has no written name
+no_written_name : {c : Allowed} {t : Tree} → IsExpression c t → written_name_in t ≡ None
+no_written_name (family.a_reference h) = refl
+no_written_name v = refl
+
+short_property : (c : Allowed) (a : Atoms) {computed : Bool} {x v : Tree} → IsKey c computed x → object_property_method a ≡ no_value → object_property_computed a ≡ computed → shorthand_faults (object_property_shorthand a) x v ≡ [] → is_short (object_property_shorthand a) x v ≡ true → IsExpression c v → PropertyOf c (tree.object_property a x v)
+short_property c a {v = v} (family.a_name_key {a = b} h) m d f s value = good_short_property c a b v m d f s value
+short_property c a (family.a_string_key h) m d f s value = absurd (both_ways false refl s)
+short_property c a (family.a_number_key h) m d f s value = absurd (both_ways false refl s)
+short_property c a {v = v} (family.a_computed_key w) m d f s value = absurd (both_ways false refl (ap (λ o. option_map_or (λ n. says_name (object_property_shorthand a) n (reference_in (without_parentheses v))) o false) (sym (no_written_name w)) ∙ s))
+
+-- ---- a key and its value
+
+and_false : (b : Bool) → (b && false) ≡ false
+and_false true = refl
+and_false false = refl
+
+-- what is read with a colon is no shorthand, and what is printed so is none of `__proto__`
+no_shorthand : (t : Tree) → is_proto_shorthand false t ≡ false
+no_shorthand t = and_false (option_map_or is_proto (written_name_in t) false)
+
+not_said : (shorthand : Bool) (o r : Option (List ℕ)) → option_map_or (λ w. says_name shorthand w r) o false ≡ false → (option_map_or is_proto o false && shorthand) ≡ false
+not_said shorthand None r h = refl
+not_said shorthand (Some w) r h = by (is_proto w) h
+  where
+    by : (b : Bool) → (if b then shorthand else option_map_or (λ v. bytes_eq v w) r false) ≡ false → (b && shorthand) ≡ false
+    by true h = h
+    by false h = refl
+
+keyed_parts : (c : Allowed) (a : Atoms) (computed : Bool) (x v : Tree) (place : Place) (p p1 p2 p3 q : Pen) (l : Last) → object_property_method a ≡ no_value → object_property_computed a ≡ computed → is_short (object_property_shorthand a) x v ≡ false → (g : GoodKey p l p1 (with_in c) computed x) (o : Writes p1 g.last p2 (After (Sign colon)) (piece (line_of g.last) (Sign colon) done)) (n : Last) → Writes p2 (After (Sign colon)) p3 n done → Good p3 n q (with_in c) grammar.Assignment (in_brackets levels.Comma place).start v → Element (ReadsProperty (with_in c)) p l q (tree.object_property a x v)
+keyed_parts c a computed x v place p p1 p2 p3 q l m d s g o n w e = record {
+  last = e.last;
+  tokens = g.tokens ⧺ piece (line_of g.last) (Sign colon) e.tokens;
+  writes = wrote_both g.writes (wrote_both o (wrote_both w e.writes));
+  operand = e.operand;
+  semicolon = e.semicolon;
+  tree = tree.object_property (property_values false computed) g.tree e.tree;
+  reads = grammar.a_property (line_of g.last) refl g.reads e.reads;
+  same = same_property a false computed g.tree e.tree x v m (no_shorthand g.tree ∙ sym (not_said (object_property_shorthand a) (written_name_in x) (reference_in (without_parentheses v)) s)) d g.same e.same;
+}
+
+good_keyed_property : (c : Allowed) (a : Atoms) (computed : Bool) (x v : Tree) → object_property_method a ≡ no_value → object_property_computed a ≡ computed → is_short (object_property_shorthand a) x v ≡ false → KeyOf c computed x → Printed c v → PropertyOf c (tree.object_property a x v)
+good_keyed_property c a computed x v m d s key value place p l z b k =
+    let around : Place = in_brackets levels.Comma place in
+    let inside : Items = spell x (in_brackets levels.Comma around) in
+    let alone : Items = spell x (in_front levels.Comma around) in
+    let p1 : Pen = layout (key_items computed x inside alone) p in
+    let p2 : Pen = layout (punctuator colon) p1 in
+    let p3 : Pen = layout soft_space p2 in
+    let g = key around p l z b k in
+    let o = wrote_punctuator colon p1 g.last tt tt g.operand g.writes.knows in
+    let n = soft_space_written p2 (After (Sign colon)) o.knows in
+    let e = value (in_brackets levels.Comma around) p3 n.last (n.semicolon ∙ g.semicolon) (n.ready tt) n.writes.knows in
+    let q : Pen = layout (spell v (in_brackets levels.Comma around)) p3 in
+    let laid : layout (spell (tree.object_property a x v) around) p ≡ q = ap (λ y. layout (property_items y (key_items (object_property_computed a) x inside alone) (spell v (in_front levels.Comma around)) (spell v (in_brackets levels.Comma around))) p) s ∙ ap (λ y. layout (property_items false (key_items y x inside alone) (spell v (in_front levels.Comma around)) (spell v (in_brackets levels.Comma around))) p) d in
+    subst (λ r. Element (ReadsProperty (with_in c)) p l r (tree.object_property a x v)) (sym laid) (keyed_parts c a computed x v around p p1 p2 p3 q l m d s g o n.last n.writes e)
+
+-- ---- either
+
+-- a key that isn't a name is never said by a value
+pub good_property : (c : Allowed) (a : Atoms) (computed : Bool) (x v : Tree) → object_property_method a ≡ no_value → object_property_computed a ≡ computed → shorthand_faults (object_property_shorthand a) x v ≡ [] → IsKey c computed x → IsExpression c v → KeyOf c computed x → Printed c v → PropertyOf c (tree.object_property a x v)
+good_property c a computed x v m d f k value key printed = by (is_short (object_property_shorthand a) x v) refl
+  where
+    by : (b : Bool) → is_short (object_property_shorthand a) x v ≡ b → PropertyOf c (tree.object_property a x v)
+    by false s = good_keyed_property c a computed x v m d s key printed
+    by true s = short_property c a k m d f s value
