@@ -42,8 +42,8 @@ pub struct CodegenReturn {
     pub code: String,
 }
 
-/// A printer: of a whole program by `build`, or of pieces of code, one call after another. Each piece goes on with what was
-/// printed before, so that a space stands where two pieces would be read as one.
+/// A printer: of a whole program by `build`, or of pieces of code, one call after another. It holds the text so far, and what
+/// matters of its end to what follows.
 #[derive(Drop)]
 pub struct Codegen<'a> {
     alloc: Global,
