@@ -230,7 +230,7 @@ two_news =
     let arguments = group false Round (word (codes "b") done) done in (
       word (codes "new") (word (codes "new") (word (codes "a") (arguments ⧺ sign semicolon done))),
       ([], codes " new a(b);", refl, refl, refl, refl, refl, (codes " ", codes " a(b);", refl, refl, refl, refl, refl, (codes " ", codes "(b);", refl, refl, refl, refl, refl, ([], codes "b", codes ";", refl, refl, refl, ([], [], refl, refl, refl, refl, refl, refl), ([], [], refl, refl, refl, refl, refl, refl))))),
-      undirected refl (grammar.last_statement (item {a = word (codes "new") (word (codes "new") (word (codes "a") arguments))} refl (of_left (grammar.a_new (grammar.new_alone (grammar.a_member (grammar.new_with_arguments {a = word (codes "a") done} {inside = word (codes "b") done} false false refl (grammar.a_primary read_a) (grammar.some_arguments (grammar.last_argument (value (first_of_sum read_b))))))))))),
+      undirected refl (grammar.last_statement (item {a = word (codes "new") (word (codes "new") (word (codes "a") arguments))} refl (of_left (grammar.a_new (grammar.new_alone (grammar.a_member (grammar.new_with_arguments {a = word (codes "a") done} {inside = word (codes "b") done} false false refl (grammar.a_primary read_a) (grammar.some_arguments (grammar.last_argument (grammar.an_element (value (first_of_sum read_b)))))))))))),
     )
 
 pub member_of_super : IsRead (codes "super.a;") (samples.module_of (more (samples.statement_of (samples.member_of samples.super (codes "a"))) no_trees))

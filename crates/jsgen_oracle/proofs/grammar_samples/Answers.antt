@@ -1,6 +1,6 @@
 use Rattle.jsgen_oracle.proofs.Samples.{nothing, two_statements, to_the_left, to_the_right, powers_to_the_right, product_in_sum, parentheses, declarators, without_value, over_lines, members, string, template, template_statement, directive, use_strict, escaped_name, semicolon_alone, block, empty_in_block, without_else, with_else, last_if, no_other_if, two_minuses, type_of_member, update_before, update_behind, two_news, member_of_super}
 use Rattle.jsgen_oracle.proofs.Refused.{two_names, two_numbers, no_element, no_right_operand, increment_between, no_binding, reserved_word, open_bracket, unended_name, unended_declaration, unended_directive, escaped_word, string_behind_name, declaration_behind_if, else_alone, no_consequent}
-use Rattle.jsgen_oracle.proofs.Joined.{member_by_string, no_name, no_argument, no_element}
+use Rattle.jsgen_oracle.proofs.Joined.{member_by_string, no_name, no_argument}
 use Rattle.jsgen_oracle.proofs.grammar_samples.Goals as goal
 
 pub returns : goal.returns
