@@ -136,7 +136,7 @@ expression_joined (grammar.an_update_behind {a = a} o e r s) = made _ a (piece f
 expression_joined (grammar.new_with_arguments {a = a} {inside = i} m n e r s) = made _ a (group n Round i done) e (expression_joined r) (and_from (may_be_given i) true (arguments_start s) refl)
 expression_joined (grammar.new_alone r) = expression_joined r
 expression_joined (grammar.a_named_member_of_super w m n l e) = refl
-expression_joined (grammar.a_computed_member_of_super {inside = i} r) = and_from (starts_well i) true (expression_starts r) refl
+expression_joined (grammar.a_computed_member_of_super r) = refl
 expression_joined (grammar.a_call_of_super {inside = i} s) = and_from (may_be_given i) true (arguments_start s) refl
 expression_joined grammar.a_new_target = refl
 expression_joined (grammar.a_reference e h) = refl

@@ -272,7 +272,7 @@ expression_starts (grammar.an_update_behind {a = a} o e r s) = joined _ a (piece
 expression_starts (grammar.new_with_arguments {a = a} m n e r s) = or_right _ _ (joined _ a (group n Round _ done) refl e (expression_starts r))
 expression_starts (grammar.new_alone r) = or_right _ _ (expression_starts r)
 expression_starts (grammar.a_named_member_of_super w m n l e) = refl
-expression_starts (grammar.a_computed_member_of_super {next = n} {inside = i} r) = element_goes n i done (expression_starts r)
+expression_starts (grammar.a_computed_member_of_super {next = n} {inside = i} r) = or_left (goes_on (group n Square i done)) false (element_goes n i done (expression_starts r))
 expression_starts (grammar.a_call_of_super r) = refl
 expression_starts grammar.a_new_target = refl
 expression_starts (grammar.a_reference {w = w} e h) = or_left _ _ (and_from (is_operand_word w) true (or_right (is_keyword w) _ (ap (λ o. option_map_or is_free_name o false) e ∙ h)) refl)
