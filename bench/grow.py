@@ -252,11 +252,12 @@ def by_function(folder, crate):
     with tempfile.TemporaryDirectory() as kept:
         said, moments = watched(check_from_nothing(folder, crate, kept), folder / "crates" / crate)
         functions = {it.replace("::", ".") for it in re.findall(rf"^fn {crate}::(\S+): proved$", said, re.M)}
-        shared = {it.rsplit(".", 1)[0] for file in Path(kept).rglob(f"Rattle-{crate}-proofs.*.+*") for it in [file.name.removeprefix(f"Rattle-{crate}-proofs.").split(".+")[0] + "."]}
+        prefix = f"Rattle-{crate}-proofs."
+        shared = {file.name.removeprefix(prefix).split(".+")[0] for file in Path(kept).rglob(f"{prefix}*.+*")}
         times, last, ends = {}, None, [it for it, _ in moments]
         for file in sorted(Path(kept).rglob("*.oantt"), key=lambda it: it.stat().st_mtime):
             at = moments[min(bisect(ends, file.stat().st_mtime), len(moments) - 1)][1]
-            parts = file.name.removeprefix(f"Rattle-{crate}-proofs.").split(".")
+            parts = file.name.removeprefix(prefix).split(".")
             names = [".".join(parts[:end]) for end in range(len(parts), 0, -1)]
             name = next((it for it in names if it in functions or it in shared), None)
             if name in functions and name.rsplit(".", 1)[0] in shared:
