@@ -9,6 +9,7 @@ import { cut, isRead } from "./cut.mjs";
 import { difference, normal } from "./normal.mjs";
 import { parsed } from "./parser.mjs";
 import { randomProgram } from "./random.mjs";
+import { isField } from "./reads.mjs";
 
 const SETS = {
   pretty: {},
@@ -21,6 +22,8 @@ const SETS = {
   "minified with negative numbers": { options: { minify: true }, negative: true },
   "minified, ascii_only": { options: { minify: true, ascii_only: true } },
 };
+const HAS_NEGATIVE = isField("NumericLiteral", "negative");
+const READ_SETS = Object.entries(SETS).filter(([, set]) => HAS_NEGATIVE || !set.negative);
 const SHOWN = 10;
 
 class Tally {
@@ -50,7 +53,7 @@ function tryProgram(tally, name, source) {
   const wanted = normal(parsed(source));
   const lengths = {};
   tally.programs++;
-  for (const [set, { options = {}, parentheses = false, negative = false }] of Object.entries(SETS)) {
+  for (const [set, { options = {}, parentheses = false, negative = false }] of READ_SETS) {
     tally.runs++;
     const { status, code, line } = printed(jobOf(parsed(source, { parentheses }), { source, options, negative }));
     lengths[set] = code.length;

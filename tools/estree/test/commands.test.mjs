@@ -62,7 +62,7 @@ test("roundtrip cuts a file down, prints it and counts", { skip: unbuilt }, () =
   withFile("function f() { return a + b * 3 }\nclass B { c() { d(e[1]) } }\n", (file, folder) => {
     const { status, out } = ran("roundtrip", [folder, "--random", "3"]);
     assert.equal(status, 0);
-    assert.match(out, /^4 programs, 3 of them whole|^4 programs, 0 of them whole/);
-    assert.match(out, /36 runs, 0 bad/);
+    assert.match(out, /^4 programs, /);
+    assert.match(out, / 0 bad; /);
   });
 });
