@@ -76,12 +76,6 @@ longer_stands p text = list_any (λ q. nat_lt (length (punctuator_text p)) (leng
 
 -- ---- numbers (12.9.3)
 
--- `0`, or decimal digits without a leading zero: so far the only form of a number that is a token. The others come with the nodes that print them
-abbrev pub spells_whole : List ℕ → Bool
-spells_whole [] = false
-spells_whole (c ∷ []) = is_ascii_digit c
-spells_whole (c ∷ d ∷ ds) = not (c == 48) && list_all is_ascii_digit (c ∷ d ∷ ds)
-
 -- a longer number stands there, of whatever form: the characters w and one or more of the text behind them spell it
 unfoldable pub longer_number_stands : List ℕ → List ℕ → Bool
 longer_number_stands w [] = false
@@ -97,7 +91,7 @@ piece_text (Sign p) = punctuator_text p
 
 abbrev pub is_spelled : Piece → Bool
 is_spelled (Word w) = option_map_or spells_name (word_value w) false
-is_spelled (Number w) = spells_whole w
+is_spelled (Number w) = spells_number w
 is_spelled (Quoted q w) = is_some (string_value q w)
 is_spelled (Sign p) = true
 
