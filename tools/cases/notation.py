@@ -17,7 +17,7 @@ SIGN = re.compile(
   | (?P<number>0x[0-9a-fA-F]+|\d+)
   | (?P<word>[^\W\d]\w*)
   | (?P<operator>>>>|===|!==|\*\*|<<|>>|<=|>=|==|!=|&&|\|\||\?\?|[-+*/%|^&<>])
-  | (?P<sign>[(){}\[\].,;=])
+  | (?P<sign>[(){}\[\].,;=?:])
   | (?P<end>$)
 )""",
     re.X,
@@ -145,11 +145,21 @@ class Reader:
     def operation(self):
         self.take()
         left = self.expression()
+        if self.is_here("?"):
+            return self.choice(left)
         operator = self.take()
         right = self.expression()
         self.expect(")")
         node_type = "LogicalExpression" if operator in LOGICAL else "BinaryExpression"
         return Child(node_type, operator=operator, left=left, right=right)
+
+    def choice(self, test):
+        self.take()
+        consequent = self.expression()
+        self.expect(":")
+        alternate = self.expression()
+        self.expect(")")
+        return Child("ConditionalExpression", test=test, consequent=consequent, alternate=alternate)
 
     # ---- a node by its type, with its fields in their order or by their names
 

@@ -17,7 +17,7 @@ use Rattle.jsgen_tree.specs.Atom.{units, flag, binary_operator, logical_operator
 use Rattle.jsgen_tree.specs.Tree.{Tree, Maybe, absent, given, Trees, no_trees, more, hole, Atoms}
 use Rattle.jsgen_tree.specs.Places.{bare}
 use Rattle.jsgen_tree.specs.Nodes as tree
-use Rattle.jsgen_model.specs.Punctuator.{plus, minus, star, slash, percent, star_star, equal_equal, not_equal, equal_equal_equal, not_equal_equal, less, less_equal, greater, greater_equal, shift_left, shift_right, shift_right_zero, bit_and, bit_or, bit_xor, and_and, or_or, nullish, dot, ellipsis, comma, semicolon, equal, Round, Square, Brace, bang, tilde, Punctuator, plus_plus, minus_minus, colon}
+use Rattle.jsgen_model.specs.Punctuator.{plus, minus, star, slash, percent, star_star, equal_equal, not_equal, equal_equal_equal, not_equal_equal, less, less_equal, greater, greater_equal, shift_left, shift_right, shift_right_zero, bit_and, bit_or, bit_xor, and_and, or_or, nullish, dot, ellipsis, comma, semicolon, equal, Round, Square, Brace, bang, tilde, Punctuator, plus_plus, minus_minus, colon, question}
 use Rattle.jsgen_tree.specs.declared.collections.PropertyKind.TheVariants.{Init}
 use Rattle.jsgen_model.specs.Tokens.{Piece, Tokens, done, piece, group, ◌⧺◌, Word, Number, Quoted, Sign}
 use Rattle.jsgen_model.specs.Normal.{nothing_of, named, unnumbered, by_text, declared_as}
@@ -221,6 +221,8 @@ mutual
     a_coalescing : {c : Allowed} {ts a b : Tokens} {l r : Tree} (mark : Bool) → ts ≡ a ⧺ piece mark (Sign nullish) b → ReadsExpression c CoalesceHead a l → ReadsExpression c BitOr b r → ReadsExpression c Coalesced ts (tree.logical (bare (logical_operator Coalesce ∷ [])) l r)
     a_coalesced_head : {c : Allowed} {ts : Tokens} {t : Tree} → ReadsExpression c Coalesced ts t → ReadsExpression c CoalesceHead ts t
     a_bit_or_head : {c : Allowed} {ts : Tokens} {t : Tree} → ReadsExpression c BitOr ts t → ReadsExpression c CoalesceHead ts t
+    -- what follows `?` stands between two signs, so `in` may stand there
+    a_choice : {c : Allowed} {ts a b d : Tokens} {x y z : Tree} (mark next : Bool) → ts ≡ a ⧺ piece mark (Sign question) (b ⧺ piece next (Sign colon) d) → ReadsExpression c ShortCircuit a x → ReadsExpression (with_in c) Assignment b y → ReadsExpression c Assignment d z → ReadsExpression c Conditional ts (tree.conditional (nothing_of 0) x y z)
     a_unary_operation : {c : Allowed} {mark : Bool} {ts : Tokens} {t : Tree} (o : UnaryOperator) → ReadsExpression c Unary ts t → ReadsExpression c Unary (piece mark (unary_piece o) ts) (tree.unary (bare (unary_operator o ∷ [])) t)
     an_update_before : {c : Allowed} {mark : Bool} {ts : Tokens} {t u : Tree} (o : UpdateOperator) → ReadsExpression c Unary ts t → simple_target t ≡ Some u → ReadsExpression c Update (piece mark (Sign (update_sign o)) ts) (tree.update (bare (update_operator o ∷ flag true ∷ [])) u)
     -- on the line of its operand (12.10.1)

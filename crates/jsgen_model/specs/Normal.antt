@@ -116,6 +116,7 @@ abbrev mutual
   normal (tree.new_target a) = tree.new_target (nothing_of 0)
   normal (tree.object_expression a properties) = tree.object_expression (nothing_of 0) (normal_trees properties)
   normal (tree.object_property a key value) = tree.object_property (bare (property_kind (object_property_kind a) ∷ object_property_method a ∷ flag (is_proto_shorthand (object_property_shorthand a) key) ∷ flag (object_property_computed a) ∷ [])) (normal key) (normal value)
+  normal (tree.conditional a test consequent alternate) = tree.conditional (nothing_of 0) (normal test) (normal consequent) (normal alternate)
   normal (node type a slots) = node type (bare a.values) (normal_slots slots)
 
   pub normal_slots : Slots → Slots

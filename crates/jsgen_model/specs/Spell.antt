@@ -5,7 +5,7 @@ use Rattle.std.specs.Str.{encode_utf8_all, bytes_eq}
 use Rattle.jsgen_syntax.specs.Precedence.{rank}
 use Rattle.jsgen_syntax.specs.Operator.{binary_level, lower_level, logical_level, logical_lower_level}
 use Rattle.jsgen_syntax.specs.declared.precedence.Precedence.{Precedence}
-use Rattle.jsgen_syntax.specs.declared.precedence.Precedence.TheVariants.{Lowest, Comma, Multiply, Exponentiation, Prefix, Postfix, New, Call}
+use Rattle.jsgen_syntax.specs.declared.precedence.Precedence.TheVariants.{Lowest, Comma, Yield, Conditional, Multiply, Exponentiation, Prefix, Postfix, New, Call}
 use Rattle.jsgen_syntax.specs.declared.operator.BinaryOperator.{BinaryOperator}
 use Rattle.jsgen_syntax.specs.declared.operator.BinaryOperator.TheVariants as operators
 use Rattle.jsgen_syntax.specs.declared.operator.LogicalOperator.{LogicalOperator}
@@ -23,7 +23,7 @@ use Rattle.jsgen_tree.specs.Tree.{Tree, Maybe, absent, given, Trees, no_trees, m
 use Rattle.jsgen_tree.specs.Values.{as_text, directive_directive, variable_declaration_kind, binding_identifier_name, identifier_reference_name, identifier_name_name, boolean_literal_value, numeric_literal_kind, numeric_literal_digits, string_literal_value, binary_expression_operator, logical_expression_operator, unary_expression_operator, update_expression_operator, update_expression_prefix, object_property_shorthand, object_property_computed}
 use Rattle.jsgen_tree.specs.Job.{Tables, JobData}
 use Rattle.jsgen_tree.specs.Nodes as tree
-use Rattle.jsgen_model.specs.Punctuator.{ellipsis, comma, semicolon, equal, plus, minus, star, slash, percent, star_star, equal_equal, not_equal, equal_equal_equal, not_equal_equal, less, less_equal, greater, greater_equal, shift_left, shift_right, shift_right_zero, bit_and, bit_or, bit_xor, and_and, or_or, nullish, Round, Square, Brace, bang, tilde, plus_plus, minus_minus, colon}
+use Rattle.jsgen_model.specs.Punctuator.{ellipsis, comma, semicolon, equal, plus, minus, star, slash, percent, star_star, equal_equal, not_equal, equal_equal_equal, not_equal_equal, less, less_equal, greater, greater_equal, shift_left, shift_right, shift_right_zero, bit_and, bit_or, bit_xor, and_and, or_or, nullish, Round, Square, Brace, bang, tilde, plus_plus, minus_minus, colon, question}
 use Rattle.jsgen_model.specs.Items.{Items, nothing, ◌⊕◌, word, name, number, string, first_string, directive, punctuator, operator, member_dot, brackets, soft_space, soft_line, hard_space, body_space, deeper, indentation, wrapped, statement_end, due_semicolon, drop_semicolon, statement_begins}
 use Rattle.jsgen_model.specs.Layout.{Start, nowhere, statement, arrow_body, unless_printed, layout, empty_pen, style_of}
 
@@ -82,6 +82,10 @@ left_of level place = record (in_front level place) { left_operand = true }
 -- a child in brackets, where nothing is forbidden
 abbrev pub in_brackets : Precedence → Place → Place
 in_brackets level place = record (behind level place) { context = free }
+
+-- a part of a choice or of a list, in which calls may stand
+abbrev pub with_calls : Place → Place
+with_calls place = record place { context = record place.context { forbids_call = false } }
 
 -- the object of a member
 abbrev pub linked : Place → Place
@@ -214,6 +218,10 @@ left_level o left = lower_level o
 abbrev pub right_level : BinaryOperator → Precedence
 right_level operators.Exponential = Multiply
 right_level o = binary_level o
+
+-- the parts of a choice and the signs between them
+abbrev pub choice : Items → Items → Items → Items
+choice test consequent alternate = test ⊕ (soft_space ⊕ (punctuator question ⊕ (soft_space ⊕ (consequent ⊕ (soft_space ⊕ (punctuator colon ⊕ (soft_space ⊕ alternate)))))))
 
 -- `??` can't be mixed with `||` and `&&` (ECMA-262, 13.13)
 abbrev pub unmixed : LogicalOperator → Tree → Precedence → Precedence
@@ -457,6 +465,12 @@ abbrev mutual
   spell (tree.object_property a key value) place =
       property_items (is_short (object_property_shorthand a) key value) (key_items (object_property_computed a) key (spell key (in_brackets Comma place)) (spell key (in_front Comma place)))
       (spell value (in_front Comma place)) (spell value (in_brackets Comma place))
+  -- a choice binds to the right: what follows `?` and `:` may be an assignment
+  spell (tree.conditional a test consequent alternate) place =
+      wrapped (wraps Conditional place) (choice
+      (spell test (with_calls (in_front Conditional (within (wraps Conditional place) place))))
+      (spell consequent (in_brackets Yield place))
+      (spell alternate (with_calls (behind Yield (within (wraps Conditional place) place)))))
   spell t place = nothing
 
   -- the directives of a body, each with a semicolon of its own

@@ -8,3 +8,4 @@ pub mod Parts
 pub mod Prefixes
 pub mod Constructions
 pub mod Updates
+pub mod Conditionals

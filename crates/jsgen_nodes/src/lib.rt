@@ -2,6 +2,7 @@
 #![tactic(auto)]
 
 mod blocks;
+mod choices;
 mod collections;
 mod expressions;
 mod links;

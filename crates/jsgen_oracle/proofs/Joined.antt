@@ -14,7 +14,7 @@ use Rattle.jsgen_syntax.specs.declared.operator.UnaryOperator.TheVariants as una
 use Rattle.jsgen_syntax.specs.declared.operator.UpdateOperator.{UpdateOperator}
 use Rattle.jsgen_syntax.specs.declared.operator.UpdateOperator.TheVariants as update_operators
 use Rattle.jsgen_tree.specs.Tree.{Tree, Trees}
-use Rattle.jsgen_model.specs.Punctuator.{dot, ellipsis, comma, equal, star_star, and_and, or_or, nullish, semicolon, Round, Square, Brace}
+use Rattle.jsgen_model.specs.Punctuator.{dot, ellipsis, comma, equal, star_star, and_and, or_or, nullish, question, colon, semicolon, Round, Square, Brace}
 use Rattle.jsgen_model.specs.Tokens.{Tokens, done, piece, group, ◌⧺◌, Word, Quoted, Sign, longer_stands, AreTokensOf}
 use Rattle.jsgen_model.specs.Grammar.{Allowed, Level, operator_piece, ReadsExpression, ReadsElement, ReadsArguments, ReadsArgumentList, ReadsBinding, ReadsDeclarator, ReadsDeclarators, ReadsDeclaration, EndsBy, ReadsStatement, ReadsItem, ReadsStatements, ReadsBody, ReadsModule, a_module, unary_piece, update_sign}
 use Rattle.jsgen_model.specs.Grammar as grammar
@@ -130,6 +130,7 @@ expression_joined (grammar.a_power m e l r) = made _ _ (piece m (Sign star_star)
 expression_joined (grammar.a_conjunction m e l r) = made _ _ (piece m (Sign and_and) _) e (expression_joined l) (expression_joined r)
 expression_joined (grammar.a_disjunction m e l r) = made _ _ (piece m (Sign or_or) _) e (expression_joined l) (expression_joined r)
 expression_joined (grammar.a_coalescing m e l r) = made _ _ (piece m (Sign nullish) _) e (expression_joined l) (expression_joined r)
+expression_joined (grammar.a_choice {b = b} {d = d} m n e r s t) = made _ _ (piece m (Sign question) (b ⧺ piece n (Sign colon) d)) e (expression_joined r) (behind b (piece n (Sign colon) d) (expression_joined s) (expression_joined t))
 expression_joined (grammar.a_unary_operation {mark = m} o r) = unary_joined o m _ (expression_joined r)
 expression_joined (grammar.an_update_before {mark = m} {ts = ts} o r s) = update_joined o m ts (expression_joined r)
 expression_joined (grammar.an_update_behind {a = a} o e r s) = made _ a (piece false (Sign (update_sign o)) done) e (expression_joined r) (update_joined o false done refl)

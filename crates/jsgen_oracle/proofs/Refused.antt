@@ -19,7 +19,7 @@ use Rattle.jsgen_syntax.specs.declared.operator.UnaryOperator.TheVariants as una
 use Rattle.jsgen_syntax.specs.declared.operator.UpdateOperator.{UpdateOperator}
 use Rattle.jsgen_syntax.specs.declared.operator.UpdateOperator.TheVariants as update_operators
 use Rattle.jsgen_tree.specs.Tree.{Tree, Trees}
-use Rattle.jsgen_model.specs.Punctuator.{Punctuator, dot, plus, minus, plus_plus, minus_minus, bang, tilde, star_star, and_and, or_or, nullish, semicolon, Bracket, Round, Square, Brace, opening, closing}
+use Rattle.jsgen_model.specs.Punctuator.{Punctuator, dot, plus, minus, plus_plus, minus_minus, bang, tilde, star_star, and_and, or_or, nullish, question, semicolon, Bracket, Round, Square, Brace, opening, closing}
 use Rattle.jsgen_model.specs.Numbers.{spells_number}
 use Rattle.jsgen_model.specs.Tokens.{Tokens, done, piece, group, ◌⧺◌, Piece, Word, Number, Quoted, Sign, piece_text, is_blank, longer_stands, longer_number_stands, AreTokensOf}
 use Rattle.jsgen_model.specs.Grammar.{Allowed, Level, operator_piece, unary_piece, update_sign, ReadsExpression, ReadsBinding, ReadsDeclarator, ReadsDeclarators, ReadsDeclaration, EndsBy, ReadsStatement, ReadsItem, ReadsStatements, ReadsBody, ReadsModule, a_module}
@@ -266,6 +266,7 @@ expression_starts (grammar.a_coalesce r) = expression_starts r
 expression_starts (grammar.a_coalescing m e l r) = joined _ _ (piece m (Sign nullish) _) refl e (expression_starts l)
 expression_starts (grammar.a_coalesced_head r) = expression_starts r
 expression_starts (grammar.a_bit_or_head r) = expression_starts r
+expression_starts (grammar.a_choice m n e r s t) = joined _ _ (piece m (Sign question) _) refl e (expression_starts r)
 expression_starts (grammar.a_unary_operation {mark = m} o r) = unary_starts o m _ (expression_starts r)
 expression_starts (grammar.an_update_before {mark = m} {ts = ts} o r s) = update_starts o m ts (expression_starts r)
 expression_starts (grammar.an_update_behind {a = a} o e r s) = joined _ a (piece false (Sign (update_sign o)) done) (update_goes o false) e (expression_starts r)

@@ -3,7 +3,7 @@ ghost use Rattle.std.specs.Prelude.{◌≡◌, ◌∷◌, [], ◌&&◌, false, m
 ghost use Rattle.std.specs.Option.{option_map_or};
 ghost use Rattle.std.specs.Str.{chars};
 ghost use Rattle.jsgen_tree.specs.Tree.{trees, holed, optional};
-ghost use Rattle.jsgen_tree.specs.Rows.{program_row, directive_row, block_statement_row, if_statement_row, variable_declaration_row, variable_declarator_row, numeric_literal_row, string_literal_row, logical_expression_row, identifier_name_row, static_member_expression_row, call_expression_row, spread_element_row, array_expression_row, expression_plain, statement_plain, declaration_plain, binding_pattern_plain, in_expression, in_statement, in_argument, in_array_expression_element, new_expression_row, update_expression_row, in_simple_assignment_target, object_property_row, object_expression_row, in_object_property_kind, in_property_key};
+ghost use Rattle.jsgen_tree.specs.Rows.{program_row, directive_row, block_statement_row, if_statement_row, variable_declaration_row, variable_declarator_row, numeric_literal_row, string_literal_row, logical_expression_row, identifier_name_row, static_member_expression_row, call_expression_row, spread_element_row, array_expression_row, conditional_expression_row, expression_plain, statement_plain, declaration_plain, binding_pattern_plain, in_expression, in_statement, in_argument, in_array_expression_element, new_expression_row, update_expression_row, in_simple_assignment_target, object_property_row, object_expression_row, in_object_property_kind, in_property_key};
 ghost use Rattle.jsgen_tree.specs.Atom.{no_value, flag, property_kind};
 ghost use Rattle.jsgen_tree.specs.Inside.{written_name_in, is_proto};
 ghost use Rattle.jsgen_tree.specs.Plain.{node_plain};
@@ -23,9 +23,9 @@ use crate::shape::{
 use jsgen_syntax::{JsStr, LogicalOperator, Memory};
 use jsgen_tree::{
     Argument, ArrayExpression, ArrayExpressionElement, BindingPattern, BlockStatement,
-    CallExpression, Declaration, Directive, Expression, ExpressionNode, IdentifierName,
-    IfStatement, LogicalExpression, NewExpression, Node, NodeType, NumericLiteral, NumericValue,
-    ObjectExpression, ObjectProperty, ObjectPropertyKind, Program, PropertyKey,
+    CallExpression, ConditionalExpression, Declaration, Directive, Expression, ExpressionNode,
+    IdentifierName, IfStatement, LogicalExpression, NewExpression, Node, NodeType, NumericLiteral,
+    NumericValue, ObjectExpression, ObjectProperty, ObjectPropertyKind, Program, PropertyKey,
     SimpleAssignmentTarget, SpreadElement, Statement, StatementNode, StaticMemberExpression,
     StringLiteral, UpdateExpression, VariableDeclaration, VariableDeclarator, is_proto,
 };
@@ -298,6 +298,27 @@ fn call_expression_form<N: NormalNode>(
         Slot::One(callee),
         Slot::Many(arguments),
     )
+}
+
+#[tactic(auto, using(crate::proofs::Forms::forms))]
+fn conditional_expression_form<N: NormalNode>(
+    alloc: Global,
+    node: &ConditionalExpression<N>,
+) -> Result<Form, Memory>
+    ensures { IfOk result (λ f. form_plain f ≡ normal (conditional_expression_row N.plain node.now)) }
+{
+    let test = node.test.get().normal_form(alloc)?;
+    let consequent = node.consequent.get().normal_form(alloc)?;
+    let alternate = node.alternate.get().normal_form(alloc)?;
+    Ok(Form {
+        node_type: NodeType::ConditionalExpression,
+        values: Vec::new(alloc),
+        slots: vec![in alloc;
+            Slot::One(test),
+            Slot::One(consequent),
+            Slot::One(alternate),
+        ]?,
+    })
 }
 
 fn update_expression_form<N: NormalNode>(
@@ -593,6 +614,7 @@ fn expression_form<N: NormalNode>(alloc: Global, node: &Expression<N>) -> Result
         Expression::Super(_) => Ok(leaf(alloc, NodeType::Super, Vec::new(alloc))),
         Expression::NewTarget(_) => Ok(leaf(alloc, NodeType::NewTarget, Vec::new(alloc))),
         Expression::ObjectExpression(node) => object_expression_form(alloc, node),
+        Expression::ConditionalExpression(node) => conditional_expression_form(alloc, node),
     }
 }
 

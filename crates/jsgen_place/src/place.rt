@@ -115,6 +115,22 @@ impl Place {
         }
     }
 
+    /// The place of a part of a choice or of a list: calls may stand in it.
+    pub fn part(self, level: Precedence) -> Place
+        ensures { result ≡ record { settings = self.settings; level = level; context = record { forbids_in = self.context.forbids_in; forbids_call = false }; in_list = false; left_operand = false } }
+    {
+        Place {
+            settings: self.settings,
+            level,
+            context: Context {
+                forbids_call: false,
+                ..self.context
+            },
+            in_list: false,
+            left_operand: false,
+        }
+    }
+
     /// The place of what `new` stands before: no call may stand in it.
     pub fn constructed(self) -> Place
         ensures { result ≡ record { settings = self.settings; level = Precedence.New; context = record { forbids_in = self.context.forbids_in; forbids_call = true }; in_list = false; left_operand = false } }

@@ -17,7 +17,7 @@ use Rattle.jsgen_tree.specs.Atom.{units}
 use Rattle.jsgen_tree.specs.Tree.{Tree, Trees, no_trees, more, Atoms}
 use Rattle.jsgen_tree.specs.Places.{bare}
 use Rattle.jsgen_tree.specs.Nodes as tree
-use Rattle.jsgen_model.specs.Punctuator.{dot, star_star, and_and, or_or, nullish, semicolon, Round, Square, opening, closing}
+use Rattle.jsgen_model.specs.Punctuator.{dot, star_star, and_and, or_or, nullish, question, semicolon, Round, Square, opening, closing}
 use Rattle.jsgen_model.specs.Tokens.{Tokens, done, piece, group, ◌⧺◌, Quoted, Sign}
 use Rattle.jsgen_model.specs.Items.{Items, first_string, due_semicolon}
 use Rattle.jsgen_model.specs.Layout.{Pen, layout, written, other_end}
@@ -111,6 +111,7 @@ opens (grammar.a_power {a = a} {l = l} m e r s) = opens_behind _ a (piece m (Sig
 opens (grammar.a_conjunction {a = a} {l = l} m e r s) = opens_behind _ a (piece m (Sign and_and) _) l _ e (opens r) tt
 opens (grammar.a_disjunction {a = a} {l = l} m e r s) = opens_behind _ a (piece m (Sign or_or) _) l _ e (opens r) tt
 opens (grammar.a_coalescing {a = a} {l = l} m e r s) = opens_behind _ a (piece m (Sign nullish) _) l _ e (opens r) tt
+opens (grammar.a_choice {a = a} {x = x} m n e r s t) = opens_behind _ a (piece m (Sign question) _) x _ e (opens r) tt
 opens (grammar.a_named_member {a = a} {o = o} w m n e v r) = opens_behind _ a (piece m (Sign dot) _) o _ e (opens r) tt
 opens (grammar.a_computed_member {a = a} {o = o} m e r s) = opens_behind _ a (group m Square _ done) o _ e (opens r) tt
 opens (grammar.with_arguments {a = a} {f = f} m e r s) = opens_behind _ a (group m Round _ done) f _ e (opens r) tt

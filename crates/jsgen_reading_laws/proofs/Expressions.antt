@@ -42,6 +42,7 @@ use Rattle.jsgen_reading_laws.proofs.Constructions.{good_construction}
 use Rattle.jsgen_reading_laws.proofs.Links.{ElementOf, ArgumentsAt, MoreArgumentsAt, LinkPrinted, link_expression, link_super, good_named_member, good_computed_member, good_call, good_element, good_spread, no_arguments, first_of_arguments, no_more_arguments, one_more_argument, named_target, computed_target}
 use Rattle.jsgen_reading_laws.proofs.Collections.{ElementsOf, no_elements, first_of_elements, left_out_of_elements, good_array, PropertiesOf, no_properties, first_of_properties, good_object}
 use Rattle.jsgen_reading_laws.proofs.Updates.{good_update}
+use Rattle.jsgen_reading_laws.proofs.Choices.{good_choice}
 use Rattle.jsgen_reading_laws.proofs.Properties.{KeyOf, PropertyOf, good_name_key, good_string_key, good_number_key, good_computed_key, good_spread_property, good_property}
 
 -- ---- names and numbers
@@ -248,6 +249,7 @@ mutual
   printed_expression {c} (family.a_named_member {a} {b} {o} m v h) = good_named_member c a b o m h (printed_link v)
   printed_expression {c} (family.a_computed_member {a} {o} {e} m v w) = good_computed_member c a o e m (printed_link v) (printed_expression w)
   printed_expression {c} (family.a_call {a} {f} {es} m v w) = good_call c a f es m (printed_link v) (printed_arguments w)
+  printed_expression {c} (family.a_choice {a} {x} {y} {z} u v w) = good_choice c a x y z (printed_expression u) (printed_expression v) (printed_expression w)
   printed_expression {c} (family.an_array {a} {es} v) = good_array c a es (printed_elements v)
   printed_expression {c} (family.an_object {a} {ps} v) = good_object c a ps (printed_properties v)
 

@@ -45,6 +45,7 @@ mutual
     a_new_target : {c : Allowed} {a : Atoms} → IsExpression c (tree.new_target a)
     an_operation : {c : Allowed} {a : Atoms} {l r : Tree} → IsExpression c l → IsExpression c r → IsExpression c (tree.binary a l r)
     a_logical_operation : {c : Allowed} {a : Atoms} {l r : Tree} → IsExpression c l → IsExpression c r → IsExpression c (tree.logical a l r)
+    a_choice : {c : Allowed} {a : Atoms} {x y z : Tree} → IsExpression c x → IsExpression c y → IsExpression c z → IsExpression c (tree.conditional a x y z)
     an_array : {c : Allowed} {a : Atoms} {es : Trees} → AreElements c es → IsExpression c (tree.array a es)
     an_object : {c : Allowed} {a : Atoms} {ps : Trees} → AreProperties c ps → IsExpression c (tree.object_expression a ps)
 
@@ -274,6 +275,11 @@ mutual
   expression_valid c around (tree.object_expression a ps) p s e =
       let j = none_both (in_trees around (place_of sets.ObjectPropertyKind around ∷ []) ps) [] (parts (span_faults a.span) [] _ e).1 in
       an_object (properties_valid c around ps p.0 p.1.0 j.0)
+  expression_valid c around (tree.conditional a x y z) p s e =
+      let k = standing around sets.Expression x _ (parts (span_faults a.span) [] _ e).1 in
+      let j = standing around sets.Expression y _ k.2 in
+      let i = standing around sets.Expression z [] j.2 in
+      a_choice (expression_valid c around x p.1.0 k.0 k.1) (expression_valid c around y p.1.1.0 j.0 j.1) (expression_valid c around z p.1.1.1.0 i.0 i.1)
   expression_valid c around t p s e = absurd (search no_truth)
 
   arguments_valid : (c : Allowed) (around : Surroundings) (es : Trees) → has_no_hole es ≡ true → EverywhereInTrees is_plain_row es → in_trees around (place_of sets.Argument around ∷ []) es ≡ [] → AreArguments c es

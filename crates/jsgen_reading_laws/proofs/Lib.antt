@@ -14,6 +14,7 @@ pub mod Properties
 pub mod Collections
 pub mod Constructions
 pub mod Updates
+pub mod Choices
 pub mod Expressions
 pub mod Ends
 pub mod Stands

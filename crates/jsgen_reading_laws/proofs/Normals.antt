@@ -112,6 +112,7 @@ mutual
   normal_again (tree.new_expression a callee arguments) = let e = normal_again callee in let f = normal_trees_again arguments in λ i. tree.new_expression (nothing_of 1) (e i) (f i)
   normal_again (tree.super a) = refl
   normal_again (tree.new_target a) = refl
+  normal_again (tree.conditional a test consequent alternate) = let e = normal_again test in let f = normal_again consequent in let g = normal_again alternate in λ i. tree.conditional (nothing_of 0) (e i) (f i) (g i)
   normal_again (node type a slots) = ap (λ s. node type (bare a.values) s) (normal_slots_again slots)
 
   normal_slots_again : (s : Slots) → normal_slots (normal_slots s) ≡ normal_slots s

@@ -46,6 +46,7 @@ natural_expression h (expressions.UpdateExpression b) = (update_expression_by_ar
 natural_expression h (expressions.NewExpression b) = same_slots (same_one refl (same_many (ap trees (map_after _ _ _ (with_argument _ (λ n. refl) (λ b. refl)) b.value.arguments.items)) refl))
 natural_expression h (expressions.NewTarget b) = refl
 natural_expression h (expressions.Super b) = refl
+natural_expression h (expressions.ConditionalExpression b) = refl
 
 natural_declaration : (h : Node → Tree) (n : Declaration Node) → layer (map-Node Node Tree h (opened.Declaration n)) ≡ declaration_plain h n
 natural_declaration h (declarations.VariableDeclaration b) = same_slots (same_many (ap trees (map_after _ _ _ (variable_declarator_by_init _ (λ n. refl) (λ n_init. (λ n. refl))) b.value.declarations.items)) refl)
@@ -91,6 +92,7 @@ of_expression h (expressions.UpdateExpression b) = refl
 of_expression h (expressions.NewExpression b) = refl
 of_expression h (expressions.NewTarget b) = refl
 of_expression h (expressions.Super b) = refl
+of_expression h (expressions.ConditionalExpression b) = refl
 
 pub expression_spans : (n : Expression Node) → expression_span n ≡ span_of (node_plain (nodes.Expression n))
 expression_spans n = of_expression node_plain n ∙ ap span_of (sym (plain_expression n))

@@ -137,6 +137,9 @@ new_expression_fields = needs (codes "callee") (sorts.child sets.Expression) ∷
 abbrev pub super_fields : List Field
 super_fields = []
 
+abbrev pub conditional_expression_fields : List Field
+conditional_expression_fields = needs (codes "test") (sorts.child sets.Expression) ∷ needs (codes "consequent") (sorts.child sets.Expression) ∷ needs (codes "alternate") (sorts.child sets.Expression) ∷ []
+
 abbrev pub fields : NodeType → List Field
 fields types.Program = program_fields
 fields types.Directive = directive_fields
@@ -169,3 +172,4 @@ fields types.NewTarget = new_target_fields
 fields types.UpdateExpression = update_expression_fields
 fields types.NewExpression = new_expression_fields
 fields types.Super = super_fields
+fields types.ConditionalExpression = conditional_expression_fields

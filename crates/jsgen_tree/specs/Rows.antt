@@ -5,7 +5,7 @@ use Rattle.jsgen_syntax.specs.Units.{js_units}
 use Rattle.jsgen_tree.specs.Characters.{characters, numeric_values}
 use Rattle.jsgen_tree.specs.Tree.{Tree, optional, trees, holed}
 use Rattle.jsgen_tree.specs.Atom.{no_value, text, units, flag, source_kind, declaration_kind, binary_operator, logical_operator, property_kind, unary_operator, update_operator}
-use Rattle.jsgen_tree.specs.Nodes.{program, directive, variable_declaration, variable_declarator, binding_identifier, expression_statement, block, if_statement, empty_statement, identifier_reference, this_expression, null_literal, boolean_literal, numeric_literal, string_literal, parenthesized, binary, logical, identifier_name, static_member, computed_member, call, spread, array, object_property, object_expression, unary, new_target, update, new_expression, super}
+use Rattle.jsgen_tree.specs.Nodes.{program, directive, variable_declaration, variable_declarator, binding_identifier, expression_statement, block, if_statement, empty_statement, identifier_reference, this_expression, null_literal, boolean_literal, numeric_literal, string_literal, parenthesized, binary, logical, identifier_name, static_member, computed_member, call, spread, array, object_property, object_expression, unary, new_target, update, new_expression, super, conditional}
 use Rattle.jsgen_tree.specs.declared.nodes.ExpressionNode.{ExpressionNode}
 use Rattle.jsgen_tree.specs.declared.nodes.DeclarationNode.{DeclarationNode}
 use Rattle.jsgen_tree.specs.declared.nodes.StatementNode.{StatementNode}
@@ -41,6 +41,7 @@ use Rattle.jsgen_tree.specs.declared.operations.NewTarget.{NewTarget}
 use Rattle.jsgen_tree.specs.declared.operations.UpdateExpression.{UpdateExpression}
 use Rattle.jsgen_tree.specs.declared.operations.NewExpression.{NewExpression}
 use Rattle.jsgen_tree.specs.declared.operations.Super.{Super}
+use Rattle.jsgen_tree.specs.declared.assignments.ConditionalExpression.{ConditionalExpression}
 use Rattle.jsgen_tree.specs.declared.sets.Expression.{Expression}
 use Rattle.jsgen_tree.specs.declared.sets.Argument.{Argument}
 use Rattle.jsgen_tree.specs.declared.sets.ArrayExpressionElement.{ArrayExpressionElement}
@@ -190,6 +191,9 @@ new_expression_row plain n = new_expression (record { span = n.span; values = fl
 abbrev pub super_row : Super → Tree
 super_row n = super (record { span = n.span; values = [] })
 
+abbrev pub conditional_expression_row : {N : Type 0} → (N → Tree) → ConditionalExpression N → Tree
+conditional_expression_row plain n = conditional (record { span = n.span; values = [] }) (in_expression plain n.test) (in_expression plain n.consequent) (in_expression plain n.alternate)
+
 -- ---- sets that nest
 
 abbrev pub expression_plain : {N : Type 0} → (N → Tree) → Expression N → Tree
@@ -212,6 +216,7 @@ expression_plain plain (expression.UpdateExpression b) = update_expression_row p
 expression_plain plain (expression.NewExpression b) = new_expression_row plain b.value
 expression_plain plain (expression.NewTarget b) = new_target_row b.value
 expression_plain plain (expression.Super b) = super_row b.value
+expression_plain plain (expression.ConditionalExpression b) = conditional_expression_row plain b.value
 
 abbrev pub declaration_plain : {N : Type 0} → (N → Tree) → Declaration N → Tree
 declaration_plain plain (declaration.VariableDeclaration b) = variable_declaration_row plain b.value

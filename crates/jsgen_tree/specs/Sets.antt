@@ -26,6 +26,7 @@ is_expression types.UpdateExpression = true
 is_expression types.NewExpression = true
 is_expression types.NewTarget = true
 is_expression types.Super = true
+is_expression types.ConditionalExpression = true
 is_expression other = false
 
 abbrev pub is_argument : NodeType → Bool
@@ -49,6 +50,7 @@ is_argument types.UpdateExpression = true
 is_argument types.NewExpression = true
 is_argument types.NewTarget = true
 is_argument types.Super = true
+is_argument types.ConditionalExpression = true
 is_argument other = false
 
 abbrev pub is_array_expression_element : NodeType → Bool
@@ -72,6 +74,7 @@ is_array_expression_element types.UpdateExpression = true
 is_array_expression_element types.NewExpression = true
 is_array_expression_element types.NewTarget = true
 is_array_expression_element types.Super = true
+is_array_expression_element types.ConditionalExpression = true
 is_array_expression_element other = false
 
 abbrev pub is_simple_assignment_target : NodeType → Bool
@@ -106,6 +109,7 @@ is_property_key types.UpdateExpression = true
 is_property_key types.NewExpression = true
 is_property_key types.NewTarget = true
 is_property_key types.Super = true
+is_property_key types.ConditionalExpression = true
 is_property_key other = false
 
 abbrev pub is_declaration : NodeType → Bool

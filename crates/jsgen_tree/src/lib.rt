@@ -6,6 +6,7 @@
 //! set, as `ExpressionNode`, and is made by `into()` from a member of that set.
 #![tactic(auto)]
 
+mod assignments;
 mod collections;
 mod expressions;
 mod inside;
@@ -21,6 +22,7 @@ mod span;
 mod statements;
 mod types;
 
+pub use assignments::ConditionalExpression;
 pub use collections::{
     ArrayExpression, ObjectExpression, ObjectProperty, PropertyKind, SpreadElement,
 };

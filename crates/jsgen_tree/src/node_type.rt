@@ -37,6 +37,7 @@ impl Expression {
             Expression::NewExpression(_) => NodeType::NewExpression,
             Expression::NewTarget(_) => NodeType::NewTarget,
             Expression::Super(_) => NodeType::Super,
+            Expression::ConditionalExpression(_) => NodeType::ConditionalExpression,
         }
     }
 }

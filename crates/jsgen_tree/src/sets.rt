@@ -1,6 +1,7 @@
 // Generated from tools/nodes/table.txt; edit that and run tools/nodes/generate.
 // Sets: what may stand in one place. A set within a set is one variant of the inner one's name.
 
+use crate::assignments::ConditionalExpression;
 use crate::collections::{ArrayExpression, ObjectExpression, ObjectProperty, SpreadElement};
 use crate::expressions::{
     BinaryExpression, BooleanLiteral, CallExpression, ComputedMemberExpression, IdentifierName,
@@ -35,6 +36,7 @@ pub enum Expression<N = Node> {
     NewExpression(Box<NewExpression<N>>),
     NewTarget(Box<NewTarget>),
     Super(Box<Super>),
+    ConditionalExpression(Box<ConditionalExpression<N>>),
 }
 
 /// What a call is given.

@@ -37,6 +37,7 @@ pub enum NodeType {
     UpdateExpression,
     NewExpression,
     Super,
+    ConditionalExpression,
 }
 
 /// What the child of a field may be: a member of a set, or a node of one type.
@@ -102,6 +103,7 @@ impl NodeType {
                 | NodeType::NewExpression
                 | NodeType::NewTarget
                 | NodeType::Super
+                | NodeType::ConditionalExpression
         )
     }
 
@@ -131,6 +133,7 @@ impl NodeType {
                 | NodeType::NewExpression
                 | NodeType::NewTarget
                 | NodeType::Super
+                | NodeType::ConditionalExpression
         )
     }
 
@@ -160,6 +163,7 @@ impl NodeType {
                 | NodeType::NewExpression
                 | NodeType::NewTarget
                 | NodeType::Super
+                | NodeType::ConditionalExpression
         )
     }
 
@@ -208,6 +212,7 @@ impl NodeType {
                 | NodeType::NewExpression
                 | NodeType::NewTarget
                 | NodeType::Super
+                | NodeType::ConditionalExpression
         )
     }
 

@@ -1,0 +1,26 @@
+// Generated from tools/nodes/table.txt; edit that and run tools/nodes/generate.
+// Conditional expressions, sequences and assignments (ECMA-262, 13.14 to 13.16).
+ghost use Rattle.std.specs.Prelude.{◌≡◌};
+ghost use Rattle.jsgen_tree.specs.Rows.{conditional_expression_row};
+ghost use Rattle.jsgen_check.specs.Verdict.{tree_verdict};
+
+use crate::heights::{check_node, higher};
+use crate::{CheckNode, Surroundings, check_child};
+use jsgen_model::TreeFault;
+use jsgen_tree::{ConditionalExpression, NodeSet};
+
+pub fn check_conditional_expression<N: CheckNode>(
+    node: &ConditionalExpression<N>,
+    around: Surroundings<'_>,
+) -> Result<u32, TreeFault>
+    ensures { result ≡ tree_verdict around.entry (conditional_expression_row N.plain node.now) }
+{
+    let test = check_child(node.test.get(), NodeSet::Expression, around);
+    let consequent = check_child(node.consequent.get(), NodeSet::Expression, around);
+    let alternate = check_child(node.alternate.get(), NodeSet::Expression, around);
+    check_node(
+        node.span,
+        Ok(()),
+        higher(test, higher(consequent, alternate)),
+    )
+}

@@ -1,0 +1,14 @@
+// Generated from tools/nodes/table.txt; edit that and run tools/nodes/generate.
+// Conditional expressions, sequences and assignments (ECMA-262, 13.14 to 13.16).
+
+use crate::nodes::{ExpressionNode, Node};
+use jsgen_syntax::Span;
+
+/// A choice between two values (ECMA-262, 13.14).
+#[derive(Drop)]
+pub struct ConditionalExpression<N = Node> {
+    pub span: Span,
+    pub test: ExpressionNode<N>,
+    pub consequent: ExpressionNode<N>,
+    pub alternate: ExpressionNode<N>,
+}
