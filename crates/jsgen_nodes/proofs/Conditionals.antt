@@ -1,5 +1,5 @@
 -- Choices, from the steps that print them.
-use Rattle.std.proofs.Common.{◌≡◌, Result, ap, ◌∙◌}
+use Rattle.std.proofs.Common.{◌≡◌, Result, false, ap, ◌∙◌}
 use Rattle.jsgen_syntax.specs.declared.precedence.Precedence.{Precedence}
 use Rattle.jsgen_syntax.specs.declared.precedence.Precedence.TheVariants.{Conditional, Yield}
 use Rattle.jsgen_tree.specs.Tree.{Tree}
