@@ -147,6 +147,9 @@ class Reader:
         left = self.expression()
         if self.is_here("?"):
             return self.choice(left)
+        if self.is_here(","):
+            self.take()
+            return Child("SequenceExpression", expressions=[left, *self.several(")", self.expression)])
         operator = self.take()
         right = self.expression()
         self.expect(")")

@@ -1,13 +1,15 @@
 // Generated from tools/nodes/table.txt; edit that and run tools/nodes/generate.
 // Conditional expressions, sequences and assignments (ECMA-262, 13.14 to 13.16).
 ghost use Rattle.std.specs.Prelude.{◌≡◌};
-ghost use Rattle.jsgen_tree.specs.Rows.{conditional_expression_row};
+ghost use Rattle.jsgen_tree.specs.Rows.{conditional_expression_row, sequence_expression_row};
 ghost use Rattle.jsgen_check.specs.Verdict.{tree_verdict};
 
+use crate::children::check_expressions;
 use crate::heights::{check_node, higher};
+use crate::rules::check_sequence_expression_rules;
 use crate::{CheckNode, Surroundings, check_child};
 use jsgen_model::TreeFault;
-use jsgen_tree::{ConditionalExpression, NodeSet};
+use jsgen_tree::{ConditionalExpression, NodeSet, SequenceExpression};
 
 pub fn check_conditional_expression<N: CheckNode>(
     node: &ConditionalExpression<N>,
@@ -23,4 +25,15 @@ pub fn check_conditional_expression<N: CheckNode>(
         Ok(()),
         higher(test, higher(consequent, alternate)),
     )
+}
+
+pub fn check_sequence_expression<N: CheckNode>(
+    node: &SequenceExpression<N>,
+    around: Surroundings<'_>,
+) -> Result<u32, TreeFault>
+    ensures { result ≡ tree_verdict around.entry (sequence_expression_row N.plain node.now) }
+{
+    let rules = check_sequence_expression_rules(node, around);
+    let expressions = check_expressions(&node.expressions, around);
+    check_node(node.span, rules, expressions)
 }

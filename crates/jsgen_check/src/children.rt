@@ -87,6 +87,20 @@ pub fn check_object_property_kinds<N: CheckNode>(
     below
 }
 
+pub fn check_expressions<N: CheckNode>(
+    nodes: &[ExpressionNode<N>],
+    around: Surroundings<'_>,
+) -> Result<u32, TreeFault>
+    ensures { result ≡ children_verdict around.entry sets.Expression (trees (map (in_expression N.plain) nodes.now)) }
+{
+    let mut below = Ok(0);
+    for node in nodes {
+        let found = check_child(node.get(), NodeSet::Expression, around);
+        below = higher(below, found);
+    }
+    below
+}
+
 pub fn check_array_expression_elements_or_holes<N: CheckNode>(
     nodes: &[Option<ArrayExpressionElement<N>>],
     around: Surroundings<'_>,

@@ -5,7 +5,7 @@ ghost use Rattle.jsgen_fields.specs.Names.{first_named, type_named};
 
 use jsgen_tree::NodeType;
 
-const TYPE_NAMES: [(&str, NodeType); 32] = [
+const TYPE_NAMES: [(&str, NodeType); 33] = [
     ("Program", NodeType::Program),
     ("Directive", NodeType::Directive),
     ("VariableDeclaration", NodeType::VariableDeclaration),
@@ -41,6 +41,7 @@ const TYPE_NAMES: [(&str, NodeType); 32] = [
     ("NewExpression", NodeType::NewExpression),
     ("Super", NodeType::Super),
     ("ConditionalExpression", NodeType::ConditionalExpression),
+    ("SequenceExpression", NodeType::SequenceExpression),
 ];
 
 fn first_named(names: &[(&str, NodeType)], name: &str) -> Option<NodeType>

@@ -218,3 +218,17 @@ pub fn needed_simple_assignment_target<N: ReadNode + Drop>(
 {
     needed_child(alloc, kept, number, field, row, name)
 }
+
+pub fn expression_list<N: ReadNode + Drop>(
+    alloc: Global,
+    kept: &mut Vec<Kept<Row<N>>>,
+    number: usize,
+    field: usize,
+    row: &Value,
+    name: &str,
+) -> Result<Vec<ExpressionNode<N>>, InputFault>
+    ensures { Gives (λ v. a_list (trees (map (in_expression N.plain) v.items))) result (entries N.plain kept.new.items)
+        (read_children (at number field) false may_be_absent (many sets.Expression) (value_under name.now (view row.now)) (entries N.plain kept.old.items)) }
+{
+    children(alloc, kept, number, field, row, name)
+}

@@ -186,6 +186,7 @@ mutual
   -- ---- expressions (clause 13)
   pub data ReadsExpression : Allowed → Level → Tokens → Tree → Type 0 where
     an_assignment : {c : Allowed} {ts : Tokens} {t : Tree} → ReadsExpression c Assignment ts t → ReadsExpression c Expression ts t
+    a_sequence : {c : Allowed} {ts a b : Tokens} {t : Tree} {us : Trees} (mark : Bool) → ts ≡ a ⧺ piece mark (Sign comma) b → ReadsExpression c Assignment a t → ReadsParts c b us → ReadsExpression c Expression ts (tree.sequence (nothing_of 0) (more t us))
     a_conditional : {c : Allowed} {ts : Tokens} {t : Tree} → ReadsExpression c Conditional ts t → ReadsExpression c Assignment ts t
     a_short_circuit : {c : Allowed} {ts : Tokens} {t : Tree} → ReadsExpression c ShortCircuit ts t → ReadsExpression c Conditional ts t
     a_logical_or : {c : Allowed} {ts : Tokens} {t : Tree} → ReadsExpression c LogicalOr ts t → ReadsExpression c ShortCircuit ts t
@@ -243,6 +244,11 @@ mutual
     in_parentheses : {c : Allowed} {mark : Bool} {ts : Tokens} {t : Tree} → ReadsExpression (with_in c) Expression ts t → ReadsExpression c Primary (group mark Round ts done) (tree.parenthesized (nothing_of 0) t)
     an_array : {c : Allowed} {mark : Bool} {inside : Tokens} {es : Trees} → ReadsElements (with_in c) inside es → ReadsExpression c Primary (group mark Square inside done) (tree.array (nothing_of 0) es)
     an_object : {c : Allowed} {mark : Bool} {inside : Tokens} {ps : Trees} → ReadsProperties (with_in c) inside ps → ReadsExpression c Primary (group mark Brace inside done) (tree.object_expression (nothing_of 0) ps)
+
+  -- the parts of a sequence behind its first (13.16)
+  pub data ReadsParts : Allowed → Tokens → Trees → Type 0 where
+    last_part : {c : Allowed} {ts : Tokens} {t : Tree} → ReadsExpression c Assignment ts t → ReadsParts c ts (more t no_trees)
+    first_part : {c : Allowed} {ts a b : Tokens} {t : Tree} {us : Trees} (mark : Bool) → ts ≡ a ⧺ piece mark (Sign comma) b → ReadsExpression c Assignment a t → ReadsParts c b us → ReadsParts c ts (more t us)
 
   -- between the braces of an object (13.2.5); a comma may end the list
   pub data ReadsProperties : Allowed → Tokens → Trees → Type 0 where

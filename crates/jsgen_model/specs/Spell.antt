@@ -107,6 +107,10 @@ allow_in false context = context
 abbrev pub within : Bool → Place → Place
 within test place = record place { context = allow_in test place.context; start = unless_printed test place.start }
 
+-- within parentheses, where the test holds, nothing of outside begins; what is forbidden outside stays forbidden
+abbrev pub enclosed : Bool → Place → Place
+enclosed test place = record place { start = unless_printed test place.start }
+
 -- an expression of this level stands in parentheses
 abbrev pub wraps : Precedence → Place → Bool
 wraps own place = nat_le (rank own) (rank place.level)
@@ -471,6 +475,7 @@ abbrev mutual
       (spell test (with_calls (in_front Conditional (within (wraps Conditional place) place))))
       (spell consequent (in_brackets Yield place))
       (spell alternate (with_calls (behind Yield (within (wraps Conditional place) place)))))
+  spell (tree.sequence a expressions) place = wrapped (wraps Comma place) (spell_parts expressions (with_calls (in_front Lowest (enclosed (wraps Comma place) place))))
   spell t place = nothing
 
   -- the directives of a body, each with a semicolon of its own
@@ -501,6 +506,12 @@ abbrev mutual
   spell_more no_trees place = nothing
   spell_more (more t ts) place = punctuator comma ⊕ (soft_space ⊕ (spell t place ⊕ spell_more ts place))
   spell_more (hole ts) place = spell_more ts place
+
+  -- the parts of a sequence, of which the first begins where it does
+  pub spell_parts : Trees → Place → Items
+  spell_parts no_trees place = nothing
+  spell_parts (more t ts) place = spell t place ⊕ spell_more ts (record place { start = nowhere })
+  spell_parts (hole ts) place = spell_parts ts place
 
   -- members on lines of their own, or on one; nothing stands in the place of one that is left out
   pub spell_elements : Bool → Trees → Place → Items

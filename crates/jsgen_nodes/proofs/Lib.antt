@@ -9,3 +9,4 @@ pub mod Prefixes
 pub mod Constructions
 pub mod Updates
 pub mod Conditionals
+pub mod Enclosed

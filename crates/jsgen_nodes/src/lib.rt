@@ -8,6 +8,7 @@ mod expressions;
 mod links;
 mod operands;
 mod operators;
+mod sequences;
 mod sets;
 mod shapes;
 mod statements;

@@ -23,6 +23,7 @@ use crate::operators::{
     print_new_expression, print_new_target, print_super, print_unary_expression,
     print_update_expression,
 };
+use crate::sequences::print_sequence_expression;
 use crate::statements::{
     print_binding_identifier, print_expression_statement, print_variable_declaration,
 };
@@ -100,6 +101,7 @@ fn print_expression_in_assignments<N: PrintNode>(
 {
     match node {
         Expression::ConditionalExpression(node) => print_conditional_expression(node, p, place),
+        Expression::SequenceExpression(node) => print_sequence_expression(node, p, place),
         _ => unreachable!(),
     }
 }

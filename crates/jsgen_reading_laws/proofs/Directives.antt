@@ -17,7 +17,7 @@ use Rattle.jsgen_tree.specs.Atom.{units}
 use Rattle.jsgen_tree.specs.Tree.{Tree, Trees, no_trees, more, Atoms}
 use Rattle.jsgen_tree.specs.Places.{bare}
 use Rattle.jsgen_tree.specs.Nodes as tree
-use Rattle.jsgen_model.specs.Punctuator.{dot, star_star, and_and, or_or, nullish, question, semicolon, Round, Square, opening, closing}
+use Rattle.jsgen_model.specs.Punctuator.{dot, comma, star_star, and_and, or_or, nullish, question, semicolon, Round, Square, opening, closing}
 use Rattle.jsgen_model.specs.Tokens.{Tokens, done, piece, group, ◌⧺◌, Quoted, Sign}
 use Rattle.jsgen_model.specs.Items.{Items, first_string, due_semicolon}
 use Rattle.jsgen_model.specs.Layout.{Pen, layout, written, other_end}
@@ -81,6 +81,7 @@ update_goes update_operators.Decrement m b = tt
 
 opens : {c : Allowed} {g : Level} {ts : Tokens} {t : Tree} → ReadsExpression c g ts t → Opens ts t
 opens (grammar.an_assignment r) = opens r
+opens (grammar.a_sequence {a = a} {t = t} m e r s) = opens_behind _ a (piece m (Sign comma) _) t _ e (opens r) tt
 opens (grammar.a_conditional r) = opens r
 opens (grammar.a_short_circuit r) = opens r
 opens (grammar.a_logical_or r) = opens r

@@ -47,6 +47,7 @@ natural_expression h (expressions.NewExpression b) = same_slots (same_one refl (
 natural_expression h (expressions.NewTarget b) = refl
 natural_expression h (expressions.Super b) = refl
 natural_expression h (expressions.ConditionalExpression b) = refl
+natural_expression h (expressions.SequenceExpression b) = same_slots (same_many (ap trees (map_after _ _ _ (λ n. refl) b.value.expressions.items)) refl)
 
 natural_declaration : (h : Node → Tree) (n : Declaration Node) → layer (map-Node Node Tree h (opened.Declaration n)) ≡ declaration_plain h n
 natural_declaration h (declarations.VariableDeclaration b) = same_slots (same_many (ap trees (map_after _ _ _ (variable_declarator_by_init _ (λ n. refl) (λ n_init. (λ n. refl))) b.value.declarations.items)) refl)
@@ -93,6 +94,7 @@ of_expression h (expressions.NewExpression b) = refl
 of_expression h (expressions.NewTarget b) = refl
 of_expression h (expressions.Super b) = refl
 of_expression h (expressions.ConditionalExpression b) = refl
+of_expression h (expressions.SequenceExpression b) = refl
 
 pub expression_spans : (n : Expression Node) → expression_span n ≡ span_of (node_plain (nodes.Expression n))
 expression_spans n = of_expression node_plain n ∙ ap span_of (sym (plain_expression n))

@@ -140,6 +140,9 @@ super_fields = []
 abbrev pub conditional_expression_fields : List Field
 conditional_expression_fields = needs (codes "test") (sorts.child sets.Expression) ∷ needs (codes "consequent") (sorts.child sets.Expression) ∷ needs (codes "alternate") (sorts.child sets.Expression) ∷ []
 
+abbrev pub sequence_expression_fields : List Field
+sequence_expression_fields = may_have (codes "expressions") (sorts.children sets.Expression) ∷ []
+
 abbrev pub fields : NodeType → List Field
 fields types.Program = program_fields
 fields types.Directive = directive_fields
@@ -173,3 +176,4 @@ fields types.UpdateExpression = update_expression_fields
 fields types.NewExpression = new_expression_fields
 fields types.Super = super_fields
 fields types.ConditionalExpression = conditional_expression_fields
+fields types.SequenceExpression = sequence_expression_fields

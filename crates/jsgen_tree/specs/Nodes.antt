@@ -98,3 +98,6 @@ super a = node types.Super a no_slots
 
 pattern abbrev pub conditional : Atoms → Tree → Tree → Tree → Tree
 conditional a test consequent alternate = node types.ConditionalExpression a (one test (one consequent (one alternate no_slots)))
+
+pattern abbrev pub sequence : Atoms → Trees → Tree
+sequence a expressions = node types.SequenceExpression a (many expressions no_slots)

@@ -5,7 +5,7 @@ use Rattle.jsgen_syntax.specs.Units.{js_units}
 use Rattle.jsgen_tree.specs.Characters.{characters, numeric_values}
 use Rattle.jsgen_tree.specs.Tree.{Tree, optional, trees, holed}
 use Rattle.jsgen_tree.specs.Atom.{no_value, text, units, flag, source_kind, declaration_kind, binary_operator, logical_operator, property_kind, unary_operator, update_operator}
-use Rattle.jsgen_tree.specs.Nodes.{program, directive, variable_declaration, variable_declarator, binding_identifier, expression_statement, block, if_statement, empty_statement, identifier_reference, this_expression, null_literal, boolean_literal, numeric_literal, string_literal, parenthesized, binary, logical, identifier_name, static_member, computed_member, call, spread, array, object_property, object_expression, unary, new_target, update, new_expression, super, conditional}
+use Rattle.jsgen_tree.specs.Nodes.{program, directive, variable_declaration, variable_declarator, binding_identifier, expression_statement, block, if_statement, empty_statement, identifier_reference, this_expression, null_literal, boolean_literal, numeric_literal, string_literal, parenthesized, binary, logical, identifier_name, static_member, computed_member, call, spread, array, object_property, object_expression, unary, new_target, update, new_expression, super, conditional, sequence}
 use Rattle.jsgen_tree.specs.declared.nodes.ExpressionNode.{ExpressionNode}
 use Rattle.jsgen_tree.specs.declared.nodes.DeclarationNode.{DeclarationNode}
 use Rattle.jsgen_tree.specs.declared.nodes.StatementNode.{StatementNode}
@@ -42,6 +42,7 @@ use Rattle.jsgen_tree.specs.declared.operations.UpdateExpression.{UpdateExpressi
 use Rattle.jsgen_tree.specs.declared.operations.NewExpression.{NewExpression}
 use Rattle.jsgen_tree.specs.declared.operations.Super.{Super}
 use Rattle.jsgen_tree.specs.declared.assignments.ConditionalExpression.{ConditionalExpression}
+use Rattle.jsgen_tree.specs.declared.assignments.SequenceExpression.{SequenceExpression}
 use Rattle.jsgen_tree.specs.declared.sets.Expression.{Expression}
 use Rattle.jsgen_tree.specs.declared.sets.Argument.{Argument}
 use Rattle.jsgen_tree.specs.declared.sets.ArrayExpressionElement.{ArrayExpressionElement}
@@ -194,6 +195,9 @@ super_row n = super (record { span = n.span; values = [] })
 abbrev pub conditional_expression_row : {N : Type 0} → (N → Tree) → ConditionalExpression N → Tree
 conditional_expression_row plain n = conditional (record { span = n.span; values = [] }) (in_expression plain n.test) (in_expression plain n.consequent) (in_expression plain n.alternate)
 
+abbrev pub sequence_expression_row : {N : Type 0} → (N → Tree) → SequenceExpression N → Tree
+sequence_expression_row plain n = sequence (record { span = n.span; values = [] }) (trees (map (in_expression plain) n.expressions.items))
+
 -- ---- sets that nest
 
 abbrev pub expression_plain : {N : Type 0} → (N → Tree) → Expression N → Tree
@@ -217,6 +221,7 @@ expression_plain plain (expression.NewExpression b) = new_expression_row plain b
 expression_plain plain (expression.NewTarget b) = new_target_row b.value
 expression_plain plain (expression.Super b) = super_row b.value
 expression_plain plain (expression.ConditionalExpression b) = conditional_expression_row plain b.value
+expression_plain plain (expression.SequenceExpression b) = sequence_expression_row plain b.value
 
 abbrev pub declaration_plain : {N : Type 0} → (N → Tree) → Declaration N → Tree
 declaration_plain plain (declaration.VariableDeclaration b) = variable_declaration_row plain b.value

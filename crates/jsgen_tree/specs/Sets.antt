@@ -27,6 +27,7 @@ is_expression types.NewExpression = true
 is_expression types.NewTarget = true
 is_expression types.Super = true
 is_expression types.ConditionalExpression = true
+is_expression types.SequenceExpression = true
 is_expression other = false
 
 abbrev pub is_argument : NodeType → Bool
@@ -51,6 +52,7 @@ is_argument types.NewExpression = true
 is_argument types.NewTarget = true
 is_argument types.Super = true
 is_argument types.ConditionalExpression = true
+is_argument types.SequenceExpression = true
 is_argument other = false
 
 abbrev pub is_array_expression_element : NodeType → Bool
@@ -75,6 +77,7 @@ is_array_expression_element types.NewExpression = true
 is_array_expression_element types.NewTarget = true
 is_array_expression_element types.Super = true
 is_array_expression_element types.ConditionalExpression = true
+is_array_expression_element types.SequenceExpression = true
 is_array_expression_element other = false
 
 abbrev pub is_simple_assignment_target : NodeType → Bool
@@ -110,6 +113,7 @@ is_property_key types.NewExpression = true
 is_property_key types.NewTarget = true
 is_property_key types.Super = true
 is_property_key types.ConditionalExpression = true
+is_property_key types.SequenceExpression = true
 is_property_key other = false
 
 abbrev pub is_declaration : NodeType → Bool

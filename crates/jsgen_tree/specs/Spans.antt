@@ -41,6 +41,7 @@ expression_span (expression.NewExpression b) = b.value.span
 expression_span (expression.NewTarget b) = b.value.span
 expression_span (expression.Super b) = b.value.span
 expression_span (expression.ConditionalExpression b) = b.value.span
+expression_span (expression.SequenceExpression b) = b.value.span
 
 abbrev pub argument_span : {N : Type 0} → (N → Span) → Argument N → Span
 argument_span own (argument.SpreadElement b) = b.value.span

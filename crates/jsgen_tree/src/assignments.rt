@@ -12,3 +12,10 @@ pub struct ConditionalExpression<N = Node> {
     pub consequent: ExpressionNode<N>,
     pub alternate: ExpressionNode<N>,
 }
+
+/// Values one after another, of which the last counts (ECMA-262, 13.16).
+#[derive(Drop)]
+pub struct SequenceExpression<N = Node> {
+    pub span: Span,
+    pub expressions: Vec<ExpressionNode<N>>,
+}

@@ -22,7 +22,7 @@ mod span;
 mod statements;
 mod types;
 
-pub use assignments::ConditionalExpression;
+pub use assignments::{ConditionalExpression, SequenceExpression};
 pub use collections::{
     ArrayExpression, ObjectExpression, ObjectProperty, PropertyKind, SpreadElement,
 };

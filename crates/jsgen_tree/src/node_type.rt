@@ -38,6 +38,7 @@ impl Expression {
             Expression::NewTarget(_) => NodeType::NewTarget,
             Expression::Super(_) => NodeType::Super,
             Expression::ConditionalExpression(_) => NodeType::ConditionalExpression,
+            Expression::SequenceExpression(_) => NodeType::SequenceExpression,
         }
     }
 }

@@ -1,7 +1,7 @@
 // Generated from tools/nodes/table.txt; edit that and run tools/nodes/generate.
 // Sets: what may stand in one place. A set within a set is one variant of the inner one's name.
 
-use crate::assignments::ConditionalExpression;
+use crate::assignments::{ConditionalExpression, SequenceExpression};
 use crate::collections::{ArrayExpression, ObjectExpression, ObjectProperty, SpreadElement};
 use crate::expressions::{
     BinaryExpression, BooleanLiteral, CallExpression, ComputedMemberExpression, IdentifierName,
@@ -37,6 +37,7 @@ pub enum Expression<N = Node> {
     NewTarget(Box<NewTarget>),
     Super(Box<Super>),
     ConditionalExpression(Box<ConditionalExpression<N>>),
+    SequenceExpression(Box<SequenceExpression<N>>),
 }
 
 /// What a call is given.

@@ -5,7 +5,7 @@ ghost use Rattle.jsgen_tree.specs.Tree.{span_of};
 ghost use Rattle.jsgen_tree.specs.Plain.{node_plain};
 ghost use Rattle.jsgen_tree.specs.Spans.{expression_span, argument_span, array_expression_element_span, simple_assignment_target_span, object_property_kind_span, property_key_span, declaration_span, statement_span, binding_pattern_span};
 
-use crate::assignments::ConditionalExpression;
+use crate::assignments::{ConditionalExpression, SequenceExpression};
 use crate::collections::{ArrayExpression, ObjectExpression, ObjectProperty, SpreadElement};
 use crate::expressions::{
     BinaryExpression, BooleanLiteral, CallExpression, ComputedMemberExpression, IdentifierName,
@@ -290,6 +290,14 @@ impl<N> GetSpan for ConditionalExpression<N> {
     }
 }
 
+impl<N> GetSpan for SequenceExpression<N> {
+    ghost own_span = { λ n. n.span };
+
+    fn span(&self) -> Span {
+        self.span
+    }
+}
+
 impl<N> GetSpan for Expression<N> {
     ghost own_span = { λ n. expression_span n };
 
@@ -315,6 +323,7 @@ impl<N> GetSpan for Expression<N> {
             Expression::NewTarget(node) => node.span,
             Expression::Super(node) => node.span,
             Expression::ConditionalExpression(node) => node.span,
+            Expression::SequenceExpression(node) => node.span,
         }
     }
 }

@@ -38,6 +38,7 @@ pub enum NodeType {
     NewExpression,
     Super,
     ConditionalExpression,
+    SequenceExpression,
 }
 
 /// What the child of a field may be: a member of a set, or a node of one type.
@@ -104,6 +105,7 @@ impl NodeType {
                 | NodeType::NewTarget
                 | NodeType::Super
                 | NodeType::ConditionalExpression
+                | NodeType::SequenceExpression
         )
     }
 
@@ -134,6 +136,7 @@ impl NodeType {
                 | NodeType::NewTarget
                 | NodeType::Super
                 | NodeType::ConditionalExpression
+                | NodeType::SequenceExpression
         )
     }
 
@@ -164,6 +167,7 @@ impl NodeType {
                 | NodeType::NewTarget
                 | NodeType::Super
                 | NodeType::ConditionalExpression
+                | NodeType::SequenceExpression
         )
     }
 
@@ -213,6 +217,7 @@ impl NodeType {
                 | NodeType::NewTarget
                 | NodeType::Super
                 | NodeType::ConditionalExpression
+                | NodeType::SequenceExpression
         )
     }
 
