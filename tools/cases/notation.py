@@ -10,13 +10,14 @@ sys.path.append(str(Path(__file__).resolve().parents[1] / "nodes"))
 from table import Table  # noqa: E402
 
 TABLE = Table(Path(__file__).resolve().parents[1] / "nodes" / "table.txt")
+ASSIGNMENT = {word for word, _ in TABLE.words["AssignmentOperator"].words}
 LOGICAL = ("&&", "||", "??")
 SIGN = re.compile(
     r"""\s*(?:
     (?P<string>"(?:[^"\\]|\\.)*")
   | (?P<number>0x[0-9a-fA-F]+|\d+)
   | (?P<word>[^\W\d]\w*)
-  | (?P<operator>>>>|===|!==|\*\*|<<|>>|<=|>=|==|!=|&&|\|\||\?\?|[-+*/%|^&<>])
+  | (?P<operator>>>>=|>>>|===|!==|\*\*=|<<=|>>=|&&=|\|\|=|\?\?=|[-+*/%|^&]=|\*\*|<<|>>|<=|>=|==|!=|&&|\|\||\?\?|[-+*/%|^&<>])
   | (?P<sign>[(){}\[\].,;=?:])
   | (?P<end>$)
 )""",
@@ -151,6 +152,10 @@ class Reader:
             self.take()
             return Child("SequenceExpression", expressions=[left, *self.several(")", self.expression)])
         operator = self.take()
+        if operator in ASSIGNMENT:
+            right = self.expression()
+            self.expect(")")
+            return Child("AssignmentExpression", operator=operator, left=left, right=right)
         right = self.expression()
         self.expect(")")
         node_type = "LogicalExpression" if operator in LOGICAL else "BinaryExpression"

@@ -10,3 +10,4 @@ pub mod Constructions
 pub mod Updates
 pub mod Conditionals
 pub mod Enclosed
+pub mod Given

@@ -1,6 +1,7 @@
 //! Print functions: one for each row, generic in the tree's recursive type, and one impl that ties the knot.
 #![tactic(auto)]
 
+mod assignments;
 mod blocks;
 mod choices;
 mod collections;

@@ -19,7 +19,7 @@ pub fn print_sequence_expression<N: PrintNode>(
 ) -> Result<(), Memory>
     ensures { Reaches result (pen_of p.old) (pen_of p.new) (pen_after (sequence_expression_row N.plain node.now) place p.old) }
 {
-    let wrap = place.wraps(Precedence::Comma);
+    let wrap = place.wraps_sequence();
     let within = place.part(Precedence::Lowest);
     p.print_opening_if(wrap)?;
     print_parts::<_, Parts>(&node.expressions, p, within)?;

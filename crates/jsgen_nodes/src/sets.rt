@@ -8,6 +8,7 @@ ghost use Rattle.jsgen_nodes.specs.Place.{pen_after};
 ghost use Rattle.jsgen_nodes.specs.Parts.{expression_part, statement_part};
 
 use crate::PrintNode;
+use crate::assignments::print_assignment_expression;
 use crate::blocks::{print_block_statement, print_empty_statement, print_if_statement};
 use crate::choices::print_conditional_expression;
 use crate::collections::{print_array_expression, print_object_expression};
@@ -102,6 +103,7 @@ fn print_expression_in_assignments<N: PrintNode>(
     match node {
         Expression::ConditionalExpression(node) => print_conditional_expression(node, p, place),
         Expression::SequenceExpression(node) => print_sequence_expression(node, p, place),
+        Expression::AssignmentExpression(node) => print_assignment_expression(node, p, place),
         _ => unreachable!(),
     }
 }

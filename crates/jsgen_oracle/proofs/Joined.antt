@@ -13,10 +13,12 @@ use Rattle.jsgen_syntax.specs.declared.operator.UnaryOperator.{UnaryOperator}
 use Rattle.jsgen_syntax.specs.declared.operator.UnaryOperator.TheVariants as unary_operators
 use Rattle.jsgen_syntax.specs.declared.operator.UpdateOperator.{UpdateOperator}
 use Rattle.jsgen_syntax.specs.declared.operator.UpdateOperator.TheVariants as update_operators
+use Rattle.jsgen_syntax.specs.declared.operator.AssignmentOperator.{AssignmentOperator}
+use Rattle.jsgen_syntax.specs.declared.operator.AssignmentOperator.TheVariants as assignment_operators
 use Rattle.jsgen_tree.specs.Tree.{Tree, Trees}
 use Rattle.jsgen_model.specs.Punctuator.{dot, ellipsis, comma, equal, star_star, and_and, or_or, nullish, question, colon, semicolon, Round, Square, Brace}
 use Rattle.jsgen_model.specs.Tokens.{Tokens, done, piece, group, ◌⧺◌, Word, Quoted, Sign, longer_stands, AreTokensOf}
-use Rattle.jsgen_model.specs.Grammar.{Allowed, Level, operator_piece, ReadsExpression, ReadsParts, ReadsElement, ReadsArguments, ReadsArgumentList, ReadsBinding, ReadsDeclarator, ReadsDeclarators, ReadsDeclaration, EndsBy, ReadsStatement, ReadsItem, ReadsStatements, ReadsBody, ReadsModule, a_module, unary_piece, update_sign}
+use Rattle.jsgen_model.specs.Grammar.{Allowed, Level, operator_piece, ReadsExpression, ReadsParts, ReadsElement, ReadsArguments, ReadsArgumentList, ReadsBinding, ReadsDeclarator, ReadsDeclarators, ReadsDeclaration, EndsBy, ReadsStatement, ReadsItem, ReadsStatements, ReadsBody, ReadsModule, a_module, unary_piece, update_sign, assignment_sign}
 use Rattle.jsgen_model.specs.Grammar as grammar
 use Rattle.jsgen_token_laws.proofs.Plain.{all_plain}
 use Rattle.jsgen_token_laws.proofs.OneList.{one_token_list}
@@ -72,6 +74,24 @@ update_joined : (o : UpdateOperator) (m : Bool) (b : Tokens) → is_joined b ≡
 update_joined update_operators.Increment m b h = h
 update_joined update_operators.Decrement m b h = h
 
+assignment_joined : (o : AssignmentOperator) (m : Bool) (b : Tokens) → is_joined b ≡ true → is_joined (piece m (Sign (assignment_sign o)) b) ≡ true
+assignment_joined assignment_operators.Assign m b h = h
+assignment_joined assignment_operators.Addition m b h = h
+assignment_joined assignment_operators.Subtraction m b h = h
+assignment_joined assignment_operators.Multiplication m b h = h
+assignment_joined assignment_operators.Division m b h = h
+assignment_joined assignment_operators.Remainder m b h = h
+assignment_joined assignment_operators.Exponential m b h = h
+assignment_joined assignment_operators.ShiftLeft m b h = h
+assignment_joined assignment_operators.ShiftRight m b h = h
+assignment_joined assignment_operators.ShiftRightZeroFill m b h = h
+assignment_joined assignment_operators.BitwiseOR m b h = h
+assignment_joined assignment_operators.BitwiseXOR m b h = h
+assignment_joined assignment_operators.BitwiseAnd m b h = h
+assignment_joined assignment_operators.LogicalOr m b h = h
+assignment_joined assignment_operators.LogicalAnd m b h = h
+assignment_joined assignment_operators.LogicalNullish m b h = h
+
 given_from : (ts : Tokens) → starts_well ts ≡ true → may_be_given ts ≡ true
 given_from ts h = given ts (element_from ts h)
 
@@ -97,6 +117,7 @@ mutual
   expression_joined : {c : Allowed} {l : Level} {ts : Tokens} {t : Tree} → ReadsExpression c l ts t → is_joined ts ≡ true
   expression_joined (grammar.an_assignment r) = expression_joined r
   expression_joined (grammar.a_sequence m e r s) = made _ _ (piece m (Sign comma) _) e (expression_joined r) (parts_joined s)
+  expression_joined (grammar.an_assignment_to o m e r s w) = made _ _ (piece m (Sign (assignment_sign o)) _) e (expression_joined r) (assignment_joined o m _ (expression_joined w))
   expression_joined (grammar.a_conditional r) = expression_joined r
   expression_joined (grammar.a_short_circuit r) = expression_joined r
   expression_joined (grammar.a_logical_or r) = expression_joined r

@@ -171,6 +171,20 @@ impl Place {
         self.level >= own
     }
 
+    /// Whether a sequence stands in parentheses here.
+    pub fn wraps_sequence(self) -> bool
+        ensures { result ≡ nat_le (rank Precedence.Comma) (rank self.level) }
+    {
+        self.wraps(Precedence::Comma)
+    }
+
+    /// Whether an assignment stands in parentheses here.
+    pub fn wraps_assignment(self) -> bool
+        ensures { result ≡ nat_le (rank Precedence.Assign) (rank self.level) }
+    {
+        self.wraps(Precedence::Assign)
+    }
+
     fn is_forbidden(self, operator: BinaryOperator) -> bool
         ensures { (pen : Pen) → result ≡ is_forbidden operator (place_of self pen) }
     {

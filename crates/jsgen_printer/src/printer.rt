@@ -10,8 +10,8 @@ use crate::operator::Operator;
 mod handed;
 
 use jsgen_syntax::{
-    BinaryOperator, CodeBuffer, IndentChar, JsStr, LogicalOperator, Memory, Quote, UnaryOperator,
-    UpdateOperator,
+    AssignmentOperator, BinaryOperator, CodeBuffer, IndentChar, JsStr, LogicalOperator, Memory,
+    Quote, UnaryOperator, UpdateOperator,
 };
 use jsgen_text::{
     cheapest_quote, directive_quote, print_directive_raw, print_name_text, print_string_text,
@@ -74,7 +74,7 @@ impl Printer {
     ghost use Rattle.jsgen_syntax.specs.Units.{js_units};
     ghost use Rattle.jsgen_syntax.specs.Strings.{quote_char, quoted};
     ghost use Rattle.jsgen_syntax.specs.Raw.{directive_text};
-    ghost use Rattle.jsgen_model.specs.Spell.{operator_item, unary_sign, behind_unary, update_item, logical_item, bars_brace};
+    ghost use Rattle.jsgen_model.specs.Spell.{operator_item, unary_sign, behind_unary, update_item, logical_item, assignment_item, bars_brace};
     ghost use Rattle.jsgen_printer.specs.Printer.{bracket_of, pen_of, ending_of, stands_apart, name_written, is_ascii, deepened, at_depth};
 
     /// A printer that has printed nothing.
@@ -476,6 +476,14 @@ impl Printer {
     pub fn print_logical_sign(&mut self, operator: LogicalOperator) -> Result<(), Memory>
         ensures { Reaches result (pen_of self.old) (pen_of self.new)
             (layout (logical_item operator) (pen_of self.old)) }
+    {
+        self.print_str(operator.as_str(), Ending::Other)
+    }
+
+    /// The sign of an assignment.
+    pub fn print_assignment_sign(&mut self, operator: AssignmentOperator) -> Result<(), Memory>
+        ensures { Reaches result (pen_of self.old) (pen_of self.new)
+            (layout (assignment_item operator) (pen_of self.old)) }
     {
         self.print_str(operator.as_str(), Ending::Other)
     }

@@ -36,7 +36,7 @@ logical_sign Or = or_or
 logical_sign And = and_and
 logical_sign Coalesce = nullish
 
-punctuator_between : (s : Punctuator) → NoDot s → Remembers s other_end → Ready (After (Sign s)) → Between (punctuator s) (Sign s)
+pub punctuator_between : (s : Punctuator) → NoDot s → Remembers s other_end → Ready (After (Sign s)) → Between (punctuator s) (Sign s)
 punctuator_between s n m y = record { writes = λ p l o k. wrote_punctuator s p l n m o k; semicolon = λ p. refl; ready = y; no_function = λ line ts. refl }
 
 logical_between : (o : LogicalOperator) → Between (logical_item o) (Sign (logical_sign o))

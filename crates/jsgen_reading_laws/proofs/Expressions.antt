@@ -43,6 +43,7 @@ use Rattle.jsgen_reading_laws.proofs.Links.{ElementOf, ArgumentsAt, MoreArgument
 use Rattle.jsgen_reading_laws.proofs.Collections.{ElementsOf, no_elements, first_of_elements, left_out_of_elements, good_array, PropertiesOf, no_properties, first_of_properties, good_object}
 use Rattle.jsgen_reading_laws.proofs.Updates.{good_update}
 use Rattle.jsgen_reading_laws.proofs.Choices.{good_choice}
+use Rattle.jsgen_reading_laws.proofs.Assignments.{good_assignment}
 use Rattle.jsgen_reading_laws.proofs.Sequences.{MorePartsAt, good_sequence, no_more_parts, one_more_part}
 use Rattle.jsgen_reading_laws.proofs.Properties.{KeyOf, PropertyOf, good_name_key, good_string_key, good_number_key, good_computed_key, good_spread_property, good_property}
 
@@ -73,6 +74,7 @@ reference_target c a h place p l z y k =
       },
       refl,
       refl,
+      grammar.a_new (grammar.a_member (grammar.a_primary (grammar.a_reference e h))),
     )
 
 pub good_reference : (c : Allowed) (a : Atoms) → is_free_name (identifier_reference_name a) ≡ true → Printed c (tree.identifier_reference a)
@@ -252,6 +254,7 @@ mutual
   printed_expression {c} (family.a_call {a} {f} {es} m v w) = good_call c a f es m (printed_link v) (printed_arguments w)
   printed_expression {c} (family.a_choice {a} {x} {y} {z} u v w) = good_choice c a x y z (printed_expression u) (printed_expression v) (printed_expression w)
   printed_expression {c} (family.a_sequence {a} {t} {u} {ts} v w x) = good_sequence c a t u ts (printed_expression v) (printed_expression w) (printed_parts x)
+  printed_expression {c} (family.an_assignment {a} {t} {u} s v w) = good_assignment c a t u (printed_target v s) (printed_expression w)
   printed_expression {c} (family.an_array {a} {es} v) = good_array c a es (printed_elements v)
   printed_expression {c} (family.an_object {a} {ps} v) = good_object c a ps (printed_properties v)
 

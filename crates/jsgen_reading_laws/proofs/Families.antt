@@ -7,7 +7,7 @@ use Rattle.jsgen_tree.specs.Tree.{Tree, node, Maybe, absent, given, Trees, no_tr
 use Rattle.jsgen_tree.specs.Nodes as tree
 use Rattle.jsgen_tree.specs.Values.{as_text, program_kind, directive_directive, binding_identifier_name, identifier_reference_name, identifier_name_name, numeric_literal_kind, string_literal_value, variable_declaration_declare, variable_declarator_definite, static_member_expression_optional, computed_member_expression_optional, call_expression_optional, object_property_method, object_property_shorthand, object_property_computed}
 use Rattle.jsgen_tree.specs.Everywhere.{EverywhereIfGiven, EverywhereInTrees}
-use Rattle.jsgen_tree.specs.Sets.{in_set, is_expression, is_argument, is_statement, is_binding_pattern, is_variable_declarator, is_identifier_name, is_directive, is_simple_assignment_target, is_object_property_kind}
+use Rattle.jsgen_tree.specs.Sets.{in_set, is_expression, is_argument, is_statement, is_binding_pattern, is_variable_declarator, is_identifier_name, is_directive, is_simple_assignment_target, is_assignment_target, is_object_property_kind}
 use Rattle.jsgen_tree.specs.declared.types.NodeType.{NodeType}
 use Rattle.jsgen_tree.specs.declared.types.NodeType.TheVariants as types
 use Rattle.jsgen_tree.specs.declared.types.NodeSet.{NodeSet}
@@ -47,6 +47,7 @@ mutual
     a_logical_operation : {c : Allowed} {a : Atoms} {l r : Tree} → IsExpression c l → IsExpression c r → IsExpression c (tree.logical a l r)
     a_choice : {c : Allowed} {a : Atoms} {x y z : Tree} → IsExpression c x → IsExpression c y → IsExpression c z → IsExpression c (tree.conditional a x y z)
     a_sequence : {c : Allowed} {a : Atoms} {t u : Tree} {ts : Trees} → IsExpression c t → IsExpression c u → AreParts c ts → IsExpression c (tree.sequence a (more t (more u ts)))
+    an_assignment : {c : Allowed} {a : Atoms} {t u : Tree} → is_simple_assignment_target (type_of t) ≡ true → IsExpression c t → IsExpression c u → IsExpression c (tree.assignment a t u)
     an_array : {c : Allowed} {a : Atoms} {es : Trees} → AreElements c es → IsExpression c (tree.array a es)
     an_object : {c : Allowed} {a : Atoms} {ps : Trees} → AreProperties c ps → IsExpression c (tree.object_expression a ps)
 
@@ -201,6 +202,13 @@ target_stands types.StaticMemberExpression h = refl
 target_stands types.ComputedMemberExpression h = refl
 target_stands type h = absurd (no_truth h)
 
+-- what may be given a value may be changed as it stands
+target_is_simple : (type : NodeType) → is_assignment_target type ≡ true → is_simple_assignment_target type ≡ true
+target_is_simple types.IdentifierReference h = refl
+target_is_simple types.StaticMemberExpression h = refl
+target_is_simple types.ComputedMemberExpression h = refl
+target_is_simple type h = absurd (no_truth h)
+
 -- what a link goes on from is `super`, or may stand anywhere
 link_valid : (c : Allowed) (t : Tree) → IsPlain t → may_stand sets.Link (type_of t) ≡ true → (may_stand sets.Expression (type_of t) ≡ true → IsExpression c t) → IsLink c t
 link_valid c (tree.super a) p s f = a_super
@@ -290,6 +298,11 @@ mutual
       let h = parts (span_faults a.span) (sequence_faults a.span ts) _ e in
       let j = none_both (in_trees around (place_of sets.Expression around ∷ []) ts) [] h.1 in
       sequence_valid c around a ts p.0 p.1.0 h.0 j.0
+  expression_valid c around (tree.assignment a t u) p s e =
+      let k = placed around sets.AssignmentTarget t _ (parts (span_faults a.span) [] _ e).1 in
+      let j = standing around sets.Expression u [] k.2 in
+      let i = target_is_simple (type_of t) k.0 in
+      an_assignment i (expression_valid c around t p.1.0 (target_stands (type_of t) i) k.1) (expression_valid c around u p.1.1.0 j.0 j.1)
   expression_valid c around t p s e = absurd (search no_truth)
 
   sequence_valid : (c : Allowed) (around : Surroundings) (a : Atoms) (ts : Trees) → has_no_hole ts ≡ true → EverywhereInTrees is_plain_row ts → sequence_faults a.span ts ≡ [] → in_trees around (place_of sets.Expression around ∷ []) ts ≡ [] → IsExpression c (tree.sequence a ts)

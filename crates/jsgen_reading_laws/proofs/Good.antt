@@ -50,9 +50,9 @@ pub record Good (p : Pen) (l : Last) (q : Pen) (c : Allowed) (level : Level) (st
 abbrev pub Printed : Allowed → Tree → Type 0
 Printed c t = (place : Place) (p : Pen) (l : Last) → p.pending_semicolon ≡ false → Ready l → Knows p l → Good p l (layout (spell t place) p) (under place c) (level_of place) place.start t
 
--- and read as a simple target, which no line end follows
+-- and read as a simple target, which no line end follows; it is a left-hand side at any level
 abbrev pub TargetPrinted : Allowed → Tree → Type 0
-TargetPrinted c t = (place : Place) (p : Pen) (l : Last) → p.pending_semicolon ≡ false → Ready l → Knows p l → (g : Good p l (layout (spell t place) p) (under place c) (level_of place) place.start t) × (simple_target g.tree ≡ Some g.tree) × (line_of g.last ≡ false)
+TargetPrinted c t = (place : Place) (p : Pen) (l : Last) → p.pending_semicolon ≡ false → Ready l → Knows p l → (g : Good p l (layout (spell t place) p) (under place c) (level_of place) place.start t) × (simple_target g.tree ≡ Some g.tree) × (line_of g.last ≡ false) × ReadsExpression (under place c) grammar.LeftHandSide g.tokens g.tree
 
 pub operand_ready : (l : Last) → Operand l → Ready l
 operand_ready (Open line) o = tt

@@ -18,6 +18,7 @@ pub mod Constructions
 pub mod Updates
 pub mod Choices
 pub mod Sequences
+pub mod Assignments
 pub mod Expressions
 pub mod Ends
 pub mod Stands

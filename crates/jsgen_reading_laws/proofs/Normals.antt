@@ -2,10 +2,10 @@
 use Rattle.std.specs.Option.{option_map_or}
 use Rattle.std.proofs.Common.{◌≡◌, Bool, true, false, ◌&&◌, cond, [], ◌∷◌, refl, ap, ◌∙◌}
 use Rattle.jsgen_syntax.specs.declared.operator.LogicalOperator.{LogicalOperator}
-use Rattle.jsgen_tree.specs.Atom.{no_value, declaration_kind, binary_operator, logical_operator, unary_operator, update_operator, flag, property_kind}
+use Rattle.jsgen_tree.specs.Atom.{no_value, declaration_kind, binary_operator, logical_operator, unary_operator, update_operator, assignment_operator, flag, property_kind}
 use Rattle.jsgen_tree.specs.Tree.{Tree, node, Slots, no_slots, one, maybe, many, maybe_many, Maybe, absent, given, Trees, no_trees, more, hole, MaybeTrees, no_list, listed}
 use Rattle.jsgen_tree.specs.Places.{bare}
-use Rattle.jsgen_tree.specs.Values.{variable_declaration_kind, variable_declaration_declare, variable_declarator_definite, static_member_expression_optional, computed_member_expression_optional, call_expression_optional, binary_expression_operator, logical_expression_operator, unary_expression_operator, update_expression_operator, update_expression_prefix, identifier_name_name, object_property_kind, object_property_method, object_property_shorthand, object_property_computed}
+use Rattle.jsgen_tree.specs.Values.{variable_declaration_kind, variable_declaration_declare, variable_declarator_definite, static_member_expression_optional, computed_member_expression_optional, call_expression_optional, binary_expression_operator, logical_expression_operator, unary_expression_operator, update_expression_operator, update_expression_prefix, assignment_expression_operator, identifier_name_name, object_property_kind, object_property_method, object_property_shorthand, object_property_computed}
 use Rattle.jsgen_tree.specs.Inside.{ends_open, written_name_in, is_proto}
 use Rattle.jsgen_tree.specs.Nodes as tree
 use Rattle.std.proofs.lemmas.Bool.{both_ways}
@@ -120,6 +120,7 @@ mutual
   normal_again (tree.new_target a) = refl
   normal_again (tree.conditional a test consequent alternate) = let e = normal_again test in let f = normal_again consequent in let g = normal_again alternate in λ i. tree.conditional (nothing_of 0) (e i) (f i) (g i)
   normal_again (tree.sequence a expressions) = ap (λ ts. tree.sequence (nothing_of 0) ts) (flattened_again expressions)
+  normal_again (tree.assignment a left right) = let e = normal_again left in let f = normal_again right in λ i. tree.assignment (bare (assignment_operator (assignment_expression_operator a) ∷ [])) (e i) (f i)
   normal_again (node type a slots) = ap (λ s. node type (bare a.values) s) (normal_slots_again slots)
 
   flattened_again : (ts : Trees) → flattened (normal_trees (flattened (normal_trees ts))) ≡ flattened (normal_trees ts)

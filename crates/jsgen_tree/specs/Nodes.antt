@@ -101,3 +101,6 @@ conditional a test consequent alternate = node types.ConditionalExpression a (on
 
 pattern abbrev pub sequence : Atoms → Trees → Tree
 sequence a expressions = node types.SequenceExpression a (many expressions no_slots)
+
+pattern abbrev pub assignment : Atoms → Tree → Tree → Tree
+assignment a left right = node types.AssignmentExpression a (one left (one right no_slots))

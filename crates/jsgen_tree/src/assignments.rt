@@ -2,7 +2,8 @@
 // Conditional expressions, sequences and assignments (ECMA-262, 13.14 to 13.16).
 
 use crate::nodes::{ExpressionNode, Node};
-use jsgen_syntax::Span;
+use crate::sets::AssignmentTarget;
+use jsgen_syntax::{AssignmentOperator, Span};
 
 /// A choice between two values (ECMA-262, 13.14).
 #[derive(Drop)]
@@ -18,4 +19,13 @@ pub struct ConditionalExpression<N = Node> {
 pub struct SequenceExpression<N = Node> {
     pub span: Span,
     pub expressions: Vec<ExpressionNode<N>>,
+}
+
+/// A target that is given a value (ECMA-262, 13.15).
+#[derive(Drop)]
+pub struct AssignmentExpression<N = Node> {
+    pub span: Span,
+    pub operator: AssignmentOperator,
+    pub left: AssignmentTarget<N>,
+    pub right: ExpressionNode<N>,
 }

@@ -22,7 +22,7 @@ mod span;
 mod statements;
 mod types;
 
-pub use assignments::{ConditionalExpression, SequenceExpression};
+pub use assignments::{AssignmentExpression, ConditionalExpression, SequenceExpression};
 pub use collections::{
     ArrayExpression, ObjectExpression, ObjectProperty, PropertyKind, SpreadElement,
 };
@@ -38,8 +38,8 @@ pub use numbers::NumericValue;
 pub use operations::{NewExpression, NewTarget, Super, UnaryExpression, UpdateExpression};
 pub use options::{CodegenOptions, CommentOptions, LegalComment};
 pub use sets::{
-    Argument, ArrayExpressionElement, BindingPattern, Declaration, Expression, ObjectPropertyKind,
-    PropertyKey, SimpleAssignmentTarget, Statement,
+    Argument, ArrayExpressionElement, AssignmentTarget, BindingPattern, Declaration, Expression,
+    ObjectPropertyKind, PropertyKey, SimpleAssignmentTarget, Statement,
 };
 pub use span::GetSpan;
 pub use statements::{

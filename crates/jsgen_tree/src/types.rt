@@ -1,7 +1,7 @@
 // Generated from tools/nodes/table.txt; edit that and run tools/nodes/generate.
 // The types of nodes, and the sets that a field's child may be of.
 ghost use Rattle.std.specs.Prelude.{◌≡◌};
-ghost use Rattle.jsgen_tree.specs.Sets.{in_set, is_expression, is_argument, is_array_expression_element, is_simple_assignment_target, is_object_property_kind, is_property_key, is_statement};
+ghost use Rattle.jsgen_tree.specs.Sets.{in_set, is_expression, is_argument, is_array_expression_element, is_simple_assignment_target, is_assignment_target, is_object_property_kind, is_property_key, is_statement};
 
 /// The type of a node.
 #[derive(Clone, Copy, Debug, PartialEq, Eq)]
@@ -39,6 +39,7 @@ pub enum NodeType {
     Super,
     ConditionalExpression,
     SequenceExpression,
+    AssignmentExpression,
 }
 
 /// What the child of a field may be: a member of a set, or a node of one type.
@@ -55,6 +56,7 @@ pub enum NodeSet {
     PropertyKey,
     ObjectPropertyKind,
     SimpleAssignmentTarget,
+    AssignmentTarget,
     Link,
 }
 
@@ -75,6 +77,7 @@ impl NodeType {
             NodeSet::PropertyKey => self.is_property_key(),
             NodeSet::ObjectPropertyKind => self.is_object_property_kind(),
             NodeSet::SimpleAssignmentTarget => self.is_simple_assignment_target(),
+            NodeSet::AssignmentTarget => self.is_assignment_target(),
             NodeSet::Link => self.is_expression(),
         }
     }
@@ -106,6 +109,7 @@ impl NodeType {
                 | NodeType::Super
                 | NodeType::ConditionalExpression
                 | NodeType::SequenceExpression
+                | NodeType::AssignmentExpression
         )
     }
 
@@ -137,6 +141,7 @@ impl NodeType {
                 | NodeType::Super
                 | NodeType::ConditionalExpression
                 | NodeType::SequenceExpression
+                | NodeType::AssignmentExpression
         )
     }
 
@@ -168,12 +173,25 @@ impl NodeType {
                 | NodeType::Super
                 | NodeType::ConditionalExpression
                 | NodeType::SequenceExpression
+                | NodeType::AssignmentExpression
         )
     }
 
     /// Whether nodes of this type are in `SimpleAssignmentTarget`.
     pub fn is_simple_assignment_target(self) -> bool
         ensures { result ≡ is_simple_assignment_target self }
+    {
+        matches!(
+            &self,
+            NodeType::IdentifierReference
+                | NodeType::StaticMemberExpression
+                | NodeType::ComputedMemberExpression
+        )
+    }
+
+    /// Whether nodes of this type are in `AssignmentTarget`.
+    pub fn is_assignment_target(self) -> bool
+        ensures { result ≡ is_assignment_target self }
     {
         matches!(
             &self,
@@ -218,6 +236,7 @@ impl NodeType {
                 | NodeType::Super
                 | NodeType::ConditionalExpression
                 | NodeType::SequenceExpression
+                | NodeType::AssignmentExpression
         )
     }
 

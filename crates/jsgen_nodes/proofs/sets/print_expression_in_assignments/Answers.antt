@@ -4,4 +4,4 @@ use Rattle.jsgen_nodes.proofs.Parts.{expression_past_3}
 use Rattle.jsgen_nodes.proofs.sets.print_expression_in_assignments.Goals as goal
 
 pub unreachable-requires : goal.unreachable-requires
-unreachable-requires g c = expression_past_3 c.args.node.now c.requires c.in_default.not-ConditionalExpression c.in_default.not-SequenceExpression
+unreachable-requires g c = expression_past_3 c.args.node.now c.requires c.in_default.not-ConditionalExpression c.in_default.not-SequenceExpression c.in_default.not-AssignmentExpression
