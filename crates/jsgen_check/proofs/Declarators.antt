@@ -1,5 +1,5 @@
 -- What a list of children breaks.
-use Rattle.std.proofs.Common.{◌≡◌, ℕ, suc, ◌==◌, nat_lt, List, [], ◌∷◌, length, map, false, if◌then◌else◌, refl, ap, arith}
+use Rattle.std.proofs.Common.{◌≡◌, ℕ, suc, ◌==◌, ◌<◌, ◌≤◌, List, [], ◌∷◌, length, map, false, if◌then◌else◌, refl, ap, arith}
 use Rattle.std.proofs.lemmas.Bool.Decides.{nat_tests}
 use Rattle.jsgen_syntax.specs.declared.span.Span.{Span}
 use Rattle.jsgen_tree.specs.Tree.{Tree, trees}
@@ -14,11 +14,13 @@ pub declaration_faults-count : {A : Type 0} (s : Span) (f : A → Tree) (xs : Li
 declaration_faults-count s f [] = refl
 declaration_faults-count s f (x ∷ xs) = ap (λ b. if b then faults.Place s.start ∷ [] else []) (not_none (length xs))
 
-not_less : (n : ℕ) → false ≡ nat_lt (suc (suc n)) 2
-not_less n = grind (arith, nat_tests)
+-- a sequence of fewer than two parts breaks its rule, and another keeps it
+pub few_parts : {A : Type 0} (s : Span) (f : A → Tree) (xs : List A) → length xs < 2 → sequence_faults s (trees (map f xs)) ≡ faults.Place s.start ∷ []
+few_parts s f [] h = refl
+few_parts s f (x ∷ []) h = refl
+few_parts s f (x ∷ y ∷ xs) h = absurd (omega (arith, h))
 
--- a list has fewer than two elements exactly where it has none or one
-pub sequence_faults-count : {A : Type 0} (s : Span) (f : A → Tree) (xs : List A) → sequence_faults s (trees (map f xs)) ≡ (if nat_lt (length xs) 2 then faults.Place s.start ∷ [] else [])
-sequence_faults-count s f [] = refl
-sequence_faults-count s f (x ∷ []) = refl
-sequence_faults-count s f (x ∷ y ∷ xs) = ap (λ b. if b then faults.Place s.start ∷ [] else []) (not_less (length xs))
+pub several_parts : {A : Type 0} (s : Span) (f : A → Tree) (xs : List A) → 2 ≤ length xs → sequence_faults s (trees (map f xs)) ≡ []
+several_parts s f [] h = absurd (omega (arith, h))
+several_parts s f (x ∷ []) h = absurd (omega (arith, h))
+several_parts s f (x ∷ y ∷ xs) h = refl

@@ -43,7 +43,7 @@ mutual
   freed (grammar.with_arguments mark x y z) = grammar.with_arguments mark x (freed y) z
   freed (grammar.a_named_member_of_call w mark next x y z) = grammar.a_named_member_of_call w mark next x y (freed z)
   freed (grammar.a_computed_member_of_call mark x y z) = grammar.a_computed_member_of_call mark x (freed y) z
-  freed (grammar.an_operation o mark x y z u v) = grammar.an_operation o mark x (all_stand _ o) z (freed u) (freed v)
+  freed {c} (grammar.an_operation o mark x y z u v) = grammar.an_operation o mark x (all_stand c o) z (freed u) (freed v)
   freed (grammar.a_power mark x y z) = grammar.a_power mark x (freed y) (freed z)
   freed (grammar.a_conjunction mark x y z) = grammar.a_conjunction mark x (freed y) (freed z)
   freed (grammar.a_disjunction mark x y z) = grammar.a_disjunction mark x (freed y) (freed z)
