@@ -12,7 +12,7 @@ use Rattle.jsgen_oracle.specs.declared.form.Value.TheVariants as values
 use Rattle.jsgen_tree.specs.declared.types.NodeType.{NodeType}
 use Rattle.jsgen_tree.specs.declared.types.NodeType.TheVariants as types
 use Rattle.jsgen_tree.specs.Inside.{ends_open}
-use Rattle.jsgen_tree.specs.Tree.{Atoms, Tree, node, Slots, no_slots, many, trees, holed, no_trees, more, hole}
+use Rattle.jsgen_tree.specs.Tree.{Trees, Atoms, Tree, node, Slots, no_slots, many, trees, holed, no_trees, more, hole}
 use Rattle.jsgen_tree.specs.Places.{bare}
 use Rattle.std.specs.declared.alloc.Global.{Global}
 use Rattle.jsgen_tree.proofs.Layers.{map_after, with_hole}
