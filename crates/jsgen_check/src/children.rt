@@ -2,7 +2,7 @@
 // Lists, children that may be absent, and sets that don't nest.
 ghost use Rattle.std.specs.Prelude.{◌≡◌, map, option_map};
 ghost use Rattle.jsgen_tree.specs.Tree.{optional, trees, holed};
-ghost use Rattle.jsgen_tree.specs.Rows.{in_expression, in_argument, in_array_expression_element, in_simple_assignment_target, in_object_property_kind, in_property_key, in_statement, directive_row, variable_declarator_row};
+ghost use Rattle.jsgen_tree.specs.Rows.{in_expression, in_argument, in_array_expression_element, in_simple_assignment_target, in_assignment_target, in_object_property_kind, in_property_key, in_statement, directive_row, variable_declarator_row};
 ghost use Rattle.jsgen_check.specs.Verdict.{child_verdict, maybe_verdict, children_verdict};
 ghost use Rattle.jsgen_tree.specs.declared.types.NodeSet.TheVariants as sets;
 
@@ -16,8 +16,8 @@ use crate::statements::{check_directive, check_variable_declarator};
 use crate::{CheckNode, Surroundings, check_child};
 use jsgen_model::TreeFault;
 use jsgen_tree::{
-    Argument, ArrayExpressionElement, Directive, ExpressionNode, NodeSet, ObjectPropertyKind,
-    PropertyKey, SimpleAssignmentTarget, StatementNode, VariableDeclarator,
+    Argument, ArrayExpressionElement, AssignmentTarget, Directive, ExpressionNode, NodeSet,
+    ObjectPropertyKind, PropertyKey, SimpleAssignmentTarget, StatementNode, VariableDeclarator,
 };
 
 pub fn check_directives(nodes: &[Directive], around: Surroundings<'_>) -> Result<u32, TreeFault>
@@ -82,6 +82,20 @@ pub fn check_object_property_kinds<N: CheckNode>(
     let mut below = Ok(0);
     for node in nodes {
         let found = check_object_property_kind(node, around);
+        below = higher(below, found);
+    }
+    below
+}
+
+pub fn check_expressions<N: CheckNode>(
+    nodes: &[ExpressionNode<N>],
+    around: Surroundings<'_>,
+) -> Result<u32, TreeFault>
+    ensures { result ≡ children_verdict around.entry sets.Expression (trees (map (in_expression N.plain) nodes.now)) }
+{
+    let mut below = Ok(0);
+    for node in nodes {
+        let found = check_child(node.get(), NodeSet::Expression, around);
         below = higher(below, found);
     }
     below
@@ -179,6 +193,23 @@ pub fn check_simple_assignment_target<N: CheckNode>(
             node, around,
         ),
         SimpleAssignmentTarget::ComputedMemberExpression(node) => check_computed_member_expression(
+            node, around,
+        ),
+    }
+}
+
+pub fn check_assignment_target<N: CheckNode>(
+    node: &AssignmentTarget<N>,
+    around: Surroundings<'_>,
+) -> Result<u32, TreeFault>
+    ensures { result ≡ child_verdict around.entry sets.AssignmentTarget (in_assignment_target N.plain node.now) }
+{
+    match node {
+        AssignmentTarget::IdentifierReference(node) => check_identifier_reference(node, around),
+        AssignmentTarget::StaticMemberExpression(node) => check_static_member_expression(
+            node, around,
+        ),
+        AssignmentTarget::ComputedMemberExpression(node) => check_computed_member_expression(
             node, around,
         ),
     }

@@ -10,6 +10,7 @@ ghost use Rattle.jsgen_tree.specs.Job.{no_tables};
 ghost use Rattle.jsgen_model.specs.Valid.{job_breaches, Judges};
 ghost use Rattle.jsgen_check.specs.Verdict.{tree_verdict, child_verdict};
 
+mod assignments;
 mod children;
 mod collections;
 mod expressions;

@@ -7,8 +7,8 @@ ghost use Rattle.std.specs.Str.{chars};
 ghost use Rattle.jsgen_tree.specs.Tree.{optional, trees, type_of, span_of};
 ghost use Rattle.jsgen_tree.specs.Sets.{is_expression};
 ghost use Rattle.jsgen_tree.specs.Inside.{without_parentheses, reference_in, written_name_in, is_proto};
-ghost use Rattle.jsgen_tree.specs.Rows.{directive_row, variable_declaration_row, variable_declarator_row, binding_identifier_row, if_statement_row, identifier_reference_row, identifier_name_row, object_property_row, in_statement, in_property_key, in_expression};
-ghost use Rattle.jsgen_model.specs.Valid.{own_faults, fault_if, body_faults, alternate_faults, declaration_faults, key_faults, named_faults, shorthand_faults, is_literal_key, is_lexical_type};
+ghost use Rattle.jsgen_tree.specs.Rows.{directive_row, variable_declaration_row, variable_declarator_row, binding_identifier_row, if_statement_row, identifier_reference_row, identifier_name_row, object_property_row, sequence_expression_row, in_statement, in_property_key, in_expression};
+ghost use Rattle.jsgen_model.specs.Valid.{own_faults, fault_if, body_faults, alternate_faults, declaration_faults, sequence_faults, key_faults, named_faults, shorthand_faults, is_literal_key, is_lexical_type};
 ghost use Rattle.jsgen_model.specs.declared.fault.TreeFault.TheVariants.{Name};
 ghost use Rattle.jsgen_rules.specs.Verdict.{verdict};
 ghost use Rattle.jsgen_check.specs.Verdict.{surroundings_plain};
@@ -19,8 +19,8 @@ use jsgen_rules::{check_name, check_raw, check_written_name};
 use jsgen_syntax::Span;
 use jsgen_tree::{
     BindingIdentifier, Directive, ExpressionNode, IdentifierName, IdentifierReference, IfStatement,
-    NodeType, ObjectProperty, PropertyKey, StatementNode, VariableDeclaration, VariableDeclarator,
-    is_proto,
+    NodeType, ObjectProperty, PropertyKey, SequenceExpression, StatementNode, VariableDeclaration,
+    VariableDeclarator, is_proto,
 };
 
 #[tactic(auto)]
@@ -53,6 +53,27 @@ pub fn check_variable_declaration_rules<N: CheckNode>(
 {
     let _ = around;
     check_count(&node.declarations, node.span)
+}
+
+#[tactic(auto)]
+fn check_parts<N: CheckNode>(parts: &[ExpressionNode<N>], span: Span) -> Result<(), TreeFault>
+    ensures { result ≡ verdict (sequence_faults span (trees (map (in_expression N.plain) parts.now))) }
+{
+    if parts.len() < 2 {
+        return Err(TreeFault::Place { start: span.start });
+    }
+    Ok(())
+}
+
+#[tactic(auto)]
+pub fn check_sequence_expression_rules<N: CheckNode>(
+    node: &SequenceExpression<N>,
+    around: Surroundings<'_>,
+) -> Result<(), TreeFault>
+    ensures { result ≡ verdict (own_faults (surroundings_plain around.entry) (sequence_expression_row N.plain node.now)) }
+{
+    let _ = around;
+    check_parts(&node.expressions, node.span)
 }
 
 #[tactic(auto)]

@@ -4,6 +4,9 @@ ghost use Rattle.std.specs.Prelude.{◌≡◌};
 ghost use Rattle.jsgen_tree.specs.Rows.{expression_plain, declaration_plain, statement_plain, binding_pattern_plain};
 ghost use Rattle.jsgen_check.specs.Verdict.{tree_verdict};
 
+use crate::assignments::{
+    check_assignment_expression, check_conditional_expression, check_sequence_expression,
+};
 use crate::collections::{check_array_expression, check_object_expression};
 use crate::expressions::{
     check_binary_expression, check_boolean_literal, check_call_expression,
@@ -51,6 +54,9 @@ pub fn check_expression_set<N: CheckNode>(
         Expression::NewExpression(node) => check_new_expression(node, around),
         Expression::NewTarget(node) => check_new_target(node, around),
         Expression::Super(node) => check_super(node, around),
+        Expression::ConditionalExpression(node) => check_conditional_expression(node, around),
+        Expression::SequenceExpression(node) => check_sequence_expression(node, around),
+        Expression::AssignmentExpression(node) => check_assignment_expression(node, around),
     }
 }
 

@@ -5,7 +5,7 @@ ghost use Rattle.jsgen_fields.specs.Names.{first_named, type_named};
 
 use jsgen_tree::NodeType;
 
-const TYPE_NAMES: [(&str, NodeType); 31] = [
+const TYPE_NAMES: [(&str, NodeType); 34] = [
     ("Program", NodeType::Program),
     ("Directive", NodeType::Directive),
     ("VariableDeclaration", NodeType::VariableDeclaration),
@@ -40,6 +40,9 @@ const TYPE_NAMES: [(&str, NodeType); 31] = [
     ("UpdateExpression", NodeType::UpdateExpression),
     ("NewExpression", NodeType::NewExpression),
     ("Super", NodeType::Super),
+    ("ConditionalExpression", NodeType::ConditionalExpression),
+    ("SequenceExpression", NodeType::SequenceExpression),
+    ("AssignmentExpression", NodeType::AssignmentExpression),
 ];
 
 fn first_named(names: &[(&str, NodeType)], name: &str) -> Option<NodeType>

@@ -11,13 +11,15 @@ use Rattle.jsgen_syntax.specs.declared.operator.UnaryOperator.{UnaryOperator}
 use Rattle.jsgen_syntax.specs.declared.operator.UnaryOperator.TheVariants as unary_operators
 use Rattle.jsgen_syntax.specs.declared.operator.UpdateOperator.{UpdateOperator}
 use Rattle.jsgen_syntax.specs.declared.operator.UpdateOperator.TheVariants as update_operators
+use Rattle.jsgen_syntax.specs.declared.operator.AssignmentOperator.{AssignmentOperator}
+use Rattle.jsgen_syntax.specs.declared.operator.AssignmentOperator.TheVariants as assignment_operators
 use Rattle.jsgen_tree.specs.declared.statements.VariableDeclarationKind.TheVariants.{Const}
 use Rattle.jsgen_syntax.specs.Name.{is_free_name}
-use Rattle.jsgen_tree.specs.Atom.{units, flag, binary_operator, logical_operator, unary_operator, update_operator, no_value, property_kind}
+use Rattle.jsgen_tree.specs.Atom.{units, flag, binary_operator, logical_operator, unary_operator, update_operator, assignment_operator, no_value, property_kind}
 use Rattle.jsgen_tree.specs.Tree.{Tree, Maybe, absent, given, Trees, no_trees, more, hole, Atoms}
 use Rattle.jsgen_tree.specs.Places.{bare}
 use Rattle.jsgen_tree.specs.Nodes as tree
-use Rattle.jsgen_model.specs.Punctuator.{plus, minus, star, slash, percent, star_star, equal_equal, not_equal, equal_equal_equal, not_equal_equal, less, less_equal, greater, greater_equal, shift_left, shift_right, shift_right_zero, bit_and, bit_or, bit_xor, and_and, or_or, nullish, dot, ellipsis, comma, semicolon, equal, Round, Square, Brace, bang, tilde, Punctuator, plus_plus, minus_minus, colon}
+use Rattle.jsgen_model.specs.Punctuator.{plus, minus, star, slash, percent, star_star, equal_equal, not_equal, equal_equal_equal, not_equal_equal, less, less_equal, greater, greater_equal, shift_left, shift_right, shift_right_zero, bit_and, bit_or, bit_xor, and_and, or_or, nullish, dot, ellipsis, comma, semicolon, equal, Round, Square, Brace, bang, tilde, Punctuator, plus_plus, minus_minus, colon, question, plus_equal, minus_equal, star_equal, slash_equal, percent_equal, star_star_equal, shift_left_equal, shift_right_equal, shift_right_zero_equal, bit_or_equal, bit_xor_equal, bit_and_equal, or_or_equal, and_and_equal, nullish_equal}
 use Rattle.jsgen_tree.specs.declared.collections.PropertyKind.TheVariants.{Init}
 use Rattle.jsgen_model.specs.Tokens.{Piece, Tokens, done, piece, group, ◌⧺◌, Word, Number, Quoted, Sign}
 use Rattle.jsgen_model.specs.Normal.{nothing_of, named, unnumbered, by_text, declared_as}
@@ -130,6 +132,25 @@ abbrev pub update_sign : UpdateOperator → Punctuator
 update_sign update_operators.Increment = plus_plus
 update_sign update_operators.Decrement = minus_minus
 
+-- the sign of an assignment (13.15)
+abbrev pub assignment_sign : AssignmentOperator → Punctuator
+assignment_sign assignment_operators.Assign = equal
+assignment_sign assignment_operators.Addition = plus_equal
+assignment_sign assignment_operators.Subtraction = minus_equal
+assignment_sign assignment_operators.Multiplication = star_equal
+assignment_sign assignment_operators.Division = slash_equal
+assignment_sign assignment_operators.Remainder = percent_equal
+assignment_sign assignment_operators.Exponential = star_star_equal
+assignment_sign assignment_operators.ShiftLeft = shift_left_equal
+assignment_sign assignment_operators.ShiftRight = shift_right_equal
+assignment_sign assignment_operators.ShiftRightZeroFill = shift_right_zero_equal
+assignment_sign assignment_operators.BitwiseOR = bit_or_equal
+assignment_sign assignment_operators.BitwiseXOR = bit_xor_equal
+assignment_sign assignment_operators.BitwiseAnd = bit_and_equal
+assignment_sign assignment_operators.LogicalOr = or_or_equal
+assignment_sign assignment_operators.LogicalAnd = and_and_equal
+assignment_sign assignment_operators.LogicalNullish = nullish_equal
+
 -- what an expression is as a simple target: a name or a member, maybe in parentheses (8.6.4)
 abbrev pub simple_target : Tree → Option Tree
 simple_target (tree.identifier_reference a) = Some (tree.identifier_reference a)
@@ -186,7 +207,10 @@ mutual
   -- ---- expressions (clause 13)
   pub data ReadsExpression : Allowed → Level → Tokens → Tree → Type 0 where
     an_assignment : {c : Allowed} {ts : Tokens} {t : Tree} → ReadsExpression c Assignment ts t → ReadsExpression c Expression ts t
+    a_sequence : {c : Allowed} {ts a b : Tokens} {t : Tree} {us : Trees} (mark : Bool) → ts ≡ a ⧺ piece mark (Sign comma) b → ReadsExpression c Assignment a t → ReadsParts c b us → ReadsExpression c Expression ts (tree.sequence (nothing_of 0) (more t us))
     a_conditional : {c : Allowed} {ts : Tokens} {t : Tree} → ReadsExpression c Conditional ts t → ReadsExpression c Assignment ts t
+    -- what is given a value is a left-hand side, to which it is all one whether `in` may stand outside (13.15)
+    an_assignment_to : {c : Allowed} {ts a b : Tokens} {t u v : Tree} (o : AssignmentOperator) (mark : Bool) → ts ≡ a ⧺ piece mark (Sign (assignment_sign o)) b → ReadsExpression (with_in c) LeftHandSide a t → simple_target t ≡ Some u → ReadsExpression c Assignment b v → ReadsExpression c Assignment ts (tree.assignment (bare (assignment_operator o ∷ [])) u v)
     a_short_circuit : {c : Allowed} {ts : Tokens} {t : Tree} → ReadsExpression c ShortCircuit ts t → ReadsExpression c Conditional ts t
     a_logical_or : {c : Allowed} {ts : Tokens} {t : Tree} → ReadsExpression c LogicalOr ts t → ReadsExpression c ShortCircuit ts t
     a_logical_and : {c : Allowed} {ts : Tokens} {t : Tree} → ReadsExpression c LogicalAnd ts t → ReadsExpression c LogicalOr ts t
@@ -221,6 +245,8 @@ mutual
     a_coalescing : {c : Allowed} {ts a b : Tokens} {l r : Tree} (mark : Bool) → ts ≡ a ⧺ piece mark (Sign nullish) b → ReadsExpression c CoalesceHead a l → ReadsExpression c BitOr b r → ReadsExpression c Coalesced ts (tree.logical (bare (logical_operator Coalesce ∷ [])) l r)
     a_coalesced_head : {c : Allowed} {ts : Tokens} {t : Tree} → ReadsExpression c Coalesced ts t → ReadsExpression c CoalesceHead ts t
     a_bit_or_head : {c : Allowed} {ts : Tokens} {t : Tree} → ReadsExpression c BitOr ts t → ReadsExpression c CoalesceHead ts t
+    -- what follows `?` stands between two signs, so `in` may stand there
+    a_choice : {c : Allowed} {ts a b d : Tokens} {x y z : Tree} (mark next : Bool) → ts ≡ a ⧺ piece mark (Sign question) (b ⧺ piece next (Sign colon) d) → ReadsExpression c ShortCircuit a x → ReadsExpression (with_in c) Assignment b y → ReadsExpression c Assignment d z → ReadsExpression c Conditional ts (tree.conditional (nothing_of 0) x y z)
     a_unary_operation : {c : Allowed} {mark : Bool} {ts : Tokens} {t : Tree} (o : UnaryOperator) → ReadsExpression c Unary ts t → ReadsExpression c Unary (piece mark (unary_piece o) ts) (tree.unary (bare (unary_operator o ∷ [])) t)
     an_update_before : {c : Allowed} {mark : Bool} {ts : Tokens} {t u : Tree} (o : UpdateOperator) → ReadsExpression c Unary ts t → simple_target t ≡ Some u → ReadsExpression c Update (piece mark (Sign (update_sign o)) ts) (tree.update (bare (update_operator o ∷ flag true ∷ [])) u)
     -- on the line of its operand (12.10.1)
@@ -241,6 +267,11 @@ mutual
     in_parentheses : {c : Allowed} {mark : Bool} {ts : Tokens} {t : Tree} → ReadsExpression (with_in c) Expression ts t → ReadsExpression c Primary (group mark Round ts done) (tree.parenthesized (nothing_of 0) t)
     an_array : {c : Allowed} {mark : Bool} {inside : Tokens} {es : Trees} → ReadsElements (with_in c) inside es → ReadsExpression c Primary (group mark Square inside done) (tree.array (nothing_of 0) es)
     an_object : {c : Allowed} {mark : Bool} {inside : Tokens} {ps : Trees} → ReadsProperties (with_in c) inside ps → ReadsExpression c Primary (group mark Brace inside done) (tree.object_expression (nothing_of 0) ps)
+
+  -- the parts of a sequence behind its first (13.16)
+  pub data ReadsParts : Allowed → Tokens → Trees → Type 0 where
+    last_part : {c : Allowed} {ts : Tokens} {t : Tree} → ReadsExpression c Assignment ts t → ReadsParts c ts (more t no_trees)
+    first_part : {c : Allowed} {ts a b : Tokens} {t : Tree} {us : Trees} (mark : Bool) → ts ≡ a ⧺ piece mark (Sign comma) b → ReadsExpression c Assignment a t → ReadsParts c b us → ReadsParts c ts (more t us)
 
   -- between the braces of an object (13.2.5); a comma may end the list
   pub data ReadsProperties : Allowed → Tokens → Trees → Type 0 where

@@ -1,12 +1,12 @@
 -- What two trees of one meaning have in common.
 use Rattle.std.specs.Prelude.{ℕ, List, [], ◌∷◌, Bool, true, false, Option, Some, None, decimal, if◌then◌else◌, ◌&&◌}
-use Rattle.jsgen_tree.specs.Atom.{Atom, no_value, text, units, flag, numeric_kind, declaration_kind, binary_operator, logical_operator, unary_operator, update_operator, property_kind}
+use Rattle.jsgen_tree.specs.Atom.{Atom, no_value, text, units, flag, numeric_kind, declaration_kind, binary_operator, logical_operator, unary_operator, update_operator, assignment_operator, property_kind}
 use Rattle.std.specs.Option.{option_map_or}
 use Rattle.jsgen_tree.specs.Number.{NumericKind, Whole, Raw}
 use Rattle.jsgen_tree.specs.Tree.{Tree, node, Slots, no_slots, one, maybe, many, maybe_many, Maybe, absent, given, Trees, no_trees, more, hole, MaybeTrees, no_list, listed, Atoms}
 use Rattle.jsgen_tree.specs.declared.types.NodeType.TheVariants as types
 use Rattle.jsgen_tree.specs.Places.{bare, absent_values}
-use Rattle.jsgen_tree.specs.Values.{directive_directive, variable_declaration_kind, binding_identifier_name, identifier_reference_name, identifier_name_name, boolean_literal_value, numeric_literal_kind, numeric_literal_digits, numeric_literal_text, string_literal_value, binary_expression_operator, logical_expression_operator, unary_expression_operator, update_expression_operator, update_expression_prefix, variable_declaration_declare, variable_declarator_definite, static_member_expression_optional, computed_member_expression_optional, call_expression_optional, object_property_kind, object_property_method, object_property_shorthand, object_property_computed}
+use Rattle.jsgen_tree.specs.Values.{directive_directive, variable_declaration_kind, binding_identifier_name, identifier_reference_name, identifier_name_name, boolean_literal_value, numeric_literal_kind, numeric_literal_digits, numeric_literal_text, string_literal_value, binary_expression_operator, logical_expression_operator, unary_expression_operator, update_expression_operator, update_expression_prefix, assignment_expression_operator, variable_declaration_declare, variable_declarator_definite, static_member_expression_optional, computed_member_expression_optional, call_expression_optional, object_property_kind, object_property_method, object_property_shorthand, object_property_computed}
 use Rattle.jsgen_syntax.specs.Raw.{directive_value}
 use Rattle.jsgen_syntax.specs.declared.operator.LogicalOperator.{LogicalOperator}
 use Rattle.jsgen_syntax.specs.declared.operator.LogicalOperator.TheVariants.{Or, And, Coalesce}
@@ -71,6 +71,19 @@ abbrev pub links : LogicalOperator → Tree → Trees
 links o (chain a operands) = if same_operator o (logical_expression_operator a) then operands else more (chain a operands) no_trees
 links o t = more t no_trees
 
+-- ---- sequences
+
+-- what a part adds to a sequence: a sequence adds its own parts
+abbrev pub parts_of : Tree → Trees
+parts_of (tree.sequence a expressions) = expressions
+parts_of t = more t no_trees
+
+-- the parts of each, one after another
+abbrev pub flattened : Trees → Trees
+flattened no_trees = no_trees
+flattened (more t ts) = joined (parts_of t) (flattened ts)
+flattened (hole ts) = hole (flattened ts)
+
 -- a block round one statement that ends in an `if` without `else`, where such a statement couldn't stand by itself
 abbrev pub unbraced : Tree → Tree
 unbraced (tree.block a (more s no_trees)) = if ends_open s then s else tree.block a (more s no_trees)
@@ -81,7 +94,7 @@ abbrev pub is_proto_shorthand : Bool → Tree → Bool
 is_proto_shorthand shorthand key = option_map_or is_proto (written_name_in key) false && shorthand
 
 -- Parentheses, spans, the source and the kind of a program are away, and whether a call or `new` is pure; a directive is its value; a
--- whole number is its digits; a chain of one logical operator is one list, however it was grouped; braces round a consequent
+-- whole number is its digits; a chain of one logical operator is one list, however it was grouped, and so is a sequence; braces round a consequent
 -- that ends in an `if` without `else` are away; a property that its value alone says is written out, but for `__proto__`.
 abbrev mutual
   pub normal : Tree → Tree
@@ -116,6 +129,9 @@ abbrev mutual
   normal (tree.new_target a) = tree.new_target (nothing_of 0)
   normal (tree.object_expression a properties) = tree.object_expression (nothing_of 0) (normal_trees properties)
   normal (tree.object_property a key value) = tree.object_property (bare (property_kind (object_property_kind a) ∷ object_property_method a ∷ flag (is_proto_shorthand (object_property_shorthand a) key) ∷ flag (object_property_computed a) ∷ [])) (normal key) (normal value)
+  normal (tree.conditional a test consequent alternate) = tree.conditional (nothing_of 0) (normal test) (normal consequent) (normal alternate)
+  normal (tree.sequence a expressions) = tree.sequence (nothing_of 0) (flattened (normal_trees expressions))
+  normal (tree.assignment a left right) = tree.assignment (bare (assignment_operator (assignment_expression_operator a) ∷ [])) (normal left) (normal right)
   normal (node type a slots) = node type (bare a.values) (normal_slots slots)
 
   pub normal_slots : Slots → Slots

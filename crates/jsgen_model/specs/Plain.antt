@@ -70,6 +70,9 @@ is_plain_row (tree.super a) = true
 is_plain_row (tree.new_target a) = true
 is_plain_row (tree.object_expression a properties) = has_no_hole properties
 is_plain_row (tree.object_property a key value) = is_absent (object_property_method a)
+is_plain_row (tree.conditional a test consequent alternate) = true
+is_plain_row (tree.sequence a expressions) = has_no_hole expressions
+is_plain_row (tree.assignment a left right) = true
 is_plain_row t = false
 
 abbrev pub IsPlain : Tree → Type 0

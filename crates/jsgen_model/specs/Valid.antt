@@ -75,6 +75,11 @@ abbrev pub declaration_faults : Span → Trees → List TreeFault
 declaration_faults s no_trees = faults.Place s.start ∷ []
 declaration_faults s ts = []
 
+-- a sequence has two parts or more (ECMA-262, 13.16)
+abbrev pub sequence_faults : Span → Trees → List TreeFault
+sequence_faults s (more t (more u ts)) = []
+sequence_faults s ts = faults.Place s.start ∷ []
+
 -- what `if` and `else` are followed by is no lexical declaration (ECMA-262, 14.6)
 abbrev pub is_lexical_type : NodeType → Bool
 is_lexical_type types.VariableDeclaration = true
@@ -154,6 +159,7 @@ own_faults around (tree.identifier_reference a) = name_faults a.span (identifier
 own_faults around (tree.if_statement a test consequent alternate) = body_faults consequent ++ alternate_faults alternate
 own_faults around (tree.identifier_name a) = written_name_faults a.span (identifier_name_name a)
 own_faults around (tree.object_property a key value) = key_faults (object_property_computed a) key ++ shorthand_faults (object_property_shorthand a) key value
+own_faults around (tree.sequence a expressions) = sequence_faults a.span expressions
 own_faults around t = []
 
 -- `super` is an expression that a link follows (ECMA-262, 13.3.7)

@@ -8,3 +8,6 @@ pub mod Parts
 pub mod Prefixes
 pub mod Constructions
 pub mod Updates
+pub mod Conditionals
+pub mod Enclosed
+pub mod Given

@@ -40,7 +40,7 @@ expression_past_1 (expressions.ArrayExpression b) later no_0 no_1 = absurd (no_0
 expression_past_1 (expressions.ObjectExpression b) later no_0 no_1 = absurd (no_1 b refl)
 expression_past_1 n later no_0 no_1 = refl
 
-pub expression_past_2 : {N : Type 0} (n : Expression N) → nat_le 2 (expression_part n) ≡ true → IsNot n expressions.UnaryExpression → IsNot n expressions.NewTarget → IsNot n expressions.UpdateExpression → IsNot n expressions.NewExpression → IsNot n expressions.Super → ⊥
+pub expression_past_2 : {N : Type 0} (n : Expression N) → nat_le 2 (expression_part n) ≡ true → IsNot n expressions.UnaryExpression → IsNot n expressions.NewTarget → IsNot n expressions.UpdateExpression → IsNot n expressions.NewExpression → IsNot n expressions.Super → nat_le 3 (expression_part n) ≡ true
 expression_past_2 (expressions.IdentifierReference b) later no_0 no_1 no_2 no_3 no_4 = let no : false ≡ true = later in cc
 expression_past_2 (expressions.ThisExpression b) later no_0 no_1 no_2 no_3 no_4 = let no : false ≡ true = later in cc
 expression_past_2 (expressions.NullLiteral b) later no_0 no_1 no_2 no_3 no_4 = let no : false ≡ true = later in cc
@@ -60,6 +60,31 @@ expression_past_2 (expressions.NewTarget b) later no_0 no_1 no_2 no_3 no_4 = abs
 expression_past_2 (expressions.UpdateExpression b) later no_0 no_1 no_2 no_3 no_4 = absurd (no_2 b refl)
 expression_past_2 (expressions.NewExpression b) later no_0 no_1 no_2 no_3 no_4 = absurd (no_3 b refl)
 expression_past_2 (expressions.Super b) later no_0 no_1 no_2 no_3 no_4 = absurd (no_4 b refl)
+expression_past_2 n later no_0 no_1 no_2 no_3 no_4 = refl
+
+pub expression_past_3 : {N : Type 0} (n : Expression N) → nat_le 3 (expression_part n) ≡ true → IsNot n expressions.ConditionalExpression → IsNot n expressions.SequenceExpression → IsNot n expressions.AssignmentExpression → ⊥
+expression_past_3 (expressions.IdentifierReference b) later no_0 no_1 no_2 = let no : false ≡ true = later in cc
+expression_past_3 (expressions.ThisExpression b) later no_0 no_1 no_2 = let no : false ≡ true = later in cc
+expression_past_3 (expressions.NullLiteral b) later no_0 no_1 no_2 = let no : false ≡ true = later in cc
+expression_past_3 (expressions.BooleanLiteral b) later no_0 no_1 no_2 = let no : false ≡ true = later in cc
+expression_past_3 (expressions.NumericLiteral b) later no_0 no_1 no_2 = let no : false ≡ true = later in cc
+expression_past_3 (expressions.StringLiteral b) later no_0 no_1 no_2 = let no : false ≡ true = later in cc
+expression_past_3 (expressions.ParenthesizedExpression b) later no_0 no_1 no_2 = let no : false ≡ true = later in cc
+expression_past_3 (expressions.BinaryExpression b) later no_0 no_1 no_2 = let no : false ≡ true = later in cc
+expression_past_3 (expressions.LogicalExpression b) later no_0 no_1 no_2 = let no : false ≡ true = later in cc
+expression_past_3 (expressions.StaticMemberExpression b) later no_0 no_1 no_2 = let no : false ≡ true = later in cc
+expression_past_3 (expressions.ComputedMemberExpression b) later no_0 no_1 no_2 = let no : false ≡ true = later in cc
+expression_past_3 (expressions.CallExpression b) later no_0 no_1 no_2 = let no : false ≡ true = later in cc
+expression_past_3 (expressions.ArrayExpression b) later no_0 no_1 no_2 = let no : false ≡ true = later in cc
+expression_past_3 (expressions.ObjectExpression b) later no_0 no_1 no_2 = let no : false ≡ true = later in cc
+expression_past_3 (expressions.UnaryExpression b) later no_0 no_1 no_2 = let no : false ≡ true = later in cc
+expression_past_3 (expressions.NewTarget b) later no_0 no_1 no_2 = let no : false ≡ true = later in cc
+expression_past_3 (expressions.UpdateExpression b) later no_0 no_1 no_2 = let no : false ≡ true = later in cc
+expression_past_3 (expressions.NewExpression b) later no_0 no_1 no_2 = let no : false ≡ true = later in cc
+expression_past_3 (expressions.Super b) later no_0 no_1 no_2 = let no : false ≡ true = later in cc
+expression_past_3 (expressions.ConditionalExpression b) later no_0 no_1 no_2 = absurd (no_0 b refl)
+expression_past_3 (expressions.SequenceExpression b) later no_0 no_1 no_2 = absurd (no_1 b refl)
+expression_past_3 (expressions.AssignmentExpression b) later no_0 no_1 no_2 = absurd (no_2 b refl)
 
 pub statement_past_0 : {N : Type 0} (n : Statement N) → IsNot n statements.Declaration → nat_le 1 (statement_part n) ≡ true
 statement_past_0 (statements.Declaration b) no_0 = absurd (no_0 b refl)

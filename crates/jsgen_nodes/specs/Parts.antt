@@ -26,6 +26,9 @@ expression_part (expression.NewTarget b) = 2
 expression_part (expression.UpdateExpression b) = 2
 expression_part (expression.NewExpression b) = 2
 expression_part (expression.Super b) = 2
+expression_part (expression.ConditionalExpression b) = 3
+expression_part (expression.SequenceExpression b) = 3
+expression_part (expression.AssignmentExpression b) = 3
 
 abbrev pub statement_part : {N : Type 0} → Statement N → ℕ
 statement_part (statement.Declaration b) = 0

@@ -18,11 +18,13 @@ use Rattle.jsgen_syntax.specs.declared.operator.UnaryOperator.{UnaryOperator}
 use Rattle.jsgen_syntax.specs.declared.operator.UnaryOperator.TheVariants as unary_operators
 use Rattle.jsgen_syntax.specs.declared.operator.UpdateOperator.{UpdateOperator}
 use Rattle.jsgen_syntax.specs.declared.operator.UpdateOperator.TheVariants as update_operators
+use Rattle.jsgen_syntax.specs.declared.operator.AssignmentOperator.{AssignmentOperator}
+use Rattle.jsgen_syntax.specs.declared.operator.AssignmentOperator.TheVariants as assignment_operators
 use Rattle.jsgen_tree.specs.Tree.{Tree, Trees}
-use Rattle.jsgen_model.specs.Punctuator.{Punctuator, dot, plus, minus, plus_plus, minus_minus, bang, tilde, star_star, and_and, or_or, nullish, semicolon, Bracket, Round, Square, Brace, opening, closing}
+use Rattle.jsgen_model.specs.Punctuator.{Punctuator, dot, plus, minus, plus_plus, minus_minus, bang, tilde, comma, star_star, and_and, or_or, nullish, question, semicolon, Bracket, Round, Square, Brace, opening, closing}
 use Rattle.jsgen_model.specs.Numbers.{spells_number}
 use Rattle.jsgen_model.specs.Tokens.{Tokens, done, piece, group, ◌⧺◌, Piece, Word, Number, Quoted, Sign, piece_text, is_blank, longer_stands, longer_number_stands, AreTokensOf}
-use Rattle.jsgen_model.specs.Grammar.{Allowed, Level, operator_piece, unary_piece, update_sign, ReadsExpression, ReadsBinding, ReadsDeclarator, ReadsDeclarators, ReadsDeclaration, EndsBy, ReadsStatement, ReadsItem, ReadsStatements, ReadsBody, ReadsModule, a_module}
+use Rattle.jsgen_model.specs.Grammar.{Allowed, Level, operator_piece, unary_piece, update_sign, assignment_sign, ReadsExpression, ReadsBinding, ReadsDeclarator, ReadsDeclarators, ReadsDeclaration, EndsBy, ReadsStatement, ReadsItem, ReadsStatements, ReadsBody, ReadsModule, a_module}
 use Rattle.jsgen_model.specs.Grammar as grammar
 use Rattle.jsgen_token_laws.proofs.Characters.{any_append}
 use Rattle.jsgen_token_laws.proofs.Plain.{all_plain}
@@ -219,6 +221,24 @@ update_goes : (o : UpdateOperator) (m : Bool) → goes_on (piece m (Sign (update
 update_goes update_operators.Increment m = refl
 update_goes update_operators.Decrement m = refl
 
+assignment_joins : (o : AssignmentOperator) (m : Bool) (b : Tokens) → goes_on (piece m (Sign (assignment_sign o)) b) ≡ true
+assignment_joins assignment_operators.Assign m b = refl
+assignment_joins assignment_operators.Addition m b = refl
+assignment_joins assignment_operators.Subtraction m b = refl
+assignment_joins assignment_operators.Multiplication m b = refl
+assignment_joins assignment_operators.Division m b = refl
+assignment_joins assignment_operators.Remainder m b = refl
+assignment_joins assignment_operators.Exponential m b = refl
+assignment_joins assignment_operators.ShiftLeft m b = refl
+assignment_joins assignment_operators.ShiftRight m b = refl
+assignment_joins assignment_operators.ShiftRightZeroFill m b = refl
+assignment_joins assignment_operators.BitwiseOR m b = refl
+assignment_joins assignment_operators.BitwiseXOR m b = refl
+assignment_joins assignment_operators.BitwiseAnd m b = refl
+assignment_joins assignment_operators.LogicalOr m b = refl
+assignment_joins assignment_operators.LogicalAnd m b = refl
+assignment_joins assignment_operators.LogicalNullish m b = refl
+
 -- what goes on behind an operand
 pub joined : (ts a b : Tokens) → goes_on b ≡ true → ts ≡ a ⧺ b → starts_well a ≡ true → starts_well ts ≡ true
 joined ts a b j e h = subst (λ x. starts_well x ≡ true) (sym e) (starts_further a b j h)
@@ -231,6 +251,8 @@ element_goes m (group n b i us) ts h = refl
 
 pub expression_starts : {c : Allowed} {l : Level} {ts : Tokens} {t : Tree} → ReadsExpression c l ts t → starts_well ts ≡ true
 expression_starts (grammar.an_assignment r) = expression_starts r
+expression_starts (grammar.a_sequence m e r s) = joined _ _ (piece m (Sign comma) _) refl e (expression_starts r)
+expression_starts (grammar.an_assignment_to o m e r s w) = joined _ _ (piece m (Sign (assignment_sign o)) _) (assignment_joins o m _) e (expression_starts r)
 expression_starts (grammar.a_conditional r) = expression_starts r
 expression_starts (grammar.a_short_circuit r) = expression_starts r
 expression_starts (grammar.a_logical_or r) = expression_starts r
@@ -266,6 +288,7 @@ expression_starts (grammar.a_coalesce r) = expression_starts r
 expression_starts (grammar.a_coalescing m e l r) = joined _ _ (piece m (Sign nullish) _) refl e (expression_starts l)
 expression_starts (grammar.a_coalesced_head r) = expression_starts r
 expression_starts (grammar.a_bit_or_head r) = expression_starts r
+expression_starts (grammar.a_choice m n e r s t) = joined _ _ (piece m (Sign question) _) refl e (expression_starts r)
 expression_starts (grammar.a_unary_operation {mark = m} o r) = unary_starts o m _ (expression_starts r)
 expression_starts (grammar.an_update_before {mark = m} {ts = ts} o r s) = update_starts o m ts (expression_starts r)
 expression_starts (grammar.an_update_behind {a = a} o e r s) = joined _ a (piece false (Sign (update_sign o)) done) (update_goes o false) e (expression_starts r)

@@ -115,6 +115,22 @@ impl Place {
         }
     }
 
+    /// The place of a part of a choice or of a list: calls may stand in it.
+    pub fn part(self, level: Precedence) -> Place
+        ensures { result ≡ record { settings = self.settings; level = level; context = record { forbids_in = self.context.forbids_in; forbids_call = false }; in_list = false; left_operand = false } }
+    {
+        Place {
+            settings: self.settings,
+            level,
+            context: Context {
+                forbids_call: false,
+                ..self.context
+            },
+            in_list: false,
+            left_operand: false,
+        }
+    }
+
     /// The place of what `new` stands before: no call may stand in it.
     pub fn constructed(self) -> Place
         ensures { result ≡ record { settings = self.settings; level = Precedence.New; context = record { forbids_in = self.context.forbids_in; forbids_call = true }; in_list = false; left_operand = false } }
@@ -153,6 +169,20 @@ impl Place {
         ensures { result ≡ nat_le (rank own) (rank self.level) }
     {
         self.level >= own
+    }
+
+    /// Whether a sequence stands in parentheses here.
+    pub fn wraps_sequence(self) -> bool
+        ensures { result ≡ nat_le (rank Precedence.Comma) (rank self.level) }
+    {
+        self.wraps(Precedence::Comma)
+    }
+
+    /// Whether an assignment stands in parentheses here.
+    pub fn wraps_assignment(self) -> bool
+        ensures { result ≡ nat_le (rank Precedence.Assign) (rank self.level) }
+    {
+        self.wraps(Precedence::Assign)
     }
 
     fn is_forbidden(self, operator: BinaryOperator) -> bool

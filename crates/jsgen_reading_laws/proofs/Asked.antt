@@ -79,4 +79,7 @@ asked (family.a_logical_operation v w) = no_string refl refl refl refl refl
 asked (family.a_unary_operation v) = no_string refl refl refl refl refl
 asked (family.an_update s v) = no_string refl refl refl refl refl
 asked (family.a_construction v w) = no_string refl refl refl refl refl
+asked (family.a_choice v w x) = no_string refl refl refl refl refl
+asked (family.a_sequence v w x) = no_string refl refl refl refl refl
+asked (family.an_assignment s v w) = no_string refl refl refl refl refl
 asked family.a_new_target = no_string refl refl refl refl refl

@@ -11,17 +11,19 @@ use Rattle.jsgen_syntax.specs.declared.operator.UnaryOperator.{UnaryOperator}
 use Rattle.jsgen_syntax.specs.declared.operator.UnaryOperator.TheVariants as unary_operators
 use Rattle.jsgen_syntax.specs.declared.operator.UpdateOperator.{UpdateOperator}
 use Rattle.jsgen_syntax.specs.declared.operator.UpdateOperator.TheVariants as update_operators
+use Rattle.jsgen_syntax.specs.declared.operator.AssignmentOperator.{AssignmentOperator}
+use Rattle.jsgen_syntax.specs.declared.operator.AssignmentOperator.TheVariants as assignment_operators
 use Rattle.jsgen_syntax.proofs.Strings.{escaped_value}
 use Rattle.jsgen_tree.specs.Inside.{without_parentheses}
 use Rattle.jsgen_tree.specs.Atom.{units}
 use Rattle.jsgen_tree.specs.Tree.{Tree, Trees, no_trees, more, Atoms}
 use Rattle.jsgen_tree.specs.Places.{bare}
 use Rattle.jsgen_tree.specs.Nodes as tree
-use Rattle.jsgen_model.specs.Punctuator.{dot, star_star, and_and, or_or, nullish, semicolon, Round, Square, opening, closing}
+use Rattle.jsgen_model.specs.Punctuator.{dot, comma, star_star, and_and, or_or, nullish, question, semicolon, Round, Square, opening, closing}
 use Rattle.jsgen_model.specs.Tokens.{Tokens, done, piece, group, ◌⧺◌, Quoted, Sign}
 use Rattle.jsgen_model.specs.Items.{Items, first_string, due_semicolon}
 use Rattle.jsgen_model.specs.Layout.{Pen, layout, written, other_end}
-use Rattle.jsgen_model.specs.Grammar.{Allowed, Level, EndsBy, ReadsExpression, ReadsStatement, ReadsItem, ReadsBody, operator_piece, unary_piece, update_sign, starts_with_directive}
+use Rattle.jsgen_model.specs.Grammar.{Allowed, Level, EndsBy, ReadsExpression, ReadsStatement, ReadsItem, ReadsBody, operator_piece, unary_piece, update_sign, assignment_sign, starts_with_directive}
 use Rattle.jsgen_model.specs.Grammar as grammar
 use Rattle.jsgen_model.specs.Normal.{normal, nothing_of}
 use Rattle.jsgen_model.specs.Spell.{Settings, spell, spell_body, string_in, unless_string, first_statement, among_statements, whole_statement}
@@ -79,8 +81,14 @@ update_goes : (o : UpdateOperator) (m : Bool) (b : Tokens) → Goes (piece m (Si
 update_goes update_operators.Increment m b = tt
 update_goes update_operators.Decrement m b = tt
 
+assignment_goes : (o : AssignmentOperator) (m : Bool) (b : Tokens) → Goes (piece m (Sign (assignment_sign o)) b)
+assignment_goes assignment_operators.Assign m b = tt
+assignment_goes o m b = tt
+
 opens : {c : Allowed} {g : Level} {ts : Tokens} {t : Tree} → ReadsExpression c g ts t → Opens ts t
 opens (grammar.an_assignment r) = opens r
+opens (grammar.a_sequence {a = a} {t = t} m e r s) = opens_behind _ a (piece m (Sign comma) _) t _ e (opens r) tt
+opens (grammar.an_assignment_to {a = a} {t = t} o m e r s w) = opens_behind _ a (piece m (Sign (assignment_sign o)) _) t _ e (opens r) (assignment_goes o m _)
 opens (grammar.a_conditional r) = opens r
 opens (grammar.a_short_circuit r) = opens r
 opens (grammar.a_logical_or r) = opens r
@@ -111,6 +119,7 @@ opens (grammar.a_power {a = a} {l = l} m e r s) = opens_behind _ a (piece m (Sig
 opens (grammar.a_conjunction {a = a} {l = l} m e r s) = opens_behind _ a (piece m (Sign and_and) _) l _ e (opens r) tt
 opens (grammar.a_disjunction {a = a} {l = l} m e r s) = opens_behind _ a (piece m (Sign or_or) _) l _ e (opens r) tt
 opens (grammar.a_coalescing {a = a} {l = l} m e r s) = opens_behind _ a (piece m (Sign nullish) _) l _ e (opens r) tt
+opens (grammar.a_choice {a = a} {x = x} m n e r s t) = opens_behind _ a (piece m (Sign question) _) x _ e (opens r) tt
 opens (grammar.a_named_member {a = a} {o = o} w m n e v r) = opens_behind _ a (piece m (Sign dot) _) o _ e (opens r) tt
 opens (grammar.a_computed_member {a = a} {o = o} m e r s) = opens_behind _ a (group m Square _ done) o _ e (opens r) tt
 opens (grammar.with_arguments {a = a} {f = f} m e r s) = opens_behind _ a (group m Round _ done) f _ e (opens r) tt

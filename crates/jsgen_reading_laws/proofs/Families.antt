@@ -7,7 +7,7 @@ use Rattle.jsgen_tree.specs.Tree.{Tree, node, Maybe, absent, given, Trees, no_tr
 use Rattle.jsgen_tree.specs.Nodes as tree
 use Rattle.jsgen_tree.specs.Values.{as_text, program_kind, directive_directive, binding_identifier_name, identifier_reference_name, identifier_name_name, numeric_literal_kind, string_literal_value, variable_declaration_declare, variable_declarator_definite, static_member_expression_optional, computed_member_expression_optional, call_expression_optional, object_property_method, object_property_shorthand, object_property_computed}
 use Rattle.jsgen_tree.specs.Everywhere.{EverywhereIfGiven, EverywhereInTrees}
-use Rattle.jsgen_tree.specs.Sets.{in_set, is_expression, is_argument, is_statement, is_binding_pattern, is_variable_declarator, is_identifier_name, is_directive, is_simple_assignment_target, is_object_property_kind}
+use Rattle.jsgen_tree.specs.Sets.{in_set, is_expression, is_argument, is_statement, is_binding_pattern, is_variable_declarator, is_identifier_name, is_directive, is_simple_assignment_target, is_assignment_target, is_object_property_kind}
 use Rattle.jsgen_tree.specs.declared.types.NodeType.{NodeType}
 use Rattle.jsgen_tree.specs.declared.types.NodeType.TheVariants as types
 use Rattle.jsgen_tree.specs.declared.types.NodeSet.{NodeSet}
@@ -20,7 +20,7 @@ use Rattle.jsgen_model.specs.declared.fault.TreeFault.TheVariants as faults
 use Rattle.jsgen_model.specs.Grammar.{Allowed, in_module}
 use Rattle.jsgen_model.specs.Plain.{IsPlain, is_plain_row, is_module, is_whole, is_raw, is_absent, has_no_hole}
 use Rattle.jsgen_model.specs.Normal.{or_none, directive_units}
-use Rattle.jsgen_model.specs.Valid.{Surroundings, ChildPlace, takes_super, is_super, may_stand, breaches, in_maybe, in_trees, fault_if, set_faults, span_faults, own_faults, body_faults, name_faults, directive_faults, written_name_faults, declaration_faults, is_literal_key, key_faults, shorthand_faults}
+use Rattle.jsgen_model.specs.Valid.{Surroundings, ChildPlace, takes_super, is_super, may_stand, breaches, in_maybe, in_trees, fault_if, set_faults, span_faults, own_faults, body_faults, name_faults, directive_faults, written_name_faults, declaration_faults, sequence_faults, is_literal_key, key_faults, shorthand_faults}
 
 mutual
   -- what a link goes on from
@@ -45,8 +45,16 @@ mutual
     a_new_target : {c : Allowed} {a : Atoms} → IsExpression c (tree.new_target a)
     an_operation : {c : Allowed} {a : Atoms} {l r : Tree} → IsExpression c l → IsExpression c r → IsExpression c (tree.binary a l r)
     a_logical_operation : {c : Allowed} {a : Atoms} {l r : Tree} → IsExpression c l → IsExpression c r → IsExpression c (tree.logical a l r)
+    a_choice : {c : Allowed} {a : Atoms} {x y z : Tree} → IsExpression c x → IsExpression c y → IsExpression c z → IsExpression c (tree.conditional a x y z)
+    a_sequence : {c : Allowed} {a : Atoms} {t u : Tree} {ts : Trees} → IsExpression c t → IsExpression c u → AreParts c ts → IsExpression c (tree.sequence a (more t (more u ts)))
+    an_assignment : {c : Allowed} {a : Atoms} {t u : Tree} → is_simple_assignment_target (type_of t) ≡ true → IsExpression c t → IsExpression c u → IsExpression c (tree.assignment a t u)
     an_array : {c : Allowed} {a : Atoms} {es : Trees} → AreElements c es → IsExpression c (tree.array a es)
     an_object : {c : Allowed} {a : Atoms} {ps : Trees} → AreProperties c ps → IsExpression c (tree.object_expression a ps)
+
+  -- the parts of a sequence behind its first two
+  pub data AreParts : Allowed → Trees → Type 0 where
+    no_part : {c : Allowed} → AreParts c no_trees
+    first_part : {c : Allowed} {t : Tree} {ts : Trees} → IsExpression c t → AreParts c ts → AreParts c (more t ts)
 
   pub data AreProperties : Allowed → Trees → Type 0 where
     no_property : {c : Allowed} → AreProperties c no_trees
@@ -194,6 +202,13 @@ target_stands types.StaticMemberExpression h = refl
 target_stands types.ComputedMemberExpression h = refl
 target_stands type h = absurd (no_truth h)
 
+-- what may be given a value may be changed as it stands
+target_is_simple : (type : NodeType) → is_assignment_target type ≡ true → is_simple_assignment_target type ≡ true
+target_is_simple types.IdentifierReference h = refl
+target_is_simple types.StaticMemberExpression h = refl
+target_is_simple types.ComputedMemberExpression h = refl
+target_is_simple type h = absurd (no_truth h)
+
 -- what a link goes on from is `super`, or may stand anywhere
 link_valid : (c : Allowed) (t : Tree) → IsPlain t → may_stand sets.Link (type_of t) ≡ true → (may_stand sets.Expression (type_of t) ≡ true → IsExpression c t) → IsLink c t
 link_valid c (tree.super a) p s f = a_super
@@ -274,7 +289,36 @@ mutual
   expression_valid c around (tree.object_expression a ps) p s e =
       let j = none_both (in_trees around (place_of sets.ObjectPropertyKind around ∷ []) ps) [] (parts (span_faults a.span) [] _ e).1 in
       an_object (properties_valid c around ps p.0 p.1.0 j.0)
+  expression_valid c around (tree.conditional a x y z) p s e =
+      let k = standing around sets.Expression x _ (parts (span_faults a.span) [] _ e).1 in
+      let j = standing around sets.Expression y _ k.2 in
+      let i = standing around sets.Expression z [] j.2 in
+      a_choice (expression_valid c around x p.1.0 k.0 k.1) (expression_valid c around y p.1.1.0 j.0 j.1) (expression_valid c around z p.1.1.1.0 i.0 i.1)
+  expression_valid c around (tree.sequence a ts) p s e =
+      let h = parts (span_faults a.span) (sequence_faults a.span ts) _ e in
+      let j = none_both (in_trees around (place_of sets.Expression around ∷ []) ts) [] h.1 in
+      sequence_valid c around a ts p.0 p.1.0 h.0 j.0
+  expression_valid c around (tree.assignment a t u) p s e =
+      let k = placed around sets.AssignmentTarget t _ (parts (span_faults a.span) [] _ e).1 in
+      let j = standing around sets.Expression u [] k.2 in
+      let i = target_is_simple (type_of t) k.0 in
+      an_assignment i (expression_valid c around t p.1.0 (target_stands (type_of t) i) k.1) (expression_valid c around u p.1.1.0 j.0 j.1)
   expression_valid c around t p s e = absurd (search no_truth)
+
+  sequence_valid : (c : Allowed) (around : Surroundings) (a : Atoms) (ts : Trees) → has_no_hole ts ≡ true → EverywhereInTrees is_plain_row ts → sequence_faults a.span ts ≡ [] → in_trees around (place_of sets.Expression around ∷ []) ts ≡ [] → IsExpression c (tree.sequence a ts)
+  sequence_valid c around a (more t (more u ts)) n p f e =
+      let k = standing around sets.Expression t _ e in
+      let j = standing around sets.Expression u _ k.2 in
+      a_sequence (expression_valid c around t p.0 k.0 k.1) (expression_valid c around u p.1.0 j.0 j.1) (parts_valid c around ts n p.1.1 j.2)
+  sequence_valid c around a no_trees n p f e = absurd (cc)
+  sequence_valid c around a (more t no_trees) n p f e = absurd (cc)
+  sequence_valid c around a (more t (hole ts)) n p f e = absurd (no_truth n)
+  sequence_valid c around a (hole ts) n p f e = absurd (no_truth n)
+
+  parts_valid : (c : Allowed) (around : Surroundings) (ts : Trees) → has_no_hole ts ≡ true → EverywhereInTrees is_plain_row ts → in_trees around (place_of sets.Expression around ∷ []) ts ≡ [] → AreParts c ts
+  parts_valid c around no_trees n p e = no_part
+  parts_valid c around (more t ts) n p e = let k = standing around sets.Expression t _ e in first_part (expression_valid c around t p.0 k.0 k.1) (parts_valid c around ts n p.1 k.2)
+  parts_valid c around (hole ts) n p e = absurd (no_truth n)
 
   arguments_valid : (c : Allowed) (around : Surroundings) (es : Trees) → has_no_hole es ≡ true → EverywhereInTrees is_plain_row es → in_trees around (place_of sets.Argument around ∷ []) es ≡ [] → AreArguments c es
   arguments_valid c around no_trees n p e = no_argument

@@ -2,11 +2,13 @@ pub mod Levels
 pub mod Families
 pub mod Numbers
 pub mod Names
+pub mod Freed
 pub mod Good
 pub mod Lists
 pub mod Elements
 pub mod Asked
 pub mod Operations
+pub mod Joined
 pub mod Chains
 pub mod Prefixes
 pub mod Links
@@ -14,6 +16,9 @@ pub mod Properties
 pub mod Collections
 pub mod Constructions
 pub mod Updates
+pub mod Choices
+pub mod Sequences
+pub mod Assignments
 pub mod Expressions
 pub mod Ends
 pub mod Stands

@@ -22,7 +22,7 @@ use Rattle.jsgen_token_laws.proofs.Characters.{letters_spelled}
 use Rattle.jsgen_token_laws.proofs.Last.{Last, Open, After, line_of, Operand, Ready, begun_ready, Knows}
 use Rattle.jsgen_token_laws.proofs.Writes.{Writes, wrote_none, wrote_both}
 use Rattle.jsgen_token_laws.proofs.Steps.{wrote_word, wrote_name, wrote_dot, wrote_dots, within_brackets, brackets_written}
-use Rattle.jsgen_reading_laws.proofs.Levels.{number_of, operation_number, left_hand_side, level_of, under, weaken_member, lifted, unwrapped, from_left}
+use Rattle.jsgen_reading_laws.proofs.Levels.{number_of, operation_number, left_hand_side, level_of, under, weaken_member, read_left, lifted, unwrapped, from_left}
 use Rattle.jsgen_reading_laws.proofs.Good.{Good, Printed, TargetPrinted, may_begin, begins_then, line_then, good_wrapped}
 use Rattle.jsgen_reading_laws.proofs.Prefixes.{word_begins}
 use Rattle.jsgen_reading_laws.proofs.Lists.{Elements, ElementAt, MoreAt, Joins, no_more, one_more, whole_list}
@@ -121,6 +121,7 @@ named_target c a b o m h f place p l z y k =
       },
       refl,
       refl,
+      read_left place.context.forbids_call (g.named w v (line_of g.last) false x),
     )
 
 pub good_named_member : (c : Allowed) (a b : Atoms) (o : Tree) → static_member_expression_optional a ≡ no_value → spells_name (identifier_name_name b) ≡ true → LinkPrinted c o → Printed c (tree.static_member a o (tree.identifier_name b))
@@ -129,7 +130,7 @@ good_named_member c a b o m h f place p l z y k = (named_target c a b o m h f pl
 same_member : (a : Atoms) (u v x y : Tree) → computed_member_expression_optional a ≡ no_value → normal u ≡ normal x → normal v ≡ normal y → normal (tree.computed_member (nothing_of 1) u v) ≡ normal (tree.computed_member a x y)
 same_member a u v x y m e f = λ i. tree.computed_member (bare (sym m i ∷ [])) (e i) (f i)
 
-computed_parts : (c : Allowed) (a : Atoms) (o x : Tree) (place : Place) (p p1 q : Pen) (l : Last) → computed_member_expression_optional a ≡ no_value → (g : Linkable p l p1 (under place c) place.context.forbids_call place.start o) → Good (written (opening Square) other_end p1) (Open false) q (with_in c) grammar.Expression (in_brackets levels.Lowest place).start x → (r : Good p l (written (closing Square) other_end q) (under place c) (level_of place) place.start (tree.computed_member a o x)) × (simple_target r.tree ≡ Some r.tree) × (line_of r.last ≡ false)
+computed_parts : (c : Allowed) (a : Atoms) (o x : Tree) (place : Place) (p p1 q : Pen) (l : Last) → computed_member_expression_optional a ≡ no_value → (g : Linkable p l p1 (under place c) place.context.forbids_call place.start o) → Good (written (opening Square) other_end p1) (Open false) q (with_in c) grammar.Expression (in_brackets levels.Lowest place).start x → (r : Good p l (written (closing Square) other_end q) (under place c) (level_of place) place.start (tree.computed_member a o x)) × (simple_target r.tree ≡ Some r.tree) × (line_of r.last ≡ false) × ReadsExpression (under place c) grammar.LeftHandSide r.tokens r.tree
 computed_parts c a o x place p p1 q l m g h = (
   record {
     last = Open false;
@@ -145,6 +146,7 @@ computed_parts c a o x place p p1 q l m g h = (
   },
   refl,
   refl,
+  read_left place.context.forbids_call (g.computed (line_of g.last) h.tokens h.tree h.reads),
 )
 
 pub computed_target : (c : Allowed) (a : Atoms) (o x : Tree) → computed_member_expression_optional a ≡ no_value → LinkPrinted c o → Printed c x → TargetPrinted c (tree.computed_member a o x)

@@ -5,6 +5,7 @@ use Rattle.std.proofs.Common.{Box, None, Some}
 use Rattle.jsgen_tree.specs.declared.sets.Argument.{Argument}
 use Rattle.jsgen_tree.specs.declared.sets.ArrayExpressionElement.{ArrayExpressionElement}
 use Rattle.jsgen_tree.specs.declared.sets.SimpleAssignmentTarget.{SimpleAssignmentTarget}
+use Rattle.jsgen_tree.specs.declared.sets.AssignmentTarget.{AssignmentTarget}
 use Rattle.jsgen_tree.specs.declared.sets.ObjectPropertyKind.{ObjectPropertyKind}
 use Rattle.jsgen_tree.specs.declared.sets.PropertyKey.{PropertyKey}
 use Rattle.jsgen_tree.specs.declared.nodes.ExpressionNode.{ExpressionNode}
@@ -18,9 +19,11 @@ use Rattle.jsgen_tree.specs.declared.expressions.ComputedMemberExpression.{Compu
 use Rattle.jsgen_tree.specs.declared.collections.SpreadElement.{SpreadElement}
 use Rattle.jsgen_tree.specs.declared.collections.ObjectProperty.{ObjectProperty}
 use Rattle.jsgen_tree.specs.declared.operations.UpdateExpression.{UpdateExpression}
+use Rattle.jsgen_tree.specs.declared.assignments.AssignmentExpression.{AssignmentExpression}
 use Rattle.jsgen_tree.specs.declared.sets.Argument.TheVariants as arguments
 use Rattle.jsgen_tree.specs.declared.sets.ArrayExpressionElement.TheVariants as array_expression_elements
 use Rattle.jsgen_tree.specs.declared.sets.SimpleAssignmentTarget.TheVariants as simple_assignment_targets
+use Rattle.jsgen_tree.specs.declared.sets.AssignmentTarget.TheVariants as assignment_targets
 use Rattle.jsgen_tree.specs.declared.sets.ObjectPropertyKind.TheVariants as object_property_kinds
 use Rattle.jsgen_tree.specs.declared.sets.PropertyKey.TheVariants as property_keys
 
@@ -38,6 +41,11 @@ pub with_simple_assignment_target : {N : Type 0} (P : SimpleAssignmentTarget N �
 with_simple_assignment_target P of_identifier_reference of_static_member_expression of_computed_member_expression (simple_assignment_targets.IdentifierReference b) = of_identifier_reference b
 with_simple_assignment_target P of_identifier_reference of_static_member_expression of_computed_member_expression (simple_assignment_targets.StaticMemberExpression b) = of_static_member_expression b
 with_simple_assignment_target P of_identifier_reference of_static_member_expression of_computed_member_expression (simple_assignment_targets.ComputedMemberExpression b) = of_computed_member_expression b
+
+pub with_assignment_target : {N : Type 0} (P : AssignmentTarget N → Type 0) → ((b : Box IdentifierReference Global) → P (assignment_targets.IdentifierReference b)) → ((b : Box (StaticMemberExpression N) Global) → P (assignment_targets.StaticMemberExpression b)) → ((b : Box (ComputedMemberExpression N) Global) → P (assignment_targets.ComputedMemberExpression b)) → (n : AssignmentTarget N) → P n
+with_assignment_target P of_identifier_reference of_static_member_expression of_computed_member_expression (assignment_targets.IdentifierReference b) = of_identifier_reference b
+with_assignment_target P of_identifier_reference of_static_member_expression of_computed_member_expression (assignment_targets.StaticMemberExpression b) = of_static_member_expression b
+with_assignment_target P of_identifier_reference of_static_member_expression of_computed_member_expression (assignment_targets.ComputedMemberExpression b) = of_computed_member_expression b
 
 pub with_object_property_kind : {N : Type 0} (P : ObjectPropertyKind N → Type 0) → ((b : Box (ObjectProperty N) Global) → P (object_property_kinds.ObjectProperty b)) → ((b : Box (SpreadElement N) Global) → P (object_property_kinds.SpreadElement b)) → (n : ObjectPropertyKind N) → P n
 with_object_property_kind P of_object_property of_spread_element (object_property_kinds.ObjectProperty b) = of_object_property b
@@ -63,3 +71,6 @@ boxed_object_property_by_key P of_identifier_name of_expression n = elim n.value
 
 pub update_expression_by_argument : {N : Type 0} (P : UpdateExpression N → Type 0) → ((b : Box IdentifierReference Global) (n : UpdateExpression N) → P (record n { argument = (simple_assignment_targets.IdentifierReference b) })) → ((b : Box (StaticMemberExpression N) Global) (n : UpdateExpression N) → P (record n { argument = (simple_assignment_targets.StaticMemberExpression b) })) → ((b : Box (ComputedMemberExpression N) Global) (n : UpdateExpression N) → P (record n { argument = (simple_assignment_targets.ComputedMemberExpression b) })) → (n : UpdateExpression N) → P n
 update_expression_by_argument P of_identifier_reference of_static_member_expression of_computed_member_expression n = elim n.argument as (λ o. P (record n { argument = o })) [ simple_assignment_targets.IdentifierReference b ↦ of_identifier_reference b n | simple_assignment_targets.StaticMemberExpression b ↦ of_static_member_expression b n | simple_assignment_targets.ComputedMemberExpression b ↦ of_computed_member_expression b n ]
+
+pub assignment_expression_by_left : {N : Type 0} (P : AssignmentExpression N → Type 0) → ((b : Box IdentifierReference Global) (n : AssignmentExpression N) → P (record n { left = (assignment_targets.IdentifierReference b) })) → ((b : Box (StaticMemberExpression N) Global) (n : AssignmentExpression N) → P (record n { left = (assignment_targets.StaticMemberExpression b) })) → ((b : Box (ComputedMemberExpression N) Global) (n : AssignmentExpression N) → P (record n { left = (assignment_targets.ComputedMemberExpression b) })) → (n : AssignmentExpression N) → P n
+assignment_expression_by_left P of_identifier_reference of_static_member_expression of_computed_member_expression n = elim n.left as (λ o. P (record n { left = o })) [ assignment_targets.IdentifierReference b ↦ of_identifier_reference b n | assignment_targets.StaticMemberExpression b ↦ of_static_member_expression b n | assignment_targets.ComputedMemberExpression b ↦ of_computed_member_expression b n ]

@@ -35,6 +35,9 @@ of_expression h (expressions.UpdateExpression b) = refl
 of_expression h (expressions.NewExpression b) = refl
 of_expression h (expressions.NewTarget b) = refl
 of_expression h (expressions.Super b) = refl
+of_expression h (expressions.ConditionalExpression b) = refl
+of_expression h (expressions.SequenceExpression b) = refl
+of_expression h (expressions.AssignmentExpression b) = refl
 
 pub expression_is_one : (n : Expression Node) → is_expression (type_of (node_plain (nodes.Expression n))) ≡ true
 expression_is_one n = ap (λ t. is_expression (type_of t)) (plain_expression n) ∙ of_expression node_plain n

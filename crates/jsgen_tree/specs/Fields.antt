@@ -15,6 +15,7 @@ use Rattle.jsgen_syntax.specs.declared.operator.LogicalOperator.TheVariants as l
 use Rattle.jsgen_tree.specs.declared.collections.PropertyKind.TheVariants as property_kinds
 use Rattle.jsgen_syntax.specs.declared.operator.UnaryOperator.TheVariants as unary_operators
 use Rattle.jsgen_syntax.specs.declared.operator.UpdateOperator.TheVariants as update_operators
+use Rattle.jsgen_syntax.specs.declared.operator.AssignmentOperator.TheVariants as assignment_operators
 
 -- ---- words
 
@@ -41,6 +42,9 @@ unary_operator_words = means (codes "+") (atoms.unary_operator unary_operators.U
 
 abbrev pub update_operator_words : List Word
 update_operator_words = means (codes "++") (atoms.update_operator update_operators.Increment) ∷ means (codes "--") (atoms.update_operator update_operators.Decrement) ∷ []
+
+abbrev pub assignment_operator_words : List Word
+assignment_operator_words = means (codes "=") (atoms.assignment_operator assignment_operators.Assign) ∷ means (codes "+=") (atoms.assignment_operator assignment_operators.Addition) ∷ means (codes "-=") (atoms.assignment_operator assignment_operators.Subtraction) ∷ means (codes "*=") (atoms.assignment_operator assignment_operators.Multiplication) ∷ means (codes "/=") (atoms.assignment_operator assignment_operators.Division) ∷ means (codes "%=") (atoms.assignment_operator assignment_operators.Remainder) ∷ means (codes "**=") (atoms.assignment_operator assignment_operators.Exponential) ∷ means (codes "<<=") (atoms.assignment_operator assignment_operators.ShiftLeft) ∷ means (codes ">>=") (atoms.assignment_operator assignment_operators.ShiftRight) ∷ means (codes ">>>=") (atoms.assignment_operator assignment_operators.ShiftRightZeroFill) ∷ means (codes "|=") (atoms.assignment_operator assignment_operators.BitwiseOR) ∷ means (codes "^=") (atoms.assignment_operator assignment_operators.BitwiseXOR) ∷ means (codes "&=") (atoms.assignment_operator assignment_operators.BitwiseAnd) ∷ means (codes "||=") (atoms.assignment_operator assignment_operators.LogicalOr) ∷ means (codes "&&=") (atoms.assignment_operator assignment_operators.LogicalAnd) ∷ means (codes "??=") (atoms.assignment_operator assignment_operators.LogicalNullish) ∷ []
 
 -- ---- fields: one list for each type, in the order of their numbers, from 2 on
 
@@ -137,6 +141,15 @@ new_expression_fields = needs (codes "callee") (sorts.child sets.Expression) ∷
 abbrev pub super_fields : List Field
 super_fields = []
 
+abbrev pub conditional_expression_fields : List Field
+conditional_expression_fields = needs (codes "test") (sorts.child sets.Expression) ∷ needs (codes "consequent") (sorts.child sets.Expression) ∷ needs (codes "alternate") (sorts.child sets.Expression) ∷ []
+
+abbrev pub sequence_expression_fields : List Field
+sequence_expression_fields = may_have (codes "expressions") (sorts.children sets.Expression) ∷ []
+
+abbrev pub assignment_expression_fields : List Field
+assignment_expression_fields = needs (codes "operator") (sorts.word assignment_operator_words) ∷ needs (codes "left") (sorts.child sets.AssignmentTarget) ∷ needs (codes "right") (sorts.child sets.Expression) ∷ []
+
 abbrev pub fields : NodeType → List Field
 fields types.Program = program_fields
 fields types.Directive = directive_fields
@@ -169,3 +182,6 @@ fields types.NewTarget = new_target_fields
 fields types.UpdateExpression = update_expression_fields
 fields types.NewExpression = new_expression_fields
 fields types.Super = super_fields
+fields types.ConditionalExpression = conditional_expression_fields
+fields types.SequenceExpression = sequence_expression_fields
+fields types.AssignmentExpression = assignment_expression_fields

@@ -26,6 +26,9 @@ is_expression types.UpdateExpression = true
 is_expression types.NewExpression = true
 is_expression types.NewTarget = true
 is_expression types.Super = true
+is_expression types.ConditionalExpression = true
+is_expression types.SequenceExpression = true
+is_expression types.AssignmentExpression = true
 is_expression other = false
 
 abbrev pub is_argument : NodeType → Bool
@@ -49,6 +52,9 @@ is_argument types.UpdateExpression = true
 is_argument types.NewExpression = true
 is_argument types.NewTarget = true
 is_argument types.Super = true
+is_argument types.ConditionalExpression = true
+is_argument types.SequenceExpression = true
+is_argument types.AssignmentExpression = true
 is_argument other = false
 
 abbrev pub is_array_expression_element : NodeType → Bool
@@ -72,6 +78,9 @@ is_array_expression_element types.UpdateExpression = true
 is_array_expression_element types.NewExpression = true
 is_array_expression_element types.NewTarget = true
 is_array_expression_element types.Super = true
+is_array_expression_element types.ConditionalExpression = true
+is_array_expression_element types.SequenceExpression = true
+is_array_expression_element types.AssignmentExpression = true
 is_array_expression_element other = false
 
 abbrev pub is_simple_assignment_target : NodeType → Bool
@@ -79,6 +88,12 @@ is_simple_assignment_target types.IdentifierReference = true
 is_simple_assignment_target types.StaticMemberExpression = true
 is_simple_assignment_target types.ComputedMemberExpression = true
 is_simple_assignment_target other = false
+
+abbrev pub is_assignment_target : NodeType → Bool
+is_assignment_target types.IdentifierReference = true
+is_assignment_target types.StaticMemberExpression = true
+is_assignment_target types.ComputedMemberExpression = true
+is_assignment_target other = false
 
 abbrev pub is_object_property_kind : NodeType → Bool
 is_object_property_kind types.ObjectProperty = true
@@ -106,6 +121,9 @@ is_property_key types.UpdateExpression = true
 is_property_key types.NewExpression = true
 is_property_key types.NewTarget = true
 is_property_key types.Super = true
+is_property_key types.ConditionalExpression = true
+is_property_key types.SequenceExpression = true
+is_property_key types.AssignmentExpression = true
 is_property_key other = false
 
 abbrev pub is_declaration : NodeType → Bool
@@ -148,4 +166,5 @@ in_set sets.ArrayExpressionElement t = is_array_expression_element t
 in_set sets.PropertyKey t = is_property_key t
 in_set sets.ObjectPropertyKind t = is_object_property_kind t
 in_set sets.SimpleAssignmentTarget t = is_simple_assignment_target t
+in_set sets.AssignmentTarget t = is_assignment_target t
 in_set sets.Link t = is_expression t

@@ -5,6 +5,7 @@ use Rattle.jsgen_tree.specs.declared.sets.Expression.{Expression}
 use Rattle.jsgen_tree.specs.declared.sets.Argument.{Argument}
 use Rattle.jsgen_tree.specs.declared.sets.ArrayExpressionElement.{ArrayExpressionElement}
 use Rattle.jsgen_tree.specs.declared.sets.SimpleAssignmentTarget.{SimpleAssignmentTarget}
+use Rattle.jsgen_tree.specs.declared.sets.AssignmentTarget.{AssignmentTarget}
 use Rattle.jsgen_tree.specs.declared.sets.ObjectPropertyKind.{ObjectPropertyKind}
 use Rattle.jsgen_tree.specs.declared.sets.PropertyKey.{PropertyKey}
 use Rattle.jsgen_tree.specs.declared.sets.Declaration.{Declaration}
@@ -14,6 +15,7 @@ use Rattle.jsgen_tree.specs.declared.sets.Expression.TheVariants as expression
 use Rattle.jsgen_tree.specs.declared.sets.Argument.TheVariants as argument
 use Rattle.jsgen_tree.specs.declared.sets.ArrayExpressionElement.TheVariants as array_expression_element
 use Rattle.jsgen_tree.specs.declared.sets.SimpleAssignmentTarget.TheVariants as simple_assignment_target
+use Rattle.jsgen_tree.specs.declared.sets.AssignmentTarget.TheVariants as assignment_target
 use Rattle.jsgen_tree.specs.declared.sets.ObjectPropertyKind.TheVariants as object_property_kind
 use Rattle.jsgen_tree.specs.declared.sets.PropertyKey.TheVariants as property_key
 use Rattle.jsgen_tree.specs.declared.sets.Declaration.TheVariants as declaration
@@ -40,6 +42,9 @@ expression_span (expression.UpdateExpression b) = b.value.span
 expression_span (expression.NewExpression b) = b.value.span
 expression_span (expression.NewTarget b) = b.value.span
 expression_span (expression.Super b) = b.value.span
+expression_span (expression.ConditionalExpression b) = b.value.span
+expression_span (expression.SequenceExpression b) = b.value.span
+expression_span (expression.AssignmentExpression b) = b.value.span
 
 abbrev pub argument_span : {N : Type 0} → (N → Span) → Argument N → Span
 argument_span own (argument.SpreadElement b) = b.value.span
@@ -53,6 +58,11 @@ abbrev pub simple_assignment_target_span : {N : Type 0} → SimpleAssignmentTarg
 simple_assignment_target_span (simple_assignment_target.IdentifierReference b) = b.value.span
 simple_assignment_target_span (simple_assignment_target.StaticMemberExpression b) = b.value.span
 simple_assignment_target_span (simple_assignment_target.ComputedMemberExpression b) = b.value.span
+
+abbrev pub assignment_target_span : {N : Type 0} → AssignmentTarget N → Span
+assignment_target_span (assignment_target.IdentifierReference b) = b.value.span
+assignment_target_span (assignment_target.StaticMemberExpression b) = b.value.span
+assignment_target_span (assignment_target.ComputedMemberExpression b) = b.value.span
 
 abbrev pub object_property_kind_span : {N : Type 0} → ObjectPropertyKind N → Span
 object_property_kind_span (object_property_kind.ObjectProperty b) = b.value.span

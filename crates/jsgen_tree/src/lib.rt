@@ -6,6 +6,7 @@
 //! set, as `ExpressionNode`, and is made by `into()` from a member of that set.
 #![tactic(auto)]
 
+mod assignments;
 mod collections;
 mod expressions;
 mod inside;
@@ -21,6 +22,7 @@ mod span;
 mod statements;
 mod types;
 
+pub use assignments::{AssignmentExpression, ConditionalExpression, SequenceExpression};
 pub use collections::{
     ArrayExpression, ObjectExpression, ObjectProperty, PropertyKind, SpreadElement,
 };
@@ -36,8 +38,8 @@ pub use numbers::NumericValue;
 pub use operations::{NewExpression, NewTarget, Super, UnaryExpression, UpdateExpression};
 pub use options::{CodegenOptions, CommentOptions, LegalComment};
 pub use sets::{
-    Argument, ArrayExpressionElement, BindingPattern, Declaration, Expression, ObjectPropertyKind,
-    PropertyKey, SimpleAssignmentTarget, Statement,
+    Argument, ArrayExpressionElement, AssignmentTarget, BindingPattern, Declaration, Expression,
+    ObjectPropertyKind, PropertyKey, SimpleAssignmentTarget, Statement,
 };
 pub use span::GetSpan;
 pub use statements::{

@@ -1,6 +1,7 @@
 // Generated from tools/nodes/table.txt; edit that and run tools/nodes/generate.
 // Sets: what may stand in one place. A set within a set is one variant of the inner one's name.
 
+use crate::assignments::{AssignmentExpression, ConditionalExpression, SequenceExpression};
 use crate::collections::{ArrayExpression, ObjectExpression, ObjectProperty, SpreadElement};
 use crate::expressions::{
     BinaryExpression, BooleanLiteral, CallExpression, ComputedMemberExpression, IdentifierName,
@@ -35,6 +36,9 @@ pub enum Expression<N = Node> {
     NewExpression(Box<NewExpression<N>>),
     NewTarget(Box<NewTarget>),
     Super(Box<Super>),
+    ConditionalExpression(Box<ConditionalExpression<N>>),
+    SequenceExpression(Box<SequenceExpression<N>>),
+    AssignmentExpression(Box<AssignmentExpression<N>>),
 }
 
 /// What a call is given.
@@ -54,6 +58,14 @@ pub enum ArrayExpressionElement<N = Node> {
 /// What may be changed as it stands.
 #[derive(Drop)]
 pub enum SimpleAssignmentTarget<N = Node> {
+    IdentifierReference(Box<IdentifierReference>),
+    StaticMemberExpression(Box<StaticMemberExpression<N>>),
+    ComputedMemberExpression(Box<ComputedMemberExpression<N>>),
+}
+
+/// What may be given a value: so far what may be changed as it stands.
+#[derive(Drop)]
+pub enum AssignmentTarget<N = Node> {
     IdentifierReference(Box<IdentifierReference>),
     StaticMemberExpression(Box<StaticMemberExpression<N>>),
     ComputedMemberExpression(Box<ComputedMemberExpression<N>>),

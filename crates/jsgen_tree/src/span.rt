@@ -3,8 +3,9 @@
 ghost use Rattle.std.specs.Prelude.{◌≡◌};
 ghost use Rattle.jsgen_tree.specs.Tree.{span_of};
 ghost use Rattle.jsgen_tree.specs.Plain.{node_plain};
-ghost use Rattle.jsgen_tree.specs.Spans.{expression_span, argument_span, array_expression_element_span, simple_assignment_target_span, object_property_kind_span, property_key_span, declaration_span, statement_span, binding_pattern_span};
+ghost use Rattle.jsgen_tree.specs.Spans.{expression_span, argument_span, array_expression_element_span, simple_assignment_target_span, assignment_target_span, object_property_kind_span, property_key_span, declaration_span, statement_span, binding_pattern_span};
 
+use crate::assignments::{AssignmentExpression, ConditionalExpression, SequenceExpression};
 use crate::collections::{ArrayExpression, ObjectExpression, ObjectProperty, SpreadElement};
 use crate::expressions::{
     BinaryExpression, BooleanLiteral, CallExpression, ComputedMemberExpression, IdentifierName,
@@ -14,8 +15,8 @@ use crate::expressions::{
 use crate::nodes::Node;
 use crate::operations::{NewExpression, NewTarget, Super, UnaryExpression, UpdateExpression};
 use crate::sets::{
-    Argument, ArrayExpressionElement, BindingPattern, Declaration, Expression, ObjectPropertyKind,
-    PropertyKey, SimpleAssignmentTarget, Statement,
+    Argument, ArrayExpressionElement, AssignmentTarget, BindingPattern, Declaration, Expression,
+    ObjectPropertyKind, PropertyKey, SimpleAssignmentTarget, Statement,
 };
 use crate::statements::{
     BindingIdentifier, BlockStatement, Directive, EmptyStatement, ExpressionStatement, IfStatement,
@@ -281,6 +282,30 @@ impl GetSpan for Super {
     }
 }
 
+impl<N> GetSpan for ConditionalExpression<N> {
+    ghost own_span = { λ n. n.span };
+
+    fn span(&self) -> Span {
+        self.span
+    }
+}
+
+impl<N> GetSpan for SequenceExpression<N> {
+    ghost own_span = { λ n. n.span };
+
+    fn span(&self) -> Span {
+        self.span
+    }
+}
+
+impl<N> GetSpan for AssignmentExpression<N> {
+    ghost own_span = { λ n. n.span };
+
+    fn span(&self) -> Span {
+        self.span
+    }
+}
+
 impl<N> GetSpan for Expression<N> {
     ghost own_span = { λ n. expression_span n };
 
@@ -305,6 +330,9 @@ impl<N> GetSpan for Expression<N> {
             Expression::NewExpression(node) => node.span,
             Expression::NewTarget(node) => node.span,
             Expression::Super(node) => node.span,
+            Expression::ConditionalExpression(node) => node.span,
+            Expression::SequenceExpression(node) => node.span,
+            Expression::AssignmentExpression(node) => node.span,
         }
     }
 }
@@ -339,6 +367,18 @@ impl<N> GetSpan for SimpleAssignmentTarget<N> {
             SimpleAssignmentTarget::IdentifierReference(node) => node.span,
             SimpleAssignmentTarget::StaticMemberExpression(node) => node.span,
             SimpleAssignmentTarget::ComputedMemberExpression(node) => node.span,
+        }
+    }
+}
+
+impl<N> GetSpan for AssignmentTarget<N> {
+    ghost own_span = { λ n. assignment_target_span n };
+
+    fn span(&self) -> Span {
+        match self {
+            AssignmentTarget::IdentifierReference(node) => node.span,
+            AssignmentTarget::StaticMemberExpression(node) => node.span,
+            AssignmentTarget::ComputedMemberExpression(node) => node.span,
         }
     }
 }

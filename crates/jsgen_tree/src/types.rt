@@ -1,7 +1,7 @@
 // Generated from tools/nodes/table.txt; edit that and run tools/nodes/generate.
 // The types of nodes, and the sets that a field's child may be of.
 ghost use Rattle.std.specs.Prelude.{◌≡◌};
-ghost use Rattle.jsgen_tree.specs.Sets.{in_set, is_expression, is_argument, is_array_expression_element, is_simple_assignment_target, is_object_property_kind, is_property_key, is_statement};
+ghost use Rattle.jsgen_tree.specs.Sets.{in_set, is_expression, is_argument, is_array_expression_element, is_simple_assignment_target, is_assignment_target, is_object_property_kind, is_property_key, is_statement};
 
 /// The type of a node.
 #[derive(Clone, Copy, Debug, PartialEq, Eq)]
@@ -37,6 +37,9 @@ pub enum NodeType {
     UpdateExpression,
     NewExpression,
     Super,
+    ConditionalExpression,
+    SequenceExpression,
+    AssignmentExpression,
 }
 
 /// What the child of a field may be: a member of a set, or a node of one type.
@@ -53,6 +56,7 @@ pub enum NodeSet {
     PropertyKey,
     ObjectPropertyKind,
     SimpleAssignmentTarget,
+    AssignmentTarget,
     Link,
 }
 
@@ -73,6 +77,7 @@ impl NodeType {
             NodeSet::PropertyKey => self.is_property_key(),
             NodeSet::ObjectPropertyKind => self.is_object_property_kind(),
             NodeSet::SimpleAssignmentTarget => self.is_simple_assignment_target(),
+            NodeSet::AssignmentTarget => self.is_assignment_target(),
             NodeSet::Link => self.is_expression(),
         }
     }
@@ -102,6 +107,9 @@ impl NodeType {
                 | NodeType::NewExpression
                 | NodeType::NewTarget
                 | NodeType::Super
+                | NodeType::ConditionalExpression
+                | NodeType::SequenceExpression
+                | NodeType::AssignmentExpression
         )
     }
 
@@ -131,6 +139,9 @@ impl NodeType {
                 | NodeType::NewExpression
                 | NodeType::NewTarget
                 | NodeType::Super
+                | NodeType::ConditionalExpression
+                | NodeType::SequenceExpression
+                | NodeType::AssignmentExpression
         )
     }
 
@@ -160,12 +171,27 @@ impl NodeType {
                 | NodeType::NewExpression
                 | NodeType::NewTarget
                 | NodeType::Super
+                | NodeType::ConditionalExpression
+                | NodeType::SequenceExpression
+                | NodeType::AssignmentExpression
         )
     }
 
     /// Whether nodes of this type are in `SimpleAssignmentTarget`.
     pub fn is_simple_assignment_target(self) -> bool
         ensures { result ≡ is_simple_assignment_target self }
+    {
+        matches!(
+            &self,
+            NodeType::IdentifierReference
+                | NodeType::StaticMemberExpression
+                | NodeType::ComputedMemberExpression
+        )
+    }
+
+    /// Whether nodes of this type are in `AssignmentTarget`.
+    pub fn is_assignment_target(self) -> bool
+        ensures { result ≡ is_assignment_target self }
     {
         matches!(
             &self,
@@ -208,6 +234,9 @@ impl NodeType {
                 | NodeType::NewExpression
                 | NodeType::NewTarget
                 | NodeType::Super
+                | NodeType::ConditionalExpression
+                | NodeType::SequenceExpression
+                | NodeType::AssignmentExpression
         )
     }
 
