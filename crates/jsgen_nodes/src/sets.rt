@@ -52,6 +52,7 @@ pub fn print_expression<N: PrintNode>(
             node, p, place,
         ),
         Expression::CallExpression(node) => print_call_expression(node, p, place),
+        Expression::ChainExpression(node) => print_chain_expression(node, p, place),
         _ => print_expression_in_collections(node, p, place),
     }
 }
