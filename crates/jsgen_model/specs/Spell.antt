@@ -238,9 +238,9 @@ abbrev pub chain_wraps : Place → Bool
 chain_wraps place = wraps Postfix place || place.context.forbids_call
 
 -- its links, within the parentheses where the test holds
-abbrev pub within_chain : Bool → Place → Place
-within_chain true place = in_brackets Lowest place
-within_chain false place = place
+abbrev pub chain_place : Bool → Place → Place
+chain_place true place = in_brackets Lowest place
+chain_place false place = place
 
 abbrev pub any_given : Trees → Bool
 any_given no_trees = false
@@ -456,7 +456,7 @@ abbrev mutual
   spell (tree.computed_member a object expression) place = spell object (linked place) ⊕ (bracket_link (computed_member_expression_optional a) ⊕ brackets Square (spell expression (in_brackets Lowest place)))
   spell (tree.call a callee arguments) place =
       wrapped (call_wraps place) (spell callee (called (within (call_wraps place) place)) ⊕ (bracket_link (call_expression_optional a) ⊕ brackets Round (spell_list arguments (in_brackets Comma place))))
-  spell (tree.chain a element) place = wrapped (chain_wraps place) (spell element (within_chain (chain_wraps place) place))
+  spell (tree.chain a element) place = wrapped (chain_wraps place) (spell element (chain_place (chain_wraps place) place))
   spell (tree.spread a argument) place = punctuator ellipsis ⊕ spell argument (in_brackets Comma place)
   -- up to two elements stand on one line
   spell (tree.array a elements) place = brackets Square (on_lines (are_more 2 elements) (spell_elements (are_more 2 elements) elements (in_brackets Comma place) ⊕ comma_if (ends_in_hole elements)))

@@ -16,7 +16,8 @@ use crate::expressions::{
     print_parenthesized_expression, print_string_literal, print_this_expression,
 };
 use crate::links::{
-    print_call_expression, print_computed_member_expression, print_static_member_expression,
+    print_call_expression, print_chain_expression, print_computed_member_expression,
+    print_static_member_expression,
 };
 use crate::operators::{
     print_new_expression, print_new_target, print_super, print_unary_expression,

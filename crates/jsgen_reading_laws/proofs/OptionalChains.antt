@@ -16,7 +16,7 @@ use Rattle.jsgen_model.specs.Layout.{Pen, Start, nowhere, statement, arrow_body,
 use Rattle.jsgen_model.specs.Grammar.{Allowed, ReadsExpression, ReadsChain, ReadsChainBase, with_in, is_word}
 use Rattle.jsgen_model.specs.Grammar as grammar
 use Rattle.jsgen_model.specs.Normal.{normal, normal_trees, nothing_of, named, link_values, call_values}
-use Rattle.jsgen_model.specs.Spell.{Place, spell, spell_list, within, linked, called, in_brackets, wraps, call_wraps, chain_wraps, within_chain, name_link, bracket_link}
+use Rattle.jsgen_model.specs.Spell.{Place, spell, spell_list, within, linked, called, in_brackets, wraps, call_wraps, chain_wraps, chain_place, name_link, bracket_link}
 use Rattle.jsgen_token_laws.proofs.Last.{Last, Open, After, line_of, Operand, Ready, Knows}
 use Rattle.jsgen_token_laws.proofs.Writes.{Writes, wrote_both}
 use Rattle.jsgen_token_laws.proofs.Steps.{wrote_name, wrote_dot, wrote_punctuator, unopened, within_brackets, brackets_written}
@@ -202,9 +202,9 @@ nowhere_behind default_export = refl
 
 pub good_chain : (c : Allowed) (a : Atoms) (t : Tree) → ChainPrinted c t → Printed c (tree.chain a t)
 good_chain c a t f place =
-    good_wrapped c place grammar.LeftHandSide (chain_wraps place) (λ w. spell t (within_chain w place)) (tree.chain a t)
+    good_wrapped c place grammar.LeftHandSide (chain_wraps place) (λ w. spell t (chain_place w place)) (tree.chain a t)
     (λ d ts u r. lifted false levels.Prefix levels.Lowest (omega arith) (grammar.a_left_hand_side r)) (λ e ts u r. unwrapped_chain place e r) inner
   where
-    inner : (v : Bool) → chain_wraps place ≡ v → (p : Pen) (l : Last) → p.pending_semicolon ≡ false → Ready l → Knows p l → Good p l (layout (spell t (within_chain v place)) p) (under (within v place) c) grammar.LeftHandSide (unless_printed v place.start) (tree.chain a t)
+    inner : (v : Bool) → chain_wraps place ≡ v → (p : Pen) (l : Last) → p.pending_semicolon ≡ false → Ready l → Knows p l → Good p l (layout (spell t (chain_place v place)) p) (under (within v place) c) grammar.LeftHandSide (unless_printed v place.start) (tree.chain a t)
     inner true e p l z y k = subst (λ s. Good p l (layout (spell t (in_brackets levels.Lowest place)) p) (under (within true place) c) grammar.LeftHandSide s (tree.chain a t)) (nowhere_behind place.start) (as_chain (under (within true place) c) a t nowhere (f (in_brackets levels.Lowest place) refl p l z y k))
     inner false e p l z y k = subst (λ s. Good p l (layout (spell t place) p) (under place c) grammar.LeftHandSide s (tree.chain a t)) (sym (unless_not place.start)) (as_chain (under place c) a t place.start (f place (no_call_wraps place e) p l z y k))
