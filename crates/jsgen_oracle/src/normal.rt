@@ -23,11 +23,12 @@ use crate::shape::{
 use jsgen_syntax::{JsStr, LogicalOperator, Memory};
 use jsgen_tree::{
     Argument, ArrayExpression, ArrayExpressionElement, BindingPattern, BlockStatement,
-    CallExpression, ChainElement, ChainExpression, ComputedMemberExpression, Declaration, Directive, Expression, ExpressionNode, IdentifierName,
-    IfStatement, LogicalExpression, NewExpression, Node, NodeType, NumericLiteral, NumericValue,
-    ObjectExpression, ObjectProperty, ObjectPropertyKind, Program, PropertyKey,
-    SimpleAssignmentTarget, SpreadElement, Statement, StatementNode, StaticMemberExpression,
-    StringLiteral, UpdateExpression, VariableDeclaration, VariableDeclarator, is_proto,
+    CallExpression, ChainElement, ChainExpression, ComputedMemberExpression, Declaration,
+    Directive, Expression, ExpressionNode, IdentifierName, IfStatement, LogicalExpression,
+    NewExpression, Node, NodeType, NumericLiteral, NumericValue, ObjectExpression, ObjectProperty,
+    ObjectPropertyKind, Program, PropertyKey, SimpleAssignmentTarget, SpreadElement, Statement,
+    StatementNode, StaticMemberExpression, StringLiteral, UpdateExpression, VariableDeclaration,
+    VariableDeclarator, is_proto,
 };
 use std::alloc::Global;
 
