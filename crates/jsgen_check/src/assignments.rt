@@ -6,7 +6,7 @@ ghost use Rattle.jsgen_check.specs.Verdict.{tree_verdict};
 
 use crate::children::{check_assignment_target, check_expressions};
 use crate::heights::{check_node, higher};
-use crate::rules::check_sequence_expression_rules;
+use crate::rules::{check_assignment_expression_rules, check_sequence_expression_rules};
 use crate::{CheckNode, Surroundings, check_child};
 use jsgen_model::TreeFault;
 use jsgen_tree::{AssignmentExpression, ConditionalExpression, NodeSet, SequenceExpression};
@@ -44,7 +44,8 @@ pub fn check_assignment_expression<N: CheckNode>(
 ) -> Result<u32, TreeFault>
     ensures { result ≡ tree_verdict around.entry (assignment_expression_row N.plain node.now) }
 {
+    let rules = check_assignment_expression_rules(node, around);
     let left = check_assignment_target(&node.left, around);
     let right = check_child(node.right.get(), NodeSet::Expression, around);
-    check_node(node.span, Ok(()), higher(left, right))
+    check_node(node.span, rules, higher(left, right))
 }

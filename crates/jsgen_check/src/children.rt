@@ -2,22 +2,23 @@
 // Lists, children that may be absent, and sets that don't nest.
 ghost use Rattle.std.specs.Prelude.{◌≡◌, map, option_map};
 ghost use Rattle.jsgen_tree.specs.Tree.{optional, trees, holed};
-ghost use Rattle.jsgen_tree.specs.Rows.{in_expression, in_argument, in_array_expression_element, in_simple_assignment_target, in_assignment_target, in_object_property_kind, in_property_key, in_statement, directive_row, variable_declarator_row};
+ghost use Rattle.jsgen_tree.specs.Rows.{in_expression, in_argument, in_array_expression_element, in_chain_element, in_simple_assignment_target, in_assignment_target, in_object_property_kind, in_property_key, in_statement, directive_row, variable_declarator_row};
 ghost use Rattle.jsgen_check.specs.Verdict.{child_verdict, maybe_verdict, children_verdict};
 ghost use Rattle.jsgen_tree.specs.declared.types.NodeSet.TheVariants as sets;
 
 use crate::collections::{check_object_property, check_spread_element};
 use crate::expressions::{
-    check_computed_member_expression, check_identifier_name, check_identifier_reference,
-    check_static_member_expression,
+    check_call_expression, check_computed_member_expression, check_identifier_name,
+    check_identifier_reference, check_static_member_expression,
 };
 use crate::heights::higher;
 use crate::statements::{check_directive, check_variable_declarator};
 use crate::{CheckNode, Surroundings, check_child};
 use jsgen_model::TreeFault;
 use jsgen_tree::{
-    Argument, ArrayExpressionElement, AssignmentTarget, Directive, ExpressionNode, NodeSet,
-    ObjectPropertyKind, PropertyKey, SimpleAssignmentTarget, StatementNode, VariableDeclarator,
+    Argument, ArrayExpressionElement, AssignmentTarget, ChainElement, Directive, ExpressionNode,
+    NodeSet, ObjectPropertyKind, PropertyKey, SimpleAssignmentTarget, StatementNode,
+    VariableDeclarator,
 };
 
 pub fn check_directives(nodes: &[Directive], around: Surroundings<'_>) -> Result<u32, TreeFault>
@@ -176,6 +177,21 @@ pub fn check_array_expression_element<N: CheckNode>(
             NodeSet::ArrayExpressionElement,
             around,
         ),
+    }
+}
+
+pub fn check_chain_element<N: CheckNode>(
+    node: &ChainElement<N>,
+    around: Surroundings<'_>,
+) -> Result<u32, TreeFault>
+    ensures { result ≡ child_verdict around.entry sets.ChainElement (in_chain_element N.plain node.now) }
+{
+    match node {
+        ChainElement::StaticMemberExpression(node) => check_static_member_expression(node, around),
+        ChainElement::ComputedMemberExpression(node) => check_computed_member_expression(
+            node, around,
+        ),
+        ChainElement::CallExpression(node) => check_call_expression(node, around),
     }
 }
 

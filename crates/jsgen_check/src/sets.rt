@@ -9,7 +9,7 @@ use crate::assignments::{
 };
 use crate::collections::{check_array_expression, check_object_expression};
 use crate::expressions::{
-    check_binary_expression, check_boolean_literal, check_call_expression,
+    check_binary_expression, check_boolean_literal, check_call_expression, check_chain_expression,
     check_computed_member_expression, check_identifier_reference, check_logical_expression,
     check_null_literal, check_numeric_literal, check_parenthesized_expression,
     check_static_member_expression, check_string_literal, check_this_expression,
@@ -47,6 +47,7 @@ pub fn check_expression_set<N: CheckNode>(
             node, around,
         ),
         Expression::CallExpression(node) => check_call_expression(node, around),
+        Expression::ChainExpression(node) => check_chain_expression(node, around),
         Expression::ArrayExpression(node) => check_array_expression(node, around),
         Expression::ObjectExpression(node) => check_object_expression(node, around),
         Expression::UnaryExpression(node) => check_unary_expression(node, around),

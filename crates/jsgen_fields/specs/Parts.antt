@@ -30,6 +30,7 @@ is_in_expressions types.IdentifierName = true
 is_in_expressions types.StaticMemberExpression = true
 is_in_expressions types.ComputedMemberExpression = true
 is_in_expressions types.CallExpression = true
+is_in_expressions types.ChainExpression = true
 is_in_expressions other = false
 
 abbrev pub is_in_collections : NodeType → Bool

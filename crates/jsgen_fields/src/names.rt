@@ -5,7 +5,7 @@ ghost use Rattle.jsgen_fields.specs.Names.{first_named, type_named};
 
 use jsgen_tree::NodeType;
 
-const TYPE_NAMES: [(&str, NodeType); 34] = [
+const TYPE_NAMES: [(&str, NodeType); 35] = [
     ("Program", NodeType::Program),
     ("Directive", NodeType::Directive),
     ("VariableDeclaration", NodeType::VariableDeclaration),
@@ -31,6 +31,7 @@ const TYPE_NAMES: [(&str, NodeType); 34] = [
         NodeType::ComputedMemberExpression,
     ),
     ("CallExpression", NodeType::CallExpression),
+    ("ChainExpression", NodeType::ChainExpression),
     ("SpreadElement", NodeType::SpreadElement),
     ("ArrayExpression", NodeType::ArrayExpression),
     ("ObjectProperty", NodeType::ObjectProperty),

@@ -28,6 +28,14 @@ named name = bare (text name ∷ [])
 abbrev pub unnumbered : List ℕ → Atoms
 unnumbered name = bare (text name ∷ no_value ∷ [])
 
+-- a member by whether its link is `?.`
+abbrev pub link_values : Bool → Atoms
+link_values optional = bare (flag optional ∷ [])
+
+-- a call likewise; whether it is pure doesn't count
+abbrev pub call_values : Bool → Atoms
+call_values optional = bare (flag optional ∷ no_value ∷ [])
+
 -- a number by its text
 abbrev pub by_text : List ℕ → Atoms
 by_text w = bare (numeric_kind Raw ∷ no_value ∷ no_value ∷ text w ∷ [])
@@ -117,9 +125,10 @@ abbrev mutual
   normal (tree.if_statement a test consequent alternate) = tree.if_statement (nothing_of 0) (normal test) (unbraced (normal consequent)) (normal_maybe alternate)
   normal (tree.empty_statement a) = tree.empty_statement (nothing_of 0)
   normal (tree.identifier_name a) = tree.identifier_name (named (identifier_name_name a))
-  normal (tree.static_member a object property) = tree.static_member (bare (static_member_expression_optional a ∷ [])) (normal object) (normal property)
-  normal (tree.computed_member a object expression) = tree.computed_member (bare (computed_member_expression_optional a ∷ [])) (normal object) (normal expression)
-  normal (tree.call a callee arguments) = tree.call (bare (call_expression_optional a ∷ no_value ∷ [])) (normal callee) (normal_trees arguments)
+  normal (tree.static_member a object property) = tree.static_member (link_values (static_member_expression_optional a)) (normal object) (normal property)
+  normal (tree.computed_member a object expression) = tree.computed_member (link_values (computed_member_expression_optional a)) (normal object) (normal expression)
+  normal (tree.call a callee arguments) = tree.call (call_values (call_expression_optional a)) (normal callee) (normal_trees arguments)
+  normal (tree.chain a element) = tree.chain (nothing_of 0) (normal element)
   normal (tree.spread a argument) = tree.spread (nothing_of 0) (normal argument)
   normal (tree.array a elements) = tree.array (nothing_of 0) (normal_trees elements)
   normal (tree.unary a argument) = tree.unary (bare (unary_operator (unary_expression_operator a) ∷ [])) (normal argument)

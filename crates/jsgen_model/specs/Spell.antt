@@ -22,10 +22,10 @@ use Rattle.jsgen_tree.specs.Inside.{without_parentheses, ends_open, reference_in
 use Rattle.jsgen_tree.specs.Words.{declaration_word}
 use Rattle.jsgen_tree.specs.Number.{NumericKind, Whole, Raw}
 use Rattle.jsgen_tree.specs.Tree.{Tree, Maybe, absent, given, Trees, no_trees, more, hole, Atoms, type_of}
-use Rattle.jsgen_tree.specs.Values.{as_text, directive_directive, variable_declaration_kind, binding_identifier_name, identifier_reference_name, identifier_name_name, boolean_literal_value, numeric_literal_kind, numeric_literal_digits, string_literal_value, binary_expression_operator, logical_expression_operator, unary_expression_operator, update_expression_operator, update_expression_prefix, assignment_expression_operator, object_property_shorthand, object_property_computed}
+use Rattle.jsgen_tree.specs.Values.{as_text, directive_directive, variable_declaration_kind, binding_identifier_name, identifier_reference_name, identifier_name_name, boolean_literal_value, numeric_literal_kind, numeric_literal_digits, string_literal_value, binary_expression_operator, logical_expression_operator, unary_expression_operator, update_expression_operator, update_expression_prefix, assignment_expression_operator, object_property_shorthand, object_property_computed, static_member_expression_optional, computed_member_expression_optional, call_expression_optional}
 use Rattle.jsgen_tree.specs.Job.{Tables, JobData}
 use Rattle.jsgen_tree.specs.Nodes as tree
-use Rattle.jsgen_model.specs.Punctuator.{ellipsis, comma, semicolon, equal, plus, minus, star, slash, percent, star_star, equal_equal, not_equal, equal_equal_equal, not_equal_equal, less, less_equal, greater, greater_equal, shift_left, shift_right, shift_right_zero, bit_and, bit_or, bit_xor, and_and, or_or, nullish, Round, Square, Brace, bang, tilde, plus_plus, minus_minus, colon, question, plus_equal, minus_equal, star_equal, slash_equal, percent_equal, star_star_equal, shift_left_equal, shift_right_equal, shift_right_zero_equal, bit_or_equal, bit_xor_equal, bit_and_equal, or_or_equal, and_and_equal, nullish_equal}
+use Rattle.jsgen_model.specs.Punctuator.{ellipsis, comma, semicolon, equal, plus, minus, star, slash, percent, star_star, equal_equal, not_equal, equal_equal_equal, not_equal_equal, less, less_equal, greater, greater_equal, shift_left, shift_right, shift_right_zero, bit_and, bit_or, bit_xor, and_and, or_or, nullish, Round, Square, Brace, bang, tilde, plus_plus, minus_minus, colon, question, plus_equal, minus_equal, star_equal, slash_equal, percent_equal, star_star_equal, shift_left_equal, shift_right_equal, shift_right_zero_equal, bit_or_equal, bit_xor_equal, bit_and_equal, or_or_equal, and_and_equal, nullish_equal, question_dot}
 use Rattle.jsgen_model.specs.Items.{Items, nothing, ◌⊕◌, word, name, number, string, first_string, directive, punctuator, operator, member_dot, brackets, soft_space, soft_line, hard_space, body_space, deeper, indentation, wrapped, statement_end, due_semicolon, drop_semicolon, statement_begins}
 use Rattle.jsgen_model.specs.Layout.{Start, nowhere, statement, arrow_body, unless_printed, layout, empty_pen, style_of}
 
@@ -261,6 +261,24 @@ unmixed o operand level = level
 abbrev pub call_wraps : Place → Bool
 call_wraps place = wraps New place || place.context.forbids_call
 
+-- what a link begins with: of a name a dot, of brackets nothing, and of an optional link `?.`
+abbrev pub name_link : Bool → Items
+name_link true = punctuator question_dot
+name_link false = member_dot
+
+abbrev pub bracket_link : Bool → Items
+bracket_link true = punctuator question_dot
+bracket_link false = nothing
+
+-- a chain stands in parentheses before a link that is none of its own, and where calls are forbidden
+abbrev pub chain_wraps : Place → Bool
+chain_wraps place = wraps Postfix place || place.context.forbids_call
+
+-- its links, within the parentheses where the test holds
+abbrev pub chain_place : Bool → Place → Place
+chain_place true place = in_brackets Lowest place
+chain_place false place = place
+
 abbrev pub any_given : Trees → Bool
 any_given no_trees = false
 any_given ts = true
@@ -471,10 +489,11 @@ abbrev mutual
       ⊕ spell_alternate alternate place.settings))))
   spell (tree.empty_statement a) place = indentation ⊕ (punctuator semicolon ⊕ soft_line)
   spell (tree.identifier_name a) place = name (identifier_name_name a)
-  spell (tree.static_member a object property) place = spell object (linked place) ⊕ (member_dot ⊕ spell property (behind Lowest place))
-  spell (tree.computed_member a object expression) place = spell object (linked place) ⊕ brackets Square (spell expression (in_brackets Lowest place))
+  spell (tree.static_member a object property) place = spell object (linked place) ⊕ (name_link (static_member_expression_optional a) ⊕ spell property (behind Lowest place))
+  spell (tree.computed_member a object expression) place = spell object (linked place) ⊕ (bracket_link (computed_member_expression_optional a) ⊕ brackets Square (spell expression (in_brackets Lowest place)))
   spell (tree.call a callee arguments) place =
-      wrapped (call_wraps place) (spell callee (called (within (call_wraps place) place)) ⊕ brackets Round (spell_list arguments (in_brackets Comma place)))
+      wrapped (call_wraps place) (spell callee (called (within (call_wraps place) place)) ⊕ (bracket_link (call_expression_optional a) ⊕ brackets Round (spell_list arguments (in_brackets Comma place))))
+  spell (tree.chain a element) place = wrapped (chain_wraps place) (spell element (chain_place (chain_wraps place) place))
   spell (tree.spread a argument) place = punctuator ellipsis ⊕ spell argument (in_brackets Comma place)
   -- up to two elements stand on one line
   spell (tree.array a elements) place = brackets Square (on_lines (are_more 2 elements) (spell_elements (are_more 2 elements) elements (in_brackets Comma place) ⊕ comma_if (ends_in_hole elements)))

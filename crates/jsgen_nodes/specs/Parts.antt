@@ -19,6 +19,7 @@ expression_part (expression.LogicalExpression b) = 0
 expression_part (expression.StaticMemberExpression b) = 0
 expression_part (expression.ComputedMemberExpression b) = 0
 expression_part (expression.CallExpression b) = 0
+expression_part (expression.ChainExpression b) = 0
 expression_part (expression.ArrayExpression b) = 1
 expression_part (expression.ObjectExpression b) = 1
 expression_part (expression.UnaryExpression b) = 2

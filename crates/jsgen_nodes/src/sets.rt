@@ -18,7 +18,8 @@ use crate::expressions::{
     print_parenthesized_expression, print_string_literal, print_this_expression,
 };
 use crate::links::{
-    print_call_expression, print_computed_member_expression, print_static_member_expression,
+    print_call_expression, print_chain_expression, print_computed_member_expression,
+    print_static_member_expression,
 };
 use crate::operators::{
     print_new_expression, print_new_target, print_super, print_unary_expression,
@@ -55,6 +56,7 @@ pub fn print_expression<N: PrintNode>(
             node, p, place,
         ),
         Expression::CallExpression(node) => print_call_expression(node, p, place),
+        Expression::ChainExpression(node) => print_chain_expression(node, p, place),
         _ => print_expression_in_collections(node, p, place),
     }
 }

@@ -12,7 +12,7 @@ use Rattle.jsgen_tree.specs.Tree.{Tree, Maybe, absent, given, Trees, no_trees, m
 use Rattle.jsgen_tree.specs.Nodes as tree
 use Rattle.jsgen_model.specs.Tokens.{Tokens, AreTokensOf}
 use Rattle.jsgen_tree.specs.Places.{bare}
-use Rattle.jsgen_model.specs.Normal.{nothing_of, named, unnumbered, by_text, declared_as, normal}
+use Rattle.jsgen_model.specs.Normal.{nothing_of, link_values, call_values, named, unnumbered, by_text, declared_as, normal}
 use Rattle.jsgen_model.specs.Grammar.{ReadsModule}
 
 -- the text has tokens, and they are read as this program
@@ -71,13 +71,13 @@ abbrev pub string_of : List ℕ → Tree
 string_of value = tree.string_literal (bare (units value ∷ []))
 
 abbrev pub member_of : Tree → List ℕ → Tree
-member_of object name = tree.static_member (nothing_of 1) object (tree.identifier_name (named name))
+member_of object name = tree.static_member (link_values false) object (tree.identifier_name (named name))
 
 abbrev pub element_of : Tree → Tree → Tree
-element_of object expression = tree.computed_member (nothing_of 1) object expression
+element_of object expression = tree.computed_member (link_values false) object expression
 
 abbrev pub call_of : Tree → Trees → Tree
-call_of callee arguments = tree.call (nothing_of 2) callee arguments
+call_of callee arguments = tree.call (call_values false) callee arguments
 
 abbrev pub unary_of : UnaryOperator → Tree → Tree
 unary_of operator argument = tree.unary (bare (unary_operator operator ∷ [])) argument

@@ -3,7 +3,7 @@ ghost use Rattle.std.specs.Prelude.{◌≡◌, ◌∷◌, [], ◌&&◌, false, m
 ghost use Rattle.std.specs.Option.{option_map_or};
 ghost use Rattle.std.specs.Str.{chars};
 ghost use Rattle.jsgen_tree.specs.Tree.{trees, holed, optional};
-ghost use Rattle.jsgen_tree.specs.Rows.{program_row, directive_row, block_statement_row, if_statement_row, variable_declaration_row, variable_declarator_row, numeric_literal_row, string_literal_row, logical_expression_row, identifier_name_row, static_member_expression_row, call_expression_row, spread_element_row, array_expression_row, conditional_expression_row, sequence_expression_row, assignment_expression_row, in_assignment_target, expression_plain, statement_plain, declaration_plain, binding_pattern_plain, in_expression, in_statement, in_argument, in_array_expression_element, new_expression_row, update_expression_row, in_simple_assignment_target, object_property_row, object_expression_row, in_object_property_kind, in_property_key};
+ghost use Rattle.jsgen_tree.specs.Rows.{program_row, directive_row, block_statement_row, if_statement_row, variable_declaration_row, variable_declarator_row, numeric_literal_row, string_literal_row, logical_expression_row, identifier_name_row, static_member_expression_row, call_expression_row, spread_element_row, array_expression_row, conditional_expression_row, sequence_expression_row, assignment_expression_row, in_assignment_target, expression_plain, statement_plain, declaration_plain, binding_pattern_plain, in_expression, in_statement, in_argument, in_array_expression_element, new_expression_row, update_expression_row, in_simple_assignment_target, object_property_row, object_expression_row, in_object_property_kind, in_property_key, computed_member_expression_row, chain_expression_row, in_chain_element};
 ghost use Rattle.jsgen_tree.specs.Atom.{no_value, flag, property_kind};
 ghost use Rattle.jsgen_tree.specs.Inside.{written_name_in, is_proto};
 ghost use Rattle.jsgen_tree.specs.Plain.{node_plain};
@@ -23,12 +23,13 @@ use crate::shape::{
 use jsgen_syntax::{JsStr, LogicalOperator, Memory};
 use jsgen_tree::{
     Argument, ArrayExpression, ArrayExpressionElement, AssignmentExpression, AssignmentTarget,
-    BindingPattern, BlockStatement, CallExpression, ConditionalExpression, Declaration, Directive,
-    Expression, ExpressionNode, IdentifierName, IfStatement, LogicalExpression, NewExpression,
-    Node, NodeType, NumericLiteral, NumericValue, ObjectExpression, ObjectProperty,
-    ObjectPropertyKind, Program, PropertyKey, SequenceExpression, SimpleAssignmentTarget,
-    SpreadElement, Statement, StatementNode, StaticMemberExpression, StringLiteral,
-    UpdateExpression, VariableDeclaration, VariableDeclarator, is_proto,
+    BindingPattern, BlockStatement, CallExpression, ChainElement, ChainExpression,
+    ComputedMemberExpression, ConditionalExpression, Declaration, Directive, Expression,
+    ExpressionNode, IdentifierName, IfStatement, LogicalExpression, NewExpression, Node, NodeType,
+    NumericLiteral, NumericValue, ObjectExpression, ObjectProperty, ObjectPropertyKind, Program,
+    PropertyKey, SequenceExpression, SimpleAssignmentTarget, SpreadElement, Statement,
+    StatementNode, StaticMemberExpression, StringLiteral, UpdateExpression, VariableDeclaration,
+    VariableDeclarator, is_proto,
 };
 use std::alloc::Global;
 
@@ -271,7 +272,7 @@ fn static_member_expression_form<N: NormalNode>(
 ) -> Result<Form, Memory>
     ensures { IfOk result (λ f. form_plain f ≡ normal (static_member_expression_row N.plain node.now)) }
 {
-    let values = one_value(alloc, Value::Nothing)?;
+    let values = one_value(alloc, Value::Flag(node.optional))?;
     let object = node.object.get().normal_form(alloc)?;
     let property = identifier_name_form(alloc, &node.property)?;
     row_of_two(
@@ -289,7 +290,7 @@ fn call_expression_form<N: NormalNode>(
 ) -> Result<Form, Memory>
     ensures { IfOk result (λ f. form_plain f ≡ normal (call_expression_row N.plain node.now)) }
 {
-    let values = two_values(alloc, Value::Nothing, Value::Nothing)?;
+    let values = two_values(alloc, Value::Flag(node.optional), Value::Nothing)?;
     let callee = node.callee.get().normal_form(alloc)?;
     let arguments = argument_forms(alloc, &node.arguments)?;
     row_of_two(
@@ -345,6 +346,51 @@ fn part_forms<N: NormalNode>(
         forms.append(&mut added)?;
     }
     Ok(forms)
+}
+
+fn computed_member_expression_form<N: NormalNode>(
+    alloc: Global,
+    node: &ComputedMemberExpression<N>,
+) -> Result<Form, Memory>
+    ensures { IfOk result (λ f. form_plain f ≡ normal (computed_member_expression_row N.plain node.now)) }
+{
+    pair(
+        alloc,
+        NodeType::ComputedMemberExpression,
+        Value::Flag(node.optional),
+        node.object.get(),
+        node.expression.get(),
+    )
+}
+
+fn chain_expression_form<N: NormalNode>(
+    alloc: Global,
+    node: &ChainExpression<N>,
+) -> Result<Form, Memory>
+    ensures { IfOk result (λ f. form_plain f ≡ normal (chain_expression_row N.plain node.now)) }
+{
+    let element = chain_element_form(alloc, &node.expression)?;
+    row(
+        alloc,
+        NodeType::ChainExpression,
+        Vec::new(alloc),
+        Slot::One(element),
+    )
+}
+
+fn chain_element_form<N: NormalNode>(
+    alloc: Global,
+    element: &ChainElement<N>,
+) -> Result<Form, Memory>
+    ensures { IfOk result (λ f. form_plain f ≡ normal (in_chain_element N.plain element.now)) }
+{
+    match element {
+        ChainElement::StaticMemberExpression(node) => static_member_expression_form(alloc, node),
+        ChainElement::ComputedMemberExpression(node) => {
+            computed_member_expression_form(alloc, node)
+        }
+        ChainElement::CallExpression(node) => call_expression_form(alloc, node),
+    }
 }
 
 fn update_expression_form<N: NormalNode>(
@@ -424,13 +470,7 @@ fn target_form<N: NormalNode>(
             static_member_expression_form(alloc, node)
         }
         SimpleAssignmentTarget::ComputedMemberExpression(node) => {
-            pair(
-                alloc,
-                NodeType::ComputedMemberExpression,
-                Value::Nothing,
-                node.object.get(),
-                node.expression.get(),
-            )
+            computed_member_expression_form(alloc, node)
         }
     }
 }
@@ -659,15 +699,8 @@ fn expression_form<N: NormalNode>(alloc: Global, node: &Expression<N>) -> Result
         Expression::LogicalExpression(node) => logical_expression_form(alloc, node),
         Expression::ParenthesizedExpression(node) => node.expression.get().normal_form(alloc),
         Expression::StaticMemberExpression(node) => static_member_expression_form(alloc, node),
-        Expression::ComputedMemberExpression(node) => {
-            pair(
-                alloc,
-                NodeType::ComputedMemberExpression,
-                Value::Nothing,
-                node.object.get(),
-                node.expression.get(),
-            )
-        }
+        Expression::ComputedMemberExpression(node) => computed_member_expression_form(alloc, node),
+        Expression::ChainExpression(node) => chain_expression_form(alloc, node),
         Expression::CallExpression(node) => call_expression_form(alloc, node),
         Expression::ArrayExpression(node) => array_expression_form(alloc, node),
         Expression::UnaryExpression(node) => {

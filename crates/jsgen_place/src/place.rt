@@ -2,8 +2,8 @@
 ghost use Rattle.std.specs.Prelude.{◌≡◌, nat_le, false, true};
 ghost use Rattle.jsgen_syntax.specs.Precedence.{rank};
 ghost use Rattle.jsgen_model.specs.Layout.{Pen};
-ghost use Rattle.jsgen_model.specs.Spell.{is_forbidden, binary_wraps, goes_on, logical_wraps, called, call_wraps, needs_arguments};
-ghost use Rattle.jsgen_place.specs.Place.{place_of, place_within};
+ghost use Rattle.jsgen_model.specs.Spell.{is_forbidden, binary_wraps, goes_on, logical_wraps, called, call_wraps, chain_wraps, needs_arguments};
+ghost use Rattle.jsgen_place.specs.Place.{place_of, place_within, chain_within};
 
 use jsgen_syntax::{BinaryOperator, GetPrecedence, LogicalOperator, Precedence};
 
@@ -206,6 +206,24 @@ impl Place {
         ensures { (pen : Pen) → result ≡ call_wraps (place_of self pen) }
     {
         self.wraps(Precedence::New) || self.context.forbids_call
+    }
+
+    /// Whether a chain stands in parentheses here.
+    pub fn wraps_chain(self) -> bool
+        ensures { (pen : Pen) → result ≡ chain_wraps (place_of self pen) }
+    {
+        self.wraps(Precedence::Postfix) || self.context.forbids_call
+    }
+
+    /// The place of a chain's links, within parentheses where the test holds.
+    pub fn chain(self, test: bool) -> Place
+        ensures { result ≡ chain_within test self }
+    {
+        if test {
+            Place::in_brackets(Precedence::Lowest, self.settings)
+        } else {
+            self
+        }
     }
 
     /// Whether `new` has parentheses here for its arguments, where there may be none.

@@ -65,7 +65,7 @@ pub struct Printer {
 impl Printer {
     ghost use Rattle.std.specs.Prelude.{IfOk, [], ◌∷◌, ◌++◌, decimal, replicate, string_bytes, true, IsTrue};
     ghost use Rattle.std.specs.Str.{chars, encode_utf8_all};
-    ghost use Rattle.jsgen_model.specs.Punctuator.{Round, opening, closing, ellipsis, comma, semicolon, equal, plus, minus, equal_equal, equal_equal_equal, plus_plus, minus_minus, colon, question};
+    ghost use Rattle.jsgen_model.specs.Punctuator.{Round, opening, closing, ellipsis, comma, semicolon, equal, plus, minus, equal_equal, equal_equal_equal, plus_plus, minus_minus, colon, question, question_dot};
     ghost use Rattle.jsgen_model.specs.Items.{word, name, number, string, first_string, directive, member_dot, punctuator, soft_space, soft_line, hard_space, indentation, body_space, statement_end, due_semicolon, drop_semicolon, statement_begins};
     ghost use Rattle.jsgen_model.specs.Printing.{Reaches};
     ghost use Rattle.jsgen_model.specs.Layout.{layout, written, written_if, other_end, space_if, ends_in_word, ends_in_escapes, is_apart, name_ending, joins, dot_joins, indented, ends_in_less_bang, chosen_quote, deeper_level, empty_pen, style_of};
@@ -412,6 +412,12 @@ impl Printer {
         ensures { Reaches result (pen_of self.old) (pen_of self.new) (layout (punctuator question) (pen_of self.old)) }
     {
         self.print_str("?", Ending::Other)
+    }
+
+    pub fn print_question_dot(&mut self) -> Result<(), Memory>
+        ensures { Reaches result (pen_of self.old) (pen_of self.new) (layout (punctuator question_dot) (pen_of self.old)) }
+    {
+        self.print_str("?.", Ending::Other)
     }
 
     pub fn print_ellipsis(&mut self) -> Result<(), Memory>

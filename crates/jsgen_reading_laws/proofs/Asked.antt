@@ -72,6 +72,7 @@ asked (family.in_parentheses {a} {t} v) =
 asked (family.a_named_member m v h) = no_string refl refl refl refl refl
 asked (family.a_computed_member m v w) = no_string refl refl refl refl refl
 asked (family.a_call m v w) = no_string refl refl refl refl refl
+asked (family.a_chain v) = no_string refl refl refl refl refl
 asked (family.an_array v) = no_string refl refl refl refl refl
 asked (family.an_object v) = no_string refl refl refl refl refl
 asked (family.an_operation v w) = no_string refl refl refl refl refl

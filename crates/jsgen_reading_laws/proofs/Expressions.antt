@@ -28,7 +28,7 @@ use Rattle.jsgen_token_laws.proofs.Characters.{letters_spelled}
 use Rattle.jsgen_token_laws.proofs.Last.{After, line_of}
 use Rattle.jsgen_token_laws.proofs.Steps.{wrote_word, wrote_name, wrote_whole, wrote_quoted, wrote_dot}
 use Rattle.jsgen_reading_laws.proofs.Levels.{level_of, under, from_primary, weaken_member, from_left}
-use Rattle.jsgen_reading_laws.proofs.Families.{IsExpression, IsLink, IsElement, AreArguments, AreElements, IsProperty, AreProperties, IsKey, AreParts}
+use Rattle.jsgen_reading_laws.proofs.Families.{IsExpression, IsLink, IsElement, AreArguments, AreElements, IsProperty, AreProperties, IsKey, AreParts, IsChain, IsChainBase}
 use Rattle.jsgen_token_laws.proofs.Writes.{wrote_both}
 use Rattle.jsgen_reading_laws.proofs.Families as family
 use Rattle.jsgen_reading_laws.proofs.Asked.{asked}
@@ -40,6 +40,7 @@ use Rattle.jsgen_reading_laws.proofs.Prefixes.{word_begins, good_unary_operation
 use Rattle.jsgen_reading_laws.proofs.Chains.{good_logical_operation}
 use Rattle.jsgen_reading_laws.proofs.Constructions.{good_construction}
 use Rattle.jsgen_reading_laws.proofs.Links.{ElementOf, ArgumentsAt, MoreArgumentsAt, LinkPrinted, link_expression, link_super, good_named_member, good_computed_member, good_call, good_element, good_spread, no_arguments, first_of_arguments, no_more_arguments, one_more_argument, named_target, computed_target}
+use Rattle.jsgen_reading_laws.proofs.OptionalChains.{ChainPrinted, BasePrinted, base_expression, base_chain, optional_named_member, optional_computed_member, optional_call, further_named_member, further_computed_member, further_call, good_chain}
 use Rattle.jsgen_reading_laws.proofs.Collections.{ElementsOf, no_elements, first_of_elements, left_out_of_elements, good_array, PropertiesOf, no_properties, first_of_properties, good_object}
 use Rattle.jsgen_reading_laws.proofs.Updates.{good_update}
 use Rattle.jsgen_reading_laws.proofs.Choices.{good_choice}
@@ -255,6 +256,7 @@ mutual
   printed_expression {c} (family.a_choice {a} {x} {y} {z} u v w) = good_choice c a x y z (printed_expression u) (printed_expression v) (printed_expression w)
   printed_expression {c} (family.a_sequence {a} {t} {u} {ts} v w x) = good_sequence c a t u ts (printed_expression v) (printed_expression w) (printed_parts x)
   printed_expression {c} (family.an_assignment {a} {t} {u} s v w) = good_assignment c a t u (printed_target v s) (printed_expression w)
+  printed_expression {c} (family.a_chain {a} {t} v) = good_chain c a t (printed_chain v)
   printed_expression {c} (family.an_array {a} {es} v) = good_array c a es (printed_elements v)
   printed_expression {c} (family.an_object {a} {ps} v) = good_object c a ps (printed_properties v)
 
@@ -267,6 +269,18 @@ mutual
   printed_target {c} (family.a_named_member {a} {b} {o} m v h) s = named_target c a b o m h (printed_link v)
   printed_target {c} (family.a_computed_member {a} {o} {e} m v w) s = computed_target c a o e m (printed_link v) (printed_expression w)
   printed_target v s = absurd (both_ways false refl s)
+
+  printed_chain : {c : Allowed} {t : Tree} → IsChain c t → ChainPrinted c t
+  printed_chain {c} (family.an_optional_named_member {a} {b} {o} m v h) = optional_named_member c a b o m h (printed_base v)
+  printed_chain {c} (family.an_optional_computed_member {a} {o} {e} m v w) = optional_computed_member c a o e m (printed_base v) (printed_expression w)
+  printed_chain {c} (family.an_optional_call {a} {f} {es} m v w) = optional_call c a f es m (printed_base v) (printed_arguments w)
+  printed_chain {c} (family.a_further_named_member {a} {b} {o} m v h) = further_named_member c a b o m h (printed_chain v)
+  printed_chain {c} (family.a_further_computed_member {a} {o} {e} m v w) = further_computed_member c a o e m (printed_chain v) (printed_expression w)
+  printed_chain {c} (family.a_further_call {a} {f} {es} m v w) = further_call c a f es m (printed_chain v) (printed_arguments w)
+
+  printed_base : {c : Allowed} {t : Tree} → IsChainBase c t → BasePrinted c t
+  printed_base {c} (family.a_first_link {t} v) = base_expression c t (printed_expression v)
+  printed_base {c} (family.a_further_link {t} v) = base_chain c t (printed_chain v)
 
   printed_link : {c : Allowed} {t : Tree} → IsLink c t → LinkPrinted c t
   printed_link {c} (family.a_super {a}) = link_super c a

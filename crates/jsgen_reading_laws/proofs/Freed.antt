@@ -4,7 +4,7 @@ use Rattle.jsgen_syntax.specs.declared.operator.BinaryOperator.{BinaryOperator}
 use Rattle.jsgen_syntax.specs.declared.operator.BinaryOperator.TheVariants as operators
 use Rattle.jsgen_tree.specs.Tree.{Tree, Trees}
 use Rattle.jsgen_model.specs.Tokens.{Tokens}
-use Rattle.jsgen_model.specs.Grammar.{Allowed, Level, ReadsExpression, ReadsParts, with_in, may_stand}
+use Rattle.jsgen_model.specs.Grammar.{Allowed, Level, ReadsExpression, ReadsParts, ReadsChain, ReadsChainBase, with_in, may_stand}
 use Rattle.jsgen_model.specs.Grammar as grammar
 
 all_stand : (c : Allowed) (o : BinaryOperator) → may_stand (with_in c) o ≡ true
@@ -69,9 +69,22 @@ mutual
   freed grammar.a_number = grammar.a_number
   freed (grammar.a_string x) = grammar.a_string x
   freed (grammar.in_parentheses x) = grammar.in_parentheses x
+  freed (grammar.an_optional_chain x) = grammar.an_optional_chain (freed_chain x)
   freed (grammar.an_array x) = grammar.an_array x
   freed (grammar.an_object x) = grammar.an_object x
 
   freed_parts : {c : Allowed} {ts : Tokens} {us : Trees} → ReadsParts c ts us → ReadsParts (with_in c) ts us
   freed_parts (grammar.last_part r) = grammar.last_part (freed r)
   freed_parts (grammar.first_part mark e r s) = grammar.first_part mark e (freed r) (freed_parts s)
+
+  freed_chain : {c : Allowed} {ts : Tokens} {t : Tree} → ReadsChain c ts t → ReadsChain (with_in c) ts t
+  freed_chain (grammar.an_optional_named_member w mark next e x r) = grammar.an_optional_named_member w mark next e x (freed_base r)
+  freed_chain (grammar.an_optional_computed_member mark next e r s) = grammar.an_optional_computed_member mark next e (freed_base r) s
+  freed_chain (grammar.an_optional_call mark next e r s) = grammar.an_optional_call mark next e (freed_base r) s
+  freed_chain (grammar.a_further_named_member w mark next e x r) = grammar.a_further_named_member w mark next e x (freed_chain r)
+  freed_chain (grammar.a_further_computed_member mark e r s) = grammar.a_further_computed_member mark e (freed_chain r) s
+  freed_chain (grammar.a_further_call mark e r s) = grammar.a_further_call mark e (freed_chain r) s
+
+  freed_base : {c : Allowed} {ts : Tokens} {t : Tree} → ReadsChainBase c ts t → ReadsChainBase (with_in c) ts t
+  freed_base (grammar.a_first_link r) = grammar.a_first_link (freed r)
+  freed_base (grammar.a_further_link r) = grammar.a_further_link (freed_chain r)

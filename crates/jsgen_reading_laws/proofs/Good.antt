@@ -32,9 +32,9 @@ may_begin statement ts = starts_statement ts
 may_begin arrow_body ts = no_brace ts
 may_begin default_export ts = no_declaration ts
 
--- Between two pens stands an expression that is read at the level as a tree of the same normal form. No semicolon was due before, and none is after.
+-- Between two pens stands an expression that is read so as a tree of the same normal form. No semicolon was due before, and none is after.
 -- What it may begin it begins with whatever follows, but the word `function`.
-pub record Good (p : Pen) (l : Last) (q : Pen) (c : Allowed) (level : Level) (start : Start) (t : Tree) : Type 0 where
+pub record GoodAs (Reads : Tokens → Tree → Type 0) (p : Pen) (l : Last) (q : Pen) (start : Start) (t : Tree) : Type 0 where
   pub last : Last
   pub tokens : Tokens
   pub writes : Writes p l q last tokens
@@ -43,8 +43,12 @@ pub record Good (p : Pen) (l : Last) (q : Pen) (c : Allowed) (level : Level) (st
   pub begins : (b : Tokens) → is_word (codes "function") b ≡ false → may_begin start (tokens ⧺ b) ≡ true
   pub line : line_of l ≡ false → on_same_line tokens ≡ true
   pub tree : Tree
-  pub reads : ReadsExpression c level tokens tree
+  pub reads : Reads tokens tree
   pub same : normal tree ≡ normal t
+
+-- one that is read at the level
+abbrev pub Good : Pen → Last → Pen → Allowed → Level → Start → Tree → Type 0
+Good p l q c level start t = GoodAs (ReadsExpression c level) p l q start t
 
 -- printed at any place from any pen
 abbrev pub Printed : Allowed → Tree → Type 0
@@ -81,7 +85,7 @@ pub good_at : {p q : Pen} {l : Last} {c : Allowed} {start : Start} {t : Tree} {g
 good_at lift g = good_since (λ ts u e r. lift ts u r) g
 
 -- blanks, or nothing, round an expression
-pub soft_round : {p q r s : Pen} {l : Last} {c : Allowed} {start : Start} {t : Tree} {level : Level} → (a : Soft p l q) → (g : Good q a.last r c level start t) → Soft r g.last s → Good p l s c level start t
+pub soft_round : {Reads : Tokens → Tree → Type 0} {p q r s : Pen} {l : Last} {start : Start} {t : Tree} → (a : Soft p l q) → (g : GoodAs Reads q a.last r start t) → Soft r g.last s → GoodAs Reads p l s start t
 soft_round a g b = record {
   last = b.last;
   tokens = g.tokens;
@@ -118,7 +122,7 @@ good_parentheses c place p q l g = record {
   same = g.same;
 }
 
-unless_not : (start : Start) → unless_printed false start ≡ start
+pub unless_not : (start : Start) → unless_printed false start ≡ start
 unless_not nowhere = refl
 unless_not statement = refl
 unless_not arrow_body = refl

@@ -9,7 +9,7 @@ use Rattle.jsgen_tree.specs.Values.{variable_declaration_kind, variable_declarat
 use Rattle.jsgen_tree.specs.Inside.{ends_open, written_name_in, is_proto}
 use Rattle.jsgen_tree.specs.Nodes as tree
 use Rattle.std.proofs.lemmas.Bool.{both_ways}
-use Rattle.jsgen_model.specs.Normal.{normal, normal_slots, normal_maybe, normal_trees, normal_maybe_trees, unbraced, nothing_of, is_proto_shorthand, chain, same_operator, joined, links, parts_of, flattened}
+use Rattle.jsgen_model.specs.Normal.{normal, normal_slots, normal_maybe, normal_trees, normal_maybe_trees, unbraced, nothing_of, is_proto_shorthand, chain, same_operator, joined, links, parts_of, flattened, link_values, call_values}
 use Rattle.jsgen_reading_laws.proofs.Joined.{joined_normal, joined_nothing, flattened_joined}
 
 -- ---- chains
@@ -102,9 +102,10 @@ mutual
   normal_again (tree.if_statement a test consequent alternate) = let e = normal_again test in let f = unbraced_again (normal consequent) (normal_again consequent) in let g = normal_maybe_again alternate in λ i. tree.if_statement (nothing_of 0) (e i) (f i) (g i)
   normal_again (tree.empty_statement a) = refl
   normal_again (tree.identifier_name a) = refl
-  normal_again (tree.static_member a object property) = let e = normal_again object in let f = normal_again property in λ i. tree.static_member (bare (static_member_expression_optional a ∷ [])) (e i) (f i)
-  normal_again (tree.computed_member a object expression) = let e = normal_again object in let f = normal_again expression in λ i. tree.computed_member (bare (computed_member_expression_optional a ∷ [])) (e i) (f i)
-  normal_again (tree.call a callee arguments) = let e = normal_again callee in let f = normal_trees_again arguments in λ i. tree.call (bare (call_expression_optional a ∷ no_value ∷ [])) (e i) (f i)
+  normal_again (tree.static_member a object property) = let e = normal_again object in let f = normal_again property in λ i. tree.static_member (link_values (static_member_expression_optional a)) (e i) (f i)
+  normal_again (tree.computed_member a object expression) = let e = normal_again object in let f = normal_again expression in λ i. tree.computed_member (link_values (computed_member_expression_optional a)) (e i) (f i)
+  normal_again (tree.call a callee arguments) = let e = normal_again callee in let f = normal_trees_again arguments in λ i. tree.call (call_values (call_expression_optional a)) (e i) (f i)
+  normal_again (tree.chain a element) = ap (λ e. tree.chain (nothing_of 0) e) (normal_again element)
   normal_again (tree.array a elements) = ap (λ ts. tree.array (nothing_of 0) ts) (normal_trees_again elements)
   normal_again (tree.object_expression a properties) = ap (λ ts. tree.object_expression (nothing_of 0) ts) (normal_trees_again properties)
   normal_again (tree.object_property a key value) =

@@ -54,6 +54,7 @@ fn is_in_expressions(node_type: NodeType) -> bool
             | NodeType::StaticMemberExpression
             | NodeType::ComputedMemberExpression
             | NodeType::CallExpression
+            | NodeType::ChainExpression
     )
 }
 

@@ -4,6 +4,7 @@ use Rattle.std.specs.declared.alloc.Global.{Global}
 use Rattle.std.proofs.Common.{Box, None, Some}
 use Rattle.jsgen_tree.specs.declared.sets.Argument.{Argument}
 use Rattle.jsgen_tree.specs.declared.sets.ArrayExpressionElement.{ArrayExpressionElement}
+use Rattle.jsgen_tree.specs.declared.sets.ChainElement.{ChainElement}
 use Rattle.jsgen_tree.specs.declared.sets.SimpleAssignmentTarget.{SimpleAssignmentTarget}
 use Rattle.jsgen_tree.specs.declared.sets.AssignmentTarget.{AssignmentTarget}
 use Rattle.jsgen_tree.specs.declared.sets.ObjectPropertyKind.{ObjectPropertyKind}
@@ -16,12 +17,15 @@ use Rattle.jsgen_tree.specs.declared.expressions.IdentifierReference.{Identifier
 use Rattle.jsgen_tree.specs.declared.expressions.IdentifierName.{IdentifierName}
 use Rattle.jsgen_tree.specs.declared.expressions.StaticMemberExpression.{StaticMemberExpression}
 use Rattle.jsgen_tree.specs.declared.expressions.ComputedMemberExpression.{ComputedMemberExpression}
+use Rattle.jsgen_tree.specs.declared.expressions.CallExpression.{CallExpression}
+use Rattle.jsgen_tree.specs.declared.expressions.ChainExpression.{ChainExpression}
 use Rattle.jsgen_tree.specs.declared.collections.SpreadElement.{SpreadElement}
 use Rattle.jsgen_tree.specs.declared.collections.ObjectProperty.{ObjectProperty}
 use Rattle.jsgen_tree.specs.declared.operations.UpdateExpression.{UpdateExpression}
 use Rattle.jsgen_tree.specs.declared.assignments.AssignmentExpression.{AssignmentExpression}
 use Rattle.jsgen_tree.specs.declared.sets.Argument.TheVariants as arguments
 use Rattle.jsgen_tree.specs.declared.sets.ArrayExpressionElement.TheVariants as array_expression_elements
+use Rattle.jsgen_tree.specs.declared.sets.ChainElement.TheVariants as chain_elements
 use Rattle.jsgen_tree.specs.declared.sets.SimpleAssignmentTarget.TheVariants as simple_assignment_targets
 use Rattle.jsgen_tree.specs.declared.sets.AssignmentTarget.TheVariants as assignment_targets
 use Rattle.jsgen_tree.specs.declared.sets.ObjectPropertyKind.TheVariants as object_property_kinds
@@ -36,6 +40,11 @@ with_argument P of_spread_element of_expression (arguments.Expression b) = of_ex
 pub with_array_expression_element : {N : Type 0} (P : ArrayExpressionElement N → Type 0) → ((b : Box (SpreadElement N) Global) → P (array_expression_elements.SpreadElement b)) → ((b : Box (ExpressionNode N) Global) → P (array_expression_elements.Expression b)) → (n : ArrayExpressionElement N) → P n
 with_array_expression_element P of_spread_element of_expression (array_expression_elements.SpreadElement b) = of_spread_element b
 with_array_expression_element P of_spread_element of_expression (array_expression_elements.Expression b) = of_expression b
+
+pub with_chain_element : {N : Type 0} (P : ChainElement N → Type 0) → ((b : Box (StaticMemberExpression N) Global) → P (chain_elements.StaticMemberExpression b)) → ((b : Box (ComputedMemberExpression N) Global) → P (chain_elements.ComputedMemberExpression b)) → ((b : Box (CallExpression N) Global) → P (chain_elements.CallExpression b)) → (n : ChainElement N) → P n
+with_chain_element P of_static_member_expression of_computed_member_expression of_call_expression (chain_elements.StaticMemberExpression b) = of_static_member_expression b
+with_chain_element P of_static_member_expression of_computed_member_expression of_call_expression (chain_elements.ComputedMemberExpression b) = of_computed_member_expression b
+with_chain_element P of_static_member_expression of_computed_member_expression of_call_expression (chain_elements.CallExpression b) = of_call_expression b
 
 pub with_simple_assignment_target : {N : Type 0} (P : SimpleAssignmentTarget N → Type 0) → ((b : Box IdentifierReference Global) → P (simple_assignment_targets.IdentifierReference b)) → ((b : Box (StaticMemberExpression N) Global) → P (simple_assignment_targets.StaticMemberExpression b)) → ((b : Box (ComputedMemberExpression N) Global) → P (simple_assignment_targets.ComputedMemberExpression b)) → (n : SimpleAssignmentTarget N) → P n
 with_simple_assignment_target P of_identifier_reference of_static_member_expression of_computed_member_expression (simple_assignment_targets.IdentifierReference b) = of_identifier_reference b
@@ -62,6 +71,9 @@ variable_declarator_by_init P none some n = elim n.init as (λ o. P (record n { 
 
 pub if_statement_by_alternate : {N : Type 0} (P : IfStatement N → Type 0) → ((n : IfStatement N) → P (record n { alternate = None })) → ((c : StatementNode N) (n : IfStatement N) → P (record n { alternate = Some c })) → (n : IfStatement N) → P n
 if_statement_by_alternate P none some n = elim n.alternate as (λ o. P (record n { alternate = o })) [ None ↦ none n | Some c ↦ some c n ]
+
+pub chain_expression_by_expression : {N : Type 0} (P : ChainExpression N → Type 0) → ((b : Box (StaticMemberExpression N) Global) (n : ChainExpression N) → P (record n { expression = (chain_elements.StaticMemberExpression b) })) → ((b : Box (ComputedMemberExpression N) Global) (n : ChainExpression N) → P (record n { expression = (chain_elements.ComputedMemberExpression b) })) → ((b : Box (CallExpression N) Global) (n : ChainExpression N) → P (record n { expression = (chain_elements.CallExpression b) })) → (n : ChainExpression N) → P n
+chain_expression_by_expression P of_static_member_expression of_computed_member_expression of_call_expression n = elim n.expression as (λ o. P (record n { expression = o })) [ chain_elements.StaticMemberExpression b ↦ of_static_member_expression b n | chain_elements.ComputedMemberExpression b ↦ of_computed_member_expression b n | chain_elements.CallExpression b ↦ of_call_expression b n ]
 
 pub object_property_by_key : {N : Type 0} (P : ObjectProperty N → Type 0) → ((b : Box IdentifierName Global) (n : ObjectProperty N) → P (record n { key = (property_keys.IdentifierName b) })) → ((b : Box (ExpressionNode N) Global) (n : ObjectProperty N) → P (record n { key = (property_keys.Expression b) })) → (n : ObjectProperty N) → P n
 object_property_by_key P of_identifier_name of_expression n = elim n.key as (λ o. P (record n { key = o })) [ property_keys.IdentifierName b ↦ of_identifier_name b n | property_keys.Expression b ↦ of_expression b n ]

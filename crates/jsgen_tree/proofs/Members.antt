@@ -28,6 +28,7 @@ of_expression h (expressions.ParenthesizedExpression b) = refl
 of_expression h (expressions.StaticMemberExpression b) = refl
 of_expression h (expressions.ComputedMemberExpression b) = refl
 of_expression h (expressions.CallExpression b) = refl
+of_expression h (expressions.ChainExpression b) = refl
 of_expression h (expressions.ArrayExpression b) = refl
 of_expression h (expressions.ObjectExpression b) = refl
 of_expression h (expressions.UnaryExpression b) = refl

@@ -106,13 +106,16 @@ abbrev pub identifier_name_fields : List Field
 identifier_name_fields = needs (codes "name") sorts.text ∷ []
 
 abbrev pub static_member_expression_fields : List Field
-static_member_expression_fields = needs (codes "object") (sorts.child sets.Expression) ∷ not_yet (codes "optional") sorts.flag ∷ needs (codes "property") (sorts.child sets.IdentifierName) ∷ []
+static_member_expression_fields = needs (codes "object") (sorts.child sets.Expression) ∷ has_by_default (atoms.flag false) (codes "optional") sorts.flag ∷ needs (codes "property") (sorts.child sets.IdentifierName) ∷ []
 
 abbrev pub computed_member_expression_fields : List Field
-computed_member_expression_fields = needs (codes "object") (sorts.child sets.Expression) ∷ not_yet (codes "optional") sorts.flag ∷ needs (codes "expression") (sorts.child sets.Expression) ∷ []
+computed_member_expression_fields = needs (codes "object") (sorts.child sets.Expression) ∷ has_by_default (atoms.flag false) (codes "optional") sorts.flag ∷ needs (codes "expression") (sorts.child sets.Expression) ∷ []
 
 abbrev pub call_expression_fields : List Field
-call_expression_fields = needs (codes "callee") (sorts.child sets.Expression) ∷ not_yet (codes "type_arguments") sorts.unread_child ∷ may_have (codes "arguments") (sorts.children sets.Argument) ∷ not_yet (codes "optional") sorts.flag ∷ has_by_default (atoms.flag false) (codes "pure") sorts.flag ∷ []
+call_expression_fields = needs (codes "callee") (sorts.child sets.Expression) ∷ not_yet (codes "type_arguments") sorts.unread_child ∷ may_have (codes "arguments") (sorts.children sets.Argument) ∷ has_by_default (atoms.flag false) (codes "optional") sorts.flag ∷ has_by_default (atoms.flag false) (codes "pure") sorts.flag ∷ []
+
+abbrev pub chain_expression_fields : List Field
+chain_expression_fields = needs (codes "expression") (sorts.child sets.ChainElement) ∷ []
 
 abbrev pub spread_element_fields : List Field
 spread_element_fields = needs (codes "argument") (sorts.child sets.Expression) ∷ []
@@ -173,6 +176,7 @@ fields types.IdentifierName = identifier_name_fields
 fields types.StaticMemberExpression = static_member_expression_fields
 fields types.ComputedMemberExpression = computed_member_expression_fields
 fields types.CallExpression = call_expression_fields
+fields types.ChainExpression = chain_expression_fields
 fields types.SpreadElement = spread_element_fields
 fields types.ArrayExpression = array_expression_fields
 fields types.ObjectProperty = object_property_fields

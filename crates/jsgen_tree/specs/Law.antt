@@ -21,9 +21,9 @@ pub record FieldsAreNamed : Type 0 where
   pub binary_expression : (a : Atoms) → binary_expression_operator a ≡ as_binary_operator (value_named (codes "operator") (fields types.BinaryExpression) a.values)
   pub logical_expression : (a : Atoms) → logical_expression_operator a ≡ as_logical_operator (value_named (codes "operator") (fields types.LogicalExpression) a.values)
   pub identifier_name : (a : Atoms) → identifier_name_name a ≡ as_text (value_named (codes "name") (fields types.IdentifierName) a.values)
-  pub static_member_expression : (a : Atoms) → static_member_expression_optional a ≡ value_named (codes "optional") (fields types.StaticMemberExpression) a.values
-  pub computed_member_expression : (a : Atoms) → computed_member_expression_optional a ≡ value_named (codes "optional") (fields types.ComputedMemberExpression) a.values
-  pub call_expression : (a : Atoms) → (call_expression_optional a ≡ value_named (codes "optional") (fields types.CallExpression) a.values) × (call_expression_pure a ≡ as_flag (value_named (codes "pure") (fields types.CallExpression) a.values))
+  pub static_member_expression : (a : Atoms) → static_member_expression_optional a ≡ as_flag (value_named (codes "optional") (fields types.StaticMemberExpression) a.values)
+  pub computed_member_expression : (a : Atoms) → computed_member_expression_optional a ≡ as_flag (value_named (codes "optional") (fields types.ComputedMemberExpression) a.values)
+  pub call_expression : (a : Atoms) → (call_expression_optional a ≡ as_flag (value_named (codes "optional") (fields types.CallExpression) a.values)) × (call_expression_pure a ≡ as_flag (value_named (codes "pure") (fields types.CallExpression) a.values))
   pub object_property : (a : Atoms) → (object_property_kind a ≡ as_property_kind (value_named (codes "kind") (fields types.ObjectProperty) a.values)) × (object_property_method a ≡ value_named (codes "method") (fields types.ObjectProperty) a.values) × (object_property_shorthand a ≡ as_flag (value_named (codes "shorthand") (fields types.ObjectProperty) a.values)) × (object_property_computed a ≡ as_flag (value_named (codes "computed") (fields types.ObjectProperty) a.values))
   pub unary_expression : (a : Atoms) → unary_expression_operator a ≡ as_unary_operator (value_named (codes "operator") (fields types.UnaryExpression) a.values)
   pub update_expression : (a : Atoms) → (update_expression_operator a ≡ as_update_operator (value_named (codes "operator") (fields types.UpdateExpression) a.values)) × (update_expression_prefix a ≡ as_flag (value_named (codes "prefix") (fields types.UpdateExpression) a.values))

@@ -69,6 +69,9 @@ computed_member a object expression = node types.ComputedMemberExpression a (one
 pattern abbrev pub call : Atoms → Tree → Trees → Tree
 call a callee arguments = node types.CallExpression a (one callee (many arguments no_slots))
 
+pattern abbrev pub chain : Atoms → Tree → Tree
+chain a expression = node types.ChainExpression a (one expression no_slots)
+
 pattern abbrev pub spread : Atoms → Tree → Tree
 spread a argument = node types.SpreadElement a (one argument no_slots)
 

@@ -5,7 +5,7 @@ use Rattle.jsgen_syntax.specs.Units.{js_units}
 use Rattle.jsgen_tree.specs.Characters.{characters, numeric_values}
 use Rattle.jsgen_tree.specs.Tree.{Tree, optional, trees, holed}
 use Rattle.jsgen_tree.specs.Atom.{no_value, text, units, flag, source_kind, declaration_kind, binary_operator, logical_operator, property_kind, unary_operator, update_operator, assignment_operator}
-use Rattle.jsgen_tree.specs.Nodes.{program, directive, variable_declaration, variable_declarator, binding_identifier, expression_statement, block, if_statement, empty_statement, identifier_reference, this_expression, null_literal, boolean_literal, numeric_literal, string_literal, parenthesized, binary, logical, identifier_name, static_member, computed_member, call, spread, array, object_property, object_expression, unary, new_target, update, new_expression, super, conditional, sequence, assignment}
+use Rattle.jsgen_tree.specs.Nodes.{program, directive, variable_declaration, variable_declarator, binding_identifier, expression_statement, block, if_statement, empty_statement, identifier_reference, this_expression, null_literal, boolean_literal, numeric_literal, string_literal, parenthesized, binary, logical, identifier_name, static_member, computed_member, call, chain, spread, array, object_property, object_expression, unary, new_target, update, new_expression, super, conditional, sequence, assignment}
 use Rattle.jsgen_tree.specs.declared.nodes.ExpressionNode.{ExpressionNode}
 use Rattle.jsgen_tree.specs.declared.nodes.DeclarationNode.{DeclarationNode}
 use Rattle.jsgen_tree.specs.declared.nodes.StatementNode.{StatementNode}
@@ -32,6 +32,7 @@ use Rattle.jsgen_tree.specs.declared.expressions.IdentifierName.{IdentifierName}
 use Rattle.jsgen_tree.specs.declared.expressions.StaticMemberExpression.{StaticMemberExpression}
 use Rattle.jsgen_tree.specs.declared.expressions.ComputedMemberExpression.{ComputedMemberExpression}
 use Rattle.jsgen_tree.specs.declared.expressions.CallExpression.{CallExpression}
+use Rattle.jsgen_tree.specs.declared.expressions.ChainExpression.{ChainExpression}
 use Rattle.jsgen_tree.specs.declared.collections.SpreadElement.{SpreadElement}
 use Rattle.jsgen_tree.specs.declared.collections.ArrayExpression.{ArrayExpression}
 use Rattle.jsgen_tree.specs.declared.collections.ObjectProperty.{ObjectProperty}
@@ -47,6 +48,7 @@ use Rattle.jsgen_tree.specs.declared.assignments.AssignmentExpression.{Assignmen
 use Rattle.jsgen_tree.specs.declared.sets.Expression.{Expression}
 use Rattle.jsgen_tree.specs.declared.sets.Argument.{Argument}
 use Rattle.jsgen_tree.specs.declared.sets.ArrayExpressionElement.{ArrayExpressionElement}
+use Rattle.jsgen_tree.specs.declared.sets.ChainElement.{ChainElement}
 use Rattle.jsgen_tree.specs.declared.sets.SimpleAssignmentTarget.{SimpleAssignmentTarget}
 use Rattle.jsgen_tree.specs.declared.sets.AssignmentTarget.{AssignmentTarget}
 use Rattle.jsgen_tree.specs.declared.sets.ObjectPropertyKind.{ObjectPropertyKind}
@@ -57,6 +59,7 @@ use Rattle.jsgen_tree.specs.declared.sets.BindingPattern.{BindingPattern}
 use Rattle.jsgen_tree.specs.declared.sets.Expression.TheVariants as expression
 use Rattle.jsgen_tree.specs.declared.sets.Argument.TheVariants as argument
 use Rattle.jsgen_tree.specs.declared.sets.ArrayExpressionElement.TheVariants as array_expression_element
+use Rattle.jsgen_tree.specs.declared.sets.ChainElement.TheVariants as chain_element
 use Rattle.jsgen_tree.specs.declared.sets.SimpleAssignmentTarget.TheVariants as simple_assignment_target
 use Rattle.jsgen_tree.specs.declared.sets.AssignmentTarget.TheVariants as assignment_target
 use Rattle.jsgen_tree.specs.declared.sets.ObjectPropertyKind.TheVariants as object_property_kind
@@ -139,10 +142,10 @@ abbrev pub identifier_name_row : IdentifierName → Tree
 identifier_name_row n = identifier_name (record { span = n.span; values = text (characters n.name) ∷ [] })
 
 abbrev pub static_member_expression_row : {N : Type 0} → (N → Tree) → StaticMemberExpression N → Tree
-static_member_expression_row plain n = static_member (record { span = n.span; values = no_value ∷ [] }) (in_expression plain n.object) (identifier_name_row n.property.value)
+static_member_expression_row plain n = static_member (record { span = n.span; values = flag n.optional ∷ [] }) (in_expression plain n.object) (identifier_name_row n.property.value)
 
 abbrev pub computed_member_expression_row : {N : Type 0} → (N → Tree) → ComputedMemberExpression N → Tree
-computed_member_expression_row plain n = computed_member (record { span = n.span; values = no_value ∷ [] }) (in_expression plain n.object) (in_expression plain n.expression)
+computed_member_expression_row plain n = computed_member (record { span = n.span; values = flag n.optional ∷ [] }) (in_expression plain n.object) (in_expression plain n.expression)
 
 abbrev pub spread_element_row : {N : Type 0} → (N → Tree) → SpreadElement N → Tree
 spread_element_row plain n = spread (record { span = n.span; values = [] }) (in_expression plain n.argument)
@@ -152,7 +155,15 @@ in_argument plain (argument.SpreadElement b) = spread_element_row plain b.value
 in_argument plain (argument.Expression b) = in_expression plain b.value
 
 abbrev pub call_expression_row : {N : Type 0} → (N → Tree) → CallExpression N → Tree
-call_expression_row plain n = call (record { span = n.span; values = no_value ∷ flag n.pure ∷ [] }) (in_expression plain n.callee) (trees (map (in_argument plain) n.arguments.items))
+call_expression_row plain n = call (record { span = n.span; values = flag n.optional ∷ flag n.pure ∷ [] }) (in_expression plain n.callee) (trees (map (in_argument plain) n.arguments.items))
+
+abbrev pub in_chain_element : {N : Type 0} → (N → Tree) → ChainElement N → Tree
+in_chain_element plain (chain_element.StaticMemberExpression b) = static_member_expression_row plain b.value
+in_chain_element plain (chain_element.ComputedMemberExpression b) = computed_member_expression_row plain b.value
+in_chain_element plain (chain_element.CallExpression b) = call_expression_row plain b.value
+
+abbrev pub chain_expression_row : {N : Type 0} → (N → Tree) → ChainExpression N → Tree
+chain_expression_row plain n = chain (record { span = n.span; values = [] }) (in_chain_element plain n.expression)
 
 abbrev pub in_array_expression_element : {N : Type 0} → (N → Tree) → ArrayExpressionElement N → Tree
 in_array_expression_element plain (array_expression_element.SpreadElement b) = spread_element_row plain b.value
@@ -224,6 +235,7 @@ expression_plain plain (expression.ParenthesizedExpression b) = parenthesized_ex
 expression_plain plain (expression.StaticMemberExpression b) = static_member_expression_row plain b.value
 expression_plain plain (expression.ComputedMemberExpression b) = computed_member_expression_row plain b.value
 expression_plain plain (expression.CallExpression b) = call_expression_row plain b.value
+expression_plain plain (expression.ChainExpression b) = chain_expression_row plain b.value
 expression_plain plain (expression.ArrayExpression b) = array_expression_row plain b.value
 expression_plain plain (expression.ObjectExpression b) = object_expression_row plain b.value
 expression_plain plain (expression.UnaryExpression b) = unary_expression_row plain b.value

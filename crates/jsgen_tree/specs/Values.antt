@@ -149,17 +149,14 @@ logical_expression_operator a = as_logical_operator (value_at 0 a.values)
 abbrev pub identifier_name_name : Atoms → List ℕ
 identifier_name_name a = as_text (value_at 0 a.values)
 
--- not read yet
-abbrev pub static_member_expression_optional : Atoms → Atom
-static_member_expression_optional a = value_at 0 a.values
+abbrev pub static_member_expression_optional : Atoms → Bool
+static_member_expression_optional a = as_flag (value_at 0 a.values)
 
--- not read yet
-abbrev pub computed_member_expression_optional : Atoms → Atom
-computed_member_expression_optional a = value_at 0 a.values
+abbrev pub computed_member_expression_optional : Atoms → Bool
+computed_member_expression_optional a = as_flag (value_at 0 a.values)
 
--- not read yet
-abbrev pub call_expression_optional : Atoms → Atom
-call_expression_optional a = value_at 0 a.values
+abbrev pub call_expression_optional : Atoms → Bool
+call_expression_optional a = as_flag (value_at 0 a.values)
 
 abbrev pub call_expression_pure : Atoms → Bool
 call_expression_pure a = as_flag (value_at 1 a.values)

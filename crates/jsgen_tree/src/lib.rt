@@ -27,9 +27,9 @@ pub use collections::{
     ArrayExpression, ObjectExpression, ObjectProperty, PropertyKind, SpreadElement,
 };
 pub use expressions::{
-    BinaryExpression, BooleanLiteral, CallExpression, ComputedMemberExpression, IdentifierName,
-    IdentifierReference, LogicalExpression, NullLiteral, NumericLiteral, ParenthesizedExpression,
-    StaticMemberExpression, StringLiteral, ThisExpression,
+    BinaryExpression, BooleanLiteral, CallExpression, ChainExpression, ComputedMemberExpression,
+    IdentifierName, IdentifierReference, LogicalExpression, NullLiteral, NumericLiteral,
+    ParenthesizedExpression, StaticMemberExpression, StringLiteral, ThisExpression,
 };
 pub use laws::fields_are_named;
 pub use names::is_proto;
@@ -38,8 +38,8 @@ pub use numbers::NumericValue;
 pub use operations::{NewExpression, NewTarget, Super, UnaryExpression, UpdateExpression};
 pub use options::{CodegenOptions, CommentOptions, LegalComment};
 pub use sets::{
-    Argument, ArrayExpressionElement, AssignmentTarget, BindingPattern, Declaration, Expression,
-    ObjectPropertyKind, PropertyKey, SimpleAssignmentTarget, Statement,
+    Argument, ArrayExpressionElement, AssignmentTarget, BindingPattern, ChainElement, Declaration,
+    Expression, ObjectPropertyKind, PropertyKey, SimpleAssignmentTarget, Statement,
 };
 pub use span::GetSpan;
 pub use statements::{

@@ -2,13 +2,13 @@
 // The type of a member of each set.
 ghost use Rattle.std.specs.Prelude.{◌≡◌};
 ghost use Rattle.jsgen_tree.specs.Tree.{type_of};
-ghost use Rattle.jsgen_tree.specs.Rows.{expression_plain, declaration_plain, statement_plain, binding_pattern_plain, in_argument, in_array_expression_element, in_simple_assignment_target, in_assignment_target, in_object_property_kind, in_property_key};
+ghost use Rattle.jsgen_tree.specs.Rows.{expression_plain, declaration_plain, statement_plain, binding_pattern_plain, in_argument, in_array_expression_element, in_chain_element, in_simple_assignment_target, in_assignment_target, in_object_property_kind, in_property_key};
 ghost use Rattle.jsgen_tree.specs.Plain.{node_plain};
 
 use crate::nodes::Node;
 use crate::sets::{
-    Argument, ArrayExpressionElement, AssignmentTarget, BindingPattern, Declaration, Expression,
-    ObjectPropertyKind, PropertyKey, SimpleAssignmentTarget, Statement,
+    Argument, ArrayExpressionElement, AssignmentTarget, BindingPattern, ChainElement, Declaration,
+    Expression, ObjectPropertyKind, PropertyKey, SimpleAssignmentTarget, Statement,
 };
 use crate::types::NodeType;
 
@@ -30,6 +30,7 @@ impl Expression {
             Expression::StaticMemberExpression(_) => NodeType::StaticMemberExpression,
             Expression::ComputedMemberExpression(_) => NodeType::ComputedMemberExpression,
             Expression::CallExpression(_) => NodeType::CallExpression,
+            Expression::ChainExpression(_) => NodeType::ChainExpression,
             Expression::ArrayExpression(_) => NodeType::ArrayExpression,
             Expression::ObjectExpression(_) => NodeType::ObjectExpression,
             Expression::UnaryExpression(_) => NodeType::UnaryExpression,
@@ -64,6 +65,19 @@ impl ArrayExpressionElement {
         match self {
             ArrayExpressionElement::SpreadElement(_) => NodeType::SpreadElement,
             ArrayExpressionElement::Expression(node) => node.get().node_type(),
+        }
+    }
+}
+
+impl ChainElement {
+    /// The type of the node.
+    pub fn node_type(&self) -> NodeType
+        ensures { result ≡ type_of (in_chain_element node_plain self.now) }
+    {
+        match self {
+            ChainElement::StaticMemberExpression(_) => NodeType::StaticMemberExpression,
+            ChainElement::ComputedMemberExpression(_) => NodeType::ComputedMemberExpression,
+            ChainElement::CallExpression(_) => NodeType::CallExpression,
         }
     }
 }

@@ -4,9 +4,9 @@
 use crate::assignments::{AssignmentExpression, ConditionalExpression, SequenceExpression};
 use crate::collections::{ArrayExpression, ObjectExpression, ObjectProperty, SpreadElement};
 use crate::expressions::{
-    BinaryExpression, BooleanLiteral, CallExpression, ComputedMemberExpression, IdentifierName,
-    IdentifierReference, LogicalExpression, NullLiteral, NumericLiteral, ParenthesizedExpression,
-    StaticMemberExpression, StringLiteral, ThisExpression,
+    BinaryExpression, BooleanLiteral, CallExpression, ChainExpression, ComputedMemberExpression,
+    IdentifierName, IdentifierReference, LogicalExpression, NullLiteral, NumericLiteral,
+    ParenthesizedExpression, StaticMemberExpression, StringLiteral, ThisExpression,
 };
 use crate::nodes::{DeclarationNode, ExpressionNode, Node};
 use crate::operations::{NewExpression, NewTarget, Super, UnaryExpression, UpdateExpression};
@@ -29,6 +29,7 @@ pub enum Expression<N = Node> {
     StaticMemberExpression(Box<StaticMemberExpression<N>>),
     ComputedMemberExpression(Box<ComputedMemberExpression<N>>),
     CallExpression(Box<CallExpression<N>>),
+    ChainExpression(Box<ChainExpression<N>>),
     ArrayExpression(Box<ArrayExpression<N>>),
     ObjectExpression(Box<ObjectExpression<N>>),
     UnaryExpression(Box<UnaryExpression<N>>),
@@ -53,6 +54,14 @@ pub enum Argument<N = Node> {
 pub enum ArrayExpressionElement<N = Node> {
     SpreadElement(Box<SpreadElement<N>>),
     Expression(Box<ExpressionNode<N>>),
+}
+
+/// The last link of a chain.
+#[derive(Drop)]
+pub enum ChainElement<N = Node> {
+    StaticMemberExpression(Box<StaticMemberExpression<N>>),
+    ComputedMemberExpression(Box<ComputedMemberExpression<N>>),
+    CallExpression(Box<CallExpression<N>>),
 }
 
 /// What may be changed as it stands.

@@ -3,20 +3,20 @@
 ghost use Rattle.std.specs.Prelude.{◌≡◌};
 ghost use Rattle.jsgen_tree.specs.Tree.{span_of};
 ghost use Rattle.jsgen_tree.specs.Plain.{node_plain};
-ghost use Rattle.jsgen_tree.specs.Spans.{expression_span, argument_span, array_expression_element_span, simple_assignment_target_span, assignment_target_span, object_property_kind_span, property_key_span, declaration_span, statement_span, binding_pattern_span};
+ghost use Rattle.jsgen_tree.specs.Spans.{expression_span, argument_span, array_expression_element_span, chain_element_span, simple_assignment_target_span, assignment_target_span, object_property_kind_span, property_key_span, declaration_span, statement_span, binding_pattern_span};
 
 use crate::assignments::{AssignmentExpression, ConditionalExpression, SequenceExpression};
 use crate::collections::{ArrayExpression, ObjectExpression, ObjectProperty, SpreadElement};
 use crate::expressions::{
-    BinaryExpression, BooleanLiteral, CallExpression, ComputedMemberExpression, IdentifierName,
-    IdentifierReference, LogicalExpression, NullLiteral, NumericLiteral, ParenthesizedExpression,
-    StaticMemberExpression, StringLiteral, ThisExpression,
+    BinaryExpression, BooleanLiteral, CallExpression, ChainExpression, ComputedMemberExpression,
+    IdentifierName, IdentifierReference, LogicalExpression, NullLiteral, NumericLiteral,
+    ParenthesizedExpression, StaticMemberExpression, StringLiteral, ThisExpression,
 };
 use crate::nodes::Node;
 use crate::operations::{NewExpression, NewTarget, Super, UnaryExpression, UpdateExpression};
 use crate::sets::{
-    Argument, ArrayExpressionElement, AssignmentTarget, BindingPattern, Declaration, Expression,
-    ObjectPropertyKind, PropertyKey, SimpleAssignmentTarget, Statement,
+    Argument, ArrayExpressionElement, AssignmentTarget, BindingPattern, ChainElement, Declaration,
+    Expression, ObjectPropertyKind, PropertyKey, SimpleAssignmentTarget, Statement,
 };
 use crate::statements::{
     BindingIdentifier, BlockStatement, Directive, EmptyStatement, ExpressionStatement, IfStatement,
@@ -210,6 +210,14 @@ impl<N> GetSpan for CallExpression<N> {
     }
 }
 
+impl<N> GetSpan for ChainExpression<N> {
+    ghost own_span = { λ n. n.span };
+
+    fn span(&self) -> Span {
+        self.span
+    }
+}
+
 impl<N> GetSpan for SpreadElement<N> {
     ghost own_span = { λ n. n.span };
 
@@ -323,6 +331,7 @@ impl<N> GetSpan for Expression<N> {
             Expression::StaticMemberExpression(node) => node.span,
             Expression::ComputedMemberExpression(node) => node.span,
             Expression::CallExpression(node) => node.span,
+            Expression::ChainExpression(node) => node.span,
             Expression::ArrayExpression(node) => node.span,
             Expression::ObjectExpression(node) => node.span,
             Expression::UnaryExpression(node) => node.span,
@@ -355,6 +364,18 @@ impl<N: GetSpan> GetSpan for ArrayExpressionElement<N> {
         match self {
             ArrayExpressionElement::SpreadElement(node) => node.span,
             ArrayExpressionElement::Expression(node) => node.get().span(),
+        }
+    }
+}
+
+impl<N> GetSpan for ChainElement<N> {
+    ghost own_span = { λ n. chain_element_span n };
+
+    fn span(&self) -> Span {
+        match self {
+            ChainElement::StaticMemberExpression(node) => node.span,
+            ChainElement::ComputedMemberExpression(node) => node.span,
+            ChainElement::CallExpression(node) => node.span,
         }
     }
 }

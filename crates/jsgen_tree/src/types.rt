@@ -1,7 +1,7 @@
 // Generated from tools/nodes/table.txt; edit that and run tools/nodes/generate.
 // The types of nodes, and the sets that a field's child may be of.
 ghost use Rattle.std.specs.Prelude.{◌≡◌};
-ghost use Rattle.jsgen_tree.specs.Sets.{in_set, is_expression, is_argument, is_array_expression_element, is_simple_assignment_target, is_assignment_target, is_object_property_kind, is_property_key, is_statement};
+ghost use Rattle.jsgen_tree.specs.Sets.{in_set, is_expression, is_argument, is_array_expression_element, is_chain_element, is_simple_assignment_target, is_assignment_target, is_object_property_kind, is_property_key, is_statement};
 
 /// The type of a node.
 #[derive(Clone, Copy, Debug, PartialEq, Eq)]
@@ -28,6 +28,7 @@ pub enum NodeType {
     StaticMemberExpression,
     ComputedMemberExpression,
     CallExpression,
+    ChainExpression,
     SpreadElement,
     ArrayExpression,
     ObjectProperty,
@@ -52,6 +53,7 @@ pub enum NodeSet {
     Expression,
     IdentifierName,
     Argument,
+    ChainElement,
     ArrayExpressionElement,
     PropertyKey,
     ObjectPropertyKind,
@@ -73,6 +75,7 @@ impl NodeType {
             NodeSet::Expression => self.is_expression(),
             NodeSet::IdentifierName => matches!(&self, NodeType::IdentifierName),
             NodeSet::Argument => self.is_argument(),
+            NodeSet::ChainElement => self.is_chain_element(),
             NodeSet::ArrayExpressionElement => self.is_array_expression_element(),
             NodeSet::PropertyKey => self.is_property_key(),
             NodeSet::ObjectPropertyKind => self.is_object_property_kind(),
@@ -100,6 +103,7 @@ impl NodeType {
                 | NodeType::StaticMemberExpression
                 | NodeType::ComputedMemberExpression
                 | NodeType::CallExpression
+                | NodeType::ChainExpression
                 | NodeType::ArrayExpression
                 | NodeType::ObjectExpression
                 | NodeType::UnaryExpression
@@ -132,6 +136,7 @@ impl NodeType {
                 | NodeType::StaticMemberExpression
                 | NodeType::ComputedMemberExpression
                 | NodeType::CallExpression
+                | NodeType::ChainExpression
                 | NodeType::ArrayExpression
                 | NodeType::ObjectExpression
                 | NodeType::UnaryExpression
@@ -164,6 +169,7 @@ impl NodeType {
                 | NodeType::StaticMemberExpression
                 | NodeType::ComputedMemberExpression
                 | NodeType::CallExpression
+                | NodeType::ChainExpression
                 | NodeType::ArrayExpression
                 | NodeType::ObjectExpression
                 | NodeType::UnaryExpression
@@ -174,6 +180,18 @@ impl NodeType {
                 | NodeType::ConditionalExpression
                 | NodeType::SequenceExpression
                 | NodeType::AssignmentExpression
+        )
+    }
+
+    /// Whether nodes of this type are in `ChainElement`.
+    pub fn is_chain_element(self) -> bool
+        ensures { result ≡ is_chain_element self }
+    {
+        matches!(
+            &self,
+            NodeType::StaticMemberExpression
+                | NodeType::ComputedMemberExpression
+                | NodeType::CallExpression
         )
     }
 
@@ -227,6 +245,7 @@ impl NodeType {
                 | NodeType::StaticMemberExpression
                 | NodeType::ComputedMemberExpression
                 | NodeType::CallExpression
+                | NodeType::ChainExpression
                 | NodeType::ArrayExpression
                 | NodeType::ObjectExpression
                 | NodeType::UnaryExpression
