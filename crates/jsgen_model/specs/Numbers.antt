@@ -1,8 +1,10 @@
 -- What spells a number in strict code: NumericLiteral, production by production (ECMA-262, 12.9.3). Legacy octals and leading zeros have no production here.
-use Rattle.std.specs.Prelude.{ℕ, List, [], ◌∷◌, Bool, true, false, not, ◌&&◌, ◌||◌, ◌==◌, codes}
+use Rattle.std.specs.Prelude.{ℕ, List, [], ◌∷◌, Bool, true, false, None, not, ◌&&◌, ◌||◌, ◌==◌, codes, if◌then◌else◌}
 use Rattle.std.specs.Char.{is_ascii_digit, is_ascii_hexdigit}
 use Rattle.std.specs.Int.{is_in_range}
-use Rattle.std.specs.List.{list_any}
+use Rattle.std.specs.List.{list_all, list_any, last_or}
+use Rattle.std.specs.Option.{option_map_or}
+use Rattle.jsgen_syntax.specs.Escapes.{begins}
 
 -- ---- how productions are put together
 
@@ -118,3 +120,27 @@ non_decimal_integer = binary_integer ∣ octal_integer ∣ hex_integer
 -- NumericLiteral, without LegacyOctalIntegerLiteral
 unfoldable pub spells_number : Production
 spells_number = decimal_literal ∣ decimal_big_integer ∣ non_decimal_integer ∣ (non_decimal_integer ▸ suffix)
+
+-- ---- the literals of a tree
+
+-- a dot behind this number is no part of it: it has a dot, an exponent or a prefix
+abbrev pub takes_no_dot : List ℕ → Bool
+takes_no_dot text = list_any (λ c. list_any (λ d. c == d) (codes ".eExXoObB")) text
+
+abbrev pub ends_in_dot : List ℕ → Bool
+ends_in_dot text = option_map_or (λ c. c == 46) (last_or None text) false
+
+-- the text of a number: NumericLiteral without the suffix of a big integer, which begins with a digit and doesn't end in a dot
+unfoldable pub is_raw_number : List ℕ → Bool
+is_raw_number text = begins is_ascii_digit text && not (ends_in_dot text) && (decimal_literal ∣ non_decimal_integer) text
+
+-- `0`, or decimal digits of which the first isn't `0`, without separators
+abbrev pub spells_whole : List ℕ → Bool
+spells_whole [] = false
+spells_whole (c ∷ []) = is_ascii_digit c
+spells_whole (c ∷ d ∷ ds) = not (c == 48) && list_all is_ascii_digit (c ∷ d ∷ ds)
+
+-- the value of a big integer: perhaps a minus, and a whole number. The suffix isn't part of it
+unfoldable pub is_big_integer : List ℕ → Bool
+is_big_integer [] = false
+is_big_integer (c ∷ cs) = if c == 45 then spells_whole cs else spells_whole (c ∷ cs)

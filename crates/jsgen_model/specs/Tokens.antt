@@ -7,6 +7,7 @@ use Rattle.jsgen_syntax.specs.Escapes.{begins, word_value}
 use Rattle.jsgen_syntax.specs.Name.{starts_name, continues_name, spells_name}
 use Rattle.jsgen_syntax.specs.Strings.{quote_char, string_value}
 use Rattle.jsgen_syntax.specs.declared.quote.Quote.{Quote}
+pub use Rattle.jsgen_model.specs.Numbers.{spells_whole}
 use Rattle.jsgen_model.specs.Numbers.{spells_number}
 use Rattle.jsgen_model.specs.Punctuator.{Punctuator, punctuator_text, dot, ellipsis, semicolon, comma, colon, question, question_dot, arrow, less, greater, less_equal, greater_equal, equal_equal, not_equal, equal_equal_equal, not_equal_equal, plus, minus, star, slash, percent, star_star, plus_plus, minus_minus, shift_left, shift_right, shift_right_zero, bit_and, bit_or, bit_xor, bang, tilde, and_and, or_or, nullish, equal, plus_equal, minus_equal, star_equal, slash_equal, percent_equal, star_star_equal, shift_left_equal, shift_right_equal, shift_right_zero_equal, bit_and_equal, bit_or_equal, bit_xor_equal, and_and_equal, or_or_equal, nullish_equal, Bracket, opening, closing}
 
@@ -75,12 +76,6 @@ unfoldable pub longer_stands : Punctuator → List ℕ → Bool
 longer_stands p text = list_any (λ q. nat_lt (length (punctuator_text p)) (length (punctuator_text q)) && stands q text) punctuators
 
 -- ---- numbers (12.9.3)
-
--- `0`, or decimal digits without a leading zero: so far the only form of a number that is a token. The others come with the nodes that print them
-abbrev pub spells_whole : List ℕ → Bool
-spells_whole [] = false
-spells_whole (c ∷ []) = is_ascii_digit c
-spells_whole (c ∷ d ∷ ds) = not (c == 48) && list_all is_ascii_digit (c ∷ d ∷ ds)
 
 -- a longer number stands there, of whatever form: the characters w and one or more of the text behind them spell it
 unfoldable pub longer_number_stands : List ℕ → List ℕ → Bool
