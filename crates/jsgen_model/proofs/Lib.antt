@@ -1,3 +1,6 @@
 pub mod PlainRows
 pub mod Programs
 pub mod PlainPrograms
+pub mod NumberKinds
+pub mod NumberStates
+pub mod NumberMachine
