@@ -4,3 +4,4 @@ pub mod PlainPrograms
 pub mod NumberKinds
 pub mod NumberStates
 pub mod NumberMachine
+pub mod NumberRuns

@@ -1,10 +1,11 @@
 -- Kinds of characters, as far as the productions of numbers tell them apart.
-use Rattle.std.proofs.Common.{◌≡◌, ℕ, zero, suc, ◌<◌, ◌≤◌, Bool, true, false, not, cond, nat_le, nat_lt, ◌&&◌, ◌||◌, ◌==◌, ◌⊎◌, inl, inr, List, [], ◌∷◌, codes, refl, sym, ap, ◌∙◌, subst, arith, if◌then◌else◌}
-use Rattle.std.specs.Char.{is_ascii_digit, is_ascii_hexdigit}
+use Rattle.std.proofs.Common.{◌≡◌, ℕ, zero, suc, ◌<◌, ◌≤◌, Bool, true, false, not, nat_le, nat_lt, ◌&&◌, ◌||◌, ◌==◌, ◌⊎◌, inl, inr, List, [], ◌∷◌, codes, refl, sym, ap, ◌∙◌, subst, arith, if◌then◌else◌}
+use Rattle.std.specs.Char.{is_ascii_digit, is_ascii_hexdigit, is_ascii_alphanumeric}
 use Rattle.std.specs.Int.{is_in_range}
 use Rattle.std.specs.List.{list_all, list_any}
+use Rattle.std.proofs.Math.Bool.{or-false}
 use Rattle.std.proofs.Math.Path.{fun_ext}
-use Rattle.std.proofs.lemmas.Bool.{both_ways, and_parts, cases_lt, false_from_ne_true, leb-true, ltb-true, ne_eqb, or_from}
+use Rattle.std.proofs.lemmas.Bool.{both_ways, and_parts, cases_lt, false_from_ne_true, leb-true, ltb-true, ne_eqb, or_from, or_left, eqb-true}
 
 pub data Kind : Type 0 where
   nought : Kind
@@ -68,6 +69,7 @@ pub data Test : Type 0 where
   a_binary_mark : Test
   an_octal_mark : Test
   a_hex_mark : Test
+  no_dot_mark : Test
 
 abbrev pub passes : Test → ℕ → Bool
 passes decimal c = is_ascii_digit c
@@ -84,6 +86,7 @@ passes an_exponent c = is_any (codes "eE") c
 passes a_binary_mark c = is_any (codes "bB") c
 passes an_octal_mark c = is_any (codes "oO") c
 passes a_hex_mark c = is_any (codes "xX") c
+passes no_dot_mark c = is_any (codes ".eExXoObB") c
 
 -- ---- characters of one kind pass the same tests
 
@@ -129,7 +132,7 @@ past_any : (cs : List ℕ) (c : ℕ) → list_all (λ d. nat_lt d 128) cs ≡ tr
 past_any [] c l h = refl
 past_any (d ∷ cs) c l h = let k = and_parts (nat_lt d 128) (list_all (λ e. nat_lt e 128) cs) l in or_from (c == d) (is_any cs c) (past d c (ltb-true d 128 k.0) h) (past_any cs c k.1 h)
 
-past_kind : (c : ℕ) → 128 ≤ c → kind c ≡ other
+pub past_kind : (c : ℕ) → 128 ≤ c → kind c ≡ other
 unfolding kind
 past_kind c h = rw (past 48 c (omega arith) h, past 49 c (omega arith) h, past_range 50 55 c (omega arith) h, past_range 56 57 c (omega arith) h, past_any (codes "bB") c refl h, past_any (codes "eE") c refl h, past_any (codes "acdfACDF") c refl h, past 110 c (omega arith) h, past_any (codes "oO") c refl h, past_any (codes "xX") c refl h, past 95 c (omega arith) h, past 46 c (omega arith) h, past_any (codes "+-") c refl h) refl
 
@@ -148,8 +151,9 @@ past_fails an_exponent c h = past_any (codes "eE") c refl h
 past_fails a_binary_mark c h = past_any (codes "bB") c refl h
 past_fails an_octal_mark c h = past_any (codes "oO") c refl h
 past_fails a_hex_mark c h = past_any (codes "xX") c refl h
+past_fails no_dot_mark c h = past_any (codes ".eExXoObB") c refl h
 
-agree : (x : Test) (c : ℕ) → passes x c ≡ passes x (sample (kind c))
+pub agree : (x : Test) (c : ℕ) → passes x c ≡ passes x (sample (kind c))
 unfolding same
 agree x c = by (cases_lt c 128)
   where
@@ -163,3 +167,72 @@ Passing = Test → Bool
 
 pub of_kind : (P : Passing → Kind → Type 0) (c : ℕ) → ((k : Kind) → P (λ x. passes x (sample k)) k) → P (λ x. passes x c) (kind c)
 of_kind P c h = subst (λ v. P v (kind c)) (sym (fun_ext (λ x. agree x c))) (h (kind c))
+
+-- ---- what a character's kind tells of it
+
+kind_fact : (g : Kind → Bool) (h : ℕ → Bool) → g other ≡ true → all_below 128 (λ c. g (kind c) || h c) ≡ true → (c : ℕ) → (g (kind c) || h c) ≡ true
+kind_fact g h o e c = by (cases_lt c 128)
+  where
+    by : (c < 128) ⊎ (128 ≤ c) → (g (kind c) || h c) ≡ true
+    by (inl l) = below 128 (λ d. g (kind d) || h d) e c l
+    by (inr l) = or_left (g (kind c)) (h c) (ap g (past_kind c l) ∙ o)
+
+either_fails : (a b : Bool) → (a || b) ≡ true → a ≡ false → b ≡ true
+either_fails true b h e = absurd (both_ways true e refl)
+either_fails false b h e = h
+
+-- a letter, a digit, a separator or a dot
+abbrev pub in_number : ℕ → Bool
+in_number c = is_ascii_alphanumeric c || (c == 95) || (c == 46)
+
+abbrev pub is_outside : Kind → Bool
+is_outside plus_or_minus = true
+is_outside other = true
+is_outside k = false
+
+pub outside : (c : ℕ) → in_number c ≡ false → is_outside (kind c) ≡ true
+unfolding all_below kind
+outside c h = either_fails (in_number c) (is_outside (kind c)) (swapped (is_outside (kind c)) (in_number c) (kind_fact is_outside in_number refl refl c)) h
+  where
+    swapped : (a b : Bool) → (a || b) ≡ true → (b || a) ≡ true
+    swapped true true e = refl
+    swapped true false e = refl
+    swapped false true e = refl
+    swapped false false e = e
+
+-- a letter or a digit
+abbrev pub is_letter_or_digit : Kind → Bool
+is_letter_or_digit underscore = false
+is_letter_or_digit full_stop = false
+is_letter_or_digit plus_or_minus = false
+is_letter_or_digit other = false
+is_letter_or_digit k = true
+
+pub letter_or_digit : (c : ℕ) → is_letter_or_digit (kind c) ≡ true → is_ascii_alphanumeric c ≡ true
+unfolding all_below kind
+letter_or_digit c h = either_fails (not (is_letter_or_digit (kind c))) (is_ascii_alphanumeric c) (kind_fact (λ k. not (is_letter_or_digit k)) is_ascii_alphanumeric refl refl c) (ap not h)
+
+pub sign_kind : (c : ℕ) → is_any (codes "+-") c ≡ false → is_outside (kind c) ≡ true → kind c ≡ other
+sign_kind c h o = by (kind c) (sym (agree a_sign c) ∙ h) o
+  where
+    by : (k : Kind) → passes a_sign (sample k) ≡ false → is_outside k ≡ true → k ≡ other
+    by plus_or_minus e f = absurd (both_ways true e refl)
+    by other e f = refl
+    by k e f = absurd (both_ways false refl f)
+
+abbrev pub is_decimal : Kind → Bool
+is_decimal nought = true
+is_decimal one = true
+is_decimal to_seven = true
+is_decimal to_nine = true
+is_decimal k = false
+
+pub decimal_kind : (c : ℕ) → is_ascii_digit c ≡ is_decimal (kind c)
+decimal_kind c = agree decimal c ∙ by (kind c)
+  where
+    by : (k : Kind) → passes decimal (sample k) ≡ is_decimal k
+    by nought = refl
+    by k = refl
+
+pub dot_kind : (c : ℕ) → kind c ≡ full_stop → c ≡ 46
+dot_kind c e = eqb-true c 46 (sym (or-false (c == 46)) ∙ (agree a_point c ∙ ap (λ k. passes a_point (sample k)) e))

@@ -1,11 +1,11 @@
 -- The machine of NumberStates accepts exactly what spells a number.
-use Rattle.std.proofs.Common.{◌≡◌, ℕ, Bool, true, false, not, ◌&&◌, ◌||◌, ◌==◌, List, [], ◌∷◌, ◌++◌, codes, refl, sym, ap, ◌∙◌, subst}
+use Rattle.std.proofs.Common.{◌≡◌, ℕ, Bool, true, false, ◌&&◌, ◌||◌, ◌==◌, List, [], ◌∷◌, codes, refl, sym, ap, ◌∙◌}
 use Rattle.std.specs.Char.{is_ascii_digit, is_ascii_hexdigit}
 use Rattle.std.specs.Int.{is_in_range}
 use Rattle.std.proofs.Math.Bool.{or-false, and-true, or_assoc}
 use Rattle.std.proofs.Math.Path.{fun_ext}
-use Rattle.jsgen_model.specs.Numbers.{Production, character, one_of, in_two, ◌∣◌, ◌▸◌, perhaps, separator, suffix, point, zero_digit, non_zero_digit, digits_of, decimal_digits, decimal_integer, signed_integer, exponent_part, decimal_literal, decimal_big_integer, binary_integer, octal_integer, hex_integer, non_decimal_integer, spells_number}
-use Rattle.jsgen_model.proofs.NumberKinds.{Kind, nought, one, to_seven, to_nine, letter_b, letter_e, letter_of_hex, small_n, letter_o, letter_x, underscore, full_stop, plus_or_minus, other, kind, sample, Test, decimal, non_zero, binary, octal, hexadecimal, a_separator, a_suffix, a_point, a_zero, a_sign, an_exponent, a_binary_mark, an_octal_mark, a_hex_mark, passes, is_any, Passing, of_kind}
+use Rattle.jsgen_model.specs.Numbers.{Production, character, one_of, in_two, ◌∣◌, ◌▸◌, perhaps, separator, suffix, point, digits_of, decimal_digits, decimal_integer, signed_integer, exponent_part, decimal_big_integer, non_decimal_integer, spells_number}
+use Rattle.jsgen_model.proofs.NumberKinds.{Kind, nought, one, to_seven, to_nine, letter_e, underscore, full_stop, plus_or_minus, kind, sample, Test, decimal, non_zero, binary, octal, hexadecimal, a_separator, a_suffix, a_point, a_zero, a_sign, an_exponent, a_binary_mark, an_octal_mark, a_hex_mark, passes, is_any, Passing, of_kind}
 use Rattle.jsgen_model.proofs.NumberStates.{Radix, two, eight, sixteen, State, start, zero, integer, integer_due, dotted, fraction, fraction_due, exponent_mark, exponent, exponent_due, digits, digits_due, suffixed, dead, accepts, step, run}
 
 -- ---- what is left of a production behind a character

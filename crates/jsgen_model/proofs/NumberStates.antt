@@ -1,11 +1,6 @@
 -- A machine that takes the characters of a number one by one, and accepts what spells one.
-use Rattle.std.proofs.Common.{◌≡◌, ℕ, Bool, true, false, not, ◌&&◌, ◌||◌, ◌==◌, List, [], ◌∷◌, ◌++◌, codes, refl, sym, ap, ◌∙◌, subst}
-use Rattle.std.specs.Char.{is_ascii_digit, is_ascii_hexdigit}
-use Rattle.std.specs.Int.{is_in_range}
-use Rattle.std.proofs.Math.Bool.{or-false, and-true, or_assoc}
-use Rattle.std.proofs.Math.Path.{fun_ext}
-use Rattle.jsgen_model.specs.Numbers.{Production, character, one_of, in_two, ◌∣◌, ◌▸◌, perhaps, separator, suffix, point, zero_digit, non_zero_digit, digits_of, decimal_digits, decimal_integer, signed_integer, exponent_part, decimal_literal, decimal_big_integer, binary_integer, octal_integer, hex_integer, non_decimal_integer, spells_number}
-use Rattle.jsgen_model.proofs.NumberKinds.{Kind, nought, one, to_seven, to_nine, letter_b, letter_e, letter_of_hex, small_n, letter_o, letter_x, underscore, full_stop, plus_or_minus, other, kind, sample, Test, decimal, non_zero, binary, octal, hexadecimal, a_separator, a_suffix, a_point, a_zero, a_sign, an_exponent, a_binary_mark, an_octal_mark, a_hex_mark, passes, Passing, of_kind}
+use Rattle.std.specs.Prelude.{ℕ, Bool, true, false, List, [], ◌∷◌}
+use Rattle.jsgen_model.proofs.NumberKinds.{Kind, nought, one, to_nine, letter_b, letter_e, letter_of_hex, small_n, letter_o, letter_x, underscore, full_stop, plus_or_minus, kind, is_decimal}
 
 -- ---- states
 
@@ -47,13 +42,6 @@ accepts exponent = true
 accepts (digits r) = true
 accepts suffixed = true
 accepts s = false
-
-abbrev pub is_decimal : Kind → Bool
-is_decimal nought = true
-is_decimal one = true
-is_decimal to_seven = true
-is_decimal to_nine = true
-is_decimal k = false
 
 abbrev pub is_hexadecimal : Kind → Bool
 is_hexadecimal letter_b = true

@@ -7,7 +7,6 @@ use Rattle.jsgen_syntax.specs.Escapes.{begins, word_value}
 use Rattle.jsgen_syntax.specs.Name.{starts_name, continues_name, spells_name}
 use Rattle.jsgen_syntax.specs.Strings.{quote_char, string_value}
 use Rattle.jsgen_syntax.specs.declared.quote.Quote.{Quote}
-pub use Rattle.jsgen_model.specs.Numbers.{spells_whole}
 use Rattle.jsgen_model.specs.Numbers.{spells_number}
 use Rattle.jsgen_model.specs.Punctuator.{Punctuator, punctuator_text, dot, ellipsis, semicolon, comma, colon, question, question_dot, arrow, less, greater, less_equal, greater_equal, equal_equal, not_equal, equal_equal_equal, not_equal_equal, plus, minus, star, slash, percent, star_star, plus_plus, minus_minus, shift_left, shift_right, shift_right_zero, bit_and, bit_or, bit_xor, bang, tilde, and_and, or_or, nullish, equal, plus_equal, minus_equal, star_equal, slash_equal, percent_equal, star_star_equal, shift_left_equal, shift_right_equal, shift_right_zero_equal, bit_and_equal, bit_or_equal, bit_xor_equal, and_and_equal, or_or_equal, nullish_equal, Bracket, opening, closing}
 
@@ -92,7 +91,7 @@ piece_text (Sign p) = punctuator_text p
 
 abbrev pub is_spelled : Piece → Bool
 is_spelled (Word w) = option_map_or spells_name (word_value w) false
-is_spelled (Number w) = spells_whole w
+is_spelled (Number w) = spells_number w
 is_spelled (Quoted q w) = is_some (string_value q w)
 is_spelled (Sign p) = true
 

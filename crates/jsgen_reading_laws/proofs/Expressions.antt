@@ -26,7 +26,7 @@ use Rattle.jsgen_model.specs.Plain.{is_whole}
 use Rattle.jsgen_model.specs.Spell.{truth_word, number_item}
 use Rattle.jsgen_token_laws.proofs.Characters.{letters_spelled}
 use Rattle.jsgen_token_laws.proofs.Last.{After, line_of}
-use Rattle.jsgen_token_laws.proofs.Steps.{wrote_word, wrote_name, wrote_number, wrote_quoted, wrote_dot}
+use Rattle.jsgen_token_laws.proofs.Steps.{wrote_word, wrote_name, wrote_whole, wrote_quoted, wrote_dot}
 use Rattle.jsgen_reading_laws.proofs.Levels.{level_of, under, from_primary, weaken_member, from_left}
 use Rattle.jsgen_reading_laws.proofs.Families.{IsExpression, IsLink, IsElement, AreArguments, AreElements, IsProperty, AreProperties, IsKey}
 use Rattle.jsgen_token_laws.proofs.Writes.{wrote_both}
@@ -183,7 +183,7 @@ good_number c a h place p l z y k = by (numeric_literal_kind a) refl h
     by Whole e h = record {
       last = _;
       tokens = piece (line_of l) (Number w) done;
-      writes = wrote_number w p l (decimal_whole (numeric_literal_digits a) (ltb-true (numeric_literal_digits a) _ h)) y k;
+      writes = wrote_whole w p l (decimal_whole (numeric_literal_digits a) (ltb-true (numeric_literal_digits a) _ h)) y k;
       operand = tt;
       semicolon = z;
       begins = λ b n. number_begins place.start (line_of l) w b;

@@ -4,7 +4,7 @@ use Rattle.std.specs.Char.{is_ascii_digit}
 use Rattle.std.specs.List.{list_all}
 use Rattle.std.proofs.lemmas.Bool.{both_ways, and_from, le-leb, ne_eqb}
 use Rattle.std.proofs.lemmas.Fmt.{decimal_by_steps_wide}
-use Rattle.jsgen_model.specs.Tokens.{spells_whole}
+use Rattle.jsgen_model.specs.Numbers.{spells_whole}
 use Rattle.jsgen_token_laws.proofs.Characters.{all_append}
 
 abbrev leads : List ℕ → Bool

@@ -35,7 +35,7 @@ use Rattle.jsgen_model.specs.Spell.{Place, spell, in_brackets, in_front, key_tex
 use Rattle.jsgen_model.specs.Valid.{named_faults, shorthand_faults}
 use Rattle.jsgen_token_laws.proofs.Last.{Last, Open, After, line_of, Operand, Begun, begun_ready, Knows}
 use Rattle.jsgen_token_laws.proofs.Writes.{Writes, wrote_both}
-use Rattle.jsgen_token_laws.proofs.Steps.{wrote_name, wrote_number, wrote_quoted, wrote_punctuator, wrote_dots, within_brackets, brackets_written, soft_space_written}
+use Rattle.jsgen_token_laws.proofs.Steps.{wrote_name, wrote_whole, wrote_quoted, wrote_punctuator, wrote_dots, within_brackets, brackets_written, soft_space_written}
 use Rattle.jsgen_reading_laws.proofs.Families.{IsExpression, IsKey, none_unless}
 use Rattle.jsgen_reading_laws.proofs.Families as family
 use Rattle.jsgen_reading_laws.proofs.Names.{free_spelled}
@@ -120,7 +120,7 @@ good_number_key c a h place p l z b k = by (numeric_literal_kind a) refl h
     by Whole e h = record {
       last = _;
       tokens = piece (line_of l) (Number w) done;
-      writes = wrote_number w p l (decimal_whole (numeric_literal_digits a) (ltb-true (numeric_literal_digits a) _ h)) (begun_ready l b) k;
+      writes = wrote_whole w p l (decimal_whole (numeric_literal_digits a) (ltb-true (numeric_literal_digits a) _ h)) (begun_ready l b) k;
       operand = tt;
       semicolon = z;
       tree = tree.numeric_literal (by_text w);

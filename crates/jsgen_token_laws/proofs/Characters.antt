@@ -11,7 +11,8 @@ use Rattle.jsgen_syntax.specs.Name.{starts_name, continues_name, goes_in_word, s
 use Rattle.jsgen_syntax.proofs.Names.{starts_continues}
 use Rattle.jsgen_model.specs.Punctuator.{Punctuator, punctuator_text, dot}
 use Rattle.jsgen_model.specs.Layout.{ends_in_word}
-use Rattle.jsgen_model.specs.Tokens.{text_behind, may_precede, stands, longer_stands, punctuators, spells_whole}
+use Rattle.jsgen_model.specs.Numbers.{spells_whole}
+use Rattle.jsgen_model.specs.Tokens.{text_behind, may_precede, stands, longer_stands, punctuators}
 
 -- ---- lists of characters
 
@@ -63,6 +64,9 @@ continues_goes c h = by (cases_lt c 128)
 pub digit_goes : (c : ℕ) → is_ascii_digit c ≡ true → goes_in_word c ≡ true
 digit_goes c h = or_left _ (nat_le 128 c) (or_left _ (c == 36) (or_left _ (c == 95) (or_left _ _ (or_left _ _ h))))
 
+pub alphanumeric_goes : (c : ℕ) → is_ascii_alphanumeric c ≡ true → goes_in_word c ≡ true
+alphanumeric_goes c h = or_left _ (nat_le 128 c) (or_left _ (c == 36) (or_left _ (c == 95) h))
+
 -- a digit begins no name
 pub ranged : (low high c : ℕ) → is_in_range low high c ≡ true → (low ≤ c) × (c ≤ high)
 ranged low high c h = let k = and_parts (nat_le low c) (nat_le c high) h in (leb-true low c k.0, leb-true c high k.1)
@@ -108,7 +112,7 @@ pub ends_so : (o : Option ℕ) (c : ℕ) (cs : List ℕ) → list_all goes_in_wo
 ends_so o c [] h = (and_parts (goes_in_word c) true h).0
 ends_so o c (d ∷ cs) h = ends_so (Some c) d cs (and_parts (goes_in_word c) (list_all goes_in_word (d ∷ cs)) h).1
 
-last_behind : (o : Option ℕ) (a b : List ℕ) → last_or o (a ++ b) ≡ last_or (last_or o a) b
+pub last_behind : (o : Option ℕ) (a b : List ℕ) → last_or o (a ++ b) ≡ last_or (last_or o a) b
 last_behind o [] b = refl
 last_behind o (x ∷ a) b = last_behind (Some x) a b
 

@@ -9,10 +9,12 @@ use Rattle.jsgen_syntax.specs.Strings.{quote_char}
 use Rattle.jsgen_syntax.specs.declared.quote.Quote.{Quote}
 use Rattle.jsgen_syntax.specs.declared.quote.Quote.TheVariants as quotes
 use Rattle.jsgen_model.specs.Punctuator.{Punctuator, punctuator_text, dot, ellipsis, comma, question_dot, slash, plus, minus, Bracket, Round, Square, Brace, opening, closing, plus_plus, minus_minus}
-use Rattle.jsgen_model.specs.Tokens.{Piece, Word, Number, Quoted, Sign, ends_before, spells_whole, may_precede, stands, longer_stands}
-use Rattle.jsgen_model.specs.Layout.{Pen, Ending, operator_end, number_end, is_apart, space_if}
+use Rattle.jsgen_model.specs.Numbers.{spells_number}
+use Rattle.jsgen_model.specs.Tokens.{Piece, Word, Number, Quoted, Sign, ends_before, may_precede, stands, longer_stands}
+use Rattle.jsgen_model.specs.Layout.{Pen, Ending, operator_end, dot_joins, is_apart, space_if}
+use Rattle.jsgen_model.proofs.NumberRuns.{BarsDot}
 use Rattle.jsgen_token_laws.proofs.Characters.{goes_on_in_sign, none_longer, behind_itself, no_word_no_name, no_word_no_start, no_word_no_digit, word_no_sign, not_that, continues_goes, starts_no_digit, digit_goes}
-use Rattle.jsgen_token_laws.proofs.Numbers.{whole_ends, apart_ends, number_alone}
+use Rattle.jsgen_token_laws.proofs.Numbers.{number_ends, apart_ends, number_alone}
 use Rattle.jsgen_token_laws.proofs.Words.{begins_word}
 
 -- blanks or a bracket, behind a line end or not; or a token
@@ -67,7 +69,7 @@ Remembers s e = Unit {0}
 abbrev pub Ended : List ℕ → Ending → Last → Type 0
 Ended code e (Open line) = Unit {0}
 Ended code e (After (Word w)) = is_apart e code ≡ true
-Ended code e (After (Number w)) = (is_apart e code ≡ true) × (e ≡ number_end) × (spells_whole w ≡ true)
+Ended code e (After (Number w)) = (is_apart e code ≡ true) × ((dot_joins e ≡ true) ⊎ BarsDot w) × (spells_number w ≡ true)
 Ended code e (After (Quoted q w)) = Unit {0}
 Ended code e (After (Sign s)) = Remembers s e
 
@@ -145,7 +147,7 @@ decrement_clear c r = refl
 clear_operand : (code : List ℕ) (e : Ending) (l : Last) (c : ℕ) (r : List ℕ) → Operand l → Ended code e l → goes_in_word c ≡ false → (c == 46) ≡ false → (c == 92) ≡ false → Clear l (c ∷ r)
 clear_operand code e (Open line) c r o k h d b = tt
 clear_operand code e (After (Word w)) c r o k h d b = word_ends w c r h b
-clear_operand code e (After (Number w)) c r o k h d b = whole_ends w c r k.2 (no_word_no_start c h) (no_word_no_digit c h) d b
+clear_operand code e (After (Number w)) c r o k h d b = number_ends w c r k.2 (no_word_no_start c h) (no_word_no_digit c h) d b
 clear_operand code e (After (Quoted q w)) c r o k h d b = refl
 clear_operand code e (After (Sign plus_plus)) c r o k h d b = increment_clear c r
 clear_operand code e (After (Sign minus_minus)) c r o k h d b = decrement_clear c r

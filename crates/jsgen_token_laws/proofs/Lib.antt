@@ -1,5 +1,6 @@
 pub mod Characters
 pub mod Numbers
+pub mod Literals
 pub mod Words
 pub mod Last
 pub mod Plain

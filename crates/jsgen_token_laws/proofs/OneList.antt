@@ -1,8 +1,8 @@
 -- A text has at most one token list.
-use Rattle.std.proofs.Common.{◌≡◌, ℕ, Bool, true, false, not, ◌||◌, ◌==◌, ◌⊎◌, inl, inr, codes, Option, Some, None, is_some, List, [], ◌∷◌, ◌++◌, refl, sym, ap, ◌∙◌, subst, append_assoc, arith}
+use Rattle.std.proofs.Common.{◌≡◌, ℕ, Bool, true, false, not, ◌||◌, ◌==◌, ◌⊎◌, inl, inr, codes, Option, Some, None, is_some, List, [], ◌∷◌, ◌++◌, refl, sym, ap, ◌∙◌, subst, append_assoc, arith, cond}
 use Rattle.std.specs.Char.{is_ascii_digit}
 use Rattle.std.specs.List.{list_all, list_any}
-use Rattle.std.proofs.lemmas.Bool.{both_ways, and_parts, or_cases, or_from, eqb-true, not-true, false_from_ne_true}
+use Rattle.std.proofs.lemmas.Bool.{both_ways, and_parts, or_cases, or_from, eqb-true, not-true, false_from_ne_true, or_parts, or_left, or_right, eq-eqb}
 use Rattle.std.proofs.lemmas.List.{append_cancel_left}
 use Rattle.unicode_ident.proofs.Computing.{unicode_ident}
 use Rattle.jsgen_syntax.proofs.Names.{starts_continues}
@@ -11,9 +11,12 @@ use Rattle.jsgen_syntax.specs.Strings.{quote_char, string_value}
 use Rattle.jsgen_syntax.specs.declared.quote.Quote.{Quote}
 use Rattle.jsgen_syntax.specs.declared.quote.Quote.TheVariants as quotes
 use Rattle.jsgen_syntax.proofs.Strings.{closed as is_closed, valued_closed, one_string}
-use Rattle.jsgen_model.specs.Punctuator.{Punctuator, dot, Bracket, Round, Square, Brace, opening, closing}
-use Rattle.jsgen_model.specs.Tokens.{Tokens, done, piece, group, Piece, Word, Number, Quoted, Sign, piece_text, is_spelled, is_blank, is_line_terminator, has_line_end, ends_before, AreTokensAfter, AreTokensOf, are_plain}
-use Rattle.jsgen_token_laws.proofs.Characters.{continues_goes, digit_goes, whole_digits, found_passes, no_word_no_start, no_word_no_digit, starts_no_digit}
+use Rattle.jsgen_model.proofs.NumberRuns.{NumberFront, a_digit, a_dot, number_front, no_number}
+use Rattle.jsgen_model.specs.Numbers.{spells_number}
+use Rattle.std.specs.Option.{option_map_or}
+use Rattle.jsgen_model.specs.Punctuator.{Punctuator, dot, Bracket, Round, Square, Brace, opening, closing, ellipsis}
+use Rattle.jsgen_model.specs.Tokens.{Tokens, done, piece, group, Piece, Word, Number, Quoted, Sign, piece_text, is_spelled, is_blank, is_line_terminator, has_line_end, ends_before, AreTokensAfter, AreTokensOf, are_plain, stands, may_precede, longer_stands, text_behind}
+use Rattle.jsgen_token_laws.proofs.Characters.{continues_goes, digit_goes, found_passes, no_word_no_start, no_word_no_digit, starts_no_digit}
 pub use Rattle.jsgen_token_laws.proofs.Words.{Stops}
 use Rattle.jsgen_token_laws.proofs.Words.{between, goes_on_in_word, begins_word, word_begins, word_shaped, one_word}
 use Rattle.jsgen_token_laws.proofs.Numbers.{one_number, number_ends_same}
@@ -42,7 +45,7 @@ is_quote c = list_any (λ d. c == d) (codes "'\"`")
 
 unfoldable pub starts_piece : Piece → ℕ → Bool
 starts_piece (Word w) c = begins_word c
-starts_piece (Number w) c = is_ascii_digit c
+starts_piece (Number w) c = is_ascii_digit c || (c == 46)
 starts_piece (Quoted q w) c = is_quote c
 starts_piece (Sign s) c = begins_sign c
 
@@ -62,11 +65,15 @@ unfolding starts_piece
 sign_begins dot = record { head = _; tail = _; text = refl; starts = refl }
 sign_begins s = record { head = _; tail = _; text = refl; starts = refl }
 
+number_starts : (c : ℕ) (cs : List ℕ) → NumberFront c cs → (is_ascii_digit c || (c == 46)) ≡ true
+number_starts c cs (a_digit d) = or_left (is_ascii_digit c) (c == 46) d
+number_starts c cs (a_dot d v e f g) = or_right (is_ascii_digit c) (c == 46) (eq-eqb c 46 e)
+
 pub begins : (p : Piece) → is_spelled p ≡ true → Begins p
 unfolding starts_piece
 begins (Word w) h = let b = word_begins w h in record { head = b.head; tail = b.tail; text = b.text; starts = b.starts }
-begins (Number []) h = absurd (both_ways false refl h)
-begins (Number (c ∷ cs)) h = record { head = c; tail = cs; text = refl; starts = (and_parts (is_ascii_digit c) (list_all is_ascii_digit cs) (whole_digits (c ∷ cs) h)).0 }
+begins (Number []) h = absurd (both_ways (spells_number []) no_number h)
+begins (Number (c ∷ cs)) h = record { head = c; tail = cs; text = refl; starts = number_starts c cs (number_front c cs h) }
 begins (Quoted q w) h = record { head = quote_char q; tail = w ++ quote_char q ∷ []; text = refl; starts = quote_is_one q }
 begins (Sign s) h = sign_begins s
 
@@ -114,14 +121,14 @@ blank_passes f c a b d e g h i = outer (or_cases ((c == 32) || (c == 9)) (is_lin
 pub starts_no_blank : (p : Piece) (c : ℕ) → starts_piece p c ≡ true → is_blank c ≡ false
 unfolding starts_piece
 starts_no_blank (Word w) c h = false_from_ne_true (is_blank c) (λ e. both_ways (begins_word c) (blank_passes begins_word c (no_word_begins 32 refl refl) (no_word_begins 9 refl refl) (no_word_begins 10 refl refl) (no_word_begins 13 refl refl) line_separators.0 line_separators.1 e) h)
-starts_no_blank (Number w) c h = false_from_ne_true (is_blank c) (λ e. both_ways (is_ascii_digit c) (blank_passes is_ascii_digit c refl refl refl refl refl refl e) h)
+starts_no_blank (Number w) c h = false_from_ne_true (is_blank c) (λ e. both_ways (is_ascii_digit c || (c == 46)) (blank_passes (λ d. is_ascii_digit d || (d == 46)) c refl refl refl refl refl refl e) h)
 starts_no_blank (Quoted q w) c h = false_from_ne_true (is_blank c) (λ e. both_ways (is_quote c) (blank_passes is_quote c refl refl refl refl refl refl e) h)
 starts_no_blank (Sign s) c h = false_from_ne_true (is_blank c) (λ e. both_ways (begins_sign c) (blank_passes begins_sign c refl refl refl refl refl refl e) h)
 
 starts_none : (d : ℕ) → goes_in_word d ≡ false → (d == 92) ≡ false → begins_sign d ≡ false → is_quote d ≡ false → (p : Piece) → starts_piece p d ≡ false
 unfolding starts_piece
 starts_none d h b g i (Word w) = no_word_begins d h b
-starts_none d h b g i (Number w) = no_word_no_digit d h
+starts_none d h b g i (Number w) = or_from (is_ascii_digit d) (d == 46) (no_word_no_digit d h) (or_parts (d == 46) _ g).0
 starts_none d h b g i (Quoted q w) = i
 starts_none d h b g i (Sign s) = g
 
@@ -167,11 +174,25 @@ word_or f c b n g h = by (or_cases (starts_name c) (c == 92) g)
 pub word_or_digit : (c : ℕ) → begins_word c ≡ true → is_ascii_digit c ≡ true → ⊥
 word_or_digit c g h = word_or is_ascii_digit c refl (λ e. both_ways (is_ascii_digit c) (starts_no_digit c e)) g h
 
+-- a number begins with a digit, or with a dot, which begins nothing else but a sign
+or_number : (f : ℕ → Bool) (c : ℕ) → f 46 ≡ false → (f c ≡ true → is_ascii_digit c ≡ true → ⊥) → f c ≡ true → (is_ascii_digit c || (c == 46)) ≡ true → ⊥
+or_number f c e h g n = by (or_cases (is_ascii_digit c) (c == 46) n)
+  where
+    by : (is_ascii_digit c ≡ true) ⊎ ((c == 46) ≡ true) → ⊥
+    by (inl d) = h g d
+    by (inr d) = both_ways (f 46) e (subst (λ x. f x ≡ true) (eqb-true c 46 d) g)
+
+pub word_or_number : (c : ℕ) → begins_word c ≡ true → (is_ascii_digit c || (c == 46)) ≡ true → ⊥
+word_or_number c g n = or_number begins_word c (no_word_begins 46 refl refl) (word_or_digit c) g n
+
 pub sign_or : (c : ℕ) → begins_sign c ≡ true → goes_in_word c ≡ true → ⊥
 sign_or c g h = both_ways (goes_in_word c) (sign_no_word c g) h
 
 quote_or_word : (c : ℕ) → is_quote c ≡ true → goes_in_word c ≡ true → ⊥
 quote_or_word c g h = both_ways (goes_in_word c) (quote_no_word c g) h
+
+pub quote_or_number : (c : ℕ) → is_quote c ≡ true → (is_ascii_digit c || (c == 46)) ≡ true → ⊥
+quote_or_number c g n = or_number is_quote c refl (λ q d. quote_or_word c q (digit_goes c d)) g n
 
 word_or_sign : (c : ℕ) → begins_word c ≡ true → begins_sign c ≡ true → ⊥
 word_or_sign c g h = word_or begins_sign c refl (λ e k. sign_or c k (continues_goes c (starts_continues c e))) g h
@@ -210,22 +231,47 @@ one_quoted q r v w x y g h e =
     of_one : (r : Quote) → q ≡ r → is_some (string_value r w) ≡ true → v ++ (quote_char q ∷ x) ≡ w ++ (quote_char r ∷ y) → (Quoted q v ≡ Quoted r w) × (x ≡ y)
     of_one r f h e = subst (λ s. is_some (string_value s w) ≡ true → v ++ (quote_char q ∷ x) ≡ w ++ (quote_char s ∷ y) → (Quoted q v ≡ Quoted s w) × (x ≡ y)) f (λ i j. let k = one_string q v w x y (spelled_closed q v g) (spelled_closed q w i) j in (ap (λ s. Quoted q s) k.0, k.1)) h e
 
+-- no sign stands where a dot and a digit do
+no_sign_at : (s : Punctuator) (d : ℕ) (r : List ℕ) → is_ascii_digit d ≡ true → stands s (46 ∷ (d ∷ r)) ≡ true → ⊥
+no_sign_at dot d r h k = both_ways (is_ascii_digit d) (not-true (is_ascii_digit d) k) h
+no_sign_at ellipsis d r h k = by (46 == d) refl k
+  where
+    by : (b : Bool) → (46 == d) ≡ b → option_map_or (may_precede ellipsis) (cond b (text_behind (codes ".") r) None) false ≡ true → ⊥
+    by true e i = both_ways (is_ascii_digit d) (subst (λ x. is_ascii_digit x ≡ false) (eqb-true 46 d e) refl) h
+    by false e i = both_ways false refl i
+no_sign_at s d r h k = both_ways false refl k
+
+pub sign_or_number : (s : Punctuator) (w x y : List ℕ) → spells_number w ≡ true → ends_before (Sign s) x ≡ true → piece_text (Sign s) ++ x ≡ w ++ y → ⊥
+unfolding starts_piece
+sign_or_number s [] x y h k e = both_ways (spells_number []) no_number h
+sign_or_number s (c ∷ cs) x y h k e = by (number_front c cs h)
+  where
+    by : NumberFront c cs → ⊥
+    by (a_digit d) =
+        let b = begins (Sign s) refl in
+        let f : b.head ∷ (b.tail ++ x) ≡ c ∷ (cs ++ y) = sym (ap (λ t. t ++ x) b.text) ∙ e in
+        let g : b.head ≡ c = cc in
+        sign_or c (subst (λ z. begins_sign z ≡ true) g b.starts) (digit_goes c d)
+    by (a_dot d v f g i) =
+        let t : piece_text (Sign s) ++ x ≡ 46 ∷ (d ∷ (v ++ y)) = e ∙ (ap (λ z. z ∷ (cs ++ y)) f ∙ ap (λ z. 46 ∷ (z ++ y)) g) in
+        no_sign_at s d (v ++ y) i (subst (λ z. stands s z ≡ true) t (and_parts (stands s (piece_text (Sign s) ++ x)) (not (longer_stands s (piece_text (Sign s) ++ x))) k).0)
+
 pub one_piece : (p q : Piece) (x y : List ℕ) → is_spelled p ≡ true → is_spelled q ≡ true → ends_before p x ≡ true → ends_before q y ≡ true → piece_text p ++ x ≡ piece_text q ++ y → (p ≡ q) × (x ≡ y)
 unfolding starts_piece
 one_piece (Word v) (Word w) x y g h s t e = let k = one_word (Some between) v w x y (word_shaped v g) (word_shaped w h) (word_stops v x s) (word_stops w y t) e in (ap Word k.0, k.1)
 one_piece (Number v) (Number w) x y g h s t e = let k = one_number v w x y g h s t e in (ap Number k.0, k.1)
 one_piece (Quoted q v) (Quoted r w) x y g h s t e = one_quoted q r v w x y g h e
 one_piece (Sign v) (Sign w) x y g h s t e = let k = one_sign v w x y s t e in (ap Sign k.0, k.1)
-one_piece (Word v) (Number w) x y g h s t e = absurd (apart (Word v) (Number w) x y g h word_or_digit e)
-one_piece (Number v) (Word w) x y g h s t e = absurd (apart (Number v) (Word w) x y g h (λ c a b. word_or_digit c b a) e)
+one_piece (Word v) (Number w) x y g h s t e = absurd (apart (Word v) (Number w) x y g h word_or_number e)
+one_piece (Number v) (Word w) x y g h s t e = absurd (apart (Number v) (Word w) x y g h (λ c a b. word_or_number c b a) e)
 one_piece (Sign v) (Word w) x y g h s t e = absurd (apart (Sign v) (Word w) x y g h (λ c a b. word_or_sign c b a) e)
 one_piece (Word v) (Sign w) x y g h s t e = absurd (apart (Word v) (Sign w) x y g h word_or_sign e)
-one_piece (Sign v) (Number w) x y g h s t e = absurd (apart (Sign v) (Number w) x y g h (λ c a b. sign_or c a (digit_goes c b)) e)
-one_piece (Number v) (Sign w) x y g h s t e = absurd (apart (Number v) (Sign w) x y g h (λ c a b. sign_or c b (digit_goes c a)) e)
+one_piece (Sign v) (Number w) x y g h s t e = absurd (sign_or_number v w x y h s e)
+one_piece (Number v) (Sign w) x y g h s t e = absurd (sign_or_number w v y x g t (sym e))
 one_piece (Quoted q v) (Word w) x y g h s t e = absurd (apart (Quoted q v) (Word w) x y g h (λ c a b. word_or_quote c b a) e)
 one_piece (Word v) (Quoted q w) x y g h s t e = absurd (apart (Word v) (Quoted q w) x y g h word_or_quote e)
-one_piece (Quoted q v) (Number w) x y g h s t e = absurd (apart (Quoted q v) (Number w) x y g h (λ c a b. quote_or_word c a (digit_goes c b)) e)
-one_piece (Number v) (Quoted q w) x y g h s t e = absurd (apart (Number v) (Quoted q w) x y g h (λ c a b. quote_or_word c b (digit_goes c a)) e)
+one_piece (Quoted q v) (Number w) x y g h s t e = absurd (apart (Quoted q v) (Number w) x y g h quote_or_number e)
+one_piece (Number v) (Quoted q w) x y g h s t e = absurd (apart (Number v) (Quoted q w) x y g h (λ c a b. quote_or_number c b a) e)
 one_piece (Quoted q v) (Sign w) x y g h s t e = absurd (apart (Quoted q v) (Sign w) x y g h (λ c a b. quote_or_sign c a b) e)
 one_piece (Sign v) (Quoted q w) x y g h s t e = absurd (apart (Sign v) (Quoted q w) x y g h (λ c a b. quote_or_sign c b a) e)
 

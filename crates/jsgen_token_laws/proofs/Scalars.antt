@@ -1,20 +1,23 @@
 -- The characters of a text that has tokens are Unicode scalar values.
-use Rattle.std.proofs.Common.{◌≡◌, ℕ, ◌-◌, ◌<◌, Bool, true, false, cond, ◌||◌, ◌==◌, ◌⊎◌, inl, inr, Option, Some, None, is_some, List, [], ◌∷◌, ◌++◌, refl, sym, if◌then◌else◌, subst, arith}
+use Rattle.std.proofs.Common.{◌∙◌, ◌≡◌, ℕ, ◌-◌, ◌<◌, Bool, true, false, cond, ◌||◌, ◌==◌, ◌⊎◌, inl, inr, Option, Some, None, is_some, List, [], ◌∷◌, ◌++◌, refl, sym, if◌then◌else◌, subst, arith, nat_lt}
 use Rattle.std.specs.Char.{is_ascii_digit, is_ascii_hexdigit}
 use Rattle.std.specs.Int.{is_in_range}
 use Rattle.std.specs.List.{list_all}
 use Rattle.std.specs.Str.{all_scalars}
 use lib.Utf8.{scalar, low_scalar}
-use Rattle.std.proofs.lemmas.Bool.{both_ways, and_parts, and_from, or_cases, eqb-true}
+use Rattle.std.proofs.lemmas.Bool.{both_ways, and_parts, and_from, or_cases, eqb-true, ltb-true}
 use Rattle.jsgen_syntax.specs.Name.{continues_name}
 use Rattle.jsgen_syntax.specs.Strings.{quote_char, string_value}
 use Rattle.jsgen_syntax.specs.declared.quote.Quote.{Quote}
 use Rattle.jsgen_syntax.specs.declared.quote.Quote.TheVariants as quotes
 use Rattle.jsgen_syntax.proofs.Names.{continues_scalar}
 use Rattle.jsgen_syntax.proofs.Strings.{valued_scalars}
+use Rattle.jsgen_model.proofs.NumberRuns.{ascii_number}
+use Rattle.jsgen_model.proofs.NumberStates.{start}
+use Rattle.jsgen_model.proofs.NumberMachine.{number_runs}
 use Rattle.jsgen_model.specs.Punctuator.{Punctuator, punctuator_text, dot, Bracket, Round, opening, closing}
 use Rattle.jsgen_model.specs.Tokens.{Tokens, done, piece, group, Piece, Word, Number, Quoted, Sign, piece_text, is_spelled, is_blank, is_line_terminator, AreTokensAfter, AreTokensOf}
-use Rattle.jsgen_token_laws.proofs.Characters.{whole_digits, ranged}
+use Rattle.jsgen_token_laws.proofs.Characters.{ranged}
 use Rattle.jsgen_token_laws.proofs.Words.{Spot, between, behind_backslash, behind_u, in_braces, in_hex, step, shaped, none_shaped, word_shaped}
 
 pub scalars_append : (a b : List ℕ) → all_scalars a ≡ true → all_scalars b ≡ true → all_scalars (a ++ b) ≡ true
@@ -114,7 +117,7 @@ spelling_scalars q w h = go (string_value q w) refl h
 
 piece_scalars : (p : Piece) → is_spelled p ≡ true → all_scalars (piece_text p) ≡ true
 piece_scalars (Word w) h = shaped_scalars (Some between) w (word_shaped w h)
-piece_scalars (Number w) h = scalars_follow is_ascii_digit digit_scalar w (whole_digits w h)
+piece_scalars (Number w) h = scalars_follow (λ c. nat_lt c 128) (λ c l. let m = ltb-true c 128 l in low_scalar c (omega arith)) w (ascii_number start w (sym (number_runs w) ∙ h))
 piece_scalars (Quoted q w) h = and_from (scalar (quote_char q)) _ (quote_scalar q) (scalars_append w (quote_char q ∷ []) (spelling_scalars q w h) (and_from (scalar (quote_char q)) true (quote_scalar q) refl))
 piece_scalars (Sign p) h = sign_scalars p
 

@@ -1,17 +1,24 @@
 -- What each item of a layout writes.
-use Rattle.std.proofs.Common.{◌≡◌, ℕ, zero, suc, ◌*◌, Bool, true, false, not, ◌||◌, ◌==◌, ◌⊎◌, inl, inr, Some, is_some, List, [], ◌∷◌, ◌++◌, codes, replicate, refl, sym, ap, ◌∙◌, subst, subst₂, append_assoc, append-nil}
+use Rattle.std.proofs.Common.{◌≡◌, ℕ, zero, suc, ◌*◌, Bool, true, false, not, ◌||◌, ◌==◌, ◌⊎◌, inl, inr, Some, is_some, List, [], ◌∷◌, ◌++◌, codes, replicate, refl, sym, ap, ◌∙◌, subst, subst₂, append_assoc, append-nil, None}
 use Rattle.std.specs.Char.{is_ascii_digit}
-use Rattle.std.specs.List.{list_all}
-use Rattle.std.proofs.lemmas.Bool.{both_ways, and_parts, and_from, or_from, or_cases, or_left, or_right, eqb-true}
+use Rattle.std.specs.List.{list_all, last_or}
+use Rattle.std.proofs.lemmas.Bool.{both_ways, and_parts, and_from, or_from, or_cases, or_left, or_right, eqb-true, not-false}
 use Rattle.jsgen_syntax.specs.Name.{spells_name, goes_in_word}
 use Rattle.jsgen_syntax.specs.Strings.{quote_char, string_value}
-use Rattle.jsgen_syntax.specs.Escapes.{name_text, has_escapes}
+use Rattle.jsgen_syntax.specs.Escapes.{name_text, has_escapes, begins}
 use Rattle.jsgen_syntax.specs.declared.quote.Quote.{Quote}
+use Rattle.std.specs.Option.{option_map_or}
+use Rattle.jsgen_model.proofs.NumberRuns.{BarsDot, whole_number, big_number, big_bars_dot, marked_bars_dot, number_last}
+use Rattle.jsgen_model.proofs.NumberStates.{start}
+use Rattle.jsgen_model.proofs.NumberMachine.{number_runs}
+use Rattle.jsgen_token_laws.proofs.Literals.{whole_begins, whole_no_dot, big_begins, big_no_dot, raw_parts}
+use Rattle.jsgen_token_laws.proofs.Numbers.{number_before_dot}
 use Rattle.jsgen_model.specs.Punctuator.{Punctuator, Bracket, punctuator_text, plus, minus, dot, ellipsis, comma, semicolon, Round, opening, closing, plus_plus, minus_minus}
-use Rattle.jsgen_model.specs.Tokens.{longer_stands, Tokens, done, piece, group, Word, Number, Quoted, Sign, is_spelled, is_blank, is_line_terminator, has_line_end, spells_whole}
+use Rattle.jsgen_model.specs.Tokens.{longer_stands, Tokens, done, piece, group, Word, Number, Quoted, Sign, is_spelled, is_blank, is_line_terminator, has_line_end}
+use Rattle.jsgen_model.specs.Numbers.{spells_number, spells_whole, takes_no_dot, ends_in_dot, is_raw_number}
 use Rattle.jsgen_model.specs.Items.{member_dot, word, name, number, punctuator, operator, soft_space, soft_line, hard_space, body_space, indentation, due_semicolon, statement_begins}
-use Rattle.jsgen_model.specs.Layout.{Pen, Ending, other_end, operator_end, layout, written, written_if, text_if, ending_unless, is_apart, ends_in_escapes, name_ending, space_if, joins, dot_joins, indented, indent_or_space, at_indentation, end_statement}
-use Rattle.jsgen_token_laws.proofs.Characters.{goes_on_in_sign, ends_in_word_behind, all_goes, whole_digits, digit_goes, all_follow}
+use Rattle.jsgen_model.specs.Layout.{Pen, Ending, other_end, operator_end, layout, written, written_if, text_if, ending_unless, is_apart, ends_in_escapes, name_ending, space_if, joins, dot_joins, indented, indent_or_space, at_indentation, end_statement, number_ending}
+use Rattle.jsgen_token_laws.proofs.Characters.{goes_on_in_sign, ends_in_word_behind, all_goes, all_follow, last_behind, alphanumeric_goes}
 use Rattle.jsgen_token_laws.proofs.Words.{word_begins, unescaped, name_spelled, spelled_name}
 use Rattle.jsgen_token_laws.proofs.Last.{Last, Open, After, line_of, Clear, Operand, Ready, Begun, Remembers, Ended, is_indent, Knows, NoDot, word_ends, clear_apart, clear_dots, clear_quote, clear_quoted, clear_space, clear_operator, clear_word, clear_digit, increment_clear, decrement_clear}
 use Rattle.jsgen_token_laws.proofs.Writes.{Writes, wrote_none, wrote_and_none, wrote_blank, wrote_piece, wrote_brackets}
@@ -55,14 +62,34 @@ name_apart ascii code gap w h false e = subst (λ t. is_apart other_end (code ++
 pub wrote_name : (w : List ℕ) (p : Pen) (l : Last) → spells_name w ≡ true → Knows p l → Writes p l (layout (name w) p) (After (Word (name_text p.style.ascii w))) (piece (line_of l) (Word (name_text p.style.ascii w)) done)
 wrote_name w p l h k = written_word (name_text p.style.ascii w) p (layout (name w) p) l (name_spelled p.style.ascii w h) refl k (record { indent = k.indent; ending = name_apart p.style.ascii p.code (space_if (is_apart p.ending p.code)) w h (has_escapes p.style.ascii w) refl })
 
-pub wrote_number : (w : List ℕ) (p : Pen) (l : Last) → spells_whole w ≡ true → Ready l → Knows p l → Writes p l (layout (number true w) p) (After (Number w)) (piece (line_of l) (Number w) done)
-wrote_number [] p l h y k = absurd (both_ways false refl h)
-wrote_number (c ∷ w) p l h y k =
+-- a number that doesn't end in a dot ends in a character of words
+ends_apart_number : (e : Ending) (code gap : List ℕ) (c : ℕ) (w : List ℕ) → spells_number (c ∷ w) ≡ true → ends_in_dot (c ∷ w) ≡ false → is_apart e (code ++ (gap ++ (c ∷ w))) ≡ true
+ends_apart_number e code gap c w h d = or_right (ends_in_escapes e) _ (ap (λ o. option_map_or goes_in_word o false) (last_behind None code (gap ++ (c ∷ w)) ∙ last_behind (last_or None code) gap (c ∷ w)) ∙ number_last goes_in_word alphanumeric_goes start (last_or (last_or None code) gap) c w (sym (number_runs (c ∷ w)) ∙ h) d)
+
+dot_flag : (b : Bool) (w : List ℕ) → (b ≡ false → BarsDot w) → (dot_joins (number_ending b) ≡ true) ⊎ BarsDot w
+dot_flag true w h = inl refl
+dot_flag false w h = inr (h refl)
+
+-- a number that begins with a digit and doesn't end in a dot; where the flag doesn't hold, no dot goes on with it
+pub wrote_number : (flag : Bool) (w : List ℕ) (p : Pen) (l : Last) → spells_number w ≡ true → begins is_ascii_digit w ≡ true → ends_in_dot w ≡ false → (flag ≡ false → BarsDot w) → Ready l → Knows p l → Writes p l (layout (number flag w) p) (After (Number w)) (piece (line_of l) (Number w) done)
+wrote_number flag [] p l h d e f y k = absurd (both_ways false refl d)
+wrote_number flag (c ∷ w) p l h d e f y k =
     let b : Bool = is_apart p.ending p.code in
-    let d = whole_digits (c ∷ w) h in
-    wrote_piece p (layout (number true (c ∷ w)) p) l (space_if b) (Number (c ∷ w)) (line_of l) (space_blank b) (space_mark b (line_of l)) h
-    (λ r. clear_digit p.code p.ending l c (w ++ r) k.ending y (and_parts (is_ascii_digit c) (list_all is_ascii_digit w) d).0) refl
-    (record { indent = k.indent; ending = (ends_in_word_behind p.code (space_if b) c w (all_follow is_ascii_digit goes_in_word digit_goes (c ∷ w) d), refl, h) })
+    wrote_piece p (layout (number flag (c ∷ w)) p) l (space_if b) (Number (c ∷ w)) (line_of l) (space_blank b) (space_mark b (line_of l)) h
+    (λ r. clear_digit p.code p.ending l c (w ++ r) k.ending y d) refl
+    (record { indent = k.indent; ending = (ends_apart_number (number_ending flag) p.code (space_if b) c w h e, dot_flag flag (c ∷ w) f, h) })
+
+-- a whole number, of which a dot behind it would be part
+pub wrote_whole : (w : List ℕ) (p : Pen) (l : Last) → spells_whole w ≡ true → Ready l → Knows p l → Writes p l (layout (number true w) p) (After (Number w)) (piece (line_of l) (Number w) done)
+wrote_whole w p l h y k = wrote_number true w p l (whole_number w h) (whole_begins w h) (whole_no_dot w h) (λ e. absurd (both_ways true e refl)) y k
+
+-- the text of a number
+pub wrote_raw : (w : List ℕ) (p : Pen) (l : Last) → is_raw_number w ≡ true → Ready l → Knows p l → Writes p l (layout (number (not (takes_no_dot w)) w) p) (After (Number w)) (piece (line_of l) (Number w) done)
+wrote_raw w p l h y k = let r = raw_parts w h in wrote_number (not (takes_no_dot w)) w p l r.2 r.0 r.1 (λ e. marked_bars_dot w r.2 (not-false (takes_no_dot w) e)) y k
+
+-- a whole number with the suffix of a big integer
+pub wrote_big : (w : List ℕ) (p : Pen) (l : Last) → spells_whole w ≡ true → Ready l → Knows p l → Writes p l (layout (number false (w ++ codes "n")) p) (After (Number (w ++ codes "n"))) (piece (line_of l) (Number (w ++ codes "n")) done)
+wrote_big w p l h y k = wrote_number false (w ++ codes "n") p l (big_number w h) (big_begins w h) (big_no_dot w) (λ e. big_bars_dot w h) y k
 
 -- ---- strings, behind anything
 
@@ -358,7 +385,11 @@ wrote_prefix s c p l e h g n k =
 dot_apart : (l : Last) (e : Ending) (code : List ℕ) (r : List ℕ) → Operand l → Ended code e l → Clear l (space_if (dot_joins e) ++ (46 ∷ r))
 dot_apart (Open line) e code r o k = tt
 dot_apart (After (Word w)) e code r o k = spaced_or (After (Word w)) (dot_joins e) (46 ∷ r) (word_ends w 46 r refl refl)
-dot_apart (After (Number w)) e code r o k = spaced_since (After (Number w)) (dot_joins e) (46 ∷ r) (ap dot_joins k.1)
+dot_apart (After (Number w)) e code r o k = by k.1
+  where
+    by : (dot_joins e ≡ true) ⊎ BarsDot w → Clear (After (Number w)) (space_if (dot_joins e) ++ (46 ∷ r))
+    by (inl j) = spaced_since (After (Number w)) (dot_joins e) (46 ∷ r) j
+    by (inr b) = spaced_or (After (Number w)) (dot_joins e) (46 ∷ r) (number_before_dot w r b)
 dot_apart (After (Quoted q w)) e code r o k = clear_quoted q w (space_if (dot_joins e) ++ (46 ∷ r))
 dot_apart (After (Sign plus_plus)) e code r o k = spaced_or (After (Sign plus_plus)) (dot_joins e) (46 ∷ r) (increment_clear 46 r)
 dot_apart (After (Sign minus_minus)) e code r o k = spaced_or (After (Sign minus_minus)) (dot_joins e) (46 ∷ r) (decrement_clear 46 r)
