@@ -70,6 +70,7 @@ pub data Test : Type 0 where
   an_octal_mark : Test
   a_hex_mark : Test
   no_dot_mark : Test
+  an_end : Test
 
 abbrev pub passes : Test → ℕ → Bool
 passes decimal c = is_ascii_digit c
@@ -87,6 +88,7 @@ passes a_binary_mark c = is_any (codes "bB") c
 passes an_octal_mark c = is_any (codes "oO") c
 passes a_hex_mark c = is_any (codes "xX") c
 passes no_dot_mark c = is_any (codes ".eExXoObB") c
+passes an_end c = is_any (codes ".n") c
 
 -- ---- characters of one kind pass the same tests
 
@@ -152,6 +154,7 @@ past_fails a_binary_mark c h = past_any (codes "bB") c refl h
 past_fails an_octal_mark c h = past_any (codes "oO") c refl h
 past_fails a_hex_mark c h = past_any (codes "xX") c refl h
 past_fails no_dot_mark c h = past_any (codes ".eExXoObB") c refl h
+past_fails an_end c h = past_any (codes ".n") c refl h
 
 pub agree : (x : Test) (c : ℕ) → passes x c ≡ passes x (sample (kind c))
 unfolding same
@@ -234,5 +237,8 @@ decimal_kind c = agree decimal c ∙ by (kind c)
     by nought = refl
     by k = refl
 
+pub dot_passes : (c : ℕ) → kind c ≡ full_stop → is_any (codes ".") c ≡ true
+dot_passes c e = agree a_point c ∙ ap (λ k. passes a_point (sample k)) e
+
 pub dot_kind : (c : ℕ) → kind c ≡ full_stop → c ≡ 46
-dot_kind c e = eqb-true c 46 (sym (or-false (c == 46)) ∙ (agree a_point c ∙ ap (λ k. passes a_point (sample k)) e))
+dot_kind c e = eqb-true c 46 (sym (or-false (c == 46)) ∙ dot_passes c e)

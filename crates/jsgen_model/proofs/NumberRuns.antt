@@ -1,13 +1,14 @@
 -- What the machine tells of numbers: what may stand behind one, and how one begins and ends.
-use Rattle.std.proofs.Common.{◌≡◌, ℕ, ◌<◌, ◌≤◌, Bool, true, false, not, nat_lt, ◌==◌, ◌⊎◌, inl, inr, Option, Some, List, [], ◌∷◌, ◌++◌, codes, refl, sym, ap, ◌∙◌}
+use Rattle.std.proofs.Common.{None, ◌&&◌, ◌≡◌, ℕ, ◌<◌, ◌≤◌, Bool, true, false, not, nat_lt, ◌==◌, ◌⊎◌, inl, inr, Option, Some, List, [], ◌∷◌, ◌++◌, codes, refl, sym, ap, ◌∙◌}
 use Rattle.std.specs.Char.{is_ascii_digit, is_ascii_alphanumeric}
 use Rattle.std.specs.List.{list_all, last_or}
 use Rattle.std.specs.Option.{option_map_or}
-use Rattle.std.proofs.Math.Bool.{or-false}
-use Rattle.std.proofs.lemmas.Bool.{both_ways, and_parts, and_from, cases_lt, eq-eqb, lt-ltb, not-true, or_cases}
-use Rattle.jsgen_model.specs.Numbers.{spells_number, spells_whole, takes_no_dot}
-use Rattle.jsgen_model.proofs.NumberKinds.{Kind, nought, one, to_seven, to_nine, letter_b, letter_e, small_n, letter_o, letter_x, underscore, full_stop, plus_or_minus, other, kind, sample, passes, agree, no_dot_mark, a_zero, is_any, in_number, is_outside, outside, sign_kind, is_letter_or_digit, letter_or_digit, past_kind, is_decimal, decimal_kind, dot_kind}
-use Rattle.jsgen_model.proofs.NumberStates.{two, eight, sixteen, State, start, zero, integer, integer_due, dotted, fraction, fraction_due, exponent_mark, exponent, exponent_due, digits, digits_due, suffixed, dead, accepts, if_digit, is_digit_of, step, run}
+use Rattle.std.proofs.Math.Bool.{or-false, and_assoc}
+use Rattle.std.proofs.lemmas.Bool.{both_ways, and_parts, and_from, cases_lt, lt-ltb, not-true, or_cases}
+use Rattle.jsgen_syntax.specs.Escapes.{begins}
+use Rattle.jsgen_model.specs.Numbers.{spells_number, spells_whole, takes_no_dot, ends_in, is_raw_number}
+use Rattle.jsgen_model.proofs.NumberKinds.{Kind, nought, one, to_seven, to_nine, letter_b, letter_e, small_n, letter_o, letter_x, underscore, full_stop, plus_or_minus, other, kind, sample, passes, agree, no_dot_mark, a_zero, is_any, in_number, is_outside, outside, sign_kind, is_letter_or_digit, letter_or_digit, past_kind, is_decimal, decimal_kind, dot_kind, dot_passes, an_end, of_kind}
+use Rattle.jsgen_model.proofs.NumberStates.{two, eight, sixteen, State, start, zero, integer, integer_due, dotted, fraction, fraction_due, exponent_mark, exponent, exponent_due, digits, digits_due, suffixed, dead, accepts, is_raw, if_digit, is_digit_of, step, run}
 use Rattle.jsgen_model.proofs.NumberMachine.{number_runs}
 
 -- ---- runs
@@ -286,13 +287,63 @@ last_kind s other h = absurd (both_ways (accepts (step s other)) (ap accepts (ot
 last_kind s k h = inr refl
 
 -- a number ends in a letter or a digit, or in a dot
-pub number_last : (f : ℕ → Bool) → ((c : ℕ) → is_ascii_alphanumeric c ≡ true → f c ≡ true) → (s : State) (o : Option ℕ) (c : ℕ) (w : List ℕ) → accepts (run s (c ∷ w)) ≡ true → option_map_or (λ d. d == 46) (last_or o (c ∷ w)) false ≡ false → option_map_or f (last_or o (c ∷ w)) false ≡ true
+pub number_last : (f : ℕ → Bool) → ((c : ℕ) → is_ascii_alphanumeric c ≡ true → f c ≡ true) → (s : State) (o : Option ℕ) (c : ℕ) (w : List ℕ) → accepts (run s (c ∷ w)) ≡ true → option_map_or (is_any (codes ".")) (last_or o (c ∷ w)) false ≡ false → option_map_or f (last_or o (c ∷ w)) false ≡ true
 number_last f g s o c (d ∷ w) h e = number_last f g (step s (kind c)) (Some c) d w h e
 number_last f g s o c [] h e = by (last_kind s (kind c) h)
   where
     by : (kind c ≡ full_stop) ⊎ (is_letter_or_digit (kind c) ≡ true) → f c ≡ true
-    by (inl k) = absurd (both_ways (c == 46) e (eq-eqb c 46 (dot_kind c k)))
+    by (inl k) = absurd (both_ways (is_any (codes ".") c) e (dot_passes c k))
     by (inr k) = g c (letter_or_digit c k)
+
+-- a number that ends in no dot and no suffix
+raw_step : (s : State) (k : Kind) → (not (passes an_end (sample k)) && accepts (step s k)) ≡ is_raw (step s k)
+raw_step start nought = refl
+raw_step start k = refl
+raw_step zero nought = refl
+raw_step zero k = refl
+raw_step integer nought = refl
+raw_step integer k = refl
+raw_step integer_due nought = refl
+raw_step integer_due k = refl
+raw_step dotted nought = refl
+raw_step dotted k = refl
+raw_step fraction nought = refl
+raw_step fraction k = refl
+raw_step fraction_due nought = refl
+raw_step fraction_due k = refl
+raw_step exponent_mark nought = refl
+raw_step exponent_mark k = refl
+raw_step exponent nought = refl
+raw_step exponent k = refl
+raw_step exponent_due nought = refl
+raw_step exponent_due k = refl
+raw_step (digits two) nought = refl
+raw_step (digits two) k = refl
+raw_step (digits eight) nought = refl
+raw_step (digits eight) k = refl
+raw_step (digits sixteen) nought = refl
+raw_step (digits sixteen) k = refl
+raw_step (digits_due two) nought = refl
+raw_step (digits_due two) k = refl
+raw_step (digits_due eight) nought = refl
+raw_step (digits_due eight) k = refl
+raw_step (digits_due sixteen) nought = refl
+raw_step (digits_due sixteen) k = refl
+raw_step suffixed nought = refl
+raw_step suffixed k = refl
+raw_step dead nought = refl
+raw_step dead k = refl
+
+raw_last : (s : State) (o : Option ℕ) (c : ℕ) (w : List ℕ) → (not (option_map_or (is_any (codes ".n")) (last_or o (c ∷ w)) false) && accepts (run s (c ∷ w))) ≡ is_raw (run s (c ∷ w))
+raw_last s o c (d ∷ w) = raw_last (step s (kind c)) (Some c) d w
+raw_last s o c [] = of_kind (λ v k. (not (v an_end) && accepts (step s k)) ≡ is_raw (step s k)) c (raw_step s)
+
+pub raw_runs : (w : List ℕ) → (begins is_ascii_digit w && is_raw (run start w)) ≡ is_raw_number w
+unfolding is_raw_number
+raw_runs [] = refl
+raw_runs (c ∷ w) =
+    ap (λ b. is_ascii_digit c && b) (sym (raw_last start None c w) ∙ ap (λ b. not (ends_in (codes ".n") (c ∷ w)) && b) (sym (number_runs (c ∷ w))))
+    ∙ sym (and_assoc (is_ascii_digit c) (not (ends_in (codes ".n") (c ∷ w))) (spells_number (c ∷ w)))
 
 -- ---- a number is of ASCII
 

@@ -43,6 +43,15 @@ accepts (digits r) = true
 accepts suffixed = true
 accepts s = false
 
+-- a number that ends neither in a dot nor in a suffix
+abbrev pub is_raw : State → Bool
+is_raw zero = true
+is_raw integer = true
+is_raw fraction = true
+is_raw exponent = true
+is_raw (digits r) = true
+is_raw s = false
+
 abbrev pub is_hexadecimal : Kind → Bool
 is_hexadecimal letter_b = true
 is_hexadecimal letter_e = true

@@ -127,12 +127,13 @@ spells_number = decimal_literal ∣ decimal_big_integer ∣ non_decimal_integer 
 abbrev pub takes_no_dot : List ℕ → Bool
 takes_no_dot text = list_any (λ c. list_any (λ d. c == d) (codes ".eExXoObB")) text
 
-abbrev pub ends_in_dot : List ℕ → Bool
-ends_in_dot text = option_map_or (λ c. c == 46) (last_or None text) false
+-- the text ends in one of these characters
+abbrev pub ends_in : List ℕ → List ℕ → Bool
+ends_in cs text = option_map_or (λ c. list_any (λ d. c == d) cs) (last_or None text) false
 
--- the text of a number: NumericLiteral without the suffix of a big integer, which begins with a digit and doesn't end in a dot
+-- the text of a number that begins with a digit, and ends neither in a dot nor in the suffix of a big integer
 unfoldable pub is_raw_number : List ℕ → Bool
-is_raw_number text = begins is_ascii_digit text && not (ends_in_dot text) && (decimal_literal ∣ non_decimal_integer) text
+is_raw_number text = begins is_ascii_digit text && not (ends_in (codes ".n") text) && spells_number text
 
 -- `0`, or decimal digits of which the first isn't `0`, without separators
 abbrev pub spells_whole : List ℕ → Bool

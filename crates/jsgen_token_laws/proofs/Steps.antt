@@ -15,7 +15,7 @@ use Rattle.jsgen_token_laws.proofs.Literals.{whole_begins, whole_no_dot, big_beg
 use Rattle.jsgen_token_laws.proofs.Numbers.{number_before_dot}
 use Rattle.jsgen_model.specs.Punctuator.{Punctuator, Bracket, punctuator_text, plus, minus, dot, ellipsis, comma, semicolon, Round, opening, closing, plus_plus, minus_minus}
 use Rattle.jsgen_model.specs.Tokens.{longer_stands, Tokens, done, piece, group, Word, Number, Quoted, Sign, is_spelled, is_blank, is_line_terminator, has_line_end}
-use Rattle.jsgen_model.specs.Numbers.{spells_number, spells_whole, takes_no_dot, ends_in_dot, is_raw_number}
+use Rattle.jsgen_model.specs.Numbers.{spells_number, spells_whole, takes_no_dot, ends_in, is_raw_number}
 use Rattle.jsgen_model.specs.Items.{member_dot, word, name, number, punctuator, operator, soft_space, soft_line, hard_space, body_space, indentation, due_semicolon, statement_begins}
 use Rattle.jsgen_model.specs.Layout.{Pen, Ending, other_end, operator_end, layout, written, written_if, text_if, ending_unless, is_apart, ends_in_escapes, name_ending, space_if, joins, dot_joins, indented, indent_or_space, at_indentation, end_statement, number_ending}
 use Rattle.jsgen_token_laws.proofs.Characters.{goes_on_in_sign, ends_in_word_behind, all_goes, all_follow, last_behind, alphanumeric_goes}
@@ -63,7 +63,7 @@ pub wrote_name : (w : List ℕ) (p : Pen) (l : Last) → spells_name w ≡ true 
 wrote_name w p l h k = written_word (name_text p.style.ascii w) p (layout (name w) p) l (name_spelled p.style.ascii w h) refl k (record { indent = k.indent; ending = name_apart p.style.ascii p.code (space_if (is_apart p.ending p.code)) w h (has_escapes p.style.ascii w) refl })
 
 -- a number that doesn't end in a dot ends in a character of words
-ends_apart_number : (e : Ending) (code gap : List ℕ) (c : ℕ) (w : List ℕ) → spells_number (c ∷ w) ≡ true → ends_in_dot (c ∷ w) ≡ false → is_apart e (code ++ (gap ++ (c ∷ w))) ≡ true
+ends_apart_number : (e : Ending) (code gap : List ℕ) (c : ℕ) (w : List ℕ) → spells_number (c ∷ w) ≡ true → ends_in (codes ".") (c ∷ w) ≡ false → is_apart e (code ++ (gap ++ (c ∷ w))) ≡ true
 ends_apart_number e code gap c w h d = or_right (ends_in_escapes e) _ (ap (λ o. option_map_or goes_in_word o false) (last_behind None code (gap ++ (c ∷ w)) ∙ last_behind (last_or None code) gap (c ∷ w)) ∙ number_last goes_in_word alphanumeric_goes start (last_or (last_or None code) gap) c w (sym (number_runs (c ∷ w)) ∙ h) d)
 
 dot_flag : (b : Bool) (w : List ℕ) → (b ≡ false → BarsDot w) → (dot_joins (number_ending b) ≡ true) ⊎ BarsDot w
@@ -71,7 +71,7 @@ dot_flag true w h = inl refl
 dot_flag false w h = inr (h refl)
 
 -- a number that begins with a digit and doesn't end in a dot; where the flag doesn't hold, no dot goes on with it
-pub wrote_number : (flag : Bool) (w : List ℕ) (p : Pen) (l : Last) → spells_number w ≡ true → begins is_ascii_digit w ≡ true → ends_in_dot w ≡ false → (flag ≡ false → BarsDot w) → Ready l → Knows p l → Writes p l (layout (number flag w) p) (After (Number w)) (piece (line_of l) (Number w) done)
+pub wrote_number : (flag : Bool) (w : List ℕ) (p : Pen) (l : Last) → spells_number w ≡ true → begins is_ascii_digit w ≡ true → ends_in (codes ".") w ≡ false → (flag ≡ false → BarsDot w) → Ready l → Knows p l → Writes p l (layout (number flag w) p) (After (Number w)) (piece (line_of l) (Number w) done)
 wrote_number flag [] p l h d e f y k = absurd (both_ways false refl d)
 wrote_number flag (c ∷ w) p l h d e f y k =
     let b : Bool = is_apart p.ending p.code in
