@@ -52,6 +52,10 @@ is_raw exponent = true
 is_raw (digits r) = true
 is_raw s = false
 
+abbrev pub is_dead : State → Bool
+is_dead dead = true
+is_dead s = false
+
 abbrev pub is_hexadecimal : Kind → Bool
 is_hexadecimal letter_b = true
 is_hexadecimal letter_e = true

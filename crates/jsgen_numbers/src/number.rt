@@ -2,7 +2,7 @@
 ghost use Rattle.std.specs.Prelude.{◌≡◌};
 ghost use Rattle.std.specs.Str.{chars};
 ghost use Rattle.jsgen_model.proofs.NumberKinds.{kind};
-ghost use Rattle.jsgen_model.proofs.NumberStates.{start, accepts, is_raw, is_digit_of, if_digit, step, behind_start, behind_zero, behind_integer, behind_dotted, behind_fraction, behind_mark, behind_exponent, behind_digits, run};
+ghost use Rattle.jsgen_model.proofs.NumberStates.{start, accepts, is_raw, is_dead, is_digit_of, if_digit, step, behind_start, behind_zero, behind_integer, behind_dotted, behind_fraction, behind_mark, behind_exponent, behind_digits, run};
 ghost use Rattle.jsgen_numbers.specs.Plain.{kind_plain, radix_plain, number_plain};
 
 use crate::kind::Kind;
@@ -63,6 +63,13 @@ impl Number {
             self,
             Number::Zero | Number::Integer | Number::Fraction | Number::Exponent | Number::Digits(_)
         )
+    }
+
+    /// Whether no number begins so.
+    pub fn is_dead(self) -> bool
+        ensures { result ≡ is_dead (number_plain self) }
+    {
+        matches!(self, Number::Dead)
     }
 
     /// The front with one more character.

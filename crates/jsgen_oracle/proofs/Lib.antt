@@ -2,6 +2,7 @@ pub mod Words
 pub mod Spans
 pub mod Signs
 pub mod Pieces
+pub mod Longest
 pub mod Quoted
 pub mod Rows
 pub mod Groups

@@ -2,7 +2,6 @@
 use Rattle.std.proofs.Common.{◌≡◌, ℕ, suc, ◌+◌, Bool, true, false, not, cond, ◌&&◌, ◌==◌, Option, Some, None, option_map, is_some, List, [], ◌∷◌, ◌++◌, length, take, drop, refl, sym, ap, ◌∙◌, subst, append_assoc}
 use Rattle.std.proofs.Math.Numerals.{one-add}
 use Rattle.std.proofs.lemmas.Bool.{both_ways, and_parts, eqb-true}
-use Rattle.std.specs.Char.{is_ascii_digit}
 use Rattle.std.specs.Option.{MatchOption}
 use Rattle.jsgen_syntax.specs.Escapes as escapes
 use Rattle.jsgen_syntax.specs.Strings.{quote_char, string_value}
@@ -12,9 +11,9 @@ use Rattle.jsgen_syntax.proofs.Strings.{closed_after, valued_closed}
 use Rattle.jsgen_model.specs.Tokens.{Word, Number, Quoted, Sign, stands}
 use Rattle.jsgen_token_laws.proofs.Last.{clear_quoted}
 use Rattle.jsgen_token_laws.proofs.OneList.{begins, begins_sign, starts_piece}
-use Rattle.jsgen_oracle.specs.Steps.{starts_word, StandsAt, HasNoPiece, HasNoSign, quote_at, count_before}
+use Rattle.jsgen_oracle.specs.Steps.{begins_number, starts_word, StandsAt, HasNoPiece, HasNoSign, quote_at, count_before}
 use Rattle.jsgen_oracle.proofs.Words.{word_front, starts_no_quote}
-use Rattle.jsgen_oracle.proofs.Pieces.{begins_as, word_begins, front_itself, no_quote_digit}
+use Rattle.jsgen_oracle.proofs.Pieces.{begins_so, begins_as, word_begins, front_itself}
 
 -- ---- quotes
 
@@ -107,10 +106,15 @@ no_quote_sign quotes.Backtick = refl
 NoString : Quote → List ℕ → Type 0
 NoString q text = (w rest : List ℕ) → is_some (string_value q w) ≡ true → text ≡ w ++ (quote_char q ∷ rest) → ⊥
 
+no_quote_number : (q : Quote) (text : List ℕ) → begins_number (quote_char q ∷ text) ≡ false
+no_quote_number quotes.Single text = refl
+no_quote_number quotes.Double text = refl
+no_quote_number quotes.Backtick text = refl
+
 no_quoted : (q : Quote) (text : List ℕ) → NoString q text → HasNoPiece (quote_char q ∷ text)
 unfolding starts_piece NoString
 no_quoted q text none (Word w) r s = let b = word_front w s.spelled in both_ways (starts_word (quote_char q)) (starts_no_quote q) (word_begins starts_word w _ r s b ∙ b.starts)
-no_quoted q text none (Number w) r s = let b = begins (Number w) s.spelled in both_ways (is_ascii_digit (quote_char q)) (no_quote_digit q) (begins_as is_ascii_digit (Number w) _ r s b ∙ b.starts)
+no_quoted q text none (Number w) r s = both_ways (begins_number (quote_char q ∷ text)) (no_quote_number q text) (begins_so (quote_char q ∷ text) w r s)
 no_quoted q text none (Sign p) r s = let b = begins (Sign p) s.spelled in both_ways (begins_sign (quote_char q)) (no_quote_sign q) (begins_as begins_sign (Sign p) _ r s b ∙ b.starts)
 no_quoted q text none (Quoted p w) r s =
     let k : quote_char q ∷ text ≡ quote_char p ∷ (w ++ (quote_char p ∷ r)) = s.text_is ∙ ap (λ t. quote_char p ∷ t) (append_assoc w (quote_char p ∷ []) r) in
@@ -140,13 +144,13 @@ no_value q text w n e f none = no_quoted q text (λ v rest h g.
 
 -- ---- no token
 
-no_piece : (text : List ℕ) → escapes.begins starts_word text ≡ false → escapes.begins is_ascii_digit text ≡ false → quote_at text ≡ None → HasNoSign text → HasNoPiece text
+no_piece : (text : List ℕ) → escapes.begins starts_word text ≡ false → begins_number text ≡ false → quote_at text ≡ None → HasNoSign text → HasNoPiece text
 unfolding starts_piece
 no_piece text f g h none (Word w) r s = let b = word_front w s.spelled in both_ways (escapes.begins starts_word text) f (word_begins starts_word w text r s b ∙ b.starts)
-no_piece text f g h none (Number w) r s = let b = begins (Number w) s.spelled in both_ways (escapes.begins is_ascii_digit text) g (begins_as is_ascii_digit (Number w) text r s b ∙ b.starts)
+no_piece text f g h none (Number w) r s = both_ways (begins_number text) g (begins_so text w r s)
 no_piece text f g h none (Quoted q w) r s = let k : None ≡ Some q = sym h ∙ (ap quote_at s.text_is ∙ quote_found q ((w ++ quote_char q ∷ []) ++ r)) in absurd (cc)
 no_piece text f g h none (Sign p) r s = both_ways (stands p text) (none p) (subst (λ t. stands p t ≡ true) (sym s.text_is) (and_parts _ _ s.ends).0)
 
-pub sign_or_none : {A : Type 0} (o : Option A) (P : A → Type 0) (text : List ℕ) → escapes.begins starts_word text ≡ false → escapes.begins is_ascii_digit text ≡ false → quote_at text ≡ None → MatchOption o (HasNoSign text) P → MatchOption o (HasNoPiece text) P
+pub sign_or_none : {A : Type 0} (o : Option A) (P : A → Type 0) (text : List ℕ) → escapes.begins starts_word text ≡ false → begins_number text ≡ false → quote_at text ≡ None → MatchOption o (HasNoSign text) P → MatchOption o (HasNoPiece text) P
 sign_or_none None P text f g h none = no_piece text f g h none
 sign_or_none (Some x) P text f g h s = s

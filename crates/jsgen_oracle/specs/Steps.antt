@@ -1,5 +1,5 @@
 -- What stands at a place of a text.
-use Rattle.std.specs.Prelude.{◌≡◌, ℕ, ◌+◌, List, [], ◌∷◌, ◌++◌, Bool, true, false, not, ◌||◌, ◌==◌, Option, Some, None, option_map, if◌then◌else◌, take, drop}
+use Rattle.std.specs.Prelude.{◌≡◌, ℕ, ◌+◌, List, [], ◌∷◌, ◌++◌, Bool, true, false, ◌&&◌, ◌||◌, ◌==◌, Option, Some, None, option_map, if◌then◌else◌, take, drop}
 use Rattle.std.specs.Char.{is_ascii_digit}
 use Rattle.std.specs.List.{prefix_len}
 use Rattle.jsgen_syntax.specs.Escapes.{begins, begins_with}
@@ -7,6 +7,8 @@ use Rattle.jsgen_syntax.specs.Name.{starts_name, continues_name}
 use Rattle.jsgen_syntax.specs.Strings.{quote_char}
 use Rattle.jsgen_syntax.specs.declared.quote.Quote.{Quote}
 use Rattle.jsgen_syntax.specs.declared.quote.Quote.TheVariants as quotes
+use Rattle.jsgen_model.proofs.NumberKinds.{kind}
+use Rattle.jsgen_model.proofs.NumberStates.{State, accepts, is_dead, step}
 use Rattle.jsgen_model.specs.Punctuator.{Punctuator, Bracket, Round, Square, Brace, opening, closing}
 use Rattle.jsgen_model.specs.Tokens.{Tokens, done, piece, group, Piece, piece_text, is_spelled, ends_before, stands, longer_stands, is_blank, has_line_end}
 
@@ -50,9 +52,21 @@ abbrev mutual
 
 -- ---- numbers
 
--- a whole number ends before this text: no name begins there, no escape of one, and no digit and no dot stands there
-abbrev pub ends_whole : List ℕ → Bool
-ends_whole text = not (begins (λ c. starts_name c || is_ascii_digit c || (c == 46) || (c == 92)) text)
+-- a digit, or a dot and a digit
+abbrev pub begins_number : List ℕ → Bool
+begins_number [] = false
+begins_number (c ∷ cs) = is_ascii_digit c || ((c == 46) && begins is_ascii_digit cs)
+
+-- as many as from the next character on, and that one; or none, where the number may end here
+abbrev pub count_behind : Bool → Option ℕ → Option ℕ
+count_behind ends (Some n) = Some (1 + n)
+count_behind true None = Some 0
+count_behind false None = None
+
+-- how many characters of the text are the rest of the longest number that begins as the machine's state says
+abbrev pub count_number : State → List ℕ → Option ℕ
+count_number s [] = count_behind (accepts s) None
+count_number s (c ∷ cs) = if is_dead s then None else count_behind (accepts s) (count_number (step s (kind c)) cs)
 
 -- ---- strings
 

@@ -60,19 +60,6 @@ pub(crate) fn count_blanks(text: &[char]) -> usize
     text.iter().take_while(|c| is_blank(**c)).count()
 }
 
-pub(crate) fn count_digits(text: &[char]) -> usize
-    ensures value { result ≡ prefix_len is_ascii_digit text.now }
-    ensures within { result ≤ length text.now }
-{
-    text.iter().take_while(|c| c.is_ascii_digit()).count()
-}
-
-pub(crate) fn are_digits(text: &[char]) -> bool
-    ensures { result ≡ list_all is_ascii_digit text.now }
-{
-    text.iter().all(|c| c.is_ascii_digit())
-}
-
 pub(crate) fn digit_value(c: char) -> u32
     requires { is_ascii_hexdigit c ≡ true }
     ensures value { result ≡ digit_value c }

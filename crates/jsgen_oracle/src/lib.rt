@@ -18,6 +18,7 @@ mod characters;
 mod directive;
 mod form;
 mod normal;
+mod number;
 mod punctuator;
 mod row;
 mod shape;

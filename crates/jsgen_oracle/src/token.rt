@@ -1,17 +1,18 @@
 // Tokens, and the one at the front of a text (ECMA-262, clause 12).
 ghost use Rattle.std.specs.Prelude.{◌≡◌, ◌<◌, ◌∷◌, [], true, length, IfOk, IfSome, MatchOption, option_map};
-ghost use Rattle.std.specs.Char.{is_ascii_digit};
 ghost use Rattle.jsgen_syntax.specs.Escapes.{begins};
 ghost use Rattle.jsgen_syntax.specs.Strings.{quote_char};
 ghost use Rattle.jsgen_model.specs.Punctuator.{closing};
-ghost use Rattle.jsgen_model.specs.Tokens.{spells_whole, ends_before, Word};
+ghost use Rattle.jsgen_model.specs.Tokens.{ends_before, Word};
 ghost use Rattle.jsgen_oracle.specs.Plain.{bracket_plain, piece_plain};
-ghost use Rattle.jsgen_oracle.specs.Steps.{starts_word, StandsAt, HasNoPiece, HasNoSign, ends_whole, quote_at, count_before, opening_at, ends_row};
+ghost use Rattle.jsgen_oracle.specs.Steps.{starts_word, StandsAt, HasNoPiece, HasNoSign, begins_number, quote_at, count_before, opening_at, ends_row};
 
-use crate::characters::{are_digits, begins_with_digit, continues_name, count_digits, starts_name};
+use crate::characters::{continues_name, starts_name};
+use crate::number::{begins_number, count_number, may_follow};
 use crate::punctuator::{Punctuator, sign_at};
 use crate::string::{mark, string_value_of};
 use crate::word::{count_word, is_word};
+use jsgen_numbers::Number;
 use jsgen_syntax::{Memory, Quote};
 use std::alloc::Global;
 
@@ -96,7 +97,7 @@ pub(crate) fn take_piece<'a>(alloc: Global, text: &'a [char]) -> Result<Option<T
 {
     if begins_word(text) {
         take_word(alloc, text)
-    } else if begins_with_digit(text) {
+    } else if begins_number(text) {
         take_number(alloc, text)
     } else {
         match quote_at(text) {
@@ -145,39 +146,21 @@ fn ends_word(rest: &[char]) -> bool
 }
 
 fn take_number<'a>(alloc: Global, text: &'a [char]) -> Result<Option<Taken<'a>>, Memory>
-    requires { begins is_ascii_digit text.now ≡ true }
+    requires { begins_number text.now ≡ true }
     ensures { IfOk result (λ r. MatchOption r (HasNoPiece text.now)
         (λ t. StandsAt text.now (piece_plain t.piece) t.rest.now)) }
 {
-    let (number, rest) = text.split_at(count_digits(text));
-    if is_whole(number) && ends_whole(rest) {
+    let Some(count) = count_number(Number::Start, text) else {
+        return Ok(None);
+    };
+    let (number, rest) = text.split_at(count);
+    if may_follow(rest) {
         Ok(Some(Taken {
             piece: Piece::Number(Vec::from_slice(alloc, number)?),
             rest,
         }))
     } else {
         Ok(None)
-    }
-}
-
-fn is_whole(number: &[char]) -> bool
-    ensures { result ≡ spells_whole number.now }
-{
-    match number.split_first() {
-        Some((first, rest)) => {
-            first.is_ascii_digit() && are_digits(rest) && (rest.is_empty() || *first != '0')
-        }
-        None => false,
-    }
-}
-
-// Whether a whole number may end before this text.
-fn ends_whole(rest: &[char]) -> bool
-    ensures { result ≡ ends_whole rest.now }
-{
-    match rest.first() {
-        Some(c) => !(starts_name(*c) || c.is_ascii_digit() || *c == '.' || *c == '\\'),
-        None => true,
     }
 }
 

@@ -27,6 +27,12 @@ none_behind : (w : List ℕ) (c : ℕ) (r : List ℕ) → ((p : List ℕ) → sp
 unfolding longer_number_stands
 none_behind w c r h = or_from _ _ (h []) (none_further (w ++ c ∷ []) r (λ d p. ap spells_number (append_assoc w (c ∷ []) (d ∷ p)) ∙ h (d ∷ p)))
 
+-- no front of the text behind makes it longer
+pub none_longer : (w r : List ℕ) → ((c : ℕ) (p q : List ℕ) → r ≡ c ∷ (p ++ q) → spells_number (w ++ (c ∷ p)) ≡ false) → longer_number_stands w r ≡ false
+unfolding longer_number_stands
+none_longer w [] h = refl
+none_longer w (c ∷ r) h = or_from _ _ (h c [] r refl) (none_longer (w ++ c ∷ []) r (λ d p q e. ap spells_number (append_assoc w (c ∷ []) (d ∷ p)) ∙ h c (d ∷ p) q (ap (λ t. c ∷ t) e)))
+
 -- no number has a character of another kind
 pub none_with : (w : List ℕ) (c : ℕ) (r : List ℕ) → in_number c ≡ false → is_any (codes "+-") c ≡ false → longer_number_stands w (c ∷ r) ≡ false
 none_with w c r h k = none_behind w c r (λ p. runs.none_with w c p h k)
@@ -127,14 +133,17 @@ two_fronts (c ∷ v) (d ∷ w) x y e =
     further g (longer b p e f) = longer b p (cc) f
     further g (shorter b p e f) = shorter b p (cc) f
 
-none_is_longer : (w x : List ℕ) → ends_before (Number w) x ≡ true → longer_number_stands w x ≡ false
+pub none_is_longer : (w x : List ℕ) → ends_before (Number w) x ≡ true → longer_number_stands w x ≡ false
 none_is_longer w x h = not-true _ (and_parts (not (begins is_barred_behind_number x)) (not (longer_number_stands w x)) h).1
 
 -- of two numbers there the longer would be a longer number behind the shorter
-pub one_number : (v w x y : List ℕ) → spells_number v ≡ true → spells_number w ≡ true → ends_before (Number v) x ≡ true → ends_before (Number w) y ≡ true → v ++ x ≡ w ++ y → (v ≡ w) × (x ≡ y)
-one_number v w x y g h s t e = by (two_fronts v w x y e)
+pub one_longest : (v w x y : List ℕ) → spells_number v ≡ true → spells_number w ≡ true → longer_number_stands v x ≡ false → longer_number_stands w y ≡ false → v ++ x ≡ w ++ y → (v ≡ w) × (x ≡ y)
+one_longest v w x y g h s t e = by (two_fronts v w x y e)
   where
     by : Fronts v w x y → (v ≡ w) × (x ≡ y)
     by (same e f) = (e, f)
-    by (longer c p e f) = absurd (both_ways (longer_number_stands v x) (none_is_longer v x s) (subst (λ r. longer_number_stands v r ≡ true) (sym f) (longer_from v c p y (subst (λ u. spells_number u ≡ true) e h))))
-    by (shorter c p e f) = absurd (both_ways (longer_number_stands w y) (none_is_longer w y t) (subst (λ r. longer_number_stands w r ≡ true) (sym f) (longer_from w c p x (subst (λ u. spells_number u ≡ true) e g))))
+    by (longer c p e f) = absurd (both_ways (longer_number_stands v x) s (subst (λ r. longer_number_stands v r ≡ true) (sym f) (longer_from v c p y (subst (λ u. spells_number u ≡ true) e h))))
+    by (shorter c p e f) = absurd (both_ways (longer_number_stands w y) t (subst (λ r. longer_number_stands w r ≡ true) (sym f) (longer_from w c p x (subst (λ u. spells_number u ≡ true) e g))))
+
+pub one_number : (v w x y : List ℕ) → spells_number v ≡ true → spells_number w ≡ true → ends_before (Number v) x ≡ true → ends_before (Number w) y ≡ true → v ++ x ≡ w ++ y → (v ≡ w) × (x ≡ y)
+one_number v w x y g h s t e = one_longest v w x y g h (none_is_longer v x s) (none_is_longer w y t) e

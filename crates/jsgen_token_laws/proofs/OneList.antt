@@ -232,7 +232,7 @@ one_quoted q r v w x y g h e =
     of_one r f h e = subst (λ s. is_some (string_value s w) ≡ true → v ++ (quote_char q ∷ x) ≡ w ++ (quote_char s ∷ y) → (Quoted q v ≡ Quoted s w) × (x ≡ y)) f (λ i j. let k = one_string q v w x y (spelled_closed q v g) (spelled_closed q w i) j in (ap (λ s. Quoted q s) k.0, k.1)) h e
 
 -- no sign stands where a dot and a digit do
-no_sign_at : (s : Punctuator) (d : ℕ) (r : List ℕ) → is_ascii_digit d ≡ true → stands s (46 ∷ (d ∷ r)) ≡ true → ⊥
+pub no_sign_at : (s : Punctuator) (d : ℕ) (r : List ℕ) → is_ascii_digit d ≡ true → stands s (46 ∷ (d ∷ r)) ≡ true → ⊥
 no_sign_at dot d r h k = both_ways (is_ascii_digit d) (not-true (is_ascii_digit d) k) h
 no_sign_at ellipsis d r h k = by (46 == d) refl k
   where
