@@ -2,7 +2,7 @@
 // Rows of a job: expressions (ECMA-262, clause 13).
 ghost use Rattle.std.specs.Prelude.{◌≡◌, true};
 ghost use Rattle.serde_json.specs.View.{view};
-ghost use Rattle.jsgen_tree.specs.Fields.{identifier_reference_fields, this_expression_fields, null_literal_fields, boolean_literal_fields, string_literal_fields, parenthesized_expression_fields, binary_expression_fields, logical_expression_fields, identifier_name_fields, static_member_expression_fields, computed_member_expression_fields, call_expression_fields};
+ghost use Rattle.jsgen_tree.specs.Fields.{identifier_reference_fields, this_expression_fields, null_literal_fields, boolean_literal_fields, big_int_literal_fields, string_literal_fields, parenthesized_expression_fields, binary_expression_fields, logical_expression_fields, identifier_name_fields, static_member_expression_fields, computed_member_expression_fields, call_expression_fields};
 ghost use Rattle.jsgen_fields.specs.Reads.{Gives, read_node, read_typed};
 ghost use Rattle.jsgen_fields.specs.Kept.{entries, row_plain};
 ghost use Rattle.jsgen_fields.specs.Parts.{is_in_expressions};
@@ -18,11 +18,7 @@ use jsgen_fields::values::{field_not_given, needed_flag, needed_text, optional_f
 use jsgen_fields::words::{needed_binary_operator, needed_logical_operator};
 use jsgen_pool::Kept;
 use jsgen_syntax::Span;
-use jsgen_tree::{
-    BinaryExpression, BooleanLiteral, CallExpression, ComputedMemberExpression, Expression,
-    IdentifierName, IdentifierReference, LogicalExpression, NodeType, NullLiteral,
-    ParenthesizedExpression, StaticMemberExpression, StringLiteral, ThisExpression,
-};
+use jsgen_tree::{BigIntLiteral, BinaryExpression, BooleanLiteral, CallExpression, ComputedMemberExpression, Expression, IdentifierName, IdentifierReference, LogicalExpression, NodeType, NullLiteral, ParenthesizedExpression, StaticMemberExpression, StringLiteral, ThisExpression};
 use serde_json::Value;
 use std::alloc::Global;
 
@@ -119,6 +115,29 @@ fn read_boolean_literal<N: ReadNode + Drop>(
 }
 
 #[tactic(auto, unfolding(jsgen_fields::specs::Reads::read_node))]
+fn read_big_int_literal<N: ReadNode + Drop>(
+    alloc: Global,
+    kept: &mut Vec<Kept<Row<N>>>,
+    number: usize,
+    span: Span,
+    row: &Value,
+) -> Result<Row<N>, InputFault>
+    ensures { Gives (row_plain N.plain) result (entries N.plain kept.new.items)
+        (read_node number types.BigIntLiteral big_int_literal_fields span (view row.now) (entries N.plain kept.old.items)) }
+{
+    let _ = kept;
+    let value = match needed_text(alloc, number, 2, row, "value") {
+        Ok(value) => value,
+        Err(fault) => return Err(fault),
+    };
+    let node = BigIntLiteral { span, value };
+    match boxed(alloc, node) {
+        Ok(node) => expression_row(alloc, Expression::BigIntLiteral(node)),
+        Err(fault) => Err(fault),
+    }
+}
+
+#[tactic(auto, unfolding(jsgen_fields::specs::Reads::read_node))]
 fn read_string_literal<N: ReadNode + Drop>(
     alloc: Global,
     kept: &mut Vec<Kept<Row<N>>>,
@@ -186,12 +205,7 @@ fn read_binary_expression<N: ReadNode + Drop>(
         Ok(right) => right,
         Err(fault) => return Err(fault),
     };
-    let node = BinaryExpression {
-        span,
-        operator,
-        left,
-        right,
-    };
+    let node = BinaryExpression { span, operator, left, right };
     match boxed(alloc, node) {
         Ok(node) => expression_row(alloc, Expression::BinaryExpression(node)),
         Err(fault) => Err(fault),
@@ -221,12 +235,7 @@ fn read_logical_expression<N: ReadNode + Drop>(
         Ok(right) => right,
         Err(fault) => return Err(fault),
     };
-    let node = LogicalExpression {
-        span,
-        operator,
-        left,
-        right,
-    };
+    let node = LogicalExpression { span, operator, left, right };
     match boxed(alloc, node) {
         Ok(node) => expression_row(alloc, Expression::LogicalExpression(node)),
         Err(fault) => Err(fault),
@@ -279,11 +288,7 @@ fn read_static_member_expression<N: ReadNode + Drop>(
         Ok(property) => property,
         Err(fault) => return Err(fault),
     };
-    let node = StaticMemberExpression {
-        span,
-        object,
-        property,
-    };
+    let node = StaticMemberExpression { span, object, property };
     match boxed(alloc, node) {
         Ok(node) => expression_row(alloc, Expression::StaticMemberExpression(node)),
         Err(fault) => Err(fault),
@@ -313,11 +318,7 @@ fn read_computed_member_expression<N: ReadNode + Drop>(
         Ok(expression) => expression,
         Err(fault) => return Err(fault),
     };
-    let node = ComputedMemberExpression {
-        span,
-        object,
-        expression,
-    };
+    let node = ComputedMemberExpression { span, object, expression };
     match boxed(alloc, node) {
         Ok(node) => expression_row(alloc, Expression::ComputedMemberExpression(node)),
         Err(fault) => Err(fault),
@@ -355,12 +356,7 @@ fn read_call_expression<N: ReadNode + Drop>(
         Ok(pure) => pure,
         Err(fault) => return Err(fault),
     };
-    let node = CallExpression {
-        span,
-        callee,
-        arguments,
-        pure,
-    };
+    let node = CallExpression { span, callee, arguments, pure };
     match boxed(alloc, node) {
         Ok(node) => expression_row(alloc, Expression::CallExpression(node)),
         Err(fault) => Err(fault),
@@ -386,19 +382,14 @@ pub fn read_in_expressions<N: ReadNode + Drop>(
         NodeType::NullLiteral => read_null_literal(alloc, kept, number, span, row),
         NodeType::BooleanLiteral => read_boolean_literal(alloc, kept, number, span, row),
         NodeType::NumericLiteral => read_numeric_literal(alloc, kept, number, span, row),
+        NodeType::BigIntLiteral => read_big_int_literal(alloc, kept, number, span, row),
         NodeType::StringLiteral => read_string_literal(alloc, kept, number, span, row),
-        NodeType::ParenthesizedExpression => read_parenthesized_expression(
-            alloc, kept, number, span, row,
-        ),
+        NodeType::ParenthesizedExpression => read_parenthesized_expression(alloc, kept, number, span, row),
         NodeType::BinaryExpression => read_binary_expression(alloc, kept, number, span, row),
         NodeType::LogicalExpression => read_logical_expression(alloc, kept, number, span, row),
         NodeType::IdentifierName => read_identifier_name(alloc, kept, number, span, row),
-        NodeType::StaticMemberExpression => read_static_member_expression(
-            alloc, kept, number, span, row,
-        ),
-        NodeType::ComputedMemberExpression => read_computed_member_expression(
-            alloc, kept, number, span, row,
-        ),
+        NodeType::StaticMemberExpression => read_static_member_expression(alloc, kept, number, span, row),
+        NodeType::ComputedMemberExpression => read_computed_member_expression(alloc, kept, number, span, row),
         NodeType::CallExpression => read_call_expression(alloc, kept, number, span, row),
         _ => unreachable!(),
     }

@@ -5,7 +5,7 @@ ghost use Rattle.jsgen_fields.specs.Names.{first_named, type_named};
 
 use jsgen_tree::NodeType;
 
-const TYPE_NAMES: [(&str, NodeType); 31] = [
+const TYPE_NAMES: [(&str, NodeType); 32] = [
     ("Program", NodeType::Program),
     ("Directive", NodeType::Directive),
     ("VariableDeclaration", NodeType::VariableDeclaration),
@@ -20,16 +20,14 @@ const TYPE_NAMES: [(&str, NodeType); 31] = [
     ("NullLiteral", NodeType::NullLiteral),
     ("BooleanLiteral", NodeType::BooleanLiteral),
     ("NumericLiteral", NodeType::NumericLiteral),
+    ("BigIntLiteral", NodeType::BigIntLiteral),
     ("StringLiteral", NodeType::StringLiteral),
     ("ParenthesizedExpression", NodeType::ParenthesizedExpression),
     ("BinaryExpression", NodeType::BinaryExpression),
     ("LogicalExpression", NodeType::LogicalExpression),
     ("IdentifierName", NodeType::IdentifierName),
     ("StaticMemberExpression", NodeType::StaticMemberExpression),
-    (
-        "ComputedMemberExpression",
-        NodeType::ComputedMemberExpression,
-    ),
+    ("ComputedMemberExpression", NodeType::ComputedMemberExpression),
     ("CallExpression", NodeType::CallExpression),
     ("SpreadElement", NodeType::SpreadElement),
     ("ArrayExpression", NodeType::ArrayExpression),

@@ -3,9 +3,9 @@
 
 use crate::collections::{ArrayExpression, ObjectExpression, ObjectProperty, SpreadElement};
 use crate::expressions::{
-    BinaryExpression, BooleanLiteral, CallExpression, ComputedMemberExpression, IdentifierName,
-    IdentifierReference, LogicalExpression, NullLiteral, NumericLiteral, ParenthesizedExpression,
-    StaticMemberExpression, StringLiteral, ThisExpression,
+    BigIntLiteral, BinaryExpression, BooleanLiteral, CallExpression, ComputedMemberExpression,
+    IdentifierName, IdentifierReference, LogicalExpression, NullLiteral, NumericLiteral,
+    ParenthesizedExpression, StaticMemberExpression, StringLiteral, ThisExpression,
 };
 use crate::nodes::{DeclarationNode, ExpressionNode, Node};
 use crate::operations::{NewExpression, NewTarget, Super, UnaryExpression, UpdateExpression};
@@ -21,6 +21,7 @@ pub enum Expression<N = Node> {
     NullLiteral(Box<NullLiteral>),
     BooleanLiteral(Box<BooleanLiteral>),
     NumericLiteral(Box<NumericLiteral>),
+    BigIntLiteral(Box<BigIntLiteral>),
     StringLiteral(Box<StringLiteral>),
     BinaryExpression(Box<BinaryExpression<N>>),
     LogicalExpression(Box<LogicalExpression<N>>),

@@ -20,6 +20,7 @@ pub enum NodeType {
     NullLiteral,
     BooleanLiteral,
     NumericLiteral,
+    BigIntLiteral,
     StringLiteral,
     ParenthesizedExpression,
     BinaryExpression,
@@ -88,6 +89,7 @@ impl NodeType {
                 | NodeType::NullLiteral
                 | NodeType::BooleanLiteral
                 | NodeType::NumericLiteral
+                | NodeType::BigIntLiteral
                 | NodeType::StringLiteral
                 | NodeType::BinaryExpression
                 | NodeType::LogicalExpression
@@ -117,6 +119,7 @@ impl NodeType {
                 | NodeType::NullLiteral
                 | NodeType::BooleanLiteral
                 | NodeType::NumericLiteral
+                | NodeType::BigIntLiteral
                 | NodeType::StringLiteral
                 | NodeType::BinaryExpression
                 | NodeType::LogicalExpression
@@ -146,6 +149,7 @@ impl NodeType {
                 | NodeType::NullLiteral
                 | NodeType::BooleanLiteral
                 | NodeType::NumericLiteral
+                | NodeType::BigIntLiteral
                 | NodeType::StringLiteral
                 | NodeType::BinaryExpression
                 | NodeType::LogicalExpression
@@ -194,6 +198,7 @@ impl NodeType {
                 | NodeType::NullLiteral
                 | NodeType::BooleanLiteral
                 | NodeType::NumericLiteral
+                | NodeType::BigIntLiteral
                 | NodeType::StringLiteral
                 | NodeType::BinaryExpression
                 | NodeType::LogicalExpression
