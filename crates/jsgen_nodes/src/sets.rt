@@ -10,10 +10,22 @@ ghost use Rattle.jsgen_nodes.specs.Parts.{expression_part, statement_part};
 use crate::PrintNode;
 use crate::blocks::{print_block_statement, print_empty_statement, print_if_statement};
 use crate::collections::{print_array_expression, print_object_expression};
-use crate::expressions::{print_binary_expression, print_boolean_literal, print_identifier_reference, print_logical_expression, print_null_literal, print_numeric_literal, print_parenthesized_expression, print_string_literal, print_this_expression};
-use crate::links::{print_call_expression, print_computed_member_expression, print_static_member_expression};
-use crate::operators::{print_new_expression, print_new_target, print_super, print_unary_expression, print_update_expression};
-use crate::statements::{print_binding_identifier, print_expression_statement, print_variable_declaration};
+use crate::expressions::{
+    print_big_int_literal, print_binary_expression, print_boolean_literal,
+    print_identifier_reference, print_logical_expression, print_null_literal,
+    print_numeric_literal, print_parenthesized_expression, print_string_literal,
+    print_this_expression,
+};
+use crate::links::{
+    print_call_expression, print_computed_member_expression, print_static_member_expression,
+};
+use crate::operators::{
+    print_new_expression, print_new_target, print_super, print_unary_expression,
+    print_update_expression,
+};
+use crate::statements::{
+    print_binding_identifier, print_expression_statement, print_variable_declaration,
+};
 use jsgen_place::Place;
 use jsgen_printer::Printer;
 use jsgen_syntax::Memory;
@@ -38,7 +50,9 @@ pub fn print_expression<N: PrintNode>(
         Expression::BinaryExpression(node) => print_binary_expression(node, p, place),
         Expression::LogicalExpression(node) => print_logical_expression(node, p, place),
         Expression::StaticMemberExpression(node) => print_static_member_expression(node, p, place),
-        Expression::ComputedMemberExpression(node) => print_computed_member_expression(node, p, place),
+        Expression::ComputedMemberExpression(node) => print_computed_member_expression(
+            node, p, place,
+        ),
         Expression::CallExpression(node) => print_call_expression(node, p, place),
         _ => print_expression_in_collections(node, p, place),
     }
