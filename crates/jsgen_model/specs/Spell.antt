@@ -405,13 +405,13 @@ truth_word false = codes "false"
 
 -- ---- numbers
 
--- with a minus before it a number is an operation of one operand (ECMA-262, 13.5); a dot behind it is never its own
-abbrev pub negative : List ℕ → Place → Items
-negative text place = wrapped (wraps Prefix place) (operator minus ⊕ number false text)
+-- With a minus before it a number is an operation of one operand (ECMA-262, 13.5). The test tells that a dot behind the number would be its own
+abbrev pub negative : Bool → List ℕ → Place → Items
+negative dot_is_its_own text place = wrapped (wraps Prefix place) (operator minus ⊕ number dot_is_its_own text)
 
--- a number by its text, with a minus before it or not; the first test tells that a dot behind it would be its own
+-- a number by its text, with a minus before it where the second test holds
 abbrev pub signed : Bool → Bool → List ℕ → Place → Items
-signed dot_is_its_own true text place = negative text place
+signed dot_is_its_own true text place = negative dot_is_its_own text place
 signed dot_is_its_own false text place = number dot_is_its_own text
 
 abbrev pub number_items : NumericKind → Atoms → Place → Items
@@ -423,7 +423,7 @@ abbrev pub big_text : List ℕ → List ℕ
 big_text digits = digits ++ codes "n"
 
 abbrev pub big_integer_items : List ℕ → Option (List ℕ) → Place → Items
-big_integer_items value (Some digits) place = negative (big_text digits) place
+big_integer_items value (Some digits) place = negative false (big_text digits) place
 big_integer_items value None place = number false (big_text value)
 
 -- ---- the whole

@@ -167,33 +167,6 @@ good_new_target c a place p l z y k =
       same = refl;
     }
 
-number_begins : (start : Start) (line : Bool) (w : List ℕ) (b : Tokens) → may_begin start (piece line (Number w) b) ≡ true
-number_begins nowhere line w b = refl
-number_begins statement line w b = refl
-number_begins arrow_body line w b = refl
-number_begins default_export line w b = refl
-
-pub good_number : (c : Allowed) (a : Atoms) → is_whole (numeric_literal_kind a) a ≡ true → Printed c (tree.numeric_literal a)
-good_number c a h place p l z y k = by (numeric_literal_kind a) refl h
-  where
-    w : List ℕ
-    w = decimal (numeric_literal_digits a)
-
-    by : (kind : NumericKind) → numeric_literal_kind a ≡ kind → is_whole kind a ≡ true → Good p l (layout (number_item kind a) p) (under place c) (level_of place) place.start (tree.numeric_literal a)
-    by Whole e h = record {
-      last = _;
-      tokens = piece (line_of l) (Number w) done;
-      writes = wrote_whole w p l (decimal_whole (numeric_literal_digits a) (ltb-true (numeric_literal_digits a) _ h)) y k;
-      operand = tt;
-      semicolon = z;
-      begins = λ b n. number_begins place.start (line_of l) w b;
-      line = λ g. ap not g;
-      tree = tree.numeric_literal (by_text w);
-      reads = from_primary place grammar.a_number;
-      same = ap (λ x. tree.numeric_literal (by_text (number_text x a))) (sym e);
-    }
-    by Raw e h = absurd (both_ways false refl h)
-
 -- ---- strings
 
 quoted_begins : (start : Start) (line : Bool) (q : Quote) (w : List ℕ) (b : Tokens) → may_begin start (piece line (Quoted q w) b) ≡ true

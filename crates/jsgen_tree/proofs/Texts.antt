@@ -6,7 +6,7 @@ use Rattle.std.proofs.lemmas.Bool.{both_ways, false_from_ne_true, eqb-true}
 use Rattle.std.proofs.lemmas.Slice.Eq.{bytes_eq-Decides}
 use Rattle.std.proofs.lemmas.Str.{encodes-chars}
 use Rattle.std.proofs.Common.{encode_utf8_all}
-use Rattle.jsgen_tree.specs.Inside.{behind_minus}
+use Rattle.jsgen_tree.specs.Inside.{after_minus}
 
 -- two texts are the same where their characters are
 pub same_characters : (a b : List ℕ) → IsUtf8 a → IsUtf8 b → bytes_eq (chars a) (chars b) ≡ bytes_eq a b
@@ -26,11 +26,11 @@ minus_first : (bs cs : List ℕ) → IsUtf8 bs → chars bs ≡ 45 ∷ cs → bs
 unfolding encode
 minus_first bs cs u e = sym (encodes-chars bs u) ∙ ap encode_utf8_all e
 
-pub minus_found : (bs : List ℕ) (r : Option (Bor (List ℕ))) → IsUtf8 bs → MatchOption r ((rest : List ℕ) → bs ≢ 45 ∷ rest) (λ x. bs ≡ 45 ∷ x.now) → option_map (λ s. chars s.now) r ≡ behind_minus (chars bs)
-minus_found bs (Some x) u h = sym (ap (λ y. behind_minus (chars y)) h ∙ ap behind_minus (past_minus x.now))
+pub minus_found : (bs : List ℕ) (r : Option (Bor (List ℕ))) → IsUtf8 bs → MatchOption r ((rest : List ℕ) → bs ≢ 45 ∷ rest) (λ x. bs ≡ 45 ∷ x.now) → option_map (λ s. chars s.now) r ≡ after_minus (chars bs)
+minus_found bs (Some x) u h = sym (ap (λ y. after_minus (chars y)) h ∙ ap after_minus (past_minus x.now))
 minus_found bs None u h = none (chars bs) refl
   where
-    none : (cs : List ℕ) → chars bs ≡ cs → None ≡ behind_minus cs
+    none : (cs : List ℕ) → chars bs ≡ cs → None ≡ after_minus cs
     none [] e = refl
     none (c ∷ cs) e = by (c == 45) refl
       where

@@ -1,5 +1,5 @@
 -- What a statement ends in, what stands within the parentheses of an expression, which name a node is, and whether a number is negative.
-use Rattle.std.specs.Prelude.{◌≡◌, ◌==◌, ℕ, List, [], ◌∷◌, Bool, true, false, Option, Some, None, is_some, codes, if◌then◌else◌}
+use Rattle.std.specs.Prelude.{◌≡◌, ◌==◌, ℕ, List, [], ◌∷◌, Bool, true, false, Option, Some, None, is_some, option_and_then, codes, if◌then◌else◌}
 use Rattle.std.specs.Str.{bytes_eq}
 use Rattle.jsgen_tree.specs.Tree.{Tree, absent, given, type_of}
 use Rattle.jsgen_tree.specs.Nodes.{parenthesized, if_statement, identifier_reference, identifier_name, numeric_literal, big_int_literal}
@@ -39,10 +39,17 @@ is_proto name = bytes_eq name (codes "__proto__")
 
 -- ---- numbers
 
--- the digits of a big integer behind its minus, if it has one
+-- what stands behind a minus
+abbrev pub after_minus : List ℕ → Option (List ℕ)
+after_minus [] = None
+after_minus (c ∷ cs) = if c == 45 then Some cs else None
+
+abbrev pub unless_minus : List ℕ → Option (List ℕ)
+unless_minus digits = if is_some (after_minus digits) then None else Some digits
+
+-- the digits of a big integer behind its one minus, if it has one
 abbrev pub behind_minus : List ℕ → Option (List ℕ)
-behind_minus [] = None
-behind_minus (c ∷ cs) = if c == 45 then Some cs else None
+behind_minus value = option_and_then unless_minus (after_minus value)
 
 -- a number, or a big integer, with a minus before it
 abbrev pub is_negative_number : Tree → Bool

@@ -1,7 +1,7 @@
 // The value of a number, and whether a minus stands before a number.
 ghost use Rattle.std.specs.Prelude.{◌≡◌, option_map};
 ghost use Rattle.std.specs.Str.{chars};
-ghost use Rattle.jsgen_tree.specs.Inside.{without_parentheses, is_negative, behind_minus};
+ghost use Rattle.jsgen_tree.specs.Inside.{without_parentheses, is_negative, after_minus, unless_minus, behind_minus};
 ghost use Rattle.jsgen_tree.specs.Rows.{expression_plain, numeric_literal_row};
 ghost use Rattle.jsgen_tree.specs.Plain.{node_plain};
 
@@ -18,11 +18,30 @@ pub enum NumericValue {
     Raw(String),
 }
 
-/// The digits of a big integer behind its minus, if it has one.
+// What stands behind a minus.
+fn after_minus(value: &str) -> Option<&str>
+    ensures { option_map (λ s. chars s.now) result ≡ after_minus (chars value.now) }
+{
+    value.strip_prefix('-')
+}
+
+fn unless_minus(digits: &str) -> Option<&str>
+    ensures { option_map (λ s. chars s.now) result ≡ unless_minus (chars digits.now) }
+{
+    match after_minus(digits) {
+        Some(_) => None,
+        None => Some(digits),
+    }
+}
+
+/// The digits of a big integer behind its one minus, if it has one.
 pub fn behind_minus(value: &str) -> Option<&str>
     ensures { option_map (λ s. chars s.now) result ≡ behind_minus (chars value.now) }
 {
-    value.strip_prefix('-')
+    match after_minus(value) {
+        Some(digits) => unless_minus(digits),
+        None => None,
+    }
 }
 
 impl NumericLiteral {

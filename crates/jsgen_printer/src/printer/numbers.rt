@@ -59,13 +59,13 @@ impl Printer {
         self.print_unary_operator(UnaryOperator::UnaryNegation)
     }
 
-    // A minus, and the number by its text behind it.
+    // A minus, and behind it a number of which a dot would be part.
     fn print_minus_number(&mut self, text: &str) -> Result<(), Memory>
         ensures { Reaches result (pen_of self.old) (pen_of self.new)
-            (layout (operator minus ⊕ number false (chars text.now)) (pen_of self.old)) }
+            (layout (operator minus ⊕ number true (chars text.now)) (pen_of self.old)) }
     {
         self.print_minus()?;
-        self.print_number(text, false)
+        self.print_number(text, true)
     }
 
     // A minus, and the big integer by its digits behind it.
@@ -77,10 +77,10 @@ impl Printer {
         self.print_big_integer(digits)
     }
 
-    // A number by its text with a minus before it, in parentheses where the test holds.
+    // The same, in parentheses where the test holds.
     fn print_negative_number(&mut self, wrap: bool, text: &str) -> Result<(), Memory>
         ensures { Reaches result (pen_of self.old) (pen_of self.new)
-            (layout (wrapped wrap (operator minus ⊕ number false (chars text.now))) (pen_of self.old)) }
+            (layout (wrapped wrap (operator minus ⊕ number true (chars text.now))) (pen_of self.old)) }
     {
         self.print_opening_if(wrap)?;
         self.print_minus_number(text)?;
@@ -90,7 +90,7 @@ impl Printer {
     /// A whole number with a minus before it, in parentheses where the test holds.
     pub fn print_negative_whole_number(&mut self, wrap: bool, digits: u128) -> Result<(), Memory>
         ensures { Reaches result (pen_of self.old) (pen_of self.new)
-            (layout (wrapped wrap (operator minus ⊕ number false (decimal digits))) (pen_of self.old)) }
+            (layout (wrapped wrap (operator minus ⊕ number true (decimal digits))) (pen_of self.old)) }
     {
         let mut buffer = itoa::Buffer::new();
         let text = buffer.format(digits);
