@@ -54,7 +54,7 @@ none_is_some us e = both_ways false refl (ap is_some e)
 no_string : {t : Tree} → is_expression (type_of t) ≡ true → is_mixed (normal t) ≡ mixes (without_parentheses t) → is_string (normal t) ≡ false → string_in (without_parentheses t) ≡ None → is_unary (normal t) ≡ is_signed (without_parentheses t) → Asked t
 no_string e m s n u = record { expression = e; mixed = m; string = s ∙ sym (ap is_some n); inside = λ us h. absurd (none_is_some us (sym n ∙ h)); unary = u }
 
-number_form : Atoms → Tree
+abbrev number_form : Atoms → Tree
 number_form a = tree.numeric_literal (by_text (number_text (numeric_literal_kind a) a))
 
 asked_number : (a : Atoms) (b : Bool) → numeric_literal_negative a ≡ b → Asked (tree.numeric_literal a)

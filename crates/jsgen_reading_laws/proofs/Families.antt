@@ -225,8 +225,8 @@ none_in_object t p s n = search no_truth
 key_stands : (type : NodeType) → is_expression type ≡ true → may_stand sets.PropertyKey type ≡ true → may_stand sets.Expression type ≡ true
 key_stands type s m = and_from (is_expression type) (false || not (is_super type)) s (and_parts (in_set sets.PropertyKey type) (false || not (is_super type)) m).1
 
-big_valued : {around : Surroundings} (a : Atoms) → breaches around (tree.big_int_literal a) ≡ [] → is_big_integer (big_int_literal_value a) ≡ true
-big_valued a e = none_unless (is_big_integer (big_int_literal_value a)) (faults.Literal a.span.start) (parts (span_faults a.span) (big_integer_faults a.span (big_int_literal_value a)) [] e).0
+big_valued : (around : Surroundings) (a : Atoms) → breaches around (tree.big_int_literal a) ≡ [] → is_big_integer (big_int_literal_value a) ≡ true
+big_valued around a e = none_unless (is_big_integer (big_int_literal_value a)) (faults.Literal a.span.start) (parts (span_faults a.span) (big_integer_faults a.span (big_int_literal_value a)) [] e).0
 
 -- a number whose value is at no fault has one
 number_valued : (kind : NumericKind) (a : Atoms) → is_number kind a ≡ true → number_faults a.span kind (numeric_literal_text a) ≡ [] → has_value kind a ≡ true
@@ -237,7 +237,7 @@ literal_key_valid : (c : Allowed) (around : Surroundings) (k : Tree) → IsPlain
 literal_key_valid c around (tree.identifier_name a) p s m e = a_name_key (none_unless (spells_name (identifier_name_name a)) (faults.Name a.span.start) (parts (span_faults a.span) (written_name_faults a.span (identifier_name_name a)) [] e).0)
 literal_key_valid c around (tree.string_literal a) p s m e = a_string_key p.0
 literal_key_valid c around (tree.numeric_literal a) p s m e = a_number_key (number_valued (numeric_literal_kind a) a p.0 (parts (span_faults a.span) (number_faults a.span (numeric_literal_kind a) (numeric_literal_text a)) [] e).0)
-literal_key_valid c around (tree.big_int_literal a) p s m e = a_big_integer_key (big_valued a e) m
+literal_key_valid c around (tree.big_int_literal a) p s m e = a_big_integer_key (big_valued around a e) m
 literal_key_valid c around k p s m e = absurd (search no_truth)
 
 key_valid : (c : Allowed) (around : Surroundings) (computed : Bool) (k : Tree) → IsPlain k → key_faults computed k ≡ [] → breaches around k ≡ [] → (is_expression (type_of k) ≡ true → IsExpression c k) → IsKey c computed k
@@ -253,7 +253,7 @@ mutual
   expression_valid c around (tree.null_literal a) p s e = a_null
   expression_valid c around (tree.boolean_literal a) p s e = a_boolean
   expression_valid c around (tree.numeric_literal a) p s e = a_number (number_valued (numeric_literal_kind a) a p.0 (parts (span_faults a.span) (number_faults a.span (numeric_literal_kind a) (numeric_literal_text a)) [] e).0)
-  expression_valid c around (tree.big_int_literal a) p s e = a_big_integer (big_valued a e)
+  expression_valid c around (tree.big_int_literal a) p s e = a_big_integer (big_valued around a e)
   expression_valid c around (tree.string_literal a) p s e = a_string p.0
   expression_valid c around (tree.parenthesized a t) p s e =
       let k = standing around sets.Expression t [] (parts (span_faults a.span) [] _ e).1 in

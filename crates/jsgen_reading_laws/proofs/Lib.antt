@@ -10,6 +10,7 @@ pub mod Operations
 pub mod Chains
 pub mod Prefixes
 pub mod Links
+pub mod Literals
 pub mod Properties
 pub mod Collections
 pub mod Constructions

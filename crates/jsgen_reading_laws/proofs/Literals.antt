@@ -1,8 +1,7 @@
 -- Numbers and big integers, with a minus before them or not.
 use Rattle.std.proofs.Common.{◌≡◌, ◌^◌, nat_lt, ℕ, ◌==◌, ◌⊎◌, inl, inr, Bool, true, false, not, ◌&&◌, decimal, codes, Option, Some, None, is_some, option_and_then, unwrap_or, if◌then◌else◌, List, [], ◌∷◌, ◌++◌, refl, sym, ap, subst, ◌∙◌, arith}
-use Rattle.std.specs.Char.{is_ascii_digit, is_ascii_hexdigit}
-use Rattle.std.specs.Int.{is_in_range}
-use Rattle.std.specs.List.{last_or}
+use Rattle.std.specs.Char.{is_ascii_digit}
+use Rattle.std.specs.List.{last_or, list_any, list_all}
 use Rattle.std.specs.Option.{option_map_or}
 use Rattle.std.proofs.lemmas.Bool.{both_ways, and_parts, or_cases, eqb-true, ltb-true}
 use Rattle.jsgen_syntax.specs.declared.operator.UnaryOperator.TheVariants as unary_operators
@@ -13,7 +12,7 @@ use Rattle.jsgen_tree.specs.Nodes as tree
 use Rattle.jsgen_tree.specs.Inside.{after_minus, unless_minus, behind_minus}
 use Rattle.jsgen_tree.specs.Values.{numeric_literal_kind, numeric_literal_negative, numeric_literal_digits, numeric_literal_text, big_int_literal_value}
 use Rattle.jsgen_model.specs.Punctuator.{minus}
-use Rattle.jsgen_model.specs.Numbers.{Production, ◌∣◌, ◌▸◌, in_two, perhaps, character, one_of, digits_of, decimal_literal, decimal_integer, non_decimal_integer, point, decimal_digits, exponent_part, signed_integer, zero_digit, non_zero_digit, separator, binary_integer, octal_integer, hex_integer, spells_whole, is_raw_number, is_big_integer, takes_no_dot, ends_in_dot}
+use Rattle.jsgen_model.specs.Numbers.{Production, ◌∣◌, ◌▸◌, in_two, perhaps, character, one_of, digits_of, decimal_literal, decimal_integer, non_decimal_integer, point, decimal_digits, exponent_part, zero_digit, non_zero_digit, spells_whole, is_raw_number, is_big_integer, takes_no_dot}
 use Rattle.jsgen_model.specs.Tokens.{Tokens, done, piece, Number, Sign}
 use Rattle.jsgen_model.specs.Items.{nothing, ◌⊕◌, number, operator}
 use Rattle.jsgen_model.specs.Layout.{Pen, layout, Start, nowhere, statement, arrow_body, default_export, unless_printed}
@@ -47,14 +46,14 @@ no_suffix a b h g = ap (λ o. option_map_or (λ c. c == 110) o false) (last_behi
 
 in_parts : (f g : Production) (w : List ℕ) → in_two f g w ≡ true → (a : List ℕ) × (b : List ℕ) × (w ≡ a ++ b) × (f a ≡ true) × (g b ≡ true)
 in_parts f g [] h = let k = and_parts (f []) (g []) h in ([], [], refl, k.0, k.1)
-in_parts f g (c ∷ w) h = by (or_cases (f [] && g (c ∷ w)) (in_two (λ front. f (c ∷ front)) g w) h)
+in_parts f g (c ∷ w) h = by (or_cases (f [] && g (c ∷ w)) (in_two (λ front. f (c ∷ front)) g w) h) (in_parts (λ front. f (c ∷ front)) g w)
   where
-    by : ((f [] && g (c ∷ w)) ≡ true) ⊎ (in_two (λ front. f (c ∷ front)) g w ≡ true) → (a : List ℕ) × (b : List ℕ) × (c ∷ w ≡ a ++ b) × (f a ≡ true) × (g b ≡ true)
-    by (inl e) = let k = and_parts (f []) (g (c ∷ w)) e in ([], c ∷ w, refl, k.0, k.1)
-    by (inr e) = let r = in_parts (λ front. f (c ∷ front)) g w e in (c ∷ r.0, r.1, ap (λ x. c ∷ x) r.2.0, r.2.1.0, r.2.1.1)
+    by : ((f [] && g (c ∷ w)) ≡ true) ⊎ (in_two (λ front. f (c ∷ front)) g w ≡ true) → (in_two (λ front. f (c ∷ front)) g w ≡ true → (a : List ℕ) × (b : List ℕ) × (w ≡ a ++ b) × (f (c ∷ a) ≡ true) × (g b ≡ true)) → (a : List ℕ) × (b : List ℕ) × (c ∷ w ≡ a ++ b) × (f a ≡ true) × (g b ≡ true)
+    by (inl e) next = let k = and_parts (f []) (g (c ∷ w)) e in ([], c ∷ w, refl, k.0, k.1)
+    by (inr e) next = let r = next e in (c ∷ r.0, r.1, ap (λ x. c ∷ x) r.2, r.3, r.4)
 
 two_plain : (f g : Production) → EndsPlain f → EndsPlain g → EndsPlain (f ▸ g)
-two_plain f g h k w e = let r = in_parts f g w e in ap has_suffix r.2.0 ∙ no_suffix r.0 r.1 (h r.0 r.2.1.0) (k r.1 r.2.1.1)
+two_plain f g h k w e = let r = in_parts f g w e in ap has_suffix r.2 ∙ no_suffix r.0 r.1 (h r.0 r.3) (k r.1 r.4)
 
 either_plain : (f g : Production) → EndsPlain f → EndsPlain g → EndsPlain (f ∣ g)
 either_plain f g h k w e = by (or_cases (f w) (g w) e)
@@ -82,15 +81,15 @@ character_plain test h (c ∷ d ∷ w) e = absurd (both_ways false refl e)
 digits_plain : (test : ℕ → Bool) → test 110 ≡ false → EndsPlain (digits_of test)
 digits_plain test h [] e = refl
 digits_plain test h (c ∷ []) e = not_suffix test c h e
-digits_plain test h (c ∷ d ∷ w) e = by (or_cases (digits_of test (d ∷ w)) _ (and_parts (test c) _ e).1)
+digits_plain test h (c ∷ d ∷ w) e = by (or_cases (digits_of test (d ∷ w)) _ (and_parts (test c) _ e).1) (digits_plain test h (d ∷ w)) (λ k. behind_separator d w k (digits_plain test h w k))
   where
-    by : (digits_of test (d ∷ w) ≡ true) ⊎ (((d == 95) && digits_of test w) ≡ true) → has_suffix (c ∷ d ∷ w) ≡ false
-    by (inl i) = digits_plain test h (d ∷ w) i
-    by (inr i) = behind w (and_parts (d == 95) (digits_of test w) i).1
-      where
-        behind : (w : List ℕ) → digits_of test w ≡ true → has_suffix (c ∷ d ∷ w) ≡ false
-        behind [] k = absurd (both_ways false refl k)
-        behind (x ∷ w) k = digits_plain test h (x ∷ w) k
+    behind_separator : (d : ℕ) (w : List ℕ) → digits_of test w ≡ true → has_suffix w ≡ false → has_suffix (d ∷ w) ≡ false
+    behind_separator d [] k i = absurd (both_ways false refl k)
+    behind_separator d (x ∷ w) k i = i
+
+    by : (digits_of test (d ∷ w) ≡ true) ⊎ (((d == 95) && digits_of test w) ≡ true) → (digits_of test (d ∷ w) ≡ true → has_suffix (d ∷ w) ≡ false) → (digits_of test w ≡ true → has_suffix (d ∷ w) ≡ false) → has_suffix (c ∷ d ∷ w) ≡ false
+    by (inl i) f g = f i
+    by (inr i) f g = g (and_parts (d == 95) (digits_of test w) i).1
 
 decimals : EndsPlain decimal_digits
 decimals = digits_plain is_ascii_digit refl
@@ -114,14 +113,44 @@ literals = either_plain _ _ (two_plain _ _ integers (two_plain _ _ points (two_p
     points = character_plain _ refl
 
 others : EndsPlain non_decimal_integer
-others = either_plain _ _ (prefixed _ (digits_plain _ refl)) (either_plain _ _ (prefixed _ (digits_plain _ refl)) (prefixed _ (digits_plain _ refl)))
+others = either_plain _ _ (prefixed (codes "bB") _ refl (digits_plain _ refl)) (either_plain _ _ (prefixed (codes "oO") _ refl (digits_plain _ refl)) (prefixed (codes "xX") _ refl (digits_plain _ refl)))
   where
-    prefixed : {letters : List ℕ} (f : Production) → EndsPlain f → EndsPlain (zero_digit ▸ (one_of letters ▸ f))
-    prefixed f h = two_plain _ _ zeros (two_plain _ _ (character_plain _ refl) h)
+    prefixed : (letters : List ℕ) (f : Production) → list_any (λ d. 110 == d) letters ≡ false → EndsPlain f → EndsPlain (zero_digit ▸ (one_of letters ▸ f))
+    prefixed letters f l h = two_plain _ _ zeros (two_plain _ _ (character_plain _ l) h)
 
 raw_suffix : (w : List ℕ) → is_raw_number w ≡ true → has_suffix w ≡ false
 unfolding is_raw_number
 raw_suffix w h = either_plain decimal_literal non_decimal_integer literals others w (and_parts _ ((decimal_literal ∣ non_decimal_integer) w) h).1
+
+digits_no_suffix : (w : List ℕ) → list_all is_ascii_digit w ≡ true → has_suffix w ≡ false
+digits_no_suffix [] h = refl
+digits_no_suffix (c ∷ []) h = not_suffix is_ascii_digit c refl (and_parts (is_ascii_digit c) true h).0
+digits_no_suffix (c ∷ d ∷ w) h = digits_no_suffix (d ∷ w) (and_parts (is_ascii_digit c) (list_all is_ascii_digit (d ∷ w)) h).1
+
+whole_suffix : (w : List ℕ) → spells_whole w ≡ true → has_suffix w ≡ false
+whole_suffix w h = digits_no_suffix w (whole_digits w h)
+
+-- ---- the digits of a big integer
+
+unsigned : (w : List ℕ) → spells_whole w ≡ true → after_minus w ≡ None
+unsigned [] h = refl
+unsigned (c ∷ w) h = by (c == 45) refl
+  where
+    by : (b : Bool) → (c == 45) ≡ b → (if b then Some w else None) ≡ None
+    by true q = absurd (both_ways false refl (subst (λ x. is_ascii_digit x ≡ true) (eqb-true c 45 q) (whole_begins (c ∷ w) h)))
+    by false q = refl
+
+no_minus : (w : List ℕ) → spells_whole w ≡ true → behind_minus w ≡ None
+no_minus w h = ap (option_and_then unless_minus) (unsigned w h)
+
+pub big_whole : (v : List ℕ) (o : Option (List ℕ)) → is_big_integer v ≡ true → behind_minus v ≡ o → spells_whole (unwrap_or o v) ≡ true
+unfolding is_big_integer
+big_whole [] o h e = absurd (both_ways false refl h)
+big_whole (c ∷ w) o h e = by (c == 45) h e
+  where
+    by : (b : Bool) → (if b then spells_whole w else spells_whole (c ∷ w)) ≡ true → option_and_then unless_minus (if b then Some w else None) ≡ o → spells_whole (unwrap_or o (c ∷ w)) ≡ true
+    by true h e = subst (λ x. spells_whole (unwrap_or x (c ∷ w)) ≡ true) (sym (ap (λ x. if is_some x then None else Some w) (unsigned w h)) ∙ e) h
+    by false h e = subst (λ x. spells_whole (unwrap_or x (c ∷ w)) ≡ true) e h
 
 -- ---- the token of a number
 
@@ -138,6 +167,33 @@ pub record Numeral (dot : Bool) (w : List ℕ) (t : Tree) : Type 0 where
   pub reads : {c : Allowed} {mark : Bool} → ReadsExpression c grammar.Primary (piece mark (Number w) done) reading
   pub reads_key : {c : Allowed} {mark : Bool} → ReadsKey c false (piece mark (Number w) done) reading
   pub same : normal reading ≡ t
+
+pub whole_numeral : (n : ℕ) → nat_lt n (2 ^ 128) ≡ true → Numeral true (decimal n) (tree.numeric_literal (by_text (decimal n)))
+whole_numeral n h = let s = decimal_whole n (ltb-true n _ h) in record {
+  writes = λ p l y k. wrote_whole (decimal n) p l s y k;
+  reading = tree.numeric_literal (by_text (decimal n));
+  reads = grammar.a_number (whole_suffix (decimal n) s);
+  reads_key = grammar.a_number_key (whole_suffix (decimal n) s);
+  same = refl;
+}
+
+pub raw_numeral : (w : List ℕ) → is_raw_number w ≡ true → Numeral (not (takes_no_dot w)) w (tree.numeric_literal (by_text w))
+raw_numeral w h = record {
+  writes = λ p l y k. wrote_raw w p l h y k;
+  reading = tree.numeric_literal (by_text w);
+  reads = grammar.a_number (raw_suffix w h);
+  reads_key = grammar.a_number_key (raw_suffix w h);
+  same = refl;
+}
+
+pub big_numeral : (w : List ℕ) → spells_whole w ≡ true → Numeral false (big_text w) (tree.big_int_literal (named w))
+big_numeral w h = record {
+  writes = λ p l y k. wrote_big w p l h y k;
+  reading = tree.big_int_literal (named w);
+  reads = grammar.a_big_integer refl;
+  reads_key = grammar.a_big_integer_key refl;
+  same = ap (big_integer w) (no_minus w h);
+}
 
 bare_numeral : (c : Allowed) (place : Place) (dot : Bool) (w : List ℕ) (t u : Tree) → Numeral dot w u → normal t ≡ u → (p : Pen) (l : Last) → p.pending_semicolon ≡ false → Ready l → Knows p l → Good p l (layout (number dot w) p) (under place c) (level_of place) place.start t
 bare_numeral c place dot w t u n e p l z y k = record {
@@ -185,4 +241,3 @@ good_big_integer c a h place = by (behind_minus (big_int_literal_value a)) refl
     by : (o : Option (List ℕ)) → behind_minus v ≡ o → (p : Pen) (l : Last) → p.pending_semicolon ≡ false → Ready l → Knows p l → Good p l (layout (big_integer_items v o place) p) (under place c) (level_of place) place.start (tree.big_int_literal a)
     by (Some w) e = negative_numeral c place false (big_text w) (tree.big_int_literal a) _ (big_numeral w (big_whole v (Some w) h e)) (ap (big_integer v) e)
     by None e = bare_numeral c place false (big_text v) (tree.big_int_literal a) _ (big_numeral v (big_whole v None h e)) (ap (big_integer v) e)
-

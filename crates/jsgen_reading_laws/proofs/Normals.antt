@@ -1,6 +1,6 @@
 -- A normal form is its own.
 use Rattle.std.specs.Option.{option_map_or}
-use Rattle.std.proofs.Common.{◌≡◌, ℕ, List, Bool, true, false, ◌&&◌, ◌||◌, cond, [], ◌∷◌, Option, Some, None, is_some, option_and_then, if◌then◌else◌, refl, ap, subst, ◌∙◌}
+use Rattle.std.proofs.Common.{◌≡◌, ℕ, List, Bool, true, false, ◌&&◌, ◌||◌, cond, [], ◌∷◌, Option, Some, None, is_some, option_and_then, if◌then◌else◌, refl, sym, ap, subst, ◌∙◌}
 use Rattle.jsgen_syntax.specs.declared.operator.LogicalOperator.{LogicalOperator}
 use Rattle.jsgen_tree.specs.Atom.{no_value, declaration_kind, binary_operator, logical_operator, unary_operator, update_operator, flag, property_kind}
 use Rattle.jsgen_tree.specs.Tree.{Tree, node, Slots, no_slots, one, maybe, many, maybe_many, Maybe, absent, given, Trees, no_trees, more, hole, MaybeTrees, no_list, listed}
@@ -106,22 +106,20 @@ or_again true b = refl
 or_again false true = refl
 or_again false false = refl
 
-positive_number : (negative : Bool) (w : List ℕ) → is_negative_number (minus_before negative (tree.numeric_literal (by_text w))) ≡ false
-positive_number true w = refl
-positive_number false w = refl
+abbrev is_unary : Tree → Bool
+is_unary (tree.unary a argument) = true
+is_unary t = false
 
-no_number : (v : List ℕ) (o : Option (List ℕ)) → is_negative_number (big_integer v o) ≡ false
-no_number v (Some w) = refl
-no_number v None = refl
+no_negative_number : (t : Tree) → normal t ≡ t → is_negative_number t ≡ false
+no_negative_number (tree.numeric_literal a) e = by (numeric_literal_negative a) refl
+  where
+    by : (b : Bool) → numeric_literal_negative a ≡ b → b ≡ false
+    by true n = absurd (both_ways true (ap is_unary (sym (ap (λ x. minus_before x (tree.numeric_literal (by_text (number_text (numeric_literal_kind a) a)))) n) ∙ e)) refl)
+    by false n = refl
+no_negative_number t e = refl
 
-no_negative_number : (t : Tree) → is_negative_number (normal t) ≡ false
-no_negative_number (tree.numeric_literal a) = positive_number (numeric_literal_negative a) (number_text (numeric_literal_kind a) a)
-no_negative_number (tree.big_int_literal a) = no_number (big_int_literal_value a) (behind_minus (big_int_literal_value a))
-no_negative_number (tree.parenthesized a expression) = no_negative_number expression
-no_negative_number t = refl
-
-computed_again : (computed : Bool) (key : Tree) → is_computed (is_computed computed key) (normal key) ≡ is_computed computed key
-computed_again computed key = ap (λ b. (computed || is_negative_number key) || b) (no_negative_number key) ∙ or_again computed (is_negative_number key)
+computed_again : (computed : Bool) (key : Tree) → normal (normal key) ≡ normal key → is_computed (is_computed computed key) (normal key) ≡ is_computed computed key
+computed_again computed key e = ap (λ b. (computed || is_negative_number key) || b) (no_negative_number (normal key) e) ∙ or_again computed (is_negative_number key)
 
 -- ---- the whole
 
@@ -156,7 +154,7 @@ mutual
       let e = normal_again key in
       let f = normal_again value in
       let g = proto_again (object_property_shorthand a) key in
-      let h = computed_again (object_property_computed a) key in
+      let h = computed_again (object_property_computed a) key e in
       λ i. tree.object_property (bare (property_kind (object_property_kind a) ∷ object_property_method a ∷ flag (g i) ∷ flag (h i) ∷ [])) (e i) (f i)
   normal_again (tree.spread a argument) = ap (λ e. tree.spread (nothing_of 0) e) (normal_again argument)
   normal_again (tree.unary a argument) = ap (λ e. tree.unary (bare (unary_operator (unary_expression_operator a) ∷ [])) e) (normal_again argument)
