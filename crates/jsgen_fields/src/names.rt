@@ -27,7 +27,10 @@ const TYPE_NAMES: [(&str, NodeType); 32] = [
     ("LogicalExpression", NodeType::LogicalExpression),
     ("IdentifierName", NodeType::IdentifierName),
     ("StaticMemberExpression", NodeType::StaticMemberExpression),
-    ("ComputedMemberExpression", NodeType::ComputedMemberExpression),
+    (
+        "ComputedMemberExpression",
+        NodeType::ComputedMemberExpression,
+    ),
     ("CallExpression", NodeType::CallExpression),
     ("SpreadElement", NodeType::SpreadElement),
     ("ArrayExpression", NodeType::ArrayExpression),
