@@ -1,5 +1,5 @@
 -- The grammar (ECMA-262, clauses 13 to 16): which lists of tokens are read as which tree, one production a line.
-use Rattle.std.specs.Prelude.{◌≡◌, ℕ, List, [], ◌∷◌, ◌++◌, Bool, true, false, not, ◌&&◌, ◌||◌, ◌==◌, Option, Some, None, codes}
+use Rattle.std.specs.Prelude.{◌≡◌, ℕ, List, [], ◌∷◌, ◌++◌, Bool, true, false, not, ◌&&◌, ◌||◌, Option, Some, None, codes}
 use Rattle.std.specs.Str.{bytes_eq}
 use Rattle.jsgen_syntax.specs.Escapes.{word_value}
 use Rattle.jsgen_syntax.specs.Strings.{is_backtick, string_value}
@@ -14,8 +14,7 @@ use Rattle.jsgen_syntax.specs.declared.operator.UpdateOperator.TheVariants as up
 use Rattle.jsgen_tree.specs.declared.statements.VariableDeclarationKind.TheVariants.{Const}
 use Rattle.jsgen_syntax.specs.Name.{is_free_name}
 use Rattle.jsgen_tree.specs.Atom.{units, flag, binary_operator, logical_operator, unary_operator, update_operator, no_value, property_kind}
-use Rattle.std.specs.List.{last_or}
-use Rattle.std.specs.Option.{option_map_or}
+use Rattle.jsgen_model.specs.Numbers.{ends_in}
 use Rattle.jsgen_tree.specs.Tree.{Tree, Maybe, absent, given, Trees, no_trees, more, hole, Atoms}
 use Rattle.jsgen_tree.specs.Places.{bare}
 use Rattle.jsgen_tree.specs.Nodes as tree
@@ -151,7 +150,7 @@ is_word w ts = false
 
 -- a number's token ends in the suffix of a big integer (12.9.3)
 abbrev pub has_suffix : List ℕ → Bool
-has_suffix w = option_map_or (λ c. c == 110) (last_or None w) false
+has_suffix w = ends_in (codes "n") w
 
 -- no line end stands before the first token
 abbrev pub on_same_line : Tokens → Bool

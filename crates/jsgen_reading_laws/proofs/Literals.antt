@@ -1,9 +1,10 @@
 -- Numbers and big integers, with a minus before them or not.
-use Rattle.std.proofs.Common.{◌≡◌, ◌^◌, nat_lt, ℕ, ◌==◌, ◌⊎◌, inl, inr, Bool, true, false, not, ◌&&◌, decimal, codes, Option, Some, None, is_some, option_and_then, unwrap_or, if◌then◌else◌, List, [], ◌∷◌, ◌++◌, refl, sym, ap, subst, ◌∙◌, arith}
+use Rattle.std.proofs.Common.{◌≡◌, ◌^◌, nat_lt, ℕ, ◌==◌, Bool, true, false, not, ◌&&◌, ◌||◌, decimal, codes, Option, Some, None, is_some, option_and_then, unwrap_or, if◌then◌else◌, List, [], ◌∷◌, ◌++◌, refl, sym, ap, subst, ◌∙◌, arith}
 use Rattle.std.specs.Char.{is_ascii_digit}
 use Rattle.std.specs.List.{last_or, list_any, list_all}
 use Rattle.std.specs.Option.{option_map_or}
-use Rattle.std.proofs.lemmas.Bool.{both_ways, and_parts, or_cases, eqb-true, ltb-true}
+use Rattle.std.proofs.lemmas.Bool.{both_ways, and_parts, or_parts, or_from, not-true, eqb-true, ltb-true}
+use Rattle.jsgen_syntax.specs.Escapes.{begins}
 use Rattle.jsgen_syntax.specs.declared.operator.UnaryOperator.TheVariants as unary_operators
 use Rattle.jsgen_syntax.specs.declared.precedence.Precedence.TheVariants as levels
 use Rattle.jsgen_tree.specs.Number.{NumericKind, Whole, Raw}
@@ -12,7 +13,7 @@ use Rattle.jsgen_tree.specs.Nodes as tree
 use Rattle.jsgen_tree.specs.Inside.{after_minus, unless_minus, behind_minus}
 use Rattle.jsgen_tree.specs.Values.{numeric_literal_kind, numeric_literal_negative, numeric_literal_digits, numeric_literal_text, big_int_literal_value}
 use Rattle.jsgen_model.specs.Punctuator.{minus}
-use Rattle.jsgen_model.specs.Numbers.{Production, ◌∣◌, ◌▸◌, in_two, perhaps, character, one_of, digits_of, decimal_literal, decimal_integer, non_decimal_integer, point, decimal_digits, exponent_part, zero_digit, non_zero_digit, spells_whole, is_raw_number, is_big_integer, takes_no_dot}
+use Rattle.jsgen_model.specs.Numbers.{ends_in, spells_number, spells_whole, is_raw_number, is_big_integer, takes_no_dot}
 use Rattle.jsgen_model.specs.Tokens.{Tokens, done, piece, Number, Sign}
 use Rattle.jsgen_model.specs.Items.{nothing, ◌⊕◌, number, operator}
 use Rattle.jsgen_model.specs.Layout.{Pen, layout, Start, nowhere, statement, arrow_body, default_export, unless_printed}
@@ -20,7 +21,7 @@ use Rattle.jsgen_model.specs.Grammar.{Allowed, ReadsExpression, ReadsKey, has_su
 use Rattle.jsgen_model.specs.Grammar as grammar
 use Rattle.jsgen_model.specs.Normal.{normal, named, by_text, number_text, minus_before, big_integer}
 use Rattle.jsgen_model.specs.Spell.{Place, within, behind, wraps, negative, signed, number_items, big_text, big_integer_items}
-use Rattle.jsgen_token_laws.proofs.Characters.{last_behind, whole_digits}
+use Rattle.jsgen_token_laws.proofs.Characters.{whole_digits}
 use Rattle.jsgen_token_laws.proofs.Last.{Last, After, line_of, Ready, Knows}
 use Rattle.jsgen_token_laws.proofs.Literals.{whole_begins}
 use Rattle.jsgen_token_laws.proofs.Writes.{Writes}
@@ -33,98 +34,26 @@ use Rattle.jsgen_reading_laws.proofs.Prefixes.{sign_before, good_prefix, nothing
 
 -- ---- what a number ends in
 
--- what the production derives doesn't end in the suffix of a big integer
-abbrev EndsPlain : Production → Type 0
-EndsPlain f = (w : List ℕ) → f w ≡ true → has_suffix w ≡ false
-
-no_suffix_behind : (o : Option ℕ) (b : List ℕ) → option_map_or (λ c. c == 110) o false ≡ false → has_suffix b ≡ false → option_map_or (λ c. c == 110) (last_or o b) false ≡ false
-no_suffix_behind o [] h g = h
-no_suffix_behind o (c ∷ b) h g = g
-
-no_suffix : (a b : List ℕ) → has_suffix a ≡ false → has_suffix b ≡ false → has_suffix (a ++ b) ≡ false
-no_suffix a b h g = ap (λ o. option_map_or (λ c. c == 110) o false) (last_behind None a b) ∙ no_suffix_behind (last_or None a) b h g
-
-in_parts : (f g : Production) (w : List ℕ) → in_two f g w ≡ true → (a : List ℕ) × (b : List ℕ) × (w ≡ a ++ b) × (f a ≡ true) × (g b ≡ true)
-in_parts f g [] h = let k = and_parts (f []) (g []) h in ([], [], refl, k.0, k.1)
-in_parts f g (c ∷ w) h = by (or_cases (f [] && g (c ∷ w)) (in_two (λ front. f (c ∷ front)) g w) h) (in_parts (λ front. f (c ∷ front)) g w)
-  where
-    by : ((f [] && g (c ∷ w)) ≡ true) ⊎ (in_two (λ front. f (c ∷ front)) g w ≡ true) → (in_two (λ front. f (c ∷ front)) g w ≡ true → (a : List ℕ) × (b : List ℕ) × (w ≡ a ++ b) × (f (c ∷ a) ≡ true) × (g b ≡ true)) → (a : List ℕ) × (b : List ℕ) × (c ∷ w ≡ a ++ b) × (f a ≡ true) × (g b ≡ true)
-    by (inl e) next = let k = and_parts (f []) (g (c ∷ w)) e in ([], c ∷ w, refl, k.0, k.1)
-    by (inr e) next = let r = next e in (c ∷ r.0, r.1, ap (λ x. c ∷ x) r.2, r.3, r.4)
-
-two_plain : (f g : Production) → EndsPlain f → EndsPlain g → EndsPlain (f ▸ g)
-two_plain f g h k w e = let r = in_parts f g w e in ap has_suffix r.2 ∙ no_suffix r.0 r.1 (h r.0 r.3) (k r.1 r.4)
-
-either_plain : (f g : Production) → EndsPlain f → EndsPlain g → EndsPlain (f ∣ g)
-either_plain f g h k w e = by (or_cases (f w) (g w) e)
-  where
-    by : (f w ≡ true) ⊎ (g w ≡ true) → has_suffix w ≡ false
-    by (inl i) = h w i
-    by (inr i) = k w i
-
-perhaps_plain : (f : Production) → EndsPlain f → EndsPlain (perhaps f)
-perhaps_plain f h [] e = refl
-perhaps_plain f h (c ∷ w) e = h (c ∷ w) e
-
-not_suffix : (test : ℕ → Bool) (c : ℕ) → test 110 ≡ false → test c ≡ true → (c == 110) ≡ false
-not_suffix test c h e = by (c == 110) refl
+no_digit : (c : ℕ) → is_ascii_digit c ≡ true → ((c == 110) || false) ≡ false
+no_digit c h = or_from (c == 110) false (by (c == 110) refl) refl
   where
     by : (b : Bool) → (c == 110) ≡ b → b ≡ false
-    by true q = absurd (both_ways (test 110) h (subst (λ x. test x ≡ true) (eqb-true c 110 q) e))
+    by true q = absurd (both_ways false refl (subst (λ x. is_ascii_digit x ≡ true) (eqb-true c 110 q) h))
     by false q = refl
 
-character_plain : (test : ℕ → Bool) → test 110 ≡ false → EndsPlain (character test)
-character_plain test h [] e = refl
-character_plain test h (c ∷ []) e = not_suffix test c h e
-character_plain test h (c ∷ d ∷ w) e = absurd (both_ways false refl e)
-
-digits_plain : (test : ℕ → Bool) → test 110 ≡ false → EndsPlain (digits_of test)
-digits_plain test h [] e = refl
-digits_plain test h (c ∷ []) e = not_suffix test c h e
-digits_plain test h (c ∷ d ∷ w) e = by (or_cases (digits_of test (d ∷ w)) _ (and_parts (test c) _ e).1) (digits_plain test h (d ∷ w)) (λ k. behind_separator d w k (digits_plain test h w k))
-  where
-    behind_separator : (d : ℕ) (w : List ℕ) → digits_of test w ≡ true → has_suffix w ≡ false → has_suffix (d ∷ w) ≡ false
-    behind_separator d [] k i = absurd (both_ways false refl k)
-    behind_separator d (x ∷ w) k i = i
-
-    by : (digits_of test (d ∷ w) ≡ true) ⊎ (((d == 95) && digits_of test w) ≡ true) → (digits_of test (d ∷ w) ≡ true → has_suffix (d ∷ w) ≡ false) → (digits_of test w ≡ true → has_suffix (d ∷ w) ≡ false) → has_suffix (c ∷ d ∷ w) ≡ false
-    by (inl i) f g = f i
-    by (inr i) f g = g (and_parts (d == 95) (digits_of test w) i).1
-
-decimals : EndsPlain decimal_digits
-decimals = digits_plain is_ascii_digit refl
-
-zeros : EndsPlain zero_digit
-zeros = character_plain _ refl
-
-integers : EndsPlain decimal_integer
-integers = either_plain _ _ zeros (either_plain _ _ non_zeros (two_plain _ _ non_zeros (two_plain _ _ (perhaps_plain _ (character_plain _ refl)) decimals)))
-  where
-    non_zeros : EndsPlain non_zero_digit
-    non_zeros = character_plain _ refl
-
-exponents : EndsPlain exponent_part
-exponents = two_plain _ _ (character_plain _ refl) (either_plain _ _ decimals (two_plain _ _ (character_plain _ refl) decimals))
-
-literals : EndsPlain decimal_literal
-literals = either_plain _ _ (two_plain _ _ integers (two_plain _ _ points (two_plain _ _ (perhaps_plain _ decimals) (perhaps_plain _ exponents)))) (either_plain _ _ (two_plain _ _ points (two_plain _ _ decimals (perhaps_plain _ exponents))) (two_plain _ _ integers (perhaps_plain _ exponents)))
-  where
-    points : EndsPlain point
-    points = character_plain _ refl
-
-others : EndsPlain non_decimal_integer
-others = either_plain _ _ (prefixed (codes "bB") _ refl (digits_plain _ refl)) (either_plain _ _ (prefixed (codes "oO") _ refl (digits_plain _ refl)) (prefixed (codes "xX") _ refl (digits_plain _ refl)))
-  where
-    prefixed : (letters : List ℕ) (f : Production) → list_any (λ d. 110 == d) letters ≡ false → EndsPlain f → EndsPlain (zero_digit ▸ (one_of letters ▸ f))
-    prefixed letters f l h = two_plain _ _ zeros (two_plain _ _ (character_plain _ l) h)
+no_suffix_in : (o : Option ℕ) → option_map_or (λ c. list_any (λ d. c == d) (codes ".n")) o false ≡ false → option_map_or (λ c. list_any (λ d. c == d) (codes "n")) o false ≡ false
+no_suffix_in None h = refl
+no_suffix_in (Some c) h = (or_parts (c == 46) _ h).1
 
 raw_suffix : (w : List ℕ) → is_raw_number w ≡ true → has_suffix w ≡ false
 unfolding is_raw_number
-raw_suffix w h = either_plain decimal_literal non_decimal_integer literals others w (and_parts _ ((decimal_literal ∣ non_decimal_integer) w) h).1
+raw_suffix w h =
+    let k = and_parts (begins is_ascii_digit w && not (ends_in (codes ".n") w)) (spells_number w) h in
+    no_suffix_in (last_or None w) (not-true (ends_in (codes ".n") w) (and_parts (begins is_ascii_digit w) (not (ends_in (codes ".n") w)) k.0).1)
 
 digits_no_suffix : (w : List ℕ) → list_all is_ascii_digit w ≡ true → has_suffix w ≡ false
 digits_no_suffix [] h = refl
-digits_no_suffix (c ∷ []) h = not_suffix is_ascii_digit c refl (and_parts (is_ascii_digit c) true h).0
+digits_no_suffix (c ∷ []) h = no_digit c (and_parts (is_ascii_digit c) true h).0
 digits_no_suffix (c ∷ d ∷ w) h = digits_no_suffix (d ∷ w) (and_parts (is_ascii_digit c) (list_all is_ascii_digit (d ∷ w)) h).1
 
 whole_suffix : (w : List ℕ) → spells_whole w ≡ true → has_suffix w ≡ false
