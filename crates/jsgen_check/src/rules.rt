@@ -18,9 +18,9 @@ use jsgen_model::TreeFault;
 use jsgen_rules::{check_big_integer, check_name, check_raw, check_raw_number, check_written_name};
 use jsgen_syntax::Span;
 use jsgen_tree::{
-    BigIntLiteral, BindingIdentifier, Directive, ExpressionNode, IdentifierName, IdentifierReference, IfStatement,
-    NodeType, NumericLiteral, NumericValue, ObjectProperty, PropertyKey, StatementNode, VariableDeclaration, VariableDeclarator,
-    is_proto,
+    BigIntLiteral, BindingIdentifier, Directive, ExpressionNode, IdentifierName,
+    IdentifierReference, IfStatement, NodeType, NumericLiteral, NumericValue, ObjectProperty,
+    PropertyKey, StatementNode, VariableDeclaration, VariableDeclarator, is_proto,
 };
 
 #[tactic(auto)]

@@ -18,7 +18,11 @@ use jsgen_fields::values::{field_not_given, needed_flag, needed_text, optional_f
 use jsgen_fields::words::{needed_binary_operator, needed_logical_operator};
 use jsgen_pool::Kept;
 use jsgen_syntax::Span;
-use jsgen_tree::{BigIntLiteral, BinaryExpression, BooleanLiteral, CallExpression, ComputedMemberExpression, Expression, IdentifierName, IdentifierReference, LogicalExpression, NodeType, NullLiteral, ParenthesizedExpression, StaticMemberExpression, StringLiteral, ThisExpression};
+use jsgen_tree::{
+    BigIntLiteral, BinaryExpression, BooleanLiteral, CallExpression, ComputedMemberExpression,
+    Expression, IdentifierName, IdentifierReference, LogicalExpression, NodeType, NullLiteral,
+    ParenthesizedExpression, StaticMemberExpression, StringLiteral, ThisExpression,
+};
 use serde_json::Value;
 use std::alloc::Global;
 
@@ -205,7 +209,12 @@ fn read_binary_expression<N: ReadNode + Drop>(
         Ok(right) => right,
         Err(fault) => return Err(fault),
     };
-    let node = BinaryExpression { span, operator, left, right };
+    let node = BinaryExpression {
+        span,
+        operator,
+        left,
+        right,
+    };
     match boxed(alloc, node) {
         Ok(node) => expression_row(alloc, Expression::BinaryExpression(node)),
         Err(fault) => Err(fault),
@@ -235,7 +244,12 @@ fn read_logical_expression<N: ReadNode + Drop>(
         Ok(right) => right,
         Err(fault) => return Err(fault),
     };
-    let node = LogicalExpression { span, operator, left, right };
+    let node = LogicalExpression {
+        span,
+        operator,
+        left,
+        right,
+    };
     match boxed(alloc, node) {
         Ok(node) => expression_row(alloc, Expression::LogicalExpression(node)),
         Err(fault) => Err(fault),
@@ -288,7 +302,11 @@ fn read_static_member_expression<N: ReadNode + Drop>(
         Ok(property) => property,
         Err(fault) => return Err(fault),
     };
-    let node = StaticMemberExpression { span, object, property };
+    let node = StaticMemberExpression {
+        span,
+        object,
+        property,
+    };
     match boxed(alloc, node) {
         Ok(node) => expression_row(alloc, Expression::StaticMemberExpression(node)),
         Err(fault) => Err(fault),
@@ -318,7 +336,11 @@ fn read_computed_member_expression<N: ReadNode + Drop>(
         Ok(expression) => expression,
         Err(fault) => return Err(fault),
     };
-    let node = ComputedMemberExpression { span, object, expression };
+    let node = ComputedMemberExpression {
+        span,
+        object,
+        expression,
+    };
     match boxed(alloc, node) {
         Ok(node) => expression_row(alloc, Expression::ComputedMemberExpression(node)),
         Err(fault) => Err(fault),
@@ -356,7 +378,12 @@ fn read_call_expression<N: ReadNode + Drop>(
         Ok(pure) => pure,
         Err(fault) => return Err(fault),
     };
-    let node = CallExpression { span, callee, arguments, pure };
+    let node = CallExpression {
+        span,
+        callee,
+        arguments,
+        pure,
+    };
     match boxed(alloc, node) {
         Ok(node) => expression_row(alloc, Expression::CallExpression(node)),
         Err(fault) => Err(fault),
@@ -384,12 +411,18 @@ pub fn read_in_expressions<N: ReadNode + Drop>(
         NodeType::NumericLiteral => read_numeric_literal(alloc, kept, number, span, row),
         NodeType::BigIntLiteral => read_big_int_literal(alloc, kept, number, span, row),
         NodeType::StringLiteral => read_string_literal(alloc, kept, number, span, row),
-        NodeType::ParenthesizedExpression => read_parenthesized_expression(alloc, kept, number, span, row),
+        NodeType::ParenthesizedExpression => read_parenthesized_expression(
+            alloc, kept, number, span, row,
+        ),
         NodeType::BinaryExpression => read_binary_expression(alloc, kept, number, span, row),
         NodeType::LogicalExpression => read_logical_expression(alloc, kept, number, span, row),
         NodeType::IdentifierName => read_identifier_name(alloc, kept, number, span, row),
-        NodeType::StaticMemberExpression => read_static_member_expression(alloc, kept, number, span, row),
-        NodeType::ComputedMemberExpression => read_computed_member_expression(alloc, kept, number, span, row),
+        NodeType::StaticMemberExpression => read_static_member_expression(
+            alloc, kept, number, span, row,
+        ),
+        NodeType::ComputedMemberExpression => read_computed_member_expression(
+            alloc, kept, number, span, row,
+        ),
         NodeType::CallExpression => read_call_expression(alloc, kept, number, span, row),
         _ => unreachable!(),
     }
