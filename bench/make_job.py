@@ -1,7 +1,9 @@
-"""Writes a job: `make_job.py SIZE [nested|ascii|wide|escapes] [minify]`.
+"""Writes a job: `make_job.py SIZE [nested|list|ascii|wide|escapes] [minify]`.
 
-SIZE is in megabytes. By itself the job holds declarations and statements, blocks and `if` of mixed expressions; with
-`nested`, blocks and `if` a thousand deep and sums nested a thousand to the left and to the right, as often as fill it.
+SIZE is in megabytes. By itself the job holds declarations and statements, blocks and `if` of mixed expressions, a third of
+which are literals, unary operations, updates, `new`, and arrays and objects up to six deep; with `nested`, blocks and `if` a
+thousand deep and sums nested a thousand to the left and to the right, as often as fill it; with `list`, one array of 12,500
+numbers a megabyte.
 With `ascii`, `wide` and `escapes` it is one string as long as the job: of ASCII, of characters of one to four bytes, and
 with a quote or another character that needs an escape at every tenth place.
 """
@@ -12,7 +14,9 @@ NAMES = ["a", "total", "index", "lengthOfList", "$", "_private", "größe", "x1"
 TEXTS = ["", "use strict", "it's", 'say \\"so\\"', "`a` and 'b'", "a\\\\b", "${a}", "</script>"]
 BINARY = ["+", "-", "*", "/", "%", "**", "==", "!==", "<", ">=", "<<", ">>>", "&", "|", "^", "in", "instanceof"]
 LOGICAL = ["&&", "||"]
+UNARY = ["+", "-", "!", "~", "typeof", "void"]
 DEPTH = 1000
+NUMBERS = 12500
 STRINGS = {
     "ascii": ("abcdefghij klmnop,.", None),
     "wide": ("abcde é日本ß\U0001F600xyz", None),
@@ -48,18 +52,67 @@ class Rows:
         return self.add('{"type":"IfStatement","test":%d,"consequent":%d%s}' % (test, consequent, last))
 
 
+def word(rows, draw):
+    kind = draw.random()
+    if kind < 0.3:
+        return rows.add('{"type":"ThisExpression"}')
+    if kind < 0.6:
+        return rows.add('{"type":"NullLiteral"}')
+    return rows.add('{"type":"BooleanLiteral","value":%s}' % draw.choice(["true", "false"]))
+
+
+def whole(rows, draw):
+    return rows.add('{"type":"NumericLiteral","kind":"whole","digits":%d}' % draw.randrange(10 ** draw.randrange(1, 12)))
+
+
+def prop(rows, depth, draw):
+    name = rows.add('{"type":"IdentifierName","name":"%s"}' % draw.choice(NAMES))
+    value = collection(rows, depth, draw)
+    return rows.add('{"type":"ObjectProperty","kind":"init","key":%d,"value":%d}' % (name, value))
+
+
+def collection(rows, depth, draw):
+    """An array or an object of others, so many deep."""
+    if depth == 0 or draw.random() < 0.3:
+        return draw.choice([word, whole, leaf])(rows, draw)
+    if draw.random() < 0.5:
+        elements = [collection(rows, depth - 1, draw) for _ in range(draw.randrange(4))]
+        return rows.add('{"type":"ArrayExpression","elements":[%s]}' % ",".join(map(str, elements)))
+    properties = [prop(rows, depth - 1, draw) for _ in range(draw.randrange(4))]
+    return rows.add('{"type":"ObjectExpression","properties":[%s]}' % ",".join(map(str, properties)))
+
+
+def other(rows, depth, draw):
+    """A literal, an operation of one operand, a construction, or a collection."""
+    kind = draw.random()
+    if kind < 0.25:
+        return word(rows, draw)
+    if kind < 0.5:
+        argument = expression(rows, depth - 1, draw)
+        return rows.add('{"type":"UnaryExpression","operator":"%s","argument":%d}' % (draw.choice(UNARY), argument))
+    if kind < 0.65:
+        target, prefix = rows.name(draw.choice(NAMES)), draw.choice(["true", "false"])
+        return rows.add('{"type":"UpdateExpression","operator":"++","prefix":%s,"argument":%d}' % (prefix, target))
+    if kind < 0.8:
+        callee, given = expression(rows, depth - 1, draw), leaf(rows, draw)
+        return rows.add('{"type":"NewExpression","callee":%d,"arguments":[%d]}' % (callee, given))
+    return collection(rows, 6, draw)
+
+
 def leaf(rows, draw):
     kind = draw.random()
     if kind < 0.5:
         return rows.name(draw.choice(NAMES))
     if kind < 0.75:
-        return rows.add('{"type":"NumericLiteral","kind":"whole","digits":%d}' % draw.randrange(10 ** draw.randrange(1, 12)))
+        return whole(rows, draw)
     return rows.add('{"type":"StringLiteral","value":"%s"}' % draw.choice(TEXTS))
 
 
 def expression(rows, depth, draw):
     if depth == 0 or draw.random() < 0.2:
         return leaf(rows, draw)
+    if draw.random() < 1 / 3:
+        return other(rows, depth, draw)
     kind = draw.random()
     first = expression(rows, depth - 1, draw)
     if kind < 0.1:
@@ -125,29 +178,44 @@ def deep_sum(rows, to_the_left):
     return rows.statement(inner)
 
 
+def long_list(rows, count, draw):
+    numbers = [whole(rows, draw) for _ in range(count)]
+    return rows.statement(rows.add('{"type":"ArrayExpression","elements":[%s]}' % ",".join(map(str, numbers))))
+
+
 def long_string(kind, wanted, draw):
     letters, escapes = STRINGS[kind]
     part = "".join(draw.choice(escapes) if escapes and i % 10 == 9 else draw.choice(letters) for i in range(1000))
     return part * (wanted // len(part.encode()))
 
 
-def main():
-    wanted = int(sys.argv[1]) * 1000000
-    draw = random.Random(1)
-    rows, body = Rows(), []
-    body_is_string = any(kind in sys.argv[2:] for kind in STRINGS)
-    for kind in STRINGS:
-        if kind in sys.argv[2:]:
-            callee = rows.name("f")
-            string = rows.add('{"type":"StringLiteral","value":"%s"}' % long_string(kind, wanted, draw))
-            body.append(rows.statement(rows.add('{"type":"CallExpression","callee":%d,"arguments":[%d]}' % (callee, string))))
-    while not body_is_string and rows.size < wanted:
-        if "nested" in sys.argv[2:]:
+def string_statement(rows, kind, wanted, draw):
+    callee = rows.name("f")
+    string = rows.add('{"type":"StringLiteral","value":"%s"}' % long_string(kind, wanted, draw))
+    return rows.statement(rows.add('{"type":"CallExpression","callee":%d,"arguments":[%d]}' % (callee, string)))
+
+
+def body_of(rows, kind, megabytes, draw):
+    wanted, body = megabytes * 1000000, []
+    if kind in STRINGS:
+        return [string_statement(rows, kind, wanted, draw)]
+    if kind == "list":
+        return [long_list(rows, megabytes * NUMBERS, draw)]
+    while rows.size < wanted:
+        if kind == "nested":
             body += [deep_blocks(rows), deep_sum(rows, True), deep_sum(rows, False)]
         else:
             body.append(statement(rows, 4, draw))
+    return body
+
+
+def main():
+    words = sys.argv[2:]
+    kind = next((it for it in words if it in ("nested", "list", *STRINGS)), "mixed")
+    rows = Rows()
+    body = body_of(rows, kind, int(sys.argv[1]), random.Random(1))
     rows.add('{"type":"Program","kind":"module","body":[%s]}' % ",".join(map(str, body)))
-    options = '"options":{"minify":true},' if "minify" in sys.argv[2:] else ""
+    options = '"options":{"minify":true},' if "minify" in words else ""
     sys.stdout.write("{%s\"rows\":[" % options + ",\n".join(rows.rows) + "]}\n")
 
 

@@ -1,5 +1,5 @@
 #!/usr/bin/env bash
-# Times jsgen, pretty and minified, on jobs of about 1, 4 and 16 megabytes, deeply nested ones and single strings, beside node's
+# Times jsgen, pretty and minified, on jobs of about 1, 4 and 16 megabytes, deeply nested ones, long lists and single strings, beside node's
 # JSON.parse of the same file: the best of five runs. Minified text is never longer than pretty text.
 set -eu
 top=$(cd "$(dirname "$0")/.." && pwd)
@@ -7,7 +7,7 @@ work=$(mktemp -d)
 trap 'rm -rf "$work"' EXIT
 "$top/jsgen" print <"$top/examples/empty.json" >/dev/null
 for size in 1 4 16; do
-  for kind in mixed nested ascii wide escapes; do
+  for kind in mixed nested list ascii wide escapes; do
     python3 "$top/bench/make_job.py" "$size" "$kind" >"$work/$kind-$size-pretty.json"
     python3 "$top/bench/make_job.py" "$size" "$kind" minify >"$work/$kind-$size-minified.json"
   done
@@ -35,7 +35,7 @@ def measured(path):
 
 
 print("%-16s %9s %9s %9s %12s %7s %10s %14s" % ("job", "bytes", "printed", "jsgen s", "JSON.parse s", "ratio", "ns a byte", "peak B a byte"))
-for kind in ("mixed", "nested", "ascii", "wide", "escapes"):
+for kind in ("mixed", "nested", "list", "ascii", "wide", "escapes"):
     lengths = {}
     for style in ("pretty", "minified"):
         first = None

@@ -10,14 +10,15 @@ sys.path.append(str(Path(__file__).resolve().parents[1] / "nodes"))
 from table import Table  # noqa: E402
 
 TABLE = Table(Path(__file__).resolve().parents[1] / "nodes" / "table.txt")
+ASSIGNMENT = {word for word, _ in TABLE.words["AssignmentOperator"].words}
 LOGICAL = ("&&", "||", "??")
 SIGN = re.compile(
     r"""\s*(?:
     (?P<string>"(?:[^"\\]|\\.)*")
   | (?P<number>0x[0-9a-fA-F]+|\d+)
   | (?P<word>[^\W\d]\w*)
-  | (?P<operator>>>>|===|!==|\*\*|<<|>>|<=|>=|==|!=|&&|\|\||\?\?|[-+*/%|^&<>])
-  | (?P<sign>[(){}\[\].,;=])
+  | (?P<operator>>>>=|>>>|===|!==|\*\*=|<<=|>>=|&&=|\|\|=|\?\?=|[-+*/%|^&]=|\*\*|<<|>>|<=|>=|==|!=|&&|\|\||\?\?|[-+*/%|^&<>])
+  | (?P<sign>[(){}\[\].,;=?:])
   | (?P<end>$)
 )""",
     re.X,
@@ -145,11 +146,28 @@ class Reader:
     def operation(self):
         self.take()
         left = self.expression()
+        if self.is_here("?"):
+            return self.choice(left)
+        if self.is_here(","):
+            self.take()
+            return Child("SequenceExpression", expressions=[left, *self.several(")", self.expression)])
         operator = self.take()
+        if operator in ASSIGNMENT:
+            right = self.expression()
+            self.expect(")")
+            return Child("AssignmentExpression", operator=operator, left=left, right=right)
         right = self.expression()
         self.expect(")")
         node_type = "LogicalExpression" if operator in LOGICAL else "BinaryExpression"
         return Child(node_type, operator=operator, left=left, right=right)
+
+    def choice(self, test):
+        self.take()
+        consequent = self.expression()
+        self.expect(":")
+        alternate = self.expression()
+        self.expect(")")
+        return Child("ConditionalExpression", test=test, consequent=consequent, alternate=alternate)
 
     # ---- a node by its type, with its fields in their order or by their names
 

@@ -110,7 +110,7 @@ pub of_placed : (around : Surroundings) (s : NodeSet) (t : Tree) → child_verdi
 unfolding child_verdict tree_verdict
 of_placed around s t = of_rules (height t) (set_faults s t) (breaches (surroundings_plain around) t)
 
-pub of_right_set : (around : Surroundings) (s : NodeSet) (t : Tree) → may_stand s (type_of t) ≡ true → child_verdict around s t ≡ tree_verdict around t
+pub of_right_set : (around : Surroundings) (s : NodeSet) (t : Tree) → set_faults s t ≡ [] → child_verdict around s t ≡ tree_verdict around t
 unfolding child_verdict tree_verdict
 of_right_set around s t h = rw h
 

@@ -2,22 +2,23 @@
 // Lists, children that may be absent, and sets that don't nest.
 ghost use Rattle.std.specs.Prelude.{◌≡◌, map, option_map};
 ghost use Rattle.jsgen_tree.specs.Tree.{optional, trees, holed};
-ghost use Rattle.jsgen_tree.specs.Rows.{in_expression, in_argument, in_array_expression_element, in_simple_assignment_target, in_object_property_kind, in_property_key, in_statement, directive_row, variable_declarator_row};
+ghost use Rattle.jsgen_tree.specs.Rows.{in_expression, in_argument, in_array_expression_element, in_chain_element, in_simple_assignment_target, in_assignment_target, in_object_property_kind, in_property_key, in_statement, directive_row, variable_declarator_row};
 ghost use Rattle.jsgen_check.specs.Verdict.{child_verdict, maybe_verdict, children_verdict};
 ghost use Rattle.jsgen_tree.specs.declared.types.NodeSet.TheVariants as sets;
 
 use crate::collections::{check_object_property, check_spread_element};
 use crate::expressions::{
-    check_computed_member_expression, check_identifier_name, check_identifier_reference,
-    check_static_member_expression,
+    check_call_expression, check_computed_member_expression, check_identifier_name,
+    check_identifier_reference, check_static_member_expression,
 };
 use crate::heights::higher;
 use crate::statements::{check_directive, check_variable_declarator};
 use crate::{CheckNode, Surroundings, check_child};
 use jsgen_model::TreeFault;
 use jsgen_tree::{
-    Argument, ArrayExpressionElement, Directive, ExpressionNode, NodeSet, ObjectPropertyKind,
-    PropertyKey, SimpleAssignmentTarget, StatementNode, VariableDeclarator,
+    Argument, ArrayExpressionElement, AssignmentTarget, ChainElement, Directive, ExpressionNode,
+    NodeSet, ObjectPropertyKind, PropertyKey, SimpleAssignmentTarget, StatementNode,
+    VariableDeclarator,
 };
 
 pub fn check_directives(nodes: &[Directive], around: Surroundings<'_>) -> Result<u32, TreeFault>
@@ -82,6 +83,20 @@ pub fn check_object_property_kinds<N: CheckNode>(
     let mut below = Ok(0);
     for node in nodes {
         let found = check_object_property_kind(node, around);
+        below = higher(below, found);
+    }
+    below
+}
+
+pub fn check_expressions<N: CheckNode>(
+    nodes: &[ExpressionNode<N>],
+    around: Surroundings<'_>,
+) -> Result<u32, TreeFault>
+    ensures { result ≡ children_verdict around.entry sets.Expression (trees (map (in_expression N.plain) nodes.now)) }
+{
+    let mut below = Ok(0);
+    for node in nodes {
+        let found = check_child(node.get(), NodeSet::Expression, around);
         below = higher(below, found);
     }
     below
@@ -165,6 +180,21 @@ pub fn check_array_expression_element<N: CheckNode>(
     }
 }
 
+pub fn check_chain_element<N: CheckNode>(
+    node: &ChainElement<N>,
+    around: Surroundings<'_>,
+) -> Result<u32, TreeFault>
+    ensures { result ≡ child_verdict around.entry sets.ChainElement (in_chain_element N.plain node.now) }
+{
+    match node {
+        ChainElement::StaticMemberExpression(node) => check_static_member_expression(node, around),
+        ChainElement::ComputedMemberExpression(node) => check_computed_member_expression(
+            node, around,
+        ),
+        ChainElement::CallExpression(node) => check_call_expression(node, around),
+    }
+}
+
 pub fn check_simple_assignment_target<N: CheckNode>(
     node: &SimpleAssignmentTarget<N>,
     around: Surroundings<'_>,
@@ -179,6 +209,23 @@ pub fn check_simple_assignment_target<N: CheckNode>(
             node, around,
         ),
         SimpleAssignmentTarget::ComputedMemberExpression(node) => check_computed_member_expression(
+            node, around,
+        ),
+    }
+}
+
+pub fn check_assignment_target<N: CheckNode>(
+    node: &AssignmentTarget<N>,
+    around: Surroundings<'_>,
+) -> Result<u32, TreeFault>
+    ensures { result ≡ child_verdict around.entry sets.AssignmentTarget (in_assignment_target N.plain node.now) }
+{
+    match node {
+        AssignmentTarget::IdentifierReference(node) => check_identifier_reference(node, around),
+        AssignmentTarget::StaticMemberExpression(node) => check_static_member_expression(
+            node, around,
+        ),
+        AssignmentTarget::ComputedMemberExpression(node) => check_computed_member_expression(
             node, around,
         ),
     }

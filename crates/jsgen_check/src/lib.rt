@@ -7,13 +7,16 @@ ghost use Rattle.jsgen_tree.specs.Tree.{Tree, type_of, span_of};
 ghost use Rattle.jsgen_tree.specs.Plain.{node_plain, program_plain};
 ghost use Rattle.jsgen_tree.specs.Options.{options_plain};
 ghost use Rattle.jsgen_tree.specs.Job.{no_tables};
-ghost use Rattle.jsgen_model.specs.Valid.{job_breaches, Judges};
+ghost use Rattle.jsgen_model.specs.Valid.{job_breaches, set_faults, link_faults, Judges};
+ghost use Rattle.jsgen_rules.specs.Verdict.{verdict};
 ghost use Rattle.jsgen_check.specs.Verdict.{tree_verdict, child_verdict};
 
+mod assignments;
 mod children;
 mod collections;
 mod expressions;
 mod heights;
+mod links;
 mod operations;
 mod program;
 mod rules;
@@ -21,13 +24,17 @@ mod sets;
 mod statements;
 mod surroundings;
 
+use crate::links::{
+    binding_pattern_has_optional_link, declaration_has_optional_link, expression_has_optional_link,
+    statement_has_optional_link,
+};
 use crate::program::check_program_row;
 use crate::sets::{
     check_binding_pattern_set, check_declaration_set, check_expression_set, check_statement_set,
 };
 pub use crate::surroundings::Surroundings;
 use jsgen_model::TreeFault;
-use jsgen_rules::check_set;
+use jsgen_rules::{check_no_optional_link, check_set, takes_optional_link};
 use jsgen_tree::{CodegenOptions, GetSpan, Node, NodeSet, NodeType, Program};
 
 /// What the checks ask of a child. Only `Node` implements it.
@@ -35,7 +42,7 @@ pub trait CheckNode {
     ghost use Rattle.std.specs.Prelude.{option_map};
     ghost use Rattle.std.specs.Str.{chars};
     ghost use Rattle.jsgen_tree.specs.Tree.{Tree};
-    ghost use Rattle.jsgen_tree.specs.Inside.{without_parentheses, reference_in, written_name_in, is_negative};
+    ghost use Rattle.jsgen_tree.specs.Inside.{without_parentheses, has_optional_link, reference_in, written_name_in, is_negative};
 
     ghost plain: { Self → Tree };
 
@@ -57,6 +64,10 @@ pub trait CheckNode {
     fn is_negative(&self) -> bool
         ensures { result ≡ is_negative (without_parentheses (plain self.now)) };
 
+    /// Whether one of the links up to this one is optional, where it is a member or a call.
+    fn has_optional_link(&self) -> bool
+        ensures { result ≡ has_optional_link (plain self.now) };
+
     /// Where no rule is broken, how many nodes stand on the longest way down, counted up to what 32 bits hold.
     fn check(&self, around: Surroundings<'_>) -> Result<u32, TreeFault>
         ensures { result ≡ tree_verdict around.entry (plain self.now) };
@@ -77,8 +88,26 @@ fn check_child<N: CheckNode>(
 ) -> Result<u32, TreeFault>
     ensures { result ≡ child_verdict around.entry set (N.plain child.now) }
 {
-    check_set(child.node_type(), set, child.start())?;
+    check_place(child, set)?;
     child.check(around)
+}
+
+// A child may stand at a place that asks for this set.
+fn check_place<N: CheckNode>(child: &N, set: NodeSet) -> Result<(), TreeFault>
+    ensures { result ≡ verdict (set_faults set (N.plain child.now)) }
+{
+    check_set(child.node_type(), set, child.start())?;
+    check_links(child, set)
+}
+
+// The links are looked at where they end, so each once.
+fn check_links<N: CheckNode>(child: &N, set: NodeSet) -> Result<(), TreeFault>
+    ensures { result ≡ verdict (link_faults set (N.plain child.now)) }
+{
+    if takes_optional_link(set) {
+        return Ok(());
+    }
+    check_no_optional_link(child.has_optional_link(), child.start())
 }
 
 /// The knot: the one recursion.
@@ -103,6 +132,16 @@ impl CheckNode for Node {
 
     fn is_negative(&self) -> bool {
         self.is_negative()
+    }
+
+    #[cycle(node)]
+    fn has_optional_link(&self) -> bool {
+        match self {
+            Node::Expression(node) => expression_has_optional_link(node),
+            Node::Statement(node) => statement_has_optional_link(node),
+            Node::Declaration(node) => declaration_has_optional_link(node),
+            Node::BindingPattern(node) => binding_pattern_has_optional_link(node),
+        }
     }
 
     #[cycle(node)]

@@ -6,6 +6,7 @@ ghost use Rattle.jsgen_check.specs.Verdict.{tree_verdict};
 
 use crate::children::{check_arguments, check_simple_assignment_target};
 use crate::heights::{check_node, higher};
+use crate::rules::check_update_expression_rules;
 use crate::{CheckNode, Surroundings, check_child};
 use jsgen_model::TreeFault;
 use jsgen_tree::{NewExpression, NewTarget, NodeSet, Super, UnaryExpression, UpdateExpression};
@@ -33,8 +34,9 @@ pub fn check_update_expression<N: CheckNode>(
 ) -> Result<u32, TreeFault>
     ensures { result ≡ tree_verdict around.entry (update_expression_row N.plain node.now) }
 {
+    let rules = check_update_expression_rules(node, around);
     let argument = check_simple_assignment_target(&node.argument, around);
-    check_node(node.span, Ok(()), argument)
+    check_node(node.span, rules, argument)
 }
 
 pub fn check_new_expression<N: CheckNode>(

@@ -6,21 +6,30 @@ ghost use Rattle.std.specs.Option.{option_map_or};
 ghost use Rattle.std.specs.Str.{chars};
 ghost use Rattle.jsgen_tree.specs.Tree.{optional, trees, type_of, span_of};
 ghost use Rattle.jsgen_tree.specs.Inside.{without_parentheses, reference_in, written_name_in, is_proto, is_negative_big_integer};
-ghost use Rattle.jsgen_tree.specs.Rows.{directive_row, variable_declaration_row, variable_declarator_row, binding_identifier_row, if_statement_row, identifier_reference_row, numeric_literal_row, big_int_literal_row, identifier_name_row, object_property_row, in_statement, in_property_key, in_expression};
-ghost use Rattle.jsgen_model.specs.Valid.{own_faults, fault_if, body_faults, alternate_faults, declaration_faults, may_be_key, key_faults, named_faults, shorthand_faults, is_literal_key, is_lexical_type};
+ghost use Rattle.jsgen_tree.specs.Rows.{directive_row, variable_declaration_row, variable_declarator_row, binding_identifier_row, if_statement_row, identifier_reference_row, numeric_literal_row, big_int_literal_row, identifier_name_row, object_property_row, in_statement, in_property_key, in_expression, sequence_expression_row, static_member_expression_row, computed_member_expression_row, call_expression_row, chain_expression_row, update_expression_row, assignment_expression_row, in_assignment_target, in_simple_assignment_target};
+ghost use Rattle.jsgen_model.specs.Valid.{own_faults, fault_if, body_faults, alternate_faults, declaration_faults, may_be_key, key_faults, named_faults, shorthand_faults, is_literal_key, is_lexical_type, sequence_faults, super_faults, target_faults};
+ghost use Rattle.jsgen_tree.specs.Sets.{is_expression};
 ghost use Rattle.jsgen_model.specs.declared.fault.TreeFault.TheVariants.{Name};
 ghost use Rattle.jsgen_rules.specs.Verdict.{verdict};
 ghost use Rattle.jsgen_check.specs.Keys.{is_big_integer};
 ghost use Rattle.jsgen_check.specs.Verdict.{surroundings_plain};
 
+use crate::links::{
+    assigned_has_optional_link, element_has_optional_link, target_has_optional_link,
+};
 use crate::{CheckNode, Surroundings};
 use jsgen_model::TreeFault;
-use jsgen_rules::{check_big_integer, check_name, check_raw, check_raw_number, check_written_name};
+use jsgen_rules::{
+    check_big_integer, check_name, check_no_optional_link, check_raw, check_raw_number,
+    check_written_name, is_super,
+};
 use jsgen_syntax::Span;
 use jsgen_tree::{
-    BigIntLiteral, BindingIdentifier, Directive, ExpressionNode, IdentifierName,
+    AssignmentExpression, AssignmentTarget, BigIntLiteral, BindingIdentifier, CallExpression,
+    ChainExpression, ComputedMemberExpression, Directive, ExpressionNode, IdentifierName,
     IdentifierReference, IfStatement, NodeType, NumericLiteral, NumericValue, ObjectProperty,
-    PropertyKey, StatementNode, VariableDeclaration, VariableDeclarator, is_proto,
+    PropertyKey, SequenceExpression, SimpleAssignmentTarget, StatementNode,
+    StaticMemberExpression, UpdateExpression, VariableDeclaration, VariableDeclarator, is_proto,
 };
 
 #[tactic(auto)]
@@ -53,6 +62,27 @@ pub fn check_variable_declaration_rules<N: CheckNode>(
 {
     let _ = around;
     check_count(&node.declarations, node.span)
+}
+
+#[tactic(auto)]
+fn check_parts<N: CheckNode>(parts: &[ExpressionNode<N>], span: Span) -> Result<(), TreeFault>
+    ensures { result ≡ verdict (sequence_faults span (trees (map (in_expression N.plain) parts.now))) }
+{
+    if parts.len() < 2 {
+        return Err(TreeFault::Place { start: span.start });
+    }
+    Ok(())
+}
+
+#[tactic(auto)]
+pub fn check_sequence_expression_rules<N: CheckNode>(
+    node: &SequenceExpression<N>,
+    around: Surroundings<'_>,
+) -> Result<(), TreeFault>
+    ensures { result ≡ verdict (own_faults (surroundings_plain around.entry) (sequence_expression_row N.plain node.now)) }
+{
+    let _ = around;
+    check_parts(&node.expressions, node.span)
 }
 
 #[tactic(auto)]
@@ -151,6 +181,122 @@ pub fn check_if_statement_rules<N: CheckNode>(
     let _ = around;
     check_body(node.consequent.get())?;
     check_alternate(&node.alternate)
+}
+
+/// No optional link goes on from `super`.
+fn check_super<N: CheckNode>(optional: bool, object: &N) -> Result<(), TreeFault>
+    ensures { result ≡ verdict (super_faults optional (N.plain object.now)) }
+{
+    if optional && is_super(object.node_type()) {
+        return Err(TreeFault::Place {
+            start: object.start(),
+        });
+    }
+    Ok(())
+}
+
+#[tactic(auto)]
+pub fn check_static_member_expression_rules<N: CheckNode>(
+    node: &StaticMemberExpression<N>,
+    around: Surroundings<'_>,
+) -> Result<(), TreeFault>
+    ensures { result ≡ verdict (own_faults (surroundings_plain around.entry) (static_member_expression_row N.plain node.now)) }
+{
+    let _ = around;
+    check_super(node.optional, node.object.get())
+}
+
+#[tactic(auto)]
+pub fn check_computed_member_expression_rules<N: CheckNode>(
+    node: &ComputedMemberExpression<N>,
+    around: Surroundings<'_>,
+) -> Result<(), TreeFault>
+    ensures { result ≡ verdict (own_faults (surroundings_plain around.entry) (computed_member_expression_row N.plain node.now)) }
+{
+    let _ = around;
+    check_super(node.optional, node.object.get())
+}
+
+#[tactic(auto)]
+pub fn check_call_expression_rules<N: CheckNode>(
+    node: &CallExpression<N>,
+    around: Surroundings<'_>,
+) -> Result<(), TreeFault>
+    ensures { result ≡ verdict (own_faults (surroundings_plain around.entry) (call_expression_row N.plain node.now)) }
+{
+    let _ = around;
+    check_super(node.optional, node.callee.get())
+}
+
+pub fn check_chain_expression_rules<N: CheckNode>(
+    node: &ChainExpression<N>,
+    around: Surroundings<'_>,
+) -> Result<(), TreeFault>
+    ensures { result ≡ verdict (own_faults (surroundings_plain around.entry) (chain_expression_row N.plain node.now)) }
+{
+    let _ = around;
+    if !element_has_optional_link(&node.expression) {
+        return Err(TreeFault::Place {
+            start: node.span.start,
+        });
+    }
+    Ok(())
+}
+
+fn target_start<N: CheckNode>(target: &SimpleAssignmentTarget<N>) -> u32
+    ensures { result ≡ (span_of (in_simple_assignment_target N.plain target.now)).start }
+{
+    match target {
+        SimpleAssignmentTarget::IdentifierReference(node) => node.span.start,
+        SimpleAssignmentTarget::StaticMemberExpression(node) => node.span.start,
+        SimpleAssignmentTarget::ComputedMemberExpression(node) => node.span.start,
+    }
+}
+
+#[tactic(auto)]
+pub fn check_update_expression_rules<N: CheckNode>(
+    node: &UpdateExpression<N>,
+    around: Surroundings<'_>,
+) -> Result<(), TreeFault>
+    ensures { result ≡ verdict (own_faults (surroundings_plain around.entry) (update_expression_row N.plain node.now)) }
+{
+    let _ = around;
+    check_target(&node.argument)
+}
+
+/// What is changed has no optional link.
+fn check_target<N: CheckNode>(target: &SimpleAssignmentTarget<N>) -> Result<(), TreeFault>
+    ensures { result ≡ verdict (target_faults (in_simple_assignment_target N.plain target.now)) }
+{
+    check_no_optional_link(target_has_optional_link(target), target_start(target))
+}
+
+fn assigned_start<N: CheckNode>(target: &AssignmentTarget<N>) -> u32
+    ensures { result ≡ (span_of (in_assignment_target N.plain target.now)).start }
+{
+    match target {
+        AssignmentTarget::IdentifierReference(node) => node.span.start,
+        AssignmentTarget::StaticMemberExpression(node) => node.span.start,
+        AssignmentTarget::ComputedMemberExpression(node) => node.span.start,
+    }
+}
+
+/// What is given a value has no optional link.
+fn check_assigned<N: CheckNode>(target: &AssignmentTarget<N>) -> Result<(), TreeFault>
+    ensures { result ≡ verdict (target_faults (in_assignment_target N.plain target.now)) }
+{
+    check_no_optional_link(assigned_has_optional_link(target), assigned_start(target))
+}
+
+#[tactic(auto)]
+pub fn check_assignment_expression_rules<N: CheckNode>(
+    node: &AssignmentExpression<N>,
+    around: Surroundings<'_>,
+) -> Result<(), TreeFault>
+    ensures { result ≡ verdict (own_faults (surroundings_plain around.entry) (assignment_expression_row N.plain node.now)) }
+{
+    let _ = around;
+    check_assigned(&node.left)
 }
 
 fn key_type<N: CheckNode>(key: &PropertyKey<N>) -> NodeType

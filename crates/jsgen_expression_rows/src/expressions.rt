@@ -2,7 +2,7 @@
 // Rows of a job: expressions (ECMA-262, clause 13).
 ghost use Rattle.std.specs.Prelude.{◌≡◌, true};
 ghost use Rattle.serde_json.specs.View.{view};
-ghost use Rattle.jsgen_tree.specs.Fields.{identifier_reference_fields, this_expression_fields, null_literal_fields, boolean_literal_fields, big_int_literal_fields, string_literal_fields, parenthesized_expression_fields, binary_expression_fields, logical_expression_fields, identifier_name_fields, static_member_expression_fields, computed_member_expression_fields, call_expression_fields};
+ghost use Rattle.jsgen_tree.specs.Fields.{identifier_reference_fields, this_expression_fields, null_literal_fields, boolean_literal_fields, big_int_literal_fields, string_literal_fields, parenthesized_expression_fields, binary_expression_fields, logical_expression_fields, identifier_name_fields, static_member_expression_fields, computed_member_expression_fields, call_expression_fields, chain_expression_fields};
 ghost use Rattle.jsgen_fields.specs.Reads.{Gives, read_node, read_typed};
 ghost use Rattle.jsgen_fields.specs.Kept.{entries, row_plain};
 ghost use Rattle.jsgen_fields.specs.Parts.{is_in_expressions};
@@ -12,17 +12,13 @@ use crate::literals::read_numeric_literal;
 use jsgen_fields::InputFault;
 use jsgen_fields::fields::boxed;
 use jsgen_fields::kept::{ReadNode, Row, expression_row};
-use jsgen_fields::set_fields::{argument_list, needed_expression, needed_identifier_name};
+use jsgen_fields::set_fields::{argument_list, needed_chain_element, needed_expression, needed_identifier_name};
 use jsgen_fields::strings::needed_units;
 use jsgen_fields::values::{field_not_given, needed_flag, needed_text, optional_flag};
 use jsgen_fields::words::{needed_binary_operator, needed_logical_operator};
 use jsgen_pool::Kept;
 use jsgen_syntax::Span;
-use jsgen_tree::{
-    BigIntLiteral, BinaryExpression, BooleanLiteral, CallExpression, ComputedMemberExpression,
-    Expression, IdentifierName, IdentifierReference, LogicalExpression, NodeType, NullLiteral,
-    ParenthesizedExpression, StaticMemberExpression, StringLiteral, ThisExpression,
-};
+use jsgen_tree::{BigIntLiteral, BinaryExpression, BooleanLiteral, CallExpression, ChainExpression, ComputedMemberExpression, Expression, IdentifierName, IdentifierReference, LogicalExpression, NodeType, NullLiteral, ParenthesizedExpression, StaticMemberExpression, StringLiteral, ThisExpression};
 use serde_json::Value;
 use std::alloc::Global;
 
@@ -209,12 +205,7 @@ fn read_binary_expression<N: ReadNode + Drop>(
         Ok(right) => right,
         Err(fault) => return Err(fault),
     };
-    let node = BinaryExpression {
-        span,
-        operator,
-        left,
-        right,
-    };
+    let node = BinaryExpression { span, operator, left, right };
     match boxed(alloc, node) {
         Ok(node) => expression_row(alloc, Expression::BinaryExpression(node)),
         Err(fault) => Err(fault),
@@ -244,12 +235,7 @@ fn read_logical_expression<N: ReadNode + Drop>(
         Ok(right) => right,
         Err(fault) => return Err(fault),
     };
-    let node = LogicalExpression {
-        span,
-        operator,
-        left,
-        right,
-    };
+    let node = LogicalExpression { span, operator, left, right };
     match boxed(alloc, node) {
         Ok(node) => expression_row(alloc, Expression::LogicalExpression(node)),
         Err(fault) => Err(fault),
@@ -294,19 +280,15 @@ fn read_static_member_expression<N: ReadNode + Drop>(
         Ok(object) => object,
         Err(fault) => return Err(fault),
     };
-    match field_not_given(number, 3, row, "optional") {
-        Ok(()) => {}
+    let optional = match optional_flag(number, 3, row, "optional") {
+        Ok(optional) => optional,
         Err(fault) => return Err(fault),
-    }
+    };
     let property = match needed_identifier_name(alloc, kept, number, 4, row, "property") {
         Ok(property) => property,
         Err(fault) => return Err(fault),
     };
-    let node = StaticMemberExpression {
-        span,
-        object,
-        property,
-    };
+    let node = StaticMemberExpression { span, object, optional, property };
     match boxed(alloc, node) {
         Ok(node) => expression_row(alloc, Expression::StaticMemberExpression(node)),
         Err(fault) => Err(fault),
@@ -328,19 +310,15 @@ fn read_computed_member_expression<N: ReadNode + Drop>(
         Ok(object) => object,
         Err(fault) => return Err(fault),
     };
-    match field_not_given(number, 3, row, "optional") {
-        Ok(()) => {}
+    let optional = match optional_flag(number, 3, row, "optional") {
+        Ok(optional) => optional,
         Err(fault) => return Err(fault),
-    }
+    };
     let expression = match needed_expression(alloc, kept, number, 4, row, "expression") {
         Ok(expression) => expression,
         Err(fault) => return Err(fault),
     };
-    let node = ComputedMemberExpression {
-        span,
-        object,
-        expression,
-    };
+    let node = ComputedMemberExpression { span, object, optional, expression };
     match boxed(alloc, node) {
         Ok(node) => expression_row(alloc, Expression::ComputedMemberExpression(node)),
         Err(fault) => Err(fault),
@@ -370,22 +348,39 @@ fn read_call_expression<N: ReadNode + Drop>(
         Ok(arguments) => arguments,
         Err(fault) => return Err(fault),
     };
-    match field_not_given(number, 5, row, "optional") {
-        Ok(()) => {}
+    let optional = match optional_flag(number, 5, row, "optional") {
+        Ok(optional) => optional,
         Err(fault) => return Err(fault),
-    }
+    };
     let pure = match optional_flag(number, 6, row, "pure") {
         Ok(pure) => pure,
         Err(fault) => return Err(fault),
     };
-    let node = CallExpression {
-        span,
-        callee,
-        arguments,
-        pure,
-    };
+    let node = CallExpression { span, callee, arguments, optional, pure };
     match boxed(alloc, node) {
         Ok(node) => expression_row(alloc, Expression::CallExpression(node)),
+        Err(fault) => Err(fault),
+    }
+}
+
+#[tactic(auto, unfolding(jsgen_fields::specs::Reads::read_node))]
+fn read_chain_expression<N: ReadNode + Drop>(
+    alloc: Global,
+    kept: &mut Vec<Kept<Row<N>>>,
+    number: usize,
+    span: Span,
+    row: &Value,
+) -> Result<Row<N>, InputFault>
+    ensures { Gives (row_plain N.plain) result (entries N.plain kept.new.items)
+        (read_node number types.ChainExpression chain_expression_fields span (view row.now) (entries N.plain kept.old.items)) }
+{
+    let expression = match needed_chain_element(alloc, kept, number, 2, row, "expression") {
+        Ok(expression) => expression,
+        Err(fault) => return Err(fault),
+    };
+    let node = ChainExpression { span, expression };
+    match boxed(alloc, node) {
+        Ok(node) => expression_row(alloc, Expression::ChainExpression(node)),
         Err(fault) => Err(fault),
     }
 }
@@ -411,19 +406,14 @@ pub fn read_in_expressions<N: ReadNode + Drop>(
         NodeType::NumericLiteral => read_numeric_literal(alloc, kept, number, span, row),
         NodeType::BigIntLiteral => read_big_int_literal(alloc, kept, number, span, row),
         NodeType::StringLiteral => read_string_literal(alloc, kept, number, span, row),
-        NodeType::ParenthesizedExpression => read_parenthesized_expression(
-            alloc, kept, number, span, row,
-        ),
+        NodeType::ParenthesizedExpression => read_parenthesized_expression(alloc, kept, number, span, row),
         NodeType::BinaryExpression => read_binary_expression(alloc, kept, number, span, row),
         NodeType::LogicalExpression => read_logical_expression(alloc, kept, number, span, row),
         NodeType::IdentifierName => read_identifier_name(alloc, kept, number, span, row),
-        NodeType::StaticMemberExpression => read_static_member_expression(
-            alloc, kept, number, span, row,
-        ),
-        NodeType::ComputedMemberExpression => read_computed_member_expression(
-            alloc, kept, number, span, row,
-        ),
+        NodeType::StaticMemberExpression => read_static_member_expression(alloc, kept, number, span, row),
+        NodeType::ComputedMemberExpression => read_computed_member_expression(alloc, kept, number, span, row),
         NodeType::CallExpression => read_call_expression(alloc, kept, number, span, row),
+        NodeType::ChainExpression => read_chain_expression(alloc, kept, number, span, row),
         _ => unreachable!(),
     }
 }

@@ -31,6 +31,7 @@ is_in_expressions types.IdentifierName = true
 is_in_expressions types.StaticMemberExpression = true
 is_in_expressions types.ComputedMemberExpression = true
 is_in_expressions types.CallExpression = true
+is_in_expressions types.ChainExpression = true
 is_in_expressions other = false
 
 abbrev pub is_in_collections : NodeType → Bool
@@ -39,3 +40,11 @@ is_in_collections types.ArrayExpression = true
 is_in_collections types.ObjectProperty = true
 is_in_collections types.ObjectExpression = true
 is_in_collections other = false
+
+abbrev pub is_in_operations : NodeType → Bool
+is_in_operations types.UnaryExpression = true
+is_in_operations types.NewTarget = true
+is_in_operations types.UpdateExpression = true
+is_in_operations types.NewExpression = true
+is_in_operations types.Super = true
+is_in_operations other = false

@@ -3,16 +3,17 @@
 ghost use Rattle.std.specs.Prelude.{◌≡◌, IfOk, Some, None, option_map, if◌then◌else◌};
 ghost use Rattle.jsgen_tree.specs.Tree.{type_of};
 ghost use Rattle.jsgen_tree.specs.Sets.{in_set};
-ghost use Rattle.jsgen_tree.specs.Rows.{in_expression, in_argument, in_array_expression_element, in_simple_assignment_target, in_object_property_kind, in_property_key, in_declaration, in_statement, in_binding_pattern, directive_row, variable_declarator_row, identifier_name_row, expression_plain};
+ghost use Rattle.jsgen_tree.specs.Rows.{in_expression, in_argument, in_array_expression_element, in_chain_element, in_simple_assignment_target, in_assignment_target, in_object_property_kind, in_property_key, in_declaration, in_statement, in_binding_pattern, directive_row, variable_declarator_row, identifier_name_row, expression_plain};
 ghost use Rattle.jsgen_fields.specs.Kept.{row_plain};
 ghost use Rattle.jsgen_tree.specs.declared.types.NodeSet.TheVariants as sets;
 
 use crate::children::Child;
 use crate::kept::{ReadNode, Row};
 use jsgen_tree::{
-    Argument, ArrayExpressionElement, BindingPatternNode, DeclarationNode, Directive, Expression,
-    ExpressionNode, IdentifierName, NodeSet, ObjectPropertyKind, PropertyKey,
-    SimpleAssignmentTarget, Statement, StatementNode, VariableDeclarator,
+    Argument, ArrayExpressionElement, AssignmentTarget, BindingPatternNode, ChainElement,
+    DeclarationNode, Directive, Expression, ExpressionNode, IdentifierName, NodeSet,
+    ObjectPropertyKind, PropertyKey, SimpleAssignmentTarget, Statement, StatementNode,
+    VariableDeclarator,
 };
 use std::alloc::{AllocError, Global};
 
@@ -176,6 +177,28 @@ impl<N: ReadNode + Drop> Child<N> for Argument<N> {
     }
 }
 
+impl<N: ReadNode + Drop> Child<N> for ChainElement<N> {
+    ghost plain = { λ n. in_chain_element N.plain n };
+
+    ghost of_set = { sets.ChainElement };
+
+    fn set() -> NodeSet {
+        NodeSet::ChainElement
+    }
+
+    #[tactic(auto, using(crate::proofs::Sets::takes_chain_elements))]
+    fn from_row(alloc: Global, row: Row<N>) -> Result<Option<ChainElement<N>>, AllocError>
+        ensures { IfOk result (λ child. option_map (in_chain_element N.plain) child
+            ≡ (if in_set sets.ChainElement (type_of (row_plain N.plain row)) then Some (row_plain N.plain row) else None)) }
+    {
+        let _ = alloc;
+        match row {
+            Row::Expression(row) => Ok(chain_element_of_expression(Box::into_inner(row))),
+            _ => Ok(None),
+        }
+    }
+}
+
 impl<N: ReadNode + Drop> Child<N> for ArrayExpressionElement<N> {
     ghost plain = { λ n. in_array_expression_element N.plain n };
 
@@ -273,6 +296,28 @@ impl<N: ReadNode + Drop> Child<N> for SimpleAssignmentTarget<N> {
     }
 }
 
+impl<N: ReadNode + Drop> Child<N> for AssignmentTarget<N> {
+    ghost plain = { λ n. in_assignment_target N.plain n };
+
+    ghost of_set = { sets.AssignmentTarget };
+
+    fn set() -> NodeSet {
+        NodeSet::AssignmentTarget
+    }
+
+    #[tactic(auto, using(crate::proofs::Sets::takes_assignment_targets))]
+    fn from_row(alloc: Global, row: Row<N>) -> Result<Option<AssignmentTarget<N>>, AllocError>
+        ensures { IfOk result (λ child. option_map (in_assignment_target N.plain) child
+            ≡ (if in_set sets.AssignmentTarget (type_of (row_plain N.plain row)) then Some (row_plain N.plain row) else None)) }
+    {
+        let _ = alloc;
+        match row {
+            Row::Expression(row) => Ok(assignment_target_of_expression(Box::into_inner(row))),
+            _ => Ok(None),
+        }
+    }
+}
+
 // ---- a member of a set within the set, which stands in a box of its own
 
 fn statement_of_declaration<N: ReadNode + Drop>(
@@ -317,6 +362,20 @@ fn property_key_of_expression<N: ReadNode + Drop>(
 
 // ---- a place that takes some types of a set
 
+fn chain_element_of_expression<N: ReadNode + Drop>(row: Expression<N>) -> Option<ChainElement<N>>
+    ensures { option_map (in_chain_element N.plain) result
+        ≡ (if in_set sets.ChainElement (type_of (expression_plain N.plain row)) then Some (expression_plain N.plain row) else None) }
+{
+    match row {
+        Expression::StaticMemberExpression(row) => Some(ChainElement::StaticMemberExpression(row)),
+        Expression::ComputedMemberExpression(row) => Some(ChainElement::ComputedMemberExpression(
+            row,
+        )),
+        Expression::CallExpression(row) => Some(ChainElement::CallExpression(row)),
+        _ => None,
+    }
+}
+
 fn simple_assignment_target_of_expression<N: ReadNode + Drop>(
     row: Expression<N>,
 ) -> Option<SimpleAssignmentTarget<N>>
@@ -332,6 +391,24 @@ fn simple_assignment_target_of_expression<N: ReadNode + Drop>(
         ),
         Expression::ComputedMemberExpression(row) => Some(
             SimpleAssignmentTarget::ComputedMemberExpression(row),
+        ),
+        _ => None,
+    }
+}
+
+fn assignment_target_of_expression<N: ReadNode + Drop>(
+    row: Expression<N>,
+) -> Option<AssignmentTarget<N>>
+    ensures { option_map (in_assignment_target N.plain) result
+        ≡ (if in_set sets.AssignmentTarget (type_of (expression_plain N.plain row)) then Some (expression_plain N.plain row) else None) }
+{
+    match row {
+        Expression::IdentifierReference(row) => Some(AssignmentTarget::IdentifierReference(row)),
+        Expression::StaticMemberExpression(row) => Some(AssignmentTarget::StaticMemberExpression(
+            row,
+        )),
+        Expression::ComputedMemberExpression(row) => Some(
+            AssignmentTarget::ComputedMemberExpression(row),
         ),
         _ => None,
     }

@@ -5,7 +5,7 @@ ghost use Rattle.jsgen_fields.specs.Names.{first_named, type_named};
 
 use jsgen_tree::NodeType;
 
-const TYPE_NAMES: [(&str, NodeType); 32] = [
+const TYPE_NAMES: [(&str, NodeType); 36] = [
     ("Program", NodeType::Program),
     ("Directive", NodeType::Directive),
     ("VariableDeclaration", NodeType::VariableDeclaration),
@@ -27,11 +27,9 @@ const TYPE_NAMES: [(&str, NodeType); 32] = [
     ("LogicalExpression", NodeType::LogicalExpression),
     ("IdentifierName", NodeType::IdentifierName),
     ("StaticMemberExpression", NodeType::StaticMemberExpression),
-    (
-        "ComputedMemberExpression",
-        NodeType::ComputedMemberExpression,
-    ),
+    ("ComputedMemberExpression", NodeType::ComputedMemberExpression),
     ("CallExpression", NodeType::CallExpression),
+    ("ChainExpression", NodeType::ChainExpression),
     ("SpreadElement", NodeType::SpreadElement),
     ("ArrayExpression", NodeType::ArrayExpression),
     ("ObjectProperty", NodeType::ObjectProperty),
@@ -41,6 +39,9 @@ const TYPE_NAMES: [(&str, NodeType); 32] = [
     ("UpdateExpression", NodeType::UpdateExpression),
     ("NewExpression", NodeType::NewExpression),
     ("Super", NodeType::Super),
+    ("ConditionalExpression", NodeType::ConditionalExpression),
+    ("SequenceExpression", NodeType::SequenceExpression),
+    ("AssignmentExpression", NodeType::AssignmentExpression),
 ];
 
 fn first_named(names: &[(&str, NodeType)], name: &str) -> Option<NodeType>

@@ -4,7 +4,7 @@ ghost use Rattle.std.specs.Prelude.{true, false, map, option_map};
 ghost use Rattle.serde_json.specs.View.{view};
 ghost use Rattle.jsgen_tree.specs.Tree.{optional, trees, holed};
 ghost use Rattle.jsgen_tree.specs.Table.{needed, may_be_absent, child, children as many, children_or_holes as many_or_holes};
-ghost use Rattle.jsgen_tree.specs.Rows.{in_expression, in_argument, in_array_expression_element, in_simple_assignment_target, in_object_property_kind, in_property_key, in_statement, in_binding_pattern, directive_row, variable_declarator_row, identifier_name_row};
+ghost use Rattle.jsgen_tree.specs.Rows.{in_expression, in_argument, in_array_expression_element, in_chain_element, in_simple_assignment_target, in_assignment_target, in_object_property_kind, in_property_key, in_statement, in_binding_pattern, directive_row, variable_declarator_row, identifier_name_row};
 ghost use Rattle.jsgen_fields.specs.Values.{at, field as value_under};
 ghost use Rattle.jsgen_fields.specs.Meaning.{a_child, a_maybe, a_list};
 ghost use Rattle.jsgen_fields.specs.Reads.{Gives, read_children};
@@ -16,9 +16,9 @@ use crate::fields::{children, children_or_holes, needed_child, optional_child};
 use crate::kept::{ReadNode, Row};
 use jsgen_pool::Kept;
 use jsgen_tree::{
-    Argument, ArrayExpressionElement, BindingPatternNode, Directive, ExpressionNode,
-    IdentifierName, ObjectPropertyKind, PropertyKey, SimpleAssignmentTarget, StatementNode,
-    VariableDeclarator,
+    Argument, ArrayExpressionElement, AssignmentTarget, BindingPatternNode, ChainElement,
+    Directive, ExpressionNode, IdentifierName, ObjectPropertyKind, PropertyKey,
+    SimpleAssignmentTarget, StatementNode, VariableDeclarator,
 };
 use serde_json::Value;
 use std::alloc::Global;
@@ -163,6 +163,20 @@ pub fn argument_list<N: ReadNode + Drop>(
     children(alloc, kept, number, field, row, name)
 }
 
+pub fn needed_chain_element<N: ReadNode + Drop>(
+    alloc: Global,
+    kept: &mut Vec<Kept<Row<N>>>,
+    number: usize,
+    field: usize,
+    row: &Value,
+    name: &str,
+) -> Result<ChainElement<N>, InputFault>
+    ensures { Gives (λ c. a_child (in_chain_element N.plain c)) result (entries N.plain kept.new.items)
+        (read_children (at number field) true needed (child sets.ChainElement) (value_under name.now (view row.now)) (entries N.plain kept.old.items)) }
+{
+    needed_child(alloc, kept, number, field, row, name)
+}
+
 pub fn array_expression_element_or_hole_list<N: ReadNode + Drop>(
     alloc: Global,
     kept: &mut Vec<Kept<Row<N>>>,
@@ -215,6 +229,34 @@ pub fn needed_simple_assignment_target<N: ReadNode + Drop>(
 ) -> Result<SimpleAssignmentTarget<N>, InputFault>
     ensures { Gives (λ c. a_child (in_simple_assignment_target N.plain c)) result (entries N.plain kept.new.items)
         (read_children (at number field) true needed (child sets.SimpleAssignmentTarget) (value_under name.now (view row.now)) (entries N.plain kept.old.items)) }
+{
+    needed_child(alloc, kept, number, field, row, name)
+}
+
+pub fn expression_list<N: ReadNode + Drop>(
+    alloc: Global,
+    kept: &mut Vec<Kept<Row<N>>>,
+    number: usize,
+    field: usize,
+    row: &Value,
+    name: &str,
+) -> Result<Vec<ExpressionNode<N>>, InputFault>
+    ensures { Gives (λ v. a_list (trees (map (in_expression N.plain) v.items))) result (entries N.plain kept.new.items)
+        (read_children (at number field) false may_be_absent (many sets.Expression) (value_under name.now (view row.now)) (entries N.plain kept.old.items)) }
+{
+    children(alloc, kept, number, field, row, name)
+}
+
+pub fn needed_assignment_target<N: ReadNode + Drop>(
+    alloc: Global,
+    kept: &mut Vec<Kept<Row<N>>>,
+    number: usize,
+    field: usize,
+    row: &Value,
+    name: &str,
+) -> Result<AssignmentTarget<N>, InputFault>
+    ensures { Gives (λ c. a_child (in_assignment_target N.plain c)) result (entries N.plain kept.new.items)
+        (read_children (at number field) true needed (child sets.AssignmentTarget) (value_under name.now (view row.now)) (entries N.plain kept.old.items)) }
 {
     needed_child(alloc, kept, number, field, row, name)
 }

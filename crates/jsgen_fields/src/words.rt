@@ -2,15 +2,17 @@
 // Fields that hold a word.
 ghost use Rattle.std.specs.Prelude.{◌≡◌, true, option_map};
 ghost use Rattle.serde_json.specs.View.{view};
-ghost use Rattle.jsgen_tree.specs.Atom.{no_value, source_kind, declaration_kind, binary_operator, logical_operator, property_kind, unary_operator, update_operator};
+ghost use Rattle.jsgen_tree.specs.Atom.{no_value, source_kind, declaration_kind, binary_operator, logical_operator, property_kind, unary_operator, update_operator, assignment_operator};
 ghost use Rattle.jsgen_tree.specs.Table.{word};
-ghost use Rattle.jsgen_tree.specs.Fields.{source_kind_words, declaration_kind_words, binary_operator_words, logical_operator_words, property_kind_words, unary_operator_words, update_operator_words};
+ghost use Rattle.jsgen_tree.specs.Fields.{source_kind_words, declaration_kind_words, binary_operator_words, logical_operator_words, property_kind_words, unary_operator_words, update_operator_words, assignment_operator_words};
 ghost use Rattle.jsgen_fields.specs.Reads.{read_value};
 ghost use Rattle.jsgen_fields.specs.Values.{Same, at, field as value_under, word_meaning, words_of_length};
 
 use crate::values::{needed_value, text_in};
 use crate::{At, InputFault};
-use jsgen_syntax::{BinaryOperator, LogicalOperator, SourceKind, UnaryOperator, UpdateOperator};
+use jsgen_syntax::{
+    AssignmentOperator, BinaryOperator, LogicalOperator, SourceKind, UnaryOperator, UpdateOperator,
+};
 use jsgen_tree::{PropertyKind, VariableDeclarationKind};
 use serde_json::Value;
 
@@ -248,5 +250,83 @@ pub fn needed_update_operator(
         "++" => Ok(UpdateOperator::Increment),
         "--" => Ok(UpdateOperator::Decrement),
         _ => Err(InputFault::Wrong(at)),
+    }
+}
+
+fn assignment_operator_of_length_1(word: &str) -> Option<AssignmentOperator>
+    ensures { option_map assignment_operator result ≡ word_meaning (words_of_length 1 assignment_operator_words) word.now }
+{
+    match word {
+        "=" => Some(AssignmentOperator::Assign),
+        _ => None,
+    }
+}
+
+fn assignment_operator_of_length_2(word: &str) -> Option<AssignmentOperator>
+    ensures { option_map assignment_operator result ≡ word_meaning (words_of_length 2 assignment_operator_words) word.now }
+{
+    match word {
+        "+=" => Some(AssignmentOperator::Addition),
+        "-=" => Some(AssignmentOperator::Subtraction),
+        "*=" => Some(AssignmentOperator::Multiplication),
+        "/=" => Some(AssignmentOperator::Division),
+        "%=" => Some(AssignmentOperator::Remainder),
+        "|=" => Some(AssignmentOperator::BitwiseOR),
+        "^=" => Some(AssignmentOperator::BitwiseXOR),
+        "&=" => Some(AssignmentOperator::BitwiseAnd),
+        _ => None,
+    }
+}
+
+fn assignment_operator_of_length_3(word: &str) -> Option<AssignmentOperator>
+    ensures { option_map assignment_operator result ≡ word_meaning (words_of_length 3 assignment_operator_words) word.now }
+{
+    match word {
+        "**=" => Some(AssignmentOperator::Exponential),
+        "<<=" => Some(AssignmentOperator::ShiftLeft),
+        ">>=" => Some(AssignmentOperator::ShiftRight),
+        "||=" => Some(AssignmentOperator::LogicalOr),
+        "&&=" => Some(AssignmentOperator::LogicalAnd),
+        "??=" => Some(AssignmentOperator::LogicalNullish),
+        _ => None,
+    }
+}
+
+fn assignment_operator_of_length_4(word: &str) -> Option<AssignmentOperator>
+    ensures { option_map assignment_operator result ≡ word_meaning (words_of_length 4 assignment_operator_words) word.now }
+{
+    match word {
+        ">>>=" => Some(AssignmentOperator::ShiftRightZeroFill),
+        _ => None,
+    }
+}
+
+fn assignment_operator_by_word(word: &str) -> Option<AssignmentOperator>
+    ensures { option_map assignment_operator result ≡ word_meaning assignment_operator_words word.now }
+{
+    match word.len() {
+        1 => assignment_operator_of_length_1(word),
+        2 => assignment_operator_of_length_2(word),
+        3 => assignment_operator_of_length_3(word),
+        4 => assignment_operator_of_length_4(word),
+        _ => None,
+    }
+}
+
+#[tactic(auto, unfolding(crate::specs::Reads::read_value))]
+pub fn needed_assignment_operator(
+    number: usize,
+    field: usize,
+    row: &Value,
+    name: &str,
+) -> Result<AssignmentOperator, InputFault>
+    ensures { Same (λ o. assignment_operator o) result
+        (read_value (at number field) true no_value (word assignment_operator_words) (value_under name.now (view row.now))) }
+{
+    let at = At::of_row(number, field);
+    let value = needed_value(at, row, name)?;
+    match assignment_operator_by_word(text_in(at, value)?) {
+        Some(found) => Ok(found),
+        None => Err(InputFault::Wrong(at)),
     }
 }

@@ -6,5 +6,5 @@ mod members;
 mod statements;
 
 pub use elements::{PrintElement, print_array, print_object};
-pub use members::{PrintMember, print_in_brackets, print_more};
+pub use members::{PrintMember, print_in_brackets, print_more, print_parts};
 pub use statements::{PrintStatement, print_statements, print_whole_body};

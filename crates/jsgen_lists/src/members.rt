@@ -3,7 +3,7 @@ ghost use Rattle.std.specs.Prelude.{◌≡◌, map};
 ghost use Rattle.jsgen_tree.specs.Tree.{Tree, trees};
 ghost use Rattle.jsgen_model.specs.Items.{brackets};
 ghost use Rattle.jsgen_model.specs.Layout.{layout, nowhere};
-ghost use Rattle.jsgen_model.specs.Spell.{spell, spell_list, spell_more};
+ghost use Rattle.jsgen_model.specs.Spell.{spell, spell_list, spell_more, spell_parts};
 ghost use Rattle.jsgen_model.specs.Printing.{Reaches};
 ghost use Rattle.jsgen_printer.specs.Printer.{pen_of, bracket_of};
 ghost use Rattle.jsgen_place.specs.Place.{place_of};
@@ -48,6 +48,23 @@ fn print_list<E, L: PrintMember<E>>(
         Some((first, others)) => {
             L::print_member(first, p, place)?;
             print_more::<E, L>(others, p, place)
+        }
+        None => Ok(()),
+    }
+}
+
+/// The members, with commas between them, of which the first begins where the list does.
+pub fn print_parts<E, L: PrintMember<E>>(
+    parts: &[E],
+    p: &mut Printer,
+    place: Place,
+) -> Result<(), Memory>
+    ensures { Reaches result (pen_of p.old) (pen_of p.new) (layout (spell_parts (trees (map L.plain parts.now)) (place_of place (pen_of p.old))) (pen_of p.old)) }
+{
+    match parts.split_first() {
+        Some((first, rest)) => {
+            L::print_member(first, p, place)?;
+            print_more::<E, L>(rest, p, place)
         }
         None => Ok(()),
     }

@@ -2,7 +2,7 @@
 -- A node of Rust is plain where its children are.
 use Rattle.std.proofs.Common.{refl}
 use Rattle.jsgen_tree.specs.Plain.{node_plain, layer}
-use Rattle.jsgen_tree.proofs.Cases.{with_argument, with_array_expression_element, with_object_property_kind, variable_declarator_by_init, if_statement_by_alternate, boxed_object_property_by_key, update_expression_by_argument}
+use Rattle.jsgen_tree.proofs.Cases.{with_argument, with_array_expression_element, with_object_property_kind, variable_declarator_by_init, if_statement_by_alternate, chain_expression_by_expression, boxed_object_property_by_key, update_expression_by_argument, assignment_expression_by_left}
 use Rattle.jsgen_tree.specs.declared.nodes.Node.{Node, Node-F, map-Node}
 use Rattle.jsgen_tree.specs.Tree.{Tree}
 use Rattle.jsgen_tree.specs.declared.sets.Expression.{Expression}
@@ -33,6 +33,7 @@ module _ {A : Type 0} (f : A → Node) (h : (a : A) → IsPlain (node_plain (f a
   expression_is_plain (expressions.StaticMemberExpression b) = (refl, (h b.value.object.node, ((refl, tt), tt)))
   expression_is_plain (expressions.ComputedMemberExpression b) = (refl, (h b.value.object.node, (h b.value.expression.node, tt)))
   expression_is_plain (expressions.CallExpression b) = (no_hole_changed _ _ _ b.value.arguments.items, (h b.value.callee.node, (all_changed _ _ _ (with_argument _ (λ b. (refl, (h b.value.argument.node, tt))) (λ b. h b.value.node)) b.value.arguments.items, tt)))
+  expression_is_plain (expressions.ChainExpression b) = (chain_expression_by_expression (λ n. IsPlain (layer (map-Node Node Tree node_plain (map-Node A Node f (opened.Expression (expressions.ChainExpression (record b { value = n }))))))) (λ n_expression. (λ n. (refl, ((refl, (h n_expression.value.object.node, ((refl, tt), tt))), tt)))) (λ n_expression. (λ n. (refl, ((refl, (h n_expression.value.object.node, (h n_expression.value.expression.node, tt))), tt)))) (λ n_expression. (λ n. (refl, ((no_hole_changed _ _ _ n_expression.value.arguments.items, (h n_expression.value.callee.node, (all_changed _ _ _ (with_argument _ (λ b. (refl, (h b.value.argument.node, tt))) (λ b. h b.value.node)) n_expression.value.arguments.items, tt))), tt))))) b.value
   expression_is_plain (expressions.ArrayExpression b) = (refl, (all_changed_or_holes _ _ _ (with_hole _ tt (with_array_expression_element _ (λ b. (refl, (h b.value.argument.node, tt))) (λ b. h b.value.node))) b.value.elements.items, tt))
   expression_is_plain (expressions.ObjectExpression b) = (no_hole_changed _ _ _ b.value.properties.items, (all_changed _ _ _ (with_object_property_kind _ (boxed_object_property_by_key _ (λ n_key. (λ n. (refl, ((refl, tt), (h n.value.value.node, tt))))) (λ n_key. (λ n. (refl, (h n_key.value.node, (h n.value.value.node, tt)))))) (λ b. (refl, (h b.value.argument.node, tt)))) b.value.properties.items, tt))
   expression_is_plain (expressions.UnaryExpression b) = (refl, (h b.value.argument.node, tt))
@@ -40,6 +41,9 @@ module _ {A : Type 0} (f : A → Node) (h : (a : A) → IsPlain (node_plain (f a
   expression_is_plain (expressions.NewExpression b) = (no_hole_changed _ _ _ b.value.arguments.items, (h b.value.callee.node, (all_changed _ _ _ (with_argument _ (λ b. (refl, (h b.value.argument.node, tt))) (λ b. h b.value.node)) b.value.arguments.items, tt)))
   expression_is_plain (expressions.NewTarget b) = (refl, tt)
   expression_is_plain (expressions.Super b) = (refl, tt)
+  expression_is_plain (expressions.ConditionalExpression b) = (refl, (h b.value.test.node, (h b.value.consequent.node, (h b.value.alternate.node, tt))))
+  expression_is_plain (expressions.SequenceExpression b) = (no_hole_changed _ _ _ b.value.expressions.items, (all_changed _ _ _ (λ n. h n.node) b.value.expressions.items, tt))
+  expression_is_plain (expressions.AssignmentExpression b) = (assignment_expression_by_left (λ n. IsPlain (layer (map-Node Node Tree node_plain (map-Node A Node f (opened.Expression (expressions.AssignmentExpression (record b { value = n }))))))) (λ n_left. (λ n. (refl, ((refl, tt), (h n.right.node, tt))))) (λ n_left. (λ n. (refl, ((refl, (h n_left.value.object.node, ((refl, tt), tt))), (h n.right.node, tt))))) (λ n_left. (λ n. (refl, ((refl, (h n_left.value.object.node, (h n_left.value.expression.node, tt))), (h n.right.node, tt)))))) b.value
 
   declaration_is_plain : (n : Declaration A) → IsPlain (layer (map-Node Node Tree node_plain (map-Node A Node f (opened.Declaration n))))
   declaration_is_plain (declarations.VariableDeclaration b) = (no_hole_changed _ _ _ b.value.declarations.items, (all_changed _ _ _ (variable_declarator_by_init _ (λ n. (refl, (h n.id.node, (tt, tt)))) (λ n_init. (λ n. (refl, (h n.id.node, (h n_init.node, tt)))))) b.value.declarations.items, tt))

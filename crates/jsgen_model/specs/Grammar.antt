@@ -11,17 +11,19 @@ use Rattle.jsgen_syntax.specs.declared.operator.UnaryOperator.{UnaryOperator}
 use Rattle.jsgen_syntax.specs.declared.operator.UnaryOperator.TheVariants as unary_operators
 use Rattle.jsgen_syntax.specs.declared.operator.UpdateOperator.{UpdateOperator}
 use Rattle.jsgen_syntax.specs.declared.operator.UpdateOperator.TheVariants as update_operators
+use Rattle.jsgen_syntax.specs.declared.operator.AssignmentOperator.{AssignmentOperator}
+use Rattle.jsgen_syntax.specs.declared.operator.AssignmentOperator.TheVariants as assignment_operators
 use Rattle.jsgen_tree.specs.declared.statements.VariableDeclarationKind.TheVariants.{Const}
 use Rattle.jsgen_syntax.specs.Name.{is_free_name}
-use Rattle.jsgen_tree.specs.Atom.{units, flag, binary_operator, logical_operator, unary_operator, update_operator, no_value, property_kind}
+use Rattle.jsgen_tree.specs.Atom.{units, flag, binary_operator, logical_operator, unary_operator, update_operator, no_value, property_kind, assignment_operator}
 use Rattle.jsgen_model.specs.Numbers.{ends_in}
 use Rattle.jsgen_tree.specs.Tree.{Tree, Maybe, absent, given, Trees, no_trees, more, hole, Atoms}
 use Rattle.jsgen_tree.specs.Places.{bare}
 use Rattle.jsgen_tree.specs.Nodes as tree
-use Rattle.jsgen_model.specs.Punctuator.{plus, minus, star, slash, percent, star_star, equal_equal, not_equal, equal_equal_equal, not_equal_equal, less, less_equal, greater, greater_equal, shift_left, shift_right, shift_right_zero, bit_and, bit_or, bit_xor, and_and, or_or, nullish, dot, ellipsis, comma, semicolon, equal, Round, Square, Brace, bang, tilde, Punctuator, plus_plus, minus_minus, colon}
+use Rattle.jsgen_model.specs.Punctuator.{plus, minus, star, slash, percent, star_star, equal_equal, not_equal, equal_equal_equal, not_equal_equal, less, less_equal, greater, greater_equal, shift_left, shift_right, shift_right_zero, bit_and, bit_or, bit_xor, and_and, or_or, nullish, dot, ellipsis, comma, semicolon, equal, Round, Square, Brace, bang, tilde, Punctuator, plus_plus, minus_minus, colon, question, plus_equal, minus_equal, star_equal, slash_equal, percent_equal, star_star_equal, shift_left_equal, shift_right_equal, shift_right_zero_equal, bit_or_equal, bit_xor_equal, bit_and_equal, or_or_equal, and_and_equal, nullish_equal, question_dot}
 use Rattle.jsgen_tree.specs.declared.collections.PropertyKind.TheVariants.{Init}
 use Rattle.jsgen_model.specs.Tokens.{Piece, Tokens, done, piece, group, ◌⧺◌, Word, Number, Quoted, Sign}
-use Rattle.jsgen_model.specs.Normal.{nothing_of, named, unnumbered, by_text, declared_as}
+use Rattle.jsgen_model.specs.Normal.{nothing_of, named, unnumbered, link_values, call_values, by_text, declared_as}
 
 -- what may stand: the operator `in`, and the operand or statement of each other word (5.1.5, grammatical parameters)
 pub record Allowed : Type 0 where
@@ -131,6 +133,25 @@ abbrev pub update_sign : UpdateOperator → Punctuator
 update_sign update_operators.Increment = plus_plus
 update_sign update_operators.Decrement = minus_minus
 
+-- the sign of an assignment (13.15)
+abbrev pub assignment_sign : AssignmentOperator → Punctuator
+assignment_sign assignment_operators.Assign = equal
+assignment_sign assignment_operators.Addition = plus_equal
+assignment_sign assignment_operators.Subtraction = minus_equal
+assignment_sign assignment_operators.Multiplication = star_equal
+assignment_sign assignment_operators.Division = slash_equal
+assignment_sign assignment_operators.Remainder = percent_equal
+assignment_sign assignment_operators.Exponential = star_star_equal
+assignment_sign assignment_operators.ShiftLeft = shift_left_equal
+assignment_sign assignment_operators.ShiftRight = shift_right_equal
+assignment_sign assignment_operators.ShiftRightZeroFill = shift_right_zero_equal
+assignment_sign assignment_operators.BitwiseOR = bit_or_equal
+assignment_sign assignment_operators.BitwiseXOR = bit_xor_equal
+assignment_sign assignment_operators.BitwiseAnd = bit_and_equal
+assignment_sign assignment_operators.LogicalOr = or_or_equal
+assignment_sign assignment_operators.LogicalAnd = and_and_equal
+assignment_sign assignment_operators.LogicalNullish = nullish_equal
+
 -- what an expression is as a simple target: a name or a member, maybe in parentheses (8.6.4)
 abbrev pub simple_target : Tree → Option Tree
 simple_target (tree.identifier_reference a) = Some (tree.identifier_reference a)
@@ -191,7 +212,10 @@ mutual
   -- ---- expressions (clause 13)
   pub data ReadsExpression : Allowed → Level → Tokens → Tree → Type 0 where
     an_assignment : {c : Allowed} {ts : Tokens} {t : Tree} → ReadsExpression c Assignment ts t → ReadsExpression c Expression ts t
+    a_sequence : {c : Allowed} {ts a b : Tokens} {t : Tree} {us : Trees} (mark : Bool) → ts ≡ a ⧺ piece mark (Sign comma) b → ReadsExpression c Assignment a t → ReadsParts c b us → ReadsExpression c Expression ts (tree.sequence (nothing_of 0) (more t us))
     a_conditional : {c : Allowed} {ts : Tokens} {t : Tree} → ReadsExpression c Conditional ts t → ReadsExpression c Assignment ts t
+    -- what is given a value is a left-hand side, to which it is all one whether `in` may stand outside (13.15)
+    an_assignment_to : {c : Allowed} {ts a b : Tokens} {t u v : Tree} (o : AssignmentOperator) (mark : Bool) → ts ≡ a ⧺ piece mark (Sign (assignment_sign o)) b → ReadsExpression (with_in c) LeftHandSide a t → simple_target t ≡ Some u → ReadsExpression c Assignment b v → ReadsExpression c Assignment ts (tree.assignment (bare (assignment_operator o ∷ [])) u v)
     a_short_circuit : {c : Allowed} {ts : Tokens} {t : Tree} → ReadsExpression c ShortCircuit ts t → ReadsExpression c Conditional ts t
     a_logical_or : {c : Allowed} {ts : Tokens} {t : Tree} → ReadsExpression c LogicalOr ts t → ReadsExpression c ShortCircuit ts t
     a_logical_and : {c : Allowed} {ts : Tokens} {t : Tree} → ReadsExpression c LogicalAnd ts t → ReadsExpression c LogicalOr ts t
@@ -213,11 +237,11 @@ mutual
     a_primary : {c : Allowed} {ts : Tokens} {t : Tree} → ReadsExpression c Primary ts t → ReadsExpression c Member ts t
     a_called_member : {c : Allowed} {ts : Tokens} {t : Tree} → ReadsExpression c Member ts t → ReadsExpression c Callee ts t
     a_called_call : {c : Allowed} {ts : Tokens} {t : Tree} → ReadsExpression c Call ts t → ReadsExpression c Callee ts t
-    a_named_member : {c : Allowed} {ts a : Tokens} {o : Tree} {v : List ℕ} (w : List ℕ) (mark next : Bool) → ts ≡ a ⧺ piece mark (Sign dot) (piece next (Word w) done) → word_value w ≡ Some v → ReadsExpression c Member a o → ReadsExpression c Member ts (tree.static_member (nothing_of 1) o (tree.identifier_name (named v)))
-    a_computed_member : {c : Allowed} {ts a inside : Tokens} {o e : Tree} (mark : Bool) → ts ≡ a ⧺ group mark Square inside done → ReadsExpression c Member a o → ReadsExpression (with_in c) Expression inside e → ReadsExpression c Member ts (tree.computed_member (nothing_of 1) o e)
-    with_arguments : {c : Allowed} {ts a inside : Tokens} {f : Tree} {es : Trees} (mark : Bool) → ts ≡ a ⧺ group mark Round inside done → ReadsExpression c Callee a f → ReadsArguments (with_in c) inside es → ReadsExpression c Call ts (tree.call (nothing_of 2) f es)
-    a_named_member_of_call : {c : Allowed} {ts a : Tokens} {o : Tree} {v : List ℕ} (w : List ℕ) (mark next : Bool) → ts ≡ a ⧺ piece mark (Sign dot) (piece next (Word w) done) → word_value w ≡ Some v → ReadsExpression c Call a o → ReadsExpression c Call ts (tree.static_member (nothing_of 1) o (tree.identifier_name (named v)))
-    a_computed_member_of_call : {c : Allowed} {ts a inside : Tokens} {o e : Tree} (mark : Bool) → ts ≡ a ⧺ group mark Square inside done → ReadsExpression c Call a o → ReadsExpression (with_in c) Expression inside e → ReadsExpression c Call ts (tree.computed_member (nothing_of 1) o e)
+    a_named_member : {c : Allowed} {ts a : Tokens} {o : Tree} {v : List ℕ} (w : List ℕ) (mark next : Bool) → ts ≡ a ⧺ piece mark (Sign dot) (piece next (Word w) done) → word_value w ≡ Some v → ReadsExpression c Member a o → ReadsExpression c Member ts (tree.static_member (link_values false) o (tree.identifier_name (named v)))
+    a_computed_member : {c : Allowed} {ts a inside : Tokens} {o e : Tree} (mark : Bool) → ts ≡ a ⧺ group mark Square inside done → ReadsExpression c Member a o → ReadsExpression (with_in c) Expression inside e → ReadsExpression c Member ts (tree.computed_member (link_values false) o e)
+    with_arguments : {c : Allowed} {ts a inside : Tokens} {f : Tree} {es : Trees} (mark : Bool) → ts ≡ a ⧺ group mark Round inside done → ReadsExpression c Callee a f → ReadsArguments (with_in c) inside es → ReadsExpression c Call ts (tree.call (call_values false) f es)
+    a_named_member_of_call : {c : Allowed} {ts a : Tokens} {o : Tree} {v : List ℕ} (w : List ℕ) (mark next : Bool) → ts ≡ a ⧺ piece mark (Sign dot) (piece next (Word w) done) → word_value w ≡ Some v → ReadsExpression c Call a o → ReadsExpression c Call ts (tree.static_member (link_values false) o (tree.identifier_name (named v)))
+    a_computed_member_of_call : {c : Allowed} {ts a inside : Tokens} {o e : Tree} (mark : Bool) → ts ≡ a ⧺ group mark Square inside done → ReadsExpression c Call a o → ReadsExpression (with_in c) Expression inside e → ReadsExpression c Call ts (tree.computed_member (link_values false) o e)
     an_operation : {c : Allowed} {ts a b : Tokens} {l r : Tree} (o : BinaryOperator) (mark : Bool) → is_power o ≡ false → may_stand c o ≡ true → ts ≡ a ⧺ piece mark (operator_piece o) b → ReadsExpression c (operation_level o) a l → ReadsExpression c (next_level (operation_level o)) b r → ReadsExpression c (operation_level o) ts (tree.binary (bare (binary_operator o ∷ [])) l r)
     a_power : {c : Allowed} {ts a b : Tokens} {l r : Tree} (mark : Bool) → ts ≡ a ⧺ piece mark (Sign star_star) b → ReadsExpression c Update a l → ReadsExpression c Exponent b r → ReadsExpression c Exponent ts (tree.binary (bare (binary_operator operators.Exponential ∷ [])) l r)
     a_conjunction : {c : Allowed} {ts a b : Tokens} {l r : Tree} (mark : Bool) → ts ≡ a ⧺ piece mark (Sign and_and) b → ReadsExpression c LogicalAnd a l → ReadsExpression c BitOr b r → ReadsExpression c LogicalAnd ts (tree.logical (bare (logical_operator And ∷ [])) l r)
@@ -226,15 +250,17 @@ mutual
     a_coalescing : {c : Allowed} {ts a b : Tokens} {l r : Tree} (mark : Bool) → ts ≡ a ⧺ piece mark (Sign nullish) b → ReadsExpression c CoalesceHead a l → ReadsExpression c BitOr b r → ReadsExpression c Coalesced ts (tree.logical (bare (logical_operator Coalesce ∷ [])) l r)
     a_coalesced_head : {c : Allowed} {ts : Tokens} {t : Tree} → ReadsExpression c Coalesced ts t → ReadsExpression c CoalesceHead ts t
     a_bit_or_head : {c : Allowed} {ts : Tokens} {t : Tree} → ReadsExpression c BitOr ts t → ReadsExpression c CoalesceHead ts t
+    -- what follows `?` stands between two signs, so `in` may stand there
+    a_choice : {c : Allowed} {ts a b d : Tokens} {x y z : Tree} (mark next : Bool) → ts ≡ a ⧺ piece mark (Sign question) (b ⧺ piece next (Sign colon) d) → ReadsExpression c ShortCircuit a x → ReadsExpression (with_in c) Assignment b y → ReadsExpression c Assignment d z → ReadsExpression c Conditional ts (tree.conditional (nothing_of 0) x y z)
     a_unary_operation : {c : Allowed} {mark : Bool} {ts : Tokens} {t : Tree} (o : UnaryOperator) → ReadsExpression c Unary ts t → ReadsExpression c Unary (piece mark (unary_piece o) ts) (tree.unary (bare (unary_operator o ∷ [])) t)
     an_update_before : {c : Allowed} {mark : Bool} {ts : Tokens} {t u : Tree} (o : UpdateOperator) → ReadsExpression c Unary ts t → simple_target t ≡ Some u → ReadsExpression c Update (piece mark (Sign (update_sign o)) ts) (tree.update (bare (update_operator o ∷ flag true ∷ [])) u)
     -- on the line of its operand (12.10.1)
     an_update_behind : {c : Allowed} {ts a : Tokens} {t u : Tree} (o : UpdateOperator) → ts ≡ a ⧺ piece false (Sign (update_sign o)) done → ReadsExpression c LeftHandSide a t → simple_target t ≡ Some u → ReadsExpression c Update ts (tree.update (bare (update_operator o ∷ flag false ∷ [])) u)
     new_with_arguments : {c : Allowed} {ts a inside : Tokens} {f : Tree} {es : Trees} (mark next : Bool) → ts ≡ a ⧺ group next Round inside done → ReadsExpression c Member a f → ReadsArguments (with_in c) inside es → ReadsExpression c Member (piece mark (Word (codes "new")) ts) (tree.new_expression (nothing_of 1) f es)
     new_alone : {c : Allowed} {mark : Bool} {ts : Tokens} {f : Tree} → ReadsExpression c New ts f → ReadsExpression c New (piece mark (Word (codes "new")) ts) (tree.new_expression (nothing_of 1) f no_trees)
-    a_named_member_of_super : {c : Allowed} {v : List ℕ} (w : List ℕ) (mark next last : Bool) → word_value w ≡ Some v → ReadsExpression c Member (piece mark (Word (codes "super")) (piece next (Sign dot) (piece last (Word w) done))) (tree.static_member (nothing_of 1) (tree.super (nothing_of 0)) (tree.identifier_name (named v)))
-    a_computed_member_of_super : {c : Allowed} {mark next : Bool} {inside : Tokens} {e : Tree} → ReadsExpression (with_in c) Expression inside e → ReadsExpression c Member (piece mark (Word (codes "super")) (group next Square inside done)) (tree.computed_member (nothing_of 1) (tree.super (nothing_of 0)) e)
-    a_call_of_super : {c : Allowed} {mark next : Bool} {inside : Tokens} {es : Trees} → ReadsArguments (with_in c) inside es → ReadsExpression c Call (piece mark (Word (codes "super")) (group next Round inside done)) (tree.call (nothing_of 2) (tree.super (nothing_of 0)) es)
+    a_named_member_of_super : {c : Allowed} {v : List ℕ} (w : List ℕ) (mark next last : Bool) → word_value w ≡ Some v → ReadsExpression c Member (piece mark (Word (codes "super")) (piece next (Sign dot) (piece last (Word w) done))) (tree.static_member (link_values false) (tree.super (nothing_of 0)) (tree.identifier_name (named v)))
+    a_computed_member_of_super : {c : Allowed} {mark next : Bool} {inside : Tokens} {e : Tree} → ReadsExpression (with_in c) Expression inside e → ReadsExpression c Member (piece mark (Word (codes "super")) (group next Square inside done)) (tree.computed_member (link_values false) (tree.super (nothing_of 0)) e)
+    a_call_of_super : {c : Allowed} {mark next : Bool} {inside : Tokens} {es : Trees} → ReadsArguments (with_in c) inside es → ReadsExpression c Call (piece mark (Word (codes "super")) (group next Round inside done)) (tree.call (call_values false) (tree.super (nothing_of 0)) es)
     a_new_target : {c : Allowed} {mark next last : Bool} → ReadsExpression c Member (piece mark (Word (codes "new")) (piece next (Sign dot) (piece last (Word (codes "target")) done))) (tree.new_target (nothing_of 0))
     a_reference : {c : Allowed} {mark : Bool} {w v : List ℕ} → word_value w ≡ Some v → is_free_name v ≡ true → ReadsExpression c Primary (piece mark (Word w) done) (tree.identifier_reference (unnumbered v))
     a_this : {c : Allowed} {mark : Bool} → ReadsExpression c Primary (piece mark (Word (codes "this")) done) (tree.this_expression (nothing_of 0))
@@ -246,8 +272,28 @@ mutual
     a_big_integer : {c : Allowed} {mark : Bool} {w v : List ℕ} → w ≡ v ++ codes "n" → ReadsExpression c Primary (piece mark (Number w) done) (tree.big_int_literal (named v))
     a_string : {c : Allowed} {mark : Bool} {q : Quote} {w us : List ℕ} → string_value q w ≡ Some us → ReadsExpression c Primary (piece mark (Quoted q w) done) (tree.string_literal (bare (units us ∷ [])))
     in_parentheses : {c : Allowed} {mark : Bool} {ts : Tokens} {t : Tree} → ReadsExpression (with_in c) Expression ts t → ReadsExpression c Primary (group mark Round ts done) (tree.parenthesized (nothing_of 0) t)
+    an_optional_chain : {c : Allowed} {ts : Tokens} {t : Tree} → ReadsChain c ts t → ReadsExpression c LeftHandSide ts (tree.chain (nothing_of 0) t)
     an_array : {c : Allowed} {mark : Bool} {inside : Tokens} {es : Trees} → ReadsElements (with_in c) inside es → ReadsExpression c Primary (group mark Square inside done) (tree.array (nothing_of 0) es)
     an_object : {c : Allowed} {mark : Bool} {inside : Tokens} {ps : Trees} → ReadsProperties (with_in c) inside ps → ReadsExpression c Primary (group mark Brace inside done) (tree.object_expression (nothing_of 0) ps)
+
+  -- the parts of a sequence behind its first (13.16)
+  pub data ReadsParts : Allowed → Tokens → Trees → Type 0 where
+    last_part : {c : Allowed} {ts : Tokens} {t : Tree} → ReadsExpression c Assignment ts t → ReadsParts c ts (more t no_trees)
+    first_part : {c : Allowed} {ts a b : Tokens} {t : Tree} {us : Trees} (mark : Bool) → ts ≡ a ⧺ piece mark (Sign comma) b → ReadsExpression c Assignment a t → ReadsParts c b us → ReadsParts c ts (more t us)
+
+  -- links one behind the other, of which one at least is `?.` (13.3, OptionalExpression)
+  pub data ReadsChain : Allowed → Tokens → Tree → Type 0 where
+    an_optional_named_member : {c : Allowed} {ts a : Tokens} {o : Tree} {v : List ℕ} (w : List ℕ) (mark next : Bool) → ts ≡ a ⧺ piece mark (Sign question_dot) (piece next (Word w) done) → word_value w ≡ Some v → ReadsChainBase c a o → ReadsChain c ts (tree.static_member (link_values true) o (tree.identifier_name (named v)))
+    an_optional_computed_member : {c : Allowed} {ts a inside : Tokens} {o e : Tree} (mark next : Bool) → ts ≡ a ⧺ piece mark (Sign question_dot) (group next Square inside done) → ReadsChainBase c a o → ReadsExpression (with_in c) Expression inside e → ReadsChain c ts (tree.computed_member (link_values true) o e)
+    an_optional_call : {c : Allowed} {ts a inside : Tokens} {f : Tree} {es : Trees} (mark next : Bool) → ts ≡ a ⧺ piece mark (Sign question_dot) (group next Round inside done) → ReadsChainBase c a f → ReadsArguments (with_in c) inside es → ReadsChain c ts (tree.call (call_values true) f es)
+    a_further_named_member : {c : Allowed} {ts a : Tokens} {o : Tree} {v : List ℕ} (w : List ℕ) (mark next : Bool) → ts ≡ a ⧺ piece mark (Sign dot) (piece next (Word w) done) → word_value w ≡ Some v → ReadsChain c a o → ReadsChain c ts (tree.static_member (link_values false) o (tree.identifier_name (named v)))
+    a_further_computed_member : {c : Allowed} {ts a inside : Tokens} {o e : Tree} (mark : Bool) → ts ≡ a ⧺ group mark Square inside done → ReadsChain c a o → ReadsExpression (with_in c) Expression inside e → ReadsChain c ts (tree.computed_member (link_values false) o e)
+    a_further_call : {c : Allowed} {ts a inside : Tokens} {f : Tree} {es : Trees} (mark : Bool) → ts ≡ a ⧺ group mark Round inside done → ReadsChain c a f → ReadsArguments (with_in c) inside es → ReadsChain c ts (tree.call (call_values false) f es)
+
+  -- what an optional link goes on from: a member, a call or a chain
+  pub data ReadsChainBase : Allowed → Tokens → Tree → Type 0 where
+    a_first_link : {c : Allowed} {ts : Tokens} {t : Tree} → ReadsExpression c Callee ts t → ReadsChainBase c ts t
+    a_further_link : {c : Allowed} {ts : Tokens} {t : Tree} → ReadsChain c ts t → ReadsChainBase c ts t
 
   -- between the braces of an object (13.2.5); a comma may end the list
   pub data ReadsProperties : Allowed → Tokens → Trees → Type 0 where

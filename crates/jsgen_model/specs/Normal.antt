@@ -1,12 +1,12 @@
 -- What two trees of one meaning have in common.
 use Rattle.std.specs.Prelude.{ℕ, List, [], ◌∷◌, Bool, true, false, Option, Some, None, decimal, if◌then◌else◌, ◌&&◌, ◌||◌}
-use Rattle.jsgen_tree.specs.Atom.{Atom, no_value, text, units, flag, numeric_kind, declaration_kind, binary_operator, logical_operator, unary_operator, update_operator, property_kind}
+use Rattle.jsgen_tree.specs.Atom.{Atom, no_value, text, units, flag, numeric_kind, declaration_kind, binary_operator, logical_operator, unary_operator, update_operator, property_kind, assignment_operator}
 use Rattle.std.specs.Option.{option_map_or}
 use Rattle.jsgen_tree.specs.Number.{NumericKind, Whole, Raw}
 use Rattle.jsgen_tree.specs.Tree.{Tree, node, Slots, no_slots, one, maybe, many, maybe_many, Maybe, absent, given, Trees, no_trees, more, hole, MaybeTrees, no_list, listed, Atoms}
 use Rattle.jsgen_tree.specs.declared.types.NodeType.TheVariants as types
 use Rattle.jsgen_tree.specs.Places.{bare, absent_values}
-use Rattle.jsgen_tree.specs.Values.{directive_directive, variable_declaration_kind, binding_identifier_name, identifier_reference_name, identifier_name_name, boolean_literal_value, numeric_literal_kind, numeric_literal_negative, numeric_literal_digits, numeric_literal_text, big_int_literal_value, string_literal_value, binary_expression_operator, logical_expression_operator, unary_expression_operator, update_expression_operator, update_expression_prefix, variable_declaration_declare, variable_declarator_definite, static_member_expression_optional, computed_member_expression_optional, call_expression_optional, object_property_kind, object_property_method, object_property_shorthand, object_property_computed}
+use Rattle.jsgen_tree.specs.Values.{directive_directive, variable_declaration_kind, binding_identifier_name, identifier_reference_name, identifier_name_name, boolean_literal_value, numeric_literal_kind, numeric_literal_negative, numeric_literal_digits, numeric_literal_text, big_int_literal_value, string_literal_value, binary_expression_operator, logical_expression_operator, unary_expression_operator, update_expression_operator, update_expression_prefix, variable_declaration_declare, variable_declarator_definite, static_member_expression_optional, computed_member_expression_optional, call_expression_optional, object_property_kind, object_property_method, object_property_shorthand, object_property_computed, assignment_expression_operator}
 use Rattle.jsgen_syntax.specs.Raw.{directive_value}
 use Rattle.jsgen_syntax.specs.declared.operator.LogicalOperator.{LogicalOperator}
 use Rattle.jsgen_syntax.specs.declared.operator.UnaryOperator.TheVariants.{UnaryNegation}
@@ -28,6 +28,14 @@ named name = bare (text name ∷ [])
 -- a name without the number by which a table knows it
 abbrev pub unnumbered : List ℕ → Atoms
 unnumbered name = bare (text name ∷ no_value ∷ [])
+
+-- a member by whether its link is `?.`
+abbrev pub link_values : Bool → Atoms
+link_values optional = bare (flag optional ∷ [])
+
+-- a call likewise; whether it is pure doesn't count
+abbrev pub call_values : Bool → Atoms
+call_values optional = bare (flag optional ∷ no_value ∷ [])
 
 -- a number by its text
 abbrev pub by_text : List ℕ → Atoms
@@ -81,6 +89,19 @@ abbrev pub links : LogicalOperator → Tree → Trees
 links o (chain a operands) = if same_operator o (logical_expression_operator a) then operands else more (chain a operands) no_trees
 links o t = more t no_trees
 
+-- ---- sequences
+
+-- what a part adds to a sequence: a sequence adds its own parts
+abbrev pub parts_of : Tree → Trees
+parts_of (tree.sequence a expressions) = expressions
+parts_of t = more t no_trees
+
+-- the parts of each, one after another
+abbrev pub flattened : Trees → Trees
+flattened no_trees = no_trees
+flattened (more t ts) = joined (parts_of t) (flattened ts)
+flattened (hole ts) = hole (flattened ts)
+
 -- a block round one statement that ends in an `if` without `else`, where such a statement couldn't stand by itself
 abbrev pub unbraced : Tree → Tree
 unbraced (tree.block a (more s no_trees)) = if ends_open s then s else tree.block a (more s no_trees)
@@ -95,7 +116,7 @@ abbrev pub is_computed : Bool → Tree → Bool
 is_computed computed key = computed || is_negative_number key
 
 -- Parentheses, spans, the source and the kind of a program are away, and whether a call or `new` is pure; a directive is its value; a
--- whole number is its digits, and a minus before a number is an operation; a negative number that is a key is a computed one; a chain of one logical operator is one list, however it was grouped; braces round a consequent
+-- whole number is its digits, and a minus before a number is an operation; a negative number that is a key is a computed one; a chain of one logical operator is one list, however it was grouped, and so is a sequence; braces round a consequent
 -- that ends in an `if` without `else` are away; a property that its value alone says is written out, but for `__proto__`.
 abbrev mutual
   pub normal : Tree → Tree
@@ -119,9 +140,10 @@ abbrev mutual
   normal (tree.if_statement a test consequent alternate) = tree.if_statement (nothing_of 0) (normal test) (unbraced (normal consequent)) (normal_maybe alternate)
   normal (tree.empty_statement a) = tree.empty_statement (nothing_of 0)
   normal (tree.identifier_name a) = tree.identifier_name (named (identifier_name_name a))
-  normal (tree.static_member a object property) = tree.static_member (bare (static_member_expression_optional a ∷ [])) (normal object) (normal property)
-  normal (tree.computed_member a object expression) = tree.computed_member (bare (computed_member_expression_optional a ∷ [])) (normal object) (normal expression)
-  normal (tree.call a callee arguments) = tree.call (bare (call_expression_optional a ∷ no_value ∷ [])) (normal callee) (normal_trees arguments)
+  normal (tree.static_member a object property) = tree.static_member (link_values (static_member_expression_optional a)) (normal object) (normal property)
+  normal (tree.computed_member a object expression) = tree.computed_member (link_values (computed_member_expression_optional a)) (normal object) (normal expression)
+  normal (tree.call a callee arguments) = tree.call (call_values (call_expression_optional a)) (normal callee) (normal_trees arguments)
+  normal (tree.chain a element) = tree.chain (nothing_of 0) (normal element)
   normal (tree.spread a argument) = tree.spread (nothing_of 0) (normal argument)
   normal (tree.array a elements) = tree.array (nothing_of 0) (normal_trees elements)
   normal (tree.unary a argument) = tree.unary (bare (unary_operator (unary_expression_operator a) ∷ [])) (normal argument)
@@ -131,6 +153,9 @@ abbrev mutual
   normal (tree.new_target a) = tree.new_target (nothing_of 0)
   normal (tree.object_expression a properties) = tree.object_expression (nothing_of 0) (normal_trees properties)
   normal (tree.object_property a key value) = tree.object_property (bare (property_kind (object_property_kind a) ∷ object_property_method a ∷ flag (is_proto_shorthand (object_property_shorthand a) key) ∷ flag (is_computed (object_property_computed a) key) ∷ [])) (normal key) (normal value)
+  normal (tree.conditional a test consequent alternate) = tree.conditional (nothing_of 0) (normal test) (normal consequent) (normal alternate)
+  normal (tree.sequence a expressions) = tree.sequence (nothing_of 0) (flattened (normal_trees expressions))
+  normal (tree.assignment a left right) = tree.assignment (bare (assignment_operator (assignment_expression_operator a) ∷ [])) (normal left) (normal right)
   normal (node type a slots) = node type (bare a.values) (normal_slots slots)
 
   pub normal_slots : Slots → Slots

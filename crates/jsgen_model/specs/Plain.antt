@@ -9,7 +9,7 @@ use Rattle.jsgen_tree.specs.Tree.{Tree, node, Trees, no_trees, more, hole, Atoms
 use Rattle.jsgen_tree.specs.Nodes as tree
 use Rattle.jsgen_tree.specs.Table.{value_named}
 use Rattle.jsgen_tree.specs.Fields.{fields}
-use Rattle.jsgen_tree.specs.Values.{as_flag, program_kind, directive_directive, numeric_literal_kind, numeric_literal_digits, string_literal_value, variable_declaration_declare, variable_declarator_definite, static_member_expression_optional, computed_member_expression_optional, call_expression_optional, object_property_method}
+use Rattle.jsgen_tree.specs.Values.{as_flag, program_kind, directive_directive, numeric_literal_kind, numeric_literal_digits, string_literal_value, variable_declaration_declare, variable_declarator_definite, object_property_method}
 use Rattle.jsgen_tree.specs.Everywhere.{Everywhere}
 use Rattle.jsgen_tree.specs.Options.{Comments, is_none}
 use Rattle.jsgen_tree.specs.Job.{JobData}
@@ -59,9 +59,10 @@ is_plain_row (tree.block a body) = has_no_hole body
 is_plain_row (tree.if_statement a test consequent alternate) = true
 is_plain_row (tree.empty_statement a) = true
 is_plain_row (tree.identifier_name a) = true
-is_plain_row (tree.static_member a object property) = is_absent (static_member_expression_optional a)
-is_plain_row (tree.computed_member a object expression) = is_absent (computed_member_expression_optional a)
-is_plain_row (tree.call a callee arguments) = is_absent (call_expression_optional a) && has_no_hole arguments
+is_plain_row (tree.static_member a object property) = true
+is_plain_row (tree.computed_member a object expression) = true
+is_plain_row (tree.call a callee arguments) = has_no_hole arguments
+is_plain_row (tree.chain a element) = true
 is_plain_row (tree.spread a argument) = true
 is_plain_row (tree.array a elements) = true
 is_plain_row (tree.unary a argument) = true
@@ -71,6 +72,9 @@ is_plain_row (tree.super a) = true
 is_plain_row (tree.new_target a) = true
 is_plain_row (tree.object_expression a properties) = has_no_hole properties
 is_plain_row (tree.object_property a key value) = is_absent (object_property_method a)
+is_plain_row (tree.conditional a test consequent alternate) = true
+is_plain_row (tree.sequence a expressions) = has_no_hole expressions
+is_plain_row (tree.assignment a left right) = true
 is_plain_row t = false
 
 abbrev pub IsPlain : Tree → Type 0

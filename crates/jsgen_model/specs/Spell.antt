@@ -5,7 +5,7 @@ use Rattle.std.specs.Str.{encode_utf8_all, bytes_eq}
 use Rattle.jsgen_syntax.specs.Precedence.{rank}
 use Rattle.jsgen_syntax.specs.Operator.{binary_level, lower_level, logical_level, logical_lower_level}
 use Rattle.jsgen_syntax.specs.declared.precedence.Precedence.{Precedence}
-use Rattle.jsgen_syntax.specs.declared.precedence.Precedence.TheVariants.{Lowest, Comma, Multiply, Exponentiation, Prefix, Postfix, New, Call}
+use Rattle.jsgen_syntax.specs.declared.precedence.Precedence.TheVariants.{Lowest, Comma, Yield, Assign, Conditional, Multiply, Exponentiation, Prefix, Postfix, New, Call}
 use Rattle.jsgen_syntax.specs.declared.operator.BinaryOperator.{BinaryOperator}
 use Rattle.jsgen_syntax.specs.declared.operator.BinaryOperator.TheVariants as operators
 use Rattle.jsgen_syntax.specs.declared.operator.LogicalOperator.{LogicalOperator}
@@ -14,17 +14,19 @@ use Rattle.jsgen_syntax.specs.declared.operator.UnaryOperator.{UnaryOperator}
 use Rattle.jsgen_syntax.specs.declared.operator.UnaryOperator.TheVariants as unary_operators
 use Rattle.jsgen_syntax.specs.declared.operator.UpdateOperator.{UpdateOperator}
 use Rattle.jsgen_syntax.specs.declared.operator.UpdateOperator.TheVariants as update_operators
+use Rattle.jsgen_syntax.specs.declared.operator.AssignmentOperator.{AssignmentOperator}
+use Rattle.jsgen_syntax.specs.declared.operator.AssignmentOperator.TheVariants as assignment_operators
 use Rattle.jsgen_tree.specs.declared.types.NodeType.{NodeType}
 use Rattle.jsgen_tree.specs.declared.types.NodeType.TheVariants as types
 use Rattle.jsgen_tree.specs.Inside.{without_parentheses, ends_open, reference_in, written_name_in, is_proto, behind_minus, is_negative_number}
 use Rattle.jsgen_tree.specs.Words.{declaration_word}
 use Rattle.jsgen_tree.specs.Number.{NumericKind, Whole, Raw}
 use Rattle.jsgen_tree.specs.Tree.{Tree, Maybe, absent, given, Trees, no_trees, more, hole, Atoms, type_of}
-use Rattle.jsgen_tree.specs.Values.{as_text, directive_directive, variable_declaration_kind, binding_identifier_name, identifier_reference_name, identifier_name_name, boolean_literal_value, numeric_literal_kind, numeric_literal_negative, numeric_literal_digits, numeric_literal_text, big_int_literal_value, string_literal_value, binary_expression_operator, logical_expression_operator, unary_expression_operator, update_expression_operator, update_expression_prefix, object_property_shorthand, object_property_computed}
+use Rattle.jsgen_tree.specs.Values.{as_text, directive_directive, variable_declaration_kind, binding_identifier_name, identifier_reference_name, identifier_name_name, boolean_literal_value, numeric_literal_kind, numeric_literal_negative, numeric_literal_digits, numeric_literal_text, big_int_literal_value, string_literal_value, binary_expression_operator, logical_expression_operator, unary_expression_operator, update_expression_operator, update_expression_prefix, object_property_shorthand, object_property_computed, assignment_expression_operator, static_member_expression_optional, computed_member_expression_optional, call_expression_optional}
 use Rattle.jsgen_tree.specs.Job.{Tables, JobData}
 use Rattle.jsgen_tree.specs.Nodes as tree
 use Rattle.jsgen_model.specs.Numbers.{takes_no_dot}
-use Rattle.jsgen_model.specs.Punctuator.{ellipsis, comma, semicolon, equal, plus, minus, star, slash, percent, star_star, equal_equal, not_equal, equal_equal_equal, not_equal_equal, less, less_equal, greater, greater_equal, shift_left, shift_right, shift_right_zero, bit_and, bit_or, bit_xor, and_and, or_or, nullish, Round, Square, Brace, bang, tilde, plus_plus, minus_minus, colon}
+use Rattle.jsgen_model.specs.Punctuator.{ellipsis, comma, semicolon, equal, plus, minus, star, slash, percent, star_star, equal_equal, not_equal, equal_equal_equal, not_equal_equal, less, less_equal, greater, greater_equal, shift_left, shift_right, shift_right_zero, bit_and, bit_or, bit_xor, and_and, or_or, nullish, Round, Square, Brace, bang, tilde, plus_plus, minus_minus, colon, question, plus_equal, minus_equal, star_equal, slash_equal, percent_equal, star_star_equal, shift_left_equal, shift_right_equal, shift_right_zero_equal, bit_or_equal, bit_xor_equal, bit_and_equal, or_or_equal, and_and_equal, nullish_equal, question_dot}
 use Rattle.jsgen_model.specs.Items.{Items, nothing, ◌⊕◌, word, name, number, string, first_string, directive, punctuator, operator, member_dot, brackets, soft_space, soft_line, hard_space, body_space, deeper, indentation, wrapped, statement_end, due_semicolon, drop_semicolon, statement_begins}
 use Rattle.jsgen_model.specs.Layout.{Start, nowhere, statement, arrow_body, unless_printed, layout, empty_pen, style_of}
 
@@ -84,6 +86,14 @@ left_of level place = record (in_front level place) { left_operand = true }
 abbrev pub in_brackets : Precedence → Place → Place
 in_brackets level place = record (behind level place) { context = free }
 
+-- a part of a choice or of a list, in which calls may stand
+abbrev pub with_calls : Place → Place
+with_calls place = record place { context = record place.context { forbids_call = false } }
+
+-- what is given a value, where nothing is forbidden
+abbrev pub assigned : Place → Place
+assigned place = record (in_front Comma place) { context = free }
+
 -- the object of a member
 abbrev pub linked : Place → Place
 linked place = in_front Postfix place
@@ -103,6 +113,10 @@ allow_in false context = context
 -- within parentheses, where the test holds, `in` may stand, and nothing of outside begins
 abbrev pub within : Bool → Place → Place
 within test place = record place { context = allow_in test place.context; start = unless_printed test place.start }
+
+-- within parentheses, where the test holds, nothing of outside begins; what is forbidden outside stays forbidden
+abbrev pub enclosed : Bool → Place → Place
+enclosed test place = record place { start = unless_printed test place.start }
 
 -- an expression of this level stands in parentheses
 abbrev pub wraps : Precedence → Place → Bool
@@ -162,6 +176,25 @@ abbrev pub update_item : UpdateOperator → Items
 update_item update_operators.Increment = operator plus_plus
 update_item update_operators.Decrement = operator minus_minus
 
+-- the sign of an assignment joins no sign before it
+abbrev pub assignment_item : AssignmentOperator → Items
+assignment_item assignment_operators.Assign = punctuator equal
+assignment_item assignment_operators.Addition = punctuator plus_equal
+assignment_item assignment_operators.Subtraction = punctuator minus_equal
+assignment_item assignment_operators.Multiplication = punctuator star_equal
+assignment_item assignment_operators.Division = punctuator slash_equal
+assignment_item assignment_operators.Remainder = punctuator percent_equal
+assignment_item assignment_operators.Exponential = punctuator star_star_equal
+assignment_item assignment_operators.ShiftLeft = punctuator shift_left_equal
+assignment_item assignment_operators.ShiftRight = punctuator shift_right_equal
+assignment_item assignment_operators.ShiftRightZeroFill = punctuator shift_right_zero_equal
+assignment_item assignment_operators.BitwiseOR = punctuator bit_or_equal
+assignment_item assignment_operators.BitwiseXOR = punctuator bit_xor_equal
+assignment_item assignment_operators.BitwiseAnd = punctuator bit_and_equal
+assignment_item assignment_operators.LogicalOr = punctuator or_or_equal
+assignment_item assignment_operators.LogicalAnd = punctuator and_and_equal
+assignment_item assignment_operators.LogicalNullish = punctuator nullish_equal
+
 -- the operator stands before the operand, where the test holds, or behind it
 abbrev pub update_level : Bool → Precedence
 update_level true = Prefix
@@ -217,6 +250,10 @@ abbrev pub right_level : BinaryOperator → Precedence
 right_level operators.Exponential = Multiply
 right_level o = binary_level o
 
+-- the parts of a choice and the signs between them
+abbrev pub choice : Items → Items → Items → Items
+choice test consequent alternate = test ⊕ (soft_space ⊕ (punctuator question ⊕ (soft_space ⊕ (consequent ⊕ (soft_space ⊕ (punctuator colon ⊕ (soft_space ⊕ alternate)))))))
+
 -- `??` can't be mixed with `||` and `&&` (ECMA-262, 13.13)
 abbrev pub unmixed : LogicalOperator → Tree → Precedence → Precedence
 unmixed logical_operators.Coalesce operand level = if mixes (without_parentheses operand) then Prefix else level
@@ -225,6 +262,24 @@ unmixed o operand level = level
 -- a call stands in parentheses where something tighter is asked for, and where calls are forbidden
 abbrev pub call_wraps : Place → Bool
 call_wraps place = wraps New place || place.context.forbids_call
+
+-- what a link begins with: of a name a dot, of brackets nothing, and of an optional link `?.`
+abbrev pub name_link : Bool → Items
+name_link true = punctuator question_dot
+name_link false = member_dot
+
+abbrev pub bracket_link : Bool → Items
+bracket_link true = punctuator question_dot
+bracket_link false = nothing
+
+-- a chain stands in parentheses before a link that is none of its own, and where calls are forbidden
+abbrev pub chain_wraps : Place → Bool
+chain_wraps place = wraps Postfix place || place.context.forbids_call
+
+-- its links, within the parentheses where the test holds
+abbrev pub chain_place : Bool → Place → Place
+chain_place true place = in_brackets Lowest place
+chain_place false place = place
 
 abbrev pub any_given : Trees → Bool
 any_given no_trees = false
@@ -459,10 +514,11 @@ abbrev mutual
       ⊕ spell_alternate alternate place.settings))))
   spell (tree.empty_statement a) place = indentation ⊕ (punctuator semicolon ⊕ soft_line)
   spell (tree.identifier_name a) place = name (identifier_name_name a)
-  spell (tree.static_member a object property) place = spell object (linked place) ⊕ (member_dot ⊕ spell property (behind Lowest place))
-  spell (tree.computed_member a object expression) place = spell object (linked place) ⊕ brackets Square (spell expression (in_brackets Lowest place))
+  spell (tree.static_member a object property) place = spell object (linked place) ⊕ (name_link (static_member_expression_optional a) ⊕ spell property (behind Lowest place))
+  spell (tree.computed_member a object expression) place = spell object (linked place) ⊕ (bracket_link (computed_member_expression_optional a) ⊕ brackets Square (spell expression (in_brackets Lowest place)))
   spell (tree.call a callee arguments) place =
-      wrapped (call_wraps place) (spell callee (called (within (call_wraps place) place)) ⊕ brackets Round (spell_list arguments (in_brackets Comma place)))
+      wrapped (call_wraps place) (spell callee (called (within (call_wraps place) place)) ⊕ (bracket_link (call_expression_optional a) ⊕ brackets Round (spell_list arguments (in_brackets Comma place))))
+  spell (tree.chain a element) place = wrapped (chain_wraps place) (spell element (chain_place (chain_wraps place) place))
   spell (tree.spread a argument) place = punctuator ellipsis ⊕ spell argument (in_brackets Comma place)
   -- up to two elements stand on one line
   spell (tree.array a elements) place = brackets Square (on_lines (are_more 2 elements) (spell_elements (are_more 2 elements) elements (in_brackets Comma place) ⊕ comma_if (ends_in_hole elements)))
@@ -482,6 +538,16 @@ abbrev mutual
   spell (tree.object_property a key value) place =
       property_items (is_short (object_property_shorthand a) key value) (key_items (needs_brackets (object_property_computed a) key) key (spell key (in_brackets Comma place)) (spell key (in_front Comma place)))
       (spell value (in_front Comma place)) (spell value (in_brackets Comma place))
+  -- a choice binds to the right: what follows `?` and `:` may be an assignment
+  spell (tree.conditional a test consequent alternate) place =
+      wrapped (wraps Conditional place) (choice
+      (spell test (with_calls (in_front Conditional (within (wraps Conditional place) place))))
+      (spell consequent (in_brackets Yield place))
+      (spell alternate (with_calls (behind Yield (within (wraps Conditional place) place)))))
+  spell (tree.sequence a expressions) place = wrapped (wraps Comma place) (spell_parts expressions (with_calls (in_front Lowest (enclosed (wraps Comma place) place))))
+  -- an assignment binds to the right, and hands on what is forbidden
+  spell (tree.assignment a left right) place =
+      operation (wraps Assign place) (assignment_item (assignment_expression_operator a)) (spell left (assigned (enclosed (wraps Assign place) place))) (spell right (behind Comma place))
   spell t place = nothing
 
   -- the directives of a body, each with a semicolon of its own
@@ -512,6 +578,12 @@ abbrev mutual
   spell_more no_trees place = nothing
   spell_more (more t ts) place = punctuator comma ⊕ (soft_space ⊕ (spell t place ⊕ spell_more ts place))
   spell_more (hole ts) place = spell_more ts place
+
+  -- the parts of a sequence, of which the first begins where it does
+  pub spell_parts : Trees → Place → Items
+  spell_parts no_trees place = nothing
+  spell_parts (more t ts) place = spell t place ⊕ spell_more ts (record place { start = nowhere })
+  spell_parts (hole ts) place = spell_parts ts place
 
   -- members on lines of their own, or on one; nothing stands in the place of one that is left out
   pub spell_elements : Bool → Trees → Place → Items

@@ -15,10 +15,10 @@ use Rattle.jsgen_tree.specs.Table.{child_sets}
 use Rattle.jsgen_tree.specs.Fields.{fields}
 use Rattle.jsgen_tree.specs.Sets.{in_set, is_expression}
 use Rattle.jsgen_tree.specs.Number.{NumericKind, Whole, Raw}
-use Rattle.jsgen_tree.specs.Inside.{without_parentheses, reference_in, written_name_in, is_proto, is_negative_big_integer}
+use Rattle.jsgen_tree.specs.Inside.{without_parentheses, reference_in, written_name_in, is_proto, is_negative_big_integer, has_optional_link}
 use Rattle.jsgen_tree.specs.Tree.{Tree, node, Slots, no_slots, one, maybe, many, maybe_many, Maybe, absent, given, Trees, no_trees, more, hole, MaybeTrees, no_list, listed, Atoms, type_of, span_of}
 use Rattle.jsgen_tree.specs.Nodes as tree
-use Rattle.jsgen_tree.specs.Values.{as_text, program_source, directive_directive, binding_identifier_name, identifier_reference_name, identifier_name_name, numeric_literal_kind, numeric_literal_text, big_int_literal_value, object_property_shorthand, object_property_computed}
+use Rattle.jsgen_tree.specs.Values.{as_text, program_source, directive_directive, binding_identifier_name, identifier_reference_name, identifier_name_name, numeric_literal_kind, numeric_literal_text, big_int_literal_value, object_property_shorthand, object_property_computed, static_member_expression_optional, computed_member_expression_optional, call_expression_optional}
 use Rattle.jsgen_model.specs.Numbers.{is_raw_number, is_big_integer}
 use Rattle.jsgen_model.specs.declared.fault.TreeFault.{TreeFault}
 use Rattle.jsgen_model.specs.declared.fault.TreeFault.TheVariants as faults
@@ -89,6 +89,11 @@ abbrev pub declaration_faults : Span → Trees → List TreeFault
 declaration_faults s no_trees = faults.Place s.start ∷ []
 declaration_faults s ts = []
 
+-- a sequence has two parts or more (ECMA-262, 13.16)
+abbrev pub sequence_faults : Span → Trees → List TreeFault
+sequence_faults s (more t (more u ts)) = []
+sequence_faults s ts = faults.Place s.start ∷ []
+
 -- what `if` and `else` are followed by is no lexical declaration (ECMA-262, 14.6)
 abbrev pub is_lexical_type : NodeType → Bool
 is_lexical_type types.VariableDeclaration = true
@@ -127,6 +132,23 @@ named_faults s (Some name) = fault_if (not (is_proto name)) (faults.Name s.start
 
 abbrev pub shorthand_faults : Bool → Tree → Tree → List TreeFault
 shorthand_faults shorthand key value = if shorthand && option_map_or is_proto (written_name_in key) false then named_faults (span_of value) (reference_in (without_parentheses value)) else []
+
+-- `super` is an expression that a link follows (ECMA-262, 13.3.7)
+abbrev pub is_super : NodeType → Bool
+is_super types.Super = true
+is_super type = false
+
+-- and no optional one
+abbrev pub super_faults : Bool → Tree → List TreeFault
+super_faults optional object = fault_if (optional && is_super (type_of object)) (faults.Place (span_of object).start)
+
+-- a chain has an optional link (ECMA-262, 13.3)
+abbrev pub chain_faults : Span → Tree → List TreeFault
+chain_faults s element = fault_if (not (has_optional_link element)) (faults.Place s.start)
+
+-- what is changed has none (ECMA-262, 13.3.1.1)
+abbrev pub target_faults : Tree → List TreeFault
+target_faults target = fault_if (has_optional_link target) (faults.Place (span_of target).start)
 
 -- offsets of the source don't fit 32 bits
 abbrev pub is_too_long : List ℕ → Bool
@@ -175,13 +197,15 @@ own_faults around (tree.numeric_literal a) = number_faults a.span (numeric_liter
 own_faults around (tree.big_int_literal a) = big_integer_faults a.span (big_int_literal_value a)
 own_faults around (tree.if_statement a test consequent alternate) = body_faults consequent ++ alternate_faults alternate
 own_faults around (tree.identifier_name a) = written_name_faults a.span (identifier_name_name a)
+own_faults around (tree.static_member a object property) = super_faults (static_member_expression_optional a) object
+own_faults around (tree.computed_member a object expression) = super_faults (computed_member_expression_optional a) object
+own_faults around (tree.call a callee arguments) = super_faults (call_expression_optional a) callee
+own_faults around (tree.chain a element) = chain_faults a.span element
+own_faults around (tree.update a argument) = target_faults argument
+own_faults around (tree.assignment a left right) = target_faults left
 own_faults around (tree.object_property a key value) = key_faults (object_property_computed a) key ++ shorthand_faults (object_property_shorthand a) key value
+own_faults around (tree.sequence a expressions) = sequence_faults a.span expressions
 own_faults around t = []
-
--- `super` is an expression that a link follows (ECMA-262, 13.3.7)
-abbrev pub is_super : NodeType → Bool
-is_super types.Super = true
-is_super type = false
 
 abbrev pub takes_super : NodeSet → Bool
 takes_super sets.Link = true
@@ -190,9 +214,20 @@ takes_super set = false
 abbrev pub may_stand : NodeSet → NodeType → Bool
 may_stand set type = in_set set type && (takes_super set || not (is_super type))
 
--- a child is of the set that its field asks for, and `super` only where it may be
+-- Links of which one is optional stand in a chain: as its expression, or before a further link. Of what is changed, its operation has the rule.
+abbrev pub takes_optional_link : NodeSet → Bool
+takes_optional_link sets.Link = true
+takes_optional_link sets.ChainElement = true
+takes_optional_link sets.SimpleAssignmentTarget = true
+takes_optional_link sets.AssignmentTarget = true
+takes_optional_link set = false
+
+abbrev pub link_faults : NodeSet → Tree → List TreeFault
+link_faults set t = fault_if (not (takes_optional_link set) && has_optional_link t) (faults.Place (span_of t).start)
+
+-- a child is of the set that its field asks for, and `super` and optional links only where they may be
 abbrev pub set_faults : NodeSet → Tree → List TreeFault
-set_faults set t = fault_if (not (may_stand set (type_of t))) (faults.Place (span_of t).start)
+set_faults set t = fault_if (not (may_stand set (type_of t))) (faults.Place (span_of t).start) ++ link_faults set t
 
 -- no field asks for a child that has no place
 abbrev pub place_faults : List ChildPlace → Tree → List TreeFault

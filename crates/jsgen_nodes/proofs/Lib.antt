@@ -6,5 +6,9 @@ pub mod Keys
 pub mod Operations
 pub mod Parts
 pub mod Prefixes
+pub mod Chains
 pub mod Constructions
 pub mod Updates
+pub mod Conditionals
+pub mod Enclosed
+pub mod Given

@@ -20,6 +20,7 @@ expression_part (expression.LogicalExpression b) = 0
 expression_part (expression.StaticMemberExpression b) = 0
 expression_part (expression.ComputedMemberExpression b) = 0
 expression_part (expression.CallExpression b) = 0
+expression_part (expression.ChainExpression b) = 0
 expression_part (expression.ArrayExpression b) = 1
 expression_part (expression.ObjectExpression b) = 1
 expression_part (expression.UnaryExpression b) = 2
@@ -27,6 +28,9 @@ expression_part (expression.NewTarget b) = 2
 expression_part (expression.UpdateExpression b) = 2
 expression_part (expression.NewExpression b) = 2
 expression_part (expression.Super b) = 2
+expression_part (expression.ConditionalExpression b) = 3
+expression_part (expression.SequenceExpression b) = 3
+expression_part (expression.AssignmentExpression b) = 3
 
 abbrev pub statement_part : {N : Type 0} → Statement N → ℕ
 statement_part (statement.Declaration b) = 0

@@ -1,12 +1,15 @@
 //! Print functions: one for each row, generic in the tree's recursive type, and one impl that ties the knot.
 #![tactic(auto)]
 
+mod assignments;
 mod blocks;
+mod choices;
 mod collections;
 mod expressions;
 mod links;
 mod operands;
 mod operators;
+mod sequences;
 mod sets;
 mod shapes;
 mod statements;

@@ -1,13 +1,13 @@
 // Members and calls (ECMA-262, 13.3), one function for each row.
 ghost use Rattle.std.specs.Prelude.{◌≡◌, map};
-ghost use Rattle.jsgen_syntax.specs.declared.precedence.Precedence.TheVariants.{Comma};
+ghost use Rattle.jsgen_syntax.specs.declared.precedence.Precedence.TheVariants.{Lowest, Comma};
 ghost use Rattle.jsgen_tree.specs.Tree.{trees};
 ghost use Rattle.jsgen_tree.specs.Characters.{characters};
-ghost use Rattle.jsgen_tree.specs.Rows.{identifier_name_row, static_member_expression_row, computed_member_expression_row, call_expression_row, spread_element_row, in_argument, in_expression};
-ghost use Rattle.jsgen_model.specs.Punctuator.{Round};
-ghost use Rattle.jsgen_model.specs.Items.{◌⊕◌, brackets, member_dot, name};
+ghost use Rattle.jsgen_tree.specs.Rows.{identifier_name_row, static_member_expression_row, computed_member_expression_row, call_expression_row, chain_expression_row, spread_element_row, in_argument, in_chain_element, in_expression};
+ghost use Rattle.jsgen_model.specs.Punctuator.{Round, Square};
+ghost use Rattle.jsgen_model.specs.Items.{◌⊕◌, brackets, name};
 ghost use Rattle.jsgen_model.specs.Layout.{layout};
-ghost use Rattle.jsgen_model.specs.Spell.{spell, spell_list, called, in_brackets};
+ghost use Rattle.jsgen_model.specs.Spell.{spell, spell_list, called, in_brackets, name_link, bracket_link};
 ghost use Rattle.jsgen_model.specs.Printing.{Reaches};
 ghost use Rattle.jsgen_printer.specs.Printer.{pen_of};
 ghost use Rattle.jsgen_place.specs.Place.{place_of};
@@ -20,7 +20,8 @@ use jsgen_place::Place;
 use jsgen_printer::{Bracket, Printer};
 use jsgen_syntax::{Memory, Precedence};
 use jsgen_tree::{
-    Argument, CallExpression, ComputedMemberExpression, IdentifierName, StaticMemberExpression,
+    Argument, CallExpression, ChainElement, ChainExpression, ComputedMemberExpression,
+    IdentifierName, StaticMemberExpression,
 };
 
 #[tactic(auto, unfolding(crate::specs::Place::pen_after))]
@@ -35,12 +36,39 @@ pub(crate) fn print_identifier_name(
     p.print_name(node.name.as_str())
 }
 
+// What stands before a member's name.
+fn print_name_link(optional: bool, p: &mut Printer) -> Result<(), Memory>
+    ensures { Reaches result (pen_of p.old) (pen_of p.new) (layout (name_link optional) (pen_of p.old)) }
+{
+    if optional {
+        p.print_question_dot()
+    } else {
+        p.print_member_dot()
+    }
+}
+
+// What stands before the brackets of a link.
+fn print_bracket_link(optional: bool, p: &mut Printer) -> Result<(), Memory>
+    ensures { Reaches result (pen_of p.old) (pen_of p.new) (layout (bracket_link optional) (pen_of p.old)) }
+{
+    if optional {
+        p.print_question_dot()
+    } else {
+        Ok(())
+    }
+}
+
 // Behind the object.
 #[tactic(auto, unfolding(crate::specs::Place::pen_after))]
-fn print_member_name(node: &IdentifierName, p: &mut Printer, place: Place) -> Result<(), Memory>
-    ensures { Reaches result (pen_of p.old) (pen_of p.new) (layout (member_dot ⊕ name (characters node.now.name)) (pen_of p.old)) }
+fn print_member_name(
+    optional: bool,
+    node: &IdentifierName,
+    p: &mut Printer,
+    place: Place,
+) -> Result<(), Memory>
+    ensures { Reaches result (pen_of p.old) (pen_of p.new) (layout (name_link optional ⊕ name (characters node.now.name)) (pen_of p.old)) }
 {
-    p.print_member_dot()?;
+    print_name_link(optional, p)?;
     print_identifier_name(node, p, place)
 }
 
@@ -55,7 +83,8 @@ pub fn print_static_member_expression<N: PrintNode>(
     node.object
         .get()
         .print(p, place.child(Precedence::Postfix))?;
-    print_member_name(&node.property, p, place.child(Precedence::Lowest))
+    let below = place.child(Precedence::Lowest);
+    print_member_name(node.optional, &node.property, p, below)
 }
 
 #[tactic(auto, unfolding(crate::specs::Place::pen_after))]
@@ -69,6 +98,20 @@ pub fn print_computed_member_expression<N: PrintNode>(
     node.object
         .get()
         .print(p, place.child(Precedence::Postfix))?;
+    print_computed_name(node, p, place)
+}
+
+// Behind the object.
+#[tactic(auto, unfolding(crate::specs::Place::pen_after))]
+fn print_computed_name<N: PrintNode>(
+    node: &ComputedMemberExpression<N>,
+    p: &mut Printer,
+    place: Place,
+) -> Result<(), Memory>
+    ensures { Reaches result (pen_of p.old) (pen_of p.new) (layout (bracket_link node.now.optional
+        ⊕ brackets Square (spell (in_expression N.plain node.now.expression) (in_brackets Lowest (place_of place (pen_of p.old))))) (pen_of p.old)) }
+{
+    print_bracket_link(node.optional, p)?;
     p.print_opening(Bracket::Square)?;
     node.expression
         .get()
@@ -98,12 +141,45 @@ fn print_call<N: PrintNode>(
     place: Place,
 ) -> Result<(), Memory>
     ensures { Reaches result (pen_of p.old) (pen_of p.new) (layout (spell (in_expression N.plain node.now.callee) (called (place_of place (pen_of p.old)))
-        ⊕ brackets Round (spell_list (trees (map (in_argument N.plain) node.now.arguments.items)) (in_brackets Comma (place_of place (pen_of p.old)))))
+        ⊕ (bracket_link node.now.optional ⊕ brackets Round (spell_list (trees (map (in_argument N.plain) node.now.arguments.items)) (in_brackets Comma (place_of place (pen_of p.old))))))
         (pen_of p.old)) }
 {
     node.callee.get().print(p, place.called())?;
+    print_bracket_link(node.optional, p)?;
     let within = Place::in_brackets(Precedence::Comma, place.settings);
     print_in_brackets::<_, Arguments>(Bracket::Round, &node.arguments, p, within)
+}
+
+#[tactic(auto, unfolding(crate::specs::Place::pen_after))]
+pub fn print_chain_expression<N: PrintNode>(
+    node: &ChainExpression<N>,
+    p: &mut Printer,
+    place: Place,
+) -> Result<(), Memory>
+    ensures { Reaches result (pen_of p.old) (pen_of p.new) (pen_after (chain_expression_row N.plain node.now) place p.old) }
+{
+    let wrap = place.wraps_chain();
+    p.print_opening_if(wrap)?;
+    print_chain_element(&node.expression, p, place.chain(wrap))?;
+    p.print_closing_if(wrap)
+}
+
+fn print_chain_element<N: PrintNode>(
+    node: &ChainElement<N>,
+    p: &mut Printer,
+    place: Place,
+) -> Result<(), Memory>
+    ensures { Reaches result (pen_of p.old) (pen_of p.new) (pen_after (in_chain_element N.plain node.now) place p.old) }
+{
+    match node {
+        ChainElement::StaticMemberExpression(node) => print_static_member_expression(
+            node, p, place,
+        ),
+        ChainElement::ComputedMemberExpression(node) => print_computed_member_expression(
+            node, p, place,
+        ),
+        ChainElement::CallExpression(node) => print_call_expression(node, p, place),
+    }
 }
 
 /// What a call or a constructor is given.

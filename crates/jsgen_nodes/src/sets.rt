@@ -8,7 +8,9 @@ ghost use Rattle.jsgen_nodes.specs.Place.{pen_after};
 ghost use Rattle.jsgen_nodes.specs.Parts.{expression_part, statement_part};
 
 use crate::PrintNode;
+use crate::assignments::print_assignment_expression;
 use crate::blocks::{print_block_statement, print_empty_statement, print_if_statement};
+use crate::choices::print_conditional_expression;
 use crate::collections::{print_array_expression, print_object_expression};
 use crate::expressions::{
     print_big_int_literal, print_binary_expression, print_boolean_literal,
@@ -17,12 +19,14 @@ use crate::expressions::{
     print_this_expression,
 };
 use crate::links::{
-    print_call_expression, print_computed_member_expression, print_static_member_expression,
+    print_call_expression, print_chain_expression, print_computed_member_expression,
+    print_static_member_expression,
 };
 use crate::operators::{
     print_new_expression, print_new_target, print_super, print_unary_expression,
     print_update_expression,
 };
+use crate::sequences::print_sequence_expression;
 use crate::statements::{
     print_binding_identifier, print_expression_statement, print_variable_declaration,
 };
@@ -54,6 +58,7 @@ pub fn print_expression<N: PrintNode>(
             node, p, place,
         ),
         Expression::CallExpression(node) => print_call_expression(node, p, place),
+        Expression::ChainExpression(node) => print_chain_expression(node, p, place),
         _ => print_expression_in_collections(node, p, place),
     }
 }
@@ -87,6 +92,22 @@ fn print_expression_in_operations<N: PrintNode>(
         Expression::UpdateExpression(node) => print_update_expression(node, p, place),
         Expression::NewExpression(node) => print_new_expression(node, p, place),
         Expression::Super(node) => print_super(node, p, place),
+        _ => print_expression_in_assignments(node, p, place),
+    }
+}
+
+fn print_expression_in_assignments<N: PrintNode>(
+    node: &Expression<N>,
+    p: &mut Printer,
+    place: Place,
+) -> Result<(), Memory>
+    requires { nat_le 3 (expression_part node.now) ≡ true }
+    ensures { Reaches result (pen_of p.old) (pen_of p.new) (pen_after (expression_plain N.plain node.now) place p.old) }
+{
+    match node {
+        Expression::ConditionalExpression(node) => print_conditional_expression(node, p, place),
+        Expression::SequenceExpression(node) => print_sequence_expression(node, p, place),
+        Expression::AssignmentExpression(node) => print_assignment_expression(node, p, place),
         _ => unreachable!(),
     }
 }

@@ -1,11 +1,11 @@
 // Generated from tools/nodes/table.txt; edit that and run tools/nodes/generate.
 // Rows of a job: operations of one operand, and `new` (ECMA-262, clause 13).
-ghost use Rattle.std.specs.Prelude.{◌≡◌, false};
+ghost use Rattle.std.specs.Prelude.{◌≡◌, true};
 ghost use Rattle.serde_json.specs.View.{view};
 ghost use Rattle.jsgen_tree.specs.Fields.{unary_expression_fields, new_target_fields, update_expression_fields, new_expression_fields, super_fields};
 ghost use Rattle.jsgen_fields.specs.Reads.{Gives, read_node, read_typed};
 ghost use Rattle.jsgen_fields.specs.Kept.{entries, row_plain};
-ghost use Rattle.jsgen_fields.specs.Parts.{is_in_statements, is_in_expressions, is_in_collections};
+ghost use Rattle.jsgen_fields.specs.Parts.{is_in_operations};
 ghost use Rattle.jsgen_tree.specs.declared.types.NodeType.TheVariants as types;
 
 use jsgen_fields::InputFault;
@@ -177,9 +177,7 @@ pub fn read_in_operations<N: ReadNode + Drop>(
     span: Span,
     row: &Value,
 ) -> Result<Row<N>, InputFault>
-    requires not_in_statements { is_in_statements node_type ≡ false }
-    requires not_in_expressions { is_in_expressions node_type ≡ false }
-    requires not_in_collections { is_in_collections node_type ≡ false }
+    requires { is_in_operations node_type ≡ true }
     ensures { Gives (row_plain N.plain) result (entries N.plain kept.new.items)
         (read_typed number node_type span (view row.now) (entries N.plain kept.old.items)) }
 {

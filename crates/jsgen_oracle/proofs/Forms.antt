@@ -6,13 +6,13 @@ use Rattle.jsgen_syntax.specs.declared.operator.LogicalOperator.{LogicalOperator
 use Rattle.jsgen_syntax.specs.declared.operator.LogicalOperator.TheVariants as operators
 use Rattle.jsgen_tree.specs.Nodes as tree
 use Rattle.jsgen_tree.specs.Values.{logical_expression_operator}
-use Rattle.jsgen_model.specs.Normal.{normal, normal_trees, joined, links, unbraced}
+use Rattle.jsgen_model.specs.Normal.{normal, normal_trees, joined, links, parts_of, flattened, unbraced}
 use Rattle.jsgen_oracle.specs.declared.form.Value.{Value}
 use Rattle.jsgen_oracle.specs.declared.form.Value.TheVariants as values
 use Rattle.jsgen_tree.specs.declared.types.NodeType.{NodeType}
 use Rattle.jsgen_tree.specs.declared.types.NodeType.TheVariants as types
 use Rattle.jsgen_tree.specs.Inside.{ends_open}
-use Rattle.jsgen_tree.specs.Tree.{Atoms, Tree, node, Slots, no_slots, many, trees, holed, no_trees, more, hole}
+use Rattle.jsgen_tree.specs.Tree.{Trees, Atoms, Tree, node, Slots, no_slots, many, trees, holed, no_trees, more, hole}
 use Rattle.jsgen_tree.specs.Places.{bare}
 use Rattle.std.specs.declared.alloc.Global.{Global}
 use Rattle.jsgen_tree.proofs.Layers.{map_after, with_hole}
@@ -86,6 +86,37 @@ pub joined_lists : (fs gs : List Form) → forms_plain (fs ++ gs) ≡ joined (fo
 joined_lists [] gs = refl
 joined_lists (f ∷ fs) gs = ap (more (form_plain f)) (joined_lists fs gs)
 
+-- ---- sequences
+
+joined_nothing : (ts : Trees) → joined ts no_trees ≡ ts
+joined_nothing no_trees = refl
+joined_nothing (more t ts) = ap (more t) (joined_nothing ts)
+joined_nothing (hole ts) = ap (λ us. hole us) (joined_nothing ts)
+
+joined_assoc : (a b c : Trees) → joined (joined a b) c ≡ joined a (joined b c)
+joined_assoc no_trees b c = refl
+joined_assoc (more t ts) b c = ap (more t) (joined_assoc ts b c)
+joined_assoc (hole ts) b c = ap (λ us. hole us) (joined_assoc ts b c)
+
+-- the parts of the trees so far
+abbrev pub parts_by : {A : Type 0} → (A → Tree) → List A → Trees
+parts_by f xs = flattened (normal_trees (trees (map f xs)))
+
+flattened_behind : {A : Type 0} (f : A → Tree) (xs ys : List A) → parts_by f (xs ++ ys) ≡ joined (parts_by f xs) (parts_by f ys)
+flattened_behind f [] ys = refl
+flattened_behind f (x ∷ xs) ys = ap (λ us. joined (parts_of (normal (f x))) us) (flattened_behind f xs ys) ∙ sym (joined_assoc (parts_of (normal (f x))) (parts_by f xs) (parts_by f ys))
+
+-- the parts of one tree more
+pub one_more_parts : {A : Type 0} (f : A → Tree) (xs : List A) (i : ℕ) (x : A) (fs gs hs : List Form) → i < length xs → x ≡ get_or xs i x → forms_plain gs ≡ parts_of (normal (f x)) → hs ≡ fs ++ gs → forms_plain fs ≡ parts_by f (take i xs) → forms_plain hs ≡ parts_by f (take (i + 1) xs)
+one_more_parts f xs i x fs gs hs below is h made so_far =
+    let last : forms_plain gs ≡ parts_by f (get_or xs i x ∷ []) = h ∙ (ap (λ y. parts_of (normal (f y))) is ∙ sym (joined_nothing (parts_of (normal (f (get_or xs i x)))))) in
+    let front : take (i + 1) xs ≡ take i xs ++ (get_or xs i x ∷ []) = take_more xs i x below in
+    ap forms_plain made ∙ (joined_lists fs gs ∙ ((λ j. joined (so_far j) (last j)) ∙ (sym (flattened_behind f (take i xs) (get_or xs i x ∷ [])) ∙ sym (ap (λ ys. parts_by f ys) front))))
+
+-- the parts of all trees
+pub whole_parts : {A : Type 0} (f : A → Tree) (xs : List A) (i : ℕ) (fs : List Form) → length xs ≤ i → forms_plain fs ≡ parts_by f (take i xs) → forms_plain fs ≡ flattened (normal_trees (trees (map f xs)))
+whole_parts f xs i fs all e = e ∙ ap (λ ys. parts_by f ys) (take_all i xs all)
+
 -- ---- what is no list of that type
 
 pub other_links : (o : LogicalOperator) (t : NodeType) (a : Atoms) (s : Slots) → (t ≡ types.LogicalExpression → ⊥) → links o (node t a s) ≡ more (node t a s) no_trees
@@ -106,6 +137,25 @@ no_list_links o a (slots.Holed os ∷ slots.Many g ∷ ss) n = refl
 no_list_links o a (slots.Holed os ∷ slots.Holed g ∷ ss) n = refl
 no_list_links o a (slots.One f ∷ ss) n = refl
 no_list_links o a (slots.Maybe f ∷ ss) n = refl
+
+pub other_parts : (t : NodeType) (a : Atoms) (s : Slots) → (t ≡ types.SequenceExpression → ⊥) → parts_of (node t a s) ≡ more (node t a s) no_trees
+other_parts types.SequenceExpression a s n = absurd (n refl)
+other_parts t a s n = refl
+
+pub no_list_parts : (a : Atoms) (ss : List (Slot Form)) → is_list ss ≡ false → parts_of (node types.SequenceExpression a (slots_plain ss)) ≡ more (node types.SequenceExpression a (slots_plain ss)) no_trees
+no_list_parts a [] n = refl
+no_list_parts a (slots.Many fs ∷ []) n = absurd (both_ways true n refl)
+no_list_parts a (slots.Many fs ∷ slots.One g ∷ ss) n = refl
+no_list_parts a (slots.Many fs ∷ slots.Maybe g ∷ ss) n = refl
+no_list_parts a (slots.Many fs ∷ slots.Many g ∷ ss) n = refl
+no_list_parts a (slots.Many fs ∷ slots.Holed g ∷ ss) n = refl
+no_list_parts a (slots.Holed os ∷ []) n = absurd (both_ways true n refl)
+no_list_parts a (slots.Holed os ∷ slots.One g ∷ ss) n = refl
+no_list_parts a (slots.Holed os ∷ slots.Maybe g ∷ ss) n = refl
+no_list_parts a (slots.Holed os ∷ slots.Many g ∷ ss) n = refl
+no_list_parts a (slots.Holed os ∷ slots.Holed g ∷ ss) n = refl
+no_list_parts a (slots.One f ∷ ss) n = refl
+no_list_parts a (slots.Maybe f ∷ ss) n = refl
 
 pub other_unbraced : (t : NodeType) (a : Atoms) (s : Slots) → (t ≡ types.BlockStatement → ⊥) → unbraced (node t a s) ≡ node t a s
 other_unbraced types.BlockStatement a s n = absurd (n refl)
@@ -263,3 +313,11 @@ operation_without_list o f e n =
 
 pub no_operation : (o : LogicalOperator) (f : Form) → ((out-Form f).node_type ≡ types.LogicalExpression → ⊥) → links o (form_plain f) ≡ more (form_plain f) no_trees
 no_operation o f n = ap (links o) (plain_out f) ∙ (other_links o (out-Form f).node_type (bare (map value_plain (out-Form f).values.items)) (slots_plain (out-Form f).slots.items) n ∙ ap (λ t. more t no_trees) (sym (plain_out f)))
+
+pub sequence_without_list : (f : Form) → (out-Form f).node_type ≡ types.SequenceExpression → is_list (out-Form f).slots.items ≡ false → parts_of (form_plain f) ≡ more (form_plain f) no_trees
+sequence_without_list f e n =
+    let same = as_type f types.SequenceExpression e in
+    ap parts_of same ∙ (no_list_parts (bare (map value_plain (out-Form f).values.items)) (out-Form f).slots.items n ∙ ap (λ t. more t no_trees) (sym same))
+
+pub no_sequence : (f : Form) → ((out-Form f).node_type ≡ types.SequenceExpression → ⊥) → parts_of (form_plain f) ≡ more (form_plain f) no_trees
+no_sequence f n = ap parts_of (plain_out f) ∙ (other_parts (out-Form f).node_type (bare (map value_plain (out-Form f).values.items)) (slots_plain (out-Form f).slots.items) n ∙ ap (λ t. more t no_trees) (sym (plain_out f)))

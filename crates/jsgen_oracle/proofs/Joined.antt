@@ -13,10 +13,12 @@ use Rattle.jsgen_syntax.specs.declared.operator.UnaryOperator.{UnaryOperator}
 use Rattle.jsgen_syntax.specs.declared.operator.UnaryOperator.TheVariants as unary_operators
 use Rattle.jsgen_syntax.specs.declared.operator.UpdateOperator.{UpdateOperator}
 use Rattle.jsgen_syntax.specs.declared.operator.UpdateOperator.TheVariants as update_operators
+use Rattle.jsgen_syntax.specs.declared.operator.AssignmentOperator.{AssignmentOperator}
+use Rattle.jsgen_syntax.specs.declared.operator.AssignmentOperator.TheVariants as assignment_operators
 use Rattle.jsgen_tree.specs.Tree.{Tree, Trees}
-use Rattle.jsgen_model.specs.Punctuator.{dot, ellipsis, comma, equal, star_star, and_and, or_or, nullish, semicolon, Round, Square, Brace}
+use Rattle.jsgen_model.specs.Punctuator.{dot, question_dot, ellipsis, comma, equal, star_star, and_and, or_or, nullish, question, colon, semicolon, Round, Square, Brace}
 use Rattle.jsgen_model.specs.Tokens.{Tokens, done, piece, group, ◌⧺◌, Word, Quoted, Sign, longer_stands, AreTokensOf}
-use Rattle.jsgen_model.specs.Grammar.{Allowed, Level, operator_piece, ReadsExpression, ReadsElement, ReadsArguments, ReadsArgumentList, ReadsBinding, ReadsDeclarator, ReadsDeclarators, ReadsDeclaration, EndsBy, ReadsStatement, ReadsItem, ReadsStatements, ReadsBody, ReadsModule, a_module, unary_piece, update_sign}
+use Rattle.jsgen_model.specs.Grammar.{Allowed, Level, operator_piece, ReadsExpression, ReadsParts, ReadsElement, ReadsArguments, ReadsArgumentList, ReadsBinding, ReadsDeclarator, ReadsDeclarators, ReadsDeclaration, EndsBy, ReadsStatement, ReadsItem, ReadsStatements, ReadsBody, ReadsModule, a_module, unary_piece, update_sign, assignment_sign}
 use Rattle.jsgen_model.specs.Grammar as grammar
 use Rattle.jsgen_token_laws.proofs.Plain.{all_plain}
 use Rattle.jsgen_token_laws.proofs.OneList.{one_token_list}
@@ -72,6 +74,24 @@ update_joined : (o : UpdateOperator) (m : Bool) (b : Tokens) → is_joined b ≡
 update_joined update_operators.Increment m b h = h
 update_joined update_operators.Decrement m b h = h
 
+assignment_joined : (o : AssignmentOperator) (m : Bool) (b : Tokens) → is_joined b ≡ true → is_joined (piece m (Sign (assignment_sign o)) b) ≡ true
+assignment_joined assignment_operators.Assign m b h = h
+assignment_joined assignment_operators.Addition m b h = h
+assignment_joined assignment_operators.Subtraction m b h = h
+assignment_joined assignment_operators.Multiplication m b h = h
+assignment_joined assignment_operators.Division m b h = h
+assignment_joined assignment_operators.Remainder m b h = h
+assignment_joined assignment_operators.Exponential m b h = h
+assignment_joined assignment_operators.ShiftLeft m b h = h
+assignment_joined assignment_operators.ShiftRight m b h = h
+assignment_joined assignment_operators.ShiftRightZeroFill m b h = h
+assignment_joined assignment_operators.BitwiseOR m b h = h
+assignment_joined assignment_operators.BitwiseXOR m b h = h
+assignment_joined assignment_operators.BitwiseAnd m b h = h
+assignment_joined assignment_operators.LogicalOr m b h = h
+assignment_joined assignment_operators.LogicalAnd m b h = h
+assignment_joined assignment_operators.LogicalNullish m b h = h
+
 given_from : (ts : Tokens) → starts_well ts ≡ true → may_be_given ts ≡ true
 given_from ts h = given ts (element_from ts h)
 
@@ -93,63 +113,84 @@ arguments_start grammar.no_argument = refl
 arguments_start (grammar.some_arguments {ts = ts} r) = given ts (list_starts r)
 arguments_start (grammar.with_last_comma {a = a} m e r) = subst (λ x. may_be_given x ≡ true) (sym e) (given (a ⧺ piece m (Sign comma) done) (element_further m a done (list_starts r)))
 
-expression_joined : {c : Allowed} {l : Level} {ts : Tokens} {t : Tree} → ReadsExpression c l ts t → is_joined ts ≡ true
-expression_joined (grammar.an_assignment r) = expression_joined r
-expression_joined (grammar.a_conditional r) = expression_joined r
-expression_joined (grammar.a_short_circuit r) = expression_joined r
-expression_joined (grammar.a_logical_or r) = expression_joined r
-expression_joined (grammar.a_logical_and r) = expression_joined r
-expression_joined (grammar.a_bit_or r) = expression_joined r
-expression_joined (grammar.a_bit_xor r) = expression_joined r
-expression_joined (grammar.a_bit_and r) = expression_joined r
-expression_joined (grammar.an_equality r) = expression_joined r
-expression_joined (grammar.a_relation r) = expression_joined r
-expression_joined (grammar.a_shift r) = expression_joined r
-expression_joined (grammar.an_additive r) = expression_joined r
-expression_joined (grammar.a_multiplicative r) = expression_joined r
-expression_joined (grammar.an_exponent r) = expression_joined r
-expression_joined (grammar.a_unary r) = expression_joined r
-expression_joined (grammar.an_update r) = expression_joined r
-expression_joined (grammar.a_left_hand_side r) = expression_joined r
-expression_joined (grammar.a_new r) = expression_joined r
-expression_joined (grammar.a_call r) = expression_joined r
-expression_joined (grammar.a_member r) = expression_joined r
-expression_joined (grammar.a_primary r) = expression_joined r
-expression_joined (grammar.a_called_member r) = expression_joined r
-expression_joined (grammar.a_called_call r) = expression_joined r
-expression_joined (grammar.a_coalesce r) = expression_joined r
-expression_joined (grammar.a_coalesced_head r) = expression_joined r
-expression_joined (grammar.a_bit_or_head r) = expression_joined r
-expression_joined (grammar.a_named_member w m n e v r) = made _ _ (piece m (Sign dot) (piece n (Word _) done)) e (expression_joined r) refl
-expression_joined (grammar.a_named_member_of_call w m n e v r) = made _ _ (piece m (Sign dot) (piece n (Word _) done)) e (expression_joined r) refl
-expression_joined (grammar.a_computed_member m e r s) = made _ _ (group m Square _ done) e (expression_joined r) refl
-expression_joined (grammar.a_computed_member_of_call m e r s) = made _ _ (group m Square _ done) e (expression_joined r) refl
-expression_joined (grammar.with_arguments {inside = i} m e r s) = made _ _ (group m Round i done) e (expression_joined r) (and_from (may_be_given i) true (arguments_start s) refl)
-expression_joined (grammar.an_operation o m p q e l r) = made _ _ (piece m (operator_piece o) _) e (expression_joined l) (operator_joined o m _ (expression_joined r))
-expression_joined (grammar.a_power m e l r) = made _ _ (piece m (Sign star_star) _) e (expression_joined l) (expression_joined r)
-expression_joined (grammar.a_conjunction m e l r) = made _ _ (piece m (Sign and_and) _) e (expression_joined l) (expression_joined r)
-expression_joined (grammar.a_disjunction m e l r) = made _ _ (piece m (Sign or_or) _) e (expression_joined l) (expression_joined r)
-expression_joined (grammar.a_coalescing m e l r) = made _ _ (piece m (Sign nullish) _) e (expression_joined l) (expression_joined r)
-expression_joined (grammar.a_unary_operation {mark = m} o r) = unary_joined o m _ (expression_joined r)
-expression_joined (grammar.an_update_before {mark = m} {ts = ts} o r s) = update_joined o m ts (expression_joined r)
-expression_joined (grammar.an_update_behind {a = a} o e r s) = made _ a (piece false (Sign (update_sign o)) done) e (expression_joined r) (update_joined o false done refl)
-expression_joined (grammar.new_with_arguments {a = a} {inside = i} m n e r s) = made _ a (group n Round i done) e (expression_joined r) (and_from (may_be_given i) true (arguments_start s) refl)
-expression_joined (grammar.new_alone r) = expression_joined r
-expression_joined (grammar.a_named_member_of_super w m n l e) = refl
-expression_joined (grammar.a_computed_member_of_super r) = refl
-expression_joined (grammar.a_call_of_super {inside = i} s) = and_from (may_be_given i) true (arguments_start s) refl
-expression_joined grammar.a_new_target = refl
-expression_joined (grammar.a_reference e h) = refl
-expression_joined grammar.a_this = refl
-expression_joined grammar.a_null = refl
-expression_joined grammar.a_true = refl
-expression_joined grammar.a_false = refl
-expression_joined (grammar.a_number h) = refl
-expression_joined (grammar.a_big_integer e) = refl
-expression_joined (grammar.a_string e) = refl
-expression_joined (grammar.in_parentheses {ts = ts} r) = and_from (may_be_given ts) true (given_from ts (expression_starts r)) refl
-expression_joined (grammar.an_array r) = refl
-expression_joined (grammar.an_object r) = refl
+mutual
+  expression_joined : {c : Allowed} {l : Level} {ts : Tokens} {t : Tree} → ReadsExpression c l ts t → is_joined ts ≡ true
+  expression_joined (grammar.an_assignment r) = expression_joined r
+  expression_joined (grammar.a_sequence m e r s) = made _ _ (piece m (Sign comma) _) e (expression_joined r) (parts_joined s)
+  expression_joined (grammar.an_assignment_to o m e r s w) = made _ _ (piece m (Sign (assignment_sign o)) _) e (expression_joined r) (assignment_joined o m _ (expression_joined w))
+  expression_joined (grammar.a_conditional r) = expression_joined r
+  expression_joined (grammar.a_short_circuit r) = expression_joined r
+  expression_joined (grammar.a_logical_or r) = expression_joined r
+  expression_joined (grammar.a_logical_and r) = expression_joined r
+  expression_joined (grammar.a_bit_or r) = expression_joined r
+  expression_joined (grammar.a_bit_xor r) = expression_joined r
+  expression_joined (grammar.a_bit_and r) = expression_joined r
+  expression_joined (grammar.an_equality r) = expression_joined r
+  expression_joined (grammar.a_relation r) = expression_joined r
+  expression_joined (grammar.a_shift r) = expression_joined r
+  expression_joined (grammar.an_additive r) = expression_joined r
+  expression_joined (grammar.a_multiplicative r) = expression_joined r
+  expression_joined (grammar.an_exponent r) = expression_joined r
+  expression_joined (grammar.a_unary r) = expression_joined r
+  expression_joined (grammar.an_update r) = expression_joined r
+  expression_joined (grammar.a_left_hand_side r) = expression_joined r
+  expression_joined (grammar.a_new r) = expression_joined r
+  expression_joined (grammar.a_call r) = expression_joined r
+  expression_joined (grammar.a_member r) = expression_joined r
+  expression_joined (grammar.a_primary r) = expression_joined r
+  expression_joined (grammar.a_called_member r) = expression_joined r
+  expression_joined (grammar.a_called_call r) = expression_joined r
+  expression_joined (grammar.a_coalesce r) = expression_joined r
+  expression_joined (grammar.a_coalesced_head r) = expression_joined r
+  expression_joined (grammar.a_bit_or_head r) = expression_joined r
+  expression_joined (grammar.a_named_member w m n e v r) = made _ _ (piece m (Sign dot) (piece n (Word _) done)) e (expression_joined r) refl
+  expression_joined (grammar.a_named_member_of_call w m n e v r) = made _ _ (piece m (Sign dot) (piece n (Word _) done)) e (expression_joined r) refl
+  expression_joined (grammar.a_computed_member m e r s) = made _ _ (group m Square _ done) e (expression_joined r) refl
+  expression_joined (grammar.a_computed_member_of_call m e r s) = made _ _ (group m Square _ done) e (expression_joined r) refl
+  expression_joined (grammar.with_arguments {inside = i} m e r s) = made _ _ (group m Round i done) e (expression_joined r) (and_from (may_be_given i) true (arguments_start s) refl)
+  expression_joined (grammar.an_operation o m p q e l r) = made _ _ (piece m (operator_piece o) _) e (expression_joined l) (operator_joined o m _ (expression_joined r))
+  expression_joined (grammar.a_power m e l r) = made _ _ (piece m (Sign star_star) _) e (expression_joined l) (expression_joined r)
+  expression_joined (grammar.a_conjunction m e l r) = made _ _ (piece m (Sign and_and) _) e (expression_joined l) (expression_joined r)
+  expression_joined (grammar.a_disjunction m e l r) = made _ _ (piece m (Sign or_or) _) e (expression_joined l) (expression_joined r)
+  expression_joined (grammar.a_coalescing m e l r) = made _ _ (piece m (Sign nullish) _) e (expression_joined l) (expression_joined r)
+  expression_joined (grammar.a_choice {b = b} {d = d} m n e r s t) = made _ _ (piece m (Sign question) (b ⧺ piece n (Sign colon) d)) e (expression_joined r) (behind b (piece n (Sign colon) d) (expression_joined s) (expression_joined t))
+  expression_joined (grammar.a_unary_operation {mark = m} o r) = unary_joined o m _ (expression_joined r)
+  expression_joined (grammar.an_update_before {mark = m} {ts = ts} o r s) = update_joined o m ts (expression_joined r)
+  expression_joined (grammar.an_update_behind {a = a} o e r s) = made _ a (piece false (Sign (update_sign o)) done) e (expression_joined r) (update_joined o false done refl)
+  expression_joined (grammar.new_with_arguments {a = a} {inside = i} m n e r s) = made _ a (group n Round i done) e (expression_joined r) (and_from (may_be_given i) true (arguments_start s) refl)
+  expression_joined (grammar.new_alone r) = expression_joined r
+  expression_joined (grammar.a_named_member_of_super w m n l e) = refl
+  expression_joined (grammar.a_computed_member_of_super r) = refl
+  expression_joined (grammar.a_call_of_super {inside = i} s) = and_from (may_be_given i) true (arguments_start s) refl
+  expression_joined grammar.a_new_target = refl
+  expression_joined (grammar.a_reference e h) = refl
+  expression_joined grammar.a_this = refl
+  expression_joined grammar.a_null = refl
+  expression_joined grammar.a_true = refl
+  expression_joined grammar.a_false = refl
+  expression_joined (grammar.a_number h) = refl
+  expression_joined (grammar.a_big_integer e) = refl
+  expression_joined (grammar.a_string e) = refl
+  expression_joined (grammar.in_parentheses {ts = ts} r) = and_from (may_be_given ts) true (given_from ts (expression_starts r)) refl
+  expression_joined (grammar.an_optional_chain r) = chain_joined r
+  expression_joined (grammar.an_array r) = refl
+  expression_joined (grammar.an_object r) = refl
+
+  parts_joined : {c : Allowed} {ts : Tokens} {us : Trees} → ReadsParts c ts us → is_joined ts ≡ true
+  parts_joined (grammar.last_part r) = expression_joined r
+  parts_joined (grammar.first_part m e r s) = made _ _ (piece m (Sign comma) _) e (expression_joined r) (parts_joined s)
+
+  chain_joined : {c : Allowed} {ts : Tokens} {t : Tree} → ReadsChain c ts t → is_joined ts ≡ true
+  chain_joined (grammar.an_optional_named_member w m n e v r) = made _ _ (piece m (Sign question_dot) (piece n (Word _) done)) e (base_joined r) refl
+  chain_joined (grammar.an_optional_computed_member m n e r s) = made _ _ (piece m (Sign question_dot) (group n Square _ done)) e (base_joined r) refl
+  chain_joined (grammar.an_optional_call {inside = i} m n e r s) = made _ _ (piece m (Sign question_dot) (group n Round i done)) e (base_joined r) (and_from (may_be_given i) true (arguments_start s) refl)
+  chain_joined (grammar.a_further_named_member w m n e v r) = made _ _ (piece m (Sign dot) (piece n (Word _) done)) e (chain_joined r) refl
+  chain_joined (grammar.a_further_computed_member m e r s) = made _ _ (group m Square _ done) e (chain_joined r) refl
+  chain_joined (grammar.a_further_call {inside = i} m e r s) = made _ _ (group m Round i done) e (chain_joined r) (and_from (may_be_given i) true (arguments_start s) refl)
+
+  base_joined : {c : Allowed} {ts : Tokens} {t : Tree} → ReadsChainBase c ts t → is_joined ts ≡ true
+  base_joined (grammar.a_first_link r) = expression_joined r
+  base_joined (grammar.a_further_link r) = chain_joined r
 
 binding_joined : {c : Allowed} {ts : Tokens} {t : Tree} → ReadsBinding c ts t → is_joined ts ≡ true
 binding_joined (grammar.a_bound_name e h) = refl

@@ -18,11 +18,13 @@ use Rattle.jsgen_syntax.specs.declared.operator.UnaryOperator.{UnaryOperator}
 use Rattle.jsgen_syntax.specs.declared.operator.UnaryOperator.TheVariants as unary_operators
 use Rattle.jsgen_syntax.specs.declared.operator.UpdateOperator.{UpdateOperator}
 use Rattle.jsgen_syntax.specs.declared.operator.UpdateOperator.TheVariants as update_operators
+use Rattle.jsgen_syntax.specs.declared.operator.AssignmentOperator.{AssignmentOperator}
+use Rattle.jsgen_syntax.specs.declared.operator.AssignmentOperator.TheVariants as assignment_operators
 use Rattle.jsgen_tree.specs.Tree.{Tree, Trees}
-use Rattle.jsgen_model.specs.Punctuator.{Punctuator, dot, plus, minus, plus_plus, minus_minus, bang, tilde, star_star, and_and, or_or, nullish, semicolon, Bracket, Round, Square, Brace, opening, closing}
+use Rattle.jsgen_model.specs.Punctuator.{Punctuator, dot, question_dot, plus, minus, plus_plus, minus_minus, bang, tilde, comma, star_star, and_and, or_or, nullish, question, semicolon, Bracket, Round, Square, Brace, opening, closing}
 use Rattle.jsgen_model.specs.Numbers.{spells_number}
 use Rattle.jsgen_model.specs.Tokens.{Tokens, done, piece, group, ◌⧺◌, Piece, Word, Number, Quoted, Sign, piece_text, is_blank, longer_stands, longer_number_stands, AreTokensOf}
-use Rattle.jsgen_model.specs.Grammar.{Allowed, Level, operator_piece, unary_piece, update_sign, ReadsExpression, ReadsBinding, ReadsDeclarator, ReadsDeclarators, ReadsDeclaration, EndsBy, ReadsStatement, ReadsItem, ReadsStatements, ReadsBody, ReadsModule, a_module}
+use Rattle.jsgen_model.specs.Grammar.{Allowed, Level, operator_piece, unary_piece, update_sign, assignment_sign, ReadsExpression, ReadsBinding, ReadsDeclarator, ReadsDeclarators, ReadsDeclaration, EndsBy, ReadsStatement, ReadsItem, ReadsStatements, ReadsBody, ReadsModule, a_module}
 use Rattle.jsgen_model.specs.Grammar as grammar
 use Rattle.jsgen_token_laws.proofs.Characters.{any_append}
 use Rattle.jsgen_token_laws.proofs.Plain.{all_plain}
@@ -219,6 +221,24 @@ update_goes : (o : UpdateOperator) (m : Bool) → goes_on (piece m (Sign (update
 update_goes update_operators.Increment m = refl
 update_goes update_operators.Decrement m = refl
 
+assignment_joins : (o : AssignmentOperator) (m : Bool) (b : Tokens) → goes_on (piece m (Sign (assignment_sign o)) b) ≡ true
+assignment_joins assignment_operators.Assign m b = refl
+assignment_joins assignment_operators.Addition m b = refl
+assignment_joins assignment_operators.Subtraction m b = refl
+assignment_joins assignment_operators.Multiplication m b = refl
+assignment_joins assignment_operators.Division m b = refl
+assignment_joins assignment_operators.Remainder m b = refl
+assignment_joins assignment_operators.Exponential m b = refl
+assignment_joins assignment_operators.ShiftLeft m b = refl
+assignment_joins assignment_operators.ShiftRight m b = refl
+assignment_joins assignment_operators.ShiftRightZeroFill m b = refl
+assignment_joins assignment_operators.BitwiseOR m b = refl
+assignment_joins assignment_operators.BitwiseXOR m b = refl
+assignment_joins assignment_operators.BitwiseAnd m b = refl
+assignment_joins assignment_operators.LogicalOr m b = refl
+assignment_joins assignment_operators.LogicalAnd m b = refl
+assignment_joins assignment_operators.LogicalNullish m b = refl
+
 -- what goes on behind an operand
 pub joined : (ts a b : Tokens) → goes_on b ≡ true → ts ≡ a ⧺ b → starts_well a ≡ true → starts_well ts ≡ true
 joined ts a b j e h = subst (λ x. starts_well x ≡ true) (sym e) (starts_further a b j h)
@@ -229,63 +249,80 @@ element_goes m done ts h = absurd (both_ways false refl h)
 element_goes m (piece n p us) ts h = refl
 element_goes m (group n b i us) ts h = refl
 
-pub expression_starts : {c : Allowed} {l : Level} {ts : Tokens} {t : Tree} → ReadsExpression c l ts t → starts_well ts ≡ true
-expression_starts (grammar.an_assignment r) = expression_starts r
-expression_starts (grammar.a_conditional r) = expression_starts r
-expression_starts (grammar.a_short_circuit r) = expression_starts r
-expression_starts (grammar.a_logical_or r) = expression_starts r
-expression_starts (grammar.a_logical_and r) = expression_starts r
-expression_starts (grammar.a_bit_or r) = expression_starts r
-expression_starts (grammar.a_bit_xor r) = expression_starts r
-expression_starts (grammar.a_bit_and r) = expression_starts r
-expression_starts (grammar.an_equality r) = expression_starts r
-expression_starts (grammar.a_relation r) = expression_starts r
-expression_starts (grammar.a_shift r) = expression_starts r
-expression_starts (grammar.an_additive r) = expression_starts r
-expression_starts (grammar.a_multiplicative r) = expression_starts r
-expression_starts (grammar.an_exponent r) = expression_starts r
-expression_starts (grammar.a_unary r) = expression_starts r
-expression_starts (grammar.an_update r) = expression_starts r
-expression_starts (grammar.a_left_hand_side r) = expression_starts r
-expression_starts (grammar.a_new r) = expression_starts r
-expression_starts (grammar.a_call r) = expression_starts r
-expression_starts (grammar.a_member r) = expression_starts r
-expression_starts (grammar.a_primary r) = expression_starts r
-expression_starts (grammar.a_called_member r) = expression_starts r
-expression_starts (grammar.a_called_call r) = expression_starts r
-expression_starts (grammar.a_named_member w m n e v r) = joined _ _ (piece m (Sign dot) _) refl e (expression_starts r)
-expression_starts (grammar.a_computed_member {inside = i} m e r s) = joined _ _ (group m Square i done) (element_goes m i done (expression_starts s)) e (expression_starts r)
-expression_starts (grammar.with_arguments m e r s) = joined _ _ (group m Round _ done) refl e (expression_starts r)
-expression_starts (grammar.a_named_member_of_call w m n e v r) = joined _ _ (piece m (Sign dot) _) refl e (expression_starts r)
-expression_starts (grammar.a_computed_member_of_call {inside = i} m e r s) = joined _ _ (group m Square i done) (element_goes m i done (expression_starts s)) e (expression_starts r)
-expression_starts (grammar.an_operation o m p q e l r) = joined _ _ (piece m (operator_piece o) _) (operator_joins o m _) e (expression_starts l)
-expression_starts (grammar.a_power m e l r) = joined _ _ (piece m (Sign star_star) _) refl e (expression_starts l)
-expression_starts (grammar.a_conjunction m e l r) = joined _ _ (piece m (Sign and_and) _) refl e (expression_starts l)
-expression_starts (grammar.a_disjunction m e l r) = joined _ _ (piece m (Sign or_or) _) refl e (expression_starts l)
-expression_starts (grammar.a_coalesce r) = expression_starts r
-expression_starts (grammar.a_coalescing m e l r) = joined _ _ (piece m (Sign nullish) _) refl e (expression_starts l)
-expression_starts (grammar.a_coalesced_head r) = expression_starts r
-expression_starts (grammar.a_bit_or_head r) = expression_starts r
-expression_starts (grammar.a_unary_operation {mark = m} o r) = unary_starts o m _ (expression_starts r)
-expression_starts (grammar.an_update_before {mark = m} {ts = ts} o r s) = update_starts o m ts (expression_starts r)
-expression_starts (grammar.an_update_behind {a = a} o e r s) = joined _ a (piece false (Sign (update_sign o)) done) (update_goes o false) e (expression_starts r)
-expression_starts (grammar.new_with_arguments {a = a} m n e r s) = or_right _ _ (joined _ a (group n Round _ done) refl e (expression_starts r))
-expression_starts (grammar.new_alone r) = or_right _ _ (expression_starts r)
-expression_starts (grammar.a_named_member_of_super w m n l e) = refl
-expression_starts (grammar.a_computed_member_of_super {next = n} {inside = i} r) = or_left (goes_on (group n Square i done)) false (element_goes n i done (expression_starts r))
-expression_starts (grammar.a_call_of_super r) = refl
-expression_starts grammar.a_new_target = refl
-expression_starts (grammar.a_reference {w = w} e h) = or_left _ _ (and_from (is_operand_word w) true (or_right (is_keyword w) _ (ap (λ o. option_map_or is_free_name o false) e ∙ h)) refl)
-expression_starts grammar.a_this = refl
-expression_starts grammar.a_null = refl
-expression_starts grammar.a_true = refl
-expression_starts grammar.a_false = refl
-expression_starts (grammar.a_number h) = refl
-expression_starts (grammar.a_big_integer e) = refl
-expression_starts (grammar.a_string e) = refl
-expression_starts (grammar.in_parentheses r) = refl
-expression_starts (grammar.an_array r) = refl
-expression_starts (grammar.an_object r) = refl
+mutual
+  pub expression_starts : {c : Allowed} {l : Level} {ts : Tokens} {t : Tree} → ReadsExpression c l ts t → starts_well ts ≡ true
+  expression_starts (grammar.an_assignment r) = expression_starts r
+  expression_starts (grammar.a_sequence m e r s) = joined _ _ (piece m (Sign comma) _) refl e (expression_starts r)
+  expression_starts (grammar.an_assignment_to o m e r s w) = joined _ _ (piece m (Sign (assignment_sign o)) _) (assignment_joins o m _) e (expression_starts r)
+  expression_starts (grammar.a_conditional r) = expression_starts r
+  expression_starts (grammar.a_short_circuit r) = expression_starts r
+  expression_starts (grammar.a_logical_or r) = expression_starts r
+  expression_starts (grammar.a_logical_and r) = expression_starts r
+  expression_starts (grammar.a_bit_or r) = expression_starts r
+  expression_starts (grammar.a_bit_xor r) = expression_starts r
+  expression_starts (grammar.a_bit_and r) = expression_starts r
+  expression_starts (grammar.an_equality r) = expression_starts r
+  expression_starts (grammar.a_relation r) = expression_starts r
+  expression_starts (grammar.a_shift r) = expression_starts r
+  expression_starts (grammar.an_additive r) = expression_starts r
+  expression_starts (grammar.a_multiplicative r) = expression_starts r
+  expression_starts (grammar.an_exponent r) = expression_starts r
+  expression_starts (grammar.a_unary r) = expression_starts r
+  expression_starts (grammar.an_update r) = expression_starts r
+  expression_starts (grammar.a_left_hand_side r) = expression_starts r
+  expression_starts (grammar.a_new r) = expression_starts r
+  expression_starts (grammar.a_call r) = expression_starts r
+  expression_starts (grammar.a_member r) = expression_starts r
+  expression_starts (grammar.a_primary r) = expression_starts r
+  expression_starts (grammar.a_called_member r) = expression_starts r
+  expression_starts (grammar.a_called_call r) = expression_starts r
+  expression_starts (grammar.a_named_member w m n e v r) = joined _ _ (piece m (Sign dot) _) refl e (expression_starts r)
+  expression_starts (grammar.a_computed_member {inside = i} m e r s) = joined _ _ (group m Square i done) (element_goes m i done (expression_starts s)) e (expression_starts r)
+  expression_starts (grammar.with_arguments m e r s) = joined _ _ (group m Round _ done) refl e (expression_starts r)
+  expression_starts (grammar.a_named_member_of_call w m n e v r) = joined _ _ (piece m (Sign dot) _) refl e (expression_starts r)
+  expression_starts (grammar.a_computed_member_of_call {inside = i} m e r s) = joined _ _ (group m Square i done) (element_goes m i done (expression_starts s)) e (expression_starts r)
+  expression_starts (grammar.an_operation o m p q e l r) = joined _ _ (piece m (operator_piece o) _) (operator_joins o m _) e (expression_starts l)
+  expression_starts (grammar.a_power m e l r) = joined _ _ (piece m (Sign star_star) _) refl e (expression_starts l)
+  expression_starts (grammar.a_conjunction m e l r) = joined _ _ (piece m (Sign and_and) _) refl e (expression_starts l)
+  expression_starts (grammar.a_disjunction m e l r) = joined _ _ (piece m (Sign or_or) _) refl e (expression_starts l)
+  expression_starts (grammar.a_coalesce r) = expression_starts r
+  expression_starts (grammar.a_coalescing m e l r) = joined _ _ (piece m (Sign nullish) _) refl e (expression_starts l)
+  expression_starts (grammar.a_coalesced_head r) = expression_starts r
+  expression_starts (grammar.a_bit_or_head r) = expression_starts r
+  expression_starts (grammar.a_choice m n e r s t) = joined _ _ (piece m (Sign question) _) refl e (expression_starts r)
+  expression_starts (grammar.a_unary_operation {mark = m} o r) = unary_starts o m _ (expression_starts r)
+  expression_starts (grammar.an_update_before {mark = m} {ts = ts} o r s) = update_starts o m ts (expression_starts r)
+  expression_starts (grammar.an_update_behind {a = a} o e r s) = joined _ a (piece false (Sign (update_sign o)) done) (update_goes o false) e (expression_starts r)
+  expression_starts (grammar.new_with_arguments {a = a} m n e r s) = or_right _ _ (joined _ a (group n Round _ done) refl e (expression_starts r))
+  expression_starts (grammar.new_alone r) = or_right _ _ (expression_starts r)
+  expression_starts (grammar.a_named_member_of_super w m n l e) = refl
+  expression_starts (grammar.a_computed_member_of_super {next = n} {inside = i} r) = or_left (goes_on (group n Square i done)) false (element_goes n i done (expression_starts r))
+  expression_starts (grammar.a_call_of_super r) = refl
+  expression_starts grammar.a_new_target = refl
+  expression_starts (grammar.a_reference {w = w} e h) = or_left _ _ (and_from (is_operand_word w) true (or_right (is_keyword w) _ (ap (λ o. option_map_or is_free_name o false) e ∙ h)) refl)
+  expression_starts grammar.a_this = refl
+  expression_starts grammar.a_null = refl
+  expression_starts grammar.a_true = refl
+  expression_starts grammar.a_false = refl
+  expression_starts (grammar.a_number h) = refl
+  expression_starts (grammar.a_big_integer e) = refl
+  expression_starts (grammar.a_string e) = refl
+  expression_starts (grammar.in_parentheses r) = refl
+  expression_starts (grammar.an_optional_chain r) = chain_starts r
+  expression_starts (grammar.an_array r) = refl
+  expression_starts (grammar.an_object r) = refl
+
+  chain_starts : {c : Allowed} {ts : Tokens} {t : Tree} → ReadsChain c ts t → starts_well ts ≡ true
+  chain_starts (grammar.an_optional_named_member w m n e v r) = joined _ _ (piece m (Sign question_dot) _) refl e (base_starts r)
+  chain_starts (grammar.an_optional_computed_member m n e r s) = joined _ _ (piece m (Sign question_dot) _) refl e (base_starts r)
+  chain_starts (grammar.an_optional_call m n e r s) = joined _ _ (piece m (Sign question_dot) _) refl e (base_starts r)
+  chain_starts (grammar.a_further_named_member w m n e v r) = joined _ _ (piece m (Sign dot) _) refl e (chain_starts r)
+  chain_starts (grammar.a_further_computed_member {inside = i} m e r s) = joined _ _ (group m Square i done) (element_goes m i done (expression_starts s)) e (chain_starts r)
+  chain_starts (grammar.a_further_call m e r s) = joined _ _ (group m Round _ done) refl e (chain_starts r)
+
+  base_starts : {c : Allowed} {ts : Tokens} {t : Tree} → ReadsChainBase c ts t → starts_well ts ≡ true
+  base_starts (grammar.a_first_link r) = expression_starts r
+  base_starts (grammar.a_further_link r) = chain_starts r
 
 binding_starts : {c : Allowed} {ts : Tokens} {t : Tree} → ReadsBinding c ts t → begins_with_name ts ≡ true
 binding_starts (grammar.a_bound_name e h) = refl

@@ -198,6 +198,15 @@ two_minuses = (
   undirected refl (grammar.last_statement (item {a = sign minus (sign minus (word (codes "a") done))} refl (of_unary (grammar.a_unary_operation UnaryNegation (grammar.a_unary_operation UnaryNegation (grammar.an_update (update read_a))))))),
 )
 
+pub member_of_number : IsRead (codes "1.5.a;") (samples.module_of (more (samples.statement_of (samples.member_of samples.one_and_a_half (codes "a"))) no_trees))
+unfolding unicode_ident longer_stands longer_number_stands spells_number word_value
+member_of_number =
+    let object = piece false (Number (codes "1.5")) done in (
+      object ⧺ sign dot (word (codes "a") (sign semicolon done)),
+      ([], codes ".a;", refl, refl, refl, refl, refl, ([], codes "a;", refl, refl, refl, refl, refl, ([], codes ";", refl, refl, refl, refl, refl, ([], [], refl, refl, refl, refl, refl, refl)))),
+      undirected refl (grammar.last_statement (item {a = object ⧺ sign dot (word (codes "a") done)} refl (of_left (grammar.a_new (grammar.a_member (grammar.a_named_member {a = object} (codes "a") false false refl value_a (grammar.a_primary grammar.a_number))))))),
+    )
+
 pub type_of_member : IsRead (codes "typeof a.b;") (samples.module_of (more (samples.statement_of (samples.unary_of Typeof (samples.member_of samples.a (codes "b")))) no_trees))
 unfolding unicode_ident longer_stands word_value
 type_of_member =

@@ -1,7 +1,7 @@
 -- Texts that spell a number in strict code and texts that don't (ECMA-262, 12.9.3), worked out by hand.
 use Rattle.std.specs.Prelude.{◌≡◌, ℕ, List, [], ◌∷◌, Bool, true, false, codes}
 use Rattle.std.specs.List.{list_all, list_any}
-use Rattle.jsgen_model.specs.Numbers.{spells_number}
+use Rattle.jsgen_model.specs.Numbers.{spells_number, takes_no_dot, is_raw_number, is_big_integer}
 
 abbrev pub are_numbers : List (List ℕ) → Bool
 are_numbers texts = list_all spells_number texts
@@ -24,3 +24,11 @@ pub record NumberSamples : Type 0 where
   pub no_big_integers : has_number (codes "1.5n" ∷ codes "1.n" ∷ codes "1e5n" ∷ codes "12nn" ∷ codes "0xn" ∷ []) ≡ false
   pub no_digits_of_a_base : has_number (codes "0x" ∷ codes "0b2" ∷ codes "0o8" ∷ codes "0xg" ∷ codes "1x1" ∷ codes "00x1" ∷ codes "0x1.5" ∷ codes "0b1e1" ∷ []) ≡ false
   pub more_than_a_number : has_number (codes "1.2.3" ∷ codes "1 " ∷ codes "1 2" ∷ codes "-1" ∷ []) ≡ false
+  -- the texts of numbers in a tree
+  pub raw : list_all is_raw_number (codes "0" ∷ codes "12" ∷ codes "1.5" ∷ codes "1_000.5e-7" ∷ codes "0.0" ∷ codes "1.e1" ∷ codes "0xFF" ∷ codes "0B1_0" ∷ []) ≡ true
+  pub not_raw : list_any is_raw_number (codes "" ∷ codes ".5" ∷ codes "1." ∷ codes "1n" ∷ codes "0x1n" ∷ codes "01" ∷ codes "1_" ∷ codes "1e" ∷ codes "-1" ∷ []) ≡ false
+  pub values : list_all is_big_integer (codes "0" ∷ codes "12" ∷ codes "-12" ∷ codes "-0" ∷ []) ≡ true
+  pub no_values : list_any is_big_integer (codes "" ∷ codes "-" ∷ codes "01" ∷ codes "-01" ∷ codes "1_0" ∷ codes "1n" ∷ codes "--1" ∷ codes "+1" ∷ codes "1." ∷ codes "0x1" ∷ []) ≡ false
+  -- a dot behind them is no part of them, or it is
+  pub dots_apart : list_all takes_no_dot (codes "1.5" ∷ codes "1e5" ∷ codes "1E5" ∷ codes "0x1" ∷ codes "0X1" ∷ codes "0o1" ∷ codes "0O1" ∷ codes "0b1" ∷ codes "0B1" ∷ []) ≡ true
+  pub dots_taken : list_any takes_no_dot (codes "0" ∷ codes "12" ∷ codes "1_0" ∷ []) ≡ false

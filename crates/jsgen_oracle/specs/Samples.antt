@@ -12,7 +12,7 @@ use Rattle.jsgen_tree.specs.Tree.{Tree, Maybe, absent, given, Trees, no_trees, m
 use Rattle.jsgen_tree.specs.Nodes as tree
 use Rattle.jsgen_model.specs.Tokens.{Tokens, AreTokensOf}
 use Rattle.jsgen_tree.specs.Places.{bare}
-use Rattle.jsgen_model.specs.Normal.{nothing_of, named, unnumbered, by_text, declared_as, normal}
+use Rattle.jsgen_model.specs.Normal.{nothing_of, link_values, call_values, named, unnumbered, by_text, declared_as, normal}
 use Rattle.jsgen_model.specs.Grammar.{ReadsModule}
 
 -- the text has tokens, and they are read as this program
@@ -43,6 +43,9 @@ c = tree.identifier_reference (unnumbered (codes "c"))
 abbrev pub one : Tree
 one = tree.numeric_literal (by_text (codes "1"))
 
+abbrev pub one_and_a_half : Tree
+one_and_a_half = tree.numeric_literal (by_text (codes "1.5"))
+
 abbrev pub sum_of : Tree → Tree → Tree
 sum_of left right = tree.binary (bare (binary_operator Addition ∷ [])) left right
 
@@ -68,13 +71,13 @@ abbrev pub string_of : List ℕ → Tree
 string_of value = tree.string_literal (bare (units value ∷ []))
 
 abbrev pub member_of : Tree → List ℕ → Tree
-member_of object name = tree.static_member (nothing_of 1) object (tree.identifier_name (named name))
+member_of object name = tree.static_member (link_values false) object (tree.identifier_name (named name))
 
 abbrev pub element_of : Tree → Tree → Tree
-element_of object expression = tree.computed_member (nothing_of 1) object expression
+element_of object expression = tree.computed_member (link_values false) object expression
 
 abbrev pub call_of : Tree → Trees → Tree
-call_of callee arguments = tree.call (nothing_of 2) callee arguments
+call_of callee arguments = tree.call (call_values false) callee arguments
 
 abbrev pub unary_of : UnaryOperator → Tree → Tree
 unary_of operator argument = tree.unary (bare (unary_operator operator ∷ [])) argument
@@ -130,6 +133,8 @@ pub record GrammarSamples : Type 0 where
   pub members : IsRead (codes "a.b(c)[1];") (module_of (more (statement_of (element_of (call_of (member_of a (codes "b")) (more c no_trees)) one)) no_trees))
   -- operators before an operand group from the right (13.5)
   pub two_minuses : IsRead (codes "- -a;") (module_of (more (statement_of (unary_of UnaryNegation (unary_of UnaryNegation a))) no_trees))
+  -- a dot behind a number that has one is no part of it (12.9.3)
+  pub member_of_number : IsRead (codes "1.5.a;") (module_of (more (statement_of (member_of one_and_a_half (codes "a"))) no_trees))
   pub type_of_member : IsRead (codes "typeof a.b;") (module_of (more (statement_of (unary_of Typeof (member_of a (codes "b")))) no_trees))
   -- `++` before its operand, from which a line end may part it, and behind it (13.4); parentheses round a target are away (8.6.4)
   pub update_before : IsRead (codes "++\n(a);") (module_of (more (statement_of (incremented_before a)) no_trees))

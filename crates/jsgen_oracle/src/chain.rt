@@ -1,9 +1,9 @@
-// Operands of one logical operator, as one list.
+// Operands of one logical operator, and parts of sequences, as one list.
 ghost use Rattle.std.specs.Prelude.{◌≡◌, map, IfOk};
 ghost use Rattle.jsgen_tree.specs.Tree.{more, no_trees};
 ghost use Rattle.jsgen_tree.specs.Places.{bare};
 ghost use Rattle.jsgen_tree.specs.Values.{logical_expression_operator};
-ghost use Rattle.jsgen_model.specs.Normal.{chain, joined, links, same_operator};
+ghost use Rattle.jsgen_model.specs.Normal.{chain, joined, links, same_operator, parts_of};
 ghost use Rattle.jsgen_oracle.specs.Form.{form_plain, forms_plain, value_plain};
 
 use crate::form::{Form, Value};
@@ -87,6 +87,38 @@ fn is_same(left: LogicalOperator, right: LogicalOperator) -> bool
         (LogicalOperator::And, LogicalOperator::And) => true,
         (LogicalOperator::Coalesce, LogicalOperator::Coalesce) => true,
         _ => false,
+    }
+}
+
+/// What a part adds to a sequence: a sequence adds its own parts.
+pub(crate) fn parts(alloc: Global, part: Form) -> Result<Vec<Form>, Memory>
+    ensures { IfOk result (λ fs. forms_plain fs.items ≡ parts_of (form_plain part)) }
+{
+    let Form {
+        node_type,
+        values,
+        slots,
+    } = part;
+    match node_type {
+        NodeType::SequenceExpression => match only_list(alloc, slots)? {
+            Only::List(parts) => Ok(parts),
+            Only::Other(slots) => alone(
+                alloc,
+                Form {
+                    node_type,
+                    values,
+                    slots,
+                },
+            ),
+        },
+        _ => alone(
+            alloc,
+            Form {
+                node_type,
+                values,
+                slots,
+            },
+        ),
     }
 }
 

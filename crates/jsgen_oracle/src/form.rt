@@ -1,5 +1,7 @@
 // Normal forms as plain data.
-use jsgen_syntax::{BinaryOperator, JsStr, LogicalOperator, UnaryOperator, UpdateOperator};
+use jsgen_syntax::{
+    AssignmentOperator, BinaryOperator, JsStr, LogicalOperator, UnaryOperator, UpdateOperator,
+};
 use jsgen_tree::{NodeType, PropertyKind, VariableDeclarationKind};
 
 /// A program in its normal form, or a node of one. Spans, the source and the kind of a program have no place in it.
@@ -27,6 +29,7 @@ pub enum Value {
     LogicalOperator(LogicalOperator),
     UnaryOperator(UnaryOperator),
     UpdateOperator(UpdateOperator),
+    AssignmentOperator(AssignmentOperator),
     PropertyKind(PropertyKind),
 }
 

@@ -3,16 +3,16 @@ ghost use Rattle.std.specs.Prelude.{◌≡◌, ◌∷◌, [], ◌&&◌, false, m
 ghost use Rattle.std.specs.Option.{option_map_or};
 ghost use Rattle.std.specs.Str.{chars};
 ghost use Rattle.jsgen_tree.specs.Tree.{trees, holed, optional};
-ghost use Rattle.jsgen_tree.specs.Rows.{program_row, directive_row, block_statement_row, if_statement_row, variable_declaration_row, variable_declarator_row, string_literal_row, logical_expression_row, identifier_name_row, static_member_expression_row, call_expression_row, spread_element_row, array_expression_row, expression_plain, statement_plain, declaration_plain, binding_pattern_plain, in_expression, in_statement, in_argument, in_array_expression_element, new_expression_row, update_expression_row, in_simple_assignment_target, object_property_row, object_expression_row, in_object_property_kind, in_property_key};
+ghost use Rattle.jsgen_tree.specs.Rows.{program_row, directive_row, block_statement_row, if_statement_row, variable_declaration_row, variable_declarator_row, string_literal_row, logical_expression_row, identifier_name_row, static_member_expression_row, call_expression_row, spread_element_row, array_expression_row, expression_plain, statement_plain, declaration_plain, binding_pattern_plain, in_expression, in_statement, in_argument, in_array_expression_element, new_expression_row, update_expression_row, in_simple_assignment_target, object_property_row, object_expression_row, in_object_property_kind, in_property_key, numeric_literal_row, conditional_expression_row, sequence_expression_row, assignment_expression_row, in_assignment_target, computed_member_expression_row, chain_expression_row, in_chain_element};
 ghost use Rattle.jsgen_tree.specs.Atom.{no_value, flag, property_kind};
 ghost use Rattle.jsgen_tree.specs.Inside.{written_name_in, is_proto, is_negative_number};
 ghost use Rattle.jsgen_tree.specs.Plain.{node_plain};
-ghost use Rattle.jsgen_model.specs.Normal.{normal, normal_maybe, normal_trees, links, unbraced, is_computed, is_proto_shorthand};
+ghost use Rattle.jsgen_model.specs.Normal.{normal, normal_maybe, normal_trees, links, unbraced, is_computed, is_proto_shorthand, flattened};
 ghost use Rattle.jsgen_oracle.specs.Form.{form_plain, forms_plain, holed_plain, optional_plain, value_plain};
 ghost use Rattle.jsgen_oracle.specs.declared.form.Value.TheVariants.{Nothing};
 
 use crate::braces::unbraced;
-use crate::chain::{joined, links};
+use crate::chain::{joined, links, parts};
 use crate::characters::characters_of;
 use crate::directive::directive_units;
 use crate::form::{Form, Slot, Value};
@@ -23,11 +23,14 @@ use crate::shape::{
 };
 use jsgen_syntax::{JsStr, LogicalOperator, Memory};
 use jsgen_tree::{
-    Argument, ArrayExpression, ArrayExpressionElement, BindingPattern, BlockStatement,
-    CallExpression, Declaration, Directive, Expression, ExpressionNode, IdentifierName,
-    IfStatement, LogicalExpression, NewExpression, Node, NodeType, ObjectExpression, ObjectProperty, ObjectPropertyKind, Program, PropertyKey,
-    SimpleAssignmentTarget, SpreadElement, Statement, StatementNode, StaticMemberExpression,
-    StringLiteral, UpdateExpression, VariableDeclaration, VariableDeclarator, is_proto,
+    Argument, ArrayExpression, ArrayExpressionElement, AssignmentExpression, AssignmentTarget,
+    BindingPattern, BlockStatement, CallExpression, ChainElement, ChainExpression,
+    ComputedMemberExpression, ConditionalExpression, Declaration, Directive, Expression,
+    ExpressionNode, IdentifierName, IfStatement, LogicalExpression, NewExpression, Node, NodeType,
+    ObjectExpression, ObjectProperty, ObjectPropertyKind, Program,
+    PropertyKey, SequenceExpression, SimpleAssignmentTarget, SpreadElement, Statement,
+    StatementNode, StaticMemberExpression, StringLiteral, UpdateExpression, VariableDeclaration,
+    VariableDeclarator, is_proto,
 };
 use std::alloc::Global;
 
@@ -264,7 +267,7 @@ fn static_member_expression_form<N: NormalNode>(
 ) -> Result<Form, Memory>
     ensures { IfOk result (λ f. form_plain f ≡ normal (static_member_expression_row N.plain node.now)) }
 {
-    let values = one_value(alloc, Value::Nothing)?;
+    let values = one_value(alloc, Value::Flag(node.optional))?;
     let object = node.object.get().normal_form(alloc)?;
     let property = identifier_name_form(alloc, &node.property)?;
     row_of_two(
@@ -282,7 +285,7 @@ fn call_expression_form<N: NormalNode>(
 ) -> Result<Form, Memory>
     ensures { IfOk result (λ f. form_plain f ≡ normal (call_expression_row N.plain node.now)) }
 {
-    let values = two_values(alloc, Value::Nothing, Value::Nothing)?;
+    let values = two_values(alloc, Value::Flag(node.optional), Value::Nothing)?;
     let callee = node.callee.get().normal_form(alloc)?;
     let arguments = argument_forms(alloc, &node.arguments)?;
     row_of_two(
@@ -292,6 +295,97 @@ fn call_expression_form<N: NormalNode>(
         Slot::One(callee),
         Slot::Many(arguments),
     )
+}
+
+#[tactic(auto, using(crate::proofs::Forms::forms))]
+fn conditional_expression_form<N: NormalNode>(
+    alloc: Global,
+    node: &ConditionalExpression<N>,
+) -> Result<Form, Memory>
+    ensures { IfOk result (λ f. form_plain f ≡ normal (conditional_expression_row N.plain node.now)) }
+{
+    let test = node.test.get().normal_form(alloc)?;
+    let consequent = node.consequent.get().normal_form(alloc)?;
+    let alternate = node.alternate.get().normal_form(alloc)?;
+    Ok(Form {
+        node_type: NodeType::ConditionalExpression,
+        values: Vec::new(alloc),
+        slots: vec![in alloc;
+            Slot::One(test),
+            Slot::One(consequent),
+            Slot::One(alternate),
+        ]?,
+    })
+}
+
+fn sequence_expression_form<N: NormalNode>(
+    alloc: Global,
+    node: &SequenceExpression<N>,
+) -> Result<Form, Memory>
+    ensures { IfOk result (λ f. form_plain f ≡ normal (sequence_expression_row N.plain node.now)) }
+{
+    let forms = part_forms(alloc, &node.expressions)?;
+    list(alloc, NodeType::SequenceExpression, Vec::new(alloc), forms)
+}
+
+fn part_forms<N: NormalNode>(
+    alloc: Global,
+    expressions: &[ExpressionNode<N>],
+) -> Result<Vec<Form>, Memory>
+    ensures { IfOk result (λ fs. forms_plain fs.items ≡ flattened (normal_trees (trees (map (in_expression N.plain) expressions.now)))) }
+{
+    let mut forms = Vec::new(alloc);
+    for expression in expressions {
+        let form = expression.get().normal_form(alloc)?;
+        let mut added = parts(alloc, form)?;
+        forms.append(&mut added)?;
+    }
+    Ok(forms)
+}
+
+fn computed_member_expression_form<N: NormalNode>(
+    alloc: Global,
+    node: &ComputedMemberExpression<N>,
+) -> Result<Form, Memory>
+    ensures { IfOk result (λ f. form_plain f ≡ normal (computed_member_expression_row N.plain node.now)) }
+{
+    pair(
+        alloc,
+        NodeType::ComputedMemberExpression,
+        Value::Flag(node.optional),
+        node.object.get(),
+        node.expression.get(),
+    )
+}
+
+fn chain_expression_form<N: NormalNode>(
+    alloc: Global,
+    node: &ChainExpression<N>,
+) -> Result<Form, Memory>
+    ensures { IfOk result (λ f. form_plain f ≡ normal (chain_expression_row N.plain node.now)) }
+{
+    let element = chain_element_form(alloc, &node.expression)?;
+    row(
+        alloc,
+        NodeType::ChainExpression,
+        Vec::new(alloc),
+        Slot::One(element),
+    )
+}
+
+fn chain_element_form<N: NormalNode>(
+    alloc: Global,
+    element: &ChainElement<N>,
+) -> Result<Form, Memory>
+    ensures { IfOk result (λ f. form_plain f ≡ normal (in_chain_element N.plain element.now)) }
+{
+    match element {
+        ChainElement::StaticMemberExpression(node) => static_member_expression_form(alloc, node),
+        ChainElement::ComputedMemberExpression(node) => {
+            computed_member_expression_form(alloc, node)
+        }
+        ChainElement::CallExpression(node) => call_expression_form(alloc, node),
+    }
 }
 
 fn update_expression_form<N: NormalNode>(
@@ -314,6 +408,49 @@ fn update_expression_form<N: NormalNode>(
     )
 }
 
+fn assignment_expression_form<N: NormalNode>(
+    alloc: Global,
+    node: &AssignmentExpression<N>,
+) -> Result<Form, Memory>
+    ensures { IfOk result (λ f. form_plain f ≡ normal (assignment_expression_row N.plain node.now)) }
+{
+    let values = one_value(alloc, Value::AssignmentOperator(node.operator))?;
+    let left = assignment_target_form(alloc, &node.left)?;
+    let right = node.right.get().normal_form(alloc)?;
+    row_of_two(
+        alloc,
+        NodeType::AssignmentExpression,
+        values,
+        Slot::One(left),
+        Slot::One(right),
+    )
+}
+
+fn assignment_target_form<N: NormalNode>(
+    alloc: Global,
+    target: &AssignmentTarget<N>,
+) -> Result<Form, Memory>
+    ensures { IfOk result (λ f. form_plain f ≡ normal (in_assignment_target N.plain target.now)) }
+{
+    match target {
+        AssignmentTarget::IdentifierReference(node) => {
+            identifier(alloc, NodeType::IdentifierReference, &node.name)
+        }
+        AssignmentTarget::StaticMemberExpression(node) => {
+            static_member_expression_form(alloc, node)
+        }
+        AssignmentTarget::ComputedMemberExpression(node) => {
+            pair(
+                alloc,
+                NodeType::ComputedMemberExpression,
+                Value::Nothing,
+                node.object.get(),
+                node.expression.get(),
+            )
+        }
+    }
+}
+
 fn target_form<N: NormalNode>(
     alloc: Global,
     target: &SimpleAssignmentTarget<N>,
@@ -328,13 +465,7 @@ fn target_form<N: NormalNode>(
             static_member_expression_form(alloc, node)
         }
         SimpleAssignmentTarget::ComputedMemberExpression(node) => {
-            pair(
-                alloc,
-                NodeType::ComputedMemberExpression,
-                Value::Nothing,
-                node.object.get(),
-                node.expression.get(),
-            )
+            computed_member_expression_form(alloc, node)
         }
     }
 }
@@ -574,15 +705,8 @@ fn expression_form<N: NormalNode>(alloc: Global, node: &Expression<N>) -> Result
         Expression::LogicalExpression(node) => logical_expression_form(alloc, node),
         Expression::ParenthesizedExpression(node) => node.expression.get().normal_form(alloc),
         Expression::StaticMemberExpression(node) => static_member_expression_form(alloc, node),
-        Expression::ComputedMemberExpression(node) => {
-            pair(
-                alloc,
-                NodeType::ComputedMemberExpression,
-                Value::Nothing,
-                node.object.get(),
-                node.expression.get(),
-            )
-        }
+        Expression::ComputedMemberExpression(node) => computed_member_expression_form(alloc, node),
+        Expression::ChainExpression(node) => chain_expression_form(alloc, node),
         Expression::CallExpression(node) => call_expression_form(alloc, node),
         Expression::ArrayExpression(node) => array_expression_form(alloc, node),
         Expression::UnaryExpression(node) => {
@@ -598,6 +722,9 @@ fn expression_form<N: NormalNode>(alloc: Global, node: &Expression<N>) -> Result
         Expression::Super(_) => Ok(leaf(alloc, NodeType::Super, Vec::new(alloc))),
         Expression::NewTarget(_) => Ok(leaf(alloc, NodeType::NewTarget, Vec::new(alloc))),
         Expression::ObjectExpression(node) => object_expression_form(alloc, node),
+        Expression::ConditionalExpression(node) => conditional_expression_form(alloc, node),
+        Expression::SequenceExpression(node) => sequence_expression_form(alloc, node),
+        Expression::AssignmentExpression(node) => assignment_expression_form(alloc, node),
     }
 }
 

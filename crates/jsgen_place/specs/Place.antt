@@ -1,5 +1,6 @@
 -- Places and operands, as print functions are given them.
 use Rattle.std.specs.Prelude.{Bool, true, false}
+use Rattle.jsgen_syntax.specs.declared.precedence.Precedence.TheVariants.{Lowest}
 use Rattle.jsgen_tree.specs.Tree.{Tree}
 use Rattle.jsgen_tree.specs.Job.{no_tables}
 use Rattle.jsgen_model.specs.Layout.{Pen}
@@ -24,6 +25,11 @@ place_of place pen = record { settings = settings_of place.settings; level = pla
 abbrev pub place_within : Bool → Place → Place
 place_within true place = record place { context = record place.context { forbids_in = false } }
 place_within false place = place
+
+-- of a chain's links, within parentheses where the test holds
+abbrev pub chain_within : Bool → Place → Place
+chain_within true place = record { settings = place.settings; level = Lowest; context = record { forbids_in = false; forbids_call = false }; in_list = false; left_operand = false }
+chain_within false place = place
 
 -- what matters of an operand
 abbrev pub operand_of : Tree → Operand

@@ -2,8 +2,8 @@
 ghost use Rattle.std.specs.Prelude.{◌≡◌, nat_le, false, true};
 ghost use Rattle.jsgen_syntax.specs.Precedence.{rank};
 ghost use Rattle.jsgen_model.specs.Layout.{Pen};
-ghost use Rattle.jsgen_model.specs.Spell.{is_forbidden, binary_wraps, wraps, goes_on, logical_wraps, called, call_wraps, needs_arguments};
-ghost use Rattle.jsgen_place.specs.Place.{place_of, place_within};
+ghost use Rattle.jsgen_model.specs.Spell.{is_forbidden, binary_wraps, wraps, goes_on, logical_wraps, called, call_wraps, needs_arguments, chain_wraps};
+ghost use Rattle.jsgen_place.specs.Place.{place_of, place_within, chain_within};
 
 use jsgen_syntax::{BinaryOperator, GetPrecedence, LogicalOperator, Precedence};
 
@@ -115,6 +115,22 @@ impl Place {
         }
     }
 
+    /// The place of a part of a choice or of a list: calls may stand in it.
+    pub fn part(self, level: Precedence) -> Place
+        ensures { result ≡ record { settings = self.settings; level = level; context = record { forbids_in = self.context.forbids_in; forbids_call = false }; in_list = false; left_operand = false } }
+    {
+        Place {
+            settings: self.settings,
+            level,
+            context: Context {
+                forbids_call: false,
+                ..self.context
+            },
+            in_list: false,
+            left_operand: false,
+        }
+    }
+
     /// The place of what `new` stands before: no call may stand in it.
     pub fn constructed(self) -> Place
         ensures { result ≡ record { settings = self.settings; level = Precedence.New; context = record { forbids_in = self.context.forbids_in; forbids_call = true }; in_list = false; left_operand = false } }
@@ -155,6 +171,20 @@ impl Place {
         self.level >= own
     }
 
+    /// Whether a sequence stands in parentheses here.
+    pub fn wraps_sequence(self) -> bool
+        ensures { result ≡ nat_le (rank Precedence.Comma) (rank self.level) }
+    {
+        self.wraps(Precedence::Comma)
+    }
+
+    /// Whether an assignment stands in parentheses here.
+    pub fn wraps_assignment(self) -> bool
+        ensures { result ≡ nat_le (rank Precedence.Assign) (rank self.level) }
+    {
+        self.wraps(Precedence::Assign)
+    }
+
     fn is_forbidden(self, operator: BinaryOperator) -> bool
         ensures { (pen : Pen) → result ≡ is_forbidden operator (place_of self pen) }
     {
@@ -176,6 +206,24 @@ impl Place {
         ensures { (pen : Pen) → result ≡ call_wraps (place_of self pen) }
     {
         self.wraps(Precedence::New) || self.context.forbids_call
+    }
+
+    /// Whether a chain stands in parentheses here.
+    pub fn wraps_chain(self) -> bool
+        ensures { (pen : Pen) → result ≡ chain_wraps (place_of self pen) }
+    {
+        self.wraps(Precedence::Postfix) || self.context.forbids_call
+    }
+
+    /// The place of a chain's links, within parentheses where the test holds.
+    pub fn chain(self, test: bool) -> Place
+        ensures { result ≡ chain_within test self }
+    {
+        if test {
+            Place::in_brackets(Precedence::Lowest, self.settings)
+        } else {
+            self
+        }
     }
 
     /// Whether `new` has parentheses here for its arguments, where there may be none.

@@ -11,8 +11,8 @@ mod handed;
 mod numbers;
 
 use jsgen_syntax::{
-    BinaryOperator, CodeBuffer, IndentChar, JsStr, LogicalOperator, Memory, Quote, UnaryOperator,
-    UpdateOperator,
+    AssignmentOperator, BinaryOperator, CodeBuffer, IndentChar, JsStr, LogicalOperator, Memory,
+    Quote, UnaryOperator, UpdateOperator,
 };
 use jsgen_text::{
     cheapest_quote, directive_quote, print_directive_raw, print_name_text, print_string_text,
@@ -66,7 +66,7 @@ pub struct Printer {
 impl Printer {
     ghost use Rattle.std.specs.Prelude.{IfOk, [], ◌∷◌, ◌++◌, replicate, string_bytes, true, IsTrue};
     ghost use Rattle.std.specs.Str.{chars, encode_utf8_all};
-    ghost use Rattle.jsgen_model.specs.Punctuator.{Round, opening, closing, ellipsis, comma, semicolon, equal, plus, minus, equal_equal, equal_equal_equal, plus_plus, minus_minus, colon};
+    ghost use Rattle.jsgen_model.specs.Punctuator.{Round, opening, closing, ellipsis, comma, semicolon, equal, plus, minus, equal_equal, equal_equal_equal, plus_plus, minus_minus, colon, question, question_dot};
     ghost use Rattle.jsgen_model.specs.Items.{word, name, string, first_string, directive, member_dot, punctuator, soft_space, soft_line, hard_space, indentation, body_space, statement_end, due_semicolon, drop_semicolon, statement_begins};
     ghost use Rattle.jsgen_model.specs.Printing.{Reaches};
     ghost use Rattle.jsgen_model.specs.Layout.{layout, written, written_if, other_end, space_if, ends_in_word, ends_in_escapes, is_apart, name_ending, joins, dot_joins, indented, ends_in_less_bang, chosen_quote, deeper_level, empty_pen, style_of};
@@ -75,7 +75,7 @@ impl Printer {
     ghost use Rattle.jsgen_syntax.specs.Units.{js_units};
     ghost use Rattle.jsgen_syntax.specs.Strings.{quote_char, quoted};
     ghost use Rattle.jsgen_syntax.specs.Raw.{directive_text};
-    ghost use Rattle.jsgen_model.specs.Spell.{operator_item, unary_sign, behind_unary, update_item, logical_item, bars_brace};
+    ghost use Rattle.jsgen_model.specs.Spell.{operator_item, unary_sign, behind_unary, update_item, logical_item, assignment_item, bars_brace};
     ghost use Rattle.jsgen_printer.specs.Printer.{bracket_of, pen_of, ending_of, stands_apart, name_written, is_ascii, deepened, at_depth};
 
     /// A printer that has printed nothing.
@@ -399,6 +399,18 @@ impl Printer {
         self.print_str(":", Ending::Other)
     }
 
+    pub fn print_question(&mut self) -> Result<(), Memory>
+        ensures { Reaches result (pen_of self.old) (pen_of self.new) (layout (punctuator question) (pen_of self.old)) }
+    {
+        self.print_str("?", Ending::Other)
+    }
+
+    pub fn print_question_dot(&mut self) -> Result<(), Memory>
+        ensures { Reaches result (pen_of self.old) (pen_of self.new) (layout (punctuator question_dot) (pen_of self.old)) }
+    {
+        self.print_str("?.", Ending::Other)
+    }
+
     pub fn print_ellipsis(&mut self) -> Result<(), Memory>
         ensures { Reaches result (pen_of self.old) (pen_of self.new) (layout (punctuator ellipsis) (pen_of self.old)) }
     {
@@ -461,6 +473,14 @@ impl Printer {
     pub fn print_logical_sign(&mut self, operator: LogicalOperator) -> Result<(), Memory>
         ensures { Reaches result (pen_of self.old) (pen_of self.new)
             (layout (logical_item operator) (pen_of self.old)) }
+    {
+        self.print_str(operator.as_str(), Ending::Other)
+    }
+
+    /// The sign of an assignment.
+    pub fn print_assignment_sign(&mut self, operator: AssignmentOperator) -> Result<(), Memory>
+        ensures { Reaches result (pen_of self.old) (pen_of self.new)
+            (layout (assignment_item operator) (pen_of self.old)) }
     {
         self.print_str(operator.as_str(), Ending::Other)
     }

@@ -26,6 +26,7 @@ use Rattle.jsgen_token_laws.proofs.Writes.{then_assoc}
 use Rattle.jsgen_token_laws.proofs.Steps.{wrote_punctuator}
 use Rattle.jsgen_reading_laws.proofs.Levels.{number_of, operation_number, operand_level, level_of, under, looser, read_at, same_rank, lifted, unwrapped}
 use Rattle.jsgen_reading_laws.proofs.Asked.{is_mixed}
+use Rattle.jsgen_reading_laws.proofs.Joined.{joined_assoc}
 use Rattle.jsgen_reading_laws.proofs.Good.{Good, Printed, Between, good_at, good_since, good_wrapped, good_infix}
 
 -- ---- the token between the operands
@@ -35,7 +36,7 @@ logical_sign Or = or_or
 logical_sign And = and_and
 logical_sign Coalesce = nullish
 
-punctuator_between : (s : Punctuator) → NoDot s → Remembers s other_end → Ready (After (Sign s)) → Between (punctuator s) (Sign s)
+pub punctuator_between : (s : Punctuator) → NoDot s → Remembers s other_end → Ready (After (Sign s)) → Between (punctuator s) (Sign s)
 punctuator_between s n m y = record { writes = λ p l o k. wrote_punctuator s p l n m o k; semicolon = λ p. refl; ready = y; no_function = λ line ts. refl }
 
 logical_between : (o : LogicalOperator) → Between (logical_item o) (Sign (logical_sign o))
@@ -84,11 +85,6 @@ unwrapped_chain {c} {ts} {u} o place h r = by (wraps (logical_level o) place) re
     by true e n = by_goes (goes_on o place) refl n
 
 -- ---- chains
-
-joined_assoc : (a b c : Trees) → joined (joined a b) c ≡ joined a (joined b c)
-joined_assoc no_trees b c = refl
-joined_assoc (more t ts) b c = ap (λ us. more t us) (joined_assoc ts b c)
-joined_assoc (hole ts) b c = ap (λ us. hole us) (joined_assoc ts b c)
 
 -- two operands, of which the right one may be a chain, are read as one chain
 abbrev Joined : Allowed → LogicalOperator → Level → Tokens → Tree → Tree → Type 0

@@ -11,17 +11,19 @@ use Rattle.jsgen_syntax.specs.declared.operator.UnaryOperator.{UnaryOperator}
 use Rattle.jsgen_syntax.specs.declared.operator.UnaryOperator.TheVariants as unary_operators
 use Rattle.jsgen_syntax.specs.declared.operator.UpdateOperator.{UpdateOperator}
 use Rattle.jsgen_syntax.specs.declared.operator.UpdateOperator.TheVariants as update_operators
+use Rattle.jsgen_syntax.specs.declared.operator.AssignmentOperator.{AssignmentOperator}
+use Rattle.jsgen_syntax.specs.declared.operator.AssignmentOperator.TheVariants as assignment_operators
 use Rattle.jsgen_syntax.proofs.Strings.{escaped_value}
 use Rattle.jsgen_tree.specs.Inside.{without_parentheses}
 use Rattle.jsgen_tree.specs.Atom.{units}
 use Rattle.jsgen_tree.specs.Tree.{Tree, Trees, no_trees, more, Atoms}
 use Rattle.jsgen_tree.specs.Places.{bare}
 use Rattle.jsgen_tree.specs.Nodes as tree
-use Rattle.jsgen_model.specs.Punctuator.{dot, star_star, and_and, or_or, nullish, semicolon, Round, Square, opening, closing}
+use Rattle.jsgen_model.specs.Punctuator.{dot, question_dot, comma, star_star, and_and, or_or, nullish, question, semicolon, Round, Square, opening, closing}
 use Rattle.jsgen_model.specs.Tokens.{Tokens, done, piece, group, ◌⧺◌, Quoted, Sign}
 use Rattle.jsgen_model.specs.Items.{Items, first_string, due_semicolon}
 use Rattle.jsgen_model.specs.Layout.{Pen, layout, written, other_end}
-use Rattle.jsgen_model.specs.Grammar.{Allowed, Level, EndsBy, ReadsExpression, ReadsStatement, ReadsItem, ReadsBody, operator_piece, unary_piece, update_sign, starts_with_directive}
+use Rattle.jsgen_model.specs.Grammar.{Allowed, Level, EndsBy, ReadsExpression, ReadsChain, ReadsChainBase, ReadsStatement, ReadsItem, ReadsBody, operator_piece, unary_piece, update_sign, assignment_sign, starts_with_directive}
 use Rattle.jsgen_model.specs.Grammar as grammar
 use Rattle.jsgen_model.specs.Normal.{normal, nothing_of}
 use Rattle.jsgen_model.specs.Spell.{Settings, spell, spell_body, string_in, unless_string, first_statement, among_statements, whole_statement}
@@ -79,63 +81,85 @@ update_goes : (o : UpdateOperator) (m : Bool) (b : Tokens) → Goes (piece m (Si
 update_goes update_operators.Increment m b = tt
 update_goes update_operators.Decrement m b = tt
 
-opens : {c : Allowed} {g : Level} {ts : Tokens} {t : Tree} → ReadsExpression c g ts t → Opens ts t
-opens (grammar.an_assignment r) = opens r
-opens (grammar.a_conditional r) = opens r
-opens (grammar.a_short_circuit r) = opens r
-opens (grammar.a_logical_or r) = opens r
-opens (grammar.a_logical_and r) = opens r
-opens (grammar.a_bit_or r) = opens r
-opens (grammar.a_bit_xor r) = opens r
-opens (grammar.a_bit_and r) = opens r
-opens (grammar.an_equality r) = opens r
-opens (grammar.a_relation r) = opens r
-opens (grammar.a_shift r) = opens r
-opens (grammar.an_additive r) = opens r
-opens (grammar.a_multiplicative r) = opens r
-opens (grammar.an_exponent r) = opens r
-opens (grammar.a_unary r) = opens r
-opens (grammar.an_update r) = opens r
-opens (grammar.a_left_hand_side r) = opens r
-opens (grammar.a_new r) = opens r
-opens (grammar.a_call r) = opens r
-opens (grammar.a_member r) = opens r
-opens (grammar.a_primary r) = opens r
-opens (grammar.a_called_member r) = opens r
-opens (grammar.a_called_call r) = opens r
-opens (grammar.a_coalesce r) = opens r
-opens (grammar.a_coalesced_head r) = opens r
-opens (grammar.a_bit_or_head r) = opens r
-opens (grammar.an_operation {a = a} {l = l} o m p q e r s) = opens_behind _ a (piece m (operator_piece o) _) l _ e (opens r) (operator_goes o m _)
-opens (grammar.a_power {a = a} {l = l} m e r s) = opens_behind _ a (piece m (Sign star_star) _) l _ e (opens r) tt
-opens (grammar.a_conjunction {a = a} {l = l} m e r s) = opens_behind _ a (piece m (Sign and_and) _) l _ e (opens r) tt
-opens (grammar.a_disjunction {a = a} {l = l} m e r s) = opens_behind _ a (piece m (Sign or_or) _) l _ e (opens r) tt
-opens (grammar.a_coalescing {a = a} {l = l} m e r s) = opens_behind _ a (piece m (Sign nullish) _) l _ e (opens r) tt
-opens (grammar.a_named_member {a = a} {o = o} w m n e v r) = opens_behind _ a (piece m (Sign dot) _) o _ e (opens r) tt
-opens (grammar.a_computed_member {a = a} {o = o} m e r s) = opens_behind _ a (group m Square _ done) o _ e (opens r) tt
-opens (grammar.with_arguments {a = a} {f = f} m e r s) = opens_behind _ a (group m Round _ done) f _ e (opens r) tt
-opens (grammar.a_named_member_of_call {a = a} {o = o} w m n e v r) = opens_behind _ a (piece m (Sign dot) _) o _ e (opens r) tt
-opens (grammar.a_computed_member_of_call {a = a} {o = o} m e r s) = opens_behind _ a (group m Square _ done) o _ e (opens r) tt
-opens (grammar.a_unary_operation {mark = m} o r) = unary_opens o m _ _
-opens (grammar.an_update_before o r s) = tt
-opens (grammar.an_update_behind {a = a} {t = t} o e r s) = opens_behind _ a (piece false (Sign (update_sign o)) done) t _ e (opens r) (update_goes o false done)
-opens (grammar.new_with_arguments m n e r s) = tt
-opens (grammar.new_alone r) = tt
-opens (grammar.a_named_member_of_super w m n l e) = tt
-opens (grammar.a_computed_member_of_super r) = tt
-opens (grammar.a_call_of_super r) = tt
-opens grammar.a_new_target = tt
-opens (grammar.a_reference e h) = tt
-opens grammar.a_this = tt
-opens grammar.a_null = tt
-opens grammar.a_true = tt
-opens grammar.a_false = tt
-opens (grammar.a_number h) = tt
-opens (grammar.a_big_integer e) = tt
-opens (grammar.a_string e) = refl
-opens (grammar.in_parentheses r) = tt
-opens (grammar.an_array r) = tt
-opens (grammar.an_object r) = tt
+assignment_goes : (o : AssignmentOperator) (m : Bool) (b : Tokens) → Goes (piece m (Sign (assignment_sign o)) b)
+assignment_goes assignment_operators.Assign m b = tt
+assignment_goes o m b = tt
+
+-- what a chain begins with is what it goes on from
+mutual
+  opens : {c : Allowed} {g : Level} {ts : Tokens} {t : Tree} → ReadsExpression c g ts t → Opens ts t
+  opens (grammar.an_assignment r) = opens r
+  opens (grammar.a_sequence {a = a} {t = t} m e r s) = opens_behind _ a (piece m (Sign comma) _) t _ e (opens r) tt
+  opens (grammar.an_assignment_to {a = a} {t = t} o m e r s w) = opens_behind _ a (piece m (Sign (assignment_sign o)) _) t _ e (opens r) (assignment_goes o m _)
+  opens (grammar.a_conditional r) = opens r
+  opens (grammar.a_short_circuit r) = opens r
+  opens (grammar.a_logical_or r) = opens r
+  opens (grammar.a_logical_and r) = opens r
+  opens (grammar.a_bit_or r) = opens r
+  opens (grammar.a_bit_xor r) = opens r
+  opens (grammar.a_bit_and r) = opens r
+  opens (grammar.an_equality r) = opens r
+  opens (grammar.a_relation r) = opens r
+  opens (grammar.a_shift r) = opens r
+  opens (grammar.an_additive r) = opens r
+  opens (grammar.a_multiplicative r) = opens r
+  opens (grammar.an_exponent r) = opens r
+  opens (grammar.a_unary r) = opens r
+  opens (grammar.an_update r) = opens r
+  opens (grammar.a_left_hand_side r) = opens r
+  opens (grammar.a_new r) = opens r
+  opens (grammar.a_call r) = opens r
+  opens (grammar.a_member r) = opens r
+  opens (grammar.a_primary r) = opens r
+  opens (grammar.a_called_member r) = opens r
+  opens (grammar.a_called_call r) = opens r
+  opens (grammar.a_coalesce r) = opens r
+  opens (grammar.a_coalesced_head r) = opens r
+  opens (grammar.a_bit_or_head r) = opens r
+  opens (grammar.an_operation {a = a} {l = l} o m p q e r s) = opens_behind _ a (piece m (operator_piece o) _) l _ e (opens r) (operator_goes o m _)
+  opens (grammar.a_power {a = a} {l = l} m e r s) = opens_behind _ a (piece m (Sign star_star) _) l _ e (opens r) tt
+  opens (grammar.a_conjunction {a = a} {l = l} m e r s) = opens_behind _ a (piece m (Sign and_and) _) l _ e (opens r) tt
+  opens (grammar.a_disjunction {a = a} {l = l} m e r s) = opens_behind _ a (piece m (Sign or_or) _) l _ e (opens r) tt
+  opens (grammar.a_coalescing {a = a} {l = l} m e r s) = opens_behind _ a (piece m (Sign nullish) _) l _ e (opens r) tt
+  opens (grammar.a_choice {a = a} {x = x} m n e r s t) = opens_behind _ a (piece m (Sign question) _) x _ e (opens r) tt
+  opens (grammar.a_named_member {a = a} {o = o} w m n e v r) = opens_behind _ a (piece m (Sign dot) _) o _ e (opens r) tt
+  opens (grammar.a_computed_member {a = a} {o = o} m e r s) = opens_behind _ a (group m Square _ done) o _ e (opens r) tt
+  opens (grammar.with_arguments {a = a} {f = f} m e r s) = opens_behind _ a (group m Round _ done) f _ e (opens r) tt
+  opens (grammar.a_named_member_of_call {a = a} {o = o} w m n e v r) = opens_behind _ a (piece m (Sign dot) _) o _ e (opens r) tt
+  opens (grammar.a_computed_member_of_call {a = a} {o = o} m e r s) = opens_behind _ a (group m Square _ done) o _ e (opens r) tt
+  opens (grammar.a_unary_operation {mark = m} o r) = unary_opens o m _ _
+  opens (grammar.an_update_before o r s) = tt
+  opens (grammar.an_update_behind {a = a} {t = t} o e r s) = opens_behind _ a (piece false (Sign (update_sign o)) done) t _ e (opens r) (update_goes o false done)
+  opens (grammar.new_with_arguments m n e r s) = tt
+  opens (grammar.new_alone r) = tt
+  opens (grammar.a_named_member_of_super w m n l e) = tt
+  opens (grammar.a_computed_member_of_super r) = tt
+  opens (grammar.a_call_of_super r) = tt
+  opens grammar.a_new_target = tt
+  opens (grammar.a_reference e h) = tt
+  opens grammar.a_this = tt
+  opens grammar.a_null = tt
+  opens grammar.a_true = tt
+  opens grammar.a_false = tt
+  opens (grammar.a_number h) = tt
+  opens (grammar.a_big_integer e) = tt
+  opens (grammar.a_string e) = refl
+  opens (grammar.in_parentheses r) = tt
+  opens (grammar.an_optional_chain r) = chain_opens _ r
+  opens (grammar.an_array r) = tt
+  opens (grammar.an_object r) = tt
+
+  chain_opens : {c : Allowed} {ts : Tokens} {t : Tree} (u : Tree) → ReadsChain c ts t → Opens ts u
+  chain_opens u (grammar.an_optional_named_member {a = a} {o = o} w m n e v r) = opens_behind _ a (piece m (Sign question_dot) _) o _ e (base_opens r) tt
+  chain_opens u (grammar.an_optional_computed_member {a = a} {o = o} m n e r s) = opens_behind _ a (piece m (Sign question_dot) _) o _ e (base_opens r) tt
+  chain_opens u (grammar.an_optional_call {a = a} {f = f} m n e r s) = opens_behind _ a (piece m (Sign question_dot) _) f _ e (base_opens r) tt
+  chain_opens u (grammar.a_further_named_member {a = a} {o = o} w m n e v r) = opens_behind _ a (piece m (Sign dot) _) o _ e (chain_opens _ r) tt
+  chain_opens u (grammar.a_further_computed_member {a = a} {o = o} m e r s) = opens_behind _ a (group m Square _ done) o _ e (chain_opens _ r) tt
+  chain_opens u (grammar.a_further_call {a = a} {f = f} m e r s) = opens_behind _ a (group m Round _ done) f _ e (chain_opens _ r) tt
+
+  base_opens : {c : Allowed} {ts : Tokens} {t : Tree} → ReadsChainBase c ts t → Opens ts t
+  base_opens (grammar.a_first_link r) = opens r
+  base_opens (grammar.a_further_link r) = chain_opens _ r
 
 -- whatever follows
 abbrev pub Apart : Tokens → Type 0

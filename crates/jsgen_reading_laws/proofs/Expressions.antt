@@ -24,9 +24,9 @@ use Rattle.jsgen_model.specs.Normal.{nothing_of, unnumbered}
 use Rattle.jsgen_model.specs.Spell.{truth_word}
 use Rattle.jsgen_token_laws.proofs.Characters.{letters_spelled}
 use Rattle.jsgen_token_laws.proofs.Last.{After, line_of}
-use Rattle.jsgen_token_laws.proofs.Steps.{wrote_word, wrote_name, wrote_quoted, wrote_dot}
-use Rattle.jsgen_reading_laws.proofs.Levels.{from_primary, weaken_member, from_left}
-use Rattle.jsgen_reading_laws.proofs.Families.{IsExpression, IsLink, IsElement, AreArguments, AreElements, IsProperty, AreProperties, IsKey}
+use Rattle.jsgen_token_laws.proofs.Steps.{wrote_word, wrote_name, wrote_quoted, wrote_dot, wrote_whole}
+use Rattle.jsgen_reading_laws.proofs.Levels.{from_primary, weaken_member, from_left, level_of, under}
+use Rattle.jsgen_reading_laws.proofs.Families.{IsExpression, IsLink, IsElement, AreArguments, AreElements, IsProperty, AreProperties, IsKey, AreParts, IsChain, IsChainBase}
 use Rattle.jsgen_token_laws.proofs.Writes.{wrote_both}
 use Rattle.jsgen_reading_laws.proofs.Families as family
 use Rattle.jsgen_reading_laws.proofs.Asked.{asked}
@@ -38,9 +38,13 @@ use Rattle.jsgen_reading_laws.proofs.Prefixes.{word_begins, good_unary_operation
 use Rattle.jsgen_reading_laws.proofs.Chains.{good_logical_operation}
 use Rattle.jsgen_reading_laws.proofs.Constructions.{good_construction}
 use Rattle.jsgen_reading_laws.proofs.Links.{ElementOf, ArgumentsAt, MoreArgumentsAt, LinkPrinted, link_expression, link_super, good_named_member, good_computed_member, good_call, good_element, good_spread, no_arguments, first_of_arguments, no_more_arguments, one_more_argument, named_target, computed_target}
+use Rattle.jsgen_reading_laws.proofs.OptionalChains.{ChainPrinted, BasePrinted, base_expression, base_chain, optional_named_member, optional_computed_member, optional_call, further_named_member, further_computed_member, further_call, good_chain}
 use Rattle.jsgen_reading_laws.proofs.Collections.{ElementsOf, no_elements, first_of_elements, left_out_of_elements, good_array, PropertiesOf, no_properties, first_of_properties, good_object}
 use Rattle.jsgen_reading_laws.proofs.Updates.{good_update}
 use Rattle.jsgen_reading_laws.proofs.Properties.{KeyOf, PropertyOf, good_name_key, good_string_key, good_number_key, good_big_integer_key, good_computed_key, good_spread_property, good_property}
+use Rattle.jsgen_reading_laws.proofs.Choices.{good_choice}
+use Rattle.jsgen_reading_laws.proofs.Assignments.{good_assignment}
+use Rattle.jsgen_reading_laws.proofs.Sequences.{MorePartsAt, good_sequence, no_more_parts, one_more_part}
 
 -- ---- names and numbers
 
@@ -69,6 +73,7 @@ reference_target c a h place p l z y k =
       },
       refl,
       refl,
+      grammar.a_new (grammar.a_member (grammar.a_primary (grammar.a_reference e h))),
     )
 
 pub good_reference : (c : Allowed) (a : Atoms) → is_free_name (identifier_reference_name a) ≡ true → Printed c (tree.identifier_reference a)
@@ -220,14 +225,34 @@ mutual
   printed_expression {c} (family.a_named_member {a} {b} {o} m v h) = good_named_member c a b o m h (printed_link v)
   printed_expression {c} (family.a_computed_member {a} {o} {e} m v w) = good_computed_member c a o e m (printed_link v) (printed_expression w)
   printed_expression {c} (family.a_call {a} {f} {es} m v w) = good_call c a f es m (printed_link v) (printed_arguments w)
+  printed_expression {c} (family.a_choice {a} {x} {y} {z} u v w) = good_choice c a x y z (printed_expression u) (printed_expression v) (printed_expression w)
+  printed_expression {c} (family.a_sequence {a} {t} {u} {ts} v w x) = good_sequence c a t u ts (printed_expression v) (printed_expression w) (printed_parts x)
+  printed_expression {c} (family.an_assignment {a} {t} {u} s v w) = good_assignment c a t u (printed_target v s) (printed_expression w)
+  printed_expression {c} (family.a_chain {a} {t} v) = good_chain c a t (printed_chain v)
   printed_expression {c} (family.an_array {a} {es} v) = good_array c a es (printed_elements v)
   printed_expression {c} (family.an_object {a} {ps} v) = good_object c a ps (printed_properties v)
+
+  printed_parts : {c : Allowed} {ts : Trees} → AreParts c ts → MorePartsAt c ts
+  printed_parts {c} family.no_part = no_more_parts c
+  printed_parts {c} (family.first_part {t} {ts} v w) = one_more_part c t ts (printed_expression v) (printed_parts w)
 
   printed_target : {c : Allowed} {t : Tree} → IsExpression c t → is_simple_assignment_target (type_of t) ≡ true → TargetPrinted c t
   printed_target {c} (family.a_reference {a} h) s = reference_target c a h
   printed_target {c} (family.a_named_member {a} {b} {o} m v h) s = named_target c a b o m h (printed_link v)
   printed_target {c} (family.a_computed_member {a} {o} {e} m v w) s = computed_target c a o e m (printed_link v) (printed_expression w)
   printed_target v s = absurd (both_ways false refl s)
+
+  printed_chain : {c : Allowed} {t : Tree} → IsChain c t → ChainPrinted c t
+  printed_chain {c} (family.an_optional_named_member {a} {b} {o} m v h) = optional_named_member c a b o m h (printed_base v)
+  printed_chain {c} (family.an_optional_computed_member {a} {o} {e} m v w) = optional_computed_member c a o e m (printed_base v) (printed_expression w)
+  printed_chain {c} (family.an_optional_call {a} {f} {es} m v w) = optional_call c a f es m (printed_base v) (printed_arguments w)
+  printed_chain {c} (family.a_further_named_member {a} {b} {o} m v h) = further_named_member c a b o m h (printed_chain v)
+  printed_chain {c} (family.a_further_computed_member {a} {o} {e} m v w) = further_computed_member c a o e m (printed_chain v) (printed_expression w)
+  printed_chain {c} (family.a_further_call {a} {f} {es} m v w) = further_call c a f es m (printed_chain v) (printed_arguments w)
+
+  printed_base : {c : Allowed} {t : Tree} → IsChainBase c t → BasePrinted c t
+  printed_base {c} (family.a_first_link {t} v) = base_expression c t (printed_expression v)
+  printed_base {c} (family.a_further_link {t} v) = base_chain c t (printed_chain v)
 
   printed_link : {c : Allowed} {t : Tree} → IsLink c t → LinkPrinted c t
   printed_link {c} (family.a_super {a}) = link_super c a

@@ -1,15 +1,15 @@
 -- The trees over which the induction goes. They follow from the rules, one lemma a row.
 use Rattle.std.proofs.Common.{◌≡◌, ◌^◌, nat_lt, ℕ, Bool, true, false, not, ◌&&◌, ◌||◌, ◌++◌, List, [], ◌∷◌, Option, Some, None, is_some, refl, ap}
-use Rattle.std.proofs.lemmas.Bool.{both_ways, and_parts, and_from, not-true}
+use Rattle.std.proofs.lemmas.Bool.{both_ways, and_parts, and_from, not-true, or_parts}
 use Rattle.jsgen_tree.specs.Atom.{Atom, text}
 use Rattle.jsgen_tree.specs.Atom as atoms
 use Rattle.jsgen_tree.specs.Tree.{Tree, node, Maybe, absent, given, Trees, no_trees, more, hole, Atoms, type_of, span_of}
 use Rattle.jsgen_tree.specs.Nodes as tree
 use Rattle.jsgen_tree.specs.Values.{as_text, program_kind, directive_directive, binding_identifier_name, identifier_reference_name, identifier_name_name, numeric_literal_kind, numeric_literal_digits, numeric_literal_text, big_int_literal_value, string_literal_value, variable_declaration_declare, variable_declarator_definite, static_member_expression_optional, computed_member_expression_optional, call_expression_optional, object_property_method, object_property_shorthand, object_property_computed}
 use Rattle.jsgen_tree.specs.Number.{NumericKind, Whole, Raw}
-use Rattle.jsgen_tree.specs.Inside.{is_negative_big_integer}
+use Rattle.jsgen_tree.specs.Inside.{is_negative_big_integer, has_optional_link}
 use Rattle.jsgen_tree.specs.Everywhere.{EverywhereIfGiven, EverywhereInTrees}
-use Rattle.jsgen_tree.specs.Sets.{in_set, is_expression, is_argument, is_statement, is_binding_pattern, is_variable_declarator, is_identifier_name, is_directive, is_simple_assignment_target, is_object_property_kind}
+use Rattle.jsgen_tree.specs.Sets.{in_set, is_expression, is_argument, is_statement, is_binding_pattern, is_variable_declarator, is_identifier_name, is_directive, is_simple_assignment_target, is_assignment_target, is_object_property_kind}
 use Rattle.jsgen_tree.specs.declared.types.NodeType.{NodeType}
 use Rattle.jsgen_tree.specs.declared.types.NodeType.TheVariants as types
 use Rattle.jsgen_tree.specs.declared.types.NodeSet.{NodeSet}
@@ -23,7 +23,7 @@ use Rattle.jsgen_model.specs.Numbers.{is_raw_number, is_big_integer}
 use Rattle.jsgen_model.specs.Grammar.{Allowed, in_module}
 use Rattle.jsgen_model.specs.Plain.{IsPlain, is_plain_row, is_module, is_number, is_raw, is_absent, has_no_hole}
 use Rattle.jsgen_model.specs.Normal.{or_none, directive_units}
-use Rattle.jsgen_model.specs.Valid.{Surroundings, ChildPlace, takes_super, is_super, may_stand, breaches, in_maybe, in_trees, fault_if, set_faults, span_faults, own_faults, body_faults, name_faults, directive_faults, written_name_faults, number_faults, big_integer_faults, declaration_faults, is_literal_key, may_be_key, key_faults, shorthand_faults}
+use Rattle.jsgen_model.specs.Valid.{Surroundings, ChildPlace, takes_super, is_super, may_stand, breaches, in_maybe, in_trees, fault_if, set_faults, span_faults, own_faults, body_faults, name_faults, directive_faults, written_name_faults, number_faults, big_integer_faults, declaration_faults, is_literal_key, may_be_key, key_faults, shorthand_faults, sequence_faults, takes_optional_link, link_faults, super_faults, chain_faults, target_faults}
 
 -- the value of a number: a whole one of 128 bits, or the text of one
 abbrev pub has_value : NumericKind → Atoms → Bool
@@ -45,17 +45,40 @@ mutual
     a_big_integer : {c : Allowed} {a : Atoms} → is_big_integer (big_int_literal_value a) ≡ true → IsExpression c (tree.big_int_literal a)
     a_string : {c : Allowed} {a : Atoms} → are_units (string_literal_value a) ≡ true → IsExpression c (tree.string_literal a)
     in_parentheses : {c : Allowed} {a : Atoms} {t : Tree} → IsExpression c t → IsExpression c (tree.parenthesized a t)
-    a_named_member : {c : Allowed} {a b : Atoms} {o : Tree} → static_member_expression_optional a ≡ atoms.no_value → IsLink c o → spells_name (identifier_name_name b) ≡ true → IsExpression c (tree.static_member a o (tree.identifier_name b))
-    a_computed_member : {c : Allowed} {a : Atoms} {o e : Tree} → computed_member_expression_optional a ≡ atoms.no_value → IsLink c o → IsExpression c e → IsExpression c (tree.computed_member a o e)
-    a_call : {c : Allowed} {a : Atoms} {f : Tree} {es : Trees} → call_expression_optional a ≡ atoms.no_value → IsLink c f → AreArguments c es → IsExpression c (tree.call a f es)
+    a_named_member : {c : Allowed} {a b : Atoms} {o : Tree} → static_member_expression_optional a ≡ false → IsLink c o → spells_name (identifier_name_name b) ≡ true → IsExpression c (tree.static_member a o (tree.identifier_name b))
+    a_computed_member : {c : Allowed} {a : Atoms} {o e : Tree} → computed_member_expression_optional a ≡ false → IsLink c o → IsExpression c e → IsExpression c (tree.computed_member a o e)
+    a_call : {c : Allowed} {a : Atoms} {f : Tree} {es : Trees} → call_expression_optional a ≡ false → IsLink c f → AreArguments c es → IsExpression c (tree.call a f es)
+    a_chain : {c : Allowed} {a : Atoms} {t : Tree} → IsChain c t → IsExpression c (tree.chain a t)
     a_unary_operation : {c : Allowed} {a : Atoms} {t : Tree} → IsExpression c t → IsExpression c (tree.unary a t)
     an_update : {c : Allowed} {a : Atoms} {t : Tree} → is_simple_assignment_target (type_of t) ≡ true → IsExpression c t → IsExpression c (tree.update a t)
     a_construction : {c : Allowed} {a : Atoms} {f : Tree} {es : Trees} → IsExpression c f → AreArguments c es → IsExpression c (tree.new_expression a f es)
     a_new_target : {c : Allowed} {a : Atoms} → IsExpression c (tree.new_target a)
     an_operation : {c : Allowed} {a : Atoms} {l r : Tree} → IsExpression c l → IsExpression c r → IsExpression c (tree.binary a l r)
     a_logical_operation : {c : Allowed} {a : Atoms} {l r : Tree} → IsExpression c l → IsExpression c r → IsExpression c (tree.logical a l r)
+    a_choice : {c : Allowed} {a : Atoms} {x y z : Tree} → IsExpression c x → IsExpression c y → IsExpression c z → IsExpression c (tree.conditional a x y z)
+    a_sequence : {c : Allowed} {a : Atoms} {t u : Tree} {ts : Trees} → IsExpression c t → IsExpression c u → AreParts c ts → IsExpression c (tree.sequence a (more t (more u ts)))
+    an_assignment : {c : Allowed} {a : Atoms} {t u : Tree} → is_simple_assignment_target (type_of t) ≡ true → IsExpression c t → IsExpression c u → IsExpression c (tree.assignment a t u)
     an_array : {c : Allowed} {a : Atoms} {es : Trees} → AreElements c es → IsExpression c (tree.array a es)
     an_object : {c : Allowed} {a : Atoms} {ps : Trees} → AreProperties c ps → IsExpression c (tree.object_expression a ps)
+
+  -- the parts of a sequence behind its first two
+  pub data AreParts : Allowed → Trees → Type 0 where
+    no_part : {c : Allowed} → AreParts c no_trees
+    first_part : {c : Allowed} {t : Tree} {ts : Trees} → IsExpression c t → AreParts c ts → AreParts c (more t ts)
+
+  -- links of which one at least is optional
+  pub data IsChain : Allowed → Tree → Type 0 where
+    an_optional_named_member : {c : Allowed} {a b : Atoms} {o : Tree} → static_member_expression_optional a ≡ true → IsChainBase c o → spells_name (identifier_name_name b) ≡ true → IsChain c (tree.static_member a o (tree.identifier_name b))
+    an_optional_computed_member : {c : Allowed} {a : Atoms} {o e : Tree} → computed_member_expression_optional a ≡ true → IsChainBase c o → IsExpression c e → IsChain c (tree.computed_member a o e)
+    an_optional_call : {c : Allowed} {a : Atoms} {f : Tree} {es : Trees} → call_expression_optional a ≡ true → IsChainBase c f → AreArguments c es → IsChain c (tree.call a f es)
+    a_further_named_member : {c : Allowed} {a b : Atoms} {o : Tree} → static_member_expression_optional a ≡ false → IsChain c o → spells_name (identifier_name_name b) ≡ true → IsChain c (tree.static_member a o (tree.identifier_name b))
+    a_further_computed_member : {c : Allowed} {a : Atoms} {o e : Tree} → computed_member_expression_optional a ≡ false → IsChain c o → IsExpression c e → IsChain c (tree.computed_member a o e)
+    a_further_call : {c : Allowed} {a : Atoms} {f : Tree} {es : Trees} → call_expression_optional a ≡ false → IsChain c f → AreArguments c es → IsChain c (tree.call a f es)
+
+  -- what an optional link goes on from
+  pub data IsChainBase : Allowed → Tree → Type 0 where
+    a_first_link : {c : Allowed} {t : Tree} → IsExpression c t → IsChainBase c t
+    a_further_link : {c : Allowed} {t : Tree} → IsChain c t → IsChainBase c t
 
   pub data AreProperties : Allowed → Trees → Type 0 where
     no_property : {c : Allowed} → AreProperties c no_trees
@@ -149,13 +172,22 @@ none_unless false f e = absurd (cc)
 parts : (span own slots : List TreeFault) → (span ++ own) ++ slots ≡ [] → (own ≡ []) × (slots ≡ [])
 parts span own slots e = let h = none_three span own slots e in (h.1, h.2)
 
--- a child that may stand at its place, and the others
-standing : (around : Surroundings) (s : NodeSet) (t : Tree) (others : List TreeFault) → (set_faults s t ++ breaches around t) ++ others ≡ [] → (may_stand s (type_of t) ≡ true) × (breaches around t ≡ []) × (others ≡ [])
-standing around s t others e = let h = none_three (set_faults s t) (breaches around t) others e in (none_unless (may_stand s (type_of t)) (faults.Place (span_of t).start) h.0, h.1, h.2)
+-- a child may stand at its place
+abbrev StandsAt : NodeSet → Tree → Type 0
+StandsAt s t = (may_stand s (type_of t) ≡ true) × ((not (takes_optional_link s) && has_optional_link t) ≡ false)
+
+stands_at : (s : NodeSet) (t : Tree) → set_faults s t ≡ [] → StandsAt s t
+stands_at s t e =
+    let h = none_both (fault_if (not (may_stand s (type_of t))) (faults.Place (span_of t).start)) (link_faults s t) e in
+    (none_unless (may_stand s (type_of t)) (faults.Place (span_of t).start) h.0, none_if (not (takes_optional_link s) && has_optional_link t) (faults.Place (span_of t).start) h.1)
+
+-- and so may the others
+standing : (around : Surroundings) (s : NodeSet) (t : Tree) (others : List TreeFault) → (set_faults s t ++ breaches around t) ++ others ≡ [] → StandsAt s t × (breaches around t ≡ []) × (others ≡ [])
+standing around s t others e = let h = none_three (set_faults s t) (breaches around t) others e in (stands_at s t h.0, h.1, h.2)
 
 -- and so is of the set that its field asks for
 placed : (around : Surroundings) (s : NodeSet) (t : Tree) (others : List TreeFault) → (set_faults s t ++ breaches around t) ++ others ≡ [] → (in_set s (type_of t) ≡ true) × (breaches around t ≡ []) × (others ≡ [])
-placed around s t others e = let h = standing around s t others e in ((and_parts (in_set s (type_of t)) (takes_super s || not (is_super (type_of t))) h.0).0, h.1, h.2)
+placed around s t others e = let h = standing around s t others e in ((and_parts (in_set s (type_of t)) (takes_super s || not (is_super (type_of t))) h.0.0).0, h.1, h.2)
 
 abbrev place_of : NodeSet → Surroundings → ChildPlace
 place_of s around = record { set = s; around = around }
@@ -173,9 +205,10 @@ holds_nothing v e = absurd (no_truth e)
 
 -- ---- the rows of expressions
 
-member_valid : (c : Allowed) (around : Surroundings) (a : Atoms) (o n : Tree) → static_member_expression_optional a ≡ atoms.no_value → IsLink c o → IsPlain n → is_identifier_name (type_of n) ≡ true → breaches around n ≡ [] → IsExpression c (tree.static_member a o n)
-member_valid c around a o (tree.identifier_name b) m v p s e = a_named_member m v (none_unless (spells_name (identifier_name_name b)) (faults.Name b.span.start) (parts (span_faults b.span) (written_name_faults b.span (identifier_name_name b)) [] e).0)
-member_valid c around a o n m v p s e = absurd (search no_truth)
+-- the name of a member
+member_valid : (around : Surroundings) (n : Tree) (P : Tree → Type 0) → IsPlain n → is_identifier_name (type_of n) ≡ true → breaches around n ≡ [] → ((b : Atoms) → spells_name (identifier_name_name b) ≡ true → P (tree.identifier_name b)) → P n
+member_valid around (tree.identifier_name b) P p s e f = f b (none_unless (spells_name (identifier_name_name b)) (faults.Name b.span.start) (parts (span_faults b.span) (written_name_faults b.span (identifier_name_name b)) [] e).0)
+member_valid around n P p s e f = absurd (search no_truth)
 
 -- an argument that isn't spread is an expression
 abbrev is_spread : Tree → Bool
@@ -194,8 +227,8 @@ expression_type t p s n = by (is_expression (type_of t)) refl
     by false e = absurd (none_other t p s n e)
 
 -- and so it is no `super`, which no argument is
-argument_stands : (t : Tree) → is_plain_row t ≡ true → may_stand sets.Argument (type_of t) ≡ true → is_spread t ≡ false → may_stand sets.Expression (type_of t) ≡ true
-argument_stands t p s n = let h = and_parts (is_argument (type_of t)) (false || not (is_super (type_of t))) s in and_from (is_expression (type_of t)) (false || not (is_super (type_of t))) (expression_type t p h.0 n) h.1
+argument_stands : (t : Tree) → is_plain_row t ≡ true → StandsAt sets.Argument t → is_spread t ≡ false → StandsAt sets.Expression t
+argument_stands t p s n = let h = and_parts (is_argument (type_of t)) (false || not (is_super (type_of t))) s.0 in (and_from (is_expression (type_of t)) (false || not (is_super (type_of t))) (expression_type t p h.0 n) h.1, s.1)
 
 -- what may be changed is an expression, and isn't `super`
 target_stands : (type : NodeType) → is_simple_assignment_target type ≡ true → may_stand sets.Expression type ≡ true
@@ -204,11 +237,29 @@ target_stands types.StaticMemberExpression h = refl
 target_stands types.ComputedMemberExpression h = refl
 target_stands type h = absurd (no_truth h)
 
+-- what may be given a value may be changed as it stands
+target_is_simple : (type : NodeType) → is_assignment_target type ≡ true → is_simple_assignment_target type ≡ true
+target_is_simple types.IdentifierReference h = refl
+target_is_simple types.StaticMemberExpression h = refl
+target_is_simple types.ComputedMemberExpression h = refl
+target_is_simple type h = absurd (no_truth h)
+
 -- what a link goes on from is `super`, or may stand anywhere
-link_valid : (c : Allowed) (t : Tree) → IsPlain t → may_stand sets.Link (type_of t) ≡ true → (may_stand sets.Expression (type_of t) ≡ true → IsExpression c t) → IsLink c t
-link_valid c (tree.super a) p s f = a_super
-link_valid c (node types.Super a slots) p s f = absurd (no_truth p.0)
-link_valid c t p s f = an_operand (f s)
+link_valid : (c : Allowed) (t : Tree) → IsPlain t → StandsAt sets.Link t → has_optional_link t ≡ false → (StandsAt sets.Expression t → IsExpression c t) → IsLink c t
+link_valid c (tree.super a) p s n f = a_super
+link_valid c (node types.Super a slots) p s n f = absurd (no_truth p.0)
+link_valid c t p s n f = an_operand (f (s.0, n))
+
+-- what an optional link goes on from is no `super`
+base_stands : (t : Tree) → StandsAt sets.Link t → super_faults true t ≡ [] → has_optional_link t ≡ false → StandsAt sets.Expression t
+base_stands t s e n = (and_from (is_expression (type_of t)) (false || not (is_super (type_of t))) (and_parts (is_expression (type_of t)) true s.0).0 (ap not (none_if (is_super (type_of t)) (faults.Place (span_of t).start) e)), n)
+
+base_valid : (c : Allowed) (t : Tree) → StandsAt sets.Link t → super_faults true t ≡ [] → (has_optional_link t ≡ true → IsChain c t) → (StandsAt sets.Expression t → IsExpression c t) → IsChainBase c t
+base_valid c t s e f g = by (has_optional_link t) refl
+  where
+    by : (b : Bool) → has_optional_link t ≡ b → IsChainBase c t
+    by true n = a_further_link (f n)
+    by false n = a_first_link (g (base_stands t s e n))
 
 -- what isn't spread in an object is a property
 abbrev is_in_object : Tree → Bool
@@ -222,8 +273,8 @@ none_in_object (tree.object_property a k v) p s n = no_falsehood n
 none_in_object t p s n = search no_truth
 
 -- a key that is an expression is no `super`
-key_stands : (type : NodeType) → is_expression type ≡ true → may_stand sets.PropertyKey type ≡ true → may_stand sets.Expression type ≡ true
-key_stands type s m = and_from (is_expression type) (false || not (is_super type)) s (and_parts (in_set sets.PropertyKey type) (false || not (is_super type)) m).1
+key_stands : (t : Tree) → is_expression (type_of t) ≡ true → StandsAt sets.PropertyKey t → StandsAt sets.Expression t
+key_stands t s m = (and_from (is_expression (type_of t)) (false || not (is_super (type_of t))) s (and_parts (in_set sets.PropertyKey (type_of t)) (false || not (is_super (type_of t))) m.0).1, m.1)
 
 big_valued : (around : Surroundings) (a : Atoms) → breaches around (tree.big_int_literal a) ≡ [] → is_big_integer (big_int_literal_value a) ≡ true
 big_valued around a e = none_unless (is_big_integer (big_int_literal_value a)) (faults.Literal a.span.start) (parts (span_faults a.span) (big_integer_faults a.span (big_int_literal_value a)) [] e).0
@@ -246,8 +297,13 @@ key_valid c around false k p f e h =
     let m = and_parts (is_literal_key (type_of k)) (not (is_negative_big_integer k)) (none_unless (may_be_key false k) (faults.Place (span_of k).start) f) in
     literal_key_valid c around k p m.0 (not-true (is_negative_big_integer k) m.1) e
 
+-- a link of a chain is optional, or goes on from one
+link_kind : {A : Type 0} (b : Bool) (o : Tree) → (b || has_optional_link o) ≡ true → super_faults b o ≡ [] → (b ≡ true → super_faults true o ≡ [] → A) → (b ≡ false → has_optional_link o ≡ true → A) → A
+link_kind true o i e f g = f refl e
+link_kind false o i e f g = g refl i
+
 mutual
-  pub expression_valid : (c : Allowed) (around : Surroundings) (t : Tree) → IsPlain t → may_stand sets.Expression (type_of t) ≡ true → breaches around t ≡ [] → IsExpression c t
+  pub expression_valid : (c : Allowed) (around : Surroundings) (t : Tree) → IsPlain t → StandsAt sets.Expression t → breaches around t ≡ [] → IsExpression c t
   expression_valid c around (tree.identifier_reference a) p s e = a_reference (none_unless (is_free_name (identifier_reference_name a)) (faults.Name a.span.start) (parts (span_faults a.span) (name_faults a.span (identifier_reference_name a)) [] e).0)
   expression_valid c around (tree.this_expression a) p s e = a_this
   expression_valid c around (tree.null_literal a) p s e = a_null
@@ -267,18 +323,24 @@ mutual
       let j = standing around sets.Expression r [] k.2 in
       a_logical_operation (expression_valid c around l p.1.0 k.0 k.1) (expression_valid c around r p.1.1.0 j.0 j.1)
   expression_valid c around (tree.static_member a o n) p s e =
-      let k = standing around sets.Link o _ (parts (span_faults a.span) [] _ e).1 in
+      let k = standing around sets.Link o _ (parts (span_faults a.span) (super_faults (static_member_expression_optional a) o) _ e).1 in
       let j = placed around sets.IdentifierName n [] k.2 in
-      member_valid c around a o n (holds_nothing (static_member_expression_optional a) p.0) (link_valid c o p.1.0 k.0 (λ h. expression_valid c around o p.1.0 h k.1)) p.1.1.0 j.0 j.1
+      let h = or_parts (static_member_expression_optional a) (has_optional_link o) s.1 in
+      member_valid around n (λ x. IsExpression c (tree.static_member a o x)) p.1.1.0 j.0 j.1 (λ b y. a_named_member h.0 (link_valid c o p.1.0 k.0 h.1 (λ x. expression_valid c around o p.1.0 x k.1)) y)
   expression_valid c around (tree.computed_member a o x) p s e =
-      let k = standing around sets.Link o _ (parts (span_faults a.span) [] _ e).1 in
+      let k = standing around sets.Link o _ (parts (span_faults a.span) (super_faults (computed_member_expression_optional a) o) _ e).1 in
       let j = standing around sets.Expression x [] k.2 in
-      a_computed_member (holds_nothing (computed_member_expression_optional a) p.0) (link_valid c o p.1.0 k.0 (λ h. expression_valid c around o p.1.0 h k.1)) (expression_valid c around x p.1.1.0 j.0 j.1)
+      let h = or_parts (computed_member_expression_optional a) (has_optional_link o) s.1 in
+      a_computed_member h.0 (link_valid c o p.1.0 k.0 h.1 (λ x. expression_valid c around o p.1.0 x k.1)) (expression_valid c around x p.1.1.0 j.0 j.1)
   expression_valid c around (tree.call a f es) p s e =
-      let k = standing around sets.Link f _ (parts (span_faults a.span) [] _ e).1 in
+      let k = standing around sets.Link f _ (parts (span_faults a.span) (super_faults (call_expression_optional a) f) _ e).1 in
       let j = none_both (in_trees around (place_of sets.Argument around ∷ []) es) [] k.2 in
-      let h = and_parts (is_absent (call_expression_optional a)) (has_no_hole es) p.0 in
-      a_call (holds_nothing (call_expression_optional a) h.0) (link_valid c f p.1.0 k.0 (λ h. expression_valid c around f p.1.0 h k.1)) (arguments_valid c around es h.1 p.1.1.0 j.0)
+      let h = or_parts (call_expression_optional a) (has_optional_link f) s.1 in
+      a_call h.0 (link_valid c f p.1.0 k.0 h.1 (λ x. expression_valid c around f p.1.0 x k.1)) (arguments_valid c around es p.0 p.1.1.0 j.0)
+  expression_valid c around (tree.chain a t) p s e =
+      let h = parts (span_faults a.span) (chain_faults a.span t) _ e in
+      let k = placed around sets.ChainElement t [] h.1 in
+      a_chain (chain_valid c around t p.1.0 k.1 (none_unless (has_optional_link t) (faults.Place a.span.start) h.0))
   expression_valid c around (tree.array a es) p s e =
       let j = none_both (in_trees around (place_of sets.ArrayExpressionElement around ∷ []) es) [] (parts (span_faults a.span) [] _ e).1 in
       an_array (elements_valid c around es p.1.0 j.0)
@@ -286,8 +348,9 @@ mutual
       let k = standing around sets.Expression t [] (parts (span_faults a.span) [] _ e).1 in
       a_unary_operation (expression_valid c around t p.1.0 k.0 k.1)
   expression_valid c around (tree.update a t) p s e =
-      let k = placed around sets.SimpleAssignmentTarget t [] (parts (span_faults a.span) [] _ e).1 in
-      an_update k.0 (expression_valid c around t p.1.0 (target_stands (type_of t) k.0) k.1)
+      let h = parts (span_faults a.span) (target_faults t) _ e in
+      let k = placed around sets.SimpleAssignmentTarget t [] h.1 in
+      an_update k.0 (expression_valid c around t p.1.0 (target_stands (type_of t) k.0, none_if (has_optional_link t) (faults.Place (span_of t).start) h.0) k.1)
   expression_valid c around (tree.new_expression a f es) p s e =
       let k = standing around sets.Expression f _ (parts (span_faults a.span) [] _ e).1 in
       let j = none_both (in_trees around (place_of sets.Argument around ∷ []) es) [] k.2 in
@@ -296,7 +359,63 @@ mutual
   expression_valid c around (tree.object_expression a ps) p s e =
       let j = none_both (in_trees around (place_of sets.ObjectPropertyKind around ∷ []) ps) [] (parts (span_faults a.span) [] _ e).1 in
       an_object (properties_valid c around ps p.0 p.1.0 j.0)
+  expression_valid c around (tree.conditional a x y z) p s e =
+      let k = standing around sets.Expression x _ (parts (span_faults a.span) [] _ e).1 in
+      let j = standing around sets.Expression y _ k.2 in
+      let i = standing around sets.Expression z [] j.2 in
+      a_choice (expression_valid c around x p.1.0 k.0 k.1) (expression_valid c around y p.1.1.0 j.0 j.1) (expression_valid c around z p.1.1.1.0 i.0 i.1)
+  expression_valid c around (tree.sequence a ts) p s e =
+      let h = parts (span_faults a.span) (sequence_faults a.span ts) _ e in
+      let j = none_both (in_trees around (place_of sets.Expression around ∷ []) ts) [] h.1 in
+      sequence_valid c around a ts p.0 p.1.0 h.0 j.0
+  expression_valid c around (tree.assignment a t u) p s e =
+      let h = parts (span_faults a.span) (target_faults t) _ e in
+      let k = placed around sets.AssignmentTarget t _ h.1 in
+      let j = standing around sets.Expression u [] k.2 in
+      let i = target_is_simple (type_of t) k.0 in
+      an_assignment i (expression_valid c around t p.1.0 (target_stands (type_of t) i, none_if (has_optional_link t) (faults.Place (span_of t).start) h.0) k.1) (expression_valid c around u p.1.1.0 j.0 j.1)
   expression_valid c around t p s e = absurd (search no_truth)
+
+  sequence_valid : (c : Allowed) (around : Surroundings) (a : Atoms) (ts : Trees) → has_no_hole ts ≡ true → EverywhereInTrees is_plain_row ts → sequence_faults a.span ts ≡ [] → in_trees around (place_of sets.Expression around ∷ []) ts ≡ [] → IsExpression c (tree.sequence a ts)
+  sequence_valid c around a (more t (more u ts)) n p f e =
+      let k = standing around sets.Expression t _ e in
+      let j = standing around sets.Expression u _ k.2 in
+      a_sequence (expression_valid c around t p.0 k.0 k.1) (expression_valid c around u p.1.0 j.0 j.1) (parts_valid c around ts n p.1.1 j.2)
+  sequence_valid c around a no_trees n p f e = absurd (cc)
+  sequence_valid c around a (more t no_trees) n p f e = absurd (cc)
+  sequence_valid c around a (more t (hole ts)) n p f e = absurd (no_truth n)
+  sequence_valid c around a (hole ts) n p f e = absurd (no_truth n)
+
+  parts_valid : (c : Allowed) (around : Surroundings) (ts : Trees) → has_no_hole ts ≡ true → EverywhereInTrees is_plain_row ts → in_trees around (place_of sets.Expression around ∷ []) ts ≡ [] → AreParts c ts
+  parts_valid c around no_trees n p e = no_part
+  parts_valid c around (more t ts) n p e = let k = standing around sets.Expression t _ e in first_part (expression_valid c around t p.0 k.0 k.1) (parts_valid c around ts n p.1 k.2)
+  parts_valid c around (hole ts) n p e = absurd (no_truth n)
+  chain_valid : (c : Allowed) (around : Surroundings) (t : Tree) → IsPlain t → breaches around t ≡ [] → has_optional_link t ≡ true → IsChain c t
+  chain_valid c around (tree.static_member a o n) p e i =
+      let h = parts (span_faults a.span) (super_faults (static_member_expression_optional a) o) _ e in
+      let k = standing around sets.Link o _ h.1 in
+      let j = placed around sets.IdentifierName n [] k.2 in
+      let f : has_optional_link o ≡ true → IsChain c o = λ x. chain_valid c around o p.1.0 k.1 x in
+      let g : StandsAt sets.Expression o → IsExpression c o = λ x. expression_valid c around o p.1.0 x k.1 in
+      member_valid around n (λ x. IsChain c (tree.static_member a o x)) p.1.1.0 j.0 j.1
+      (λ b y. link_kind (static_member_expression_optional a) o i h.0 (λ q r. an_optional_named_member q (base_valid c o k.0 r f g) y) (λ q r. a_further_named_member q (f r) y))
+  chain_valid c around (tree.computed_member a o x) p e i =
+      let h = parts (span_faults a.span) (super_faults (computed_member_expression_optional a) o) _ e in
+      let k = standing around sets.Link o _ h.1 in
+      let j = standing around sets.Expression x [] k.2 in
+      let f : has_optional_link o ≡ true → IsChain c o = λ y. chain_valid c around o p.1.0 k.1 y in
+      let g : StandsAt sets.Expression o → IsExpression c o = λ y. expression_valid c around o p.1.0 y k.1 in
+      let v : IsExpression c x = expression_valid c around x p.1.1.0 j.0 j.1 in
+      link_kind (computed_member_expression_optional a) o i h.0 (λ q r. an_optional_computed_member q (base_valid c o k.0 r f g) v) (λ q r. a_further_computed_member q (f r) v)
+  chain_valid c around (tree.call a o es) p e i =
+      let h = parts (span_faults a.span) (super_faults (call_expression_optional a) o) _ e in
+      let k = standing around sets.Link o _ h.1 in
+      let j = none_both (in_trees around (place_of sets.Argument around ∷ []) es) [] k.2 in
+      let f : has_optional_link o ≡ true → IsChain c o = λ y. chain_valid c around o p.1.0 k.1 y in
+      let g : StandsAt sets.Expression o → IsExpression c o = λ y. expression_valid c around o p.1.0 y k.1 in
+      let v : AreArguments c es = arguments_valid c around es p.0 p.1.1.0 j.0 in
+      link_kind (call_expression_optional a) o i h.0 (λ q r. an_optional_call q (base_valid c o k.0 r f g) v) (λ q r. a_further_call q (f r) v)
+  chain_valid c around t p e i = absurd (no_truth i)
 
   arguments_valid : (c : Allowed) (around : Surroundings) (es : Trees) → has_no_hole es ≡ true → EverywhereInTrees is_plain_row es → in_trees around (place_of sets.Argument around ∷ []) es ≡ [] → AreArguments c es
   arguments_valid c around no_trees n p e = no_argument
@@ -319,7 +438,7 @@ mutual
       let f = none_both (key_faults (object_property_computed a) x) (shorthand_faults (object_property_shorthand a) x v) h.0 in
       let j = standing around sets.PropertyKey x _ h.1 in
       let i = standing around sets.Expression v [] j.2 in
-      first_property (a_property (holds_nothing (object_property_method a) p.0.0) refl (key_valid c around (object_property_computed a) x p.0.1.0 f.0 j.1 (λ s. expression_valid c around x p.0.1.0 (key_stands (type_of x) s j.0) j.1)) f.1 (expression_valid c around v p.0.1.1.0 i.0 i.1)) (properties_valid c around ts n p.1 k.2)
+      first_property (a_property (holds_nothing (object_property_method a) p.0.0) refl (key_valid c around (object_property_computed a) x p.0.1.0 f.0 j.1 (λ s. expression_valid c around x p.0.1.0 (key_stands x s j.0) j.1)) f.1 (expression_valid c around v p.0.1.1.0 i.0 i.1)) (properties_valid c around ts n p.1 k.2)
   properties_valid c around (more t ts) n p e = let k = placed around sets.ObjectPropertyKind t _ e in absurd (none_in_object t p.0.0 k.0 refl)
   properties_valid c around (hole ts) n p e = absurd (no_truth n)
 
@@ -342,7 +461,7 @@ value_valid : (c : Allowed) (around : Surroundings) (m : Maybe) → EverywhereIf
 value_valid c around absent p e = no_value
 value_valid c around (given t) p e =
     let h = none_both (set_faults sets.Expression t) (breaches around t) e in
-    a_value (expression_valid c around t p (none_unless (may_stand sets.Expression (type_of t)) (faults.Place (span_of t).start) h.0) h.1)
+    a_value (expression_valid c around t p (stands_at sets.Expression t h.0) h.1)
 
 declarator_valid : (c : Allowed) (around : Surroundings) (t : Tree) → IsPlain t → is_variable_declarator (type_of t) ≡ true → breaches around t ≡ [] → IsDeclarator c t
 declarator_valid c around (tree.variable_declarator a b m) p s e =

@@ -15,6 +15,7 @@ use Rattle.jsgen_token_laws.proofs.Last.{Last, Open, After, line_of, Operand, Re
 use Rattle.jsgen_token_laws.proofs.Writes.{Writes, wrote_both, wrote_and_none, then_assoc}
 use Rattle.jsgen_token_laws.proofs.Steps.{Soft, soft_space_written, opened, unopened, parentheses_written}
 use Rattle.jsgen_reading_laws.proofs.Levels.{level_of, under, from_primary}
+use Rattle.jsgen_reading_laws.proofs.Freed.{freed}
 
 abbrev pub no_brace : Tokens → Bool
 no_brace (group mark Brace inside ts) = false
@@ -31,9 +32,9 @@ may_begin statement ts = starts_statement ts
 may_begin arrow_body ts = no_brace ts
 may_begin default_export ts = no_declaration ts
 
--- Between two pens stands an expression that is read at the level as a tree of the same normal form. No semicolon was due before, and none is after.
+-- Between two pens stands an expression that is read so as a tree of the same normal form. No semicolon was due before, and none is after.
 -- What it may begin it begins with whatever follows, but the word `function`.
-pub record Good (p : Pen) (l : Last) (q : Pen) (c : Allowed) (level : Level) (start : Start) (t : Tree) : Type 0 where
+pub record GoodAs (Reads : Tokens → Tree → Type 0) (p : Pen) (l : Last) (q : Pen) (start : Start) (t : Tree) : Type 0 where
   pub last : Last
   pub tokens : Tokens
   pub writes : Writes p l q last tokens
@@ -42,16 +43,20 @@ pub record Good (p : Pen) (l : Last) (q : Pen) (c : Allowed) (level : Level) (st
   pub begins : (b : Tokens) → is_word (codes "function") b ≡ false → may_begin start (tokens ⧺ b) ≡ true
   pub line : line_of l ≡ false → on_same_line tokens ≡ true
   pub tree : Tree
-  pub reads : ReadsExpression c level tokens tree
+  pub reads : Reads tokens tree
   pub same : normal tree ≡ normal t
+
+-- one that is read at the level
+abbrev pub Good : Pen → Last → Pen → Allowed → Level → Start → Tree → Type 0
+Good p l q c level start t = GoodAs (ReadsExpression c level) p l q start t
 
 -- printed at any place from any pen
 abbrev pub Printed : Allowed → Tree → Type 0
 Printed c t = (place : Place) (p : Pen) (l : Last) → p.pending_semicolon ≡ false → Ready l → Knows p l → Good p l (layout (spell t place) p) (under place c) (level_of place) place.start t
 
--- and read as a simple target, which no line end follows
+-- and read as a simple target, which no line end follows; it is a left-hand side at any level
 abbrev pub TargetPrinted : Allowed → Tree → Type 0
-TargetPrinted c t = (place : Place) (p : Pen) (l : Last) → p.pending_semicolon ≡ false → Ready l → Knows p l → (g : Good p l (layout (spell t place) p) (under place c) (level_of place) place.start t) × (simple_target g.tree ≡ Some g.tree) × (line_of g.last ≡ false)
+TargetPrinted c t = (place : Place) (p : Pen) (l : Last) → p.pending_semicolon ≡ false → Ready l → Knows p l → (g : Good p l (layout (spell t place) p) (under place c) (level_of place) place.start t) × (simple_target g.tree ≡ Some g.tree) × (line_of g.last ≡ false) × ReadsExpression (under place c) grammar.LeftHandSide g.tokens g.tree
 
 pub operand_ready : (l : Last) → Operand l → Ready l
 operand_ready (Open line) o = tt
@@ -80,7 +85,7 @@ pub good_at : {p q : Pen} {l : Last} {c : Allowed} {start : Start} {t : Tree} {g
 good_at lift g = good_since (λ ts u e r. lift ts u r) g
 
 -- blanks, or nothing, round an expression
-pub soft_round : {p q r s : Pen} {l : Last} {c : Allowed} {start : Start} {t : Tree} {level : Level} → (a : Soft p l q) → (g : Good q a.last r c level start t) → Soft r g.last s → Good p l s c level start t
+pub soft_round : {Reads : Tokens → Tree → Type 0} {p q r s : Pen} {l : Last} {start : Start} {t : Tree} → (a : Soft p l q) → (g : GoodAs Reads q a.last r start t) → Soft r g.last s → GoodAs Reads p l s start t
 soft_round a g b = record {
   last = b.last;
   tokens = g.tokens;
@@ -117,7 +122,7 @@ good_parentheses c place p q l g = record {
   same = g.same;
 }
 
-unless_not : (start : Start) → unless_printed false start ≡ start
+pub unless_not : (start : Start) → unless_printed false start ≡ start
 unless_not nowhere = refl
 unless_not statement = refl
 unless_not arrow_body = refl
@@ -134,6 +139,24 @@ good_wrapped c place own w items t top lift inner p l z y k = go w refl
         let a = unopened p l (opening Round) k in
         let p1 : Pen = written_if false (opening Round) p in
         let g = inner false e p1 a.last (a.semicolon ∙ z) (a.ready y) a.writes.knows in
+        let b = unopened (layout (items false) p1) g.last (closing Round) g.writes.knows in
+        subst (λ s. Good p l (written_if false (closing Round) (layout (items false) p1)) (under place c) (level_of place) s t) (unless_not place.start) (good_at (lift e) (soft_round a g b))
+
+-- where `in` may stand
+good_freed : {p q : Pen} {l : Last} {c : Allowed} {start : Start} {t : Tree} {level : Level} → Good p l q c level start t → Good p l q (with_in c) level start t
+good_freed g = record { last = g.last; tokens = g.tokens; writes = g.writes; operand = g.operand; semicolon = g.semicolon; begins = g.begins; line = g.line; tree = g.tree; reads = freed g.reads; same = g.same }
+
+-- In parentheses where it has to be. In them what is forbidden outside stays forbidden.
+pub good_enclosed : (c : Allowed) (place : Place) (own : Level) (w : Bool) (items : Bool → Items) (t : Tree) → ((d : Allowed) (ts : Tokens) (u : Tree) → ReadsExpression d own ts u → ReadsExpression d grammar.Expression ts u) → (w ≡ false → (ts : Tokens) (u : Tree) → ReadsExpression (under place c) own ts u → ReadsExpression (under place c) (level_of place) ts u)
+    → ((v : Bool) (p : Pen) (l : Last) → p.pending_semicolon ≡ false → Ready l → Knows p l → Good p l (layout (items v) p) (under place c) own (unless_printed v place.start) t) → (p : Pen) (l : Last) → p.pending_semicolon ≡ false → Ready l → Knows p l → Good p l (layout (wrapped w (items w)) p) (under place c) (level_of place) place.start t
+good_enclosed c place own w items t top lift inner p l z y k = go w refl
+  where
+    go : (v : Bool) → w ≡ v → Good p l (layout (wrapped v (items v)) p) (under place c) (level_of place) place.start t
+    go true e = good_parentheses c place p (layout (items true) (written_if true (opening Round) p)) l (good_at (top (with_in (under place c))) (good_freed (inner true (written_if true (opening Round) p) (Open false) z tt (opened p l k))))
+    go false e =
+        let a = unopened p l (opening Round) k in
+        let p1 : Pen = written_if false (opening Round) p in
+        let g = inner false p1 a.last (a.semicolon ∙ z) (a.ready y) a.writes.knows in
         let b = unopened (layout (items false) p1) g.last (closing Round) g.writes.knows in
         subst (λ s. Good p l (written_if false (closing Round) (layout (items false) p1)) (under place c) (level_of place) s t) (unless_not place.start) (good_at (lift e) (soft_round a g b))
 

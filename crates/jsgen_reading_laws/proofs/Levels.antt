@@ -109,6 +109,7 @@ number_of grammar.LogicalOr = 4
 number_of grammar.LogicalAnd = 5
 number_of grammar.Callee = 6
 number_of grammar.Unary = 7
+number_of grammar.Expression = 8
 number_of g = 0
 
 pub operation_number : (o : BinaryOperator) → number_of (operation_level o) ≡ 0

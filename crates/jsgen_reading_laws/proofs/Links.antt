@@ -5,24 +5,22 @@ use Rattle.jsgen_syntax.specs.Escapes.{name_text, word_value}
 use Rattle.jsgen_syntax.specs.Name.{spells_name}
 use Rattle.jsgen_syntax.proofs.Escapes.{word_text_value}
 use Rattle.jsgen_syntax.specs.declared.precedence.Precedence.TheVariants as levels
-use Rattle.jsgen_tree.specs.Atom.{no_value}
 use Rattle.jsgen_tree.specs.Tree.{Tree, Trees, no_trees, more, Atoms}
-use Rattle.jsgen_tree.specs.Places.{bare}
 use Rattle.jsgen_tree.specs.Values.{identifier_name_name, static_member_expression_optional, computed_member_expression_optional, call_expression_optional}
 use Rattle.jsgen_tree.specs.Nodes as tree
 use Rattle.jsgen_model.specs.Punctuator.{dot, ellipsis, Round, Square, opening, closing}
 use Rattle.jsgen_model.specs.Tokens.{Tokens, done, piece, group, ◌⧺◌, Word, Sign}
-use Rattle.jsgen_model.specs.Items.{◌⊕◌, brackets, member_dot, punctuator}
+use Rattle.jsgen_model.specs.Items.{◌⊕◌, brackets, member_dot, name, punctuator}
 use Rattle.jsgen_model.specs.Layout.{Pen, Start, other_end, layout, written, unless_printed}
 use Rattle.jsgen_model.specs.Grammar.{Allowed, Level, ReadsExpression, ReadsElement, ReadsArguments, ReadsArgumentList, with_in, is_word, on_same_line, simple_target}
 use Rattle.jsgen_model.specs.Grammar as grammar
-use Rattle.jsgen_model.specs.Normal.{normal, normal_trees, nothing_of, named}
-use Rattle.jsgen_model.specs.Spell.{Place, spell, spell_list, within, linked, called, in_brackets, wraps, call_wraps}
+use Rattle.jsgen_model.specs.Normal.{normal, normal_trees, nothing_of, named, link_values, call_values}
+use Rattle.jsgen_model.specs.Spell.{Place, spell, spell_list, within, linked, called, in_brackets, wraps, call_wraps, name_link, bracket_link}
 use Rattle.jsgen_token_laws.proofs.Characters.{letters_spelled}
 use Rattle.jsgen_token_laws.proofs.Last.{Last, Open, After, line_of, Operand, Ready, begun_ready, Knows}
 use Rattle.jsgen_token_laws.proofs.Writes.{Writes, wrote_none, wrote_both}
 use Rattle.jsgen_token_laws.proofs.Steps.{wrote_word, wrote_name, wrote_dot, wrote_dots, within_brackets, brackets_written}
-use Rattle.jsgen_reading_laws.proofs.Levels.{number_of, operation_number, left_hand_side, level_of, under, weaken_member, lifted, unwrapped, from_left}
+use Rattle.jsgen_reading_laws.proofs.Levels.{number_of, operation_number, left_hand_side, level_of, under, weaken_member, read_left, lifted, unwrapped, from_left}
 use Rattle.jsgen_reading_laws.proofs.Good.{Good, Printed, TargetPrinted, may_begin, begins_then, line_then, good_wrapped}
 use Rattle.jsgen_reading_laws.proofs.Prefixes.{word_begins}
 use Rattle.jsgen_reading_laws.proofs.Lists.{Elements, ElementAt, MoreAt, Joins, no_more, one_more, whole_list}
@@ -49,9 +47,9 @@ pub record Linkable (p : Pen) (l : Last) (q : Pen) (c : Allowed) (no_call : Bool
   pub begins : (b : Tokens) → is_word (codes "function") b ≡ false → may_begin start (tokens ⧺ b) ≡ true
   pub line : line_of l ≡ false → on_same_line tokens ≡ true
   pub base : Tree
-  pub named : (w v : List ℕ) (mark next : Bool) → word_value w ≡ Some v → ReadsExpression c (left_hand_side no_call) (tokens ⧺ piece mark (Sign dot) (piece next (Word w) done)) (tree.static_member (nothing_of 1) base (tree.identifier_name (named v)))
-  pub computed : (mark : Bool) (inside : Tokens) (e : Tree) → ReadsExpression (with_in c) grammar.Expression inside e → ReadsExpression c (left_hand_side no_call) (tokens ⧺ group mark Square inside done) (tree.computed_member (nothing_of 1) base e)
-  pub called : no_call ≡ false → (mark : Bool) (inside : Tokens) (es : Trees) → ReadsArguments (with_in c) inside es → ReadsExpression c grammar.Call (tokens ⧺ group mark Round inside done) (tree.call (nothing_of 2) base es)
+  pub named : (w v : List ℕ) (mark next : Bool) → word_value w ≡ Some v → ReadsExpression c (left_hand_side no_call) (tokens ⧺ piece mark (Sign dot) (piece next (Word w) done)) (tree.static_member (link_values false) base (tree.identifier_name (named v)))
+  pub computed : (mark : Bool) (inside : Tokens) (e : Tree) → ReadsExpression (with_in c) grammar.Expression inside e → ReadsExpression c (left_hand_side no_call) (tokens ⧺ group mark Square inside done) (tree.computed_member (link_values false) base e)
+  pub called : no_call ≡ false → (mark : Bool) (inside : Tokens) (es : Trees) → ReadsArguments (with_in c) inside es → ReadsExpression c grammar.Call (tokens ⧺ group mark Round inside done) (tree.call (call_values false) base es)
   pub same : normal base ≡ normal t
 
 -- printed before a link
@@ -97,7 +95,11 @@ link_super c a place p l z y k =
 
 -- ---- members
 
-pub named_target : (c : Allowed) (a b : Atoms) (o : Tree) → static_member_expression_optional a ≡ no_value → spells_name (identifier_name_name b) ≡ true → LinkPrinted c o → TargetPrinted c (tree.static_member a o (tree.identifier_name b))
+-- what stands between the pens may be changed, and no line end follows it
+abbrev TargetAt : Pen → Last → Pen → Allowed → Place → Tree → Type 0
+TargetAt p l q c place t = (g : Good p l q (under place c) (level_of place) place.start t) × (simple_target g.tree ≡ Some g.tree) × (line_of g.last ≡ false) × ReadsExpression (under place c) grammar.LeftHandSide g.tokens g.tree
+
+pub named_target : (c : Allowed) (a b : Atoms) (o : Tree) → static_member_expression_optional a ≡ false → spells_name (identifier_name_name b) ≡ true → LinkPrinted c o → TargetPrinted c (tree.static_member a o (tree.identifier_name b))
 named_target c a b o m h f place p l z y k =
     let v : List ℕ = identifier_name_name b in
     let p1 : Pen = layout (spell o (linked place)) p in
@@ -106,7 +108,8 @@ named_target c a b o m h f place p l z y k =
     let x : word_value w ≡ Some v = word_text_value p2.style.ascii v h in
     let g = f place p l z y k in
     let d = wrote_dot p1 g.last g.operand g.writes.knows in
-    let n = wrote_name v p2 (After (Sign dot)) h d.knows in (
+    let n = wrote_name v p2 (After (Sign dot)) h d.knows in
+    subst (λ optional. TargetAt p l (layout (name_link optional ⊕ name v) p1) c place (tree.static_member a o (tree.identifier_name b))) (sym m) (
       record {
         last = After (Word w);
         tokens = g.tokens ⧺ piece (line_of g.last) (Sign dot) (piece false (Word w) done);
@@ -115,21 +118,22 @@ named_target c a b o m h f place p l z y k =
         semicolon = g.semicolon;
         begins = λ ts i. begins_then place.start g.tokens (piece (line_of g.last) (Sign dot) (piece false (Word w) done)) ts g.begins refl;
         line = λ e. line_then g.tokens (piece (line_of g.last) (Sign dot) (piece false (Word w) done)) (g.line e);
-        tree = tree.static_member (nothing_of 1) g.base (tree.identifier_name (named v));
+        tree = tree.static_member (link_values false) g.base (tree.identifier_name (named v));
         reads = from_left place (g.named w v (line_of g.last) false x);
-        same = λ i. tree.static_member (bare (sym m i ∷ [])) (g.same i) (tree.identifier_name (named v));
+        same = λ i. tree.static_member (link_values (sym m i)) (g.same i) (tree.identifier_name (named v));
       },
       refl,
       refl,
+      read_left place.context.forbids_call (g.named w v (line_of g.last) false x),
     )
 
-pub good_named_member : (c : Allowed) (a b : Atoms) (o : Tree) → static_member_expression_optional a ≡ no_value → spells_name (identifier_name_name b) ≡ true → LinkPrinted c o → Printed c (tree.static_member a o (tree.identifier_name b))
+pub good_named_member : (c : Allowed) (a b : Atoms) (o : Tree) → static_member_expression_optional a ≡ false → spells_name (identifier_name_name b) ≡ true → LinkPrinted c o → Printed c (tree.static_member a o (tree.identifier_name b))
 good_named_member c a b o m h f place p l z y k = (named_target c a b o m h f place p l z y k).0
 
-same_member : (a : Atoms) (u v x y : Tree) → computed_member_expression_optional a ≡ no_value → normal u ≡ normal x → normal v ≡ normal y → normal (tree.computed_member (nothing_of 1) u v) ≡ normal (tree.computed_member a x y)
-same_member a u v x y m e f = λ i. tree.computed_member (bare (sym m i ∷ [])) (e i) (f i)
+same_member : (a : Atoms) (u v x y : Tree) → computed_member_expression_optional a ≡ false → normal u ≡ normal x → normal v ≡ normal y → normal (tree.computed_member (link_values false) u v) ≡ normal (tree.computed_member a x y)
+same_member a u v x y m e f = λ i. tree.computed_member (link_values (sym m i)) (e i) (f i)
 
-computed_parts : (c : Allowed) (a : Atoms) (o x : Tree) (place : Place) (p p1 q : Pen) (l : Last) → computed_member_expression_optional a ≡ no_value → (g : Linkable p l p1 (under place c) place.context.forbids_call place.start o) → Good (written (opening Square) other_end p1) (Open false) q (with_in c) grammar.Expression (in_brackets levels.Lowest place).start x → (r : Good p l (written (closing Square) other_end q) (under place c) (level_of place) place.start (tree.computed_member a o x)) × (simple_target r.tree ≡ Some r.tree) × (line_of r.last ≡ false)
+computed_parts : (c : Allowed) (a : Atoms) (o x : Tree) (place : Place) (p p1 q : Pen) (l : Last) → computed_member_expression_optional a ≡ false → (g : Linkable p l p1 (under place c) place.context.forbids_call place.start o) → Good (written (opening Square) other_end p1) (Open false) q (with_in c) grammar.Expression (in_brackets levels.Lowest place).start x → (r : Good p l (written (closing Square) other_end q) (under place c) (level_of place) place.start (tree.computed_member a o x)) × (simple_target r.tree ≡ Some r.tree) × (line_of r.last ≡ false) × ReadsExpression (under place c) grammar.LeftHandSide r.tokens r.tree
 computed_parts c a o x place p p1 q l m g h = (
   record {
     last = Open false;
@@ -139,23 +143,25 @@ computed_parts c a o x place p p1 q l m g h = (
     semicolon = h.semicolon;
     begins = λ ts i. begins_then place.start g.tokens (group (line_of g.last) Square h.tokens done) ts g.begins refl;
     line = λ e. line_then g.tokens (group (line_of g.last) Square h.tokens done) (g.line e);
-    tree = tree.computed_member (nothing_of 1) g.base h.tree;
+    tree = tree.computed_member (link_values false) g.base h.tree;
     reads = from_left place (g.computed (line_of g.last) h.tokens h.tree h.reads);
     same = same_member a g.base h.tree o x m g.same h.same;
   },
   refl,
   refl,
+  read_left place.context.forbids_call (g.computed (line_of g.last) h.tokens h.tree h.reads),
 )
 
-pub computed_target : (c : Allowed) (a : Atoms) (o x : Tree) → computed_member_expression_optional a ≡ no_value → LinkPrinted c o → Printed c x → TargetPrinted c (tree.computed_member a o x)
+pub computed_target : (c : Allowed) (a : Atoms) (o x : Tree) → computed_member_expression_optional a ≡ false → LinkPrinted c o → Printed c x → TargetPrinted c (tree.computed_member a o x)
 computed_target c a o x m f h place p l z y k =
     let p1 : Pen = layout (spell o (linked place)) p in
     let p2 : Pen = written (opening Square) other_end p1 in
     let g = f place p l z y k in
     let i = h (in_brackets levels.Lowest place) p2 (Open false) g.semicolon tt (within_brackets Square p1 g.last g.writes.knows) in
-    computed_parts c a o x place p p1 (layout (spell x (in_brackets levels.Lowest place)) p2) l m g i
+    let q : Pen = layout (spell x (in_brackets levels.Lowest place)) p2 in
+    subst (λ optional. TargetAt p l (layout (bracket_link optional ⊕ brackets Square (spell x (in_brackets levels.Lowest place))) p1) c place (tree.computed_member a o x)) (sym m) (computed_parts c a o x place p p1 q l m g i)
 
-pub good_computed_member : (c : Allowed) (a : Atoms) (o x : Tree) → computed_member_expression_optional a ≡ no_value → LinkPrinted c o → Printed c x → Printed c (tree.computed_member a o x)
+pub good_computed_member : (c : Allowed) (a : Atoms) (o x : Tree) → computed_member_expression_optional a ≡ false → LinkPrinted c o → Printed c x → Printed c (tree.computed_member a o x)
 good_computed_member c a o x m f h place p l z y k = (computed_target c a o x m f h place p l z y k).0
 
 -- ---- elements: expressions, and those whose values are spread
@@ -212,10 +218,10 @@ one_more_argument c e es f m place = one_more (ReadsElement (with_in c)) (ReadsA
 
 -- ---- calls
 
-same_call : (a : Atoms) (u x : Tree) (us xs : Trees) → call_expression_optional a ≡ no_value → normal u ≡ normal x → normal_trees us ≡ normal_trees xs → normal (tree.call (nothing_of 2) u us) ≡ normal (tree.call a x xs)
-same_call a u x us xs m e f = λ i. tree.call (bare (sym m i ∷ no_value ∷ [])) (e i) (f i)
+same_call : (a : Atoms) (u x : Tree) (us xs : Trees) → call_expression_optional a ≡ false → normal u ≡ normal x → normal_trees us ≡ normal_trees xs → normal (tree.call (call_values false) u us) ≡ normal (tree.call a x xs)
+same_call a u x us xs m e f = λ i. tree.call (call_values (sym m i)) (e i) (f i)
 
-call_parts : (c : Allowed) (a : Atoms) (t : Tree) (es : Trees) (start : Start) (p p1 q : Pen) (l : Last) → call_expression_optional a ≡ no_value → (g : Linkable p l p1 c false start t) → Elements (ReadsArguments (with_in c)) (written (opening Round) other_end p1) (Open false) q es → Good p l (written (closing Round) other_end q) c grammar.Call start (tree.call a t es)
+call_parts : (c : Allowed) (a : Atoms) (t : Tree) (es : Trees) (start : Start) (p p1 q : Pen) (l : Last) → call_expression_optional a ≡ false → (g : Linkable p l p1 c false start t) → Elements (ReadsArguments (with_in c)) (written (opening Round) other_end p1) (Open false) q es → Good p l (written (closing Round) other_end q) c grammar.Call start (tree.call a t es)
 call_parts c a t es start p p1 q l m g h = record {
   last = Open false;
   tokens = g.tokens ⧺ group (line_of g.last) Round h.tokens done;
@@ -224,7 +230,7 @@ call_parts c a t es start p p1 q l m g h = record {
   semicolon = h.semicolon;
   begins = λ ts i. begins_then start g.tokens (group (line_of g.last) Round h.tokens done) ts g.begins refl;
   line = λ e. line_then g.tokens (group (line_of g.last) Round h.tokens done) (g.line e);
-  tree = tree.call (nothing_of 2) g.base h.trees;
+  tree = tree.call (call_values false) g.base h.trees;
   reads = g.called refl (line_of g.last) h.tokens h.trees h.reads;
   same = same_call a g.base t h.trees es m g.same h.same;
 }
@@ -235,16 +241,17 @@ unwrapped_call {c} {ts} {u} place e r =
     let k = or_parts (wraps levels.New place) place.context.forbids_call e in
     unwrapped levels.New place k.0 (subst (λ b. ReadsExpression c (left_hand_side b) ts u) (sym k.1) (grammar.a_called_call r))
 
-pub good_call : (c : Allowed) (a : Atoms) (t : Tree) (es : Trees) → call_expression_optional a ≡ no_value → LinkPrinted c t → ArgumentsAt c es → Printed c (tree.call a t es)
+pub good_call : (c : Allowed) (a : Atoms) (t : Tree) (es : Trees) → call_expression_optional a ≡ false → LinkPrinted c t → ArgumentsAt c es → Printed c (tree.call a t es)
 good_call c a t es m f h place =
-    good_wrapped c place grammar.Call (call_wraps place) (λ w. spell t (called (within w place)) ⊕ brackets Round (spell_list es (in_brackets levels.Comma place))) (tree.call a t es)
+    good_wrapped c place grammar.Call (call_wraps place) (λ w. spell t (called (within w place)) ⊕ (bracket_link (call_expression_optional a) ⊕ brackets Round (spell_list es (in_brackets levels.Comma place)))) (tree.call a t es)
     (λ d ts u r. lifted false levels.Postfix levels.Lowest (omega arith) (grammar.a_called_call r)) (λ e ts u r. unwrapped_call place e r) inner
   where
-    inner : (v : Bool) → call_wraps place ≡ v → (p : Pen) (l : Last) → p.pending_semicolon ≡ false → Ready l → Knows p l → Good p l (layout (spell t (called (within v place)) ⊕ brackets Round (spell_list es (in_brackets levels.Comma place))) p) (under (within v place) c) grammar.Call (unless_printed v place.start) (tree.call a t es)
+    inner : (v : Bool) → call_wraps place ≡ v → (p : Pen) (l : Last) → p.pending_semicolon ≡ false → Ready l → Knows p l → Good p l (layout (spell t (called (within v place)) ⊕ (bracket_link (call_expression_optional a) ⊕ brackets Round (spell_list es (in_brackets levels.Comma place)))) p) (under (within v place) c) grammar.Call (unless_printed v place.start) (tree.call a t es)
     inner v e p l z y k =
         let p1 : Pen = layout (spell t (called (within v place))) p in
         let p2 : Pen = written (opening Round) other_end p1 in
         let at : Place = within v place in
         let g = f (record at { context = record at.context { forbids_call = false } }) p l z y k in
         let i = h place p2 g.semicolon (within_brackets Round p1 g.last g.writes.knows) in
-        call_parts (under (within v place) c) a t es (unless_printed v place.start) p p1 (layout (spell_list es (in_brackets levels.Comma place)) p2) l m g i
+        let q : Pen = layout (spell_list es (in_brackets levels.Comma place)) p2 in
+        subst (λ optional. Good p l (layout (bracket_link optional ⊕ brackets Round (spell_list es (in_brackets levels.Comma place))) p1) (under (within v place) c) grammar.Call (unless_printed v place.start) (tree.call a t es)) (sym m) (call_parts (under (within v place) c) a t es (unless_printed v place.start) p p1 q l m g i)

@@ -2,22 +2,18 @@
 use Rattle.std.specs.Option.{option_map_or}
 use Rattle.std.proofs.Common.{◌≡◌, ℕ, List, Bool, true, false, ◌&&◌, ◌||◌, cond, [], ◌∷◌, Option, Some, None, is_some, option_and_then, if◌then◌else◌, refl, sym, ap, subst, ◌∙◌}
 use Rattle.jsgen_syntax.specs.declared.operator.LogicalOperator.{LogicalOperator}
-use Rattle.jsgen_tree.specs.Atom.{no_value, declaration_kind, binary_operator, logical_operator, unary_operator, update_operator, flag, property_kind}
+use Rattle.jsgen_tree.specs.Atom.{no_value, declaration_kind, binary_operator, logical_operator, unary_operator, update_operator, assignment_operator, flag, property_kind}
 use Rattle.jsgen_tree.specs.Tree.{Tree, node, Slots, no_slots, one, maybe, many, maybe_many, Maybe, absent, given, Trees, no_trees, more, hole, MaybeTrees, no_list, listed}
 use Rattle.jsgen_tree.specs.Places.{bare}
-use Rattle.jsgen_tree.specs.Values.{variable_declaration_kind, variable_declaration_declare, variable_declarator_definite, static_member_expression_optional, computed_member_expression_optional, call_expression_optional, binary_expression_operator, logical_expression_operator, unary_expression_operator, update_expression_operator, update_expression_prefix, identifier_name_name, numeric_literal_kind, numeric_literal_negative, big_int_literal_value, object_property_kind, object_property_method, object_property_shorthand, object_property_computed}
+use Rattle.jsgen_tree.specs.Values.{variable_declaration_kind, variable_declaration_declare, variable_declarator_definite, static_member_expression_optional, computed_member_expression_optional, call_expression_optional, binary_expression_operator, logical_expression_operator, unary_expression_operator, update_expression_operator, update_expression_prefix, identifier_name_name, numeric_literal_kind, numeric_literal_negative, big_int_literal_value, object_property_kind, object_property_method, object_property_shorthand, object_property_computed, assignment_expression_operator}
 use Rattle.jsgen_tree.specs.Inside.{ends_open, written_name_in, is_proto, after_minus, unless_minus, behind_minus, is_negative_number}
 use Rattle.jsgen_tree.specs.Nodes as tree
 use Rattle.std.proofs.lemmas.Bool.{both_ways}
 use Rattle.std.proofs.lemmas.Option.{same_Some}
-use Rattle.jsgen_model.specs.Normal.{normal, normal_slots, normal_maybe, normal_trees, normal_maybe_trees, unbraced, nothing_of, by_text, number_text, minus_before, big_integer, is_computed, is_proto_shorthand, chain, same_operator, joined, links}
+use Rattle.jsgen_model.specs.Normal.{normal, normal_slots, normal_maybe, normal_trees, normal_maybe_trees, unbraced, nothing_of, by_text, number_text, minus_before, big_integer, is_computed, is_proto_shorthand, chain, same_operator, joined, links, parts_of, flattened, link_values, call_values}
+use Rattle.jsgen_reading_laws.proofs.Joined.{joined_normal, joined_nothing, flattened_joined}
 
 -- ---- chains
-
-joined_normal : (ts us : Trees) → normal_trees (joined ts us) ≡ joined (normal_trees ts) (normal_trees us)
-joined_normal no_trees us = refl
-joined_normal (more t ts) us = ap (λ vs. more (normal t) vs) (joined_normal ts us)
-joined_normal (hole ts) us = ap (λ vs. hole vs) (joined_normal ts us)
 
 -- the operands of a chain, and none of other trees
 abbrev operands_of : Tree → Trees
@@ -38,6 +34,16 @@ normal_chain_again o t u e f =
     let g = links_again o t e in
     let h = links_again o u f in
     ap (λ ts. chain (bare (logical_operator o ∷ [])) ts) (joined_normal (links o t) (links o u) ∙ (λ i. joined (g i) (h i)))
+
+-- ---- sequences
+
+-- what a part in normal form adds is flat already
+parts_again : (t : Tree) → normal t ≡ t → flattened (normal_trees (parts_of t)) ≡ parts_of t
+parts_again (tree.sequence a ts) e = ap parts_of e
+parts_again t e = joined_nothing (parts_of (normal t)) ∙ ap parts_of e
+
+both_again : (us vs : Trees) → flattened (normal_trees us) ≡ us → flattened (normal_trees vs) ≡ vs → flattened (normal_trees (joined us vs)) ≡ joined us vs
+both_again us vs e f = ap flattened (joined_normal us vs) ∙ (flattened_joined (normal_trees us) (normal_trees vs) ∙ (λ i. joined (e i) (f i)))
 
 -- ---- consequents
 
@@ -145,9 +151,10 @@ mutual
   normal_again (tree.if_statement a test consequent alternate) = let e = normal_again test in let f = unbraced_again (normal consequent) (normal_again consequent) in let g = normal_maybe_again alternate in λ i. tree.if_statement (nothing_of 0) (e i) (f i) (g i)
   normal_again (tree.empty_statement a) = refl
   normal_again (tree.identifier_name a) = refl
-  normal_again (tree.static_member a object property) = let e = normal_again object in let f = normal_again property in λ i. tree.static_member (bare (static_member_expression_optional a ∷ [])) (e i) (f i)
-  normal_again (tree.computed_member a object expression) = let e = normal_again object in let f = normal_again expression in λ i. tree.computed_member (bare (computed_member_expression_optional a ∷ [])) (e i) (f i)
-  normal_again (tree.call a callee arguments) = let e = normal_again callee in let f = normal_trees_again arguments in λ i. tree.call (bare (call_expression_optional a ∷ no_value ∷ [])) (e i) (f i)
+  normal_again (tree.static_member a object property) = let e = normal_again object in let f = normal_again property in λ i. tree.static_member (link_values (static_member_expression_optional a)) (e i) (f i)
+  normal_again (tree.computed_member a object expression) = let e = normal_again object in let f = normal_again expression in λ i. tree.computed_member (link_values (computed_member_expression_optional a)) (e i) (f i)
+  normal_again (tree.call a callee arguments) = let e = normal_again callee in let f = normal_trees_again arguments in λ i. tree.call (call_values (call_expression_optional a)) (e i) (f i)
+  normal_again (tree.chain a element) = ap (λ e. tree.chain (nothing_of 0) e) (normal_again element)
   normal_again (tree.array a elements) = ap (λ ts. tree.array (nothing_of 0) ts) (normal_trees_again elements)
   normal_again (tree.object_expression a properties) = ap (λ ts. tree.object_expression (nothing_of 0) ts) (normal_trees_again properties)
   normal_again (tree.object_property a key value) =
@@ -162,7 +169,15 @@ mutual
   normal_again (tree.new_expression a callee arguments) = let e = normal_again callee in let f = normal_trees_again arguments in λ i. tree.new_expression (nothing_of 1) (e i) (f i)
   normal_again (tree.super a) = refl
   normal_again (tree.new_target a) = refl
+  normal_again (tree.conditional a test consequent alternate) = let e = normal_again test in let f = normal_again consequent in let g = normal_again alternate in λ i. tree.conditional (nothing_of 0) (e i) (f i) (g i)
+  normal_again (tree.sequence a expressions) = ap (λ ts. tree.sequence (nothing_of 0) ts) (flattened_again expressions)
+  normal_again (tree.assignment a left right) = let e = normal_again left in let f = normal_again right in λ i. tree.assignment (bare (assignment_operator (assignment_expression_operator a) ∷ [])) (e i) (f i)
   normal_again (node type a slots) = ap (λ s. node type (bare a.values) s) (normal_slots_again slots)
+
+  flattened_again : (ts : Trees) → flattened (normal_trees (flattened (normal_trees ts))) ≡ flattened (normal_trees ts)
+  flattened_again no_trees = refl
+  flattened_again (more t ts) = both_again (parts_of (normal t)) (flattened (normal_trees ts)) (parts_again (normal t) (normal_again t)) (flattened_again ts)
+  flattened_again (hole ts) = ap (λ us. hole us) (flattened_again ts)
 
   normal_slots_again : (s : Slots) → normal_slots (normal_slots s) ≡ normal_slots s
   normal_slots_again no_slots = refl

@@ -4,8 +4,9 @@ ghost use Rattle.std.specs.Prelude.{◌≡◌};
 ghost use Rattle.serde_json.specs.View.{view};
 ghost use Rattle.jsgen_fields.specs.Reads.{Gives, read_typed};
 ghost use Rattle.jsgen_fields.specs.Kept.{entries, row_plain};
-ghost use Rattle.jsgen_fields.specs.Parts.{is_in_statements, is_in_expressions, is_in_collections};
+ghost use Rattle.jsgen_fields.specs.Parts.{is_in_statements, is_in_expressions, is_in_collections, is_in_operations};
 
+use jsgen_assignment_rows::assignments::read_in_assignments;
 use jsgen_collection_rows::collections::read_in_collections;
 use jsgen_expression_rows::expressions::read_in_expressions;
 use jsgen_fields::InputFault;
@@ -54,6 +55,7 @@ fn is_in_expressions(node_type: NodeType) -> bool
             | NodeType::StaticMemberExpression
             | NodeType::ComputedMemberExpression
             | NodeType::CallExpression
+            | NodeType::ChainExpression
     )
 }
 
@@ -66,6 +68,19 @@ fn is_in_collections(node_type: NodeType) -> bool
             | NodeType::ArrayExpression
             | NodeType::ObjectProperty
             | NodeType::ObjectExpression
+    )
+}
+
+fn is_in_operations(node_type: NodeType) -> bool
+    ensures { result ≡ is_in_operations node_type }
+{
+    matches!(
+        &node_type,
+        NodeType::UnaryExpression
+            | NodeType::NewTarget
+            | NodeType::UpdateExpression
+            | NodeType::NewExpression
+            | NodeType::Super
     )
 }
 
@@ -90,5 +105,8 @@ pub fn read_typed<N: ReadNode + Drop>(
     if is_in_collections(node_type) {
         return read_in_collections(alloc, kept, node_type, number, span, row);
     }
-    read_in_operations(alloc, kept, node_type, number, span, row)
+    if is_in_operations(node_type) {
+        return read_in_operations(alloc, kept, node_type, number, span, row);
+    }
+    read_in_assignments(alloc, kept, node_type, number, span, row)
 }

@@ -4,7 +4,7 @@
 ghost use Rattle.std.specs.Prelude.{◌≡◌, not};
 ghost use Rattle.std.specs.Str.{chars};
 ghost use Rattle.jsgen_syntax.specs.Name.{is_free_name};
-ghost use Rattle.jsgen_model.specs.Valid.{span_faults, name_faults, written_name_faults, directive_faults, raw_number_faults, big_integer_faults, source_faults, fault_if, is_super, takes_super, may_stand};
+ghost use Rattle.jsgen_model.specs.Valid.{span_faults, name_faults, written_name_faults, directive_faults, raw_number_faults, big_integer_faults, source_faults, fault_if, is_super, takes_super, may_stand, takes_optional_link};
 ghost use Rattle.jsgen_model.specs.declared.fault.TreeFault.TheVariants as faults;
 ghost use Rattle.jsgen_rules.specs.Verdict.{verdict};
 
@@ -92,7 +92,8 @@ pub fn check_source(source: &str, span: Span) -> Result<(), TreeFault>
     Ok(())
 }
 
-fn is_super(node_type: NodeType) -> bool
+/// Whether nodes of this type are `super`.
+pub fn is_super(node_type: NodeType) -> bool
     ensures { result ≡ is_super node_type }
 {
     matches!(&node_type, NodeType::Super)
@@ -108,6 +109,29 @@ fn may_stand(node_type: NodeType, set: NodeSet) -> bool
     ensures { result ≡ may_stand set node_type }
 {
     node_type.is_in(set) && (takes_super(set) || !is_super(node_type))
+}
+
+/// Whether links of which one is optional may stand at a place that asks for this set, or its row has a rule for them.
+pub fn takes_optional_link(set: NodeSet) -> bool
+    ensures { result ≡ takes_optional_link set }
+{
+    matches!(
+        &set,
+        NodeSet::Link
+            | NodeSet::ChainElement
+            | NodeSet::SimpleAssignmentTarget
+            | NodeSet::AssignmentTarget
+    )
+}
+
+/// Where none of them may be optional, none is.
+pub fn check_no_optional_link(has_optional_link: bool, start: u32) -> Result<(), TreeFault>
+    ensures { result ≡ verdict (fault_if has_optional_link (faults.Place start)) }
+{
+    if has_optional_link {
+        return Err(TreeFault::Place { start });
+    }
+    Ok(())
 }
 
 /// A child is of the set that its field asks for, and `super` stands only where a link follows it.

@@ -1,4 +1,4 @@
--- The table of operators: spelling and level (ECMA-262, 13.4 to 13.13).
+-- The table of operators: spelling and level (ECMA-262, 13.4 to 13.15).
 use Rattle.std.specs.Prelude.{ℕ, List, codes}
 use Rattle.jsgen_syntax.specs.declared.precedence.Precedence.{Precedence}
 use Rattle.jsgen_syntax.specs.declared.precedence.Precedence.TheVariants as levels
@@ -10,6 +10,8 @@ use Rattle.jsgen_syntax.specs.declared.operator.UnaryOperator.{UnaryOperator}
 use Rattle.jsgen_syntax.specs.declared.operator.UnaryOperator.TheVariants as unary
 use Rattle.jsgen_syntax.specs.declared.operator.UpdateOperator.{UpdateOperator}
 use Rattle.jsgen_syntax.specs.declared.operator.UpdateOperator.TheVariants as update
+use Rattle.jsgen_syntax.specs.declared.operator.AssignmentOperator.{AssignmentOperator}
+use Rattle.jsgen_syntax.specs.declared.operator.AssignmentOperator.TheVariants as assignment
 
 abbrev pub binary_text : BinaryOperator → List ℕ
 binary_text operators.Equality = codes "=="
@@ -118,3 +120,26 @@ unary_level o = levels.Prefix
 abbrev pub update_text : UpdateOperator → List ℕ
 update_text update.Increment = codes "++"
 update_text update.Decrement = codes "--"
+
+-- ---- between a target and what it is given
+
+abbrev pub assignment_text : AssignmentOperator → List ℕ
+assignment_text assignment.Assign = codes "="
+assignment_text assignment.Addition = codes "+="
+assignment_text assignment.Subtraction = codes "-="
+assignment_text assignment.Multiplication = codes "*="
+assignment_text assignment.Division = codes "/="
+assignment_text assignment.Remainder = codes "%="
+assignment_text assignment.Exponential = codes "**="
+assignment_text assignment.ShiftLeft = codes "<<="
+assignment_text assignment.ShiftRight = codes ">>="
+assignment_text assignment.ShiftRightZeroFill = codes ">>>="
+assignment_text assignment.BitwiseOR = codes "|="
+assignment_text assignment.BitwiseXOR = codes "^="
+assignment_text assignment.BitwiseAnd = codes "&="
+assignment_text assignment.LogicalOr = codes "||="
+assignment_text assignment.LogicalAnd = codes "&&="
+assignment_text assignment.LogicalNullish = codes "??="
+
+abbrev pub assignment_level : AssignmentOperator → Precedence
+assignment_level o = levels.Assign

@@ -19,7 +19,9 @@ pub use js_str::JsStr;
 pub use line::is_line_terminator;
 pub use memory::Memory;
 pub use name::{is_name, is_reserved, is_strict_reserved};
-pub use operator::{BinaryOperator, LogicalOperator, UnaryOperator, UpdateOperator};
+pub use operator::{
+    AssignmentOperator, BinaryOperator, LogicalOperator, UnaryOperator, UpdateOperator,
+};
 pub use precedence::{GetPrecedence, Precedence, levels_are_ordered};
 pub use quote::Quote;
 pub use span::{SourceKind, Span};

@@ -1,7 +1,7 @@
 ghost use Rattle.std.specs.Prelude.{◌≡◌, ◌==◌};
 ghost use Rattle.std.specs.List.{list_all};
 ghost use Rattle.std.specs.Char.{is_ascii_alphabetic};
-ghost use Rattle.jsgen_syntax.specs.Operator.{binary_text, binary_level, lower_level, logical_text, logical_level, logical_lower_level, unary_text, unary_level, update_text};
+ghost use Rattle.jsgen_syntax.specs.Operator.{binary_text, binary_level, lower_level, logical_text, logical_level, logical_lower_level, unary_text, unary_level, update_text, assignment_text, assignment_level};
 ghost use Rattle.jsgen_syntax.specs.Precedence.{rank};
 
 use crate::precedence::{GetPrecedence, Precedence};
@@ -243,5 +243,60 @@ impl UpdateOperator {
             UpdateOperator::Increment => "++",
             UpdateOperator::Decrement => "--",
         }
+    }
+}
+
+/// The operators of an assignment (ECMA-262, 13.15).
+#[derive(Clone, Copy, Debug, PartialEq, Eq, Hash)]
+pub enum AssignmentOperator {
+    Assign,
+    Addition,
+    Subtraction,
+    Multiplication,
+    Division,
+    Remainder,
+    Exponential,
+    ShiftLeft,
+    ShiftRight,
+    ShiftRightZeroFill,
+    BitwiseOR,
+    BitwiseXOR,
+    BitwiseAnd,
+    LogicalOr,
+    LogicalAnd,
+    LogicalNullish,
+}
+
+impl AssignmentOperator {
+    /// The spelling.
+    pub fn as_str(self) -> &'static str
+        ensures { result.now ≡ assignment_text self }
+    {
+        match self {
+            AssignmentOperator::Assign => "=",
+            AssignmentOperator::Addition => "+=",
+            AssignmentOperator::Subtraction => "-=",
+            AssignmentOperator::Multiplication => "*=",
+            AssignmentOperator::Division => "/=",
+            AssignmentOperator::Remainder => "%=",
+            AssignmentOperator::Exponential => "**=",
+            AssignmentOperator::ShiftLeft => "<<=",
+            AssignmentOperator::ShiftRight => ">>=",
+            AssignmentOperator::ShiftRightZeroFill => ">>>=",
+            AssignmentOperator::BitwiseOR => "|=",
+            AssignmentOperator::BitwiseXOR => "^=",
+            AssignmentOperator::BitwiseAnd => "&=",
+            AssignmentOperator::LogicalOr => "||=",
+            AssignmentOperator::LogicalAnd => "&&=",
+            AssignmentOperator::LogicalNullish => "??=",
+        }
+    }
+}
+
+impl GetPrecedence for AssignmentOperator {
+    ghost level = { λ operator. assignment_level operator };
+
+    fn precedence(&self) -> Precedence {
+        Precedence::Assign
     }
 }

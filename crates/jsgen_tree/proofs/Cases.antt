@@ -4,7 +4,9 @@ use Rattle.std.specs.declared.alloc.Global.{Global}
 use Rattle.std.proofs.Common.{Box, None, Some}
 use Rattle.jsgen_tree.specs.declared.sets.Argument.{Argument}
 use Rattle.jsgen_tree.specs.declared.sets.ArrayExpressionElement.{ArrayExpressionElement}
+use Rattle.jsgen_tree.specs.declared.sets.ChainElement.{ChainElement}
 use Rattle.jsgen_tree.specs.declared.sets.SimpleAssignmentTarget.{SimpleAssignmentTarget}
+use Rattle.jsgen_tree.specs.declared.sets.AssignmentTarget.{AssignmentTarget}
 use Rattle.jsgen_tree.specs.declared.sets.ObjectPropertyKind.{ObjectPropertyKind}
 use Rattle.jsgen_tree.specs.declared.sets.PropertyKey.{PropertyKey}
 use Rattle.jsgen_tree.specs.declared.nodes.ExpressionNode.{ExpressionNode}
@@ -15,12 +17,17 @@ use Rattle.jsgen_tree.specs.declared.expressions.IdentifierReference.{Identifier
 use Rattle.jsgen_tree.specs.declared.expressions.IdentifierName.{IdentifierName}
 use Rattle.jsgen_tree.specs.declared.expressions.StaticMemberExpression.{StaticMemberExpression}
 use Rattle.jsgen_tree.specs.declared.expressions.ComputedMemberExpression.{ComputedMemberExpression}
+use Rattle.jsgen_tree.specs.declared.expressions.CallExpression.{CallExpression}
+use Rattle.jsgen_tree.specs.declared.expressions.ChainExpression.{ChainExpression}
 use Rattle.jsgen_tree.specs.declared.collections.SpreadElement.{SpreadElement}
 use Rattle.jsgen_tree.specs.declared.collections.ObjectProperty.{ObjectProperty}
 use Rattle.jsgen_tree.specs.declared.operations.UpdateExpression.{UpdateExpression}
+use Rattle.jsgen_tree.specs.declared.assignments.AssignmentExpression.{AssignmentExpression}
 use Rattle.jsgen_tree.specs.declared.sets.Argument.TheVariants as arguments
 use Rattle.jsgen_tree.specs.declared.sets.ArrayExpressionElement.TheVariants as array_expression_elements
+use Rattle.jsgen_tree.specs.declared.sets.ChainElement.TheVariants as chain_elements
 use Rattle.jsgen_tree.specs.declared.sets.SimpleAssignmentTarget.TheVariants as simple_assignment_targets
+use Rattle.jsgen_tree.specs.declared.sets.AssignmentTarget.TheVariants as assignment_targets
 use Rattle.jsgen_tree.specs.declared.sets.ObjectPropertyKind.TheVariants as object_property_kinds
 use Rattle.jsgen_tree.specs.declared.sets.PropertyKey.TheVariants as property_keys
 
@@ -34,10 +41,20 @@ pub with_array_expression_element : {N : Type 0} (P : ArrayExpressionElement N �
 with_array_expression_element P of_spread_element of_expression (array_expression_elements.SpreadElement b) = of_spread_element b
 with_array_expression_element P of_spread_element of_expression (array_expression_elements.Expression b) = of_expression b
 
+pub with_chain_element : {N : Type 0} (P : ChainElement N → Type 0) → ((b : Box (StaticMemberExpression N) Global) → P (chain_elements.StaticMemberExpression b)) → ((b : Box (ComputedMemberExpression N) Global) → P (chain_elements.ComputedMemberExpression b)) → ((b : Box (CallExpression N) Global) → P (chain_elements.CallExpression b)) → (n : ChainElement N) → P n
+with_chain_element P of_static_member_expression of_computed_member_expression of_call_expression (chain_elements.StaticMemberExpression b) = of_static_member_expression b
+with_chain_element P of_static_member_expression of_computed_member_expression of_call_expression (chain_elements.ComputedMemberExpression b) = of_computed_member_expression b
+with_chain_element P of_static_member_expression of_computed_member_expression of_call_expression (chain_elements.CallExpression b) = of_call_expression b
+
 pub with_simple_assignment_target : {N : Type 0} (P : SimpleAssignmentTarget N → Type 0) → ((b : Box IdentifierReference Global) → P (simple_assignment_targets.IdentifierReference b)) → ((b : Box (StaticMemberExpression N) Global) → P (simple_assignment_targets.StaticMemberExpression b)) → ((b : Box (ComputedMemberExpression N) Global) → P (simple_assignment_targets.ComputedMemberExpression b)) → (n : SimpleAssignmentTarget N) → P n
 with_simple_assignment_target P of_identifier_reference of_static_member_expression of_computed_member_expression (simple_assignment_targets.IdentifierReference b) = of_identifier_reference b
 with_simple_assignment_target P of_identifier_reference of_static_member_expression of_computed_member_expression (simple_assignment_targets.StaticMemberExpression b) = of_static_member_expression b
 with_simple_assignment_target P of_identifier_reference of_static_member_expression of_computed_member_expression (simple_assignment_targets.ComputedMemberExpression b) = of_computed_member_expression b
+
+pub with_assignment_target : {N : Type 0} (P : AssignmentTarget N → Type 0) → ((b : Box IdentifierReference Global) → P (assignment_targets.IdentifierReference b)) → ((b : Box (StaticMemberExpression N) Global) → P (assignment_targets.StaticMemberExpression b)) → ((b : Box (ComputedMemberExpression N) Global) → P (assignment_targets.ComputedMemberExpression b)) → (n : AssignmentTarget N) → P n
+with_assignment_target P of_identifier_reference of_static_member_expression of_computed_member_expression (assignment_targets.IdentifierReference b) = of_identifier_reference b
+with_assignment_target P of_identifier_reference of_static_member_expression of_computed_member_expression (assignment_targets.StaticMemberExpression b) = of_static_member_expression b
+with_assignment_target P of_identifier_reference of_static_member_expression of_computed_member_expression (assignment_targets.ComputedMemberExpression b) = of_computed_member_expression b
 
 pub with_object_property_kind : {N : Type 0} (P : ObjectPropertyKind N → Type 0) → ((b : Box (ObjectProperty N) Global) → P (object_property_kinds.ObjectProperty b)) → ((b : Box (SpreadElement N) Global) → P (object_property_kinds.SpreadElement b)) → (n : ObjectPropertyKind N) → P n
 with_object_property_kind P of_object_property of_spread_element (object_property_kinds.ObjectProperty b) = of_object_property b
@@ -55,6 +72,9 @@ variable_declarator_by_init P none some n = elim n.init as (λ o. P (record n { 
 pub if_statement_by_alternate : {N : Type 0} (P : IfStatement N → Type 0) → ((n : IfStatement N) → P (record n { alternate = None })) → ((c : StatementNode N) (n : IfStatement N) → P (record n { alternate = Some c })) → (n : IfStatement N) → P n
 if_statement_by_alternate P none some n = elim n.alternate as (λ o. P (record n { alternate = o })) [ None ↦ none n | Some c ↦ some c n ]
 
+pub chain_expression_by_expression : {N : Type 0} (P : ChainExpression N → Type 0) → ((b : Box (StaticMemberExpression N) Global) (n : ChainExpression N) → P (record n { expression = (chain_elements.StaticMemberExpression b) })) → ((b : Box (ComputedMemberExpression N) Global) (n : ChainExpression N) → P (record n { expression = (chain_elements.ComputedMemberExpression b) })) → ((b : Box (CallExpression N) Global) (n : ChainExpression N) → P (record n { expression = (chain_elements.CallExpression b) })) → (n : ChainExpression N) → P n
+chain_expression_by_expression P of_static_member_expression of_computed_member_expression of_call_expression n = elim n.expression as (λ o. P (record n { expression = o })) [ chain_elements.StaticMemberExpression b ↦ of_static_member_expression b n | chain_elements.ComputedMemberExpression b ↦ of_computed_member_expression b n | chain_elements.CallExpression b ↦ of_call_expression b n ]
+
 pub object_property_by_key : {N : Type 0} (P : ObjectProperty N → Type 0) → ((b : Box IdentifierName Global) (n : ObjectProperty N) → P (record n { key = (property_keys.IdentifierName b) })) → ((b : Box (ExpressionNode N) Global) (n : ObjectProperty N) → P (record n { key = (property_keys.Expression b) })) → (n : ObjectProperty N) → P n
 object_property_by_key P of_identifier_name of_expression n = elim n.key as (λ o. P (record n { key = o })) [ property_keys.IdentifierName b ↦ of_identifier_name b n | property_keys.Expression b ↦ of_expression b n ]
 
@@ -63,3 +83,6 @@ boxed_object_property_by_key P of_identifier_name of_expression n = elim n.value
 
 pub update_expression_by_argument : {N : Type 0} (P : UpdateExpression N → Type 0) → ((b : Box IdentifierReference Global) (n : UpdateExpression N) → P (record n { argument = (simple_assignment_targets.IdentifierReference b) })) → ((b : Box (StaticMemberExpression N) Global) (n : UpdateExpression N) → P (record n { argument = (simple_assignment_targets.StaticMemberExpression b) })) → ((b : Box (ComputedMemberExpression N) Global) (n : UpdateExpression N) → P (record n { argument = (simple_assignment_targets.ComputedMemberExpression b) })) → (n : UpdateExpression N) → P n
 update_expression_by_argument P of_identifier_reference of_static_member_expression of_computed_member_expression n = elim n.argument as (λ o. P (record n { argument = o })) [ simple_assignment_targets.IdentifierReference b ↦ of_identifier_reference b n | simple_assignment_targets.StaticMemberExpression b ↦ of_static_member_expression b n | simple_assignment_targets.ComputedMemberExpression b ↦ of_computed_member_expression b n ]
+
+pub assignment_expression_by_left : {N : Type 0} (P : AssignmentExpression N → Type 0) → ((b : Box IdentifierReference Global) (n : AssignmentExpression N) → P (record n { left = (assignment_targets.IdentifierReference b) })) → ((b : Box (StaticMemberExpression N) Global) (n : AssignmentExpression N) → P (record n { left = (assignment_targets.StaticMemberExpression b) })) → ((b : Box (ComputedMemberExpression N) Global) (n : AssignmentExpression N) → P (record n { left = (assignment_targets.ComputedMemberExpression b) })) → (n : AssignmentExpression N) → P n
+assignment_expression_by_left P of_identifier_reference of_static_member_expression of_computed_member_expression n = elim n.left as (λ o. P (record n { left = o })) [ assignment_targets.IdentifierReference b ↦ of_identifier_reference b n | assignment_targets.StaticMemberExpression b ↦ of_static_member_expression b n | assignment_targets.ComputedMemberExpression b ↦ of_computed_member_expression b n ]

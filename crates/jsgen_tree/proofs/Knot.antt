@@ -1,7 +1,7 @@
 -- Generated from tools/nodes/table.txt; edit that and run tools/nodes/generate.
 -- The plain data of the recursive type is, set by set, that of what it holds.
 use Rattle.std.proofs.Common.{◌≡◌, refl, sym, ap, ◌∙◌}
-use Rattle.jsgen_tree.proofs.Cases.{with_argument, with_array_expression_element, with_object_property_kind, variable_declarator_by_init, if_statement_by_alternate, boxed_object_property_by_key, update_expression_by_argument}
+use Rattle.jsgen_tree.proofs.Cases.{with_argument, with_array_expression_element, with_object_property_kind, variable_declarator_by_init, if_statement_by_alternate, chain_expression_by_expression, boxed_object_property_by_key, update_expression_by_argument, assignment_expression_by_left}
 use Rattle.jsgen_tree.specs.Plain.{node_plain, layer}
 use Rattle.jsgen_tree.specs.Spans.{expression_span, declaration_span, statement_span, binding_pattern_span}
 use Rattle.jsgen_tree.specs.Tree.{Tree, trees, holed, span_of}
@@ -40,6 +40,7 @@ natural_expression h (expressions.ParenthesizedExpression b) = refl
 natural_expression h (expressions.StaticMemberExpression b) = refl
 natural_expression h (expressions.ComputedMemberExpression b) = refl
 natural_expression h (expressions.CallExpression b) = same_slots (same_one refl (same_many (ap trees (map_after _ _ _ (with_argument _ (λ n. refl) (λ b. refl)) b.value.arguments.items)) refl))
+natural_expression h (expressions.ChainExpression b) = (chain_expression_by_expression (λ n. layer (map-Node Node Tree h (opened.Expression (expressions.ChainExpression (record b { value = n })))) ≡ expression_plain h (expressions.ChainExpression (record b { value = n }))) (λ n_expression. (λ n. refl)) (λ n_expression. (λ n. refl)) (λ n_expression. (λ n. same_slots (same_one (same_slots (same_one refl (same_many (ap trees (map_after _ _ _ (with_argument _ (λ n. refl) (λ b. refl)) n_expression.value.arguments.items)) refl))) refl)))) b.value
 natural_expression h (expressions.ArrayExpression b) = same_slots (same_many (ap holed (map_after _ _ _ (with_hole _ refl (with_array_expression_element _ (λ n. refl) (λ b. refl))) b.value.elements.items)) refl)
 natural_expression h (expressions.ObjectExpression b) = same_slots (same_many (ap trees (map_after _ _ _ (with_object_property_kind _ (boxed_object_property_by_key _ (λ n_key. (λ n. refl)) (λ n_key. (λ n. refl))) (λ n. refl)) b.value.properties.items)) refl)
 natural_expression h (expressions.UnaryExpression b) = refl
@@ -47,6 +48,9 @@ natural_expression h (expressions.UpdateExpression b) = (update_expression_by_ar
 natural_expression h (expressions.NewExpression b) = same_slots (same_one refl (same_many (ap trees (map_after _ _ _ (with_argument _ (λ n. refl) (λ b. refl)) b.value.arguments.items)) refl))
 natural_expression h (expressions.NewTarget b) = refl
 natural_expression h (expressions.Super b) = refl
+natural_expression h (expressions.ConditionalExpression b) = refl
+natural_expression h (expressions.SequenceExpression b) = same_slots (same_many (ap trees (map_after _ _ _ (λ n. refl) b.value.expressions.items)) refl)
+natural_expression h (expressions.AssignmentExpression b) = (assignment_expression_by_left (λ n. layer (map-Node Node Tree h (opened.Expression (expressions.AssignmentExpression (record b { value = n })))) ≡ expression_plain h (expressions.AssignmentExpression (record b { value = n }))) (λ n_left. (λ n. refl)) (λ n_left. (λ n. refl)) (λ n_left. (λ n. refl))) b.value
 
 natural_declaration : (h : Node → Tree) (n : Declaration Node) → layer (map-Node Node Tree h (opened.Declaration n)) ≡ declaration_plain h n
 natural_declaration h (declarations.VariableDeclaration b) = same_slots (same_many (ap trees (map_after _ _ _ (variable_declarator_by_init _ (λ n. refl) (λ n_init. (λ n. refl))) b.value.declarations.items)) refl)
@@ -86,6 +90,7 @@ of_expression h (expressions.ParenthesizedExpression b) = refl
 of_expression h (expressions.StaticMemberExpression b) = refl
 of_expression h (expressions.ComputedMemberExpression b) = refl
 of_expression h (expressions.CallExpression b) = refl
+of_expression h (expressions.ChainExpression b) = refl
 of_expression h (expressions.ArrayExpression b) = refl
 of_expression h (expressions.ObjectExpression b) = refl
 of_expression h (expressions.UnaryExpression b) = refl
@@ -93,6 +98,9 @@ of_expression h (expressions.UpdateExpression b) = refl
 of_expression h (expressions.NewExpression b) = refl
 of_expression h (expressions.NewTarget b) = refl
 of_expression h (expressions.Super b) = refl
+of_expression h (expressions.ConditionalExpression b) = refl
+of_expression h (expressions.SequenceExpression b) = refl
+of_expression h (expressions.AssignmentExpression b) = refl
 
 pub expression_spans : (n : Expression Node) → expression_span n ≡ span_of (node_plain (nodes.Expression n))
 expression_spans n = of_expression node_plain n ∙ ap span_of (sym (plain_expression n))

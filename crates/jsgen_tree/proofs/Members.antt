@@ -29,6 +29,7 @@ of_expression h (expressions.ParenthesizedExpression b) = refl
 of_expression h (expressions.StaticMemberExpression b) = refl
 of_expression h (expressions.ComputedMemberExpression b) = refl
 of_expression h (expressions.CallExpression b) = refl
+of_expression h (expressions.ChainExpression b) = refl
 of_expression h (expressions.ArrayExpression b) = refl
 of_expression h (expressions.ObjectExpression b) = refl
 of_expression h (expressions.UnaryExpression b) = refl
@@ -36,6 +37,9 @@ of_expression h (expressions.UpdateExpression b) = refl
 of_expression h (expressions.NewExpression b) = refl
 of_expression h (expressions.NewTarget b) = refl
 of_expression h (expressions.Super b) = refl
+of_expression h (expressions.ConditionalExpression b) = refl
+of_expression h (expressions.SequenceExpression b) = refl
+of_expression h (expressions.AssignmentExpression b) = refl
 
 pub expression_is_one : (n : Expression Node) → is_expression (type_of (node_plain (nodes.Expression n))) ≡ true
 expression_is_one n = ap (λ t. is_expression (type_of t)) (plain_expression n) ∙ of_expression node_plain n

@@ -9,6 +9,7 @@ use Rattle.jsgen_syntax.specs.declared.operator.LogicalOperator.{LogicalOperator
 use Rattle.jsgen_tree.specs.declared.collections.PropertyKind.{PropertyKind}
 use Rattle.jsgen_syntax.specs.declared.operator.UnaryOperator.{UnaryOperator}
 use Rattle.jsgen_syntax.specs.declared.operator.UpdateOperator.{UpdateOperator}
+use Rattle.jsgen_syntax.specs.declared.operator.AssignmentOperator.{AssignmentOperator}
 
 pub data Atom : Type 0 where
   -- of a field that is absent
@@ -27,3 +28,4 @@ pub data Atom : Type 0 where
   property_kind : PropertyKind → Atom
   unary_operator : UnaryOperator → Atom
   update_operator : UpdateOperator → Atom
+  assignment_operator : AssignmentOperator → Atom

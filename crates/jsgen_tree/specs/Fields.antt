@@ -15,6 +15,7 @@ use Rattle.jsgen_syntax.specs.declared.operator.LogicalOperator.TheVariants as l
 use Rattle.jsgen_tree.specs.declared.collections.PropertyKind.TheVariants as property_kinds
 use Rattle.jsgen_syntax.specs.declared.operator.UnaryOperator.TheVariants as unary_operators
 use Rattle.jsgen_syntax.specs.declared.operator.UpdateOperator.TheVariants as update_operators
+use Rattle.jsgen_syntax.specs.declared.operator.AssignmentOperator.TheVariants as assignment_operators
 
 -- ---- words
 
@@ -41,6 +42,9 @@ unary_operator_words = means (codes "+") (atoms.unary_operator unary_operators.U
 
 abbrev pub update_operator_words : List Word
 update_operator_words = means (codes "++") (atoms.update_operator update_operators.Increment) ∷ means (codes "--") (atoms.update_operator update_operators.Decrement) ∷ []
+
+abbrev pub assignment_operator_words : List Word
+assignment_operator_words = means (codes "=") (atoms.assignment_operator assignment_operators.Assign) ∷ means (codes "+=") (atoms.assignment_operator assignment_operators.Addition) ∷ means (codes "-=") (atoms.assignment_operator assignment_operators.Subtraction) ∷ means (codes "*=") (atoms.assignment_operator assignment_operators.Multiplication) ∷ means (codes "/=") (atoms.assignment_operator assignment_operators.Division) ∷ means (codes "%=") (atoms.assignment_operator assignment_operators.Remainder) ∷ means (codes "**=") (atoms.assignment_operator assignment_operators.Exponential) ∷ means (codes "<<=") (atoms.assignment_operator assignment_operators.ShiftLeft) ∷ means (codes ">>=") (atoms.assignment_operator assignment_operators.ShiftRight) ∷ means (codes ">>>=") (atoms.assignment_operator assignment_operators.ShiftRightZeroFill) ∷ means (codes "|=") (atoms.assignment_operator assignment_operators.BitwiseOR) ∷ means (codes "^=") (atoms.assignment_operator assignment_operators.BitwiseXOR) ∷ means (codes "&=") (atoms.assignment_operator assignment_operators.BitwiseAnd) ∷ means (codes "||=") (atoms.assignment_operator assignment_operators.LogicalOr) ∷ means (codes "&&=") (atoms.assignment_operator assignment_operators.LogicalAnd) ∷ means (codes "??=") (atoms.assignment_operator assignment_operators.LogicalNullish) ∷ []
 
 -- ---- fields: one list for each type, in the order of their numbers, from 2 on
 
@@ -105,13 +109,16 @@ abbrev pub identifier_name_fields : List Field
 identifier_name_fields = needs (codes "name") sorts.text ∷ []
 
 abbrev pub static_member_expression_fields : List Field
-static_member_expression_fields = needs (codes "object") (sorts.child sets.Expression) ∷ not_yet (codes "optional") sorts.flag ∷ needs (codes "property") (sorts.child sets.IdentifierName) ∷ []
+static_member_expression_fields = needs (codes "object") (sorts.child sets.Expression) ∷ has_by_default (atoms.flag false) (codes "optional") sorts.flag ∷ needs (codes "property") (sorts.child sets.IdentifierName) ∷ []
 
 abbrev pub computed_member_expression_fields : List Field
-computed_member_expression_fields = needs (codes "object") (sorts.child sets.Expression) ∷ not_yet (codes "optional") sorts.flag ∷ needs (codes "expression") (sorts.child sets.Expression) ∷ []
+computed_member_expression_fields = needs (codes "object") (sorts.child sets.Expression) ∷ has_by_default (atoms.flag false) (codes "optional") sorts.flag ∷ needs (codes "expression") (sorts.child sets.Expression) ∷ []
 
 abbrev pub call_expression_fields : List Field
-call_expression_fields = needs (codes "callee") (sorts.child sets.Expression) ∷ not_yet (codes "type_arguments") sorts.unread_child ∷ may_have (codes "arguments") (sorts.children sets.Argument) ∷ not_yet (codes "optional") sorts.flag ∷ has_by_default (atoms.flag false) (codes "pure") sorts.flag ∷ []
+call_expression_fields = needs (codes "callee") (sorts.child sets.Expression) ∷ not_yet (codes "type_arguments") sorts.unread_child ∷ may_have (codes "arguments") (sorts.children sets.Argument) ∷ has_by_default (atoms.flag false) (codes "optional") sorts.flag ∷ has_by_default (atoms.flag false) (codes "pure") sorts.flag ∷ []
+
+abbrev pub chain_expression_fields : List Field
+chain_expression_fields = needs (codes "expression") (sorts.child sets.ChainElement) ∷ []
 
 abbrev pub spread_element_fields : List Field
 spread_element_fields = needs (codes "argument") (sorts.child sets.Expression) ∷ []
@@ -140,6 +147,15 @@ new_expression_fields = needs (codes "callee") (sorts.child sets.Expression) ∷
 abbrev pub super_fields : List Field
 super_fields = []
 
+abbrev pub conditional_expression_fields : List Field
+conditional_expression_fields = needs (codes "test") (sorts.child sets.Expression) ∷ needs (codes "consequent") (sorts.child sets.Expression) ∷ needs (codes "alternate") (sorts.child sets.Expression) ∷ []
+
+abbrev pub sequence_expression_fields : List Field
+sequence_expression_fields = may_have (codes "expressions") (sorts.children sets.Expression) ∷ []
+
+abbrev pub assignment_expression_fields : List Field
+assignment_expression_fields = needs (codes "operator") (sorts.word assignment_operator_words) ∷ needs (codes "left") (sorts.child sets.AssignmentTarget) ∷ needs (codes "right") (sorts.child sets.Expression) ∷ []
+
 abbrev pub fields : NodeType → List Field
 fields types.Program = program_fields
 fields types.Directive = directive_fields
@@ -164,6 +180,7 @@ fields types.IdentifierName = identifier_name_fields
 fields types.StaticMemberExpression = static_member_expression_fields
 fields types.ComputedMemberExpression = computed_member_expression_fields
 fields types.CallExpression = call_expression_fields
+fields types.ChainExpression = chain_expression_fields
 fields types.SpreadElement = spread_element_fields
 fields types.ArrayExpression = array_expression_fields
 fields types.ObjectProperty = object_property_fields
@@ -173,3 +190,6 @@ fields types.NewTarget = new_target_fields
 fields types.UpdateExpression = update_expression_fields
 fields types.NewExpression = new_expression_fields
 fields types.Super = super_fields
+fields types.ConditionalExpression = conditional_expression_fields
+fields types.SequenceExpression = sequence_expression_fields
+fields types.AssignmentExpression = assignment_expression_fields

@@ -1,9 +1,9 @@
--- What a statement ends in, what stands within the parentheses of an expression, which name a node is, and whether a number is negative.
-use Rattle.std.specs.Prelude.{◌≡◌, ◌==◌, ℕ, List, [], ◌∷◌, Bool, true, false, Option, Some, None, is_some, option_and_then, codes, if◌then◌else◌}
+-- What a statement ends in, what stands within the parentheses of an expression, what a link goes on from, which name a node is, and whether a number is negative.
+use Rattle.std.specs.Prelude.{◌≡◌, ◌==◌, ℕ, List, [], ◌∷◌, Bool, true, false, Option, Some, None, is_some, option_and_then, codes, if◌then◌else◌, ◌||◌}
 use Rattle.std.specs.Str.{bytes_eq}
 use Rattle.jsgen_tree.specs.Tree.{Tree, absent, given, type_of}
-use Rattle.jsgen_tree.specs.Nodes.{parenthesized, if_statement, identifier_reference, identifier_name, numeric_literal, big_int_literal}
-use Rattle.jsgen_tree.specs.Values.{identifier_reference_name, identifier_name_name, numeric_literal_negative, big_int_literal_value}
+use Rattle.jsgen_tree.specs.Nodes.{parenthesized, if_statement, identifier_reference, identifier_name, numeric_literal, big_int_literal, static_member, computed_member, call}
+use Rattle.jsgen_tree.specs.Values.{identifier_reference_name, identifier_name_name, numeric_literal_negative, big_int_literal_value, static_member_expression_optional, computed_member_expression_optional, call_expression_optional}
 use Rattle.jsgen_tree.specs.Sets.{is_expression}
 
 -- a statement ends in an `if` without `else`
@@ -20,6 +20,13 @@ without_parentheses t = t
 -- an expression, and what stands within its parentheses
 abbrev pub IsInside : Tree → Tree → Type 0
 IsInside outer inner = (is_expression (type_of outer) ≡ true) × (inner ≡ without_parentheses outer)
+
+-- the links of a member or a call are those behind one another up to this one; one of them is `?.`
+abbrev pub has_optional_link : Tree → Bool
+has_optional_link (static_member a object property) = static_member_expression_optional a || has_optional_link object
+has_optional_link (computed_member a object expression) = computed_member_expression_optional a || has_optional_link object
+has_optional_link (call a callee arguments) = call_expression_optional a || has_optional_link callee
+has_optional_link t = false
 
 -- ---- names
 

@@ -72,6 +72,9 @@ computed_member a object expression = node types.ComputedMemberExpression a (one
 pattern abbrev pub call : Atoms → Tree → Trees → Tree
 call a callee arguments = node types.CallExpression a (one callee (many arguments no_slots))
 
+pattern abbrev pub chain : Atoms → Tree → Tree
+chain a expression = node types.ChainExpression a (one expression no_slots)
+
 pattern abbrev pub spread : Atoms → Tree → Tree
 spread a argument = node types.SpreadElement a (one argument no_slots)
 
@@ -98,3 +101,12 @@ new_expression a callee arguments = node types.NewExpression a (one callee (many
 
 pattern abbrev pub super : Atoms → Tree
 super a = node types.Super a no_slots
+
+pattern abbrev pub conditional : Atoms → Tree → Tree → Tree → Tree
+conditional a test consequent alternate = node types.ConditionalExpression a (one test (one consequent (one alternate no_slots)))
+
+pattern abbrev pub sequence : Atoms → Trees → Tree
+sequence a expressions = node types.SequenceExpression a (many expressions no_slots)
+
+pattern abbrev pub assignment : Atoms → Tree → Tree → Tree
+assignment a left right = node types.AssignmentExpression a (one left (one right no_slots))

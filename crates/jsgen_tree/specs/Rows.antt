@@ -4,8 +4,8 @@ use Rattle.std.specs.Prelude.{[], ◌∷◌, map, option_map}
 use Rattle.jsgen_syntax.specs.Units.{js_units}
 use Rattle.jsgen_tree.specs.Characters.{characters, numeric_values}
 use Rattle.jsgen_tree.specs.Tree.{Tree, optional, trees, holed}
-use Rattle.jsgen_tree.specs.Atom.{no_value, text, units, flag, source_kind, declaration_kind, binary_operator, logical_operator, property_kind, unary_operator, update_operator}
-use Rattle.jsgen_tree.specs.Nodes.{program, directive, variable_declaration, variable_declarator, binding_identifier, expression_statement, block, if_statement, empty_statement, identifier_reference, this_expression, null_literal, boolean_literal, numeric_literal, big_int_literal, string_literal, parenthesized, binary, logical, identifier_name, static_member, computed_member, call, spread, array, object_property, object_expression, unary, new_target, update, new_expression, super}
+use Rattle.jsgen_tree.specs.Atom.{no_value, text, units, flag, source_kind, declaration_kind, binary_operator, logical_operator, property_kind, unary_operator, update_operator, assignment_operator}
+use Rattle.jsgen_tree.specs.Nodes.{program, directive, variable_declaration, variable_declarator, binding_identifier, expression_statement, block, if_statement, empty_statement, identifier_reference, this_expression, null_literal, boolean_literal, numeric_literal, big_int_literal, string_literal, parenthesized, binary, logical, identifier_name, static_member, computed_member, call, chain, spread, array, object_property, object_expression, unary, new_target, update, new_expression, super, conditional, sequence, assignment}
 use Rattle.jsgen_tree.specs.declared.nodes.ExpressionNode.{ExpressionNode}
 use Rattle.jsgen_tree.specs.declared.nodes.DeclarationNode.{DeclarationNode}
 use Rattle.jsgen_tree.specs.declared.nodes.StatementNode.{StatementNode}
@@ -33,6 +33,7 @@ use Rattle.jsgen_tree.specs.declared.expressions.IdentifierName.{IdentifierName}
 use Rattle.jsgen_tree.specs.declared.expressions.StaticMemberExpression.{StaticMemberExpression}
 use Rattle.jsgen_tree.specs.declared.expressions.ComputedMemberExpression.{ComputedMemberExpression}
 use Rattle.jsgen_tree.specs.declared.expressions.CallExpression.{CallExpression}
+use Rattle.jsgen_tree.specs.declared.expressions.ChainExpression.{ChainExpression}
 use Rattle.jsgen_tree.specs.declared.collections.SpreadElement.{SpreadElement}
 use Rattle.jsgen_tree.specs.declared.collections.ArrayExpression.{ArrayExpression}
 use Rattle.jsgen_tree.specs.declared.collections.ObjectProperty.{ObjectProperty}
@@ -42,10 +43,15 @@ use Rattle.jsgen_tree.specs.declared.operations.NewTarget.{NewTarget}
 use Rattle.jsgen_tree.specs.declared.operations.UpdateExpression.{UpdateExpression}
 use Rattle.jsgen_tree.specs.declared.operations.NewExpression.{NewExpression}
 use Rattle.jsgen_tree.specs.declared.operations.Super.{Super}
+use Rattle.jsgen_tree.specs.declared.assignments.ConditionalExpression.{ConditionalExpression}
+use Rattle.jsgen_tree.specs.declared.assignments.SequenceExpression.{SequenceExpression}
+use Rattle.jsgen_tree.specs.declared.assignments.AssignmentExpression.{AssignmentExpression}
 use Rattle.jsgen_tree.specs.declared.sets.Expression.{Expression}
 use Rattle.jsgen_tree.specs.declared.sets.Argument.{Argument}
 use Rattle.jsgen_tree.specs.declared.sets.ArrayExpressionElement.{ArrayExpressionElement}
+use Rattle.jsgen_tree.specs.declared.sets.ChainElement.{ChainElement}
 use Rattle.jsgen_tree.specs.declared.sets.SimpleAssignmentTarget.{SimpleAssignmentTarget}
+use Rattle.jsgen_tree.specs.declared.sets.AssignmentTarget.{AssignmentTarget}
 use Rattle.jsgen_tree.specs.declared.sets.ObjectPropertyKind.{ObjectPropertyKind}
 use Rattle.jsgen_tree.specs.declared.sets.PropertyKey.{PropertyKey}
 use Rattle.jsgen_tree.specs.declared.sets.Declaration.{Declaration}
@@ -54,7 +60,9 @@ use Rattle.jsgen_tree.specs.declared.sets.BindingPattern.{BindingPattern}
 use Rattle.jsgen_tree.specs.declared.sets.Expression.TheVariants as expression
 use Rattle.jsgen_tree.specs.declared.sets.Argument.TheVariants as argument
 use Rattle.jsgen_tree.specs.declared.sets.ArrayExpressionElement.TheVariants as array_expression_element
+use Rattle.jsgen_tree.specs.declared.sets.ChainElement.TheVariants as chain_element
 use Rattle.jsgen_tree.specs.declared.sets.SimpleAssignmentTarget.TheVariants as simple_assignment_target
+use Rattle.jsgen_tree.specs.declared.sets.AssignmentTarget.TheVariants as assignment_target
 use Rattle.jsgen_tree.specs.declared.sets.ObjectPropertyKind.TheVariants as object_property_kind
 use Rattle.jsgen_tree.specs.declared.sets.PropertyKey.TheVariants as property_key
 use Rattle.jsgen_tree.specs.declared.sets.Declaration.TheVariants as declaration
@@ -138,10 +146,10 @@ abbrev pub identifier_name_row : IdentifierName → Tree
 identifier_name_row n = identifier_name (record { span = n.span; values = text (characters n.name) ∷ [] })
 
 abbrev pub static_member_expression_row : {N : Type 0} → (N → Tree) → StaticMemberExpression N → Tree
-static_member_expression_row plain n = static_member (record { span = n.span; values = no_value ∷ [] }) (in_expression plain n.object) (identifier_name_row n.property.value)
+static_member_expression_row plain n = static_member (record { span = n.span; values = flag n.optional ∷ [] }) (in_expression plain n.object) (identifier_name_row n.property.value)
 
 abbrev pub computed_member_expression_row : {N : Type 0} → (N → Tree) → ComputedMemberExpression N → Tree
-computed_member_expression_row plain n = computed_member (record { span = n.span; values = no_value ∷ [] }) (in_expression plain n.object) (in_expression plain n.expression)
+computed_member_expression_row plain n = computed_member (record { span = n.span; values = flag n.optional ∷ [] }) (in_expression plain n.object) (in_expression plain n.expression)
 
 abbrev pub spread_element_row : {N : Type 0} → (N → Tree) → SpreadElement N → Tree
 spread_element_row plain n = spread (record { span = n.span; values = [] }) (in_expression plain n.argument)
@@ -151,7 +159,15 @@ in_argument plain (argument.SpreadElement b) = spread_element_row plain b.value
 in_argument plain (argument.Expression b) = in_expression plain b.value
 
 abbrev pub call_expression_row : {N : Type 0} → (N → Tree) → CallExpression N → Tree
-call_expression_row plain n = call (record { span = n.span; values = no_value ∷ flag n.pure ∷ [] }) (in_expression plain n.callee) (trees (map (in_argument plain) n.arguments.items))
+call_expression_row plain n = call (record { span = n.span; values = flag n.optional ∷ flag n.pure ∷ [] }) (in_expression plain n.callee) (trees (map (in_argument plain) n.arguments.items))
+
+abbrev pub in_chain_element : {N : Type 0} → (N → Tree) → ChainElement N → Tree
+in_chain_element plain (chain_element.StaticMemberExpression b) = static_member_expression_row plain b.value
+in_chain_element plain (chain_element.ComputedMemberExpression b) = computed_member_expression_row plain b.value
+in_chain_element plain (chain_element.CallExpression b) = call_expression_row plain b.value
+
+abbrev pub chain_expression_row : {N : Type 0} → (N → Tree) → ChainExpression N → Tree
+chain_expression_row plain n = chain (record { span = n.span; values = [] }) (in_chain_element plain n.expression)
 
 abbrev pub in_array_expression_element : {N : Type 0} → (N → Tree) → ArrayExpressionElement N → Tree
 in_array_expression_element plain (array_expression_element.SpreadElement b) = spread_element_row plain b.value
@@ -194,6 +210,20 @@ new_expression_row plain n = new_expression (record { span = n.span; values = fl
 abbrev pub super_row : Super → Tree
 super_row n = super (record { span = n.span; values = [] })
 
+abbrev pub conditional_expression_row : {N : Type 0} → (N → Tree) → ConditionalExpression N → Tree
+conditional_expression_row plain n = conditional (record { span = n.span; values = [] }) (in_expression plain n.test) (in_expression plain n.consequent) (in_expression plain n.alternate)
+
+abbrev pub sequence_expression_row : {N : Type 0} → (N → Tree) → SequenceExpression N → Tree
+sequence_expression_row plain n = sequence (record { span = n.span; values = [] }) (trees (map (in_expression plain) n.expressions.items))
+
+abbrev pub in_assignment_target : {N : Type 0} → (N → Tree) → AssignmentTarget N → Tree
+in_assignment_target plain (assignment_target.IdentifierReference b) = identifier_reference_row b.value
+in_assignment_target plain (assignment_target.StaticMemberExpression b) = static_member_expression_row plain b.value
+in_assignment_target plain (assignment_target.ComputedMemberExpression b) = computed_member_expression_row plain b.value
+
+abbrev pub assignment_expression_row : {N : Type 0} → (N → Tree) → AssignmentExpression N → Tree
+assignment_expression_row plain n = assignment (record { span = n.span; values = assignment_operator n.operator ∷ [] }) (in_assignment_target plain n.left) (in_expression plain n.right)
+
 -- ---- sets that nest
 
 abbrev pub expression_plain : {N : Type 0} → (N → Tree) → Expression N → Tree
@@ -210,6 +240,7 @@ expression_plain plain (expression.ParenthesizedExpression b) = parenthesized_ex
 expression_plain plain (expression.StaticMemberExpression b) = static_member_expression_row plain b.value
 expression_plain plain (expression.ComputedMemberExpression b) = computed_member_expression_row plain b.value
 expression_plain plain (expression.CallExpression b) = call_expression_row plain b.value
+expression_plain plain (expression.ChainExpression b) = chain_expression_row plain b.value
 expression_plain plain (expression.ArrayExpression b) = array_expression_row plain b.value
 expression_plain plain (expression.ObjectExpression b) = object_expression_row plain b.value
 expression_plain plain (expression.UnaryExpression b) = unary_expression_row plain b.value
@@ -217,6 +248,9 @@ expression_plain plain (expression.UpdateExpression b) = update_expression_row p
 expression_plain plain (expression.NewExpression b) = new_expression_row plain b.value
 expression_plain plain (expression.NewTarget b) = new_target_row b.value
 expression_plain plain (expression.Super b) = super_row b.value
+expression_plain plain (expression.ConditionalExpression b) = conditional_expression_row plain b.value
+expression_plain plain (expression.SequenceExpression b) = sequence_expression_row plain b.value
+expression_plain plain (expression.AssignmentExpression b) = assignment_expression_row plain b.value
 
 abbrev pub declaration_plain : {N : Type 0} → (N → Tree) → Declaration N → Tree
 declaration_plain plain (declaration.VariableDeclaration b) = variable_declaration_row plain b.value

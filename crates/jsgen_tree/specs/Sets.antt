@@ -20,6 +20,7 @@ is_expression types.ParenthesizedExpression = true
 is_expression types.StaticMemberExpression = true
 is_expression types.ComputedMemberExpression = true
 is_expression types.CallExpression = true
+is_expression types.ChainExpression = true
 is_expression types.ArrayExpression = true
 is_expression types.ObjectExpression = true
 is_expression types.UnaryExpression = true
@@ -27,6 +28,9 @@ is_expression types.UpdateExpression = true
 is_expression types.NewExpression = true
 is_expression types.NewTarget = true
 is_expression types.Super = true
+is_expression types.ConditionalExpression = true
+is_expression types.SequenceExpression = true
+is_expression types.AssignmentExpression = true
 is_expression other = false
 
 abbrev pub is_argument : NodeType → Bool
@@ -44,6 +48,7 @@ is_argument types.ParenthesizedExpression = true
 is_argument types.StaticMemberExpression = true
 is_argument types.ComputedMemberExpression = true
 is_argument types.CallExpression = true
+is_argument types.ChainExpression = true
 is_argument types.ArrayExpression = true
 is_argument types.ObjectExpression = true
 is_argument types.UnaryExpression = true
@@ -51,6 +56,9 @@ is_argument types.UpdateExpression = true
 is_argument types.NewExpression = true
 is_argument types.NewTarget = true
 is_argument types.Super = true
+is_argument types.ConditionalExpression = true
+is_argument types.SequenceExpression = true
+is_argument types.AssignmentExpression = true
 is_argument other = false
 
 abbrev pub is_array_expression_element : NodeType → Bool
@@ -68,6 +76,7 @@ is_array_expression_element types.ParenthesizedExpression = true
 is_array_expression_element types.StaticMemberExpression = true
 is_array_expression_element types.ComputedMemberExpression = true
 is_array_expression_element types.CallExpression = true
+is_array_expression_element types.ChainExpression = true
 is_array_expression_element types.ArrayExpression = true
 is_array_expression_element types.ObjectExpression = true
 is_array_expression_element types.UnaryExpression = true
@@ -75,13 +84,28 @@ is_array_expression_element types.UpdateExpression = true
 is_array_expression_element types.NewExpression = true
 is_array_expression_element types.NewTarget = true
 is_array_expression_element types.Super = true
+is_array_expression_element types.ConditionalExpression = true
+is_array_expression_element types.SequenceExpression = true
+is_array_expression_element types.AssignmentExpression = true
 is_array_expression_element other = false
+
+abbrev pub is_chain_element : NodeType → Bool
+is_chain_element types.StaticMemberExpression = true
+is_chain_element types.ComputedMemberExpression = true
+is_chain_element types.CallExpression = true
+is_chain_element other = false
 
 abbrev pub is_simple_assignment_target : NodeType → Bool
 is_simple_assignment_target types.IdentifierReference = true
 is_simple_assignment_target types.StaticMemberExpression = true
 is_simple_assignment_target types.ComputedMemberExpression = true
 is_simple_assignment_target other = false
+
+abbrev pub is_assignment_target : NodeType → Bool
+is_assignment_target types.IdentifierReference = true
+is_assignment_target types.StaticMemberExpression = true
+is_assignment_target types.ComputedMemberExpression = true
+is_assignment_target other = false
 
 abbrev pub is_object_property_kind : NodeType → Bool
 is_object_property_kind types.ObjectProperty = true
@@ -103,6 +127,7 @@ is_property_key types.ParenthesizedExpression = true
 is_property_key types.StaticMemberExpression = true
 is_property_key types.ComputedMemberExpression = true
 is_property_key types.CallExpression = true
+is_property_key types.ChainExpression = true
 is_property_key types.ArrayExpression = true
 is_property_key types.ObjectExpression = true
 is_property_key types.UnaryExpression = true
@@ -110,6 +135,9 @@ is_property_key types.UpdateExpression = true
 is_property_key types.NewExpression = true
 is_property_key types.NewTarget = true
 is_property_key types.Super = true
+is_property_key types.ConditionalExpression = true
+is_property_key types.SequenceExpression = true
+is_property_key types.AssignmentExpression = true
 is_property_key other = false
 
 abbrev pub is_declaration : NodeType → Bool
@@ -148,8 +176,10 @@ in_set sets.BindingPattern t = is_binding_pattern t
 in_set sets.Expression t = is_expression t
 in_set sets.IdentifierName t = is_identifier_name t
 in_set sets.Argument t = is_argument t
+in_set sets.ChainElement t = is_chain_element t
 in_set sets.ArrayExpressionElement t = is_array_expression_element t
 in_set sets.PropertyKey t = is_property_key t
 in_set sets.ObjectPropertyKind t = is_object_property_kind t
 in_set sets.SimpleAssignmentTarget t = is_simple_assignment_target t
+in_set sets.AssignmentTarget t = is_assignment_target t
 in_set sets.Link t = is_expression t

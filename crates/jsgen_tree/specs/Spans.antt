@@ -4,7 +4,9 @@ use Rattle.jsgen_syntax.specs.declared.span.Span.{Span}
 use Rattle.jsgen_tree.specs.declared.sets.Expression.{Expression}
 use Rattle.jsgen_tree.specs.declared.sets.Argument.{Argument}
 use Rattle.jsgen_tree.specs.declared.sets.ArrayExpressionElement.{ArrayExpressionElement}
+use Rattle.jsgen_tree.specs.declared.sets.ChainElement.{ChainElement}
 use Rattle.jsgen_tree.specs.declared.sets.SimpleAssignmentTarget.{SimpleAssignmentTarget}
+use Rattle.jsgen_tree.specs.declared.sets.AssignmentTarget.{AssignmentTarget}
 use Rattle.jsgen_tree.specs.declared.sets.ObjectPropertyKind.{ObjectPropertyKind}
 use Rattle.jsgen_tree.specs.declared.sets.PropertyKey.{PropertyKey}
 use Rattle.jsgen_tree.specs.declared.sets.Declaration.{Declaration}
@@ -13,7 +15,9 @@ use Rattle.jsgen_tree.specs.declared.sets.BindingPattern.{BindingPattern}
 use Rattle.jsgen_tree.specs.declared.sets.Expression.TheVariants as expression
 use Rattle.jsgen_tree.specs.declared.sets.Argument.TheVariants as argument
 use Rattle.jsgen_tree.specs.declared.sets.ArrayExpressionElement.TheVariants as array_expression_element
+use Rattle.jsgen_tree.specs.declared.sets.ChainElement.TheVariants as chain_element
 use Rattle.jsgen_tree.specs.declared.sets.SimpleAssignmentTarget.TheVariants as simple_assignment_target
+use Rattle.jsgen_tree.specs.declared.sets.AssignmentTarget.TheVariants as assignment_target
 use Rattle.jsgen_tree.specs.declared.sets.ObjectPropertyKind.TheVariants as object_property_kind
 use Rattle.jsgen_tree.specs.declared.sets.PropertyKey.TheVariants as property_key
 use Rattle.jsgen_tree.specs.declared.sets.Declaration.TheVariants as declaration
@@ -34,6 +38,7 @@ expression_span (expression.ParenthesizedExpression b) = b.value.span
 expression_span (expression.StaticMemberExpression b) = b.value.span
 expression_span (expression.ComputedMemberExpression b) = b.value.span
 expression_span (expression.CallExpression b) = b.value.span
+expression_span (expression.ChainExpression b) = b.value.span
 expression_span (expression.ArrayExpression b) = b.value.span
 expression_span (expression.ObjectExpression b) = b.value.span
 expression_span (expression.UnaryExpression b) = b.value.span
@@ -41,6 +46,9 @@ expression_span (expression.UpdateExpression b) = b.value.span
 expression_span (expression.NewExpression b) = b.value.span
 expression_span (expression.NewTarget b) = b.value.span
 expression_span (expression.Super b) = b.value.span
+expression_span (expression.ConditionalExpression b) = b.value.span
+expression_span (expression.SequenceExpression b) = b.value.span
+expression_span (expression.AssignmentExpression b) = b.value.span
 
 abbrev pub argument_span : {N : Type 0} → (N → Span) → Argument N → Span
 argument_span own (argument.SpreadElement b) = b.value.span
@@ -50,10 +58,20 @@ abbrev pub array_expression_element_span : {N : Type 0} → (N → Span) → Arr
 array_expression_element_span own (array_expression_element.SpreadElement b) = b.value.span
 array_expression_element_span own (array_expression_element.Expression b) = own b.value.node
 
+abbrev pub chain_element_span : {N : Type 0} → ChainElement N → Span
+chain_element_span (chain_element.StaticMemberExpression b) = b.value.span
+chain_element_span (chain_element.ComputedMemberExpression b) = b.value.span
+chain_element_span (chain_element.CallExpression b) = b.value.span
+
 abbrev pub simple_assignment_target_span : {N : Type 0} → SimpleAssignmentTarget N → Span
 simple_assignment_target_span (simple_assignment_target.IdentifierReference b) = b.value.span
 simple_assignment_target_span (simple_assignment_target.StaticMemberExpression b) = b.value.span
 simple_assignment_target_span (simple_assignment_target.ComputedMemberExpression b) = b.value.span
+
+abbrev pub assignment_target_span : {N : Type 0} → AssignmentTarget N → Span
+assignment_target_span (assignment_target.IdentifierReference b) = b.value.span
+assignment_target_span (assignment_target.StaticMemberExpression b) = b.value.span
+assignment_target_span (assignment_target.ComputedMemberExpression b) = b.value.span
 
 abbrev pub object_property_kind_span : {N : Type 0} → ObjectPropertyKind N → Span
 object_property_kind_span (object_property_kind.ObjectProperty b) = b.value.span

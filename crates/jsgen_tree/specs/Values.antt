@@ -9,7 +9,8 @@ use Rattle.jsgen_syntax.specs.declared.operator.LogicalOperator.{LogicalOperator
 use Rattle.jsgen_tree.specs.declared.collections.PropertyKind.{PropertyKind}
 use Rattle.jsgen_syntax.specs.declared.operator.UnaryOperator.{UnaryOperator}
 use Rattle.jsgen_syntax.specs.declared.operator.UpdateOperator.{UpdateOperator}
-use Rattle.jsgen_tree.specs.Atom.{Atom, text, units, digits, flag, source_kind, declaration_kind, numeric_kind, binary_operator, logical_operator, property_kind, unary_operator, update_operator}
+use Rattle.jsgen_syntax.specs.declared.operator.AssignmentOperator.{AssignmentOperator}
+use Rattle.jsgen_tree.specs.Atom.{Atom, text, units, digits, flag, source_kind, declaration_kind, numeric_kind, binary_operator, logical_operator, property_kind, unary_operator, update_operator, assignment_operator}
 use Rattle.jsgen_tree.specs.Tree.{Atoms}
 use Rattle.jsgen_tree.specs.Places.{value_at}
 use Rattle.jsgen_syntax.specs.declared.span.SourceKind.TheVariants as source_kinds
@@ -20,6 +21,7 @@ use Rattle.jsgen_syntax.specs.declared.operator.LogicalOperator.TheVariants as l
 use Rattle.jsgen_tree.specs.declared.collections.PropertyKind.TheVariants as property_kinds
 use Rattle.jsgen_syntax.specs.declared.operator.UnaryOperator.TheVariants as unary_operators
 use Rattle.jsgen_syntax.specs.declared.operator.UpdateOperator.TheVariants as update_operators
+use Rattle.jsgen_syntax.specs.declared.operator.AssignmentOperator.TheVariants as assignment_operators
 
 -- ---- kinds of values; where the value is of another kind, any
 
@@ -70,6 +72,10 @@ as_unary_operator v = unary_operators.UnaryPlus
 abbrev pub as_update_operator : Atom → UpdateOperator
 as_update_operator (update_operator x) = x
 as_update_operator v = update_operators.Increment
+
+abbrev pub as_assignment_operator : Atom → AssignmentOperator
+as_assignment_operator (assignment_operator x) = x
+as_assignment_operator v = assignment_operators.Assign
 
 -- ---- fields, by the type of the node and the field's name
 
@@ -146,17 +152,14 @@ logical_expression_operator a = as_logical_operator (value_at 0 a.values)
 abbrev pub identifier_name_name : Atoms → List ℕ
 identifier_name_name a = as_text (value_at 0 a.values)
 
--- not read yet
-abbrev pub static_member_expression_optional : Atoms → Atom
-static_member_expression_optional a = value_at 0 a.values
+abbrev pub static_member_expression_optional : Atoms → Bool
+static_member_expression_optional a = as_flag (value_at 0 a.values)
 
--- not read yet
-abbrev pub computed_member_expression_optional : Atoms → Atom
-computed_member_expression_optional a = value_at 0 a.values
+abbrev pub computed_member_expression_optional : Atoms → Bool
+computed_member_expression_optional a = as_flag (value_at 0 a.values)
 
--- not read yet
-abbrev pub call_expression_optional : Atoms → Atom
-call_expression_optional a = value_at 0 a.values
+abbrev pub call_expression_optional : Atoms → Bool
+call_expression_optional a = as_flag (value_at 0 a.values)
 
 abbrev pub call_expression_pure : Atoms → Bool
 call_expression_pure a = as_flag (value_at 1 a.values)
@@ -185,3 +188,6 @@ update_expression_prefix a = as_flag (value_at 1 a.values)
 
 abbrev pub new_expression_pure : Atoms → Bool
 new_expression_pure a = as_flag (value_at 0 a.values)
+
+abbrev pub assignment_expression_operator : Atoms → AssignmentOperator
+assignment_expression_operator a = as_assignment_operator (value_at 0 a.values)

@@ -5,7 +5,7 @@ ghost use Rattle.jsgen_tree.specs.Width.{is_wide};
 
 use crate::nodes::{ExpressionNode, Node};
 use crate::numbers::NumericValue;
-use crate::sets::Argument;
+use crate::sets::{Argument, ChainElement};
 use jsgen_syntax::{BinaryOperator, JsStr, LogicalOperator, Span};
 
 /// A name that is looked up (ECMA-262, 13.1).
@@ -93,6 +93,8 @@ pub struct IdentifierName {
 pub struct StaticMemberExpression<N = Node> {
     pub span: Span,
     pub object: ExpressionNode<N>,
+    /// The link is `?.`: where its object is undefined or null, the rest of the chain is left out.
+    pub optional: bool,
     pub property: Box<IdentifierName>,
 }
 
@@ -101,6 +103,8 @@ pub struct StaticMemberExpression<N = Node> {
 pub struct ComputedMemberExpression<N = Node> {
     pub span: Span,
     pub object: ExpressionNode<N>,
+    /// The link is `?.`.
+    pub optional: bool,
     pub expression: ExpressionNode<N>,
 }
 
@@ -110,6 +114,15 @@ pub struct CallExpression<N = Node> {
     pub span: Span,
     pub callee: ExpressionNode<N>,
     pub arguments: Vec<Argument<N>>,
+    /// The link is `?.`.
+    pub optional: bool,
     /// The call has no effect but its result. Nothing is printed for it.
     pub pure: bool,
+}
+
+/// Links one behind the other, of which one at least is `?.`: members and calls that are left out together (ECMA-262, 13.3).
+#[derive(Drop)]
+pub struct ChainExpression<N = Node> {
+    pub span: Span,
+    pub expression: ChainElement<N>,
 }

@@ -2,13 +2,13 @@
 // The type of a member of each set.
 ghost use Rattle.std.specs.Prelude.{◌≡◌};
 ghost use Rattle.jsgen_tree.specs.Tree.{type_of};
-ghost use Rattle.jsgen_tree.specs.Rows.{expression_plain, declaration_plain, statement_plain, binding_pattern_plain, in_argument, in_array_expression_element, in_simple_assignment_target, in_object_property_kind, in_property_key};
+ghost use Rattle.jsgen_tree.specs.Rows.{expression_plain, declaration_plain, statement_plain, binding_pattern_plain, in_argument, in_array_expression_element, in_chain_element, in_simple_assignment_target, in_assignment_target, in_object_property_kind, in_property_key};
 ghost use Rattle.jsgen_tree.specs.Plain.{node_plain};
 
 use crate::nodes::Node;
 use crate::sets::{
-    Argument, ArrayExpressionElement, BindingPattern, Declaration, Expression, ObjectPropertyKind,
-    PropertyKey, SimpleAssignmentTarget, Statement,
+    Argument, ArrayExpressionElement, AssignmentTarget, BindingPattern, ChainElement, Declaration,
+    Expression, ObjectPropertyKind, PropertyKey, SimpleAssignmentTarget, Statement,
 };
 use crate::types::NodeType;
 
@@ -31,6 +31,7 @@ impl Expression {
             Expression::StaticMemberExpression(_) => NodeType::StaticMemberExpression,
             Expression::ComputedMemberExpression(_) => NodeType::ComputedMemberExpression,
             Expression::CallExpression(_) => NodeType::CallExpression,
+            Expression::ChainExpression(_) => NodeType::ChainExpression,
             Expression::ArrayExpression(_) => NodeType::ArrayExpression,
             Expression::ObjectExpression(_) => NodeType::ObjectExpression,
             Expression::UnaryExpression(_) => NodeType::UnaryExpression,
@@ -38,6 +39,9 @@ impl Expression {
             Expression::NewExpression(_) => NodeType::NewExpression,
             Expression::NewTarget(_) => NodeType::NewTarget,
             Expression::Super(_) => NodeType::Super,
+            Expression::ConditionalExpression(_) => NodeType::ConditionalExpression,
+            Expression::SequenceExpression(_) => NodeType::SequenceExpression,
+            Expression::AssignmentExpression(_) => NodeType::AssignmentExpression,
         }
     }
 }
@@ -66,6 +70,19 @@ impl ArrayExpressionElement {
     }
 }
 
+impl ChainElement {
+    /// The type of the node.
+    pub fn node_type(&self) -> NodeType
+        ensures { result ≡ type_of (in_chain_element node_plain self.now) }
+    {
+        match self {
+            ChainElement::StaticMemberExpression(_) => NodeType::StaticMemberExpression,
+            ChainElement::ComputedMemberExpression(_) => NodeType::ComputedMemberExpression,
+            ChainElement::CallExpression(_) => NodeType::CallExpression,
+        }
+    }
+}
+
 impl SimpleAssignmentTarget {
     /// The type of the node.
     pub fn node_type(&self) -> NodeType
@@ -76,6 +93,19 @@ impl SimpleAssignmentTarget {
             SimpleAssignmentTarget::StaticMemberExpression(_) => NodeType::StaticMemberExpression,
             SimpleAssignmentTarget::ComputedMemberExpression(_) =>
                 NodeType::ComputedMemberExpression,
+        }
+    }
+}
+
+impl AssignmentTarget {
+    /// The type of the node.
+    pub fn node_type(&self) -> NodeType
+        ensures { result ≡ type_of (in_assignment_target node_plain self.now) }
+    {
+        match self {
+            AssignmentTarget::IdentifierReference(_) => NodeType::IdentifierReference,
+            AssignmentTarget::StaticMemberExpression(_) => NodeType::StaticMemberExpression,
+            AssignmentTarget::ComputedMemberExpression(_) => NodeType::ComputedMemberExpression,
         }
     }
 }

@@ -1,18 +1,12 @@
 // Generated from tools/nodes/table.txt; edit that and run tools/nodes/generate.
 // Sets: what may stand in one place. A set within a set is one variant of the inner one's name.
 
+use crate::assignments::{AssignmentExpression, ConditionalExpression, SequenceExpression};
 use crate::collections::{ArrayExpression, ObjectExpression, ObjectProperty, SpreadElement};
-use crate::expressions::{
-    BigIntLiteral, BinaryExpression, BooleanLiteral, CallExpression, ComputedMemberExpression,
-    IdentifierName, IdentifierReference, LogicalExpression, NullLiteral, NumericLiteral,
-    ParenthesizedExpression, StaticMemberExpression, StringLiteral, ThisExpression,
-};
+use crate::expressions::{BigIntLiteral, BinaryExpression, BooleanLiteral, CallExpression, ChainExpression, ComputedMemberExpression, IdentifierName, IdentifierReference, LogicalExpression, NullLiteral, NumericLiteral, ParenthesizedExpression, StaticMemberExpression, StringLiteral, ThisExpression};
 use crate::nodes::{DeclarationNode, ExpressionNode, Node};
 use crate::operations::{NewExpression, NewTarget, Super, UnaryExpression, UpdateExpression};
-use crate::statements::{
-    BindingIdentifier, BlockStatement, EmptyStatement, ExpressionStatement, IfStatement,
-    VariableDeclaration,
-};
+use crate::statements::{BindingIdentifier, BlockStatement, EmptyStatement, ExpressionStatement, IfStatement, VariableDeclaration};
 
 #[derive(Drop)]
 pub enum Expression<N = Node> {
@@ -29,6 +23,7 @@ pub enum Expression<N = Node> {
     StaticMemberExpression(Box<StaticMemberExpression<N>>),
     ComputedMemberExpression(Box<ComputedMemberExpression<N>>),
     CallExpression(Box<CallExpression<N>>),
+    ChainExpression(Box<ChainExpression<N>>),
     ArrayExpression(Box<ArrayExpression<N>>),
     ObjectExpression(Box<ObjectExpression<N>>),
     UnaryExpression(Box<UnaryExpression<N>>),
@@ -36,6 +31,9 @@ pub enum Expression<N = Node> {
     NewExpression(Box<NewExpression<N>>),
     NewTarget(Box<NewTarget>),
     Super(Box<Super>),
+    ConditionalExpression(Box<ConditionalExpression<N>>),
+    SequenceExpression(Box<SequenceExpression<N>>),
+    AssignmentExpression(Box<AssignmentExpression<N>>),
 }
 
 /// What a call is given.
@@ -52,9 +50,25 @@ pub enum ArrayExpressionElement<N = Node> {
     Expression(Box<ExpressionNode<N>>),
 }
 
+/// The last link of a chain.
+#[derive(Drop)]
+pub enum ChainElement<N = Node> {
+    StaticMemberExpression(Box<StaticMemberExpression<N>>),
+    ComputedMemberExpression(Box<ComputedMemberExpression<N>>),
+    CallExpression(Box<CallExpression<N>>),
+}
+
 /// What may be changed as it stands.
 #[derive(Drop)]
 pub enum SimpleAssignmentTarget<N = Node> {
+    IdentifierReference(Box<IdentifierReference>),
+    StaticMemberExpression(Box<StaticMemberExpression<N>>),
+    ComputedMemberExpression(Box<ComputedMemberExpression<N>>),
+}
+
+/// What may be given a value: so far what may be changed as it stands.
+#[derive(Drop)]
+pub enum AssignmentTarget<N = Node> {
     IdentifierReference(Box<IdentifierReference>),
     StaticMemberExpression(Box<StaticMemberExpression<N>>),
     ComputedMemberExpression(Box<ComputedMemberExpression<N>>),

@@ -3,24 +3,15 @@
 ghost use Rattle.std.specs.Prelude.{◌≡◌};
 ghost use Rattle.jsgen_tree.specs.Tree.{span_of};
 ghost use Rattle.jsgen_tree.specs.Plain.{node_plain};
-ghost use Rattle.jsgen_tree.specs.Spans.{expression_span, argument_span, array_expression_element_span, simple_assignment_target_span, object_property_kind_span, property_key_span, declaration_span, statement_span, binding_pattern_span};
+ghost use Rattle.jsgen_tree.specs.Spans.{expression_span, argument_span, array_expression_element_span, chain_element_span, simple_assignment_target_span, assignment_target_span, object_property_kind_span, property_key_span, declaration_span, statement_span, binding_pattern_span};
 
+use crate::assignments::{AssignmentExpression, ConditionalExpression, SequenceExpression};
 use crate::collections::{ArrayExpression, ObjectExpression, ObjectProperty, SpreadElement};
-use crate::expressions::{
-    BigIntLiteral, BinaryExpression, BooleanLiteral, CallExpression, ComputedMemberExpression,
-    IdentifierName, IdentifierReference, LogicalExpression, NullLiteral, NumericLiteral,
-    ParenthesizedExpression, StaticMemberExpression, StringLiteral, ThisExpression,
-};
+use crate::expressions::{BigIntLiteral, BinaryExpression, BooleanLiteral, CallExpression, ChainExpression, ComputedMemberExpression, IdentifierName, IdentifierReference, LogicalExpression, NullLiteral, NumericLiteral, ParenthesizedExpression, StaticMemberExpression, StringLiteral, ThisExpression};
 use crate::nodes::Node;
 use crate::operations::{NewExpression, NewTarget, Super, UnaryExpression, UpdateExpression};
-use crate::sets::{
-    Argument, ArrayExpressionElement, BindingPattern, Declaration, Expression, ObjectPropertyKind,
-    PropertyKey, SimpleAssignmentTarget, Statement,
-};
-use crate::statements::{
-    BindingIdentifier, BlockStatement, Directive, EmptyStatement, ExpressionStatement, IfStatement,
-    Program, VariableDeclaration, VariableDeclarator,
-};
+use crate::sets::{Argument, ArrayExpressionElement, AssignmentTarget, BindingPattern, ChainElement, Declaration, Expression, ObjectPropertyKind, PropertyKey, SimpleAssignmentTarget, Statement};
+use crate::statements::{BindingIdentifier, BlockStatement, Directive, EmptyStatement, ExpressionStatement, IfStatement, Program, VariableDeclaration, VariableDeclarator};
 use jsgen_syntax::Span;
 
 /// Where a node stands in its source; a set's is its member's.
@@ -217,6 +208,14 @@ impl<N> GetSpan for CallExpression<N> {
     }
 }
 
+impl<N> GetSpan for ChainExpression<N> {
+    ghost own_span = { λ n. n.span };
+
+    fn span(&self) -> Span {
+        self.span
+    }
+}
+
 impl<N> GetSpan for SpreadElement<N> {
     ghost own_span = { λ n. n.span };
 
@@ -289,6 +288,30 @@ impl GetSpan for Super {
     }
 }
 
+impl<N> GetSpan for ConditionalExpression<N> {
+    ghost own_span = { λ n. n.span };
+
+    fn span(&self) -> Span {
+        self.span
+    }
+}
+
+impl<N> GetSpan for SequenceExpression<N> {
+    ghost own_span = { λ n. n.span };
+
+    fn span(&self) -> Span {
+        self.span
+    }
+}
+
+impl<N> GetSpan for AssignmentExpression<N> {
+    ghost own_span = { λ n. n.span };
+
+    fn span(&self) -> Span {
+        self.span
+    }
+}
+
 impl<N> GetSpan for Expression<N> {
     ghost own_span = { λ n. expression_span n };
 
@@ -307,6 +330,7 @@ impl<N> GetSpan for Expression<N> {
             Expression::StaticMemberExpression(node) => node.span,
             Expression::ComputedMemberExpression(node) => node.span,
             Expression::CallExpression(node) => node.span,
+            Expression::ChainExpression(node) => node.span,
             Expression::ArrayExpression(node) => node.span,
             Expression::ObjectExpression(node) => node.span,
             Expression::UnaryExpression(node) => node.span,
@@ -314,6 +338,9 @@ impl<N> GetSpan for Expression<N> {
             Expression::NewExpression(node) => node.span,
             Expression::NewTarget(node) => node.span,
             Expression::Super(node) => node.span,
+            Expression::ConditionalExpression(node) => node.span,
+            Expression::SequenceExpression(node) => node.span,
+            Expression::AssignmentExpression(node) => node.span,
         }
     }
 }
@@ -340,6 +367,18 @@ impl<N: GetSpan> GetSpan for ArrayExpressionElement<N> {
     }
 }
 
+impl<N> GetSpan for ChainElement<N> {
+    ghost own_span = { λ n. chain_element_span n };
+
+    fn span(&self) -> Span {
+        match self {
+            ChainElement::StaticMemberExpression(node) => node.span,
+            ChainElement::ComputedMemberExpression(node) => node.span,
+            ChainElement::CallExpression(node) => node.span,
+        }
+    }
+}
+
 impl<N> GetSpan for SimpleAssignmentTarget<N> {
     ghost own_span = { λ n. simple_assignment_target_span n };
 
@@ -348,6 +387,18 @@ impl<N> GetSpan for SimpleAssignmentTarget<N> {
             SimpleAssignmentTarget::IdentifierReference(node) => node.span,
             SimpleAssignmentTarget::StaticMemberExpression(node) => node.span,
             SimpleAssignmentTarget::ComputedMemberExpression(node) => node.span,
+        }
+    }
+}
+
+impl<N> GetSpan for AssignmentTarget<N> {
+    ghost own_span = { λ n. assignment_target_span n };
+
+    fn span(&self) -> Span {
+        match self {
+            AssignmentTarget::IdentifierReference(node) => node.span,
+            AssignmentTarget::StaticMemberExpression(node) => node.span,
+            AssignmentTarget::ComputedMemberExpression(node) => node.span,
         }
     }
 }

@@ -1,7 +1,7 @@
 // Generated from tools/nodes/table.txt; edit that and run tools/nodes/generate.
 // The types of nodes, and the sets that a field's child may be of.
 ghost use Rattle.std.specs.Prelude.{◌≡◌};
-ghost use Rattle.jsgen_tree.specs.Sets.{in_set, is_expression, is_argument, is_array_expression_element, is_simple_assignment_target, is_object_property_kind, is_property_key, is_statement};
+ghost use Rattle.jsgen_tree.specs.Sets.{in_set, is_expression, is_argument, is_array_expression_element, is_chain_element, is_simple_assignment_target, is_assignment_target, is_object_property_kind, is_property_key, is_statement};
 
 /// The type of a node.
 #[derive(Clone, Copy, Debug, PartialEq, Eq)]
@@ -29,6 +29,7 @@ pub enum NodeType {
     StaticMemberExpression,
     ComputedMemberExpression,
     CallExpression,
+    ChainExpression,
     SpreadElement,
     ArrayExpression,
     ObjectProperty,
@@ -38,6 +39,9 @@ pub enum NodeType {
     UpdateExpression,
     NewExpression,
     Super,
+    ConditionalExpression,
+    SequenceExpression,
+    AssignmentExpression,
 }
 
 /// What the child of a field may be: a member of a set, or a node of one type.
@@ -50,10 +54,12 @@ pub enum NodeSet {
     Expression,
     IdentifierName,
     Argument,
+    ChainElement,
     ArrayExpressionElement,
     PropertyKey,
     ObjectPropertyKind,
     SimpleAssignmentTarget,
+    AssignmentTarget,
     Link,
 }
 
@@ -70,10 +76,12 @@ impl NodeType {
             NodeSet::Expression => self.is_expression(),
             NodeSet::IdentifierName => matches!(&self, NodeType::IdentifierName),
             NodeSet::Argument => self.is_argument(),
+            NodeSet::ChainElement => self.is_chain_element(),
             NodeSet::ArrayExpressionElement => self.is_array_expression_element(),
             NodeSet::PropertyKey => self.is_property_key(),
             NodeSet::ObjectPropertyKind => self.is_object_property_kind(),
             NodeSet::SimpleAssignmentTarget => self.is_simple_assignment_target(),
+            NodeSet::AssignmentTarget => self.is_assignment_target(),
             NodeSet::Link => self.is_expression(),
         }
     }
@@ -97,6 +105,7 @@ impl NodeType {
                 | NodeType::StaticMemberExpression
                 | NodeType::ComputedMemberExpression
                 | NodeType::CallExpression
+                | NodeType::ChainExpression
                 | NodeType::ArrayExpression
                 | NodeType::ObjectExpression
                 | NodeType::UnaryExpression
@@ -104,6 +113,9 @@ impl NodeType {
                 | NodeType::NewExpression
                 | NodeType::NewTarget
                 | NodeType::Super
+                | NodeType::ConditionalExpression
+                | NodeType::SequenceExpression
+                | NodeType::AssignmentExpression
         )
     }
 
@@ -127,6 +139,7 @@ impl NodeType {
                 | NodeType::StaticMemberExpression
                 | NodeType::ComputedMemberExpression
                 | NodeType::CallExpression
+                | NodeType::ChainExpression
                 | NodeType::ArrayExpression
                 | NodeType::ObjectExpression
                 | NodeType::UnaryExpression
@@ -134,6 +147,9 @@ impl NodeType {
                 | NodeType::NewExpression
                 | NodeType::NewTarget
                 | NodeType::Super
+                | NodeType::ConditionalExpression
+                | NodeType::SequenceExpression
+                | NodeType::AssignmentExpression
         )
     }
 
@@ -157,6 +173,7 @@ impl NodeType {
                 | NodeType::StaticMemberExpression
                 | NodeType::ComputedMemberExpression
                 | NodeType::CallExpression
+                | NodeType::ChainExpression
                 | NodeType::ArrayExpression
                 | NodeType::ObjectExpression
                 | NodeType::UnaryExpression
@@ -164,12 +181,39 @@ impl NodeType {
                 | NodeType::NewExpression
                 | NodeType::NewTarget
                 | NodeType::Super
+                | NodeType::ConditionalExpression
+                | NodeType::SequenceExpression
+                | NodeType::AssignmentExpression
+        )
+    }
+
+    /// Whether nodes of this type are in `ChainElement`.
+    pub fn is_chain_element(self) -> bool
+        ensures { result ≡ is_chain_element self }
+    {
+        matches!(
+            &self,
+            NodeType::StaticMemberExpression
+                | NodeType::ComputedMemberExpression
+                | NodeType::CallExpression
         )
     }
 
     /// Whether nodes of this type are in `SimpleAssignmentTarget`.
     pub fn is_simple_assignment_target(self) -> bool
         ensures { result ≡ is_simple_assignment_target self }
+    {
+        matches!(
+            &self,
+            NodeType::IdentifierReference
+                | NodeType::StaticMemberExpression
+                | NodeType::ComputedMemberExpression
+        )
+    }
+
+    /// Whether nodes of this type are in `AssignmentTarget`.
+    pub fn is_assignment_target(self) -> bool
+        ensures { result ≡ is_assignment_target self }
     {
         matches!(
             &self,
@@ -206,6 +250,7 @@ impl NodeType {
                 | NodeType::StaticMemberExpression
                 | NodeType::ComputedMemberExpression
                 | NodeType::CallExpression
+                | NodeType::ChainExpression
                 | NodeType::ArrayExpression
                 | NodeType::ObjectExpression
                 | NodeType::UnaryExpression
@@ -213,6 +258,9 @@ impl NodeType {
                 | NodeType::NewExpression
                 | NodeType::NewTarget
                 | NodeType::Super
+                | NodeType::ConditionalExpression
+                | NodeType::SequenceExpression
+                | NodeType::AssignmentExpression
         )
     }
 

@@ -17,14 +17,14 @@ pub returns-in-Err-argument_list : goal.returns-in-Err-argument_list
 unfolding read_node
 returns-in-Err-argument_list g c = λ told. rw (c.in-Ok.ensures, c.in-Ok-field_not_given.ensures, c.in-Err-argument_list.ensures told)
 
-pub returns-in-Err-field_not_given-2 : goal.returns-in-Err-field_not_given-2
-unfolding read_node
-returns-in-Err-field_not_given-2 g c = λ told. rw (c.in-Ok.ensures, c.in-Ok-field_not_given.ensures, c.in-Ok-argument_list.ensures, c.in-Err-field_not_given-2.ensures told)
-
 pub returns-in-Err-optional_flag : goal.returns-in-Err-optional_flag
 unfolding read_node
-returns-in-Err-optional_flag g c = λ told. rw (c.in-Ok.ensures, c.in-Ok-field_not_given.ensures, c.in-Ok-argument_list.ensures, c.in-Ok-field_not_given-2.ensures, c.in-Err-optional_flag.ensures told)
+returns-in-Err-optional_flag g c = λ told. rw (c.in-Ok.ensures, c.in-Ok-field_not_given.ensures, c.in-Ok-argument_list.ensures, c.in-Err-optional_flag.ensures told)
+
+pub returns-in-Err-optional_flag-2 : goal.returns-in-Err-optional_flag-2
+unfolding read_node
+returns-in-Err-optional_flag-2 g c = λ told. rw (c.in-Ok.ensures, c.in-Ok-field_not_given.ensures, c.in-Ok-argument_list.ensures, c.in-Ok-optional_flag.ensures, c.in-Err-optional_flag-2.ensures told)
 
 pub returns-in-Ok-boxed : goal.returns-in-Ok-boxed
 unfolding read_node
-returns-in-Ok-boxed g c = rw (c.in-Ok.ensures, c.in-Ok-field_not_given.ensures, c.in-Ok-argument_list.ensures, c.in-Ok-field_not_given-2.ensures, c.in-Ok-optional_flag.ensures) (gives_row _ _ _ (call_expression_row g.N.ReadNode.plain) _ _ c.in-Ok-boxed.ensures c.expression_row.ensures)
+returns-in-Ok-boxed g c = rw (c.in-Ok.ensures, c.in-Ok-field_not_given.ensures, c.in-Ok-argument_list.ensures, c.in-Ok-optional_flag.ensures, c.in-Ok-optional_flag-2.ensures) (gives_row _ _ _ (call_expression_row g.N.ReadNode.plain) _ _ c.in-Ok-boxed.ensures c.expression_row.ensures)

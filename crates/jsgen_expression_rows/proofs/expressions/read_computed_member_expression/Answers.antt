@@ -9,14 +9,14 @@ pub returns-in-Err : goal.returns-in-Err
 unfolding read_node
 returns-in-Err g c = λ told. rw (c.in-Err.ensures told)
 
-pub returns-in-Err-field_not_given : goal.returns-in-Err-field_not_given
+pub returns-in-Err-optional_flag : goal.returns-in-Err-optional_flag
 unfolding read_node
-returns-in-Err-field_not_given g c = λ told. rw (c.in-Ok.ensures, c.in-Err-field_not_given.ensures told)
+returns-in-Err-optional_flag g c = λ told. rw (c.in-Ok.ensures, c.in-Err-optional_flag.ensures told)
 
 pub returns-in-Err-needed_expression : goal.returns-in-Err-needed_expression
 unfolding read_node
-returns-in-Err-needed_expression g c = λ told. rw (c.in-Ok.ensures, c.in-Ok-field_not_given.ensures, c.in-Err-needed_expression.ensures told)
+returns-in-Err-needed_expression g c = λ told. rw (c.in-Ok.ensures, c.in-Ok-optional_flag.ensures, c.in-Err-needed_expression.ensures told)
 
 pub returns-in-Ok-boxed : goal.returns-in-Ok-boxed
 unfolding read_node
-returns-in-Ok-boxed g c = rw (c.in-Ok.ensures, c.in-Ok-field_not_given.ensures, c.in-Ok-needed_expression.ensures) (gives_row _ _ _ (computed_member_expression_row g.N.ReadNode.plain) _ _ c.in-Ok-boxed.ensures c.expression_row.ensures)
+returns-in-Ok-boxed g c = rw (c.in-Ok.ensures, c.in-Ok-optional_flag.ensures, c.in-Ok-needed_expression.ensures) (gives_row _ _ _ (computed_member_expression_row g.N.ReadNode.plain) _ _ c.in-Ok-boxed.ensures c.expression_row.ensures)

@@ -7,14 +7,6 @@ pub returns-in_err-print : goal.returns-in_err-print
 unfolding pen_after
 returns-in_err-print g c = stopped _ c.from_residual.ensures.0 (stops_within (rw (c.get.ensures, c.child.ensures) at c.in_err-print.ensures) (search appends) (search appends))
 
-pub returns-in_err-print_opening : goal.returns-in_err-print_opening
-unfolding pen_after
-returns-in_err-print_opening g c = stopped _ c.from_residual-in_err-print_opening.ensures.0 (stops_within (rw (c.in_ok-print.ensures, c.get.ensures, c.child.ensures) at c.in_err-print_opening.ensures) (search appends) (search appends))
-
-pub returns-in_err-print-2 : goal.returns-in_err-print-2
-unfolding pen_after
-returns-in_err-print-2 g c = stopped _ c.from_residual-in_err-print-2.ensures.0 (stops_within (rw (c.in_ok-print_opening.ensures, c.in_ok-print.ensures, c.get.ensures, c.child.ensures, c.get-2.ensures, c.in_brackets.ensures) at c.in_err-print-2.ensures) (search appends) (search appends))
-
 pub returns : goal.returns
 unfolding pen_after
-returns g c = reaches_last _ _ _ _ _ _ (rw (c.in_ok-print-2.ensures, c.in_ok-print_opening.ensures, c.in_ok-print.ensures, c.get.ensures, c.child.ensures, c.get-2.ensures, c.in_brackets.ensures) at c.print_closing.ensures) (search appends) refl
+returns g c = reaches_last _ _ _ _ _ _ (rw (c.in_ok-print.ensures, c.get.ensures, c.child.ensures) at c.print_computed_name.ensures) (search appends) refl

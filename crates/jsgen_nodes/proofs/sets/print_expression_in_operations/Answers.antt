@@ -3,5 +3,5 @@
 use Rattle.jsgen_nodes.proofs.Parts.{expression_past_2}
 use Rattle.jsgen_nodes.proofs.sets.print_expression_in_operations.Goals as goal
 
-pub unreachable-requires : goal.unreachable-requires
-unreachable-requires g c = expression_past_2 c.args.node.now c.requires c.in_default.not-UnaryExpression c.in_default.not-NewTarget c.in_default.not-UpdateExpression c.in_default.not-NewExpression c.in_default.not-Super
+pub print_expression_in_assignments-requires : goal.print_expression_in_assignments-requires
+print_expression_in_assignments-requires g c = expression_past_2 c.args.node.now c.requires c.in_default.not-UnaryExpression c.in_default.not-NewTarget c.in_default.not-UpdateExpression c.in_default.not-NewExpression c.in_default.not-Super

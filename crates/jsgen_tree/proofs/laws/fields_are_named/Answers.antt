@@ -25,4 +25,5 @@ returns c = record {
   unary_expression = λ a. refl;
   update_expression = λ a. (refl, refl);
   new_expression = λ a. refl;
+  assignment_expression = λ a. refl;
 }

@@ -1,0 +1,142 @@
+// Generated from tools/nodes/table.txt; edit that and run tools/nodes/generate.
+// Rows of a job: conditional expressions, sequences and assignments (ECMA-262, 13.14 to 13.16).
+ghost use Rattle.std.specs.Prelude.{◌≡◌, false};
+ghost use Rattle.serde_json.specs.View.{view};
+ghost use Rattle.jsgen_tree.specs.Fields.{conditional_expression_fields, sequence_expression_fields, assignment_expression_fields};
+ghost use Rattle.jsgen_fields.specs.Reads.{Gives, read_node, read_typed};
+ghost use Rattle.jsgen_fields.specs.Kept.{entries, row_plain};
+ghost use Rattle.jsgen_fields.specs.Parts.{is_in_statements, is_in_expressions, is_in_collections, is_in_operations};
+ghost use Rattle.jsgen_tree.specs.declared.types.NodeType.TheVariants as types;
+
+use jsgen_fields::InputFault;
+use jsgen_fields::fields::boxed;
+use jsgen_fields::kept::{ReadNode, Row, expression_row};
+use jsgen_fields::set_fields::{expression_list, needed_assignment_target, needed_expression};
+use jsgen_fields::words::needed_assignment_operator;
+use jsgen_pool::Kept;
+use jsgen_syntax::Span;
+use jsgen_tree::{
+    AssignmentExpression, ConditionalExpression, Expression, NodeType, SequenceExpression,
+};
+use serde_json::Value;
+use std::alloc::Global;
+
+#[tactic(auto, unfolding(jsgen_fields::specs::Reads::read_node))]
+fn read_conditional_expression<N: ReadNode + Drop>(
+    alloc: Global,
+    kept: &mut Vec<Kept<Row<N>>>,
+    number: usize,
+    span: Span,
+    row: &Value,
+) -> Result<Row<N>, InputFault>
+    ensures { Gives (row_plain N.plain) result (entries N.plain kept.new.items)
+        (read_node number types.ConditionalExpression conditional_expression_fields span (view row.now) (entries N.plain kept.old.items)) }
+{
+    let test = match needed_expression(alloc, kept, number, 2, row, "test") {
+        Ok(test) => test,
+        Err(fault) => return Err(fault),
+    };
+    let consequent = match needed_expression(alloc, kept, number, 3, row, "consequent") {
+        Ok(consequent) => consequent,
+        Err(fault) => return Err(fault),
+    };
+    let alternate = match needed_expression(alloc, kept, number, 4, row, "alternate") {
+        Ok(alternate) => alternate,
+        Err(fault) => return Err(fault),
+    };
+    let node = ConditionalExpression {
+        span,
+        test,
+        consequent,
+        alternate,
+    };
+    match boxed(alloc, node) {
+        Ok(node) => expression_row(alloc, Expression::ConditionalExpression(node)),
+        Err(fault) => Err(fault),
+    }
+}
+
+#[tactic(auto, unfolding(jsgen_fields::specs::Reads::read_node))]
+fn read_sequence_expression<N: ReadNode + Drop>(
+    alloc: Global,
+    kept: &mut Vec<Kept<Row<N>>>,
+    number: usize,
+    span: Span,
+    row: &Value,
+) -> Result<Row<N>, InputFault>
+    ensures { Gives (row_plain N.plain) result (entries N.plain kept.new.items)
+        (read_node number types.SequenceExpression sequence_expression_fields span (view row.now) (entries N.plain kept.old.items)) }
+{
+    let expressions = match expression_list(alloc, kept, number, 2, row, "expressions") {
+        Ok(expressions) => expressions,
+        Err(fault) => return Err(fault),
+    };
+    let node = SequenceExpression { span, expressions };
+    match boxed(alloc, node) {
+        Ok(node) => expression_row(alloc, Expression::SequenceExpression(node)),
+        Err(fault) => Err(fault),
+    }
+}
+
+#[tactic(auto, unfolding(jsgen_fields::specs::Reads::read_node))]
+fn read_assignment_expression<N: ReadNode + Drop>(
+    alloc: Global,
+    kept: &mut Vec<Kept<Row<N>>>,
+    number: usize,
+    span: Span,
+    row: &Value,
+) -> Result<Row<N>, InputFault>
+    ensures { Gives (row_plain N.plain) result (entries N.plain kept.new.items)
+        (read_node number types.AssignmentExpression assignment_expression_fields span (view row.now) (entries N.plain kept.old.items)) }
+{
+    let operator = match needed_assignment_operator(number, 2, row, "operator") {
+        Ok(operator) => operator,
+        Err(fault) => return Err(fault),
+    };
+    let left = match needed_assignment_target(alloc, kept, number, 3, row, "left") {
+        Ok(left) => left,
+        Err(fault) => return Err(fault),
+    };
+    let right = match needed_expression(alloc, kept, number, 4, row, "right") {
+        Ok(right) => right,
+        Err(fault) => return Err(fault),
+    };
+    let node = AssignmentExpression {
+        span,
+        operator,
+        left,
+        right,
+    };
+    match boxed(alloc, node) {
+        Ok(node) => expression_row(alloc, Expression::AssignmentExpression(node)),
+        Err(fault) => Err(fault),
+    }
+}
+
+/// The row of a type of this part.
+pub fn read_in_assignments<N: ReadNode + Drop>(
+    alloc: Global,
+    kept: &mut Vec<Kept<Row<N>>>,
+    node_type: NodeType,
+    number: usize,
+    span: Span,
+    row: &Value,
+) -> Result<Row<N>, InputFault>
+    requires not_in_statements { is_in_statements node_type ≡ false }
+    requires not_in_expressions { is_in_expressions node_type ≡ false }
+    requires not_in_collections { is_in_collections node_type ≡ false }
+    requires not_in_operations { is_in_operations node_type ≡ false }
+    ensures { Gives (row_plain N.plain) result (entries N.plain kept.new.items)
+        (read_typed number node_type span (view row.now) (entries N.plain kept.old.items)) }
+{
+    match node_type {
+        NodeType::ConditionalExpression => read_conditional_expression(
+            alloc, kept, number, span, row,
+        ),
+        NodeType::SequenceExpression => read_sequence_expression(alloc, kept, number, span, row),
+        NodeType::AssignmentExpression => read_assignment_expression(
+            alloc, kept, number, span, row,
+        ),
+        _ => unreachable!(),
+    }
+}

@@ -1,0 +1,20 @@
+use Rattle.std.proofs.Common.{refl}
+use Rattle.jsgen_nodes.specs.Place.{pen_after}
+use Rattle.jsgen_printer.proofs.Stops.{appends, stopped, stops_within, reaches_last}
+use Rattle.jsgen_nodes.proofs.links.print_computed_name.Goals as goal
+
+pub returns-in_err-print_bracket_link : goal.returns-in_err-print_bracket_link
+unfolding pen_after
+returns-in_err-print_bracket_link g c = stopped _ c.from_residual.ensures.0 (stops_within c.in_err-print_bracket_link.ensures (search appends) (search appends))
+
+pub returns-in_err-print_opening : goal.returns-in_err-print_opening
+unfolding pen_after
+returns-in_err-print_opening g c = stopped _ c.from_residual-in_err-print_opening.ensures.0 (stops_within (rw c.in_ok-print_bracket_link.ensures at c.in_err-print_opening.ensures) (search appends) (search appends))
+
+pub returns-in_err-print : goal.returns-in_err-print
+unfolding pen_after
+returns-in_err-print g c = stopped _ c.from_residual-in_err-print.ensures.0 (stops_within (rw (c.in_ok-print_opening.ensures, c.in_ok-print_bracket_link.ensures, c.get.ensures, c.in_brackets.ensures) at c.in_err-print.ensures) (search appends) (search appends))
+
+pub returns : goal.returns
+unfolding pen_after
+returns g c = reaches_last _ _ _ _ _ _ (rw (c.in_ok-print.ensures, c.in_ok-print_opening.ensures, c.in_ok-print_bracket_link.ensures, c.get.ensures, c.in_brackets.ensures) at c.print_closing.ensures) (search appends) refl

@@ -1,0 +1,84 @@
+// Assignments (ECMA-262, 13.15).
+ghost use Rattle.std.specs.Prelude.{◌≡◌};
+ghost use Rattle.jsgen_syntax.specs.declared.precedence.Precedence.TheVariants.{Comma};
+ghost use Rattle.jsgen_tree.specs.Rows.{assignment_expression_row, in_assignment_target, in_expression};
+ghost use Rattle.jsgen_model.specs.Items.{◌⊕◌, soft_space};
+ghost use Rattle.jsgen_model.specs.Layout.{layout};
+ghost use Rattle.jsgen_model.specs.Spell.{spell, assigned, behind, assignment_item};
+ghost use Rattle.jsgen_model.specs.Printing.{Reaches};
+ghost use Rattle.jsgen_printer.specs.Printer.{pen_of};
+ghost use Rattle.jsgen_place.specs.Place.{place_of};
+ghost use Rattle.jsgen_nodes.specs.Place.{pen_after};
+
+use crate::PrintNode;
+use crate::expressions::print_identifier_reference;
+use crate::links::{print_computed_member_expression, print_static_member_expression};
+use jsgen_place::Place;
+use jsgen_printer::Printer;
+use jsgen_syntax::{AssignmentOperator, Memory, Precedence};
+use jsgen_tree::{AssignmentExpression, AssignmentTarget, ExpressionNode};
+
+#[tactic(auto, unfolding(crate::specs::Place::pen_after))]
+pub fn print_assignment_expression<N: PrintNode>(
+    node: &AssignmentExpression<N>,
+    p: &mut Printer,
+    place: Place,
+) -> Result<(), Memory>
+    ensures { Reaches result (pen_of p.old) (pen_of p.new) (pen_after (assignment_expression_row N.plain node.now) place p.old) }
+{
+    let wrap = place.wraps_assignment();
+    p.print_opening_if(wrap)?;
+    print_assignment(node, p, place)?;
+    p.print_closing_if(wrap)
+}
+
+// The target, the sign and what the target is given, within the parentheses.
+#[tactic(auto, unfolding(crate::specs::Place::pen_after))]
+fn print_assignment<N: PrintNode>(
+    node: &AssignmentExpression<N>,
+    p: &mut Printer,
+    place: Place,
+) -> Result<(), Memory>
+    ensures { Reaches result (pen_of p.old) (pen_of p.new) (layout (spell (in_assignment_target N.plain node.now.left) (assigned (place_of place (pen_of p.old)))
+        ⊕ (soft_space ⊕ (assignment_item node.now.operator ⊕ (soft_space
+        ⊕ spell (in_expression N.plain node.now.right) (behind Comma (place_of place (pen_of p.old))))))) (pen_of p.old)) }
+{
+    let target = Place::in_brackets(Precedence::Comma, place.settings);
+    print_assignment_target(&node.left, p, target)?;
+    print_value(node.operator, &node.right, p, place)
+}
+
+// What a target is given, behind the sign.
+#[tactic(auto, unfolding(crate::specs::Place::pen_after))]
+fn print_value<N: PrintNode>(
+    operator: AssignmentOperator,
+    value: &ExpressionNode<N>,
+    p: &mut Printer,
+    place: Place,
+) -> Result<(), Memory>
+    ensures { Reaches result (pen_of p.old) (pen_of p.new) (layout (soft_space ⊕ (assignment_item operator ⊕ (soft_space
+        ⊕ spell (in_expression N.plain value.now) (behind Comma (place_of place (pen_of p.old)))))) (pen_of p.old)) }
+{
+    p.print_soft_space()?;
+    p.print_assignment_sign(operator)?;
+    p.print_soft_space()?;
+    value.get().print(p, place.child(Precedence::Comma))
+}
+
+fn print_assignment_target<N: PrintNode>(
+    node: &AssignmentTarget<N>,
+    p: &mut Printer,
+    place: Place,
+) -> Result<(), Memory>
+    ensures { Reaches result (pen_of p.old) (pen_of p.new) (pen_after (in_assignment_target N.plain node.now) place p.old) }
+{
+    match node {
+        AssignmentTarget::IdentifierReference(node) => print_identifier_reference(node, p, place),
+        AssignmentTarget::StaticMemberExpression(node) => print_static_member_expression(
+            node, p, place,
+        ),
+        AssignmentTarget::ComputedMemberExpression(node) => print_computed_member_expression(
+            node, p, place,
+        ),
+    }
+}

@@ -1,0 +1,90 @@
+-- What is read where `in` may not stand is read where it may.
+use Rattle.std.proofs.Common.{◌≡◌, true, refl}
+use Rattle.jsgen_syntax.specs.declared.operator.BinaryOperator.{BinaryOperator}
+use Rattle.jsgen_syntax.specs.declared.operator.BinaryOperator.TheVariants as operators
+use Rattle.jsgen_tree.specs.Tree.{Tree, Trees}
+use Rattle.jsgen_model.specs.Tokens.{Tokens}
+use Rattle.jsgen_model.specs.Grammar.{Allowed, Level, ReadsExpression, ReadsParts, ReadsChain, ReadsChainBase, with_in, may_stand}
+use Rattle.jsgen_model.specs.Grammar as grammar
+
+all_stand : (c : Allowed) (o : BinaryOperator) → may_stand (with_in c) o ≡ true
+all_stand c operators.In = refl
+all_stand c o = refl
+
+mutual
+  pub freed : {c : Allowed} {g : Level} {ts : Tokens} {t : Tree} → ReadsExpression c g ts t → ReadsExpression (with_in c) g ts t
+  freed (grammar.an_assignment x) = grammar.an_assignment (freed x)
+  freed (grammar.a_sequence mark x y z) = grammar.a_sequence mark x (freed y) (freed_parts z)
+  freed (grammar.a_conditional x) = grammar.a_conditional (freed x)
+  freed (grammar.an_assignment_to o mark x y z u) = grammar.an_assignment_to o mark x y z (freed u)
+  freed (grammar.a_short_circuit x) = grammar.a_short_circuit (freed x)
+  freed (grammar.a_logical_or x) = grammar.a_logical_or (freed x)
+  freed (grammar.a_logical_and x) = grammar.a_logical_and (freed x)
+  freed (grammar.a_bit_or x) = grammar.a_bit_or (freed x)
+  freed (grammar.a_bit_xor x) = grammar.a_bit_xor (freed x)
+  freed (grammar.a_bit_and x) = grammar.a_bit_and (freed x)
+  freed (grammar.an_equality x) = grammar.an_equality (freed x)
+  freed (grammar.a_relation x) = grammar.a_relation (freed x)
+  freed (grammar.a_shift x) = grammar.a_shift (freed x)
+  freed (grammar.an_additive x) = grammar.an_additive (freed x)
+  freed (grammar.a_multiplicative x) = grammar.a_multiplicative (freed x)
+  freed (grammar.an_exponent x) = grammar.an_exponent (freed x)
+  freed (grammar.a_unary x) = grammar.a_unary (freed x)
+  freed (grammar.an_update x) = grammar.an_update (freed x)
+  freed (grammar.a_left_hand_side x) = grammar.a_left_hand_side (freed x)
+  freed (grammar.a_new x) = grammar.a_new (freed x)
+  freed (grammar.a_call x) = grammar.a_call (freed x)
+  freed (grammar.a_member x) = grammar.a_member (freed x)
+  freed (grammar.a_primary x) = grammar.a_primary (freed x)
+  freed (grammar.a_called_member x) = grammar.a_called_member (freed x)
+  freed (grammar.a_called_call x) = grammar.a_called_call (freed x)
+  freed (grammar.a_named_member w mark next x y z) = grammar.a_named_member w mark next x y (freed z)
+  freed (grammar.a_computed_member mark x y z) = grammar.a_computed_member mark x (freed y) z
+  freed (grammar.with_arguments mark x y z) = grammar.with_arguments mark x (freed y) z
+  freed (grammar.a_named_member_of_call w mark next x y z) = grammar.a_named_member_of_call w mark next x y (freed z)
+  freed (grammar.a_computed_member_of_call mark x y z) = grammar.a_computed_member_of_call mark x (freed y) z
+  freed {c} (grammar.an_operation o mark x y z u v) = grammar.an_operation o mark x (all_stand c o) z (freed u) (freed v)
+  freed (grammar.a_power mark x y z) = grammar.a_power mark x (freed y) (freed z)
+  freed (grammar.a_conjunction mark x y z) = grammar.a_conjunction mark x (freed y) (freed z)
+  freed (grammar.a_disjunction mark x y z) = grammar.a_disjunction mark x (freed y) (freed z)
+  freed (grammar.a_coalesce x) = grammar.a_coalesce (freed x)
+  freed (grammar.a_coalescing mark x y z) = grammar.a_coalescing mark x (freed y) (freed z)
+  freed (grammar.a_coalesced_head x) = grammar.a_coalesced_head (freed x)
+  freed (grammar.a_bit_or_head x) = grammar.a_bit_or_head (freed x)
+  freed (grammar.a_choice mark next x y z u) = grammar.a_choice mark next x (freed y) z (freed u)
+  freed (grammar.a_unary_operation o x) = grammar.a_unary_operation o (freed x)
+  freed (grammar.an_update_before o x y) = grammar.an_update_before o (freed x) y
+  freed (grammar.an_update_behind o x y z) = grammar.an_update_behind o x (freed y) z
+  freed (grammar.new_with_arguments mark next x y z) = grammar.new_with_arguments mark next x (freed y) z
+  freed (grammar.new_alone x) = grammar.new_alone (freed x)
+  freed (grammar.a_named_member_of_super w mark next last x) = grammar.a_named_member_of_super w mark next last x
+  freed (grammar.a_computed_member_of_super x) = grammar.a_computed_member_of_super x
+  freed (grammar.a_call_of_super x) = grammar.a_call_of_super x
+  freed grammar.a_new_target = grammar.a_new_target
+  freed (grammar.a_reference x y) = grammar.a_reference x y
+  freed grammar.a_this = grammar.a_this
+  freed grammar.a_null = grammar.a_null
+  freed grammar.a_true = grammar.a_true
+  freed grammar.a_false = grammar.a_false
+  freed grammar.a_number = grammar.a_number
+  freed (grammar.a_string x) = grammar.a_string x
+  freed (grammar.in_parentheses x) = grammar.in_parentheses x
+  freed (grammar.an_optional_chain x) = grammar.an_optional_chain (freed_chain x)
+  freed (grammar.an_array x) = grammar.an_array x
+  freed (grammar.an_object x) = grammar.an_object x
+
+  freed_parts : {c : Allowed} {ts : Tokens} {us : Trees} → ReadsParts c ts us → ReadsParts (with_in c) ts us
+  freed_parts (grammar.last_part r) = grammar.last_part (freed r)
+  freed_parts (grammar.first_part mark e r s) = grammar.first_part mark e (freed r) (freed_parts s)
+
+  freed_chain : {c : Allowed} {ts : Tokens} {t : Tree} → ReadsChain c ts t → ReadsChain (with_in c) ts t
+  freed_chain (grammar.an_optional_named_member w mark next e x r) = grammar.an_optional_named_member w mark next e x (freed_base r)
+  freed_chain (grammar.an_optional_computed_member mark next e r s) = grammar.an_optional_computed_member mark next e (freed_base r) s
+  freed_chain (grammar.an_optional_call mark next e r s) = grammar.an_optional_call mark next e (freed_base r) s
+  freed_chain (grammar.a_further_named_member w mark next e x r) = grammar.a_further_named_member w mark next e x (freed_chain r)
+  freed_chain (grammar.a_further_computed_member mark e r s) = grammar.a_further_computed_member mark e (freed_chain r) s
+  freed_chain (grammar.a_further_call mark e r s) = grammar.a_further_call mark e (freed_chain r) s
+
+  freed_base : {c : Allowed} {ts : Tokens} {t : Tree} → ReadsChainBase c ts t → ReadsChainBase (with_in c) ts t
+  freed_base (grammar.a_first_link r) = grammar.a_first_link (freed r)
+  freed_base (grammar.a_further_link r) = grammar.a_further_link (freed_chain r)

@@ -1,0 +1,144 @@
+-- Sequences. A part that is a sequence itself is printed without parentheses, and so it is read as its own parts.
+use Rattle.std.proofs.Common.{◌≡◌, Bool, true, false, refl, sym, ap, ◌∙◌, subst₂, arith}
+use Rattle.jsgen_syntax.specs.declared.precedence.Precedence.TheVariants as levels
+use Rattle.jsgen_tree.specs.Tree.{Tree, Trees, no_trees, more, Atoms}
+use Rattle.jsgen_tree.specs.Nodes as tree
+use Rattle.jsgen_model.specs.Punctuator.{comma}
+use Rattle.jsgen_model.specs.Tokens.{Tokens, done, piece, ◌⧺◌, Sign}
+use Rattle.jsgen_model.specs.Items.{Items, soft_space, punctuator}
+use Rattle.jsgen_model.specs.Layout.{Pen, Start, nowhere, layout, unless_printed}
+use Rattle.jsgen_model.specs.Grammar.{Allowed, Level, ReadsExpression, ReadsParts}
+use Rattle.jsgen_model.specs.Grammar as grammar
+use Rattle.jsgen_model.specs.Normal.{normal, normal_trees, nothing_of, joined, parts_of, flattened}
+use Rattle.jsgen_model.specs.Spell.{Place, spell, spell_parts, spell_more, enclosed, in_front, behind, with_calls, wraps}
+use Rattle.jsgen_token_laws.proofs.Last.{Last, After, line_of, Operand, Ready, Knows}
+use Rattle.jsgen_token_laws.proofs.Writes.{Writes, wrote_none, wrote_both, then_assoc, then_done}
+use Rattle.jsgen_token_laws.proofs.Steps.{Soft, wrote_punctuator, soft_space_written}
+use Rattle.jsgen_reading_laws.proofs.Levels.{number_of, operation_number, under, unwrapped}
+use Rattle.jsgen_reading_laws.proofs.Joined.{joined_nothing, joined_normal, flattened_joined}
+use Rattle.jsgen_reading_laws.proofs.Good.{Good, Printed, begins_then, line_then, good_enclosed}
+
+-- ---- parts that are read
+
+-- parts, a comma and more parts
+parts_then : {c : Allowed} {a b : Tokens} {us vs : Trees} (mark : Bool) → ReadsParts c a us → ReadsParts c b vs → ReadsParts c (a ⧺ piece mark (Sign comma) b) (joined us vs)
+parts_then mark (grammar.last_part r) s = grammar.first_part mark refl r s
+parts_then {b = b} mark (grammar.first_part {a = d} {b = f} m e r t) s = grammar.first_part m (ap (λ ts. ts ⧺ piece mark (Sign comma) b) e ∙ then_assoc d (piece m (Sign comma) f) (piece mark (Sign comma) b)) r (parts_then mark t s)
+
+-- are a sequence
+sequence_read : {c : Allowed} {a b : Tokens} {us vs : Trees} (mark : Bool) → ReadsParts c a us → ReadsParts c b vs → ReadsExpression c grammar.Expression (a ⧺ piece mark (Sign comma) b) (tree.sequence (nothing_of 0) (joined us vs))
+sequence_read mark (grammar.last_part r) s = grammar.a_sequence mark refl r s
+sequence_read {b = b} mark (grammar.first_part {a = d} {b = f} m e r t) s = grammar.a_sequence m (ap (λ ts. ts ⧺ piece mark (Sign comma) b) e ∙ then_assoc d (piece m (Sign comma) f) (piece mark (Sign comma) b)) r (parts_then mark t s)
+
+-- what is read as an expression is read as the parts that it adds to a sequence
+abbrev AsParts : Allowed → Tokens → Tree → Type 0
+AsParts c ts u = (us : Trees) × ReadsParts c ts us × (parts_of (normal u) ≡ flattened (normal_trees us))
+
+as_parts : {c : Allowed} {g : Level} {ts : Tokens} {u : Tree} → g ≡ grammar.Expression → ReadsExpression c g ts u → AsParts c ts u
+as_parts {u = u} d (grammar.an_assignment r) = (more u no_trees, grammar.last_part r, sym (joined_nothing (parts_of (normal u))))
+as_parts d (grammar.a_sequence {t = t} {us = us} m e r s) = (more t us, grammar.first_part m e r s, refl)
+as_parts d (grammar.an_operation o m p h q s t) = absurd (omega (arith, operation_number o, ap number_of d))
+as_parts d r = absurd (omega (arith, ap number_of d))
+
+-- the normal form of parts of which the first ones are read so
+flattened_more : (us vs : Trees) (x t : Tree) (ts : Trees) → parts_of (normal x) ≡ flattened (normal_trees us) → normal x ≡ normal t → flattened (normal_trees vs) ≡ flattened (normal_trees ts) → flattened (normal_trees (joined us vs)) ≡ flattened (normal_trees (more t ts))
+flattened_more us vs x t ts e f g =
+    let first : flattened (normal_trees us) ≡ parts_of (normal t) = sym e ∙ ap parts_of f in
+    ap flattened (joined_normal us vs) ∙ (flattened_joined (normal_trees us) (normal_trees vs) ∙ (λ i. joined (first i) (g i)))
+
+-- ---- parts that are printed
+
+-- behind parts that are read stand more
+pub record MoreParts (p : Pen) (l : Last) (q : Pen) (c : Allowed) (ts : Trees) : Type 0 where
+  pub last : Last
+  pub tokens : Tokens
+  pub writes : Writes p l q last tokens
+  pub operand : Operand last
+  pub semicolon : q.pending_semicolon ≡ false
+  pub trees : Trees
+  pub reads : (a : Tokens) (us : Trees) → ReadsParts c a us → ReadsParts c (a ⧺ tokens) (joined us trees)
+  pub same : flattened (normal_trees trees) ≡ flattened (normal_trees ts)
+
+abbrev pub MorePartsAt : Allowed → Trees → Type 0
+MorePartsAt c ts = (place : Place) (p : Pen) (l : Last) → p.pending_semicolon ≡ false → Operand l → Knows p l → MoreParts p l (layout (spell_more ts (with_calls (behind levels.Lowest place))) p) (under place c) ts
+
+pub no_more_parts : (c : Allowed) → MorePartsAt c no_trees
+no_more_parts c place p l z o k = record {
+  last = l;
+  tokens = done;
+  writes = wrote_none p p l refl k;
+  operand = o;
+  semicolon = z;
+  trees = no_trees;
+  reads = λ a us r. subst₂ (λ ts vs. ReadsParts (under place c) ts vs) (sym (then_done a)) (sym (joined_nothing us)) r;
+  same = refl;
+}
+
+more_parts : (c : Allowed) (t : Tree) (ts : Trees) (p p1 p2 p3 q : Pen) (l : Last) → Writes p l p1 (After (Sign comma)) (piece (line_of l) (Sign comma) done) → (n : Soft p1 (After (Sign comma)) p2) (g : Good p2 n.last p3 c grammar.Expression nowhere t) → MoreParts p3 g.last q c ts → MoreParts p l q c (more t ts)
+more_parts c t ts p p1 p2 p3 q l o n g m =
+    let k = as_parts refl g.reads in
+    record {
+      last = m.last;
+      tokens = piece (line_of l) (Sign comma) (g.tokens ⧺ m.tokens);
+      writes = wrote_both o (wrote_both n.writes (wrote_both g.writes m.writes));
+      operand = m.operand;
+      semicolon = m.semicolon;
+      trees = joined k.0 m.trees;
+      reads = λ a us r. parts_then (line_of l) r (m.reads g.tokens k.0 k.1);
+      same = flattened_more k.0 m.trees g.tree t ts k.2 g.same m.same;
+    }
+
+pub one_more_part : (c : Allowed) (t : Tree) (ts : Trees) → Printed c t → MorePartsAt c ts → MorePartsAt c (more t ts)
+one_more_part c t ts f h place p l z o k =
+    let at : Place = with_calls (behind levels.Lowest place) in
+    let p1 : Pen = layout (punctuator comma) p in
+    let p2 : Pen = layout soft_space p1 in
+    let p3 : Pen = layout (spell t at) p2 in
+    let w = wrote_punctuator comma p l tt tt o k in
+    let n = soft_space_written p1 (After (Sign comma)) w.knows in
+    let g = f at p2 n.last (n.semicolon ∙ z) (n.ready tt) n.writes.knows in
+    let m = h place p3 g.last g.semicolon g.operand g.writes.knows in
+    more_parts (under place c) t ts p p1 p2 p3 (layout (spell_more ts at) p3) l w n g m
+
+-- ---- the whole
+
+sequence_parts : (c : Allowed) (a : Atoms) (t u : Tree) (ts : Trees) (start : Start) (p p1 p2 p3 p4 q : Pen) (l : Last) → (g : Good p l p1 c grammar.Expression start t) → Writes p1 g.last p2 (After (Sign comma)) (piece (line_of g.last) (Sign comma) done) → (n : Soft p2 (After (Sign comma)) p3) (h : Good p3 n.last p4 c grammar.Expression nowhere u) → MoreParts p4 h.last q c ts → Good p l q c grammar.Expression start (tree.sequence a (more t (more u ts)))
+sequence_parts c a t u ts start p p1 p2 p3 p4 q l g o n h m =
+    let j = as_parts refl g.reads in
+    let k = as_parts refl h.reads in
+    let others : Tokens = piece (line_of g.last) (Sign comma) (h.tokens ⧺ m.tokens) in
+    record {
+      last = m.last;
+      tokens = g.tokens ⧺ others;
+      writes = wrote_both g.writes (wrote_both o (wrote_both n.writes (wrote_both h.writes m.writes)));
+      operand = m.operand;
+      semicolon = m.semicolon;
+      begins = λ d e. begins_then start g.tokens others d g.begins refl;
+      line = λ e. line_then g.tokens others (g.line e);
+      tree = tree.sequence (nothing_of 0) (joined j.0 (joined k.0 m.trees));
+      reads = sequence_read (line_of g.last) j.1 (m.reads h.tokens k.0 k.1);
+      same = ap (λ us. tree.sequence (nothing_of 0) us) (flattened_more j.0 (joined k.0 m.trees) g.tree t (more u ts) j.2 g.same (flattened_more k.0 m.trees h.tree u ts k.2 h.same m.same));
+    }
+
+abbrev items_of : Tree → Tree → Trees → Place → Bool → Items
+items_of t u ts place w = spell_parts (more t (more u ts)) (with_calls (in_front levels.Lowest (enclosed w place)))
+
+pub good_sequence : (c : Allowed) (a : Atoms) (t u : Tree) (ts : Trees) → Printed c t → Printed c u → MorePartsAt c ts → Printed c (tree.sequence a (more t (more u ts)))
+good_sequence c a t u ts f g h place =
+    good_enclosed c place grammar.Expression (wraps levels.Comma place) (items_of t u ts place) (tree.sequence a (more t (more u ts)))
+    (λ d ts u r. r) (λ e ts u r. unwrapped levels.Comma place e r) inner
+  where
+    inner : (v : Bool) (p : Pen) (l : Last) → p.pending_semicolon ≡ false → Ready l → Knows p l → Good p l (layout (items_of t u ts place v) p) (under place c) grammar.Expression (unless_printed v place.start) (tree.sequence a (more t (more u ts)))
+    inner v p l z y k =
+        let first : Place = with_calls (in_front levels.Lowest (enclosed v place)) in
+        let at : Place = with_calls (behind levels.Lowest place) in
+        let p1 : Pen = layout (spell t first) p in
+        let p2 : Pen = layout (punctuator comma) p1 in
+        let p3 : Pen = layout soft_space p2 in
+        let p4 : Pen = layout (spell u at) p3 in
+        let i = f first p l z y k in
+        let o = wrote_punctuator comma p1 i.last tt tt i.operand i.writes.knows in
+        let n = soft_space_written p2 (After (Sign comma)) o.knows in
+        let j = g at p3 n.last (n.semicolon ∙ i.semicolon) (n.ready tt) n.writes.knows in
+        let m = h place p4 j.last j.semicolon j.operand j.writes.knows in
+        sequence_parts (under place c) a t u ts (unless_printed v place.start) p p1 p2 p3 p4 (layout (spell_more ts at) p4) l i o n j m

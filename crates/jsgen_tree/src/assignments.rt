@@ -1,0 +1,31 @@
+// Generated from tools/nodes/table.txt; edit that and run tools/nodes/generate.
+// Conditional expressions, sequences and assignments (ECMA-262, 13.14 to 13.16).
+
+use crate::nodes::{ExpressionNode, Node};
+use crate::sets::AssignmentTarget;
+use jsgen_syntax::{AssignmentOperator, Span};
+
+/// A choice between two values (ECMA-262, 13.14).
+#[derive(Drop)]
+pub struct ConditionalExpression<N = Node> {
+    pub span: Span,
+    pub test: ExpressionNode<N>,
+    pub consequent: ExpressionNode<N>,
+    pub alternate: ExpressionNode<N>,
+}
+
+/// Values one after another, of which the last counts (ECMA-262, 13.16).
+#[derive(Drop)]
+pub struct SequenceExpression<N = Node> {
+    pub span: Span,
+    pub expressions: Vec<ExpressionNode<N>>,
+}
+
+/// A target that is given a value (ECMA-262, 13.15).
+#[derive(Drop)]
+pub struct AssignmentExpression<N = Node> {
+    pub span: Span,
+    pub operator: AssignmentOperator,
+    pub left: AssignmentTarget<N>,
+    pub right: ExpressionNode<N>,
+}

@@ -1,0 +1,283 @@
+// From an ESTree tree (acorn, espree, meriyah; Babel's with its plugin `estree`) to a job of jsgen (docs/FORMAT.md).
+import { isField, isOption, isType, wordsOf } from "./reads.mjs";
+import { bytesAt, isWholeNumber, numberText, unitsOf, withoutParentheses } from "./texts.mjs";
+
+/** A part of a program that jsgen doesn't read yet. `node` is the ESTree node. */
+export class NotRead extends Error {
+  constructor(what, node, source) {
+    super(`${what}${placeOf(node, source)} is not read yet`);
+    this.name = "NotRead";
+    this.node = node;
+  }
+}
+
+/**
+ * The job that prints a program. `program` is the ESTree node of a module. Of the members of the second argument, all of
+ * which may be left out, `source` is the text that the program was parsed from, by which spans are counted in bytes;
+ * `options` are the options of the job; `spans: false` leaves spans out; and `negative: true` takes `-1` for a negative
+ * number in place of an operation on 1. Comments aren't read yet, and none is put into the job. Throws `NotRead` where the
+ * program has what jsgen doesn't read yet.
+ */
+export function jobOf(program, { source, options = {}, spans = true, negative = false } = {}) {
+  for (const name of Object.keys(options)) {
+    if (!isOption(name)) throw new NotRead(`the option ${name}`);
+  }
+  const rows = new Rows(source, spans, negative);
+  rows.program(program);
+  return Object.keys(options).length > 0 ? { options, rows: rows.rows } : { rows: rows.rows };
+}
+
+function startOf(node) {
+  return node?.start ?? node?.range?.[0];
+}
+
+function endOf(node) {
+  return node?.end ?? node?.range?.[1];
+}
+
+function placeOf(node, source) {
+  const start = startOf(node);
+  if (start === undefined) return "";
+  if (source === undefined) return ` at ${start}`;
+  const before = source.slice(0, start).split(/\r\n|[\n\r\u2028\u2029]/);
+  return ` in line ${before.length}, column ${before.at(-1).length + 1}`;
+}
+
+class Rows {
+  constructor(source, spans, negative) {
+    this.rows = [];
+    this.source = source;
+    this.negative = negative;
+    this.byteAt = spans && source !== undefined ? bytesAt(source) : null;
+  }
+
+  refuse(what, node) {
+    throw new NotRead(what, node, this.source);
+  }
+
+  // Adds a row, without the fields that hold what stands for an absent one, and gives its number. `needed` is a field that
+  // is given in any case.
+  add(type, node, fields, needed) {
+    if (!isType(type)) this.refuse(type, node);
+    const row = { type };
+    const start = startOf(node);
+    if (this.byteAt && start !== undefined && endOf(node) > start) row.span = [this.byteAt(start), this.byteAt(endOf(node))];
+    for (const [name, value] of Object.entries(fields)) {
+      const isAbsent = value === null || value === undefined || value === false || (Array.isArray(value) && value.length === 0);
+      if (isAbsent && name !== needed) continue;
+      if (!isField(type, name)) this.refuse(`${name} of ${type}`, node);
+      const words = wordsOf(type, name);
+      if (words && !words.includes(value)) this.refuse(`${name} ${value} of ${type}`, node);
+      row[name] = value;
+    }
+    return this.rows.push(row) - 1;
+  }
+
+  several(nodes, convert) {
+    return nodes.map((node) => (node ? convert.call(this, node) : null));
+  }
+
+  maybe(node, convert) {
+    return node ? convert.call(this, node) : null;
+  }
+
+  // ---- statements
+
+  program(node) {
+    const fields = this.body(node.body);
+    if (node.sourceType === "script") this.refuse("a script", node);
+    this.add("Program", node, { kind: "module", ...fields });
+  }
+
+  // The directives at the front of a body, and its statements.
+  body(nodes) {
+    const isDirective = (node) => node.type === "ExpressionStatement" && typeof node.directive === "string";
+    const count = nodes.findIndex((node) => !isDirective(node));
+    const directives = count < 0 ? nodes : nodes.slice(0, count);
+    return {
+      directives: directives.map((node) => this.add("Directive", node, { directive: node.directive }, "directive")),
+      body: this.several(nodes.slice(directives.length), this.statement),
+    };
+  }
+
+  statement(node) {
+    switch (node.type) {
+      case "ExpressionStatement":
+        return this.add(node.type, node, { expression: this.expression(node.expression) });
+      case "BlockStatement":
+        return this.add(node.type, node, { body: this.several(node.body, this.statement) });
+      case "IfStatement":
+        return this.add(node.type, node, {
+          test: this.expression(node.test),
+          consequent: this.statement(node.consequent),
+          alternate: this.maybe(node.alternate, this.statement),
+        });
+      case "EmptyStatement":
+        return this.add(node.type, node, {});
+      case "VariableDeclaration":
+        return this.add(node.type, node, { kind: node.kind, declarations: this.several(node.declarations, this.declarator) });
+      default:
+        return this.refuse(node.type, node);
+    }
+  }
+
+  declarator(node) {
+    return this.add(node.type, node, { id: this.binding(node.id), init: this.maybe(node.init, this.expression) });
+  }
+
+  binding(node) {
+    if (node.type !== "Identifier") this.refuse(node.type, node);
+    return this.add("BindingIdentifier", node, { name: node.name });
+  }
+
+  // ---- expressions
+
+  expression(node) {
+    switch (node.type) {
+      case "Identifier":
+        return this.add("IdentifierReference", node, { name: node.name });
+      case "Literal":
+        return this.literal(node);
+      case "ThisExpression":
+      case "Super":
+        return this.add(node.type, node, {});
+      case "MetaProperty":
+        return this.add(node.meta.name === "new" ? "NewTarget" : "ImportMeta", node, {});
+      case "MemberExpression":
+        return this.member(node);
+      case "CallExpression":
+        return this.add(node.type, node, {
+          callee: this.expression(node.callee), arguments: this.several(node.arguments, this.element), optional: node.optional,
+        });
+      case "NewExpression":
+        return this.add(node.type, node, {
+          callee: this.expression(node.callee), arguments: this.several(node.arguments, this.element),
+        });
+      case "ParenthesizedExpression":
+      case "ChainExpression":
+        return this.add(node.type, node, { expression: this.expression(node.expression) });
+      case "BinaryExpression":
+        if (node.left.type === "PrivateIdentifier") this.refuse("PrivateInExpression", node);
+      // falls through: the same fields
+      case "LogicalExpression":
+        return this.add(node.type, node, {
+          operator: node.operator, left: this.expression(node.left), right: this.expression(node.right),
+        });
+      case "UnaryExpression":
+        return this.unary(node);
+      case "UpdateExpression":
+        return this.add(node.type, node, { operator: node.operator, prefix: node.prefix, argument: this.target(node.argument) });
+      case "ConditionalExpression":
+        return this.add(node.type, node, {
+          test: this.expression(node.test),
+          consequent: this.expression(node.consequent),
+          alternate: this.expression(node.alternate),
+        });
+      case "AssignmentExpression":
+        return this.add(node.type, node, {
+          operator: node.operator, left: this.target(node.left), right: this.expression(node.right),
+        });
+      case "SequenceExpression":
+        return this.add(node.type, node, { expressions: this.several(node.expressions, this.expression) });
+      case "ArrayExpression":
+        return this.add(node.type, node, { elements: this.several(node.elements, this.element) });
+      case "ObjectExpression":
+        return this.add(node.type, node, { properties: this.several(node.properties, this.property) });
+      case "ArrowFunctionExpression":
+        return this.arrow(node);
+      default:
+        return this.refuse(node.type, node);
+    }
+  }
+
+  literal(node) {
+    if (node.regex) return this.refuse("RegExpLiteral", node);
+    if (typeof node.bigint === "string" || typeof node.value === "bigint") {
+      return this.add("BigIntLiteral", node, { value: BigInt(node.bigint ?? node.value).toString() });
+    }
+    if (node.value === null) return this.add("NullLiteral", node, {});
+    if (typeof node.value === "boolean") return this.add("BooleanLiteral", node, { value: node.value }, "value");
+    if (typeof node.value === "string") return this.add("StringLiteral", node, { value: unitsOf(node.value) }, "value");
+    return this.number(node, numberText(node.raw ?? String(node.value)), false);
+  }
+
+  number(node, text, negative) {
+    if (!isWholeNumber(text)) return this.add("NumericLiteral", node, { kind: "raw", text });
+    const digits = Number(text) <= Number.MAX_SAFE_INTEGER ? Number(text) : text;
+    return this.add("NumericLiteral", node, { kind: "whole", negative, digits });
+  }
+
+  unary(node) {
+    const inside = node.argument;
+    if (this.negative && node.operator === "-" && inside.type === "Literal") {
+      if (typeof inside.bigint === "string") return this.add("BigIntLiteral", node, { value: `-${BigInt(inside.bigint)}` });
+      const text = typeof inside.value === "number" ? numberText(inside.raw) : "";
+      if (isWholeNumber(text)) return this.number(node, text, true);
+    }
+    return this.add(node.type, node, { operator: node.operator, argument: this.expression(inside) });
+  }
+
+  member(node) {
+    const object = this.expression(node.object);
+    if (node.property.type === "PrivateIdentifier") this.refuse("PrivateFieldExpression", node);
+    return node.computed
+      ? this.add("ComputedMemberExpression", node, { object, optional: node.optional, expression: this.expression(node.property) })
+      : this.add("StaticMemberExpression", node, { object, optional: node.optional, property: this.name(node.property) });
+  }
+
+  name(node) {
+    return this.add("IdentifierName", node, { name: node.name });
+  }
+
+  // An argument, or an element of an array.
+  element(node) {
+    if (node.type !== "SpreadElement") return this.expression(node);
+    return this.add(node.type, node, { argument: this.expression(node.argument) });
+  }
+
+  property(node) {
+    if (node.type === "SpreadElement") return this.element(node);
+    const key = !node.computed && node.key.type === "Identifier" ? this.name(node.key) : this.expression(node.key);
+    return this.add("ObjectProperty", node, {
+      kind: node.kind,
+      key,
+      value: this.expression(node.value),
+      method: node.method,
+      shorthand: node.shorthand,
+      computed: node.computed,
+    });
+  }
+
+  // What is assigned to. Parentheses round it are no node.
+  target(node) {
+    const inside = withoutParentheses(node);
+    if (inside.type !== "Identifier" && inside.type !== "MemberExpression") this.refuse(inside.type, inside);
+    return this.expression(inside);
+  }
+
+  // ---- functions
+
+  arrow(node) {
+    const params = this.parameters(node);
+    if (node.body.type === "BlockStatement") this.refuse("FunctionBody", node.body);
+    return this.add(node.type, node, { is_async: node.async, params, body: this.expression(node.body) });
+  }
+
+  parameters(node) {
+    const last = node.params.at(-1);
+    const rest = last?.type === "RestElement" ? last : null;
+    const items = rest ? node.params.slice(0, -1) : node.params;
+    return this.add("FormalParameters", null, {
+      items: this.several(items, this.parameter),
+      rest: this.maybe(rest, (it) => this.add("FormalParameterRest", it, { argument: this.binding(it.argument) })),
+    });
+  }
+
+  parameter(node) {
+    const isDefault = node.type === "AssignmentPattern";
+    return this.add("FormalParameter", node, {
+      pattern: this.binding(isDefault ? node.left : node),
+      initializer: isDefault ? this.expression(node.right) : null,
+    });
+  }
+}

@@ -1,0 +1,101 @@
+// Cuts a program down to what jsgen reads by now: the statements that are read, at whatever depth they stand, and of the others
+// the greatest expressions that are.
+import { jobOf, NotRead } from "./convert.mjs";
+
+const LONGEST = 200000;
+
+/** Whether the program holds nothing but what is read. */
+export function isRead(program) {
+  try {
+    jobOf(program, { spans: false });
+    return true;
+  } catch (error) {
+    if (error instanceof NotRead) return false;
+    throw error;
+  }
+}
+
+/**
+ * The text of a program made of parts of this one, which is read whole; the same text where it is read as it is, and the
+ * empty one where no part is. `parse` gives the tree of a text, and throws where it is none.
+ */
+export function cut(source, program, parse) {
+  if (isRead(program)) return source;
+  const found = new Parts(source, parse);
+  found.among(program.body);
+  return found.joined();
+}
+
+class Parts {
+  constructor(source, parse) {
+    this.source = source;
+    this.parse = parse;
+    this.texts = new Set();
+    this.length = 0;
+  }
+
+  // Keeps the text where it is a statement by itself that is read.
+  keep(text) {
+    if (this.texts.has(text)) return true;
+    if (!this.isStatement(text)) return false;
+    this.texts.add(text);
+    this.length += text.length;
+    return true;
+  }
+
+  isStatement(text) {
+    try {
+      const program = this.parse(text);
+      return program.body.length === 1 && program.body[0].directive === undefined && isRead(program);
+    } catch (error) {
+      if (error instanceof SyntaxError) return false;
+      throw error;
+    }
+  }
+
+  among(nodes) {
+    for (const node of nodes) {
+      if (this.length > LONGEST) return;
+      this.of(node);
+    }
+  }
+
+  of(node) {
+    const text = this.source.slice(node.start, node.end);
+    if (isStatement(node) && this.keep(text.endsWith(";") || text.endsWith("}") ? text : `${text};`)) return;
+    if (isOperation(node) && this.keep(`(${text});`)) return;
+    this.among(childrenOf(node));
+  }
+
+  // Two of them may declare one name, so each is kept where the program goes on with it.
+  joined() {
+    const whole = [...this.texts].join("\n");
+    if (this.isProgram(whole)) return whole;
+    const kept = [];
+    for (const text of [...this.texts].slice(0, 400)) {
+      if (this.isProgram([...kept, text].join("\n"))) kept.push(text);
+    }
+    return kept.join("\n");
+  }
+
+  isProgram(text) {
+    try {
+      return isRead(this.parse(text));
+    } catch (error) {
+      if (error instanceof SyntaxError) return false;
+      throw error;
+    }
+  }
+}
+
+function isStatement(node) {
+  return /Statement$|Declaration$/.test(node.type);
+}
+
+function isOperation(node) {
+  return /Expression$/.test(node.type) || node.type === "Literal";
+}
+
+function childrenOf(node) {
+  return Object.values(node).flat().filter((child) => typeof child?.type === "string");
+}

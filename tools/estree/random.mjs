@@ -1,0 +1,205 @@
+// Programs that are made up, of all that jsgen reads by now, each fixed by a number.
+import { isType, wordsOf } from "./reads.mjs";
+
+const NAMES = ["a", "b", "total", "$", "_x", "größe", "日本", "of", "async", "get", "undefined"];
+const KEYS = [...NAMES, "if", "class", "__proto__", "constructor"];
+const STRINGS = ['""', "'it\\'s'", '"a\\nb"', "'</script>'", '"\\u2028 ${x} `"', '"use strict"', "'\\ud800'", '"日本\\0"', '"\\x001"'];
+const WHOLE = ["0", "1", "7", "42", "1000000", "340282366920938463463374607431768211455"];
+const RAW = ["1.5", "0x1F", "0b101", "0o17", "1e3", "1E-7", "1_000", "1_000.5e-7", ".5", "5.", "340282366920938463463374607431768211456"];
+const DEPTH = 4;
+
+/** A program's text. */
+export function randomProgram(seed) {
+  const draw = new Draw(seed);
+  const directives = draw.below(6) === 0 ? ['"use strict";', "'a\\\nb';"].slice(0, 1 + draw.below(2)) : [];
+  return [...directives, ...draw.several(1, 26, () => draw.item(DEPTH))].join("\n");
+}
+
+class Draw {
+  constructor(seed) {
+    this.state = (seed * 2654435761 + 97) >>> 0;
+    this.declared = 0;
+  }
+
+  // A whole number below the limit (a congruential generator of 32 bits, from its upper half).
+  below(limit) {
+    this.state = (Math.imul(this.state, 1664525) + 1013904223) >>> 0;
+    return (this.state >>> 8) % limit;
+  }
+
+  of(list) {
+    return list[this.below(list.length)];
+  }
+
+  several(least, most, make) {
+    return Array.from({ length: least + this.below(most - least + 1) }, make);
+  }
+
+  // ---- statements
+
+  item(depth) {
+    if (this.below(5) > 0) return this.statement(depth);
+    const declarators = this.several(1, 2, () => `n${this.declared++} = ${this.assigned(depth)}`);
+    return `const ${declarators.join(", ")};`;
+  }
+
+  statement(depth) {
+    const kind = depth === 0 ? 9 : this.below(10);
+    if (kind === 0) return `{ ${this.several(0, 3, () => this.item(depth - 1)).join(" ")} }`;
+    if (kind < 3) return `if (${this.expression(depth)}) ${this.statement(depth - 1)}`;
+    if (kind < 5) return `if (${this.expression(depth)}) ${this.block(depth)} else ${this.statement(depth - 1)}`;
+    if (kind === 5) return ";";
+    return this.begun(this.expression(depth));
+  }
+
+  // A statement before `else`, whose inner `if` may not take it.
+  block(depth) {
+    return this.below(2) ? `{ ${this.statement(depth - 1)} }` : this.begun(this.assigned(1));
+  }
+
+  // What may not begin a statement stands in parentheses, and so does what would be a directive.
+  begun(text) {
+    return /^(\{|function\b|class\b|let\b|async\b|["'])/.test(text) ? `(${text});` : `${text};`;
+  }
+
+  // ---- expressions, each with what it is made of in parentheses by half
+
+  expression(depth) {
+    if (!isType("SequenceExpression") || this.below(8) > 0) return this.assigned(depth);
+    return this.several(2, 3, () => this.assigned(depth - 1)).join(", ");
+  }
+
+  // An expression that may stand between commas.
+  assigned(depth) {
+    const makers = this.makers().filter((maker) => maker !== null);
+    return depth <= 0 ? this.leaf() : this.of(makers).call(this, depth - 1);
+  }
+
+  inside(depth) {
+    const text = this.expression(depth);
+    return this.below(3) && /^[\p{L}$_][\p{L}\w$]*$/u.test(text) ? text : `(${text})`;
+  }
+
+  makers() {
+    const when = (type, make) => (isType(type) ? make : null);
+    return [
+      this.leaf, this.leaf, this.binary, this.binary, this.logical, this.member, this.call,
+      when("UnaryExpression", this.unary),
+      when("UnaryExpression", this.signs),
+      when("UpdateExpression", this.update),
+      when("NewExpression", this.construction),
+      when("ArrayExpression", this.array),
+      when("ObjectExpression", this.object),
+      when("ConditionalExpression", this.conditional),
+      when("AssignmentExpression", this.assignment),
+      when("ChainExpression", this.chain),
+      when("ArrowFunctionExpression", this.arrow),
+    ];
+  }
+
+  leaf() {
+    const kinds = [() => this.of(NAMES), () => this.of(NAMES), () => this.of(STRINGS), () => this.of(WHOLE)];
+    if (wordsOf("NumericLiteral", "kind").includes("raw")) kinds.push(() => this.of(RAW));
+    if (isType("BigIntLiteral")) kinds.push(() => `${this.of(WHOLE)}n`, () => "0xFn");
+    for (const [type, word] of [["ThisExpression", "this"], ["NullLiteral", "null"], ["BooleanLiteral", this.of(["true", "false"])]]) {
+      if (isType(type)) kinds.push(() => word);
+    }
+    return this.of(kinds)();
+  }
+
+  binary(depth) {
+    return `${this.inside(depth)} ${this.of(wordsOf("BinaryExpression", "operator"))} ${this.inside(depth)}`;
+  }
+
+  logical(depth) {
+    return `${this.inside(depth)} ${this.of(["&&", "||", "??"])} ${this.inside(depth)}`;
+  }
+
+  member(depth) {
+    if (this.below(8) === 0) return `${this.of(WHOLE)} .${this.of(KEYS)}`;
+    return this.below(2) ? `${this.inside(depth)}.${this.of(KEYS)}` : `${this.inside(depth)}[${this.expression(depth)}]`;
+  }
+
+  // A name or a member: what may be assigned to.
+  target(depth) {
+    return this.below(2) ? this.of(NAMES) : this.member(depth);
+  }
+
+  listed(depth) {
+    const isSpread = isType("SpreadElement") && this.below(6) === 0;
+    return `${isSpread ? "..." : ""}${this.assigned(depth)}`;
+  }
+
+  call(depth) {
+    return `${this.inside(depth)}(${this.several(0, 3, () => this.listed(depth)).join(", ")})`;
+  }
+
+  construction(depth) {
+    const callee = this.below(2) ? this.of(NAMES) : `(${this.expression(depth)})`;
+    return `new ${callee}${this.below(3) ? `(${this.several(0, 2, () => this.listed(depth)).join(", ")})` : ""}`;
+  }
+
+  unary(depth) {
+    return `${this.of(["+", "-", "!", "~", "typeof ", "void ", "delete a."])}${this.operand(depth)}`;
+  }
+
+  // What stands behind a unary sign: after `delete a.` it goes on with a member.
+  operand(depth) {
+    return this.below(2) ? this.of(NAMES) : `b[${this.expression(depth)}]`;
+  }
+
+  // A sign before another sign.
+  signs(depth) {
+    const inner = this.below(2) && isType("UpdateExpression") ? this.update(depth) : this.unary(depth);
+    return `${this.of(["+", "-", "!", "typeof"])} ${inner}`;
+  }
+
+  update(depth) {
+    const sign = this.of(["++", "--"]);
+    return this.below(2) ? `${sign}${this.target(depth)}` : `${this.target(depth)}${sign}`;
+  }
+
+  array(depth) {
+    return `[${this.several(0, 4, () => (this.below(6) ? this.listed(depth) : "")).join(", ")}]`;
+  }
+
+  object(depth) {
+    return `({ ${this.several(0, 3, () => this.property(depth)).join(", ")} })`;
+  }
+
+  property(depth) {
+    switch (this.below(6)) {
+      case 0:
+        return this.of(NAMES);
+      case 1:
+        return `[${this.assigned(depth)}]: ${this.assigned(depth)}`;
+      case 2:
+        return `...${this.assigned(depth)}`;
+      case 3:
+        return `${this.of(["'key'", '"</script>"', ...WHOLE])}: ${this.assigned(depth)}`;
+      default:
+        return `${this.of(KEYS.filter((key) => key !== "__proto__"))}: ${this.assigned(depth)}`;
+    }
+  }
+
+  conditional(depth) {
+    return `${this.inside(depth)} ? ${this.assigned(depth)} : ${this.assigned(depth)}`;
+  }
+
+  assignment(depth) {
+    const words = wordsOf("AssignmentExpression", "operator");
+    return `${this.target(depth)} ${this.of(words)} ${this.assigned(depth)}`;
+  }
+
+  chain(depth) {
+    const links = this.several(0, 2, () => this.of([".c", "[a]", "(b)", "?.c", "?.[a]", "?.(b)"]));
+    return `${this.inside(depth)}?.${this.of(["a", "[b]", "()"])}${links.join("")}`;
+  }
+
+  arrow(depth) {
+    const params = this.several(0, 2, () => `p${this.declared++}${this.below(3) ? "" : ` = ${this.assigned(depth)}`}`);
+    if (this.below(4) === 0) params.push(`...p${this.declared++}`);
+    const body = this.assigned(depth);
+    return `((${params.join(", ")}) => ${body.startsWith("{") ? `(${body})` : body})`;
+  }
+}

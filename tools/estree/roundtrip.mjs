@@ -1,0 +1,134 @@
+// `node tools/estree/roundtrip.mjs [--random COUNT [--seed NUMBER]] [DIRECTORY ..]`: every JavaScript file below the directories
+// is parsed, cut down to what jsgen reads by now, printed under each set of options, parsed again, and compared by normal form.
+// With --random, so many programs that are made up are printed so too.
+import { readFileSync, readdirSync, statSync } from "node:fs";
+import { join } from "node:path";
+import { Refused, printed, run } from "./command.mjs";
+import { jobOf } from "./convert.mjs";
+import { cut, isRead } from "./cut.mjs";
+import { difference, normal } from "./normal.mjs";
+import { parsed } from "./parser.mjs";
+import { randomProgram } from "./random.mjs";
+import { isField } from "./reads.mjs";
+
+const SETS = {
+  pretty: {},
+  "pretty with parentheses": { parentheses: true },
+  "negative numbers": { negative: true },
+  single_quote: { options: { single_quote: true } },
+  ascii_only: { options: { ascii_only: true } },
+  minified: { options: { minify: true } },
+  "minified with parentheses": { options: { minify: true }, parentheses: true },
+  "minified with negative numbers": { options: { minify: true }, negative: true },
+  "minified, ascii_only": { options: { minify: true, ascii_only: true } },
+};
+const HAS_NEGATIVE = isField("NumericLiteral", "negative");
+const READ_SETS = Object.entries(SETS).filter(([, set]) => HAS_NEGATIVE || !set.negative);
+const SHOWN = 10;
+
+class Tally {
+  constructor() {
+    this.programs = this.whole = this.passed = this.runs = this.bad = 0;
+    this.started = Date.now();
+  }
+
+  fail(name, set, what) {
+    this.bad++;
+    if (this.bad <= SHOWN) process.stderr.write(`\n${name}, ${set}: ${what}\n`);
+  }
+
+  progress() {
+    process.stderr.write(`\r${this.programs} programs, ${this.runs} runs, ${this.bad} bad`);
+  }
+
+  summary() {
+    const seconds = ((Date.now() - this.started) / 1000).toFixed(0);
+    return `${this.programs} programs, ${this.whole} of them whole; ${this.passed} files had nothing that is read, or are no modules; `
+      + `${this.runs} runs, ${this.bad} bad; ${seconds} s`;
+  }
+}
+
+// Prints the program under each set, and looks at what comes.
+function tryProgram(tally, name, source) {
+  const wanted = normal(parsed(source));
+  const lengths = {};
+  tally.programs++;
+  for (const [set, { options = {}, parentheses = false, negative = false }] of READ_SETS) {
+    tally.runs++;
+    const { status, code, line } = printed(jobOf(parsed(source, { parentheses }), { source, options, negative }));
+    lengths[set] = code.length;
+    if (status !== 0) {
+      tally.fail(name, set, `status ${status}: ${line}`);
+      continue;
+    }
+    const found = differenceOf(wanted, code);
+    if (found) tally.fail(name, set, found);
+    if (options.ascii_only && /[^\x00-\x7f]/.test(code)) tally.fail(name, set, "the text is not ASCII");
+  }
+  if (lengths.minified > lengths.pretty) tally.fail(name, "minified", "the text is longer than the pretty one");
+}
+
+function differenceOf(wanted, code) {
+  try {
+    return difference(wanted, normal(parsed(code)));
+  } catch (error) {
+    if (error instanceof SyntaxError) return `what is printed does not parse: ${error.message}`;
+    throw error;
+  }
+}
+
+function tryFile(tally, path) {
+  const source = readFileSync(path, "utf8");
+  let program;
+  try {
+    program = parsed(source);
+  } catch (error) {
+    if (!(error instanceof SyntaxError)) throw error;
+    tally.passed++;
+    return;
+  }
+  const isWhole = isRead(program);
+  const text = isWhole ? source : cut(source, program, parsed);
+  if (text === "" && !isWhole) {
+    tally.passed++;
+    return;
+  }
+  if (isWhole) tally.whole++;
+  tryProgram(tally, path, text);
+}
+
+function* filesBelow(path) {
+  if (!statSync(path).isDirectory()) return yield path;
+  for (const entry of readdirSync(path, { withFileTypes: true })) {
+    const inside = join(path, entry.name);
+    if (entry.isDirectory()) yield* filesBelow(inside);
+    else if (entry.isFile() && /\.[cm]?js$/.test(entry.name)) yield inside;
+  }
+}
+
+// The number behind a word, which is taken out with it.
+function numberBehind(words, word, otherwise) {
+  const at = words.indexOf(word);
+  if (at < 0) return otherwise;
+  const number = Number(words.splice(at, 2)[1]);
+  if (!Number.isSafeInteger(number) || number < 0) throw new Refused(`${word} wants a whole number`);
+  return number;
+}
+
+await run("node roundtrip.mjs [--random COUNT [--seed NUMBER]] [DIRECTORY ..]", (words) => {
+  const count = numberBehind(words, "--random", 0);
+  const seed = numberBehind(words, "--seed", 1);
+  if (count === 0 && words.length === 0) throw new Refused("a directory, or --random, is wanted");
+  const tally = new Tally();
+  for (const path of words.flatMap((word) => [...filesBelow(word)])) {
+    tryFile(tally, path);
+    tally.progress();
+  }
+  for (let at = 0; at < count; at++) {
+    tryProgram(tally, `random ${seed + at}`, randomProgram(seed + at));
+    tally.progress();
+  }
+  process.stderr.write("\n");
+  process.stdout.write(`${tally.summary()}\n`);
+  return tally.bad > 0 ? 1 : 0;
+});

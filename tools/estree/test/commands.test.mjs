@@ -1,0 +1,68 @@
+// The commands. Those that print need the program, which `./jsgen` builds; where it isn't built they are skipped.
+import assert from "node:assert/strict";
+import { spawnSync } from "node:child_process";
+import { existsSync, mkdtempSync, rmSync, writeFileSync } from "node:fs";
+import { tmpdir } from "node:os";
+import { join } from "node:path";
+import { test } from "node:test";
+import { fileURLToPath } from "node:url";
+
+const here = (name) => fileURLToPath(new URL(name, import.meta.url));
+const isBuilt = process.env.JSGEN !== undefined || existsSync(here("../../../crates/jsgen_cli/out/built"));
+const unbuilt = isBuilt ? false : "the program isn't built";
+
+function ran(command, words, input = "") {
+  const child = spawnSync(process.execPath, [here(`../${command}.mjs`), ...words], { input });
+  return { status: child.status, out: child.stdout.toString(), err: child.stderr.toString() };
+}
+
+function withFile(source, use) {
+  const folder = mkdtempSync(join(tmpdir(), "jsgen-"));
+  try {
+    const file = join(folder, "file.js");
+    writeFileSync(file, source);
+    return use(file, folder);
+  } finally {
+    rmSync(folder, { recursive: true });
+  }
+}
+
+test("job writes the job of a tree", () => {
+  const tree = { type: "Program", sourceType: "module", body: [{ type: "EmptyStatement" }] };
+  const { status, out } = ran("job", ["--minify"], JSON.stringify(tree));
+  assert.equal(status, 0);
+  assert.deepEqual(JSON.parse(out), {
+    options: { minify: true },
+    rows: [{ type: "EmptyStatement" }, { type: "Program", kind: "module", body: [0] }],
+  });
+});
+
+test("a word that is unknown, and a file that isn't there, are one line and the usage", () => {
+  assert.match(ran("job", ["--indent"]).err, /^unknown option --indent\nusage: node job\.mjs/);
+  assert.equal(ran("print", ["no/such/file.js"]).status, 1);
+  assert.match(ran("print", []).err, /^one file is wanted\nusage: /);
+});
+
+test("what isn't read is refused by print with its place", () => {
+  withFile("a;\nclass A {}\n", (file) => {
+    const { status, out, err } = ran("print", [file]);
+    assert.deepEqual([status, out], [1, ""]);
+    assert.match(err, /^ClassDeclaration in line 2, column 1 is not read yet\n/);
+  });
+});
+
+test("print writes a source file, minified where that is asked", { skip: unbuilt }, () => {
+  withFile("const  a = f ( 1+2 , 'b' )", (file) => {
+    assert.equal(ran("print", [file]).out, 'const a = f(1 + 2, "b");\n');
+    assert.equal(ran("print", ["--minify", file]).out, "const a=f(1+2,`b`);");
+  });
+});
+
+test("roundtrip cuts a file down, prints it and counts", { skip: unbuilt }, () => {
+  withFile("function f() { return a + b * 3 }\nclass B { c() { d(e[1]) } }\n", (file, folder) => {
+    const { status, out } = ran("roundtrip", [folder, "--random", "3"]);
+    assert.equal(status, 0);
+    assert.match(out, /^4 programs, /);
+    assert.match(out, / 0 bad; /);
+  });
+});

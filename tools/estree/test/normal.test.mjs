@@ -1,0 +1,44 @@
+// The normal form: what it takes for the same, and what for another.
+import assert from "node:assert/strict";
+import { test } from "node:test";
+import { difference, normal } from "../normal.mjs";
+import { parsed } from "../parser.mjs";
+
+function differenceOf(one, other) {
+  return difference(normal(parsed(one, { parentheses: true })), normal(parsed(other)));
+}
+
+const SAME = [
+  ["(a) + (b)", "a+b"],
+  ["a && (b && c)", "a && b && c"],
+  ["(a, b), c", "a, b, c"],
+  ["'a'", '"a"'],
+  ["f('a\\nb')", "f(`a\nb`)"],
+  ["({ a: a })", "({ a })"],
+  ["if (a) { if (b) c }", "if (a) if (b) c"],
+  ["'use strict'", '"use strict"'],
+  [".5 + 1.", "0.5 + 1"],
+];
+
+const OTHER = [
+  ["a - (b - c)", "a - b - c"],
+  ["(a && b) || c", "a && (b || c)"],
+  ["({ __proto__ })", "({ __proto__: __proto__ })"],
+  ["if (a) { if (b) c } else d", "if (a) if (b) c; else d"],
+  ["('use strict')", "'use strict'"],
+  ["[a,,]", "[a]"],
+  ["1", "1.0"],
+  ["new (f())()", "new f()()"],
+];
+
+for (const [one, other] of SAME) {
+  test(`${one} is ${other}`, () => assert.equal(differenceOf(one, other), null));
+}
+
+for (const [one, other] of OTHER) {
+  test(`${one} is not ${other}`, () => assert.notEqual(differenceOf(one, other), null));
+}
+
+test("a difference says where it is", () => {
+  assert.match(differenceOf("f(a)", "f(b)"), /arguments/);
+});

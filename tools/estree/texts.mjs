@@ -1,0 +1,40 @@
+// Texts of literals, and offsets in bytes.
+
+const GREATEST_WHOLE = 2n ** 128n - 1n;
+
+/** A number's text as a job has it: it begins with a digit and doesn't end in a dot. */
+export function numberText(raw) {
+  const text = raw.startsWith(".") ? `0${raw}` : raw;
+  return text.endsWith(".") ? text.slice(0, -1) : text;
+}
+
+/** Whether the text is a whole number by its digits, of 128 bits at most. */
+export function isWholeNumber(text) {
+  return /^(0|[1-9][0-9]{0,38})$/.test(text) && BigInt(text) <= GREATEST_WHOLE;
+}
+
+/** A string as a job has it: the text, or its units of UTF-16 where a surrogate has no partner. */
+export function unitsOf(text) {
+  const units = Array.from({ length: text.length }, (_, at) => text.charCodeAt(at));
+  return /\p{Surrogate}/u.test(text) ? units : text;
+}
+
+/** A function from an offset in UTF-16 units of the text to one in bytes of UTF-8. */
+export function bytesAt(text) {
+  if (!/[^\x00-\x7f]/.test(text)) return (offset) => offset;
+  const bytes = new Uint32Array(text.length + 1);
+  let at = 0;
+  let length = 0;
+  for (const character of text) {
+    bytes.fill(length, at, at + character.length);
+    at += character.length;
+    length += Buffer.byteLength(character);
+  }
+  bytes[at] = length;
+  return (offset) => bytes[offset];
+}
+
+/** What stands within parentheses. */
+export function withoutParentheses(node) {
+  return node.type === "ParenthesizedExpression" ? withoutParentheses(node.expression) : node;
+}
