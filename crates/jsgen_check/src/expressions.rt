@@ -6,19 +6,35 @@ ghost use Rattle.jsgen_check.specs.Verdict.{tree_verdict};
 
 use crate::children::{check_arguments, check_chain_element};
 use crate::heights::{check_node, higher};
-use crate::rules::{check_big_int_literal_rules, check_call_expression_rules, check_chain_expression_rules, check_computed_member_expression_rules, check_identifier_name_rules, check_identifier_reference_rules, check_numeric_literal_rules, check_static_member_expression_rules};
+use crate::rules::{
+    check_big_int_literal_rules, check_call_expression_rules, check_chain_expression_rules,
+    check_computed_member_expression_rules, check_identifier_name_rules,
+    check_identifier_reference_rules, check_numeric_literal_rules,
+    check_static_member_expression_rules,
+};
 use crate::{CheckNode, Surroundings, check_child};
 use jsgen_model::TreeFault;
-use jsgen_tree::{BigIntLiteral, BinaryExpression, BooleanLiteral, CallExpression, ChainExpression, ComputedMemberExpression, IdentifierName, IdentifierReference, LogicalExpression, NodeSet, NullLiteral, NumericLiteral, ParenthesizedExpression, StaticMemberExpression, StringLiteral, ThisExpression};
+use jsgen_tree::{
+    BigIntLiteral, BinaryExpression, BooleanLiteral, CallExpression, ChainExpression,
+    ComputedMemberExpression, IdentifierName, IdentifierReference, LogicalExpression, NodeSet,
+    NullLiteral, NumericLiteral, ParenthesizedExpression, StaticMemberExpression, StringLiteral,
+    ThisExpression,
+};
 
-pub fn check_identifier_reference(node: &IdentifierReference, around: Surroundings<'_>) -> Result<u32, TreeFault>
+pub fn check_identifier_reference(
+    node: &IdentifierReference,
+    around: Surroundings<'_>,
+) -> Result<u32, TreeFault>
     ensures { result ≡ tree_verdict around.entry (identifier_reference_row node.now) }
 {
     let rules = check_identifier_reference_rules(node, around);
     check_node(node.span, rules, Ok(0))
 }
 
-pub fn check_this_expression(node: &ThisExpression, around: Surroundings<'_>) -> Result<u32, TreeFault>
+pub fn check_this_expression(
+    node: &ThisExpression,
+    around: Surroundings<'_>,
+) -> Result<u32, TreeFault>
     ensures { result ≡ tree_verdict around.entry (this_expression_row node.now) }
 {
     let _ = around;
@@ -32,42 +48,60 @@ pub fn check_null_literal(node: &NullLiteral, around: Surroundings<'_>) -> Resul
     check_node(node.span, Ok(()), Ok(0))
 }
 
-pub fn check_boolean_literal(node: &BooleanLiteral, around: Surroundings<'_>) -> Result<u32, TreeFault>
+pub fn check_boolean_literal(
+    node: &BooleanLiteral,
+    around: Surroundings<'_>,
+) -> Result<u32, TreeFault>
     ensures { result ≡ tree_verdict around.entry (boolean_literal_row node.now) }
 {
     let _ = around;
     check_node(node.span, Ok(()), Ok(0))
 }
 
-pub fn check_numeric_literal(node: &NumericLiteral, around: Surroundings<'_>) -> Result<u32, TreeFault>
+pub fn check_numeric_literal(
+    node: &NumericLiteral,
+    around: Surroundings<'_>,
+) -> Result<u32, TreeFault>
     ensures { result ≡ tree_verdict around.entry (numeric_literal_row node.now) }
 {
     let rules = check_numeric_literal_rules(node, around);
     check_node(node.span, rules, Ok(0))
 }
 
-pub fn check_big_int_literal(node: &BigIntLiteral, around: Surroundings<'_>) -> Result<u32, TreeFault>
+pub fn check_big_int_literal(
+    node: &BigIntLiteral,
+    around: Surroundings<'_>,
+) -> Result<u32, TreeFault>
     ensures { result ≡ tree_verdict around.entry (big_int_literal_row node.now) }
 {
     let rules = check_big_int_literal_rules(node, around);
     check_node(node.span, rules, Ok(0))
 }
 
-pub fn check_string_literal(node: &StringLiteral, around: Surroundings<'_>) -> Result<u32, TreeFault>
+pub fn check_string_literal(
+    node: &StringLiteral,
+    around: Surroundings<'_>,
+) -> Result<u32, TreeFault>
     ensures { result ≡ tree_verdict around.entry (string_literal_row node.now) }
 {
     let _ = around;
     check_node(node.span, Ok(()), Ok(0))
 }
 
-pub fn check_parenthesized_expression<N: CheckNode>(node: &ParenthesizedExpression<N>, around: Surroundings<'_>) -> Result<u32, TreeFault>
+pub fn check_parenthesized_expression<N: CheckNode>(
+    node: &ParenthesizedExpression<N>,
+    around: Surroundings<'_>,
+) -> Result<u32, TreeFault>
     ensures { result ≡ tree_verdict around.entry (parenthesized_expression_row N.plain node.now) }
 {
     let expression = check_child(node.expression.get(), NodeSet::Expression, around);
     check_node(node.span, Ok(()), expression)
 }
 
-pub fn check_binary_expression<N: CheckNode>(node: &BinaryExpression<N>, around: Surroundings<'_>) -> Result<u32, TreeFault>
+pub fn check_binary_expression<N: CheckNode>(
+    node: &BinaryExpression<N>,
+    around: Surroundings<'_>,
+) -> Result<u32, TreeFault>
     ensures { result ≡ tree_verdict around.entry (binary_expression_row N.plain node.now) }
 {
     let left = check_child(node.left.get(), NodeSet::Expression, around);
@@ -75,7 +109,10 @@ pub fn check_binary_expression<N: CheckNode>(node: &BinaryExpression<N>, around:
     check_node(node.span, Ok(()), higher(left, right))
 }
 
-pub fn check_logical_expression<N: CheckNode>(node: &LogicalExpression<N>, around: Surroundings<'_>) -> Result<u32, TreeFault>
+pub fn check_logical_expression<N: CheckNode>(
+    node: &LogicalExpression<N>,
+    around: Surroundings<'_>,
+) -> Result<u32, TreeFault>
     ensures { result ≡ tree_verdict around.entry (logical_expression_row N.plain node.now) }
 {
     let left = check_child(node.left.get(), NodeSet::Expression, around);
@@ -83,14 +120,20 @@ pub fn check_logical_expression<N: CheckNode>(node: &LogicalExpression<N>, aroun
     check_node(node.span, Ok(()), higher(left, right))
 }
 
-pub fn check_identifier_name(node: &IdentifierName, around: Surroundings<'_>) -> Result<u32, TreeFault>
+pub fn check_identifier_name(
+    node: &IdentifierName,
+    around: Surroundings<'_>,
+) -> Result<u32, TreeFault>
     ensures { result ≡ tree_verdict around.entry (identifier_name_row node.now) }
 {
     let rules = check_identifier_name_rules(node, around);
     check_node(node.span, rules, Ok(0))
 }
 
-pub fn check_static_member_expression<N: CheckNode>(node: &StaticMemberExpression<N>, around: Surroundings<'_>) -> Result<u32, TreeFault>
+pub fn check_static_member_expression<N: CheckNode>(
+    node: &StaticMemberExpression<N>,
+    around: Surroundings<'_>,
+) -> Result<u32, TreeFault>
     ensures { result ≡ tree_verdict around.entry (static_member_expression_row N.plain node.now) }
 {
     let rules = check_static_member_expression_rules(node, around);
@@ -99,7 +142,10 @@ pub fn check_static_member_expression<N: CheckNode>(node: &StaticMemberExpressio
     check_node(node.span, rules, higher(object, property))
 }
 
-pub fn check_computed_member_expression<N: CheckNode>(node: &ComputedMemberExpression<N>, around: Surroundings<'_>) -> Result<u32, TreeFault>
+pub fn check_computed_member_expression<N: CheckNode>(
+    node: &ComputedMemberExpression<N>,
+    around: Surroundings<'_>,
+) -> Result<u32, TreeFault>
     ensures { result ≡ tree_verdict around.entry (computed_member_expression_row N.plain node.now) }
 {
     let rules = check_computed_member_expression_rules(node, around);
@@ -108,7 +154,10 @@ pub fn check_computed_member_expression<N: CheckNode>(node: &ComputedMemberExpre
     check_node(node.span, rules, higher(object, expression))
 }
 
-pub fn check_call_expression<N: CheckNode>(node: &CallExpression<N>, around: Surroundings<'_>) -> Result<u32, TreeFault>
+pub fn check_call_expression<N: CheckNode>(
+    node: &CallExpression<N>,
+    around: Surroundings<'_>,
+) -> Result<u32, TreeFault>
     ensures { result ≡ tree_verdict around.entry (call_expression_row N.plain node.now) }
 {
     let rules = check_call_expression_rules(node, around);
@@ -117,7 +166,10 @@ pub fn check_call_expression<N: CheckNode>(node: &CallExpression<N>, around: Sur
     check_node(node.span, rules, higher(callee, arguments))
 }
 
-pub fn check_chain_expression<N: CheckNode>(node: &ChainExpression<N>, around: Surroundings<'_>) -> Result<u32, TreeFault>
+pub fn check_chain_expression<N: CheckNode>(
+    node: &ChainExpression<N>,
+    around: Surroundings<'_>,
+) -> Result<u32, TreeFault>
     ensures { result ≡ tree_verdict around.entry (chain_expression_row N.plain node.now) }
 {
     let rules = check_chain_expression_rules(node, around);

@@ -28,8 +28,8 @@ use jsgen_tree::{
     AssignmentExpression, AssignmentTarget, BigIntLiteral, BindingIdentifier, CallExpression,
     ChainExpression, ComputedMemberExpression, Directive, ExpressionNode, IdentifierName,
     IdentifierReference, IfStatement, NodeType, NumericLiteral, NumericValue, ObjectProperty,
-    PropertyKey, SequenceExpression, SimpleAssignmentTarget, StatementNode,
-    StaticMemberExpression, UpdateExpression, VariableDeclaration, VariableDeclarator, is_proto,
+    PropertyKey, SequenceExpression, SimpleAssignmentTarget, StatementNode, StaticMemberExpression,
+    UpdateExpression, VariableDeclaration, VariableDeclarator, is_proto,
 };
 
 #[tactic(auto)]

@@ -4,16 +4,33 @@ ghost use Rattle.std.specs.Prelude.{◌≡◌};
 ghost use Rattle.jsgen_tree.specs.Rows.{expression_plain, declaration_plain, statement_plain, binding_pattern_plain};
 ghost use Rattle.jsgen_check.specs.Verdict.{tree_verdict};
 
-use crate::assignments::{check_assignment_expression, check_conditional_expression, check_sequence_expression};
+use crate::assignments::{
+    check_assignment_expression, check_conditional_expression, check_sequence_expression,
+};
 use crate::collections::{check_array_expression, check_object_expression};
-use crate::expressions::{check_big_int_literal, check_binary_expression, check_boolean_literal, check_call_expression, check_chain_expression, check_computed_member_expression, check_identifier_reference, check_logical_expression, check_null_literal, check_numeric_literal, check_parenthesized_expression, check_static_member_expression, check_string_literal, check_this_expression};
-use crate::operations::{check_new_expression, check_new_target, check_super, check_unary_expression, check_update_expression};
-use crate::statements::{check_binding_identifier, check_block_statement, check_empty_statement, check_expression_statement, check_if_statement, check_variable_declaration};
+use crate::expressions::{
+    check_big_int_literal, check_binary_expression, check_boolean_literal, check_call_expression,
+    check_chain_expression, check_computed_member_expression, check_identifier_reference,
+    check_logical_expression, check_null_literal, check_numeric_literal,
+    check_parenthesized_expression, check_static_member_expression, check_string_literal,
+    check_this_expression,
+};
+use crate::operations::{
+    check_new_expression, check_new_target, check_super, check_unary_expression,
+    check_update_expression,
+};
+use crate::statements::{
+    check_binding_identifier, check_block_statement, check_empty_statement,
+    check_expression_statement, check_if_statement, check_variable_declaration,
+};
 use crate::{CheckNode, Surroundings};
 use jsgen_model::TreeFault;
 use jsgen_tree::{BindingPattern, Declaration, Expression, Statement};
 
-pub fn check_expression_set<N: CheckNode>(node: &Expression<N>, around: Surroundings<'_>) -> Result<u32, TreeFault>
+pub fn check_expression_set<N: CheckNode>(
+    node: &Expression<N>,
+    around: Surroundings<'_>,
+) -> Result<u32, TreeFault>
     ensures { result ≡ tree_verdict around.entry (expression_plain N.plain node.now) }
 {
     match node {
@@ -28,7 +45,9 @@ pub fn check_expression_set<N: CheckNode>(node: &Expression<N>, around: Surround
         Expression::LogicalExpression(node) => check_logical_expression(node, around),
         Expression::ParenthesizedExpression(node) => check_parenthesized_expression(node, around),
         Expression::StaticMemberExpression(node) => check_static_member_expression(node, around),
-        Expression::ComputedMemberExpression(node) => check_computed_member_expression(node, around),
+        Expression::ComputedMemberExpression(node) => check_computed_member_expression(
+            node, around,
+        ),
         Expression::CallExpression(node) => check_call_expression(node, around),
         Expression::ChainExpression(node) => check_chain_expression(node, around),
         Expression::ArrayExpression(node) => check_array_expression(node, around),
@@ -44,7 +63,10 @@ pub fn check_expression_set<N: CheckNode>(node: &Expression<N>, around: Surround
     }
 }
 
-pub fn check_declaration_set<N: CheckNode>(node: &Declaration<N>, around: Surroundings<'_>) -> Result<u32, TreeFault>
+pub fn check_declaration_set<N: CheckNode>(
+    node: &Declaration<N>,
+    around: Surroundings<'_>,
+) -> Result<u32, TreeFault>
     ensures { result ≡ tree_verdict around.entry (declaration_plain N.plain node.now) }
 {
     match node {
@@ -52,7 +74,10 @@ pub fn check_declaration_set<N: CheckNode>(node: &Declaration<N>, around: Surrou
     }
 }
 
-pub fn check_statement_set<N: CheckNode>(node: &Statement<N>, around: Surroundings<'_>) -> Result<u32, TreeFault>
+pub fn check_statement_set<N: CheckNode>(
+    node: &Statement<N>,
+    around: Surroundings<'_>,
+) -> Result<u32, TreeFault>
     ensures { result ≡ tree_verdict around.entry (statement_plain N.plain node.now) }
 {
     match node {
@@ -64,7 +89,10 @@ pub fn check_statement_set<N: CheckNode>(node: &Statement<N>, around: Surroundin
     }
 }
 
-pub fn check_binding_pattern_set(node: &BindingPattern, around: Surroundings<'_>) -> Result<u32, TreeFault>
+pub fn check_binding_pattern_set(
+    node: &BindingPattern,
+    around: Surroundings<'_>,
+) -> Result<u32, TreeFault>
     ensures { result ≡ tree_verdict around.entry (binding_pattern_plain node.now) }
 {
     match node {

@@ -27,10 +27,9 @@ use jsgen_tree::{
     BindingPattern, BlockStatement, CallExpression, ChainElement, ChainExpression,
     ComputedMemberExpression, ConditionalExpression, Declaration, Directive, Expression,
     ExpressionNode, IdentifierName, IfStatement, LogicalExpression, NewExpression, Node, NodeType,
-    ObjectExpression, ObjectProperty, ObjectPropertyKind, Program,
-    PropertyKey, SequenceExpression, SimpleAssignmentTarget, SpreadElement, Statement,
-    StatementNode, StaticMemberExpression, StringLiteral, UpdateExpression, VariableDeclaration,
-    VariableDeclarator, is_proto,
+    ObjectExpression, ObjectProperty, ObjectPropertyKind, Program, PropertyKey, SequenceExpression,
+    SimpleAssignmentTarget, SpreadElement, Statement, StatementNode, StaticMemberExpression,
+    StringLiteral, UpdateExpression, VariableDeclaration, VariableDeclarator, is_proto,
 };
 use std::alloc::Global;
 

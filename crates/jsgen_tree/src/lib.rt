@@ -23,15 +23,27 @@ mod statements;
 mod types;
 
 pub use assignments::{AssignmentExpression, ConditionalExpression, SequenceExpression};
-pub use collections::{ArrayExpression, ObjectExpression, ObjectProperty, PropertyKind, SpreadElement};
-pub use expressions::{BigIntLiteral, BinaryExpression, BooleanLiteral, CallExpression, ChainExpression, ComputedMemberExpression, IdentifierName, IdentifierReference, LogicalExpression, NullLiteral, NumericLiteral, ParenthesizedExpression, StaticMemberExpression, StringLiteral, ThisExpression};
+pub use collections::{
+    ArrayExpression, ObjectExpression, ObjectProperty, PropertyKind, SpreadElement,
+};
+pub use expressions::{
+    BigIntLiteral, BinaryExpression, BooleanLiteral, CallExpression, ChainExpression,
+    ComputedMemberExpression, IdentifierName, IdentifierReference, LogicalExpression, NullLiteral,
+    NumericLiteral, ParenthesizedExpression, StaticMemberExpression, StringLiteral, ThisExpression,
+};
 pub use laws::fields_are_named;
 pub use names::is_proto;
 pub use nodes::{BindingPatternNode, DeclarationNode, ExpressionNode, Node, StatementNode};
 pub use numbers::{NumericValue, behind_minus};
 pub use operations::{NewExpression, NewTarget, Super, UnaryExpression, UpdateExpression};
 pub use options::{CodegenOptions, CommentOptions, LegalComment};
-pub use sets::{Argument, ArrayExpressionElement, AssignmentTarget, BindingPattern, ChainElement, Declaration, Expression, ObjectPropertyKind, PropertyKey, SimpleAssignmentTarget, Statement};
+pub use sets::{
+    Argument, ArrayExpressionElement, AssignmentTarget, BindingPattern, ChainElement, Declaration,
+    Expression, ObjectPropertyKind, PropertyKey, SimpleAssignmentTarget, Statement,
+};
 pub use span::GetSpan;
-pub use statements::{BindingIdentifier, BlockStatement, Directive, EmptyStatement, ExpressionStatement, IfStatement, Program, VariableDeclaration, VariableDeclarationKind, VariableDeclarator};
+pub use statements::{
+    BindingIdentifier, BlockStatement, Directive, EmptyStatement, ExpressionStatement, IfStatement,
+    Program, VariableDeclaration, VariableDeclarationKind, VariableDeclarator,
+};
 pub use types::{NodeSet, NodeType};

@@ -3,10 +3,17 @@
 
 use crate::assignments::{AssignmentExpression, ConditionalExpression, SequenceExpression};
 use crate::collections::{ArrayExpression, ObjectExpression, ObjectProperty, SpreadElement};
-use crate::expressions::{BigIntLiteral, BinaryExpression, BooleanLiteral, CallExpression, ChainExpression, ComputedMemberExpression, IdentifierName, IdentifierReference, LogicalExpression, NullLiteral, NumericLiteral, ParenthesizedExpression, StaticMemberExpression, StringLiteral, ThisExpression};
+use crate::expressions::{
+    BigIntLiteral, BinaryExpression, BooleanLiteral, CallExpression, ChainExpression,
+    ComputedMemberExpression, IdentifierName, IdentifierReference, LogicalExpression, NullLiteral,
+    NumericLiteral, ParenthesizedExpression, StaticMemberExpression, StringLiteral, ThisExpression,
+};
 use crate::nodes::{DeclarationNode, ExpressionNode, Node};
 use crate::operations::{NewExpression, NewTarget, Super, UnaryExpression, UpdateExpression};
-use crate::statements::{BindingIdentifier, BlockStatement, EmptyStatement, ExpressionStatement, IfStatement, VariableDeclaration};
+use crate::statements::{
+    BindingIdentifier, BlockStatement, EmptyStatement, ExpressionStatement, IfStatement,
+    VariableDeclaration,
+};
 
 #[derive(Drop)]
 pub enum Expression<N = Node> {

@@ -7,11 +7,21 @@ ghost use Rattle.jsgen_tree.specs.Spans.{expression_span, argument_span, array_e
 
 use crate::assignments::{AssignmentExpression, ConditionalExpression, SequenceExpression};
 use crate::collections::{ArrayExpression, ObjectExpression, ObjectProperty, SpreadElement};
-use crate::expressions::{BigIntLiteral, BinaryExpression, BooleanLiteral, CallExpression, ChainExpression, ComputedMemberExpression, IdentifierName, IdentifierReference, LogicalExpression, NullLiteral, NumericLiteral, ParenthesizedExpression, StaticMemberExpression, StringLiteral, ThisExpression};
+use crate::expressions::{
+    BigIntLiteral, BinaryExpression, BooleanLiteral, CallExpression, ChainExpression,
+    ComputedMemberExpression, IdentifierName, IdentifierReference, LogicalExpression, NullLiteral,
+    NumericLiteral, ParenthesizedExpression, StaticMemberExpression, StringLiteral, ThisExpression,
+};
 use crate::nodes::Node;
 use crate::operations::{NewExpression, NewTarget, Super, UnaryExpression, UpdateExpression};
-use crate::sets::{Argument, ArrayExpressionElement, AssignmentTarget, BindingPattern, ChainElement, Declaration, Expression, ObjectPropertyKind, PropertyKey, SimpleAssignmentTarget, Statement};
-use crate::statements::{BindingIdentifier, BlockStatement, Directive, EmptyStatement, ExpressionStatement, IfStatement, Program, VariableDeclaration, VariableDeclarator};
+use crate::sets::{
+    Argument, ArrayExpressionElement, AssignmentTarget, BindingPattern, ChainElement, Declaration,
+    Expression, ObjectPropertyKind, PropertyKey, SimpleAssignmentTarget, Statement,
+};
+use crate::statements::{
+    BindingIdentifier, BlockStatement, Directive, EmptyStatement, ExpressionStatement, IfStatement,
+    Program, VariableDeclaration, VariableDeclarator,
+};
 use jsgen_syntax::Span;
 
 /// Where a node stands in its source; a set's is its member's.
