@@ -156,6 +156,8 @@ class Table:
                 kinds = [g for g in n.in_format() if g.name == "kind" and g.kind in self.words]
                 if f.only_for and f.only_for not in [w for g in kinds for w, _ in self.words[g.kind].words]:
                     raise SystemExit(f"{n.name}.{f.name}: the type has no field kind with the word {f.only_for}")
+                if f.only_for and not self.is_value(f):
+                    raise SystemExit(f"{n.name}.{f.name}: a child for rows of one kind has no form yet")
                 if f.place and self.places.get(f.place) != f.kind:
                     raise SystemExit(f"{n.name}.{f.name}: no place {f.place} for {f.kind}")
                 if not f.unread and f.many and not self.is_child(f):

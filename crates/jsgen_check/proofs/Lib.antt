@@ -1,4 +1,5 @@
 pub mod Declarators
+pub mod Keys
 pub mod Programs
 pub mod Steps
 pub mod Verdicts

@@ -1,22 +1,24 @@
 // Generated from tools/nodes/table.txt; edit that and run tools/nodes/generate.
 // Expressions (ECMA-262, clause 13).
 ghost use Rattle.std.specs.Prelude.{◌≡◌};
-ghost use Rattle.jsgen_tree.specs.Rows.{identifier_reference_row, this_expression_row, null_literal_row, boolean_literal_row, numeric_literal_row, string_literal_row, parenthesized_expression_row, binary_expression_row, logical_expression_row, identifier_name_row, static_member_expression_row, computed_member_expression_row, call_expression_row, chain_expression_row};
+ghost use Rattle.jsgen_tree.specs.Rows.{identifier_reference_row, this_expression_row, null_literal_row, boolean_literal_row, numeric_literal_row, big_int_literal_row, string_literal_row, parenthesized_expression_row, binary_expression_row, logical_expression_row, identifier_name_row, static_member_expression_row, computed_member_expression_row, call_expression_row, chain_expression_row};
 ghost use Rattle.jsgen_check.specs.Verdict.{tree_verdict};
 
 use crate::children::{check_arguments, check_chain_element};
 use crate::heights::{check_node, higher};
 use crate::rules::{
-    check_call_expression_rules, check_chain_expression_rules,
+    check_big_int_literal_rules, check_call_expression_rules, check_chain_expression_rules,
     check_computed_member_expression_rules, check_identifier_name_rules,
-    check_identifier_reference_rules, check_static_member_expression_rules,
+    check_identifier_reference_rules, check_numeric_literal_rules,
+    check_static_member_expression_rules,
 };
 use crate::{CheckNode, Surroundings, check_child};
 use jsgen_model::TreeFault;
 use jsgen_tree::{
-    BinaryExpression, BooleanLiteral, CallExpression, ChainExpression, ComputedMemberExpression,
-    IdentifierName, IdentifierReference, LogicalExpression, NodeSet, NullLiteral, NumericLiteral,
-    ParenthesizedExpression, StaticMemberExpression, StringLiteral, ThisExpression,
+    BigIntLiteral, BinaryExpression, BooleanLiteral, CallExpression, ChainExpression,
+    ComputedMemberExpression, IdentifierName, IdentifierReference, LogicalExpression, NodeSet,
+    NullLiteral, NumericLiteral, ParenthesizedExpression, StaticMemberExpression, StringLiteral,
+    ThisExpression,
 };
 
 pub fn check_identifier_reference(
@@ -62,8 +64,18 @@ pub fn check_numeric_literal(
 ) -> Result<u32, TreeFault>
     ensures { result ≡ tree_verdict around.entry (numeric_literal_row node.now) }
 {
-    let _ = around;
-    check_node(node.span, Ok(()), Ok(0))
+    let rules = check_numeric_literal_rules(node, around);
+    check_node(node.span, rules, Ok(0))
+}
+
+pub fn check_big_int_literal(
+    node: &BigIntLiteral,
+    around: Surroundings<'_>,
+) -> Result<u32, TreeFault>
+    ensures { result ≡ tree_verdict around.entry (big_int_literal_row node.now) }
+{
+    let rules = check_big_int_literal_rules(node, around);
+    check_node(node.span, rules, Ok(0))
 }
 
 pub fn check_string_literal(

@@ -42,7 +42,7 @@ pub trait CheckNode {
     ghost use Rattle.std.specs.Prelude.{option_map};
     ghost use Rattle.std.specs.Str.{chars};
     ghost use Rattle.jsgen_tree.specs.Tree.{Tree};
-    ghost use Rattle.jsgen_tree.specs.Inside.{without_parentheses, has_optional_link, reference_in, written_name_in};
+    ghost use Rattle.jsgen_tree.specs.Inside.{without_parentheses, has_optional_link, reference_in, written_name_in, is_negative};
 
     ghost plain: { Self → Tree };
 
@@ -59,6 +59,10 @@ pub trait CheckNode {
     /// The name that stands there as it is written.
     fn written_name(&self) -> Option<&str>
         ensures { option_map (λ s. chars s.now) result ≡ written_name_in (plain self.now) };
+
+    /// Whether it is a number or a big integer with a minus before it, without the parentheses that it may have round it.
+    fn is_negative(&self) -> bool
+        ensures { result ≡ is_negative (without_parentheses (plain self.now)) };
 
     /// Whether one of the links up to this one is optional, where it is a member or a call.
     fn has_optional_link(&self) -> bool
@@ -124,6 +128,10 @@ impl CheckNode for Node {
 
     fn written_name(&self) -> Option<&str> {
         self.written_name()
+    }
+
+    fn is_negative(&self) -> bool {
+        self.is_negative()
     }
 
     #[cycle(node)]

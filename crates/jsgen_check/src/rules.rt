@@ -1,16 +1,17 @@
 // The rules that the rows of some types have of their own, beside their spans and their children's sets.
 #![tactic(auto, unfolding(jsgen_rules::specs::Verdict::verdict))]
 
-ghost use Rattle.std.specs.Prelude.{◌≡◌, map, not, false, option_map, if◌then◌else◌};
+ghost use Rattle.std.specs.Prelude.{◌≡◌, map, not, false, option_map};
 ghost use Rattle.std.specs.Option.{option_map_or};
 ghost use Rattle.std.specs.Str.{chars};
 ghost use Rattle.jsgen_tree.specs.Tree.{optional, trees, type_of, span_of};
+ghost use Rattle.jsgen_tree.specs.Inside.{without_parentheses, reference_in, written_name_in, is_proto, is_negative_big_integer};
+ghost use Rattle.jsgen_tree.specs.Rows.{directive_row, variable_declaration_row, variable_declarator_row, binding_identifier_row, if_statement_row, identifier_reference_row, numeric_literal_row, big_int_literal_row, identifier_name_row, object_property_row, in_statement, in_property_key, in_expression, sequence_expression_row, static_member_expression_row, computed_member_expression_row, call_expression_row, chain_expression_row, update_expression_row, assignment_expression_row, in_assignment_target, in_simple_assignment_target};
+ghost use Rattle.jsgen_model.specs.Valid.{own_faults, fault_if, body_faults, alternate_faults, declaration_faults, may_be_key, key_faults, named_faults, shorthand_faults, is_literal_key, is_lexical_type, sequence_faults, super_faults, target_faults};
 ghost use Rattle.jsgen_tree.specs.Sets.{is_expression};
-ghost use Rattle.jsgen_tree.specs.Inside.{without_parentheses, reference_in, written_name_in, is_proto};
-ghost use Rattle.jsgen_tree.specs.Rows.{directive_row, variable_declaration_row, variable_declarator_row, binding_identifier_row, if_statement_row, identifier_reference_row, identifier_name_row, object_property_row, sequence_expression_row, in_statement, in_property_key, in_expression, static_member_expression_row, computed_member_expression_row, call_expression_row, chain_expression_row, update_expression_row, assignment_expression_row, in_assignment_target, in_simple_assignment_target};
-ghost use Rattle.jsgen_model.specs.Valid.{own_faults, fault_if, body_faults, alternate_faults, declaration_faults, sequence_faults, key_faults, named_faults, shorthand_faults, is_literal_key, is_lexical_type, super_faults, target_faults};
 ghost use Rattle.jsgen_model.specs.declared.fault.TreeFault.TheVariants.{Name};
 ghost use Rattle.jsgen_rules.specs.Verdict.{verdict};
+ghost use Rattle.jsgen_check.specs.Keys.{is_big_integer};
 ghost use Rattle.jsgen_check.specs.Verdict.{surroundings_plain};
 
 use crate::links::{
@@ -18,14 +19,17 @@ use crate::links::{
 };
 use crate::{CheckNode, Surroundings};
 use jsgen_model::TreeFault;
-use jsgen_rules::{check_name, check_no_optional_link, check_raw, check_written_name, is_super};
+use jsgen_rules::{
+    check_big_integer, check_name, check_no_optional_link, check_raw, check_raw_number,
+    check_written_name, is_super,
+};
 use jsgen_syntax::Span;
 use jsgen_tree::{
-    AssignmentExpression, AssignmentTarget, BindingIdentifier, CallExpression, ChainExpression,
-    ComputedMemberExpression, Directive, ExpressionNode, IdentifierName, IdentifierReference,
-    IfStatement, NodeType, ObjectProperty, PropertyKey, SequenceExpression, SimpleAssignmentTarget,
-    StatementNode, StaticMemberExpression, UpdateExpression, VariableDeclaration,
-    VariableDeclarator, is_proto,
+    AssignmentExpression, AssignmentTarget, BigIntLiteral, BindingIdentifier, CallExpression,
+    ChainExpression, ComputedMemberExpression, Directive, ExpressionNode, IdentifierName,
+    IdentifierReference, IfStatement, NodeType, NumericLiteral, NumericValue, ObjectProperty,
+    PropertyKey, SequenceExpression, SimpleAssignmentTarget, StatementNode, StaticMemberExpression,
+    UpdateExpression, VariableDeclaration, VariableDeclarator, is_proto,
 };
 
 #[tactic(auto)]
@@ -101,6 +105,31 @@ pub fn check_identifier_reference_rules(
 {
     let _ = around;
     check_name(&node.name, node.span)
+}
+
+#[tactic(auto)]
+pub fn check_numeric_literal_rules(
+    node: &NumericLiteral,
+    around: Surroundings<'_>,
+) -> Result<(), TreeFault>
+    ensures { result ≡ verdict (own_faults (surroundings_plain around.entry) (numeric_literal_row node.now)) }
+{
+    let _ = around;
+    match &node.value {
+        NumericValue::Whole { .. } => Ok(()),
+        NumericValue::Raw(text) => check_raw_number(text, node.span),
+    }
+}
+
+#[tactic(auto)]
+pub fn check_big_int_literal_rules(
+    node: &BigIntLiteral,
+    around: Surroundings<'_>,
+) -> Result<(), TreeFault>
+    ensures { result ≡ verdict (own_faults (surroundings_plain around.entry) (big_int_literal_row node.now)) }
+{
+    let _ = around;
+    check_big_integer(&node.value, node.span)
 }
 
 #[tactic(auto)]
@@ -303,24 +332,53 @@ fn is_literal_key(node_type: NodeType) -> bool
 {
     matches!(
         node_type,
-        NodeType::IdentifierName | NodeType::StringLiteral | NodeType::NumericLiteral
+        NodeType::IdentifierName
+            | NodeType::StringLiteral
+            | NodeType::NumericLiteral
+            | NodeType::BigIntLiteral
     )
 }
 
-fn may_be_key(computed: bool, node_type: NodeType) -> bool
-    ensures { result ≡ if computed then is_expression node_type else is_literal_key node_type }
+fn is_big_integer(node_type: NodeType) -> bool
+    ensures { result ≡ is_big_integer node_type }
+{
+    matches!(node_type, NodeType::BigIntLiteral)
+}
+
+/// Whether it is a big integer with a minus before it, and no parentheses are round it.
+fn is_negative_big_integer<N: CheckNode>(node: &N) -> bool
+    ensures { result ≡ is_negative_big_integer (N.plain node.now) }
+{
+    if is_big_integer(node.node_type()) {
+        node.is_negative()
+    } else {
+        false
+    }
+}
+
+fn is_negative_key<N: CheckNode>(key: &PropertyKey<N>) -> bool
+    ensures { result ≡ is_negative_big_integer (in_property_key N.plain key.now) }
+{
+    match key {
+        PropertyKey::IdentifierName(_) => false,
+        PropertyKey::Expression(node) => is_negative_big_integer(node.get()),
+    }
+}
+
+fn may_be_key<N: CheckNode>(computed: bool, key: &PropertyKey<N>) -> bool
+    ensures { result ≡ may_be_key computed (in_property_key N.plain key.now) }
 {
     if computed {
-        node_type.is_expression()
+        key_type(key).is_expression()
     } else {
-        is_literal_key(node_type)
+        is_literal_key(key_type(key)) && !is_negative_key(key)
     }
 }
 
 fn check_key<N: CheckNode>(computed: bool, key: &PropertyKey<N>) -> Result<(), TreeFault>
     ensures { result ≡ verdict (key_faults computed (in_property_key N.plain key.now)) }
 {
-    if may_be_key(computed, key_type(key)) {
+    if may_be_key(computed, key) {
         Ok(())
     } else {
         Err(TreeFault::Place {

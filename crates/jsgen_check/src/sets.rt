@@ -9,10 +9,11 @@ use crate::assignments::{
 };
 use crate::collections::{check_array_expression, check_object_expression};
 use crate::expressions::{
-    check_binary_expression, check_boolean_literal, check_call_expression, check_chain_expression,
-    check_computed_member_expression, check_identifier_reference, check_logical_expression,
-    check_null_literal, check_numeric_literal, check_parenthesized_expression,
-    check_static_member_expression, check_string_literal, check_this_expression,
+    check_big_int_literal, check_binary_expression, check_boolean_literal, check_call_expression,
+    check_chain_expression, check_computed_member_expression, check_identifier_reference,
+    check_logical_expression, check_null_literal, check_numeric_literal,
+    check_parenthesized_expression, check_static_member_expression, check_string_literal,
+    check_this_expression,
 };
 use crate::operations::{
     check_new_expression, check_new_target, check_super, check_unary_expression,
@@ -38,6 +39,7 @@ pub fn check_expression_set<N: CheckNode>(
         Expression::NullLiteral(node) => check_null_literal(node, around),
         Expression::BooleanLiteral(node) => check_boolean_literal(node, around),
         Expression::NumericLiteral(node) => check_numeric_literal(node, around),
+        Expression::BigIntLiteral(node) => check_big_int_literal(node, around),
         Expression::StringLiteral(node) => check_string_literal(node, around),
         Expression::BinaryExpression(node) => check_binary_expression(node, around),
         Expression::LogicalExpression(node) => check_logical_expression(node, around),

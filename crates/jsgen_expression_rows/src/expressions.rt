@@ -2,7 +2,7 @@
 // Rows of a job: expressions (ECMA-262, clause 13).
 ghost use Rattle.std.specs.Prelude.{◌≡◌, true};
 ghost use Rattle.serde_json.specs.View.{view};
-ghost use Rattle.jsgen_tree.specs.Fields.{identifier_reference_fields, this_expression_fields, null_literal_fields, boolean_literal_fields, string_literal_fields, parenthesized_expression_fields, binary_expression_fields, logical_expression_fields, identifier_name_fields, static_member_expression_fields, computed_member_expression_fields, call_expression_fields, chain_expression_fields};
+ghost use Rattle.jsgen_tree.specs.Fields.{identifier_reference_fields, this_expression_fields, null_literal_fields, boolean_literal_fields, big_int_literal_fields, string_literal_fields, parenthesized_expression_fields, binary_expression_fields, logical_expression_fields, identifier_name_fields, static_member_expression_fields, computed_member_expression_fields, call_expression_fields, chain_expression_fields};
 ghost use Rattle.jsgen_fields.specs.Reads.{Gives, read_node, read_typed};
 ghost use Rattle.jsgen_fields.specs.Kept.{entries, row_plain};
 ghost use Rattle.jsgen_fields.specs.Parts.{is_in_expressions};
@@ -21,9 +21,10 @@ use jsgen_fields::words::{needed_binary_operator, needed_logical_operator};
 use jsgen_pool::Kept;
 use jsgen_syntax::Span;
 use jsgen_tree::{
-    BinaryExpression, BooleanLiteral, CallExpression, ChainExpression, ComputedMemberExpression,
-    Expression, IdentifierName, IdentifierReference, LogicalExpression, NodeType, NullLiteral,
-    ParenthesizedExpression, StaticMemberExpression, StringLiteral, ThisExpression,
+    BigIntLiteral, BinaryExpression, BooleanLiteral, CallExpression, ChainExpression,
+    ComputedMemberExpression, Expression, IdentifierName, IdentifierReference, LogicalExpression,
+    NodeType, NullLiteral, ParenthesizedExpression, StaticMemberExpression, StringLiteral,
+    ThisExpression,
 };
 use serde_json::Value;
 use std::alloc::Global;
@@ -116,6 +117,29 @@ fn read_boolean_literal<N: ReadNode + Drop>(
     let node = BooleanLiteral { span, value };
     match boxed(alloc, node) {
         Ok(node) => expression_row(alloc, Expression::BooleanLiteral(node)),
+        Err(fault) => Err(fault),
+    }
+}
+
+#[tactic(auto, unfolding(jsgen_fields::specs::Reads::read_node))]
+fn read_big_int_literal<N: ReadNode + Drop>(
+    alloc: Global,
+    kept: &mut Vec<Kept<Row<N>>>,
+    number: usize,
+    span: Span,
+    row: &Value,
+) -> Result<Row<N>, InputFault>
+    ensures { Gives (row_plain N.plain) result (entries N.plain kept.new.items)
+        (read_node number types.BigIntLiteral big_int_literal_fields span (view row.now) (entries N.plain kept.old.items)) }
+{
+    let _ = kept;
+    let value = match needed_text(alloc, number, 2, row, "value") {
+        Ok(value) => value,
+        Err(fault) => return Err(fault),
+    };
+    let node = BigIntLiteral { span, value };
+    match boxed(alloc, node) {
+        Ok(node) => expression_row(alloc, Expression::BigIntLiteral(node)),
         Err(fault) => Err(fault),
     }
 }
@@ -413,6 +437,7 @@ pub fn read_in_expressions<N: ReadNode + Drop>(
         NodeType::NullLiteral => read_null_literal(alloc, kept, number, span, row),
         NodeType::BooleanLiteral => read_boolean_literal(alloc, kept, number, span, row),
         NodeType::NumericLiteral => read_numeric_literal(alloc, kept, number, span, row),
+        NodeType::BigIntLiteral => read_big_int_literal(alloc, kept, number, span, row),
         NodeType::StringLiteral => read_string_literal(alloc, kept, number, span, row),
         NodeType::ParenthesizedExpression => read_parenthesized_expression(
             alloc, kept, number, span, row,

@@ -17,7 +17,7 @@ use Rattle.jsgen_tree.specs.Table as sorts
 use Rattle.jsgen_fields.specs.declared.At.{At}
 use Rattle.jsgen_fields.specs.declared.InputFault.{InputFault}
 use Rattle.jsgen_fields.specs.declared.InputFault.TheVariants.{Wrong, Child, Shared}
-use Rattle.jsgen_fields.specs.Values.{after, at, field, not_given, given_in, items_in, value_in, type_of, span_of, options_in, rows_in}
+use Rattle.jsgen_fields.specs.Values.{after, at, field, not_given, in_row, given_in, items_in, value_in, type_of, span_of, options_in, rows_in}
 
 -- ---- the marks of a row, which it has by itself: a fault, or the number of a row that is to be a child
 
@@ -67,7 +67,7 @@ field_marks a f d = if f.is_read then marks_of (given_marks a f.sort) (given_in 
 -- of the fields from number i on
 abbrev pub fields_marks : ℕ → ℕ → List Field → Data → List Mark
 fields_marks k i [] d = []
-fields_marks k i (f ∷ fs) d = field_marks (at k i) f d ++ fields_marks k (suc i) fs d
+fields_marks k i (f ∷ fs) d = field_marks (at k i) (in_row d f) d ++ fields_marks k (suc i) fs d
 
 -- a row with no type has no other mark
 abbrev pub typed_marks : ℕ → Data → Result NodeType InputFault → Result Span InputFault → List Mark
@@ -155,7 +155,7 @@ field_held e a f d = if f.is_read then held e a f.presence f.sort (field f.name 
 
 abbrev pub fields_parts : List Tree → ℕ → ℕ → List Field → Data → Parts
 fields_parts e k i [] d = record { values = []; slots = no_slots }
-fields_parts e k i (f ∷ fs) d = put_in (field_held e (at k i) f d) (fields_parts e k (suc i) fs d)
+fields_parts e k i (f ∷ fs) d = put_in (field_held e (at k i) (in_row d f) d) (fields_parts e k (suc i) fs d)
 
 abbrev pub node_of : NodeType → Span → Parts → Tree
 node_of type span p = node type (record { span = span; values = p.values }) p.slots

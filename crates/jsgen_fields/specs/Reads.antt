@@ -17,7 +17,7 @@ use Rattle.jsgen_pool.specs.declared.TakeFault.TheVariants.{Absent, Taken}
 use Rattle.jsgen_fields.specs.declared.At.{At}
 use Rattle.jsgen_fields.specs.declared.InputFault.{InputFault}
 use Rattle.jsgen_fields.specs.declared.InputFault.TheVariants.{Wrong, Child, Shared, Memory}
-use Rattle.jsgen_fields.specs.Values.{after, at, field, not_given, field_in, is_needed, items_in, value_in, type_of, span_of, rows_in}
+use Rattle.jsgen_fields.specs.Values.{after, at, field, not_given, field_in, in_row, is_needed, items_in, value_in, type_of, span_of, rows_in}
 use Rattle.jsgen_fields.specs.Meaning.{Held, a_value, a_list, a_maybe_list, Parts, put_in, child_held, absent_held, unread_held, is_program}
 
 abbrev pub Read : Type 0 → Type 0
@@ -87,13 +87,13 @@ read_given a b p s o kept = if is_value s then after (read_value a b (absent_val
 
 abbrev pub read_field : At → Field → Data → List Entry → Read Held
 read_field a f d kept =
-    if f.is_read then read_given a (is_needed f.presence d) f.presence f.sort (field f.name d) kept
+    if f.is_read then read_given a (is_needed f.presence) f.presence f.sort (field f.name d) kept
     else after (not_given a (field f.name d)) (λ _. Ok (unread_held f.sort, kept))
 
 -- the fields from number i on
 abbrev pub read_fields : ℕ → ℕ → List Field → Data → List Entry → Read Parts
 read_fields k i [] d kept = Ok (record { values = []; slots = no_slots }, kept)
-read_fields k i (f ∷ fs) d kept = after (read_field (at k i) f d kept) (λ h. after (read_fields k (suc i) fs d h.1) (λ p. Ok (put_in h.0 p.0, p.1)))
+read_fields k i (f ∷ fs) d kept = after (read_field (at k i) (in_row d f) d kept) (λ h. after (read_fields k (suc i) fs d h.1) (λ p. Ok (put_in h.0 p.0, p.1)))
 
 -- ---- rows
 

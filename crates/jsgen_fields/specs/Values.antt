@@ -11,7 +11,7 @@ use Rattle.jsgen_tree.specs.declared.types.NodeType.{NodeType}
 use Rattle.jsgen_tree.specs.Options.{Options, default_options}
 use Rattle.jsgen_tree.specs.Atom.{Atom}
 use Rattle.jsgen_tree.specs.Atom as atoms
-use Rattle.jsgen_tree.specs.Table.{Field, Presence, Sort, Word, needed, needed_for}
+use Rattle.jsgen_tree.specs.Table.{Field, Presence, Sort, Word, needed, needed_for, settable_for, may_be_absent, by_default}
 use Rattle.jsgen_tree.specs.Table as sorts
 use Rattle.jsgen_fields.specs.Names.{or_else, type_named}
 use Rattle.jsgen_fields.specs.declared.At.{At}
@@ -72,15 +72,23 @@ not_given a (Some d) = Err (Wrong a)
 abbrev pub is_of_kind : List ℕ → Data → Bool
 is_of_kind w d = unwrap_or (option_map (λ s. bytes_eq s w) (option_and_then as_str (field (codes "kind") d))) false
 
--- whether the field may not be absent in this row
-abbrev pub is_needed : Presence → Data → Bool
-is_needed needed d = true
-is_needed (needed_for w) d = is_of_kind w d
-is_needed p d = false
+-- The field as it is in this row. One that is for rows of one kind may be absent in others, and its value isn't kept there; a flag that is for rows of one kind may not be set in others.
+abbrev pub of_presence : Presence → Field → Data → Field
+of_presence (needed_for w) f d = if is_of_kind w d then record f { presence = needed } else record f { presence = may_be_absent; sort = sorts.passed_over f.sort }
+of_presence (settable_for w) f d = if is_of_kind w d then record f { presence = by_default (atoms.flag false) } else record f { presence = by_default (atoms.flag false); sort = sorts.unset_flag }
+of_presence p f d = f
+
+abbrev pub in_row : Data → Field → Field
+in_row d f = of_presence f.presence f d
+
+-- whether a field of a row may not be absent
+abbrev pub is_needed : Presence → Bool
+is_needed needed = true
+is_needed p = false
 
 -- what stands in a field of a row
 abbrev pub given_in : At → Field → Data → Result (Option Data) InputFault
-given_in a f d = field_in a (is_needed f.presence d) (field f.name d)
+given_in a f d = field_in a (is_needed f.presence) (field f.name d)
 
 -- ---- kinds of values
 
@@ -153,7 +161,9 @@ value_in a sorts.units d = after (units_in a d) (λ us. Ok (atoms.units us))
 value_in a sorts.digits d = after (digits_in a d) (λ n. Ok (atoms.digits n))
 value_in a sorts.number d = after (or_fault (Wrong a) (number_of_bits 32 d)) (λ n. Ok (atoms.number n))
 value_in a sorts.flag d = after (or_fault (Wrong a) (as_bool d)) (λ b. Ok (atoms.flag b))
+value_in a sorts.unset_flag d = after (or_fault (Wrong a) (as_bool d)) (λ b. if b then Err (Wrong a) else Ok (atoms.flag false))
 value_in a (sorts.word ws) d = word_in a ws d
+value_in a (sorts.passed_over s) d = after (value_in a s d) (λ v. Ok atoms.no_value)
 value_in a other d = Err (Wrong a)
 
 -- ---- the type and the span of a row, its fields 0 and 1

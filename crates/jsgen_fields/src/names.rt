@@ -5,7 +5,7 @@ ghost use Rattle.jsgen_fields.specs.Names.{first_named, type_named};
 
 use jsgen_tree::NodeType;
 
-const TYPE_NAMES: [(&str, NodeType); 35] = [
+const TYPE_NAMES: [(&str, NodeType); 36] = [
     ("Program", NodeType::Program),
     ("Directive", NodeType::Directive),
     ("VariableDeclaration", NodeType::VariableDeclaration),
@@ -20,6 +20,7 @@ const TYPE_NAMES: [(&str, NodeType); 35] = [
     ("NullLiteral", NodeType::NullLiteral),
     ("BooleanLiteral", NodeType::BooleanLiteral),
     ("NumericLiteral", NodeType::NumericLiteral),
+    ("BigIntLiteral", NodeType::BigIntLiteral),
     ("StringLiteral", NodeType::StringLiteral),
     ("ParenthesizedExpression", NodeType::ParenthesizedExpression),
     ("BinaryExpression", NodeType::BinaryExpression),

@@ -4,7 +4,7 @@ ghost use Rattle.std.specs.Str.{bytes_eq};
 ghost use Rattle.serde_json.specs.View.{view};
 ghost use Rattle.jsgen_tree.specs.Characters.{characters};
 ghost use Rattle.jsgen_tree.specs.Atom.{no_value, text as text_atom, digits as digits_atom, flag as flag_atom};
-ghost use Rattle.jsgen_tree.specs.Table.{text, digits, flag};
+ghost use Rattle.jsgen_tree.specs.Table.{text, digits, flag, unset_flag, passed_over};
 ghost use Rattle.serde_json.specs.Find.{as_bool};
 ghost use Rattle.jsgen_fields.specs.declared.InputFault.TheVariants.{Wrong};
 ghost use Rattle.jsgen_fields.specs.Reads.{read_value};
@@ -216,6 +216,60 @@ pub fn needed_digits(
     digits_in(at, value)
 }
 
+/// A text in a row of another kind than those that it is for: it isn't kept.
+#[tactic(auto, unfolding(crate::specs::Reads::read_value))]
+pub fn passed_over_text(
+    number: usize,
+    field: usize,
+    row: &Value,
+    name: &str,
+) -> Result<(), InputFault>
+    ensures { Same (λ u. no_value) result
+        (read_value (at number field) false no_value (passed_over text) (value_under name.now (view row.now))) }
+{
+    let at = At::of_row(number, field);
+    match optional_value(at, row, name)? {
+        Some(value) => pass_over_text(at, value),
+        None => Ok(()),
+    }
+}
+
+fn pass_over_text(at: At, value: &Value) -> Result<(), InputFault>
+    ensures { Same (λ u. no_value) result (value_in at (passed_over text) (view value.now)) }
+{
+    match text_in(at, value) {
+        Ok(_) => Ok(()),
+        Err(fault) => Err(fault),
+    }
+}
+
+/// Digits in a row of another kind than those that they are for: they aren't kept.
+#[tactic(auto, unfolding(crate::specs::Reads::read_value))]
+pub fn passed_over_digits(
+    number: usize,
+    field: usize,
+    row: &Value,
+    name: &str,
+) -> Result<(), InputFault>
+    ensures { Same (λ u. no_value) result
+        (read_value (at number field) false no_value (passed_over digits) (value_under name.now (view row.now))) }
+{
+    let at = At::of_row(number, field);
+    match optional_value(at, row, name)? {
+        Some(value) => pass_over_digits(at, value),
+        None => Ok(()),
+    }
+}
+
+fn pass_over_digits(at: At, value: &Value) -> Result<(), InputFault>
+    ensures { Same (λ u. no_value) result (value_in at (passed_over digits) (view value.now)) }
+{
+    match digits_in(at, value) {
+        Ok(_) => Ok(()),
+        Err(fault) => Err(fault),
+    }
+}
+
 fn flag_in(at: At, value: &Value) -> Result<bool, InputFault>
     ensures { Same (λ b. b) result (or_fault (Wrong at) (as_bool (view value.now))) }
 {
@@ -251,6 +305,29 @@ pub fn optional_flag(
     match optional_value(at, row, name)? {
         Some(value) => flag_in(at, value),
         None => Ok(false),
+    }
+}
+
+/// A flag that may not be set.
+#[tactic(auto, unfolding(crate::specs::Reads::read_value))]
+pub fn unset_flag(number: usize, field: usize, row: &Value, name: &str) -> Result<(), InputFault>
+    ensures { Same (λ u. flag_atom false) result
+        (read_value (at number field) false (flag_atom false) unset_flag (value_under name.now (view row.now))) }
+{
+    let at = At::of_row(number, field);
+    match optional_value(at, row, name)? {
+        Some(value) => unset_in(at, value),
+        None => Ok(()),
+    }
+}
+
+fn unset_in(at: At, value: &Value) -> Result<(), InputFault>
+    ensures { Same (λ u. flag_atom false) result (value_in at unset_flag (view value.now)) }
+{
+    match value.as_bool() {
+        Some(true) => Err(InputFault::Wrong(at)),
+        Some(false) => Ok(()),
+        None => Err(InputFault::Wrong(at)),
     }
 }
 

@@ -54,7 +54,8 @@ all_changed_or_holes f g k h (x ∷ xs) = first_or_hole (f (g (k x))) (map f (ma
 -- ---- values
 
 pub number_is_plain : (s : Span) (v : NumericValue) → is_wide v ≡ true → is_plain_row (numeric_literal (record { span = s; values = numeric_values v })) ≡ true
-number_is_plain s (numeric.Whole d) w = w
+number_is_plain s (numeric.Whole negative d) w = w
+number_is_plain s (numeric.Raw t) w = refl
 
 pub string_is_plain : (s : JsStr) → are_units (js_units s) ≡ true
 string_is_plain s = js_units-are_units s

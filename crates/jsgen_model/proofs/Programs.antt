@@ -25,6 +25,7 @@ module _ {A : Type 0} (f : A → Node) (h : (a : A) → IsPlain (node_plain (f a
   expression_is_plain (expressions.NullLiteral b) = (refl, tt)
   expression_is_plain (expressions.BooleanLiteral b) = (refl, tt)
   expression_is_plain (expressions.NumericLiteral b) = (number_is_plain b.value.span b.value.value b.value.fits, tt)
+  expression_is_plain (expressions.BigIntLiteral b) = (refl, tt)
   expression_is_plain (expressions.StringLiteral b) = (string_is_plain b.value.value, tt)
   expression_is_plain (expressions.BinaryExpression b) = (refl, (h b.value.left.node, (h b.value.right.node, tt)))
   expression_is_plain (expressions.LogicalExpression b) = (refl, (h b.value.left.node, (h b.value.right.node, tt)))

@@ -1,5 +1,5 @@
 -- The grammar (ECMA-262, clauses 13 to 16): which lists of tokens are read as which tree, one production a line.
-use Rattle.std.specs.Prelude.{◌≡◌, ℕ, List, [], ◌∷◌, Bool, true, false, not, ◌&&◌, ◌||◌, Option, Some, None, codes}
+use Rattle.std.specs.Prelude.{◌≡◌, ℕ, List, [], ◌∷◌, ◌++◌, Bool, true, false, not, ◌&&◌, ◌||◌, Option, Some, None, codes}
 use Rattle.std.specs.Str.{bytes_eq}
 use Rattle.jsgen_syntax.specs.Escapes.{word_value}
 use Rattle.jsgen_syntax.specs.Strings.{is_backtick, string_value}
@@ -15,7 +15,8 @@ use Rattle.jsgen_syntax.specs.declared.operator.AssignmentOperator.{AssignmentOp
 use Rattle.jsgen_syntax.specs.declared.operator.AssignmentOperator.TheVariants as assignment_operators
 use Rattle.jsgen_tree.specs.declared.statements.VariableDeclarationKind.TheVariants.{Const}
 use Rattle.jsgen_syntax.specs.Name.{is_free_name}
-use Rattle.jsgen_tree.specs.Atom.{units, flag, binary_operator, logical_operator, unary_operator, update_operator, assignment_operator, no_value, property_kind}
+use Rattle.jsgen_tree.specs.Atom.{units, flag, binary_operator, logical_operator, unary_operator, update_operator, no_value, property_kind, assignment_operator}
+use Rattle.jsgen_model.specs.Numbers.{ends_in}
 use Rattle.jsgen_tree.specs.Tree.{Tree, Maybe, absent, given, Trees, no_trees, more, hole, Atoms}
 use Rattle.jsgen_tree.specs.Places.{bare}
 use Rattle.jsgen_tree.specs.Nodes as tree
@@ -168,6 +169,10 @@ abbrev pub is_word : List ℕ → Tokens → Bool
 is_word w (piece mark (Word x) ts) = bytes_eq x w
 is_word w ts = false
 
+-- a number's token ends in the suffix of a big integer (12.9.3)
+abbrev pub has_suffix : List ℕ → Bool
+has_suffix w = ends_in (codes "n") w
+
 -- no line end stands before the first token
 abbrev pub on_same_line : Tokens → Bool
 on_same_line done = false
@@ -262,7 +267,9 @@ mutual
     a_null : {c : Allowed} {mark : Bool} → ReadsExpression c Primary (piece mark (Word (codes "null")) done) (tree.null_literal (nothing_of 0))
     a_true : {c : Allowed} {mark : Bool} → ReadsExpression c Primary (piece mark (Word (codes "true")) done) (tree.boolean_literal (bare (flag true ∷ [])))
     a_false : {c : Allowed} {mark : Bool} → ReadsExpression c Primary (piece mark (Word (codes "false")) done) (tree.boolean_literal (bare (flag false ∷ [])))
-    a_number : {c : Allowed} {mark : Bool} {w : List ℕ} → ReadsExpression c Primary (piece mark (Number w) done) (tree.numeric_literal (by_text w))
+    a_number : {c : Allowed} {mark : Bool} {w : List ℕ} → has_suffix w ≡ false → ReadsExpression c Primary (piece mark (Number w) done) (tree.numeric_literal (by_text w))
+    -- a big integer, by its text without the suffix
+    a_big_integer : {c : Allowed} {mark : Bool} {w v : List ℕ} → w ≡ v ++ codes "n" → ReadsExpression c Primary (piece mark (Number w) done) (tree.big_int_literal (named v))
     a_string : {c : Allowed} {mark : Bool} {q : Quote} {w us : List ℕ} → string_value q w ≡ Some us → ReadsExpression c Primary (piece mark (Quoted q w) done) (tree.string_literal (bare (units us ∷ [])))
     in_parentheses : {c : Allowed} {mark : Bool} {ts : Tokens} {t : Tree} → ReadsExpression (with_in c) Expression ts t → ReadsExpression c Primary (group mark Round ts done) (tree.parenthesized (nothing_of 0) t)
     an_optional_chain : {c : Allowed} {ts : Tokens} {t : Tree} → ReadsChain c ts t → ReadsExpression c LeftHandSide ts (tree.chain (nothing_of 0) t)
@@ -304,7 +311,8 @@ mutual
   pub data ReadsKey : Allowed → Bool → Tokens → Tree → Type 0 where
     a_name_key : {c : Allowed} {mark : Bool} {w v : List ℕ} → word_value w ≡ Some v → ReadsKey c false (piece mark (Word w) done) (tree.identifier_name (named v))
     a_string_key : {c : Allowed} {mark : Bool} {q : Quote} {w us : List ℕ} → is_backtick q ≡ false → string_value q w ≡ Some us → ReadsKey c false (piece mark (Quoted q w) done) (tree.string_literal (bare (units us ∷ [])))
-    a_number_key : {c : Allowed} {mark : Bool} {w : List ℕ} → ReadsKey c false (piece mark (Number w) done) (tree.numeric_literal (by_text w))
+    a_number_key : {c : Allowed} {mark : Bool} {w : List ℕ} → has_suffix w ≡ false → ReadsKey c false (piece mark (Number w) done) (tree.numeric_literal (by_text w))
+    a_big_integer_key : {c : Allowed} {mark : Bool} {w v : List ℕ} → w ≡ v ++ codes "n" → ReadsKey c false (piece mark (Number w) done) (tree.big_int_literal (named v))
     a_computed_key : {c : Allowed} {mark : Bool} {inside : Tokens} {e : Tree} → ReadsExpression (with_in c) Assignment inside e → ReadsKey c true (group mark Square inside done) e
 
   -- between the brackets of an array (13.2.4): elements, each with a comma behind it, of which the last may be omitted; a comma that no element stands before leaves one out

@@ -1,17 +1,18 @@
 -- What two trees of one meaning have in common.
-use Rattle.std.specs.Prelude.{ℕ, List, [], ◌∷◌, Bool, true, false, Option, Some, None, decimal, if◌then◌else◌, ◌&&◌}
-use Rattle.jsgen_tree.specs.Atom.{Atom, no_value, text, units, flag, numeric_kind, declaration_kind, binary_operator, logical_operator, unary_operator, update_operator, assignment_operator, property_kind}
+use Rattle.std.specs.Prelude.{ℕ, List, [], ◌∷◌, Bool, true, false, Option, Some, None, decimal, if◌then◌else◌, ◌&&◌, ◌||◌}
+use Rattle.jsgen_tree.specs.Atom.{Atom, no_value, text, units, flag, numeric_kind, declaration_kind, binary_operator, logical_operator, unary_operator, update_operator, property_kind, assignment_operator}
 use Rattle.std.specs.Option.{option_map_or}
 use Rattle.jsgen_tree.specs.Number.{NumericKind, Whole, Raw}
 use Rattle.jsgen_tree.specs.Tree.{Tree, node, Slots, no_slots, one, maybe, many, maybe_many, Maybe, absent, given, Trees, no_trees, more, hole, MaybeTrees, no_list, listed, Atoms}
 use Rattle.jsgen_tree.specs.declared.types.NodeType.TheVariants as types
 use Rattle.jsgen_tree.specs.Places.{bare, absent_values}
-use Rattle.jsgen_tree.specs.Values.{directive_directive, variable_declaration_kind, binding_identifier_name, identifier_reference_name, identifier_name_name, boolean_literal_value, numeric_literal_kind, numeric_literal_digits, numeric_literal_text, string_literal_value, binary_expression_operator, logical_expression_operator, unary_expression_operator, update_expression_operator, update_expression_prefix, assignment_expression_operator, variable_declaration_declare, variable_declarator_definite, static_member_expression_optional, computed_member_expression_optional, call_expression_optional, object_property_kind, object_property_method, object_property_shorthand, object_property_computed}
+use Rattle.jsgen_tree.specs.Values.{directive_directive, variable_declaration_kind, binding_identifier_name, identifier_reference_name, identifier_name_name, boolean_literal_value, numeric_literal_kind, numeric_literal_negative, numeric_literal_digits, numeric_literal_text, big_int_literal_value, string_literal_value, binary_expression_operator, logical_expression_operator, unary_expression_operator, update_expression_operator, update_expression_prefix, variable_declaration_declare, variable_declarator_definite, static_member_expression_optional, computed_member_expression_optional, call_expression_optional, object_property_kind, object_property_method, object_property_shorthand, object_property_computed, assignment_expression_operator}
 use Rattle.jsgen_syntax.specs.Raw.{directive_value}
 use Rattle.jsgen_syntax.specs.declared.operator.LogicalOperator.{LogicalOperator}
+use Rattle.jsgen_syntax.specs.declared.operator.UnaryOperator.TheVariants.{UnaryNegation}
 use Rattle.jsgen_syntax.specs.declared.operator.LogicalOperator.TheVariants.{Or, And, Coalesce}
 use Rattle.jsgen_tree.specs.declared.statements.VariableDeclarationKind.{VariableDeclarationKind}
-use Rattle.jsgen_tree.specs.Inside.{ends_open, written_name_in, is_proto}
+use Rattle.jsgen_tree.specs.Inside.{ends_open, written_name_in, is_proto, behind_minus, is_negative_number}
 use Rattle.jsgen_tree.specs.Nodes as tree
 
 -- ---- what a normal form holds: one value for each field, and none of a field that doesn't count
@@ -46,6 +47,15 @@ declared_as kind = bare (declaration_kind kind ∷ no_value ∷ [])
 abbrev pub number_text : NumericKind → Atoms → List ℕ
 number_text Whole a = decimal (numeric_literal_digits a)
 number_text Raw a = numeric_literal_text a
+
+-- a number or a big integer with a minus before it is an operation on the positive one
+abbrev pub minus_before : Bool → Tree → Tree
+minus_before true t = tree.unary (bare (unary_operator UnaryNegation ∷ [])) t
+minus_before false t = t
+
+abbrev pub big_integer : List ℕ → Option (List ℕ) → Tree
+big_integer value (Some digits) = minus_before true (tree.big_int_literal (named digits))
+big_integer value None = tree.big_int_literal (named value)
 
 abbrev pub or_none : Option (List ℕ) → List ℕ
 or_none None = []
@@ -101,8 +111,12 @@ unbraced t = t
 abbrev pub is_proto_shorthand : Bool → Tree → Bool
 is_proto_shorthand shorthand key = option_map_or is_proto (written_name_in key) false && shorthand
 
+-- a key that is computed, or stands in brackets since it is a negative number
+abbrev pub is_computed : Bool → Tree → Bool
+is_computed computed key = computed || is_negative_number key
+
 -- Parentheses, spans, the source and the kind of a program are away, and whether a call or `new` is pure; a directive is its value; a
--- whole number is its digits; a chain of one logical operator is one list, however it was grouped, and so is a sequence; braces round a consequent
+-- whole number is its digits, and a minus before a number is an operation; a negative number that is a key is a computed one; a chain of one logical operator is one list, however it was grouped, and so is a sequence; braces round a consequent
 -- that ends in an `if` without `else` are away; a property that its value alone says is written out, but for `__proto__`.
 abbrev mutual
   pub normal : Tree → Tree
@@ -116,7 +130,8 @@ abbrev mutual
   normal (tree.this_expression a) = tree.this_expression (nothing_of 0)
   normal (tree.null_literal a) = tree.null_literal (nothing_of 0)
   normal (tree.boolean_literal a) = tree.boolean_literal (bare (flag (boolean_literal_value a) ∷ []))
-  normal (tree.numeric_literal a) = tree.numeric_literal (by_text (number_text (numeric_literal_kind a) a))
+  normal (tree.numeric_literal a) = minus_before (numeric_literal_negative a) (tree.numeric_literal (by_text (number_text (numeric_literal_kind a) a)))
+  normal (tree.big_int_literal a) = big_integer (big_int_literal_value a) (behind_minus (big_int_literal_value a))
   normal (tree.string_literal a) = tree.string_literal (bare (units (string_literal_value a) ∷ []))
   normal (tree.parenthesized a expression) = normal expression
   normal (tree.binary a left right) = tree.binary (bare (binary_operator (binary_expression_operator a) ∷ [])) (normal left) (normal right)
@@ -137,7 +152,7 @@ abbrev mutual
   normal (tree.super a) = tree.super (nothing_of 0)
   normal (tree.new_target a) = tree.new_target (nothing_of 0)
   normal (tree.object_expression a properties) = tree.object_expression (nothing_of 0) (normal_trees properties)
-  normal (tree.object_property a key value) = tree.object_property (bare (property_kind (object_property_kind a) ∷ object_property_method a ∷ flag (is_proto_shorthand (object_property_shorthand a) key) ∷ flag (object_property_computed a) ∷ [])) (normal key) (normal value)
+  normal (tree.object_property a key value) = tree.object_property (bare (property_kind (object_property_kind a) ∷ object_property_method a ∷ flag (is_proto_shorthand (object_property_shorthand a) key) ∷ flag (is_computed (object_property_computed a) key) ∷ [])) (normal key) (normal value)
   normal (tree.conditional a test consequent alternate) = tree.conditional (nothing_of 0) (normal test) (normal consequent) (normal alternate)
   normal (tree.sequence a expressions) = tree.sequence (nothing_of 0) (flattened (normal_trees expressions))
   normal (tree.assignment a left right) = tree.assignment (bare (assignment_operator (assignment_expression_operator a) ∷ [])) (normal left) (normal right)

@@ -17,10 +17,10 @@ use Rattle.jsgen_tree.specs.Job.{JobData}
 abbrev pub is_module : SourceKind → Bool
 is_module source_kinds.Module = true
 
--- a whole number of 128 bits
-abbrev pub is_whole : NumericKind → Atoms → Bool
-is_whole Whole a = nat_lt (numeric_literal_digits a) (2 ^ 128)
-is_whole Raw a = false
+-- a whole number of 128 bits, or a number by its text
+abbrev pub is_number : NumericKind → Atoms → Bool
+is_number Whole a = nat_lt (numeric_literal_digits a) (2 ^ 128)
+is_number Raw a = true
 
 -- a directive by its raw text
 abbrev pub is_raw : Atom → Bool
@@ -37,7 +37,7 @@ has_no_hole no_trees = true
 has_no_hole (more t ts) = has_no_hole ts
 has_no_hole (hole ts) = false
 
--- The node is of one of these types, with the children that its type has; a program is a module, a number is whole, a string is of units of 16 bits, a directive has its raw text, and a field that isn't read yet holds nothing where the normal form keeps it.
+-- The node is of one of these types, with the children that its type has; a program is a module, a whole number is of 128 bits, a string is of units of 16 bits, a directive has its raw text, and a field that isn't read yet holds nothing where the normal form keeps it.
 abbrev pub is_plain_row : Tree → Bool
 is_plain_row (tree.program a directives body) = is_module (program_kind a) && has_no_hole directives && has_no_hole body
 is_plain_row (tree.directive a) = is_raw (directive_directive a)
@@ -49,7 +49,8 @@ is_plain_row (tree.identifier_reference a) = true
 is_plain_row (tree.this_expression a) = true
 is_plain_row (tree.null_literal a) = true
 is_plain_row (tree.boolean_literal a) = true
-is_plain_row (tree.numeric_literal a) = is_whole (numeric_literal_kind a) a
+is_plain_row (tree.numeric_literal a) = is_number (numeric_literal_kind a) a
+is_plain_row (tree.big_int_literal a) = true
 is_plain_row (tree.string_literal a) = are_units (string_literal_value a)
 is_plain_row (tree.parenthesized a expression) = true
 is_plain_row (tree.binary a left right) = true

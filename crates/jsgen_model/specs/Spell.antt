@@ -1,5 +1,5 @@
 -- How each node is spelled: one row, one clause.
-use Rattle.std.specs.Prelude.{ℕ, suc, List, Bool, true, false, not, ◌&&◌, ◌||◌, ◌==◌, nat_le, nat_lt, codes, decimal, Option, Some, None, if◌then◌else◌}
+use Rattle.std.specs.Prelude.{ℕ, suc, List, ◌++◌, Bool, true, false, not, ◌&&◌, ◌||◌, ◌==◌, nat_le, nat_lt, codes, decimal, Option, Some, None, if◌then◌else◌}
 use Rattle.std.specs.Option.{option_map_or}
 use Rattle.std.specs.Str.{encode_utf8_all, bytes_eq}
 use Rattle.jsgen_syntax.specs.Precedence.{rank}
@@ -18,13 +18,14 @@ use Rattle.jsgen_syntax.specs.declared.operator.AssignmentOperator.{AssignmentOp
 use Rattle.jsgen_syntax.specs.declared.operator.AssignmentOperator.TheVariants as assignment_operators
 use Rattle.jsgen_tree.specs.declared.types.NodeType.{NodeType}
 use Rattle.jsgen_tree.specs.declared.types.NodeType.TheVariants as types
-use Rattle.jsgen_tree.specs.Inside.{without_parentheses, ends_open, reference_in, written_name_in, is_proto}
+use Rattle.jsgen_tree.specs.Inside.{without_parentheses, ends_open, reference_in, written_name_in, is_proto, behind_minus, is_negative_number}
 use Rattle.jsgen_tree.specs.Words.{declaration_word}
 use Rattle.jsgen_tree.specs.Number.{NumericKind, Whole, Raw}
 use Rattle.jsgen_tree.specs.Tree.{Tree, Maybe, absent, given, Trees, no_trees, more, hole, Atoms, type_of}
-use Rattle.jsgen_tree.specs.Values.{as_text, directive_directive, variable_declaration_kind, binding_identifier_name, identifier_reference_name, identifier_name_name, boolean_literal_value, numeric_literal_kind, numeric_literal_digits, string_literal_value, binary_expression_operator, logical_expression_operator, unary_expression_operator, update_expression_operator, update_expression_prefix, assignment_expression_operator, object_property_shorthand, object_property_computed, static_member_expression_optional, computed_member_expression_optional, call_expression_optional}
+use Rattle.jsgen_tree.specs.Values.{as_text, directive_directive, variable_declaration_kind, binding_identifier_name, identifier_reference_name, identifier_name_name, boolean_literal_value, numeric_literal_kind, numeric_literal_negative, numeric_literal_digits, numeric_literal_text, big_int_literal_value, string_literal_value, binary_expression_operator, logical_expression_operator, unary_expression_operator, update_expression_operator, update_expression_prefix, object_property_shorthand, object_property_computed, assignment_expression_operator, static_member_expression_optional, computed_member_expression_optional, call_expression_optional}
 use Rattle.jsgen_tree.specs.Job.{Tables, JobData}
 use Rattle.jsgen_tree.specs.Nodes as tree
+use Rattle.jsgen_model.specs.Numbers.{takes_no_dot}
 use Rattle.jsgen_model.specs.Punctuator.{ellipsis, comma, semicolon, equal, plus, minus, star, slash, percent, star_star, equal_equal, not_equal, equal_equal_equal, not_equal_equal, less, less_equal, greater, greater_equal, shift_left, shift_right, shift_right_zero, bit_and, bit_or, bit_xor, and_and, or_or, nullish, Round, Square, Brace, bang, tilde, plus_plus, minus_minus, colon, question, plus_equal, minus_equal, star_equal, slash_equal, percent_equal, star_star_equal, shift_left_equal, shift_right_equal, shift_right_zero_equal, bit_or_equal, bit_xor_equal, bit_and_equal, or_or_equal, and_and_equal, nullish_equal, question_dot}
 use Rattle.jsgen_model.specs.Items.{Items, nothing, ◌⊕◌, word, name, number, string, first_string, directive, punctuator, operator, member_dot, brackets, soft_space, soft_line, hard_space, body_space, deeper, indentation, wrapped, statement_end, due_semicolon, drop_semicolon, statement_begins}
 use Rattle.jsgen_model.specs.Layout.{Start, nowhere, statement, arrow_body, unless_printed, layout, empty_pen, style_of}
@@ -222,9 +223,10 @@ goes_on o place = not place.left_operand && (rank (logical_level o) == rank plac
 abbrev pub logical_wraps : LogicalOperator → Place → Bool
 logical_wraps o place = wraps (logical_level o) place && not (goes_on o place)
 
--- what a prefix operator may begin: a unary operation, and a number, whose sign would be one
+-- what a prefix operator may begin: a unary operation, and a number, whose minus is one
 abbrev pub is_prefixed : Tree → Bool
 is_prefixed (tree.numeric_literal a) = true
+is_prefixed (tree.big_int_literal a) = true
 is_prefixed (tree.unary a argument) = true
 is_prefixed t = false
 
@@ -429,7 +431,11 @@ abbrev pub key_text : Tree → Items → Items
 key_text (tree.string_literal a) items = string false (string_literal_value a)
 key_text key items = items
 
--- a key as it stands within brackets, where it is computed, or else alone
+-- a key stands in brackets where it is computed, and where it is a negative number, which is no key by itself (ECMA-262, 13.2.5)
+abbrev pub needs_brackets : Bool → Tree → Bool
+needs_brackets computed key = computed || is_negative_number key
+
+-- a key as it stands within brackets, where it needs them, or else alone
 abbrev pub key_items : Bool → Tree → Items → Items → Items
 key_items true key inside alone = brackets Square (key_text key inside)
 key_items false key inside alone = key_text key alone
@@ -452,10 +458,28 @@ abbrev pub truth_word : Bool → List ℕ
 truth_word true = codes "true"
 truth_word false = codes "false"
 
--- a whole number by its digits; what is read by its text alone isn't spelled yet
-abbrev pub number_item : NumericKind → Atoms → Items
-number_item Whole a = number true (decimal (numeric_literal_digits a))
-number_item Raw a = nothing
+-- ---- numbers
+
+-- With a minus before it a number is an operation of one operand (ECMA-262, 13.5). The test tells that a dot behind the number would be its own
+abbrev pub negative : Bool → List ℕ → Place → Items
+negative dot_is_its_own text place = wrapped (wraps Prefix place) (operator minus ⊕ number dot_is_its_own text)
+
+-- a number by its text, with a minus before it where the second test holds
+abbrev pub signed : Bool → Bool → List ℕ → Place → Items
+signed dot_is_its_own true text place = negative dot_is_its_own text place
+signed dot_is_its_own false text place = number dot_is_its_own text
+
+abbrev pub number_items : NumericKind → Atoms → Place → Items
+number_items Whole a place = signed true (numeric_literal_negative a) (decimal (numeric_literal_digits a)) place
+number_items Raw a place = signed (not (takes_no_dot (numeric_literal_text a))) (numeric_literal_negative a) (numeric_literal_text a) place
+
+-- the text of a big integer, by its digits
+abbrev pub big_text : List ℕ → List ℕ
+big_text digits = digits ++ codes "n"
+
+abbrev pub big_integer_items : List ℕ → Option (List ℕ) → Place → Items
+big_integer_items value (Some digits) place = negative false (big_text digits) place
+big_integer_items value None place = number false (big_text value)
 
 -- ---- the whole
 
@@ -471,7 +495,8 @@ abbrev mutual
   spell (tree.this_expression a) place = word (codes "this")
   spell (tree.null_literal a) place = word (codes "null")
   spell (tree.boolean_literal a) place = word (truth_word (boolean_literal_value a))
-  spell (tree.numeric_literal a) place = number_item (numeric_literal_kind a) a
+  spell (tree.numeric_literal a) place = number_items (numeric_literal_kind a) a place
+  spell (tree.big_int_literal a) place = big_integer_items (big_int_literal_value a) (behind_minus (big_int_literal_value a)) place
   spell (tree.string_literal a) place = string true (string_literal_value a)
   spell (tree.parenthesized a expression) place = spell expression place
   spell (tree.binary a left right) place =
@@ -511,7 +536,7 @@ abbrev mutual
   -- up to one property stands on one line; as in an array, a comma would stand behind a last one that is left out, but none is
   spell (tree.object_expression a properties) place = wrapped (bars_brace place.start) (brackets Brace (object_inside properties (spell_elements (are_more 1 properties) properties (in_brackets Comma place) ⊕ comma_if (ends_in_hole properties))))
   spell (tree.object_property a key value) place =
-      property_items (is_short (object_property_shorthand a) key value) (key_items (object_property_computed a) key (spell key (in_brackets Comma place)) (spell key (in_front Comma place)))
+      property_items (is_short (object_property_shorthand a) key value) (key_items (needs_brackets (object_property_computed a) key) key (spell key (in_brackets Comma place)) (spell key (in_front Comma place)))
       (spell value (in_front Comma place)) (spell value (in_brackets Comma place))
   -- a choice binds to the right: what follows `?` and `:` may be an assignment
   spell (tree.conditional a test consequent alternate) place =

@@ -14,10 +14,12 @@ use Rattle.jsgen_tree.specs.Job.{Tables, JobData}
 use Rattle.jsgen_tree.specs.Table.{child_sets}
 use Rattle.jsgen_tree.specs.Fields.{fields}
 use Rattle.jsgen_tree.specs.Sets.{in_set, is_expression}
-use Rattle.jsgen_tree.specs.Inside.{without_parentheses, has_optional_link, reference_in, written_name_in, is_proto}
+use Rattle.jsgen_tree.specs.Number.{NumericKind, Whole, Raw}
+use Rattle.jsgen_tree.specs.Inside.{without_parentheses, reference_in, written_name_in, is_proto, is_negative_big_integer, has_optional_link}
 use Rattle.jsgen_tree.specs.Tree.{Tree, node, Slots, no_slots, one, maybe, many, maybe_many, Maybe, absent, given, Trees, no_trees, more, hole, MaybeTrees, no_list, listed, Atoms, type_of, span_of}
 use Rattle.jsgen_tree.specs.Nodes as tree
-use Rattle.jsgen_tree.specs.Values.{as_text, program_source, directive_directive, binding_identifier_name, identifier_reference_name, identifier_name_name, object_property_shorthand, object_property_computed, static_member_expression_optional, computed_member_expression_optional, call_expression_optional}
+use Rattle.jsgen_tree.specs.Values.{as_text, program_source, directive_directive, binding_identifier_name, identifier_reference_name, identifier_name_name, numeric_literal_kind, numeric_literal_text, big_int_literal_value, object_property_shorthand, object_property_computed, static_member_expression_optional, computed_member_expression_optional, call_expression_optional}
+use Rattle.jsgen_model.specs.Numbers.{is_raw_number, is_big_integer}
 use Rattle.jsgen_model.specs.declared.fault.TreeFault.{TreeFault}
 use Rattle.jsgen_model.specs.declared.fault.TreeFault.TheVariants as faults
 
@@ -66,6 +68,18 @@ name_faults s name = fault_if (not (is_free_name name)) (faults.Name s.start)
 abbrev pub directive_faults : Span → List ℕ → List TreeFault
 directive_faults s raw = fault_if (not (is_some (directive_value raw))) (faults.Literal s.start)
 
+-- the text of a number is one (ECMA-262, 12.9.3)
+abbrev pub raw_number_faults : Span → List ℕ → List TreeFault
+raw_number_faults s text = fault_if (not (is_raw_number text)) (faults.Literal s.start)
+
+abbrev pub number_faults : Span → NumericKind → List ℕ → List TreeFault
+number_faults s Whole text = []
+number_faults s Raw text = raw_number_faults s text
+
+-- a big integer is an integer, in decimal digits (ECMA-262, 12.9.3)
+abbrev pub big_integer_faults : Span → List ℕ → List TreeFault
+big_integer_faults s value = fault_if (not (is_big_integer value)) (faults.Literal s.start)
+
 -- a member's name is a name, be it reserved or not
 abbrev pub written_name_faults : Span → List ℕ → List TreeFault
 written_name_faults s name = fault_if (not (spells_name name)) (faults.Name s.start)
@@ -95,15 +109,21 @@ abbrev pub alternate_faults : Maybe → List TreeFault
 alternate_faults absent = []
 alternate_faults (given t) = body_faults t
 
--- a key that isn't computed is a name, a string or a number (ECMA-262, 13.2.5), and one that is, is an expression
+-- A key that isn't computed is a name, a string, a number or a big integer (ECMA-262, 13.2.5), and one that is, is an expression.
+-- A negative number is a key all the same, since it is printed as a computed one; a negative big integer isn't
 abbrev pub is_literal_key : NodeType → Bool
 is_literal_key types.IdentifierName = true
 is_literal_key types.StringLiteral = true
 is_literal_key types.NumericLiteral = true
+is_literal_key types.BigIntLiteral = true
 is_literal_key type = false
 
+abbrev pub may_be_key : Bool → Tree → Bool
+may_be_key true key = is_expression (type_of key)
+may_be_key false key = is_literal_key (type_of key) && not (is_negative_big_integer key)
+
 abbrev pub key_faults : Bool → Tree → List TreeFault
-key_faults computed key = fault_if (not (if computed then is_expression (type_of key) else is_literal_key (type_of key))) (faults.Place (span_of key).start)
+key_faults computed key = fault_if (not (may_be_key computed key)) (faults.Place (span_of key).start)
 
 -- the value of a property `__proto__` that it alone says is a reference of that name
 abbrev pub named_faults : Span → Option (List ℕ) → List TreeFault
@@ -173,6 +193,8 @@ own_faults around (tree.directive a) = directive_faults a.span (as_text (directi
 own_faults around (tree.variable_declaration a declarations) = declaration_faults a.span declarations
 own_faults around (tree.binding_identifier a) = name_faults a.span (binding_identifier_name a)
 own_faults around (tree.identifier_reference a) = name_faults a.span (identifier_reference_name a)
+own_faults around (tree.numeric_literal a) = number_faults a.span (numeric_literal_kind a) (numeric_literal_text a)
+own_faults around (tree.big_int_literal a) = big_integer_faults a.span (big_int_literal_value a)
 own_faults around (tree.if_statement a test consequent alternate) = body_faults consequent ++ alternate_faults alternate
 own_faults around (tree.identifier_name a) = written_name_faults a.span (identifier_name_name a)
 own_faults around (tree.static_member a object property) = super_faults (static_member_expression_optional a) object

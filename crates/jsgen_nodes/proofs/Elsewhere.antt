@@ -2,7 +2,7 @@
 use Rattle.std.proofs.Common.{◌≡◌, Box, Bool, true, false, None, refl}
 use Rattle.std.specs.declared.alloc.Global.{Global}
 use Rattle.jsgen_tree.specs.Tree.{Tree, Atoms, type_of}
-use Rattle.jsgen_tree.specs.Nodes.{numeric_literal, string_literal, unary, logical, parenthesized}
+use Rattle.jsgen_tree.specs.Nodes.{numeric_literal, big_int_literal, string_literal, unary, logical, parenthesized}
 use Rattle.jsgen_tree.specs.Sets.{is_expression}
 use Rattle.jsgen_tree.specs.Inside.{without_parentheses, ends_open}
 use Rattle.jsgen_tree.specs.Rows.{expression_plain, statement_plain}
@@ -32,12 +32,13 @@ no_string h (expressions.StringLiteral b) no_literal no_parentheses = absurd (no
 no_string h (expressions.ParenthesizedExpression b) no_literal no_parentheses = absurd (no_parentheses b refl)
 no_string h n no_literal no_parentheses = refl
 
-pub no_operand : {N : Type 0} (h : N → Tree) (n : Expression N) → IsNot n expressions.NumericLiteral → IsNot n expressions.UnaryExpression → IsNot n expressions.LogicalExpression → IsNot n expressions.ParenthesizedExpression → other_operand ≡ operand_of (without_parentheses (expression_plain h n))
-no_operand h (expressions.NumericLiteral b) no_number no_unary no_operation no_parentheses = absurd (no_number b refl)
-no_operand h (expressions.UnaryExpression b) no_number no_unary no_operation no_parentheses = absurd (no_unary b refl)
-no_operand h (expressions.LogicalExpression b) no_number no_unary no_operation no_parentheses = absurd (no_operation b refl)
-no_operand h (expressions.ParenthesizedExpression b) no_number no_unary no_operation no_parentheses = absurd (no_parentheses b refl)
-no_operand h n no_number no_unary no_operation no_parentheses = refl
+pub no_operand : {N : Type 0} (h : N → Tree) (n : Expression N) → IsNot n expressions.NumericLiteral → IsNot n expressions.BigIntLiteral → IsNot n expressions.UnaryExpression → IsNot n expressions.LogicalExpression → IsNot n expressions.ParenthesizedExpression → other_operand ≡ operand_of (without_parentheses (expression_plain h n))
+no_operand h (expressions.NumericLiteral b) no_number no_big no_unary no_operation no_parentheses = absurd (no_number b refl)
+no_operand h (expressions.BigIntLiteral b) no_number no_big no_unary no_operation no_parentheses = absurd (no_big b refl)
+no_operand h (expressions.UnaryExpression b) no_number no_big no_unary no_operation no_parentheses = absurd (no_unary b refl)
+no_operand h (expressions.LogicalExpression b) no_number no_big no_unary no_operation no_parentheses = absurd (no_operation b refl)
+no_operand h (expressions.ParenthesizedExpression b) no_number no_big no_unary no_operation no_parentheses = absurd (no_parentheses b refl)
+no_operand h n no_number no_big no_unary no_operation no_parentheses = refl
 
 pub no_open_expression : {N : Type 0} (h : N → Tree) (n : Expression N) → false ≡ ends_open (expression_plain h n)
 no_open_expression h (expressions.StringLiteral b) = refl
@@ -51,6 +52,7 @@ no_statement h n = refl
 
 operand_outside : (t : Tree) → is_expression (type_of t) ≡ false → operand_of (without_parentheses t) ≡ other_operand
 operand_outside (numeric_literal a) h = let no : true ≡ false = h in cc
+operand_outside (big_int_literal a) h = let no : true ≡ false = h in cc
 operand_outside (unary a t) h = let no : true ≡ false = h in cc
 operand_outside (logical a l r) h = let no : true ≡ false = h in cc
 operand_outside (parenthesized a e) h = let no : true ≡ false = h in cc

@@ -6,3 +6,7 @@ use Rattle.jsgen_tree.specs.declared.types.NodeType.TheVariants as types
 abbrev pub is_string : NodeType → Bool
 is_string types.StringLiteral = true
 is_string type = false
+
+abbrev pub is_number : NodeType → Bool
+is_number types.NumericLiteral = true
+is_number type = false

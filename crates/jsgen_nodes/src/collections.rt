@@ -4,22 +4,22 @@ ghost use Rattle.std.specs.Str.{chars};
 ghost use Rattle.jsgen_syntax.specs.Units.{js_units};
 ghost use Rattle.jsgen_syntax.specs.declared.precedence.Precedence.TheVariants.{Comma};
 ghost use Rattle.jsgen_tree.specs.Tree.{trees};
-ghost use Rattle.jsgen_tree.specs.Inside.{written_name_in};
+ghost use Rattle.jsgen_tree.specs.Inside.{written_name_in, is_negative_number};
 ghost use Rattle.jsgen_tree.specs.Rows.{spread_element_row, array_expression_row, in_array_expression_element, object_property_row, object_expression_row, in_object_property_kind, in_property_key, in_expression};
 ghost use Rattle.jsgen_model.specs.Punctuator.{Square, Brace, colon};
 ghost use Rattle.jsgen_model.specs.Items.{◌⊕◌, brackets, punctuator, soft_space};
 ghost use Rattle.jsgen_model.specs.Layout.{layout};
-ghost use Rattle.jsgen_model.specs.Spell.{spell, in_brackets, in_front, are_more, object_inside, spell_elements, ends_in_hole, comma_if, is_short, key_items, key_text, string_in};
+ghost use Rattle.jsgen_model.specs.Spell.{spell, in_brackets, in_front, are_more, object_inside, spell_elements, ends_in_hole, comma_if, is_short, needs_brackets, key_items, key_text, string_in};
 ghost use Rattle.jsgen_model.specs.Printing.{Reaches};
 ghost use Rattle.jsgen_printer.specs.Printer.{pen_of};
 ghost use Rattle.jsgen_place.specs.Place.{place_of};
-ghost use Rattle.jsgen_nodes.specs.Keys.{is_string};
+ghost use Rattle.jsgen_nodes.specs.Keys.{is_string, is_number};
 ghost use Rattle.jsgen_nodes.specs.Place.{pen_after};
 
 use crate::PrintNode;
 use crate::links::print_identifier_name;
 use jsgen_lists::{PrintElement, print_array, print_object};
-use jsgen_place::{Place, says_name};
+use jsgen_place::{Place, needs_brackets, says_name};
 use jsgen_printer::{Bracket, Printer};
 use jsgen_syntax::{JsStr, Memory, Precedence};
 use jsgen_tree::{
@@ -165,7 +165,7 @@ fn print_whole_property<N: PrintNode>(
     p: &mut Printer,
     place: Place,
 ) -> Result<(), Memory>
-    ensures { Reaches result (pen_of p.old) (pen_of p.new) (layout (key_items node.now.computed (in_property_key N.plain node.now.key) (spell (in_property_key N.plain node.now.key) (in_brackets Comma (place_of place (pen_of p.old))))
+    ensures { Reaches result (pen_of p.old) (pen_of p.new) (layout (key_items (needs_brackets node.now.computed (in_property_key N.plain node.now.key)) (in_property_key N.plain node.now.key) (spell (in_property_key N.plain node.now.key) (in_brackets Comma (place_of place (pen_of p.old))))
         (spell (in_property_key N.plain node.now.key) (in_front Comma (place_of place (pen_of p.old))))
         ⊕ (punctuator colon ⊕ (soft_space ⊕ spell (in_expression N.plain node.now.value) (in_brackets Comma (place_of place (pen_of p.old)))))) (pen_of p.old)) }
 {
@@ -191,7 +191,7 @@ fn key_name<N: PrintNode>(key: &PropertyKey<N>) -> Option<&str>
     }
 }
 
-// In brackets where it is computed.
+// In brackets where it needs them.
 #[tactic(auto, unfolding(crate::specs::Place::pen_after))]
 fn print_key<N: PrintNode>(
     key: &PropertyKey<N>,
@@ -199,14 +199,40 @@ fn print_key<N: PrintNode>(
     p: &mut Printer,
     place: Place,
 ) -> Result<(), Memory>
-    ensures { Reaches result (pen_of p.old) (pen_of p.new) (layout (key_items computed (in_property_key N.plain key.now) (spell (in_property_key N.plain key.now) (in_brackets Comma (place_of place (pen_of p.old))))
+    ensures { Reaches result (pen_of p.old) (pen_of p.new) (layout (key_items (needs_brackets computed (in_property_key N.plain key.now)) (in_property_key N.plain key.now) (spell (in_property_key N.plain key.now) (in_brackets Comma (place_of place (pen_of p.old))))
         (spell (in_property_key N.plain key.now) (in_front Comma (place_of place (pen_of p.old))))) (pen_of p.old)) }
 {
-    if computed {
+    if needs_brackets(computed, is_negative_key(key)) {
         print_computed_key(key, p, place)
     } else {
         print_key_text(key, p, place.child(Precedence::Comma))
     }
+}
+
+fn is_negative_key<N: PrintNode>(key: &PropertyKey<N>) -> bool
+    ensures { result ≡ is_negative_number (in_property_key N.plain key.now) }
+{
+    match key {
+        PropertyKey::IdentifierName(_) => false,
+        PropertyKey::Expression(node) => is_negative_number(node.get()),
+    }
+}
+
+// Whether the key is a number with a minus before it, and no parentheses are round it.
+fn is_negative_number<N: PrintNode>(key: &N) -> bool
+    ensures { result ≡ is_negative_number (N.plain key.now) }
+{
+    if is_number(key.node_type()) {
+        key.is_negative()
+    } else {
+        false
+    }
+}
+
+fn is_number(node_type: NodeType) -> bool
+    ensures { result ≡ is_number node_type }
+{
+    matches!(node_type, NodeType::NumericLiteral)
 }
 
 #[tactic(auto, unfolding(crate::specs::Place::pen_after))]

@@ -1,22 +1,23 @@
 // Expressions (ECMA-262, clause 13), one function for each row.
-ghost use Rattle.std.specs.Prelude.{◌≡◌};
+ghost use Rattle.std.specs.Prelude.{◌≡◌, true, decimal};
 ghost use Rattle.jsgen_syntax.specs.Operator.{logical_level, logical_lower_level};
-ghost use Rattle.jsgen_tree.specs.Rows.{identifier_reference_row, this_expression_row, null_literal_row, boolean_literal_row, numeric_literal_row, string_literal_row, parenthesized_expression_row, binary_expression_row, logical_expression_row, in_expression};
+ghost use Rattle.jsgen_tree.specs.Rows.{identifier_reference_row, this_expression_row, null_literal_row, boolean_literal_row, numeric_literal_row, big_int_literal_row, string_literal_row, parenthesized_expression_row, binary_expression_row, logical_expression_row, in_expression};
 ghost use Rattle.jsgen_model.specs.Items.{◌⊕◌, soft_space};
 ghost use Rattle.jsgen_model.specs.Layout.{layout};
-ghost use Rattle.jsgen_model.specs.Spell.{spell, left_of, behind, left_level, right_level, unmixed, operator_item, logical_item};
+ghost use Rattle.jsgen_model.specs.Spell.{spell, signed, left_of, behind, left_level, right_level, unmixed, operator_item, logical_item};
 ghost use Rattle.jsgen_model.specs.Printing.{Reaches};
 ghost use Rattle.jsgen_printer.specs.Printer.{pen_of};
 ghost use Rattle.jsgen_place.specs.Place.{place_of};
 ghost use Rattle.jsgen_nodes.specs.Place.{pen_after};
 
 use crate::PrintNode;
-use jsgen_place::{Place, left_level, right_level, unmixed};
+use jsgen_place::{Place, left_level, right_level, takes_no_dot, unmixed};
 use jsgen_printer::Printer;
 use jsgen_syntax::{GetPrecedence, Memory};
 use jsgen_tree::{
-    BinaryExpression, BooleanLiteral, IdentifierReference, LogicalExpression, NullLiteral,
-    NumericLiteral, NumericValue, ParenthesizedExpression, StringLiteral, ThisExpression,
+    BigIntLiteral, BinaryExpression, BooleanLiteral, IdentifierReference, LogicalExpression,
+    NullLiteral, NumericLiteral, NumericValue, ParenthesizedExpression, StringLiteral,
+    ThisExpression, behind_minus,
 };
 
 #[tactic(auto, unfolding(crate::specs::Place::pen_after))]
@@ -73,9 +74,35 @@ pub fn print_numeric_literal(
 ) -> Result<(), Memory>
     ensures { Reaches result (pen_of p.old) (pen_of p.new) (pen_after (numeric_literal_row node.now) place p.old) }
 {
-    let _ = place;
-    match node.value {
-        NumericValue::Whole { digits } => p.print_whole_number(digits),
+    match &node.value {
+        NumericValue::Whole { negative, digits } => print_whole(*negative, *digits, p, place),
+        NumericValue::Raw(text) => p.print_number(text.as_str(), !takes_no_dot(text.as_str())),
+    }
+}
+
+#[tactic(auto)]
+fn print_whole(negative: bool, digits: u128, p: &mut Printer, place: Place) -> Result<(), Memory>
+    ensures { Reaches result (pen_of p.old) (pen_of p.new) (layout (signed true negative (decimal digits) (place_of place (pen_of p.old))) (pen_of p.old)) }
+{
+    if negative {
+        p.print_negative_whole_number(place.wraps_negative(), digits)
+    } else {
+        p.print_whole_number(digits)
+    }
+}
+
+#[tactic(auto, unfolding(crate::specs::Place::pen_after))]
+pub fn print_big_int_literal(
+    node: &BigIntLiteral,
+    p: &mut Printer,
+    place: Place,
+) -> Result<(), Memory>
+    ensures { Reaches result (pen_of p.old) (pen_of p.new) (pen_after (big_int_literal_row node.now) place p.old) }
+{
+    let value = node.value.as_str();
+    match behind_minus(value) {
+        Some(digits) => p.print_negative_big_integer(place.wraps_negative(), digits),
+        None => p.print_big_integer(value),
     }
 }
 

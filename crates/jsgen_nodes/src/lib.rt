@@ -19,7 +19,7 @@ ghost use Rattle.std.specs.Prelude.{◌≡◌, option_map};
 ghost use Rattle.jsgen_syntax.specs.Units.{js_units};
 ghost use Rattle.jsgen_tree.specs.Tree.{Tree, type_of};
 ghost use Rattle.std.specs.Str.{chars};
-ghost use Rattle.jsgen_tree.specs.Inside.{without_parentheses, ends_open, reference_in, written_name_in};
+ghost use Rattle.jsgen_tree.specs.Inside.{without_parentheses, ends_open, reference_in, written_name_in, is_negative};
 ghost use Rattle.jsgen_tree.specs.Plain.{node_plain};
 ghost use Rattle.jsgen_model.specs.Spell.{string_in, string_statement};
 ghost use Rattle.jsgen_model.specs.Printing.{Reaches};
@@ -78,6 +78,10 @@ pub trait PrintNode {
     /// The name that stands there as it is written.
     fn written_name(&self) -> Option<&str>
         ensures { option_map (λ s. chars s.now) result ≡ written_name_in (plain self.now) };
+
+    /// Whether it is a number or a big integer with a minus before it, without the parentheses that it may have round it.
+    fn is_negative(&self) -> bool
+        ensures { result ≡ is_negative (without_parentheses (plain self.now)) };
 }
 
 /// The knot: the one recursion.
@@ -144,5 +148,9 @@ impl PrintNode for Node {
 
     fn written_name(&self) -> Option<&str> {
         self.written_name()
+    }
+
+    fn is_negative(&self) -> bool {
+        self.is_negative()
     }
 }

@@ -37,7 +37,9 @@ pub fn expression_operand<N: PrintNode>(node: &Expression<N>) -> Operand
     ensures { result ≡ operand_of (without_parentheses (expression_plain N.plain node.now)) }
 {
     match node {
-        Expression::NumericLiteral(_) | Expression::UnaryExpression(_) => Operand::PREFIXED,
+        Expression::NumericLiteral(_)
+        | Expression::BigIntLiteral(_)
+        | Expression::UnaryExpression(_) => Operand::PREFIXED,
         Expression::LogicalExpression(node) => logical_operand(node),
         Expression::ParenthesizedExpression(node) => parenthesized_operand(node),
         _ => Operand::OTHER,

@@ -13,9 +13,10 @@ use crate::blocks::{print_block_statement, print_empty_statement, print_if_state
 use crate::choices::print_conditional_expression;
 use crate::collections::{print_array_expression, print_object_expression};
 use crate::expressions::{
-    print_binary_expression, print_boolean_literal, print_identifier_reference,
-    print_logical_expression, print_null_literal, print_numeric_literal,
-    print_parenthesized_expression, print_string_literal, print_this_expression,
+    print_big_int_literal, print_binary_expression, print_boolean_literal,
+    print_identifier_reference, print_logical_expression, print_null_literal,
+    print_numeric_literal, print_parenthesized_expression, print_string_literal,
+    print_this_expression,
 };
 use crate::links::{
     print_call_expression, print_chain_expression, print_computed_member_expression,
@@ -47,6 +48,7 @@ pub fn print_expression<N: PrintNode>(
         Expression::NullLiteral(node) => print_null_literal(node, p, place),
         Expression::BooleanLiteral(node) => print_boolean_literal(node, p, place),
         Expression::NumericLiteral(node) => print_numeric_literal(node, p, place),
+        Expression::BigIntLiteral(node) => print_big_int_literal(node, p, place),
         Expression::StringLiteral(node) => print_string_literal(node, p, place),
         Expression::ParenthesizedExpression(node) => print_parenthesized_expression(node, p, place),
         Expression::BinaryExpression(node) => print_binary_expression(node, p, place),

@@ -168,7 +168,8 @@ mutual
   expression_joined grammar.a_null = refl
   expression_joined grammar.a_true = refl
   expression_joined grammar.a_false = refl
-  expression_joined grammar.a_number = refl
+  expression_joined (grammar.a_number h) = refl
+  expression_joined (grammar.a_big_integer e) = refl
   expression_joined (grammar.a_string e) = refl
   expression_joined (grammar.in_parentheses {ts = ts} r) = and_from (may_be_given ts) true (given_from ts (expression_starts r)) refl
   expression_joined (grammar.an_optional_chain r) = chain_joined r

@@ -10,4 +10,5 @@ pub mod Made
 pub mod Samples
 pub mod Refused
 pub mod Joined
+pub mod Negative
 pub mod Forms

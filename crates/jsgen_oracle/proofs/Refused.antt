@@ -304,7 +304,8 @@ mutual
   expression_starts grammar.a_null = refl
   expression_starts grammar.a_true = refl
   expression_starts grammar.a_false = refl
-  expression_starts grammar.a_number = refl
+  expression_starts (grammar.a_number h) = refl
+  expression_starts (grammar.a_big_integer e) = refl
   expression_starts (grammar.a_string e) = refl
   expression_starts (grammar.in_parentheses r) = refl
   expression_starts (grammar.an_optional_chain r) = chain_starts r

@@ -135,7 +135,7 @@ declarators =
     let second = word (codes "b") (sign equal (word (codes "c") done)) in (
       word (codes "const") ((first ⧺ sign comma second) ⧺ sign semicolon done),
       ([], codes " a=1,b=c;", refl, refl, refl, refl, refl, (codes " ", codes "=1,b=c;", refl, refl, refl, refl, refl, ([], codes "1,b=c;", refl, refl, refl, refl, refl, ([], codes ",b=c;", refl, refl, refl, refl, refl, ([], codes "b=c;", refl, refl, refl, refl, refl, ([], codes "=c;", refl, refl, refl, refl, refl, ([], codes "c;", refl, refl, refl, refl, refl, ([], codes ";", refl, refl, refl, refl, refl, ([], [], refl, refl, refl, refl, refl, refl))))))))),
-      undirected refl (grammar.last_statement (grammar.a_declaration (grammar.a_semicolon {a = word (codes "const") (first ⧺ sign comma second)} false refl) (grammar.a_const (grammar.first_declarator {a = first} {b = second} false refl (grammar.with_value {a = word (codes "a") done} {v = piece false (Number (codes "1")) done} false refl (grammar.a_bound_name value_a free_a) (value (first_of_sum grammar.a_number))) (grammar.last_declarator (grammar.with_value {a = word (codes "b") done} {v = word (codes "c") done} false refl (grammar.a_bound_name value_b free_b) (value (first_of_sum read_c)))))))),
+      undirected refl (grammar.last_statement (grammar.a_declaration (grammar.a_semicolon {a = word (codes "const") (first ⧺ sign comma second)} false refl) (grammar.a_const (grammar.first_declarator {a = first} {b = second} false refl (grammar.with_value {a = word (codes "a") done} {v = piece false (Number (codes "1")) done} false refl (grammar.a_bound_name value_a free_a) (value (first_of_sum (grammar.a_number refl)))) (grammar.last_declarator (grammar.with_value {a = word (codes "b") done} {v = word (codes "c") done} false refl (grammar.a_bound_name value_b free_b) (value (first_of_sum read_c)))))))),
     )
 
 pub without_value : IsRead (codes "const a;") (samples.module_of (more (samples.const_of (more (samples.bound (codes "a") absent) no_trees)) no_trees))
@@ -179,7 +179,7 @@ members =
     let all = word (codes "a") (sign dot (word (codes "b") (group false Round (word (codes "c") done) (group false Square (piece false (Number (codes "1")) done) done)))) in (
       all ⧺ sign semicolon done,
       ([], codes ".b(c)[1];", refl, refl, refl, refl, refl, ([], codes "b(c)[1];", refl, refl, refl, refl, refl, ([], codes "(c)[1];", refl, refl, refl, refl, refl, ([], codes "c", codes "[1];", refl, refl, refl, ([], [], refl, refl, refl, refl, refl, refl), ([], codes "1", codes ";", refl, refl, refl, ([], [], refl, refl, refl, refl, refl, refl), ([], [], refl, refl, refl, refl, refl, refl)))))),
-      undirected refl (grammar.last_statement (item {a = all} refl (whole (grammar.a_multiplicative (grammar.an_exponent (grammar.a_unary (grammar.an_update (grammar.a_left_hand_side (grammar.a_call (grammar.a_computed_member_of_call {a = called} {inside = piece false (Number (codes "1")) done} false refl (grammar.with_arguments {a = callee} {inside = word (codes "c") done} false refl (grammar.a_called_member (grammar.a_named_member {a = word (codes "a") done} (codes "b") false false refl value_b (grammar.a_primary read_a))) (grammar.some_arguments (grammar.last_argument (grammar.an_element (value (first_of_sum read_c)))))) (whole (first_of_sum grammar.a_number)))))))))))),
+      undirected refl (grammar.last_statement (item {a = all} refl (whole (grammar.a_multiplicative (grammar.an_exponent (grammar.a_unary (grammar.an_update (grammar.a_left_hand_side (grammar.a_call (grammar.a_computed_member_of_call {a = called} {inside = piece false (Number (codes "1")) done} false refl (grammar.with_arguments {a = callee} {inside = word (codes "c") done} false refl (grammar.a_called_member (grammar.a_named_member {a = word (codes "a") done} (codes "b") false false refl value_b (grammar.a_primary read_a))) (grammar.some_arguments (grammar.last_argument (grammar.an_element (value (first_of_sum read_c)))))) (whole (first_of_sum (grammar.a_number refl))))))))))))),
     )
 
 -- ---- operators of one operand, `new` and `super`

@@ -1,9 +1,11 @@
 -- The program's normal forms as trees.
-use Rattle.std.specs.Prelude.{Bool, true, false, List, [], ◌∷◌, map, decimal, Option, option_map}
+use Rattle.std.specs.Prelude.{Bool, true, false, List, [], ◌∷◌, map, Option, option_map}
 use Rattle.jsgen_syntax.specs.Units.{js_units}
 use Rattle.jsgen_tree.specs.Atom.{Atom, no_value, text, units, flag, numeric_kind, declaration_kind, binary_operator, logical_operator, unary_operator, update_operator, assignment_operator, property_kind}
 use Rattle.jsgen_tree.specs.Number.{Raw}
 use Rattle.jsgen_tree.specs.Tree.{Tree, node, Slots, no_slots, one, maybe, many, Maybe, optional, Trees, trees, holed}
+use Rattle.jsgen_tree.specs.declared.types.NodeType.{NodeType}
+use Rattle.jsgen_tree.specs.declared.types.NodeType.TheVariants as types
 use Rattle.jsgen_tree.specs.Characters.{characters}
 use Rattle.jsgen_tree.specs.Places.{bare}
 use Rattle.jsgen_oracle.specs.declared.form.Value.{Value}
@@ -18,7 +20,6 @@ abbrev pub value_plain : Value → Atom
 value_plain values.Nothing = no_value
 value_plain (values.Text t) = text (characters t)
 value_plain (values.Units s) = units (js_units s)
-value_plain (values.Digits n) = text (decimal n)
 value_plain values.ByText = numeric_kind Raw
 value_plain (values.Flag b) = flag b
 value_plain (values.DeclarationKind kind) = declaration_kind kind
@@ -68,3 +69,7 @@ abbrev pub is_list : {F : Type 0} → List (Slot F) → Bool
 is_list (slots.Many fs ∷ []) = true
 is_list (slots.Holed os ∷ []) = true
 is_list ss = false
+
+abbrev pub is_number : NodeType → Bool
+is_number types.NumericLiteral = true
+is_number type = false

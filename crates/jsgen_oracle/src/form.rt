@@ -21,8 +21,6 @@ pub enum Value {
     Nothing,
     Text(String),
     Units(JsStr),
-    /// A whole number, by the text of its digits.
-    Digits(u128),
     /// That a number is held by its text.
     ByText,
     Flag(bool),

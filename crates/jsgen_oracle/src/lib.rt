@@ -19,6 +19,7 @@ mod directive;
 mod form;
 mod normal;
 mod number;
+mod number_forms;
 mod punctuator;
 mod row;
 mod shape;

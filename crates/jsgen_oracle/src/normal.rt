@@ -3,11 +3,11 @@ ghost use Rattle.std.specs.Prelude.{◌≡◌, ◌∷◌, [], ◌&&◌, false, m
 ghost use Rattle.std.specs.Option.{option_map_or};
 ghost use Rattle.std.specs.Str.{chars};
 ghost use Rattle.jsgen_tree.specs.Tree.{trees, holed, optional};
-ghost use Rattle.jsgen_tree.specs.Rows.{program_row, directive_row, block_statement_row, if_statement_row, variable_declaration_row, variable_declarator_row, numeric_literal_row, string_literal_row, logical_expression_row, identifier_name_row, static_member_expression_row, call_expression_row, spread_element_row, array_expression_row, conditional_expression_row, sequence_expression_row, assignment_expression_row, in_assignment_target, expression_plain, statement_plain, declaration_plain, binding_pattern_plain, in_expression, in_statement, in_argument, in_array_expression_element, new_expression_row, update_expression_row, in_simple_assignment_target, object_property_row, object_expression_row, in_object_property_kind, in_property_key, computed_member_expression_row, chain_expression_row, in_chain_element};
+ghost use Rattle.jsgen_tree.specs.Rows.{program_row, directive_row, block_statement_row, if_statement_row, variable_declaration_row, variable_declarator_row, string_literal_row, logical_expression_row, identifier_name_row, static_member_expression_row, call_expression_row, spread_element_row, array_expression_row, expression_plain, statement_plain, declaration_plain, binding_pattern_plain, in_expression, in_statement, in_argument, in_array_expression_element, new_expression_row, update_expression_row, in_simple_assignment_target, object_property_row, object_expression_row, in_object_property_kind, in_property_key, numeric_literal_row, conditional_expression_row, sequence_expression_row, assignment_expression_row, in_assignment_target, computed_member_expression_row, chain_expression_row, in_chain_element};
 ghost use Rattle.jsgen_tree.specs.Atom.{no_value, flag, property_kind};
-ghost use Rattle.jsgen_tree.specs.Inside.{written_name_in, is_proto};
+ghost use Rattle.jsgen_tree.specs.Inside.{written_name_in, is_proto, is_negative_number};
 ghost use Rattle.jsgen_tree.specs.Plain.{node_plain};
-ghost use Rattle.jsgen_model.specs.Normal.{normal, normal_maybe, normal_trees, links, flattened, unbraced, is_proto_shorthand};
+ghost use Rattle.jsgen_model.specs.Normal.{normal, normal_maybe, normal_trees, links, unbraced, is_computed, is_proto_shorthand, flattened};
 ghost use Rattle.jsgen_oracle.specs.Form.{form_plain, forms_plain, holed_plain, optional_plain, value_plain};
 ghost use Rattle.jsgen_oracle.specs.declared.form.Value.TheVariants.{Nothing};
 
@@ -16,6 +16,7 @@ use crate::chain::{joined, links, parts};
 use crate::characters::characters_of;
 use crate::directive::directive_units;
 use crate::form::{Form, Slot, Value};
+use crate::number_forms::{big_int_literal_form, is_negative_number, numeric_literal_form};
 use crate::shape::{
     holed_list, identifier, leaf, list, literal, one_value, pair, row, row_of_two, single,
     single_by, two_values,
@@ -26,10 +27,9 @@ use jsgen_tree::{
     BindingPattern, BlockStatement, CallExpression, ChainElement, ChainExpression,
     ComputedMemberExpression, ConditionalExpression, Declaration, Directive, Expression,
     ExpressionNode, IdentifierName, IfStatement, LogicalExpression, NewExpression, Node, NodeType,
-    NumericLiteral, NumericValue, ObjectExpression, ObjectProperty, ObjectPropertyKind, Program,
-    PropertyKey, SequenceExpression, SimpleAssignmentTarget, SpreadElement, Statement,
-    StatementNode, StaticMemberExpression, StringLiteral, UpdateExpression, VariableDeclaration,
-    VariableDeclarator, is_proto,
+    ObjectExpression, ObjectProperty, ObjectPropertyKind, Program, PropertyKey, SequenceExpression,
+    SimpleAssignmentTarget, SpreadElement, Statement, StatementNode, StaticMemberExpression,
+    StringLiteral, UpdateExpression, VariableDeclaration, VariableDeclarator, is_proto,
 };
 use std::alloc::Global;
 
@@ -38,7 +38,7 @@ pub trait NormalNode {
     ghost use Rattle.std.specs.Prelude.{option_map};
     ghost use Rattle.std.specs.Str.{chars};
     ghost use Rattle.jsgen_tree.specs.Tree.{Tree};
-    ghost use Rattle.jsgen_tree.specs.Inside.{written_name_in};
+    ghost use Rattle.jsgen_tree.specs.Inside.{written_name_in, is_negative_number};
 
     ghost plain: { Self → Tree };
 
@@ -48,6 +48,10 @@ pub trait NormalNode {
     /// The name that stands there as it is written.
     fn written_name(&self) -> Option<&str>
         ensures { option_map (λ s. chars s.now) result ≡ written_name_in (plain self.now) };
+
+    /// Whether it is a number with a minus before it.
+    fn is_negative_number(&self) -> bool
+        ensures { result ≡ is_negative_number (plain self.now) };
 }
 
 // ---- programs and statements
@@ -216,16 +220,6 @@ fn init_form<N: NormalNode>(
 }
 
 // ---- expressions
-
-fn numeric_literal_form(alloc: Global, node: &NumericLiteral) -> Result<Form, Memory>
-    ensures { IfOk result (λ f. form_plain f ≡ normal (numeric_literal_row node.now)) }
-{
-    let digits = match node.value {
-        NumericValue::Whole { digits } => Value::Digits(digits),
-    };
-    let values = vec![in alloc; Value::ByText, Value::Nothing, Value::Nothing, digits]?;
-    Ok(leaf(alloc, NodeType::NumericLiteral, values))
-}
 
 fn string_literal_form(alloc: Global, node: &StringLiteral) -> Result<Form, Memory>
     ensures { IfOk result (λ f. form_plain f ≡ normal (string_literal_row node.now)) }
@@ -627,14 +621,15 @@ fn property_values<N: NormalNode>(
     alloc: Global,
     node: &ObjectProperty<N>,
 ) -> Result<Vec<Value>, Memory>
-    ensures { IfOk result (λ v. map value_plain v.items ≡ property_kind node.now.kind ∷ no_value ∷ flag (is_proto_shorthand node.now.shorthand (in_property_key N.plain node.now.key)) ∷ flag node.now.computed ∷ []) }
+    ensures { IfOk result (λ v. map value_plain v.items ≡ property_kind node.now.kind ∷ no_value ∷ flag (is_proto_shorthand node.now.shorthand (in_property_key N.plain node.now.key)) ∷ flag (is_computed node.now.computed (in_property_key N.plain node.now.key)) ∷ []) }
 {
     let shorthand = is_proto_key(&node.key) && node.shorthand;
+    let computed = node.computed || is_negative_key(&node.key);
     Ok(vec![in alloc;
         Value::PropertyKind(node.kind),
         Value::Nothing,
         Value::Flag(shorthand),
-        Value::Flag(node.computed),
+        Value::Flag(computed),
     ]?)
 }
 
@@ -653,6 +648,15 @@ fn is_proto_key<N: NormalNode>(key: &PropertyKey<N>) -> bool
     match key_name(key) {
         Some(name) => is_proto(name),
         None => false,
+    }
+}
+
+fn is_negative_key<N: NormalNode>(key: &PropertyKey<N>) -> bool
+    ensures { result ≡ is_negative_number (in_property_key N.plain key.now) }
+{
+    match key {
+        PropertyKey::IdentifierName(_) => false,
+        PropertyKey::Expression(node) => node.get().is_negative_number(),
     }
 }
 
@@ -680,6 +684,7 @@ fn expression_form<N: NormalNode>(alloc: Global, node: &Expression<N>) -> Result
             literal(alloc, NodeType::BooleanLiteral, Value::Flag(node.value))
         }
         Expression::NumericLiteral(node) => numeric_literal_form(alloc, node),
+        Expression::BigIntLiteral(node) => big_int_literal_form(alloc, node),
         Expression::StringLiteral(node) => string_literal_form(alloc, node),
         Expression::BinaryExpression(node) => {
             pair(
@@ -764,5 +769,9 @@ impl NormalNode for Node {
 
     fn written_name(&self) -> Option<&str> {
         self.written_name()
+    }
+
+    fn is_negative_number(&self) -> bool {
+        is_negative_number(self)
     }
 }

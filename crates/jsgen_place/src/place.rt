@@ -2,7 +2,7 @@
 ghost use Rattle.std.specs.Prelude.{◌≡◌, nat_le, false, true};
 ghost use Rattle.jsgen_syntax.specs.Precedence.{rank};
 ghost use Rattle.jsgen_model.specs.Layout.{Pen};
-ghost use Rattle.jsgen_model.specs.Spell.{is_forbidden, binary_wraps, goes_on, logical_wraps, called, call_wraps, chain_wraps, needs_arguments};
+ghost use Rattle.jsgen_model.specs.Spell.{is_forbidden, binary_wraps, wraps, goes_on, logical_wraps, called, call_wraps, needs_arguments, chain_wraps};
 ghost use Rattle.jsgen_place.specs.Place.{place_of, place_within, chain_within};
 
 use jsgen_syntax::{BinaryOperator, GetPrecedence, LogicalOperator, Precedence};
@@ -231,6 +231,13 @@ impl Place {
         ensures { (pen : Pen) → result ≡ needs_arguments (place_of self pen) some }
     {
         !self.settings.minified || some || self.wraps(Precedence::Postfix)
+    }
+
+    /// Whether a number with a minus before it stands in parentheses here.
+    pub fn wraps_negative(self) -> bool
+        ensures { (pen : Pen) → result ≡ wraps Precedence.Prefix (place_of self pen) }
+    {
+        self.wraps(Precedence::Prefix)
     }
 
     fn goes_on(self, operator: LogicalOperator) -> bool

@@ -4,3 +4,4 @@ pub mod Operators
 pub mod Prefixes
 pub mod Stops
 pub mod Texts
+pub mod Numbers

@@ -8,6 +8,7 @@ ghost use Rattle.jsgen_model.specs.Layout.{but_backticks};
 use crate::operator::Operator;
 
 mod handed;
+mod numbers;
 
 use jsgen_syntax::{
     AssignmentOperator, BinaryOperator, CodeBuffer, IndentChar, JsStr, LogicalOperator, Memory,
@@ -63,10 +64,10 @@ pub struct Printer {
 
 #[tactic(auto, using(crate::proofs::Texts::ascii_chars), unfolding(crate::specs::Printer::pen_of))]
 impl Printer {
-    ghost use Rattle.std.specs.Prelude.{IfOk, [], ◌∷◌, ◌++◌, decimal, replicate, string_bytes, true, IsTrue};
+    ghost use Rattle.std.specs.Prelude.{IfOk, [], ◌∷◌, ◌++◌, replicate, string_bytes, true, IsTrue};
     ghost use Rattle.std.specs.Str.{chars, encode_utf8_all};
     ghost use Rattle.jsgen_model.specs.Punctuator.{Round, opening, closing, ellipsis, comma, semicolon, equal, plus, minus, equal_equal, equal_equal_equal, plus_plus, minus_minus, colon, question, question_dot};
-    ghost use Rattle.jsgen_model.specs.Items.{word, name, number, string, first_string, directive, member_dot, punctuator, soft_space, soft_line, hard_space, indentation, body_space, statement_end, due_semicolon, drop_semicolon, statement_begins};
+    ghost use Rattle.jsgen_model.specs.Items.{word, name, string, first_string, directive, member_dot, punctuator, soft_space, soft_line, hard_space, indentation, body_space, statement_end, due_semicolon, drop_semicolon, statement_begins};
     ghost use Rattle.jsgen_model.specs.Printing.{Reaches};
     ghost use Rattle.jsgen_model.specs.Layout.{layout, written, written_if, other_end, space_if, ends_in_word, ends_in_escapes, is_apart, name_ending, joins, dot_joins, indented, ends_in_less_bang, chosen_quote, deeper_level, empty_pen, style_of};
     ghost use Rattle.jsgen_syntax.specs.Buffer.{indent_byte};
@@ -265,16 +266,6 @@ impl Printer {
         } else {
             Ending::Other
         }
-    }
-
-    pub fn print_whole_number(&mut self, digits: u128) -> Result<(), Memory>
-        ensures { Reaches result (pen_of self.old) (pen_of self.new)
-            (layout (number true (decimal digits)) (pen_of self.old)) }
-    {
-        let apart = self.is_apart();
-        let mut buffer = itoa::Buffer::new();
-        let text = buffer.format(digits);
-        self.print_apart(apart, text, Ending::Number)
     }
 
     fn string_quote(&self, value: &JsStr, backticks: bool) -> Quote

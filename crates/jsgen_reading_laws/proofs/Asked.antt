@@ -1,22 +1,22 @@
 -- What the lemmas on operations, chains and directives ask of an expression: one line a row.
-use Rattle.std.proofs.Common.{◌≡◌, ℕ, Bool, true, false, cond, Some, None, is_some, List, [], ◌∷◌, refl, sym, ap, ◌∙◌, subst}
+use Rattle.std.proofs.Common.{◌≡◌, ℕ, Bool, true, false, cond, Option, Some, None, is_some, List, [], ◌∷◌, refl, sym, ap, ◌∙◌, subst}
 use Rattle.std.proofs.lemmas.Bool.{both_ways}
 use Rattle.std.proofs.lemmas.Option.{same_Some}
 use Rattle.jsgen_syntax.specs.Wtf8.{are_units}
 use Rattle.jsgen_tree.specs.Atom.{units}
-use Rattle.jsgen_tree.specs.Tree.{Tree, type_of}
+use Rattle.jsgen_tree.specs.Tree.{Tree, Atoms, type_of}
 use Rattle.jsgen_tree.specs.Nodes as tree
 use Rattle.jsgen_tree.specs.Places.{bare}
-use Rattle.jsgen_tree.specs.Values.{string_literal_value, logical_expression_operator}
+use Rattle.jsgen_tree.specs.Values.{numeric_literal_kind, numeric_literal_negative, big_int_literal_value, string_literal_value, logical_expression_operator}
 use Rattle.jsgen_tree.specs.Sets.{is_expression}
-use Rattle.jsgen_tree.specs.Inside.{without_parentheses}
+use Rattle.jsgen_tree.specs.Inside.{without_parentheses, behind_minus}
 use Rattle.jsgen_model.specs.Grammar.{Allowed}
-use Rattle.jsgen_model.specs.Normal.{normal, chain}
+use Rattle.jsgen_model.specs.Normal.{normal, chain, by_text, number_text, minus_before, big_integer}
 use Rattle.jsgen_model.specs.Spell.{mixes, is_or_or_and, string_in}
 use Rattle.jsgen_reading_laws.proofs.Families.{IsExpression}
 use Rattle.jsgen_reading_laws.proofs.Families as family
 
--- of a normal form: a chain that mixes with `??`, a string, and a unary operation, which is one without its normal form too
+-- of a normal form: a chain that mixes with `??`, a string, and a unary operation, which is one without its normal form too, or a number with a minus before it
 abbrev pub is_mixed : Tree → Bool
 is_mixed (chain a operands) = is_or_or_and (logical_expression_operator a)
 is_mixed t = false
@@ -29,6 +29,13 @@ abbrev pub is_unary : Tree → Bool
 is_unary (tree.unary a argument) = true
 is_unary t = false
 
+-- of a tree: what has a unary operation as its normal form
+abbrev pub is_signed : Tree → Bool
+is_signed (tree.unary a argument) = true
+is_signed (tree.numeric_literal a) = numeric_literal_negative a
+is_signed (tree.big_int_literal a) = is_some (behind_minus (big_int_literal_value a))
+is_signed t = false
+
 abbrev pub IsStringOf : Tree → List ℕ → Type 0
 IsStringOf t us = (are_units us ≡ true) × (normal t ≡ tree.string_literal (bare (units us ∷ [])))
 
@@ -38,21 +45,61 @@ pub record Asked (t : Tree) : Type 0 where
   pub mixed : is_mixed (normal t) ≡ mixes (without_parentheses t)
   pub string : is_string (normal t) ≡ is_some (string_in (without_parentheses t))
   pub inside : (us : List ℕ) → string_in (without_parentheses t) ≡ Some us → IsStringOf t us
-  pub unary : is_unary (normal t) ≡ is_unary (without_parentheses t)
+  pub unary : is_unary (normal t) ≡ is_signed (without_parentheses t)
 
 none_is_some : (us : List ℕ) → None ≡ Some us → ⊥
 none_is_some us e = both_ways false refl (ap is_some e)
 
 -- an expression that is no string, and has no parentheses round it
-no_string : {t : Tree} → is_expression (type_of t) ≡ true → is_mixed (normal t) ≡ mixes (without_parentheses t) → is_string (normal t) ≡ false → string_in (without_parentheses t) ≡ None → is_unary (normal t) ≡ is_unary (without_parentheses t) → Asked t
+no_string : {t : Tree} → is_expression (type_of t) ≡ true → is_mixed (normal t) ≡ mixes (without_parentheses t) → is_string (normal t) ≡ false → string_in (without_parentheses t) ≡ None → is_unary (normal t) ≡ is_signed (without_parentheses t) → Asked t
 no_string e m s n u = record { expression = e; mixed = m; string = s ∙ sym (ap is_some n); inside = λ us h. absurd (none_is_some us (sym n ∙ h)); unary = u }
+
+abbrev number_form : Atoms → Tree
+number_form a = tree.numeric_literal (by_text (number_text (numeric_literal_kind a) a))
+
+asked_number : (a : Atoms) (b : Bool) → numeric_literal_negative a ≡ b → Asked (tree.numeric_literal a)
+asked_number a b e = no_string refl (ap is_mixed (form b e) ∙ plain b) (ap is_string (form b e) ∙ plain_string b) refl (ap is_unary (form b e) ∙ told b ∙ sym e)
+  where
+    form : (b : Bool) → numeric_literal_negative a ≡ b → normal (tree.numeric_literal a) ≡ minus_before b (number_form a)
+    form b e = ap (λ x. minus_before x (number_form a)) e
+
+    plain : (b : Bool) → is_mixed (minus_before b (number_form a)) ≡ false
+    plain true = refl
+    plain false = refl
+
+    plain_string : (b : Bool) → is_string (minus_before b (number_form a)) ≡ false
+    plain_string true = refl
+    plain_string false = refl
+
+    told : (b : Bool) → is_unary (minus_before b (number_form a)) ≡ b
+    told true = refl
+    told false = refl
+
+asked_big_integer : (a : Atoms) (o : Option (List ℕ)) → behind_minus (big_int_literal_value a) ≡ o → Asked (tree.big_int_literal a)
+asked_big_integer a o e = no_string refl (ap is_mixed form ∙ plain o) (ap is_string form ∙ plain_string o) refl (ap is_unary form ∙ told o ∙ sym (ap is_some e))
+  where
+    form : normal (tree.big_int_literal a) ≡ big_integer (big_int_literal_value a) o
+    form = ap (big_integer (big_int_literal_value a)) e
+
+    plain : (o : Option (List ℕ)) → is_mixed (big_integer (big_int_literal_value a) o) ≡ false
+    plain (Some w) = refl
+    plain None = refl
+
+    plain_string : (o : Option (List ℕ)) → is_string (big_integer (big_int_literal_value a) o) ≡ false
+    plain_string (Some w) = refl
+    plain_string None = refl
+
+    told : (o : Option (List ℕ)) → is_unary (big_integer (big_int_literal_value a) o) ≡ is_some o
+    told (Some w) = refl
+    told None = refl
 
 pub asked : {c : Allowed} {t : Tree} → IsExpression c t → Asked t
 asked (family.a_reference h) = no_string refl refl refl refl refl
 asked family.a_this = no_string refl refl refl refl refl
 asked family.a_null = no_string refl refl refl refl refl
 asked family.a_boolean = no_string refl refl refl refl refl
-asked (family.a_number h) = no_string refl refl refl refl refl
+asked (family.a_number {a} h) = asked_number a (numeric_literal_negative a) refl
+asked (family.a_big_integer {a} h) = asked_big_integer a (behind_minus (big_int_literal_value a)) refl
 asked (family.a_string {a} h) = record {
   expression = refl;
   mixed = refl;
@@ -67,7 +114,7 @@ asked (family.in_parentheses {a} {t} v) =
       mixed = k.mixed ∙ ap (λ b. mixes (cond b (without_parentheses t) (tree.parenthesized a t))) (sym k.expression);
       string = k.string ∙ ap (λ b. is_some (string_in (cond b (without_parentheses t) (tree.parenthesized a t)))) (sym k.expression);
       inside = λ us s. subst (λ b. string_in (cond b (without_parentheses t) (tree.parenthesized a t)) ≡ Some us → IsStringOf t us) (sym k.expression) (k.inside us) s;
-      unary = k.unary ∙ ap (λ b. is_unary (cond b (without_parentheses t) (tree.parenthesized a t))) (sym k.expression);
+      unary = k.unary ∙ ap (λ b. is_signed (cond b (without_parentheses t) (tree.parenthesized a t))) (sym k.expression);
     }
 asked (family.a_named_member m v h) = no_string refl refl refl refl refl
 asked (family.a_computed_member m v w) = no_string refl refl refl refl refl

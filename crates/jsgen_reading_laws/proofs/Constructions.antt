@@ -1,11 +1,11 @@
 -- `new`, with arguments or without.
-use Rattle.std.proofs.Common.{◌≡◌, Bool, true, false, not, ◌||◌, codes, [], ◌∷◌, refl, sym, ap, ◌∙◌, arith}
+use Rattle.std.proofs.Common.{◌≡◌, Bool, true, false, not, ◌||◌, codes, refl, ap, ◌∙◌, arith}
 use Rattle.std.proofs.lemmas.Bool.{both_ways, or_parts}
 use Rattle.jsgen_syntax.specs.declared.precedence.Precedence.TheVariants as levels
 use Rattle.jsgen_tree.specs.Tree.{Tree, Trees, no_trees, more, hole, Atoms}
 use Rattle.jsgen_tree.specs.Nodes as tree
 use Rattle.jsgen_model.specs.Punctuator.{Round, opening, closing}
-use Rattle.jsgen_model.specs.Tokens.{Tokens, done, piece, group, ◌⧺◌, Word}
+use Rattle.jsgen_model.specs.Tokens.{done, piece, group, ◌⧺◌, Word}
 use Rattle.jsgen_model.specs.Items.{Items, ◌⊕◌, word, soft_space, wrapped}
 use Rattle.jsgen_model.specs.Layout.{Pen, Start, nowhere, other_end, layout, written, unless_printed}
 use Rattle.jsgen_model.specs.Grammar.{Allowed, ReadsExpression, ReadsArguments, with_in}
@@ -15,7 +15,7 @@ use Rattle.jsgen_model.specs.Spell.{Place, spell, spell_list, within, constructe
 use Rattle.jsgen_token_laws.proofs.Characters.{letters_spelled}
 use Rattle.jsgen_token_laws.proofs.Last.{Last, Open, After, line_of, Ready, Knows}
 use Rattle.jsgen_token_laws.proofs.Writes.{Writes, wrote_both}
-use Rattle.jsgen_token_laws.proofs.Steps.{Soft, soft_space_written, wrote_word, within_brackets, brackets_written}
+use Rattle.jsgen_token_laws.proofs.Steps.{Soft, soft_space_written, within_brackets, brackets_written}
 use Rattle.jsgen_reading_laws.proofs.Levels.{level_of, under, weaken_member, lifted, unwrapped}
 use Rattle.jsgen_reading_laws.proofs.Good.{Good, Printed, good_wrapped}
 use Rattle.jsgen_reading_laws.proofs.Lists.{Elements}

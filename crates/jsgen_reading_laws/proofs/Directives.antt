@@ -141,7 +141,8 @@ mutual
   opens grammar.a_null = tt
   opens grammar.a_true = tt
   opens grammar.a_false = tt
-  opens grammar.a_number = tt
+  opens (grammar.a_number h) = tt
+  opens (grammar.a_big_integer e) = tt
   opens (grammar.a_string e) = refl
   opens (grammar.in_parentheses r) = tt
   opens (grammar.an_optional_chain r) = chain_opens _ r

@@ -1,6 +1,6 @@
 -- One lemma for each type of expression.
-use Rattle.std.proofs.Common.{◌≡◌, ℕ, Bool, true, false, not, decimal, codes, Some, List, [], ◌∷◌, refl, sym, ap}
-use Rattle.std.proofs.lemmas.Bool.{both_ways, ltb-true}
+use Rattle.std.proofs.Common.{◌≡◌, ℕ, Bool, true, false, not, codes, Some, List, [], ◌∷◌, refl, ap}
+use Rattle.std.proofs.lemmas.Bool.{both_ways}
 use Rattle.jsgen_syntax.specs.Escapes.{name_text, word_value}
 use Rattle.jsgen_syntax.specs.Name.{spells_name, is_free_name}
 use Rattle.jsgen_syntax.specs.Strings.{escaped, string_value}
@@ -11,30 +11,28 @@ use Rattle.jsgen_syntax.proofs.Strings.{escaped_value}
 use Rattle.jsgen_model.specs.Punctuator.{dot}
 use Rattle.jsgen_model.specs.Items.{string, word, member_dot}
 use Rattle.jsgen_tree.specs.Atom.{units, flag}
-use Rattle.jsgen_tree.specs.Number.{NumericKind, Whole, Raw}
 use Rattle.jsgen_tree.specs.Tree.{Tree, Trees, Atoms, type_of}
 use Rattle.jsgen_tree.specs.Sets.{is_simple_assignment_target}
 use Rattle.jsgen_tree.specs.Places.{bare}
-use Rattle.jsgen_tree.specs.Values.{identifier_reference_name, boolean_literal_value, numeric_literal_kind, numeric_literal_digits, string_literal_value}
+use Rattle.jsgen_tree.specs.Values.{identifier_reference_name, boolean_literal_value, string_literal_value}
 use Rattle.jsgen_tree.specs.Nodes as tree
-use Rattle.jsgen_model.specs.Tokens.{Tokens, done, piece, Word, Number, Quoted, Sign}
+use Rattle.jsgen_model.specs.Tokens.{Tokens, done, piece, Word, Quoted, Sign}
 use Rattle.jsgen_model.specs.Layout.{Pen, layout, chosen_quote, Start, nowhere, statement, arrow_body, default_export}
 use Rattle.jsgen_model.specs.Grammar.{Allowed, is_word}
 use Rattle.jsgen_model.specs.Grammar as grammar
-use Rattle.jsgen_model.specs.Normal.{nothing_of, unnumbered, by_text, number_text}
-use Rattle.jsgen_model.specs.Plain.{is_whole}
-use Rattle.jsgen_model.specs.Spell.{truth_word, number_item}
+use Rattle.jsgen_model.specs.Normal.{nothing_of, unnumbered}
+use Rattle.jsgen_model.specs.Spell.{truth_word}
 use Rattle.jsgen_token_laws.proofs.Characters.{letters_spelled}
 use Rattle.jsgen_token_laws.proofs.Last.{After, line_of}
-use Rattle.jsgen_token_laws.proofs.Steps.{wrote_word, wrote_name, wrote_whole, wrote_quoted, wrote_dot}
-use Rattle.jsgen_reading_laws.proofs.Levels.{level_of, under, from_primary, weaken_member, from_left}
+use Rattle.jsgen_token_laws.proofs.Steps.{wrote_word, wrote_name, wrote_quoted, wrote_dot, wrote_whole}
+use Rattle.jsgen_reading_laws.proofs.Levels.{from_primary, weaken_member, from_left, level_of, under}
 use Rattle.jsgen_reading_laws.proofs.Families.{IsExpression, IsLink, IsElement, AreArguments, AreElements, IsProperty, AreProperties, IsKey, AreParts, IsChain, IsChainBase}
 use Rattle.jsgen_token_laws.proofs.Writes.{wrote_both}
 use Rattle.jsgen_reading_laws.proofs.Families as family
 use Rattle.jsgen_reading_laws.proofs.Asked.{asked}
 use Rattle.jsgen_reading_laws.proofs.Names.{free_spelled, free_starts_none}
-use Rattle.jsgen_reading_laws.proofs.Numbers.{decimal_whole}
-use Rattle.jsgen_reading_laws.proofs.Good.{Good, Printed, TargetPrinted, may_begin}
+use Rattle.jsgen_reading_laws.proofs.Literals.{good_number, good_big_integer}
+use Rattle.jsgen_reading_laws.proofs.Good.{Printed, TargetPrinted, may_begin}
 use Rattle.jsgen_reading_laws.proofs.Operations.{good_operation}
 use Rattle.jsgen_reading_laws.proofs.Prefixes.{word_begins, good_unary_operation}
 use Rattle.jsgen_reading_laws.proofs.Chains.{good_logical_operation}
@@ -43,10 +41,10 @@ use Rattle.jsgen_reading_laws.proofs.Links.{ElementOf, ArgumentsAt, MoreArgument
 use Rattle.jsgen_reading_laws.proofs.OptionalChains.{ChainPrinted, BasePrinted, base_expression, base_chain, optional_named_member, optional_computed_member, optional_call, further_named_member, further_computed_member, further_call, good_chain}
 use Rattle.jsgen_reading_laws.proofs.Collections.{ElementsOf, no_elements, first_of_elements, left_out_of_elements, good_array, PropertiesOf, no_properties, first_of_properties, good_object}
 use Rattle.jsgen_reading_laws.proofs.Updates.{good_update}
+use Rattle.jsgen_reading_laws.proofs.Properties.{KeyOf, PropertyOf, good_name_key, good_string_key, good_number_key, good_big_integer_key, good_computed_key, good_spread_property, good_property}
 use Rattle.jsgen_reading_laws.proofs.Choices.{good_choice}
 use Rattle.jsgen_reading_laws.proofs.Assignments.{good_assignment}
 use Rattle.jsgen_reading_laws.proofs.Sequences.{MorePartsAt, good_sequence, no_more_parts, one_more_part}
-use Rattle.jsgen_reading_laws.proofs.Properties.{KeyOf, PropertyOf, good_name_key, good_string_key, good_number_key, good_computed_key, good_spread_property, good_property}
 
 -- ---- names and numbers
 
@@ -172,33 +170,6 @@ good_new_target c a place p l z y k =
       same = refl;
     }
 
-number_begins : (start : Start) (line : Bool) (w : List ℕ) (b : Tokens) → may_begin start (piece line (Number w) b) ≡ true
-number_begins nowhere line w b = refl
-number_begins statement line w b = refl
-number_begins arrow_body line w b = refl
-number_begins default_export line w b = refl
-
-pub good_number : (c : Allowed) (a : Atoms) → is_whole (numeric_literal_kind a) a ≡ true → Printed c (tree.numeric_literal a)
-good_number c a h place p l z y k = by (numeric_literal_kind a) refl h
-  where
-    w : List ℕ
-    w = decimal (numeric_literal_digits a)
-
-    by : (kind : NumericKind) → numeric_literal_kind a ≡ kind → is_whole kind a ≡ true → Good p l (layout (number_item kind a) p) (under place c) (level_of place) place.start (tree.numeric_literal a)
-    by Whole e h = record {
-      last = _;
-      tokens = piece (line_of l) (Number w) done;
-      writes = wrote_whole w p l (decimal_whole (numeric_literal_digits a) (ltb-true (numeric_literal_digits a) _ h)) y k;
-      operand = tt;
-      semicolon = z;
-      begins = λ b n. number_begins place.start (line_of l) w b;
-      line = λ g. ap not g;
-      tree = tree.numeric_literal (by_text w);
-      reads = from_primary place grammar.a_number;
-      same = ap (λ x. tree.numeric_literal (by_text (number_text x a))) (sym e);
-    }
-    by Raw e h = absurd (both_ways false refl h)
-
 -- ---- strings
 
 quoted_begins : (start : Start) (line : Bool) (q : Quote) (w : List ℕ) (b : Tokens) → may_begin start (piece line (Quoted q w) b) ≡ true
@@ -242,6 +213,7 @@ mutual
   printed_expression {c} (family.a_null {a}) = good_null c a
   printed_expression {c} (family.a_boolean {a}) = good_boolean c a
   printed_expression {c} (family.a_number {a} h) = good_number c a h
+  printed_expression {c} (family.a_big_integer {a} h) = good_big_integer c a h
   printed_expression {c} (family.a_string {a} h) = good_string c a h
   printed_expression {c} (family.in_parentheses {a} {t} v) = good_parenthesized c a t (printed_expression v)
   printed_expression {c} (family.an_operation {a} {l} {r} v w) = good_operation c a l r (asked v).unary (printed_expression v) (printed_expression w)
@@ -306,6 +278,7 @@ mutual
   printed_key {c} (family.a_name_key {a} h) = good_name_key c a h
   printed_key {c} (family.a_string_key {a} h) = good_string_key c a h
   printed_key {c} (family.a_number_key {a} h) = good_number_key c a h
+  printed_key {c} (family.a_big_integer_key {a} h m) = good_big_integer_key c a h m
   printed_key {c} (family.a_computed_key {t} v) = good_computed_key v (printed_expression v)
 
   printed_elements : {c : Allowed} {es : Trees} → AreElements c es → ElementsOf c es

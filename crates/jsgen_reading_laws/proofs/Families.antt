@@ -1,12 +1,13 @@
 -- The trees over which the induction goes. They follow from the rules, one lemma a row.
-use Rattle.std.proofs.Common.{◌≡◌, ℕ, Bool, true, false, not, ◌&&◌, ◌||◌, ◌++◌, List, [], ◌∷◌, Option, Some, None, is_some, refl, ap}
-use Rattle.std.proofs.lemmas.Bool.{both_ways, and_parts, and_from, or_parts}
+use Rattle.std.proofs.Common.{◌≡◌, ◌^◌, nat_lt, ℕ, Bool, true, false, not, ◌&&◌, ◌||◌, ◌++◌, List, [], ◌∷◌, Option, Some, None, is_some, refl, ap}
+use Rattle.std.proofs.lemmas.Bool.{both_ways, and_parts, and_from, not-true, or_parts}
 use Rattle.jsgen_tree.specs.Atom.{Atom, text}
 use Rattle.jsgen_tree.specs.Atom as atoms
 use Rattle.jsgen_tree.specs.Tree.{Tree, node, Maybe, absent, given, Trees, no_trees, more, hole, Atoms, type_of, span_of}
 use Rattle.jsgen_tree.specs.Nodes as tree
-use Rattle.jsgen_tree.specs.Values.{as_text, program_kind, directive_directive, binding_identifier_name, identifier_reference_name, identifier_name_name, numeric_literal_kind, string_literal_value, variable_declaration_declare, variable_declarator_definite, static_member_expression_optional, computed_member_expression_optional, call_expression_optional, object_property_method, object_property_shorthand, object_property_computed}
-use Rattle.jsgen_tree.specs.Inside.{has_optional_link}
+use Rattle.jsgen_tree.specs.Values.{as_text, program_kind, directive_directive, binding_identifier_name, identifier_reference_name, identifier_name_name, numeric_literal_kind, numeric_literal_digits, numeric_literal_text, big_int_literal_value, string_literal_value, variable_declaration_declare, variable_declarator_definite, static_member_expression_optional, computed_member_expression_optional, call_expression_optional, object_property_method, object_property_shorthand, object_property_computed}
+use Rattle.jsgen_tree.specs.Number.{NumericKind, Whole, Raw}
+use Rattle.jsgen_tree.specs.Inside.{is_negative_big_integer, has_optional_link}
 use Rattle.jsgen_tree.specs.Everywhere.{EverywhereIfGiven, EverywhereInTrees}
 use Rattle.jsgen_tree.specs.Sets.{in_set, is_expression, is_argument, is_statement, is_binding_pattern, is_variable_declarator, is_identifier_name, is_directive, is_simple_assignment_target, is_assignment_target, is_object_property_kind}
 use Rattle.jsgen_tree.specs.declared.types.NodeType.{NodeType}
@@ -18,10 +19,16 @@ use Rattle.jsgen_syntax.specs.Raw.{directive_value}
 use Rattle.jsgen_syntax.specs.Wtf8.{are_units}
 use Rattle.jsgen_model.specs.declared.fault.TreeFault.{TreeFault}
 use Rattle.jsgen_model.specs.declared.fault.TreeFault.TheVariants as faults
+use Rattle.jsgen_model.specs.Numbers.{is_raw_number, is_big_integer}
 use Rattle.jsgen_model.specs.Grammar.{Allowed, in_module}
-use Rattle.jsgen_model.specs.Plain.{IsPlain, is_plain_row, is_module, is_whole, is_raw, is_absent, has_no_hole}
+use Rattle.jsgen_model.specs.Plain.{IsPlain, is_plain_row, is_module, is_number, is_raw, is_absent, has_no_hole}
 use Rattle.jsgen_model.specs.Normal.{or_none, directive_units}
-use Rattle.jsgen_model.specs.Valid.{Surroundings, ChildPlace, takes_super, is_super, may_stand, breaches, in_maybe, in_trees, fault_if, set_faults, span_faults, own_faults, body_faults, name_faults, directive_faults, written_name_faults, declaration_faults, sequence_faults, is_literal_key, key_faults, shorthand_faults, takes_optional_link, link_faults, super_faults, chain_faults, target_faults}
+use Rattle.jsgen_model.specs.Valid.{Surroundings, ChildPlace, takes_super, is_super, may_stand, breaches, in_maybe, in_trees, fault_if, set_faults, span_faults, own_faults, body_faults, name_faults, directive_faults, written_name_faults, number_faults, big_integer_faults, declaration_faults, is_literal_key, may_be_key, key_faults, shorthand_faults, sequence_faults, takes_optional_link, link_faults, super_faults, chain_faults, target_faults}
+
+-- the value of a number: a whole one of 128 bits, or the text of one
+abbrev pub has_value : NumericKind → Atoms → Bool
+has_value Whole a = nat_lt (numeric_literal_digits a) (2 ^ 128)
+has_value Raw a = is_raw_number (numeric_literal_text a)
 
 mutual
   -- what a link goes on from
@@ -34,7 +41,8 @@ mutual
     a_this : {c : Allowed} {a : Atoms} → IsExpression c (tree.this_expression a)
     a_null : {c : Allowed} {a : Atoms} → IsExpression c (tree.null_literal a)
     a_boolean : {c : Allowed} {a : Atoms} → IsExpression c (tree.boolean_literal a)
-    a_number : {c : Allowed} {a : Atoms} → is_whole (numeric_literal_kind a) a ≡ true → IsExpression c (tree.numeric_literal a)
+    a_number : {c : Allowed} {a : Atoms} → has_value (numeric_literal_kind a) a ≡ true → IsExpression c (tree.numeric_literal a)
+    a_big_integer : {c : Allowed} {a : Atoms} → is_big_integer (big_int_literal_value a) ≡ true → IsExpression c (tree.big_int_literal a)
     a_string : {c : Allowed} {a : Atoms} → are_units (string_literal_value a) ≡ true → IsExpression c (tree.string_literal a)
     in_parentheses : {c : Allowed} {a : Atoms} {t : Tree} → IsExpression c t → IsExpression c (tree.parenthesized a t)
     a_named_member : {c : Allowed} {a b : Atoms} {o : Tree} → static_member_expression_optional a ≡ false → IsLink c o → spells_name (identifier_name_name b) ≡ true → IsExpression c (tree.static_member a o (tree.identifier_name b))
@@ -85,7 +93,8 @@ mutual
   pub data IsKey : Allowed → Bool → Tree → Type 0 where
     a_name_key : {c : Allowed} {a : Atoms} → spells_name (identifier_name_name a) ≡ true → IsKey c false (tree.identifier_name a)
     a_string_key : {c : Allowed} {a : Atoms} → are_units (string_literal_value a) ≡ true → IsKey c false (tree.string_literal a)
-    a_number_key : {c : Allowed} {a : Atoms} → is_whole (numeric_literal_kind a) a ≡ true → IsKey c false (tree.numeric_literal a)
+    a_number_key : {c : Allowed} {a : Atoms} → has_value (numeric_literal_kind a) a ≡ true → IsKey c false (tree.numeric_literal a)
+    a_big_integer_key : {c : Allowed} {a : Atoms} → is_big_integer (big_int_literal_value a) ≡ true → is_negative_big_integer (tree.big_int_literal a) ≡ false → IsKey c false (tree.big_int_literal a)
     a_computed_key : {c : Allowed} {t : Tree} → IsExpression c t → IsKey c true t
 
   pub data AreArguments : Allowed → Trees → Type 0 where
@@ -267,15 +276,26 @@ none_in_object t p s n = search no_truth
 key_stands : (t : Tree) → is_expression (type_of t) ≡ true → StandsAt sets.PropertyKey t → StandsAt sets.Expression t
 key_stands t s m = (and_from (is_expression (type_of t)) (false || not (is_super (type_of t))) s (and_parts (in_set sets.PropertyKey (type_of t)) (false || not (is_super (type_of t))) m.0).1, m.1)
 
-literal_key_valid : (c : Allowed) (around : Surroundings) (k : Tree) → IsPlain k → is_literal_key (type_of k) ≡ true → breaches around k ≡ [] → IsKey c false k
-literal_key_valid c around (tree.identifier_name a) p s e = a_name_key (none_unless (spells_name (identifier_name_name a)) (faults.Name a.span.start) (parts (span_faults a.span) (written_name_faults a.span (identifier_name_name a)) [] e).0)
-literal_key_valid c around (tree.string_literal a) p s e = a_string_key p.0
-literal_key_valid c around (tree.numeric_literal a) p s e = a_number_key p.0
-literal_key_valid c around k p s e = absurd (search no_truth)
+big_valued : (around : Surroundings) (a : Atoms) → breaches around (tree.big_int_literal a) ≡ [] → is_big_integer (big_int_literal_value a) ≡ true
+big_valued around a e = none_unless (is_big_integer (big_int_literal_value a)) (faults.Literal a.span.start) (parts (span_faults a.span) (big_integer_faults a.span (big_int_literal_value a)) [] e).0
+
+-- a number whose value is at no fault has one
+number_valued : (kind : NumericKind) (a : Atoms) → is_number kind a ≡ true → number_faults a.span kind (numeric_literal_text a) ≡ [] → has_value kind a ≡ true
+number_valued Whole a p e = p
+number_valued Raw a p e = none_unless (is_raw_number (numeric_literal_text a)) (faults.Literal a.span.start) e
+
+literal_key_valid : (c : Allowed) (around : Surroundings) (k : Tree) → IsPlain k → is_literal_key (type_of k) ≡ true → is_negative_big_integer k ≡ false → breaches around k ≡ [] → IsKey c false k
+literal_key_valid c around (tree.identifier_name a) p s m e = a_name_key (none_unless (spells_name (identifier_name_name a)) (faults.Name a.span.start) (parts (span_faults a.span) (written_name_faults a.span (identifier_name_name a)) [] e).0)
+literal_key_valid c around (tree.string_literal a) p s m e = a_string_key p.0
+literal_key_valid c around (tree.numeric_literal a) p s m e = a_number_key (number_valued (numeric_literal_kind a) a p.0 (parts (span_faults a.span) (number_faults a.span (numeric_literal_kind a) (numeric_literal_text a)) [] e).0)
+literal_key_valid c around (tree.big_int_literal a) p s m e = a_big_integer_key (big_valued around a e) m
+literal_key_valid c around k p s m e = absurd (search no_truth)
 
 key_valid : (c : Allowed) (around : Surroundings) (computed : Bool) (k : Tree) → IsPlain k → key_faults computed k ≡ [] → breaches around k ≡ [] → (is_expression (type_of k) ≡ true → IsExpression c k) → IsKey c computed k
 key_valid c around true k p f e h = a_computed_key (h (none_unless (is_expression (type_of k)) (faults.Place (span_of k).start) f))
-key_valid c around false k p f e h = literal_key_valid c around k p (none_unless (is_literal_key (type_of k)) (faults.Place (span_of k).start) f) e
+key_valid c around false k p f e h =
+    let m = and_parts (is_literal_key (type_of k)) (not (is_negative_big_integer k)) (none_unless (may_be_key false k) (faults.Place (span_of k).start) f) in
+    literal_key_valid c around k p m.0 (not-true (is_negative_big_integer k) m.1) e
 
 -- a link of a chain is optional, or goes on from one
 link_kind : {A : Type 0} (b : Bool) (o : Tree) → (b || has_optional_link o) ≡ true → super_faults b o ≡ [] → (b ≡ true → super_faults true o ≡ [] → A) → (b ≡ false → has_optional_link o ≡ true → A) → A
@@ -288,7 +308,8 @@ mutual
   expression_valid c around (tree.this_expression a) p s e = a_this
   expression_valid c around (tree.null_literal a) p s e = a_null
   expression_valid c around (tree.boolean_literal a) p s e = a_boolean
-  expression_valid c around (tree.numeric_literal a) p s e = a_number p.0
+  expression_valid c around (tree.numeric_literal a) p s e = a_number (number_valued (numeric_literal_kind a) a p.0 (parts (span_faults a.span) (number_faults a.span (numeric_literal_kind a) (numeric_literal_text a)) [] e).0)
+  expression_valid c around (tree.big_int_literal a) p s e = a_big_integer (big_valued around a e)
   expression_valid c around (tree.string_literal a) p s e = a_string p.0
   expression_valid c around (tree.parenthesized a t) p s e =
       let k = standing around sets.Expression t [] (parts (span_faults a.span) [] _ e).1 in

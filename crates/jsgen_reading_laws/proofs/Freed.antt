@@ -66,7 +66,8 @@ mutual
   freed grammar.a_null = grammar.a_null
   freed grammar.a_true = grammar.a_true
   freed grammar.a_false = grammar.a_false
-  freed grammar.a_number = grammar.a_number
+  freed (grammar.a_number h) = grammar.a_number h
+  freed (grammar.a_big_integer e) = grammar.a_big_integer e
   freed (grammar.a_string x) = grammar.a_string x
   freed (grammar.in_parentheses x) = grammar.in_parentheses x
   freed (grammar.an_optional_chain x) = grammar.an_optional_chain (freed_chain x)

@@ -12,6 +12,7 @@ pub mod Joined
 pub mod Chains
 pub mod Prefixes
 pub mod Links
+pub mod Literals
 pub mod OptionalChains
 pub mod Properties
 pub mod Collections

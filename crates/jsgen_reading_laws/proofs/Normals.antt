@@ -1,15 +1,16 @@
 -- A normal form is its own.
 use Rattle.std.specs.Option.{option_map_or}
-use Rattle.std.proofs.Common.{◌≡◌, Bool, true, false, ◌&&◌, cond, [], ◌∷◌, refl, ap, ◌∙◌}
+use Rattle.std.proofs.Common.{◌≡◌, ℕ, List, Bool, true, false, ◌&&◌, ◌||◌, cond, [], ◌∷◌, Option, Some, None, is_some, option_and_then, if◌then◌else◌, refl, sym, ap, subst, ◌∙◌}
 use Rattle.jsgen_syntax.specs.declared.operator.LogicalOperator.{LogicalOperator}
 use Rattle.jsgen_tree.specs.Atom.{no_value, declaration_kind, binary_operator, logical_operator, unary_operator, update_operator, assignment_operator, flag, property_kind}
 use Rattle.jsgen_tree.specs.Tree.{Tree, node, Slots, no_slots, one, maybe, many, maybe_many, Maybe, absent, given, Trees, no_trees, more, hole, MaybeTrees, no_list, listed}
 use Rattle.jsgen_tree.specs.Places.{bare}
-use Rattle.jsgen_tree.specs.Values.{variable_declaration_kind, variable_declaration_declare, variable_declarator_definite, static_member_expression_optional, computed_member_expression_optional, call_expression_optional, binary_expression_operator, logical_expression_operator, unary_expression_operator, update_expression_operator, update_expression_prefix, assignment_expression_operator, identifier_name_name, object_property_kind, object_property_method, object_property_shorthand, object_property_computed}
-use Rattle.jsgen_tree.specs.Inside.{ends_open, written_name_in, is_proto}
+use Rattle.jsgen_tree.specs.Values.{variable_declaration_kind, variable_declaration_declare, variable_declarator_definite, static_member_expression_optional, computed_member_expression_optional, call_expression_optional, binary_expression_operator, logical_expression_operator, unary_expression_operator, update_expression_operator, update_expression_prefix, identifier_name_name, numeric_literal_kind, numeric_literal_negative, big_int_literal_value, object_property_kind, object_property_method, object_property_shorthand, object_property_computed, assignment_expression_operator}
+use Rattle.jsgen_tree.specs.Inside.{ends_open, written_name_in, is_proto, after_minus, unless_minus, behind_minus, is_negative_number}
 use Rattle.jsgen_tree.specs.Nodes as tree
 use Rattle.std.proofs.lemmas.Bool.{both_ways}
-use Rattle.jsgen_model.specs.Normal.{normal, normal_slots, normal_maybe, normal_trees, normal_maybe_trees, unbraced, nothing_of, is_proto_shorthand, chain, same_operator, joined, links, parts_of, flattened, link_values, call_values}
+use Rattle.std.proofs.lemmas.Option.{same_Some}
+use Rattle.jsgen_model.specs.Normal.{normal, normal_slots, normal_maybe, normal_trees, normal_maybe_trees, unbraced, nothing_of, by_text, number_text, minus_before, big_integer, is_computed, is_proto_shorthand, chain, same_operator, joined, links, parts_of, flattened, link_values, call_values}
 use Rattle.jsgen_reading_laws.proofs.Joined.{joined_normal, joined_nothing, flattened_joined}
 
 -- ---- chains
@@ -79,6 +80,53 @@ proto_again : (s : Bool) (key : Tree) → is_proto_shorthand (is_proto_shorthand
 proto_again s (tree.identifier_name a) = and_again (is_proto (identifier_name_name a)) s
 proto_again s key = and_false (option_map_or is_proto (written_name_in (normal key)) false)
 
+-- ---- numbers
+
+number_again : (negative : Bool) (w : List ℕ) → normal (minus_before negative (tree.numeric_literal (by_text w))) ≡ minus_before negative (tree.numeric_literal (by_text w))
+number_again true w = refl
+number_again false w = refl
+
+-- behind the one minus stands none
+no_minus_behind : (v w : List ℕ) → behind_minus v ≡ Some w → behind_minus w ≡ None
+no_minus_behind v w e = from (after_minus v) e
+  where
+    once : (u : List ℕ) (b : Bool) → is_some (after_minus u) ≡ b → (if b then None else Some u) ≡ Some w → behind_minus w ≡ None
+    once u true f e = absurd (both_ways false refl (ap is_some e))
+    once u false f e = subst (λ x. behind_minus x ≡ None) (same_Some u w e) (unsigned (after_minus u) f)
+      where
+        unsigned : (o : Option (List ℕ)) → is_some o ≡ false → option_and_then unless_minus o ≡ None
+        unsigned None f = refl
+        unsigned (Some x) f = absurd (both_ways true f refl)
+
+    from : (o : Option (List ℕ)) → option_and_then unless_minus o ≡ Some w → behind_minus w ≡ None
+    from None e = absurd (both_ways false refl (ap is_some e))
+    from (Some u) e = once u (is_some (after_minus u)) refl e
+
+big_integer_again : (v : List ℕ) (o : Option (List ℕ)) → behind_minus v ≡ o → normal (big_integer v o) ≡ big_integer v o
+big_integer_again v (Some w) e = ap (λ t. minus_before true t) (ap (big_integer w) (no_minus_behind v w e))
+big_integer_again v None e = ap (big_integer v) e
+
+-- what stands in brackets does so in the normal form, where no key is a negative number
+or_again : (a b : Bool) → ((a || b) || false) ≡ (a || b)
+or_again true b = refl
+or_again false true = refl
+or_again false false = refl
+
+abbrev is_unary : Tree → Bool
+is_unary (tree.unary a argument) = true
+is_unary t = false
+
+no_negative_number : (t : Tree) → normal t ≡ t → is_negative_number t ≡ false
+no_negative_number (tree.numeric_literal a) e = by (numeric_literal_negative a) refl
+  where
+    by : (b : Bool) → numeric_literal_negative a ≡ b → b ≡ false
+    by true n = absurd (both_ways true (ap is_unary (sym (ap (λ x. minus_before x (tree.numeric_literal (by_text (number_text (numeric_literal_kind a) a)))) n) ∙ e)) refl)
+    by false n = refl
+no_negative_number t e = refl
+
+computed_again : (computed : Bool) (key : Tree) → normal (normal key) ≡ normal key → is_computed (is_computed computed key) (normal key) ≡ is_computed computed key
+computed_again computed key e = ap (λ b. (computed || is_negative_number key) || b) (no_negative_number (normal key) e) ∙ or_again computed (is_negative_number key)
+
 -- ---- the whole
 
 mutual
@@ -93,7 +141,8 @@ mutual
   normal_again (tree.this_expression a) = refl
   normal_again (tree.null_literal a) = refl
   normal_again (tree.boolean_literal a) = refl
-  normal_again (tree.numeric_literal a) = refl
+  normal_again (tree.numeric_literal a) = number_again (numeric_literal_negative a) (number_text (numeric_literal_kind a) a)
+  normal_again (tree.big_int_literal a) = big_integer_again (big_int_literal_value a) (behind_minus (big_int_literal_value a)) refl
   normal_again (tree.string_literal a) = refl
   normal_again (tree.parenthesized a expression) = normal_again expression
   normal_again (tree.binary a left right) = let e = normal_again left in let f = normal_again right in λ i. tree.binary (bare (binary_operator (binary_expression_operator a) ∷ [])) (e i) (f i)
@@ -112,7 +161,8 @@ mutual
       let e = normal_again key in
       let f = normal_again value in
       let g = proto_again (object_property_shorthand a) key in
-      λ i. tree.object_property (bare (property_kind (object_property_kind a) ∷ object_property_method a ∷ flag (g i) ∷ flag (object_property_computed a) ∷ [])) (e i) (f i)
+      let h = computed_again (object_property_computed a) key e in
+      λ i. tree.object_property (bare (property_kind (object_property_kind a) ∷ object_property_method a ∷ flag (g i) ∷ flag (h i) ∷ [])) (e i) (f i)
   normal_again (tree.spread a argument) = ap (λ e. tree.spread (nothing_of 0) e) (normal_again argument)
   normal_again (tree.unary a argument) = ap (λ e. tree.unary (bare (unary_operator (unary_expression_operator a) ∷ [])) e) (normal_again argument)
   normal_again (tree.update a argument) = ap (λ e. tree.update (bare (update_operator (update_expression_operator a) ∷ flag (update_expression_prefix a) ∷ [])) e) (normal_again argument)

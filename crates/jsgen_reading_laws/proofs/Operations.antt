@@ -24,7 +24,7 @@ use Rattle.jsgen_token_laws.proofs.Characters.{letters_spelled}
 use Rattle.jsgen_token_laws.proofs.Last.{Last, After, Ready, Knows, NoDot}
 use Rattle.jsgen_token_laws.proofs.Steps.{wrote_word, wrote_operator}
 use Rattle.jsgen_reading_laws.proofs.Levels.{number_of, operation_number, read_at, under, looser, lifted, unwrapped}
-use Rattle.jsgen_reading_laws.proofs.Asked.{is_unary}
+use Rattle.jsgen_reading_laws.proofs.Asked.{is_unary, is_signed}
 use Rattle.jsgen_reading_laws.proofs.Good.{Good, Printed, Between, good_at, good_since, good_wrapped, good_infix}
 
 -- ---- the token between the operands
@@ -70,13 +70,15 @@ no_unary d n (grammar.a_unary_operation o r) = absurd (both_ways true n refl)
 no_unary d n (grammar.an_operation o m p k q s t) = absurd (omega (arith, operation_number o, ap number_of d))
 no_unary d n r = absurd (omega (arith, ap number_of d))
 
-not_prefixed : (t : Tree) → is_prefixed t ≡ false → is_unary t ≡ false
+not_prefixed : (t : Tree) → is_prefixed t ≡ false → is_signed t ≡ false
 not_prefixed (tree.unary a argument) h = absurd (both_ways true h refl)
+not_prefixed (tree.numeric_literal a) h = absurd (both_ways true h refl)
+not_prefixed (tree.big_int_literal a) h = absurd (both_ways true h refl)
 not_prefixed t h = refl
 
--- of a unary operation the normal form is one, and of nothing else
+-- of a unary operation, and of a number with a minus before it, the normal form is one, and of nothing else
 abbrev IsToldByForm : Tree → Type 0
-IsToldByForm t = is_unary (normal t) ≡ is_unary (without_parentheses t)
+IsToldByForm t = is_unary (normal t) ≡ is_signed (without_parentheses t)
 
 power_left : (c : Allowed) (t : Tree) → IsToldByForm t → Printed c t → (place : Place) (p : Pen) (l : Last) → p.pending_semicolon ≡ false → Ready l → Knows p l → Good p l (layout (spell t (left_of (left_level operators.Exponential t) place)) p) (under place c) grammar.Update place.start t
 power_left c t h f place p l z y k = go (is_prefixed (without_parentheses t)) refl

@@ -1,7 +1,7 @@
 -- Keys and properties.
-use Rattle.std.proofs.Common.{◌≡◌, ℕ, Bool, true, false, ◌&&◌, cond, if◌then◌else◌, decimal, nat_le, Option, Some, None, is_some, List, [], ◌∷◌, bytes_eq, refl, sym, ap, ◌∙◌, subst}
+use Rattle.std.proofs.Common.{◌≡◌, ℕ, Bool, true, false, not, ◌&&◌, ◌||◌, cond, if◌then◌else◌, decimal, nat_le, Option, Some, None, is_some, List, [], ◌∷◌, bytes_eq, refl, sym, ap, ◌∙◌, subst}
 use Rattle.std.specs.Option.{option_map_or}
-use Rattle.std.proofs.lemmas.Bool.{both_ways, ltb-true}
+use Rattle.std.proofs.lemmas.Bool.{both_ways}
 use Rattle.std.proofs.lemmas.Option.{same_Some}
 use Rattle.std.proofs.lemmas.Slice.Eq.{bytes_eq-Decides}
 use Rattle.jsgen_syntax.specs.Escapes.{name_text}
@@ -18,28 +18,28 @@ use Rattle.jsgen_tree.specs.Number.{NumericKind, Whole, Raw}
 use Rattle.jsgen_tree.specs.Tree.{Tree, Atoms, span_of}
 use Rattle.jsgen_tree.specs.Nodes as tree
 use Rattle.jsgen_tree.specs.Places.{bare}
-use Rattle.jsgen_tree.specs.Inside.{without_parentheses, reference_in, written_name_in, is_proto}
-use Rattle.jsgen_tree.specs.Values.{identifier_name_name, identifier_reference_name, numeric_literal_kind, numeric_literal_digits, string_literal_value, object_property_kind, object_property_method, object_property_shorthand, object_property_computed}
+use Rattle.jsgen_tree.specs.Inside.{without_parentheses, reference_in, written_name_in, is_proto, behind_minus, is_negative_big_integer}
+use Rattle.jsgen_tree.specs.Values.{identifier_name_name, identifier_reference_name, numeric_literal_kind, numeric_literal_negative, numeric_literal_digits, numeric_literal_text, big_int_literal_value, string_literal_value, object_property_kind, object_property_method, object_property_shorthand, object_property_computed}
 use Rattle.jsgen_tree.specs.declared.collections.PropertyKind.{PropertyKind}
 use Rattle.jsgen_tree.specs.declared.collections.PropertyKind.TheVariants as kinds
 use Rattle.jsgen_model.specs.declared.fault.TreeFault.{TreeFault}
 use Rattle.jsgen_model.specs.Punctuator.{colon, ellipsis, Square, opening}
+use Rattle.jsgen_model.specs.Numbers.{takes_no_dot, is_big_integer}
 use Rattle.jsgen_model.specs.Tokens.{Tokens, done, piece, group, ◌⧺◌, Word, Number, Quoted, Sign}
-use Rattle.jsgen_model.specs.Items.{Items, name, string, punctuator, soft_space}
+use Rattle.jsgen_model.specs.Items.{Items, name, number, string, punctuator, soft_space}
 use Rattle.jsgen_model.specs.Layout.{Pen, Style, other_end, layout, written, chosen_quote, but_backticks}
 use Rattle.jsgen_model.specs.Grammar.{Allowed, ReadsExpression, ReadsKey, ReadsProperty, property_values, with_in}
 use Rattle.jsgen_model.specs.Grammar as grammar
-use Rattle.jsgen_model.specs.Normal.{normal, nothing_of, named, unnumbered, by_text, number_text, is_proto_shorthand}
-use Rattle.jsgen_model.specs.Plain.{is_whole}
-use Rattle.jsgen_model.specs.Spell.{Place, spell, in_brackets, in_front, key_text, key_items, says_name, is_short, property_items, number_item}
+use Rattle.jsgen_model.specs.Normal.{normal, nothing_of, named, unnumbered, by_text, number_text, minus_before, big_integer, is_computed, is_proto_shorthand}
+use Rattle.jsgen_model.specs.Spell.{Place, spell, in_brackets, in_front, key_text, needs_brackets, key_items, says_name, is_short, property_items, signed, number_items, big_text, big_integer_items}
 use Rattle.jsgen_model.specs.Valid.{named_faults, shorthand_faults}
 use Rattle.jsgen_token_laws.proofs.Last.{Last, Open, After, line_of, Operand, Begun, begun_ready, Knows}
 use Rattle.jsgen_token_laws.proofs.Writes.{Writes, wrote_both}
-use Rattle.jsgen_token_laws.proofs.Steps.{wrote_name, wrote_whole, wrote_quoted, wrote_punctuator, wrote_dots, within_brackets, brackets_written, soft_space_written}
-use Rattle.jsgen_reading_laws.proofs.Families.{IsExpression, IsKey, none_unless}
+use Rattle.jsgen_token_laws.proofs.Steps.{wrote_name, wrote_quoted, wrote_punctuator, wrote_dots, within_brackets, brackets_written, soft_space_written, wrote_whole}
+use Rattle.jsgen_reading_laws.proofs.Families.{IsExpression, IsKey, none_unless, has_value}
 use Rattle.jsgen_reading_laws.proofs.Families as family
 use Rattle.jsgen_reading_laws.proofs.Names.{free_spelled}
-use Rattle.jsgen_reading_laws.proofs.Numbers.{decimal_whole}
+use Rattle.jsgen_reading_laws.proofs.Literals.{Numeral, whole_numeral, raw_numeral, big_numeral, big_whole, good_number}
 use Rattle.jsgen_reading_laws.proofs.Levels.{from_primary}
 use Rattle.jsgen_reading_laws.proofs.Good.{Good, Printed}
 use Rattle.jsgen_reading_laws.proofs.Lists.{Element, ElementAt}
@@ -58,9 +58,12 @@ pub record GoodKey (p : Pen) (l : Last) (q : Pen) (c : Allowed) (computed : Bool
   pub reads : ReadsKey c computed tokens tree
   pub same : normal tree ≡ normal t
 
--- at the place of its property
+-- in brackets or alone, at the place of its property
+abbrev KeyAt : Allowed → Bool → Tree → Type 0
+KeyAt c brackets t = (place : Place) (p : Pen) (l : Last) → p.pending_semicolon ≡ false → Begun l → Knows p l → GoodKey p l (layout (key_items brackets t (spell t (in_brackets levels.Comma place)) (spell t (in_front levels.Comma place))) p) (with_in c) brackets t
+
 abbrev pub KeyOf : Allowed → Bool → Tree → Type 0
-KeyOf c computed t = (place : Place) (p : Pen) (l : Last) → p.pending_semicolon ≡ false → Begun l → Knows p l → GoodKey p l (layout (key_items computed t (spell t (in_brackets levels.Comma place)) (spell t (in_front levels.Comma place))) p) (with_in c) computed t
+KeyOf c computed t = KeyAt c (needs_brackets computed t) t
 
 pub good_name_key : (c : Allowed) (a : Atoms) → spells_name (identifier_name_name a) ≡ true → KeyOf c false (tree.identifier_name a)
 good_name_key c a h place p l z b k =
@@ -110,25 +113,6 @@ good_string_key c a h place p l z b k =
       same = refl;
     }
 
-pub good_number_key : (c : Allowed) (a : Atoms) → is_whole (numeric_literal_kind a) a ≡ true → KeyOf c false (tree.numeric_literal a)
-good_number_key c a h place p l z b k = by (numeric_literal_kind a) refl h
-  where
-    w : List ℕ
-    w = decimal (numeric_literal_digits a)
-
-    by : (kind : NumericKind) → numeric_literal_kind a ≡ kind → is_whole kind a ≡ true → GoodKey p l (layout (number_item kind a) p) (with_in c) false (tree.numeric_literal a)
-    by Whole e h = record {
-      last = _;
-      tokens = piece (line_of l) (Number w) done;
-      writes = wrote_whole w p l (decimal_whole (numeric_literal_digits a) (ltb-true (numeric_literal_digits a) _ h)) (begun_ready l b) k;
-      operand = tt;
-      semicolon = z;
-      tree = tree.numeric_literal (by_text w);
-      reads = grammar.a_number_key;
-      same = ap (λ x. tree.numeric_literal (by_text (number_text x a))) (sym e);
-    }
-    by Raw e h = absurd (both_ways false refl h)
-
 -- a key in brackets is an expression, but no string in backticks
 abbrev ComputedText : Allowed → Tree → Type 0
 ComputedText c t = (place : Place) (p : Pen) → p.pending_semicolon ≡ false → Knows p (Open false) → Element (ReadsExpression (with_in c) grammar.Assignment) p (Open false) (layout (key_text t (spell t (in_brackets levels.Comma place))) p) t
@@ -167,6 +151,52 @@ good_computed_key {c} {t} v f place p l z b k =
       reads = grammar.a_computed_key g.reads;
       same = g.same;
     }
+
+-- ---- numbers
+
+-- a number alone
+numeral_key : (c : Allowed) (dot : Bool) (w : List ℕ) (t u : Tree) → Numeral dot w u → normal t ≡ u → (p : Pen) (l : Last) → p.pending_semicolon ≡ false → Begun l → Knows p l → GoodKey p l (layout (number dot w) p) (with_in c) false t
+numeral_key c dot w t u n e p l z b k = record {
+  last = _;
+  tokens = piece (line_of l) (Number w) done;
+  writes = n.writes p l (begun_ready l b) k;
+  operand = tt;
+  semicolon = z;
+  tree = n.reading;
+  reads = n.reads_key;
+  same = n.same ∙ sym e;
+}
+
+positive_key : (c : Allowed) (a : Atoms) → has_value (numeric_literal_kind a) a ≡ true → numeric_literal_negative a ≡ false → KeyAt c false (tree.numeric_literal a)
+positive_key c a h m place = by (numeric_literal_kind a) refl h
+  where
+    form : (kind : NumericKind) → numeric_literal_kind a ≡ kind → normal (tree.numeric_literal a) ≡ tree.numeric_literal (by_text (number_text kind a))
+    form kind e = ap (λ x. minus_before x (tree.numeric_literal (by_text (number_text (numeric_literal_kind a) a)))) m ∙ ap (λ x. tree.numeric_literal (by_text (number_text x a))) e
+
+    bare : (dot : Bool) (w : List ℕ) → normal (tree.numeric_literal a) ≡ tree.numeric_literal (by_text w) → Numeral dot w (tree.numeric_literal (by_text w)) → (p : Pen) (l : Last) → p.pending_semicolon ≡ false → Begun l → Knows p l → GoodKey p l (layout (signed dot (numeric_literal_negative a) w (in_front levels.Comma place)) p) (with_in c) false (tree.numeric_literal a)
+    bare dot w e n p l z b k = subst (λ x. GoodKey p l (layout (signed dot x w (in_front levels.Comma place)) p) (with_in c) false (tree.numeric_literal a)) (sym m) (numeral_key c dot w (tree.numeric_literal a) _ n e p l z b k)
+
+    by : (kind : NumericKind) → numeric_literal_kind a ≡ kind → has_value kind a ≡ true → (p : Pen) (l : Last) → p.pending_semicolon ≡ false → Begun l → Knows p l → GoodKey p l (layout (number_items kind a (in_front levels.Comma place)) p) (with_in c) false (tree.numeric_literal a)
+    by Whole e h = bare true (decimal (numeric_literal_digits a)) (form Whole e) (whole_numeral (numeric_literal_digits a) h)
+    by Raw e h = bare (not (takes_no_dot (numeric_literal_text a))) (numeric_literal_text a) (form Raw e) (raw_numeral (numeric_literal_text a) h)
+
+-- a negative number stands in brackets
+pub good_number_key : (c : Allowed) (a : Atoms) → has_value (numeric_literal_kind a) a ≡ true → KeyOf c false (tree.numeric_literal a)
+good_number_key c a h = by (numeric_literal_negative a) refl
+  where
+    by : (b : Bool) → numeric_literal_negative a ≡ b → KeyAt c (numeric_literal_negative a) (tree.numeric_literal a)
+    by true e = subst (λ x. KeyAt c x (tree.numeric_literal a)) (sym e) (good_computed_key (family.a_number {c = c} {a = a} h) (good_number c a h))
+    by false e = subst (λ x. KeyAt c x (tree.numeric_literal a)) (sym e) (positive_key c a h e)
+
+pub good_big_integer_key : (c : Allowed) (a : Atoms) → is_big_integer (big_int_literal_value a) ≡ true → is_negative_big_integer (tree.big_int_literal a) ≡ false → KeyOf c false (tree.big_int_literal a)
+good_big_integer_key c a h m place = by (behind_minus (big_int_literal_value a)) refl m
+  where
+    v : List ℕ
+    v = big_int_literal_value a
+
+    by : (o : Option (List ℕ)) → behind_minus v ≡ o → is_some o ≡ false → (p : Pen) (l : Last) → p.pending_semicolon ≡ false → Begun l → Knows p l → GoodKey p l (layout (big_integer_items v o (in_front levels.Comma place)) p) (with_in c) false (tree.big_int_literal a)
+    by (Some w) e m = absurd (both_ways true m refl)
+    by None e m = numeral_key c false (big_text v) (tree.big_int_literal a) _ (big_numeral v (big_whole v None h e)) (ap (big_integer v) e)
 
 -- ---- properties
 
@@ -244,16 +274,16 @@ said shorthand a value f h = by (is_proto (identifier_name_name a)) refl f h
 only_kind : (k : PropertyKind) → kinds.Init ≡ k
 only_kind kinds.Init = refl
 
-same_property : (a : Atoms) (s b : Bool) (k v x y : Tree) → object_property_method a ≡ no_value → is_proto_shorthand s k ≡ is_proto_shorthand (object_property_shorthand a) x → object_property_computed a ≡ b → normal k ≡ normal x → normal v ≡ normal y → normal (tree.object_property (property_values s b) k v) ≡ normal (tree.object_property a x y)
-same_property a s b k v x y m h d e f = λ i. tree.object_property (bare (property_kind (only_kind (object_property_kind a) i) ∷ sym m i ∷ flag (h i) ∷ flag (sym d i) ∷ [])) (e i) (f i)
+same_property : (a : Atoms) (s b : Bool) (k v x y : Tree) → object_property_method a ≡ no_value → is_proto_shorthand s k ≡ is_proto_shorthand (object_property_shorthand a) x → is_computed b k ≡ is_computed (object_property_computed a) x → normal k ≡ normal x → normal v ≡ normal y → normal (tree.object_property (property_values s b) k v) ≡ normal (tree.object_property a x y)
+same_property a s b k v x y m h d e f = λ i. tree.object_property (bare (property_kind (only_kind (object_property_kind a) i) ∷ sym m i ∷ flag (h i) ∷ flag (d i) ∷ [])) (e i) (f i)
 
 good_short_property : (c : Allowed) (a b : Atoms) (v : Tree) → object_property_method a ≡ no_value → object_property_computed a ≡ false → shorthand_faults (object_property_shorthand a) (tree.identifier_name b) v ≡ [] → is_short (object_property_shorthand a) (tree.identifier_name b) v ≡ true → IsExpression c v → PropertyOf c (tree.object_property a (tree.identifier_name b) v)
 good_short_property c a b v m d f h value place p l z y k =
     let w : List ℕ = identifier_name_name b in
     let says = said (object_property_shorthand a) b v f h in
     let r = referred value w says.reference in
-    let items : Items = property_items true (key_items (object_property_computed a) (tree.identifier_name b) (name w) (name w)) (name w) (name w) in
-    let laid : layout (spell (tree.object_property a (tree.identifier_name b) v) (in_brackets levels.Comma place)) p ≡ layout (name w) p = ap (λ s. layout (property_items s (key_items (object_property_computed a) (tree.identifier_name b) (name w) (name w)) (spell v (in_front levels.Comma (in_brackets levels.Comma place))) (spell v (in_brackets levels.Comma (in_brackets levels.Comma place)))) p) h ∙ ap (λ i. layout i p) (r.spelled (in_front levels.Comma (in_brackets levels.Comma place))) in
+    let items : Items = property_items true (key_items (needs_brackets (object_property_computed a) (tree.identifier_name b)) (tree.identifier_name b) (name w) (name w)) (name w) (name w) in
+    let laid : layout (spell (tree.object_property a (tree.identifier_name b) v) (in_brackets levels.Comma place)) p ≡ layout (name w) p = ap (λ s. layout (property_items s (key_items (needs_brackets (object_property_computed a) (tree.identifier_name b)) (tree.identifier_name b) (name w) (name w)) (spell v (in_front levels.Comma (in_brackets levels.Comma place))) (spell v (in_brackets levels.Comma (in_brackets levels.Comma place)))) p) h ∙ ap (λ i. layout i p) (r.spelled (in_front levels.Comma (in_brackets levels.Comma place))) in
     subst (λ q. Element (ReadsProperty (with_in c)) p l q (tree.object_property a (tree.identifier_name b) v)) (sym laid) (record {
       last = _;
       tokens = piece (line_of l) (Word (name_text p.style.ascii w)) done;
@@ -262,7 +292,7 @@ good_short_property c a b v m d f h value place p l z y k =
       semicolon = z;
       tree = tree.object_property (property_values true false) (tree.identifier_name (named w)) (tree.identifier_reference (unnumbered w));
       reads = grammar.a_shorthand (word_text_value p.style.ascii w (free_spelled w r.free)) r.free;
-      same = same_property a true false (tree.identifier_name (named w)) (tree.identifier_reference (unnumbered w)) (tree.identifier_name b) v m says.proto d refl (sym r.form);
+      same = same_property a true false (tree.identifier_name (named w)) (tree.identifier_reference (unnumbered w)) (tree.identifier_name b) v m says.proto (sym (ap (λ x. x || false) d)) refl (sym r.form);
     })
 
 -- an expression has no written name
@@ -274,6 +304,7 @@ short_property : (c : Allowed) (a : Atoms) {computed : Bool} {x v : Tree} → Is
 short_property c a {v = v} (family.a_name_key {a = b} h) m d f s value = good_short_property c a b v m d f s value
 short_property c a (family.a_string_key h) m d f s value = absurd (both_ways false refl s)
 short_property c a (family.a_number_key h) m d f s value = absurd (both_ways false refl s)
+short_property c a (family.a_big_integer_key h n) m d f s value = absurd (both_ways false refl s)
 short_property c a {v = v} (family.a_computed_key w) m d f s value = absurd (both_ways false refl (ap (λ o. option_map_or (λ n. says_name (object_property_shorthand a) n (reference_in (without_parentheses v))) o false) (sym (no_written_name w)) ∙ s))
 
 -- ---- a key and its value
@@ -294,16 +325,24 @@ not_said shorthand (Some w) r h = by (is_proto w) h
     by true h = h
     by false h = refl
 
-keyed_parts : (c : Allowed) (a : Atoms) (computed : Bool) (x v : Tree) (place : Place) (p p1 p2 p3 q : Pen) (l : Last) → object_property_method a ≡ no_value → object_property_computed a ≡ computed → is_short (object_property_shorthand a) x v ≡ false → (g : GoodKey p l p1 (with_in c) computed x) (o : Writes p1 g.last p2 (After (Sign colon)) (piece (line_of g.last) (Sign colon) done)) (n : Last) → Writes p2 (After (Sign colon)) p3 n done → Good p3 n q (with_in c) grammar.Assignment (in_brackets levels.Comma place).start v → Element (ReadsProperty (with_in c)) p l q (tree.object_property a x v)
+-- what is read as a key is computed as it stands
+read_computed : {c : Allowed} {b : Bool} {ts : Tokens} {k : Tree} → ReadsKey c b ts k → is_computed b k ≡ b
+read_computed (grammar.a_name_key e) = refl
+read_computed (grammar.a_string_key n e) = refl
+read_computed (grammar.a_number_key n) = refl
+read_computed (grammar.a_big_integer_key e) = refl
+read_computed (grammar.a_computed_key r) = refl
+
+keyed_parts : (c : Allowed) (a : Atoms) (computed : Bool) (x v : Tree) (place : Place) (p p1 p2 p3 q : Pen) (l : Last) → object_property_method a ≡ no_value → object_property_computed a ≡ computed → is_short (object_property_shorthand a) x v ≡ false → (g : GoodKey p l p1 (with_in c) (needs_brackets computed x) x) (o : Writes p1 g.last p2 (After (Sign colon)) (piece (line_of g.last) (Sign colon) done)) (n : Last) → Writes p2 (After (Sign colon)) p3 n done → Good p3 n q (with_in c) grammar.Assignment (in_brackets levels.Comma place).start v → Element (ReadsProperty (with_in c)) p l q (tree.object_property a x v)
 keyed_parts c a computed x v place p p1 p2 p3 q l m d s g o n w e = record {
   last = e.last;
   tokens = g.tokens ⧺ piece (line_of g.last) (Sign colon) e.tokens;
   writes = wrote_both g.writes (wrote_both o (wrote_both w e.writes));
   operand = e.operand;
   semicolon = e.semicolon;
-  tree = tree.object_property (property_values false computed) g.tree e.tree;
+  tree = tree.object_property (property_values false (needs_brackets computed x)) g.tree e.tree;
   reads = grammar.a_property (line_of g.last) refl g.reads e.reads;
-  same = same_property a false computed g.tree e.tree x v m (no_shorthand g.tree ∙ sym (not_said (object_property_shorthand a) (written_name_in x) (reference_in (without_parentheses v)) s)) d g.same e.same;
+  same = same_property a false (needs_brackets computed x) g.tree e.tree x v m (no_shorthand g.tree ∙ sym (not_said (object_property_shorthand a) (written_name_in x) (reference_in (without_parentheses v)) s)) (read_computed g.reads ∙ sym (ap (λ y. needs_brackets y x) d)) g.same e.same;
 }
 
 good_keyed_property : (c : Allowed) (a : Atoms) (computed : Bool) (x v : Tree) → object_property_method a ≡ no_value → object_property_computed a ≡ computed → is_short (object_property_shorthand a) x v ≡ false → KeyOf c computed x → Printed c v → PropertyOf c (tree.object_property a x v)
@@ -311,7 +350,7 @@ good_keyed_property c a computed x v m d s key value place p l z b k =
     let around : Place = in_brackets levels.Comma place in
     let inside : Items = spell x (in_brackets levels.Comma around) in
     let alone : Items = spell x (in_front levels.Comma around) in
-    let p1 : Pen = layout (key_items computed x inside alone) p in
+    let p1 : Pen = layout (key_items (needs_brackets computed x) x inside alone) p in
     let p2 : Pen = layout (punctuator colon) p1 in
     let p3 : Pen = layout soft_space p2 in
     let g = key around p l z b k in
@@ -319,7 +358,7 @@ good_keyed_property c a computed x v m d s key value place p l z b k =
     let n = soft_space_written p2 (After (Sign colon)) o.knows in
     let e = value (in_brackets levels.Comma around) p3 n.last (n.semicolon ∙ g.semicolon) (n.ready tt) n.writes.knows in
     let q : Pen = layout (spell v (in_brackets levels.Comma around)) p3 in
-    let laid : layout (spell (tree.object_property a x v) around) p ≡ q = ap (λ y. layout (property_items y (key_items (object_property_computed a) x inside alone) (spell v (in_front levels.Comma around)) (spell v (in_brackets levels.Comma around))) p) s ∙ ap (λ y. layout (property_items false (key_items y x inside alone) (spell v (in_front levels.Comma around)) (spell v (in_brackets levels.Comma around))) p) d in
+    let laid : layout (spell (tree.object_property a x v) around) p ≡ q = ap (λ y. layout (property_items y (key_items (needs_brackets (object_property_computed a) x) x inside alone) (spell v (in_front levels.Comma around)) (spell v (in_brackets levels.Comma around))) p) s ∙ ap (λ y. layout (property_items false (key_items (needs_brackets y x) x inside alone) (spell v (in_front levels.Comma around)) (spell v (in_brackets levels.Comma around))) p) d in
     subst (λ r. Element (ReadsProperty (with_in c)) p l r (tree.object_property a x v)) (sym laid) (keyed_parts c a computed x v around p p1 p2 p3 q l m d s g o n.last n.writes e)
 
 -- ---- either

@@ -9,7 +9,7 @@ use Rattle.jsgen_tree.specs.Places.{bare}
 use Rattle.jsgen_tree.specs.Values.{update_expression_operator, update_expression_prefix}
 use Rattle.jsgen_tree.specs.Nodes as tree
 use Rattle.jsgen_model.specs.Punctuator.{plus_plus, minus_minus}
-use Rattle.jsgen_model.specs.Tokens.{Tokens, done, piece, ◌⧺◌, Sign}
+use Rattle.jsgen_model.specs.Tokens.{done, piece, ◌⧺◌, Sign}
 use Rattle.jsgen_model.specs.Items.{Items, wrapped}
 use Rattle.jsgen_model.specs.Layout.{Pen, Start, nowhere, layout, unless_printed}
 use Rattle.jsgen_model.specs.Grammar.{Allowed, Level, ReadsExpression, update_sign, simple_target}

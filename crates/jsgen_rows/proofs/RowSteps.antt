@@ -14,7 +14,7 @@ use Rattle.jsgen_tree.specs.Table as sorts
 use Rattle.jsgen_fields.specs.declared.At.{At}
 use Rattle.jsgen_fields.specs.declared.InputFault.{InputFault}
 use Rattle.jsgen_fields.specs.declared.InputFault.TheVariants.{Float}
-use Rattle.jsgen_fields.specs.Values.{after, at, field, field_in, not_given, is_needed, items_in, value_in, type_of, span_of}
+use Rattle.jsgen_fields.specs.Values.{after, at, field, field_in, not_given, in_row, is_needed, items_in, value_in, type_of, span_of}
 use Rattle.jsgen_pool.specs.Pool.{Entry, take_row}
 use Rattle.jsgen_fields.specs.Reads.{Read, number_in, told, take_child, take_or_hole, take_each, take_given, read_children, value_or, read_value, read_field, read_fields, read_typed, read_node, read_row}
 use Rattle.jsgen_fields.specs.Meaning.{Mark, number_marks, child_marks, hole_marks, each, marks_of, given_marks, field_marks, fields_marks, typed_marks, row_marks, number_tree, child_tree, child_or_hole, ok_or_else, Held, a_value, a_list, a_maybe_list, child_held, put_in, held, unread_held, field_held, fields_parts, node_of, typed_tree, row_tree, mark_faults, with_mark, with_marks, faults_in, unless}
@@ -150,16 +150,17 @@ chosen_read e u false ms ns x y f g h i = i
 field_read : (e : List Tree) (u : List ℕ) (a : At) (f : Field) (d : Data) → Reads e u (field_marks a f d) (field_held e a f d) (read_field a f d (pool e u))
 field_read e u a f d =
     chosen_read e u f.is_read _ _ _ _ _ _
-    (sort_read e u a (is_needed f.presence d) f.presence f.sort (field f.name d) (is_value f.sort) refl)
+    (sort_read e u a (is_needed f.presence) f.presence f.sort (field f.name d) (is_value f.sort) refl)
     (unread_read e u a (unread_held f.sort) (field f.name d))
 
 fields_read : (e : List Tree) (u : List ℕ) (k i : ℕ) (fs : List Field) (d : Data) → Reads e u (fields_marks k i fs d) (fields_parts e k i fs d) (read_fields k i fs d (pool e u))
 fields_read e u k i [] d = refl
 fields_read e u k i (f ∷ fs) d =
-    let ms : List Mark = field_marks (at k i) f d in
-    let x : Held = field_held e (at k i) f d in
-    then_read e u ms (fields_marks k (suc i) fs d) x (fields_parts e k i (f ∷ fs) d) (read_field (at k i) f d (pool e u)) (λ h. after (read_fields k (suc i) fs d h.1) (λ p. Ok (put_in h.0 p.0, p.1)))
-    (field_read e u (at k i) f d)
+    let g : Field = in_row d f in
+    let ms : List Mark = field_marks (at k i) g d in
+    let x : Held = field_held e (at k i) g d in
+    then_read e u ms (fields_marks k (suc i) fs d) x (fields_parts e k i (f ∷ fs) d) (read_field (at k i) g d (pool e u)) (λ h. after (read_fields k (suc i) fs d h.1) (λ p. Ok (put_in h.0 p.0, p.1)))
+    (field_read e u (at k i) g d)
     (then_map e (with_marks u ms) (fields_marks k (suc i) fs d) (fields_parts e k (suc i) fs d) (read_fields k (suc i) fs d (pool e (with_marks u ms))) (put_in x) (fields_read e (with_marks u ms) k (suc i) fs d))
 
 -- ---- rows

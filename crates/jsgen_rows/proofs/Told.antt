@@ -10,6 +10,7 @@ use Rattle.jsgen_syntax.specs.declared.span.Span.{Span}
 use Rattle.jsgen_tree.specs.declared.types.NodeSet.{NodeSet}
 use Rattle.jsgen_tree.specs.declared.types.NodeType.{NodeType}
 use Rattle.jsgen_tree.specs.Tree.{Tree, type_of as tree_type}
+use Rattle.jsgen_tree.specs.Atom.{Atom, flag}
 use Rattle.jsgen_tree.specs.Table.{Sort, Field}
 use Rattle.jsgen_tree.specs.Fields.{fields}
 use Rattle.jsgen_tree.specs.Sets.{in_set}
@@ -18,7 +19,7 @@ use Rattle.jsgen_fields.specs.declared.At.{At}
 use Rattle.jsgen_fields.specs.declared.InputFault.{InputFault}
 use Rattle.jsgen_fields.specs.declared.InputFault.TheVariants.{Json, Float, Wrong, Child, Shared, Memory}
 use Rattle.jsgen_fields.specs.Names.{type_named}
-use Rattle.jsgen_fields.specs.Values.{after, or_fault, at, head, field, field_in, not_given, text_in, items_in, digits_in, is_needed, given_in, number_of_bits, unit_in, units_listed, text_or_listed, units_in, value_in, type_given, type_of, offsets, span_given, span_of, none_given, text_options, comment_options, unread_options, choice_given, options_given, options_in, unread_head, some_rows, rows_listed, rows_given, rows_in}
+use Rattle.jsgen_fields.specs.Values.{after, or_fault, at, head, field, field_in, not_given, text_in, items_in, digits_in, in_row, is_needed, given_in, number_of_bits, unit_in, units_listed, text_or_listed, units_in, value_in, type_given, type_of, offsets, span_given, span_of, none_given, text_options, comment_options, unread_options, choice_given, options_given, options_in, unread_head, some_rows, rows_listed, rows_given, rows_in}
 use Rattle.jsgen_fields.specs.Meaning.{Mark, fault, use_of, number_marks, child_marks, hole_marks, each, marks_of, sort_marks, given_marks, field_marks, fields_marks, typed_marks, row_marks, row_tree, is_used, is_program, found_faults, mark_faults, with_mark, with_marks, faults_in, root_tree, root_faults, faults_after, unless, rows_meaning, program_meaning, value_meaning}
 use Rattle.jsgen_rows.specs.Job.{json_of, job_of}
 
@@ -91,6 +92,8 @@ value_told a sorts.units d = after_told (units_in a d) _ (text_or_listed_told a 
 value_told a sorts.digits d = after_told (digits_in a d) _ (or_told (Wrong a) _ (wrong_told a)) (λ n. tt)
 value_told a sorts.number d = after_told (or_fault (Wrong a) (number_of_bits 32 d)) _ (or_told (Wrong a) (number_of_bits 32 d) (wrong_told a)) (λ n. tt)
 value_told a sorts.flag d = after_told (or_fault (Wrong a) (as_bool d)) _ (or_told (Wrong a) (as_bool d) (wrong_told a)) (λ b. tt)
+value_told a sorts.unset_flag d = after_told (or_fault (Wrong a) (as_bool d)) _ (or_told (Wrong a) (as_bool d) (wrong_told a)) (λ b. choice_told b (Err (Wrong a)) (Ok (flag false)) (wrong_told a) tt)
+value_told a (sorts.passed_over s) d = after_told (value_in a s d) _ (value_told a s d) (λ v. tt)
 value_told a (sorts.word ws) d = after_told (text_in a d) _ (text_told a d) (λ s. or_told (Wrong a) _ (wrong_told a))
 value_told a s d = wrong_told a
 
@@ -155,12 +158,12 @@ chosen_told false ms ns h g = g
 one_told : (a : At) (f : Field) (d : Data) → MarksTold (field_marks a f d)
 one_told a f d =
     chosen_told f.is_read (marks_of (given_marks a f.sort) (given_in a f d)) (marks_of (λ nothing. []) (not_given a (field f.name d)))
-    (marks_told (given_marks a f.sort) (given_in a f d) (field_told a (is_needed f.presence d) (field f.name d)) (given_told a f.sort))
+    (marks_told (given_marks a f.sort) (given_in a f d) (field_told a (is_needed f.presence) (field f.name d)) (given_told a f.sort))
     (marks_told _ (not_given a (field f.name d)) (not_given_told a (field f.name d)) (λ u. tt))
 
 fields_told : (k i : ℕ) (fs : List Field) (d : Data) → MarksTold (fields_marks k i fs d)
 fields_told k i [] d = tt
-fields_told k i (f ∷ fs) d = append_told (field_marks (at k i) f d) (fields_marks k (suc i) fs d) (one_told (at k i) f d) (fields_told k (suc i) fs d)
+fields_told k i (f ∷ fs) d = append_told (field_marks (at k i) (in_row d f) d) (fields_marks k (suc i) fs d) (one_told (at k i) (in_row d f) d) (fields_told k (suc i) fs d)
 
 typed_told : (k : ℕ) (d : Data) (t : Result NodeType InputFault) (s : Result Span InputFault) → ResultTold t → ResultTold s → MarksTold (typed_marks k d t s)
 typed_told k d (Err e) s h g = (h, tt)

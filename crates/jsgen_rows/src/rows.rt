@@ -46,6 +46,7 @@ fn is_in_expressions(node_type: NodeType) -> bool
             | NodeType::NullLiteral
             | NodeType::BooleanLiteral
             | NodeType::NumericLiteral
+            | NodeType::BigIntLiteral
             | NodeType::StringLiteral
             | NodeType::ParenthesizedExpression
             | NodeType::BinaryExpression

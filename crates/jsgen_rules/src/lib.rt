@@ -4,11 +4,12 @@
 ghost use Rattle.std.specs.Prelude.{◌≡◌, not};
 ghost use Rattle.std.specs.Str.{chars};
 ghost use Rattle.jsgen_syntax.specs.Name.{is_free_name};
-ghost use Rattle.jsgen_model.specs.Valid.{span_faults, name_faults, written_name_faults, directive_faults, source_faults, fault_if, is_super, takes_super, takes_optional_link, may_stand};
+ghost use Rattle.jsgen_model.specs.Valid.{span_faults, name_faults, written_name_faults, directive_faults, raw_number_faults, big_integer_faults, source_faults, fault_if, is_super, takes_super, may_stand, takes_optional_link};
 ghost use Rattle.jsgen_model.specs.declared.fault.TreeFault.TheVariants as faults;
 ghost use Rattle.jsgen_rules.specs.Verdict.{verdict};
 
 use jsgen_model::TreeFault;
+use jsgen_numbers::{is_big_integer, is_raw_number};
 use jsgen_syntax::{Quote, Span, is_name, is_reserved, is_strict_reserved};
 use jsgen_text::spells_string;
 use jsgen_tree::{NodeSet, NodeType};
@@ -55,6 +56,26 @@ pub fn check_raw(raw: &str, span: Span) -> Result<(), TreeFault>
     ensures { result ≡ verdict (directive_faults span (chars raw.now)) }
 {
     if !spells_string(Quote::Double, raw) && !spells_string(Quote::Single, raw) {
+        return Err(TreeFault::Literal { start: span.start });
+    }
+    Ok(())
+}
+
+/// The text of a number is one.
+pub fn check_raw_number(text: &str, span: Span) -> Result<(), TreeFault>
+    ensures { result ≡ verdict (raw_number_faults span (chars text.now)) }
+{
+    if !is_raw_number(text) {
+        return Err(TreeFault::Literal { start: span.start });
+    }
+    Ok(())
+}
+
+/// A big integer is an integer in decimal digits.
+pub fn check_big_integer(value: &str, span: Span) -> Result<(), TreeFault>
+    ensures { result ≡ verdict (big_integer_faults span (chars value.now)) }
+{
+    if !is_big_integer(value) {
         return Err(TreeFault::Literal { start: span.start });
     }
     Ok(())

@@ -21,6 +21,7 @@ of_expression h (expressions.ThisExpression b) = refl
 of_expression h (expressions.NullLiteral b) = refl
 of_expression h (expressions.BooleanLiteral b) = refl
 of_expression h (expressions.NumericLiteral b) = refl
+of_expression h (expressions.BigIntLiteral b) = refl
 of_expression h (expressions.StringLiteral b) = refl
 of_expression h (expressions.BinaryExpression b) = refl
 of_expression h (expressions.LogicalExpression b) = refl

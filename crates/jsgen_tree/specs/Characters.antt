@@ -1,9 +1,9 @@
 -- The plain data of texts, and of a field that stands for several of the format.
-use Rattle.std.specs.Prelude.{ℕ, List, [], ◌∷◌, String, string_bytes}
+use Rattle.std.specs.Prelude.{ℕ, List, [], ◌∷◌, false, String, string_bytes}
 use Rattle.std.specs.Str.{chars}
 use Rattle.std.specs.declared.alloc.Global.{Global}
-use Rattle.jsgen_tree.specs.Atom.{Atom, no_value, digits, numeric_kind}
-use Rattle.jsgen_tree.specs.Number.{Whole}
+use Rattle.jsgen_tree.specs.Atom.{Atom, no_value, text, digits, flag, numeric_kind}
+use Rattle.jsgen_tree.specs.Number.{Whole, Raw}
 use Rattle.jsgen_tree.specs.declared.numbers.NumericValue.{NumericValue}
 use Rattle.jsgen_tree.specs.declared.numbers.NumericValue.TheVariants as numeric
 
@@ -12,4 +12,5 @@ abbrev pub characters : String Global → List ℕ
 characters s = chars (string_bytes s)
 
 abbrev pub numeric_values : NumericValue → List Atom
-numeric_values (numeric.Whole n) = numeric_kind Whole ∷ no_value ∷ digits n ∷ no_value ∷ []
+numeric_values (numeric.Whole negative n) = numeric_kind Whole ∷ flag negative ∷ digits n ∷ no_value ∷ []
+numeric_values (numeric.Raw w) = numeric_kind Raw ∷ flag false ∷ no_value ∷ text (characters w) ∷ []

@@ -1,7 +1,7 @@
 -- Generated from tools/nodes/table.txt; edit that and run tools/nodes/generate.
 -- For each type of node its fields in their order.
 use Rattle.std.specs.Prelude.{List, [], ◌∷◌, codes, false}
-use Rattle.jsgen_tree.specs.Table.{Word, means, Field, needs, needs_for, may_have, has_by_default, not_yet}
+use Rattle.jsgen_tree.specs.Table.{Word, means, Field, needs, needs_for, may_have, has_by_default, may_be_set_for, not_yet}
 use Rattle.jsgen_tree.specs.declared.types.NodeType.{NodeType}
 use Rattle.jsgen_tree.specs.declared.types.NodeType.TheVariants as types
 use Rattle.jsgen_tree.specs.declared.types.NodeSet.TheVariants as sets
@@ -26,7 +26,7 @@ abbrev pub declaration_kind_words : List Word
 declaration_kind_words = means (codes "const") (atoms.declaration_kind declaration_kinds.Const) ∷ []
 
 abbrev pub numeric_kind_words : List Word
-numeric_kind_words = means (codes "whole") (atoms.numeric_kind numeric_kinds.Whole) ∷ []
+numeric_kind_words = means (codes "whole") (atoms.numeric_kind numeric_kinds.Whole) ∷ means (codes "raw") (atoms.numeric_kind numeric_kinds.Raw) ∷ []
 
 abbrev pub binary_operator_words : List Word
 binary_operator_words = means (codes "==") (atoms.binary_operator binary_operators.Equality) ∷ means (codes "!=") (atoms.binary_operator binary_operators.Inequality) ∷ means (codes "===") (atoms.binary_operator binary_operators.StrictEquality) ∷ means (codes "!==") (atoms.binary_operator binary_operators.StrictInequality) ∷ means (codes "<") (atoms.binary_operator binary_operators.LessThan) ∷ means (codes "<=") (atoms.binary_operator binary_operators.LessEqualThan) ∷ means (codes ">") (atoms.binary_operator binary_operators.GreaterThan) ∷ means (codes ">=") (atoms.binary_operator binary_operators.GreaterEqualThan) ∷ means (codes "+") (atoms.binary_operator binary_operators.Addition) ∷ means (codes "-") (atoms.binary_operator binary_operators.Subtraction) ∷ means (codes "*") (atoms.binary_operator binary_operators.Multiplication) ∷ means (codes "/") (atoms.binary_operator binary_operators.Division) ∷ means (codes "%") (atoms.binary_operator binary_operators.Remainder) ∷ means (codes "**") (atoms.binary_operator binary_operators.Exponential) ∷ means (codes "<<") (atoms.binary_operator binary_operators.ShiftLeft) ∷ means (codes ">>") (atoms.binary_operator binary_operators.ShiftRight) ∷ means (codes ">>>") (atoms.binary_operator binary_operators.ShiftRightZeroFill) ∷ means (codes "|") (atoms.binary_operator binary_operators.BitwiseOR) ∷ means (codes "^") (atoms.binary_operator binary_operators.BitwiseXOR) ∷ means (codes "&") (atoms.binary_operator binary_operators.BitwiseAnd) ∷ means (codes "in") (atoms.binary_operator binary_operators.In) ∷ means (codes "instanceof") (atoms.binary_operator binary_operators.Instanceof) ∷ []
@@ -88,7 +88,10 @@ abbrev pub boolean_literal_fields : List Field
 boolean_literal_fields = needs (codes "value") sorts.flag ∷ []
 
 abbrev pub numeric_literal_fields : List Field
-numeric_literal_fields = needs (codes "kind") (sorts.word numeric_kind_words) ∷ not_yet (codes "negative") sorts.flag ∷ needs_for (codes "whole") (codes "digits") sorts.digits ∷ not_yet (codes "text") sorts.text ∷ []
+numeric_literal_fields = needs (codes "kind") (sorts.word numeric_kind_words) ∷ may_be_set_for (codes "whole") (codes "negative") sorts.flag ∷ needs_for (codes "whole") (codes "digits") sorts.digits ∷ needs_for (codes "raw") (codes "text") sorts.text ∷ []
+
+abbrev pub big_int_literal_fields : List Field
+big_int_literal_fields = needs (codes "value") sorts.text ∷ []
 
 abbrev pub string_literal_fields : List Field
 string_literal_fields = needs (codes "value") sorts.units ∷ []
@@ -168,6 +171,7 @@ fields types.ThisExpression = this_expression_fields
 fields types.NullLiteral = null_literal_fields
 fields types.BooleanLiteral = boolean_literal_fields
 fields types.NumericLiteral = numeric_literal_fields
+fields types.BigIntLiteral = big_int_literal_fields
 fields types.StringLiteral = string_literal_fields
 fields types.ParenthesizedExpression = parenthesized_expression_fields
 fields types.BinaryExpression = binary_expression_fields

@@ -1,9 +1,9 @@
--- What a statement ends in, what stands within the parentheses of an expression, what a link goes on from, and which name a node is.
-use Rattle.std.specs.Prelude.{◌≡◌, ℕ, List, Bool, true, false, ◌||◌, Option, Some, None, codes, if◌then◌else◌}
+-- What a statement ends in, what stands within the parentheses of an expression, what a link goes on from, which name a node is, and whether a number is negative.
+use Rattle.std.specs.Prelude.{◌≡◌, ◌==◌, ℕ, List, [], ◌∷◌, Bool, true, false, Option, Some, None, is_some, option_and_then, codes, if◌then◌else◌, ◌||◌}
 use Rattle.std.specs.Str.{bytes_eq}
 use Rattle.jsgen_tree.specs.Tree.{Tree, absent, given, type_of}
-use Rattle.jsgen_tree.specs.Nodes.{parenthesized, if_statement, identifier_reference, identifier_name, static_member, computed_member, call}
-use Rattle.jsgen_tree.specs.Values.{identifier_reference_name, identifier_name_name, static_member_expression_optional, computed_member_expression_optional, call_expression_optional}
+use Rattle.jsgen_tree.specs.Nodes.{parenthesized, if_statement, identifier_reference, identifier_name, numeric_literal, big_int_literal, static_member, computed_member, call}
+use Rattle.jsgen_tree.specs.Values.{identifier_reference_name, identifier_name_name, numeric_literal_negative, big_int_literal_value, static_member_expression_optional, computed_member_expression_optional, call_expression_optional}
 use Rattle.jsgen_tree.specs.Sets.{is_expression}
 
 -- a statement ends in an `if` without `else`
@@ -43,3 +43,31 @@ written_name_in t = None
 -- the name by which a property with a value sets the prototype (ECMA-262, 13.2.5.5)
 abbrev pub is_proto : List ℕ → Bool
 is_proto name = bytes_eq name (codes "__proto__")
+
+-- ---- numbers
+
+-- what stands behind a minus
+abbrev pub after_minus : List ℕ → Option (List ℕ)
+after_minus [] = None
+after_minus (c ∷ cs) = if c == 45 then Some cs else None
+
+abbrev pub unless_minus : List ℕ → Option (List ℕ)
+unless_minus digits = if is_some (after_minus digits) then None else Some digits
+
+-- the digits of a big integer behind its one minus, if it has one
+abbrev pub behind_minus : List ℕ → Option (List ℕ)
+behind_minus value = option_and_then unless_minus (after_minus value)
+
+-- a number, or a big integer, with a minus before it
+abbrev pub is_negative_number : Tree → Bool
+is_negative_number (numeric_literal a) = numeric_literal_negative a
+is_negative_number t = false
+
+abbrev pub is_negative_big_integer : Tree → Bool
+is_negative_big_integer (big_int_literal a) = is_some (behind_minus (big_int_literal_value a))
+is_negative_big_integer t = false
+
+abbrev pub is_negative : Tree → Bool
+is_negative (numeric_literal a) = numeric_literal_negative a
+is_negative (big_int_literal a) = is_some (behind_minus (big_int_literal_value a))
+is_negative t = false

@@ -4,7 +4,7 @@ use Rattle.std.specs.Prelude.{◌≡◌, codes}
 use Rattle.jsgen_tree.specs.Tree.{Atoms, optional}
 use Rattle.jsgen_tree.specs.Table.{value_named}
 use Rattle.jsgen_tree.specs.Fields.{fields}
-use Rattle.jsgen_tree.specs.Values.{as_text, as_units, as_digits, as_flag, as_source_kind, as_declaration_kind, as_numeric_kind, as_binary_operator, as_logical_operator, as_property_kind, as_unary_operator, as_update_operator, as_assignment_operator, program_source, program_kind, program_jsx, program_typescript, directive_directive, variable_declaration_kind, variable_declaration_declare, variable_declarator_definite, binding_identifier_name, binding_identifier_symbol, identifier_reference_name, identifier_reference_reference, boolean_literal_value, numeric_literal_kind, numeric_literal_negative, numeric_literal_digits, numeric_literal_text, string_literal_value, binary_expression_operator, logical_expression_operator, identifier_name_name, static_member_expression_optional, computed_member_expression_optional, call_expression_optional, call_expression_pure, object_property_kind, object_property_method, object_property_shorthand, object_property_computed, unary_expression_operator, update_expression_operator, update_expression_prefix, new_expression_pure, assignment_expression_operator}
+use Rattle.jsgen_tree.specs.Values.{as_text, as_units, as_digits, as_flag, as_source_kind, as_declaration_kind, as_numeric_kind, as_binary_operator, as_logical_operator, as_property_kind, as_unary_operator, as_update_operator, as_assignment_operator, program_source, program_kind, program_jsx, program_typescript, directive_directive, variable_declaration_kind, variable_declaration_declare, variable_declarator_definite, binding_identifier_name, binding_identifier_symbol, identifier_reference_name, identifier_reference_reference, boolean_literal_value, numeric_literal_kind, numeric_literal_negative, numeric_literal_digits, numeric_literal_text, big_int_literal_value, string_literal_value, binary_expression_operator, logical_expression_operator, identifier_name_name, static_member_expression_optional, computed_member_expression_optional, call_expression_optional, call_expression_pure, object_property_kind, object_property_method, object_property_shorthand, object_property_computed, unary_expression_operator, update_expression_operator, update_expression_prefix, new_expression_pure, assignment_expression_operator}
 use Rattle.jsgen_tree.specs.declared.types.NodeType.TheVariants as types
 
 -- each value is that of the field of its name
@@ -17,6 +17,7 @@ pub record FieldsAreNamed : Type 0 where
   pub identifier_reference : (a : Atoms) → (identifier_reference_name a ≡ as_text (value_named (codes "name") (fields types.IdentifierReference) a.values)) × (identifier_reference_reference a ≡ value_named (codes "reference") (fields types.IdentifierReference) a.values)
   pub boolean_literal : (a : Atoms) → boolean_literal_value a ≡ as_flag (value_named (codes "value") (fields types.BooleanLiteral) a.values)
   pub numeric_literal : (a : Atoms) → (numeric_literal_kind a ≡ as_numeric_kind (value_named (codes "kind") (fields types.NumericLiteral) a.values)) × (numeric_literal_negative a ≡ as_flag (value_named (codes "negative") (fields types.NumericLiteral) a.values)) × (numeric_literal_digits a ≡ as_digits (value_named (codes "digits") (fields types.NumericLiteral) a.values)) × (numeric_literal_text a ≡ as_text (value_named (codes "text") (fields types.NumericLiteral) a.values))
+  pub big_int_literal : (a : Atoms) → big_int_literal_value a ≡ as_text (value_named (codes "value") (fields types.BigIntLiteral) a.values)
   pub string_literal : (a : Atoms) → string_literal_value a ≡ as_units (value_named (codes "value") (fields types.StringLiteral) a.values)
   pub binary_expression : (a : Atoms) → binary_expression_operator a ≡ as_binary_operator (value_named (codes "operator") (fields types.BinaryExpression) a.values)
   pub logical_expression : (a : Atoms) → logical_expression_operator a ≡ as_logical_operator (value_named (codes "operator") (fields types.LogicalExpression) a.values)

@@ -45,6 +45,9 @@ boolean_literal a = node types.BooleanLiteral a no_slots
 pattern abbrev pub numeric_literal : Atoms → Tree
 numeric_literal a = node types.NumericLiteral a no_slots
 
+pattern abbrev pub big_int_literal : Atoms → Tree
+big_int_literal a = node types.BigIntLiteral a no_slots
+
 pattern abbrev pub string_literal : Atoms → Tree
 string_literal a = node types.StringLiteral a no_slots
 

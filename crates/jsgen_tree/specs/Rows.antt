@@ -5,7 +5,7 @@ use Rattle.jsgen_syntax.specs.Units.{js_units}
 use Rattle.jsgen_tree.specs.Characters.{characters, numeric_values}
 use Rattle.jsgen_tree.specs.Tree.{Tree, optional, trees, holed}
 use Rattle.jsgen_tree.specs.Atom.{no_value, text, units, flag, source_kind, declaration_kind, binary_operator, logical_operator, property_kind, unary_operator, update_operator, assignment_operator}
-use Rattle.jsgen_tree.specs.Nodes.{program, directive, variable_declaration, variable_declarator, binding_identifier, expression_statement, block, if_statement, empty_statement, identifier_reference, this_expression, null_literal, boolean_literal, numeric_literal, string_literal, parenthesized, binary, logical, identifier_name, static_member, computed_member, call, chain, spread, array, object_property, object_expression, unary, new_target, update, new_expression, super, conditional, sequence, assignment}
+use Rattle.jsgen_tree.specs.Nodes.{program, directive, variable_declaration, variable_declarator, binding_identifier, expression_statement, block, if_statement, empty_statement, identifier_reference, this_expression, null_literal, boolean_literal, numeric_literal, big_int_literal, string_literal, parenthesized, binary, logical, identifier_name, static_member, computed_member, call, chain, spread, array, object_property, object_expression, unary, new_target, update, new_expression, super, conditional, sequence, assignment}
 use Rattle.jsgen_tree.specs.declared.nodes.ExpressionNode.{ExpressionNode}
 use Rattle.jsgen_tree.specs.declared.nodes.DeclarationNode.{DeclarationNode}
 use Rattle.jsgen_tree.specs.declared.nodes.StatementNode.{StatementNode}
@@ -24,6 +24,7 @@ use Rattle.jsgen_tree.specs.declared.expressions.ThisExpression.{ThisExpression}
 use Rattle.jsgen_tree.specs.declared.expressions.NullLiteral.{NullLiteral}
 use Rattle.jsgen_tree.specs.declared.expressions.BooleanLiteral.{BooleanLiteral}
 use Rattle.jsgen_tree.specs.declared.expressions.NumericLiteral.{NumericLiteral}
+use Rattle.jsgen_tree.specs.declared.expressions.BigIntLiteral.{BigIntLiteral}
 use Rattle.jsgen_tree.specs.declared.expressions.StringLiteral.{StringLiteral}
 use Rattle.jsgen_tree.specs.declared.expressions.ParenthesizedExpression.{ParenthesizedExpression}
 use Rattle.jsgen_tree.specs.declared.expressions.BinaryExpression.{BinaryExpression}
@@ -125,6 +126,9 @@ boolean_literal_row n = boolean_literal (record { span = n.span; values = flag n
 
 abbrev pub numeric_literal_row : NumericLiteral → Tree
 numeric_literal_row n = numeric_literal (record { span = n.span; values = numeric_values n.value })
+
+abbrev pub big_int_literal_row : BigIntLiteral → Tree
+big_int_literal_row n = big_int_literal (record { span = n.span; values = text (characters n.value) ∷ [] })
 
 abbrev pub string_literal_row : StringLiteral → Tree
 string_literal_row n = string_literal (record { span = n.span; values = units (js_units n.value) ∷ [] })
@@ -228,6 +232,7 @@ expression_plain plain (expression.ThisExpression b) = this_expression_row b.val
 expression_plain plain (expression.NullLiteral b) = null_literal_row b.value
 expression_plain plain (expression.BooleanLiteral b) = boolean_literal_row b.value
 expression_plain plain (expression.NumericLiteral b) = numeric_literal_row b.value
+expression_plain plain (expression.BigIntLiteral b) = big_int_literal_row b.value
 expression_plain plain (expression.StringLiteral b) = string_literal_row b.value
 expression_plain plain (expression.BinaryExpression b) = binary_expression_row plain b.value
 expression_plain plain (expression.LogicalExpression b) = logical_expression_row plain b.value

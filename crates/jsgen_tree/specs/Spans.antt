@@ -30,6 +30,7 @@ expression_span (expression.ThisExpression b) = b.value.span
 expression_span (expression.NullLiteral b) = b.value.span
 expression_span (expression.BooleanLiteral b) = b.value.span
 expression_span (expression.NumericLiteral b) = b.value.span
+expression_span (expression.BigIntLiteral b) = b.value.span
 expression_span (expression.StringLiteral b) = b.value.span
 expression_span (expression.BinaryExpression b) = b.value.span
 expression_span (expression.LogicalExpression b) = b.value.span

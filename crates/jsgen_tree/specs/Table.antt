@@ -21,7 +21,11 @@ pub data Sort : Type 0 where
   -- a whole number below 2 ^ 32
   number : Sort
   flag : Sort
+  -- a flag that may not be set
+  unset_flag : Sort
   word : List Word → Sort
+  -- a value that isn't kept
+  passed_over : Sort → Sort
   child : NodeSet → Sort
   children : NodeSet → Sort
   -- a list with a hole at each null
@@ -34,8 +38,10 @@ pub data Sort : Type 0 where
 -- whether a field may be absent, and what stands for it then
 pub data Presence : Type 0 where
   needed : Presence
-  -- needed where the row's field `kind` is this word
+  -- needed where the row's field `kind` is this word, and elsewhere not kept
   needed_for : List ℕ → Presence
+  -- a flag, false by default, that may be set only where the row's field `kind` is this word
+  settable_for : List ℕ → Presence
   -- no value, no child or an empty list
   may_be_absent : Presence
   -- a value by default
@@ -59,6 +65,9 @@ may_have n s = record { name = n; presence = may_be_absent; sort = s; is_read = 
 
 abbrev pub has_by_default : Atom → List ℕ → Sort → Field
 has_by_default a n s = record { name = n; presence = by_default a; sort = s; is_read = true }
+
+abbrev pub may_be_set_for : List ℕ → List ℕ → Sort → Field
+may_be_set_for kind n s = record { name = n; presence = settable_for kind; sort = s; is_read = true }
 
 abbrev pub not_yet : List ℕ → Sort → Field
 not_yet n s = record { name = n; presence = may_be_absent; sort = s; is_read = false }

@@ -137,6 +137,9 @@ numeric_literal_digits a = as_digits (value_at 2 a.values)
 abbrev pub numeric_literal_text : Atoms → List ℕ
 numeric_literal_text a = as_text (value_at 3 a.values)
 
+abbrev pub big_int_literal_value : Atoms → List ℕ
+big_int_literal_value a = as_text (value_at 0 a.values)
+
 abbrev pub string_literal_value : Atoms → List ℕ
 string_literal_value a = as_units (value_at 0 a.values)
 

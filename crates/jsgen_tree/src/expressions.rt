@@ -42,6 +42,13 @@ pub struct NumericLiteral {
     ghost fits: { IsTrue (is_wide value) },
 }
 
+/// A whole number of any size, by its decimal digits and the minus that it may have before them (ECMA-262, 12.9.3).
+#[derive(Drop)]
+pub struct BigIntLiteral {
+    pub span: Span,
+    pub value: String,
+}
+
 /// A string by its value (ECMA-262, 12.9.4).
 #[derive(Drop)]
 pub struct StringLiteral {

@@ -27,14 +27,14 @@ pub use collections::{
     ArrayExpression, ObjectExpression, ObjectProperty, PropertyKind, SpreadElement,
 };
 pub use expressions::{
-    BinaryExpression, BooleanLiteral, CallExpression, ChainExpression, ComputedMemberExpression,
-    IdentifierName, IdentifierReference, LogicalExpression, NullLiteral, NumericLiteral,
-    ParenthesizedExpression, StaticMemberExpression, StringLiteral, ThisExpression,
+    BigIntLiteral, BinaryExpression, BooleanLiteral, CallExpression, ChainExpression,
+    ComputedMemberExpression, IdentifierName, IdentifierReference, LogicalExpression, NullLiteral,
+    NumericLiteral, ParenthesizedExpression, StaticMemberExpression, StringLiteral, ThisExpression,
 };
 pub use laws::fields_are_named;
 pub use names::is_proto;
 pub use nodes::{BindingPatternNode, DeclarationNode, ExpressionNode, Node, StatementNode};
-pub use numbers::NumericValue;
+pub use numbers::{NumericValue, behind_minus};
 pub use operations::{NewExpression, NewTarget, Super, UnaryExpression, UpdateExpression};
 pub use options::{CodegenOptions, CommentOptions, LegalComment};
 pub use sets::{

@@ -23,6 +23,7 @@ impl Expression {
             Expression::NullLiteral(_) => NodeType::NullLiteral,
             Expression::BooleanLiteral(_) => NodeType::BooleanLiteral,
             Expression::NumericLiteral(_) => NodeType::NumericLiteral,
+            Expression::BigIntLiteral(_) => NodeType::BigIntLiteral,
             Expression::StringLiteral(_) => NodeType::StringLiteral,
             Expression::BinaryExpression(_) => NodeType::BinaryExpression,
             Expression::LogicalExpression(_) => NodeType::LogicalExpression,

@@ -4,9 +4,9 @@
 use crate::assignments::{AssignmentExpression, ConditionalExpression, SequenceExpression};
 use crate::collections::{ArrayExpression, ObjectExpression, ObjectProperty, SpreadElement};
 use crate::expressions::{
-    BinaryExpression, BooleanLiteral, CallExpression, ChainExpression, ComputedMemberExpression,
-    IdentifierName, IdentifierReference, LogicalExpression, NullLiteral, NumericLiteral,
-    ParenthesizedExpression, StaticMemberExpression, StringLiteral, ThisExpression,
+    BigIntLiteral, BinaryExpression, BooleanLiteral, CallExpression, ChainExpression,
+    ComputedMemberExpression, IdentifierName, IdentifierReference, LogicalExpression, NullLiteral,
+    NumericLiteral, ParenthesizedExpression, StaticMemberExpression, StringLiteral, ThisExpression,
 };
 use crate::nodes::{DeclarationNode, ExpressionNode, Node};
 use crate::operations::{NewExpression, NewTarget, Super, UnaryExpression, UpdateExpression};
@@ -22,6 +22,7 @@ pub enum Expression<N = Node> {
     NullLiteral(Box<NullLiteral>),
     BooleanLiteral(Box<BooleanLiteral>),
     NumericLiteral(Box<NumericLiteral>),
+    BigIntLiteral(Box<BigIntLiteral>),
     StringLiteral(Box<StringLiteral>),
     BinaryExpression(Box<BinaryExpression<N>>),
     LogicalExpression(Box<LogicalExpression<N>>),

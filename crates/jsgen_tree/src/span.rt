@@ -8,9 +8,9 @@ ghost use Rattle.jsgen_tree.specs.Spans.{expression_span, argument_span, array_e
 use crate::assignments::{AssignmentExpression, ConditionalExpression, SequenceExpression};
 use crate::collections::{ArrayExpression, ObjectExpression, ObjectProperty, SpreadElement};
 use crate::expressions::{
-    BinaryExpression, BooleanLiteral, CallExpression, ChainExpression, ComputedMemberExpression,
-    IdentifierName, IdentifierReference, LogicalExpression, NullLiteral, NumericLiteral,
-    ParenthesizedExpression, StaticMemberExpression, StringLiteral, ThisExpression,
+    BigIntLiteral, BinaryExpression, BooleanLiteral, CallExpression, ChainExpression,
+    ComputedMemberExpression, IdentifierName, IdentifierReference, LogicalExpression, NullLiteral,
+    NumericLiteral, ParenthesizedExpression, StaticMemberExpression, StringLiteral, ThisExpression,
 };
 use crate::nodes::Node;
 use crate::operations::{NewExpression, NewTarget, Super, UnaryExpression, UpdateExpression};
@@ -139,6 +139,14 @@ impl GetSpan for BooleanLiteral {
 }
 
 impl GetSpan for NumericLiteral {
+    ghost own_span = { λ n. n.span };
+
+    fn span(&self) -> Span {
+        self.span
+    }
+}
+
+impl GetSpan for BigIntLiteral {
     ghost own_span = { λ n. n.span };
 
     fn span(&self) -> Span {
@@ -324,6 +332,7 @@ impl<N> GetSpan for Expression<N> {
             Expression::NullLiteral(node) => node.span,
             Expression::BooleanLiteral(node) => node.span,
             Expression::NumericLiteral(node) => node.span,
+            Expression::BigIntLiteral(node) => node.span,
             Expression::StringLiteral(node) => node.span,
             Expression::BinaryExpression(node) => node.span,
             Expression::LogicalExpression(node) => node.span,

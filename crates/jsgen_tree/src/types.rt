@@ -20,6 +20,7 @@ pub enum NodeType {
     NullLiteral,
     BooleanLiteral,
     NumericLiteral,
+    BigIntLiteral,
     StringLiteral,
     ParenthesizedExpression,
     BinaryExpression,
@@ -96,6 +97,7 @@ impl NodeType {
                 | NodeType::NullLiteral
                 | NodeType::BooleanLiteral
                 | NodeType::NumericLiteral
+                | NodeType::BigIntLiteral
                 | NodeType::StringLiteral
                 | NodeType::BinaryExpression
                 | NodeType::LogicalExpression
@@ -129,6 +131,7 @@ impl NodeType {
                 | NodeType::NullLiteral
                 | NodeType::BooleanLiteral
                 | NodeType::NumericLiteral
+                | NodeType::BigIntLiteral
                 | NodeType::StringLiteral
                 | NodeType::BinaryExpression
                 | NodeType::LogicalExpression
@@ -162,6 +165,7 @@ impl NodeType {
                 | NodeType::NullLiteral
                 | NodeType::BooleanLiteral
                 | NodeType::NumericLiteral
+                | NodeType::BigIntLiteral
                 | NodeType::StringLiteral
                 | NodeType::BinaryExpression
                 | NodeType::LogicalExpression
@@ -238,6 +242,7 @@ impl NodeType {
                 | NodeType::NullLiteral
                 | NodeType::BooleanLiteral
                 | NodeType::NumericLiteral
+                | NodeType::BigIntLiteral
                 | NodeType::StringLiteral
                 | NodeType::BinaryExpression
                 | NodeType::LogicalExpression

@@ -47,7 +47,7 @@ def value(table, f):
         return "`true` or `false`"
     if f.kind in VALUES:
         return VALUES[f.kind] + (", empty where it is absent" if f.default == '""' else "") \
-            + (f", needed where `kind` is `{f.only_for}`" if f.only_for else "")
+            + (f", {'true only' if f.kind == 'flag' else 'needed'} where `kind` is `{f.only_for}`" if f.only_for else "")
     if f.is_list:
         holes = ", with `null` in the place of one that is left out" if f.many == "?*" else ""
         return f"a list of {plural(f.kind) if f.kind in table.sets else f'`{f.kind}`'}{holes}"

@@ -52,17 +52,28 @@ def any_row(table):
 
 
 def row(table, n):
-    """The fields of a type; one that is required where `kind` is a certain word is required in any case while there is one."""
-    required = [f.name for f in n.in_format() if not f.unread and f.required]
+    """The fields of a type, and what more is asked of those that are for one kind of rows."""
+    required = [f.name for f in n.in_format() if not f.unread and f.required and not f.only_for]
     properties = {f.name: field(table, f) for f in n.in_format()}
-    return {"description": f"{n.doc} ECMA-262, {n.section}."} | ({"required": required} if required else {}) | {"properties": properties}
+    kinds = [of_kind(table, n, w) for w in dict.fromkeys(f.only_for for f in n.in_format() if f.only_for)]
+    return {"description": f"{n.doc} ECMA-262, {n.section}."} | ({"required": required} if required else {}) \
+        | {"properties": properties} | ({"allOf": kinds} if kinds else {})
+
+
+def of_kind(table, n, word):
+    """What is asked where `kind` is this word, and where it is another."""
+    here = [f for f in n.in_format() if f.only_for == word]
+    needed = {f.name: value(table, f) for f in here if f.kind != "flag"}
+    unset = {f.name: or_null({"const": False}) for f in here if f.kind == "flag"}
+    return {"if": {"properties": {"kind": {"const": word}}}, "then": {"required": list(needed), "properties": needed}} \
+        | ({"else": {"properties": unset}} if unset else {})
 
 
 def field(table, f):
     if f.unread:
         return {"type": "null"}
     schema = value(table, f) if table.is_value(f) else {"type": "array", "items": or_null(ROW) if f.many == "?*" else ROW} if f.is_list else ROW
-    return schema if f.required else or_null(schema)
+    return schema if f.required and not f.only_for else or_null(schema)
 
 
 def value(table, f):

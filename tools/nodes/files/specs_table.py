@@ -26,7 +26,7 @@ def fields(table):
     clauses = "".join(f"\nfields types.{n} = {snake(n)}_fields" for n in table.nodes)
     parts.append(f"abbrev pub fields : NodeType → List Field{clauses}")
     homes = [("Rattle.std.specs.Prelude", ["List", "[]", "◌∷◌", "codes", "false"]),
-             (f"{SPECS}.Table", ["Word", "means", "Field", "needs", "needs_for", "may_have", "has_by_default", "not_yet"])]
+             (f"{SPECS}.Table", ["Word", "means", "Field", "needs", "needs_for", "may_have", "has_by_default", "may_be_set_for", "not_yet"])]
     homes += types_in_antt(table)
     aliases = TYPES + [(f"{SPECS}.Table", "sorts"), (f"{SPECS}.Atom", "atoms")] + variants_of_words(table)
     return layout.antt("For each type of node its fields in their order.", homes, aliases, "\n\n".join(parts))
@@ -36,6 +36,8 @@ def row(table, f):
     name = f'(codes "{f.name}")'
     if f.unread:
         return f"not_yet {name} {sort(table, f)}"
+    if f.only_for and f.kind == "flag":
+        return f'may_be_set_for (codes "{f.only_for}") {name} {sort(table, f)}'
     if f.only_for:
         return f'needs_for (codes "{f.only_for}") {name} {sort(table, f)}'
     if f.default is not None or f.kind == "flag" and not f.needed:

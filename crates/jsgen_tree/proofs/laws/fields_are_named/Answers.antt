@@ -13,6 +13,7 @@ returns c = record {
   identifier_reference = λ a. (refl, refl);
   boolean_literal = λ a. refl;
   numeric_literal = λ a. (refl, refl, refl, refl);
+  big_int_literal = λ a. refl;
   string_literal = λ a. refl;
   binary_expression = λ a. refl;
   logical_expression = λ a. refl;

@@ -1,4 +1,4 @@
-use Rattle.std.proofs.Common.{◌≡◌, codes, bytes_eq, refl, sym, ap, ◌∙◌}
+use Rattle.std.proofs.Common.{codes, bytes_eq, refl, sym, ap, ◌∙◌}
 use Rattle.std.specs.Str.{chars, IsUtf8}
 use Rattle.std.proofs.Math.Utf8.{encode}
 use Rattle.std.proofs.lemmas.Str.{chars_from_encodes}

@@ -6,4 +6,4 @@ use Rattle.jsgen_printer.proofs.printer.Printer.print_whole_number.Goals as goal
 pub returns : goal.returns
 returns c =
     let text : chars c.format-text.result.now ≡ decimal c.args.digits = chars-IsAscii _ c.format-text.ensures.ascii ∙ c.format-text.ensures.text in
-    rw (c.is_apart-apart.ensures, text) at c.print_apart.ensures
+    rw text at c.print_number.ensures

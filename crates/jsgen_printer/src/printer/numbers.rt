@@ -1,0 +1,109 @@
+// Numbers, with a minus before them or not.
+ghost use Rattle.std.specs.Prelude.{◌≡◌, ◌++◌, codes, decimal, true, false};
+ghost use Rattle.std.specs.Str.{chars};
+ghost use Rattle.jsgen_model.specs.Punctuator.{minus};
+ghost use Rattle.jsgen_model.specs.Items.{◌⊕◌, number, operator, wrapped};
+ghost use Rattle.jsgen_model.specs.Layout.{layout, number_ending};
+ghost use Rattle.jsgen_model.specs.Spell.{big_text};
+ghost use Rattle.jsgen_model.specs.Printing.{Reaches};
+ghost use Rattle.jsgen_printer.specs.Printer.{pen_of, ending_of};
+
+use super::{Ending, Printer};
+use jsgen_syntax::{Memory, UnaryOperator};
+
+#[tactic(auto, unfolding(crate::specs::Printer::pen_of))]
+impl Printer {
+    // What the code ends in behind a number.
+    fn number_ending(dot_is_its_own: bool) -> Ending
+        ensures { ending_of result ≡ number_ending dot_is_its_own }
+    {
+        if dot_is_its_own {
+            Ending::Number
+        } else {
+            Ending::Other
+        }
+    }
+
+    /// A number by its text; the test tells that a dot behind it would be its own.
+    pub fn print_number(&mut self, text: &str, dot_is_its_own: bool) -> Result<(), Memory>
+        ensures { Reaches result (pen_of self.old) (pen_of self.new)
+            (layout (number dot_is_its_own (chars text.now)) (pen_of self.old)) }
+    {
+        let apart = self.is_apart();
+        self.print_apart(apart, text, Printer::number_ending(dot_is_its_own))
+    }
+
+    /// A whole number.
+    pub fn print_whole_number(&mut self, digits: u128) -> Result<(), Memory>
+        ensures { Reaches result (pen_of self.old) (pen_of self.new)
+            (layout (number true (decimal digits)) (pen_of self.old)) }
+    {
+        let mut buffer = itoa::Buffer::new();
+        let text = buffer.format(digits);
+        self.print_number(text, true)
+    }
+
+    /// A big integer by its digits.
+    pub fn print_big_integer(&mut self, digits: &str) -> Result<(), Memory>
+        ensures { Reaches result (pen_of self.old) (pen_of self.new)
+            (layout (number false (big_text (chars digits.now))) (pen_of self.old)) }
+    {
+        self.print_number(digits, false)?;
+        self.print_str("n", Ending::Other)
+    }
+
+    // The minus of a number.
+    fn print_minus(&mut self) -> Result<(), Memory>
+        ensures { Reaches result (pen_of self.old) (pen_of self.new) (layout (operator minus) (pen_of self.old)) }
+    {
+        self.print_unary_operator(UnaryOperator::UnaryNegation)
+    }
+
+    // A minus, and behind it a number of which a dot would be part.
+    fn print_minus_number(&mut self, text: &str) -> Result<(), Memory>
+        ensures { Reaches result (pen_of self.old) (pen_of self.new)
+            (layout (operator minus ⊕ number true (chars text.now)) (pen_of self.old)) }
+    {
+        self.print_minus()?;
+        self.print_number(text, true)
+    }
+
+    // A minus, and the big integer by its digits behind it.
+    fn print_minus_big_integer(&mut self, digits: &str) -> Result<(), Memory>
+        ensures { Reaches result (pen_of self.old) (pen_of self.new)
+            (layout (operator minus ⊕ number false (big_text (chars digits.now))) (pen_of self.old)) }
+    {
+        self.print_minus()?;
+        self.print_big_integer(digits)
+    }
+
+    // The same, in parentheses where the test holds.
+    fn print_negative_number(&mut self, wrap: bool, text: &str) -> Result<(), Memory>
+        ensures { Reaches result (pen_of self.old) (pen_of self.new)
+            (layout (wrapped wrap (operator minus ⊕ number true (chars text.now))) (pen_of self.old)) }
+    {
+        self.print_opening_if(wrap)?;
+        self.print_minus_number(text)?;
+        self.print_closing_if(wrap)
+    }
+
+    /// A whole number with a minus before it, in parentheses where the test holds.
+    pub fn print_negative_whole_number(&mut self, wrap: bool, digits: u128) -> Result<(), Memory>
+        ensures { Reaches result (pen_of self.old) (pen_of self.new)
+            (layout (wrapped wrap (operator minus ⊕ number true (decimal digits))) (pen_of self.old)) }
+    {
+        let mut buffer = itoa::Buffer::new();
+        let text = buffer.format(digits);
+        self.print_negative_number(wrap, text)
+    }
+
+    /// A big integer by its digits with a minus before it, in parentheses where the test holds.
+    pub fn print_negative_big_integer(&mut self, wrap: bool, digits: &str) -> Result<(), Memory>
+        ensures { Reaches result (pen_of self.old) (pen_of self.new)
+            (layout (wrapped wrap (operator minus ⊕ number false (big_text (chars digits.now)))) (pen_of self.old)) }
+    {
+        self.print_opening_if(wrap)?;
+        self.print_minus_big_integer(digits)?;
+        self.print_closing_if(wrap)
+    }
+}
