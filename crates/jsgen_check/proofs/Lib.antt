@@ -1,3 +1,4 @@
+mod Alone
 pub mod Declarators
 pub mod Programs
 pub mod Steps
