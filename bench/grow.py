@@ -18,7 +18,7 @@ from bisect import bisect
 from concurrent.futures import ThreadPoolExecutor
 from pathlib import Path
 
-from gate import TICK, TOP, measured
+from gate import TICK, TOP, gate, measured
 
 WATCHED = ("jsgen_printer", "jsgen_nodes", "jsgen_fields", "jsgen_expression_rows", "jsgen_collection_rows", "jsgen_operation_rows", "jsgen_assignment_rows", "jsgen_statement_rows", "jsgen_rows")
 FAMILIES = {"Expression": "synthetic_expressions", "Statement": "synthetic_statements"}
@@ -286,7 +286,7 @@ def main(number):
         if name == "after":
             grown(folder, number)
         with open(work / f"{name}.log", "wb") as log:
-            results.append(measured(["rt", "ci", "--anew"], folder, log))
+            results.append(measured(gate(), folder, log))
         if results[-1][3]:
             sys.exit(f"{name}: not proved; see {work}/{name}.log")
     (sums, peaks, whole, _), (more, higher, all_of, _) = results

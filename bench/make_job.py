@@ -1,9 +1,9 @@
 """Writes a job: `make_job.py SIZE [nested|list|ascii|wide|escapes] [minify]`.
 
 SIZE is in megabytes. By itself the job holds declarations and statements, blocks and `if` of mixed expressions, a third of
-which are literals, unary operations, updates, `new`, and arrays and objects up to six deep; with `nested`, blocks and `if` a
-thousand deep and sums nested a thousand to the left and to the right, as often as fill it; with `list`, one array of 12,500
-numbers a megabyte.
+which are literals, unary operations, updates, `new`, and arrays and objects up to six deep, and a fifth of the others
+conditionals, sequences, assignments and optional chains; with `nested`, blocks and `if` a thousand deep and sums nested a
+thousand to the left and to the right, as often as fill it; with `list`, one array of 12,500 numbers a megabyte.
 With `ascii`, `wide` and `escapes` it is one string as long as the job: of ASCII, of characters of one to four bytes, and
 with a quote or another character that needs an escape at every tenth place.
 """
@@ -15,6 +15,8 @@ TEXTS = ["", "use strict", "it's", 'say \\"so\\"', "`a` and 'b'", "a\\\\b", "${a
 BINARY = ["+", "-", "*", "/", "%", "**", "==", "!==", "<", ">=", "<<", ">>>", "&", "|", "^", "in", "instanceof"]
 LOGICAL = ["&&", "||"]
 UNARY = ["+", "-", "!", "~", "typeof", "void"]
+ASSIGNMENT = ["=", "+=", "-=", "**=", ">>>=", "&&=", "??="]
+RAW = ["1.5", ".25", "0xff", "1e21", "1_000.5e-7", "3.141592653589793"]
 DEPTH = 1000
 NUMBERS = 12500
 STRINGS = {
@@ -61,6 +63,17 @@ def word(rows, draw):
     return rows.add('{"type":"BooleanLiteral","value":%s}' % draw.choice(["true", "false"]))
 
 
+def number(rows, draw):
+    kind = draw.random()
+    if kind < 0.2:
+        return rows.add('{"type":"NumericLiteral","kind":"raw","text":"%s"}' % draw.choice(RAW))
+    if kind < 0.3:
+        return rows.add('{"type":"BigIntLiteral","value":"%d"}' % draw.randrange(10 ** draw.randrange(1, 30)))
+    if kind < 0.4:
+        return rows.add('{"type":"NumericLiteral","kind":"whole","negative":true,"digits":%d}' % draw.randrange(1, 100))
+    return whole(rows, draw)
+
+
 def whole(rows, draw):
     return rows.add('{"type":"NumericLiteral","kind":"whole","digits":%d}' % draw.randrange(10 ** draw.randrange(1, 12)))
 
@@ -74,7 +87,7 @@ def prop(rows, depth, draw):
 def collection(rows, depth, draw):
     """An array or an object of others, so many deep."""
     if depth == 0 or draw.random() < 0.3:
-        return draw.choice([word, whole, leaf])(rows, draw)
+        return draw.choice([word, number, leaf])(rows, draw)
     if draw.random() < 0.5:
         elements = [collection(rows, depth - 1, draw) for _ in range(draw.randrange(4))]
         return rows.add('{"type":"ArrayExpression","elements":[%s]}' % ",".join(map(str, elements)))
@@ -104,8 +117,26 @@ def leaf(rows, draw):
     if kind < 0.5:
         return rows.name(draw.choice(NAMES))
     if kind < 0.75:
-        return whole(rows, draw)
+        return number(rows, draw)
     return rows.add('{"type":"StringLiteral","value":"%s"}' % draw.choice(TEXTS))
+
+
+def two_or_three(rows, depth, draw):
+    """A sequence, an assignment, a conditional, or a chain."""
+    kind = draw.random()
+    first = expression(rows, depth - 1, draw)
+    if kind < 0.2:
+        return rows.add('{"type":"SequenceExpression","expressions":[%d,%d]}' % (first, expression(rows, depth - 1, draw)))
+    if kind < 0.5:
+        words = draw.choice(ASSIGNMENT), rows.name(draw.choice(NAMES)), first
+        return rows.add('{"type":"AssignmentExpression","operator":"%s","left":%d,"right":%d}' % words)
+    if kind < 0.75:
+        consequent, alternate = expression(rows, depth - 1, draw), leaf(rows, draw)
+        return rows.add('{"type":"ConditionalExpression","test":%d,"consequent":%d,"alternate":%d}' % (first, consequent, alternate))
+    name = rows.add('{"type":"IdentifierName","name":"%s"}' % draw.choice(NAMES))
+    link = rows.add('{"type":"StaticMemberExpression","object":%d,"optional":true,"property":%d}' % (first, name))
+    call = rows.add('{"type":"CallExpression","callee":%d,"arguments":[%d]}' % (link, leaf(rows, draw)))
+    return rows.add('{"type":"ChainExpression","expression":%d}' % call)
 
 
 def expression(rows, depth, draw):
@@ -113,6 +144,8 @@ def expression(rows, depth, draw):
         return leaf(rows, draw)
     if draw.random() < 1 / 3:
         return other(rows, depth, draw)
+    if draw.random() < 1 / 5:
+        return two_or_three(rows, depth, draw)
     kind = draw.random()
     first = expression(rows, depth - 1, draw)
     if kind < 0.1:

@@ -37,8 +37,9 @@ class Tally {
     if (this.bad <= SHOWN) process.stderr.write(`\n${name}, ${set}: ${what}\n`);
   }
 
+  // One line, which is written over, and only where somebody looks at it.
   progress() {
-    process.stderr.write(`\r${this.programs} programs, ${this.runs} runs, ${this.bad} bad`);
+    if (process.stderr.isTTY) process.stderr.write(`\r${this.programs} programs, ${this.runs} runs, ${this.bad} bad`);
   }
 
   summary() {
@@ -128,7 +129,7 @@ await run("node roundtrip.mjs [--random COUNT [--seed NUMBER]] [DIRECTORY ..]", 
     tryProgram(tally, `random ${seed + at}`, randomProgram(seed + at));
     tally.progress();
   }
-  process.stderr.write("\n");
+  if (process.stderr.isTTY) process.stderr.write("\n");
   process.stdout.write(`${tally.summary()}\n`);
   return tally.bad > 0 ? 1 : 0;
 });
