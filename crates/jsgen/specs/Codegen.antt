@@ -5,6 +5,7 @@ use Rattle.jsgen_tree.specs.Options.{Options, options_plain}
 use Rattle.jsgen_tree.specs.Job.{JobData, no_tables}
 use Rattle.jsgen_tree.specs.Tree.{Tree}
 use Rattle.jsgen_model.specs.Layout.{Pen}
+use Rattle.jsgen_model.specs.Spell.{Settings}
 use Rattle.jsgen_model.specs.Printing.{Reaches}
 use Rattle.jsgen_printer.specs.Printer.{pen_of}
 use Rattle.jsgen.specs.declared.codegen.Codegen.{Codegen}
@@ -20,6 +21,10 @@ job_for c program = record { options = options_of c; tables = no_tables; program
 -- the text so far, and what matters of its end
 abbrev pub pen_at : Codegen → Pen
 pen_at c = pen_of c.printer
+
+-- what a spelling depends on beside the tree
+abbrev pub settings_at : Codegen → Settings
+settings_at c = record { minified = (options_of c).minify; tables = no_tables }
 
 -- the text so far, in bytes
 abbrev pub printed_so_far : Codegen → List ℕ

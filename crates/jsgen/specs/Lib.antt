@@ -1,1 +1,2 @@
 pub mod Codegen
+pub mod Context

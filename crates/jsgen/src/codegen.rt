@@ -2,24 +2,30 @@
 ghost use Rattle.std.specs.Prelude.{◌≡◌, ◌<◌, [], ◌∷◌, true, false, flat_map, IfOk, string_bytes};
 ghost use Rattle.std.specs.Char.Escape.{encode_utf16};
 ghost use Rattle.jsgen_tree.specs.Options.{options_plain, default_options};
-ghost use Rattle.jsgen_tree.specs.Plain.{program_plain};
+ghost use Rattle.jsgen_tree.specs.Plain.{program_plain, node_plain};
+ghost use Rattle.jsgen_tree.specs.Rows.{expression_plain};
+ghost use Rattle.jsgen_tree.specs.Job.{no_tables};
 ghost use Rattle.jsgen_syntax.specs.Raw.{tag_free};
 ghost use Rattle.jsgen_model.specs.Items.{string};
 ghost use Rattle.jsgen_model.specs.Layout.{style_of, empty_pen, written, other_end, layout};
-ghost use Rattle.jsgen_model.specs.Spell.{text_bytes};
+ghost use Rattle.jsgen_syntax.specs.declared.precedence.Precedence.TheVariants.{Lowest};
+ghost use Rattle.jsgen_model.specs.Spell.{text_bytes, spell, free};
 ghost use Rattle.std.specs.Str.{chars};
 ghost use Rattle.jsgen_model.specs.Plain.{IsPlain, IsQuiet};
 ghost use Rattle.jsgen_model.specs.Reading.{IsReadAs};
-ghost use Rattle.jsgen_model.specs.Valid.{job_breaches, IsValid, Judges};
+ghost use Rattle.jsgen_model.specs.Valid.{job_breaches, expression_breaches, IsValid, IsValidExpression, Judges};
 ghost use Rattle.jsgen_printer.specs.Printer.{pen_of, name_written, unless_empty};
+ghost use Rattle.jsgen_place.specs.Place.{place_of, context_of, settings_of};
+ghost use Rattle.jsgen.specs.Context.{context_at};
+ghost use Rattle.jsgen_nodes.specs.Alone.{at_level};
 
-use jsgen_check::check_program;
+use jsgen_check::{check_expression, check_program};
 use jsgen_model::TreeFault;
-use jsgen_nodes::print_program;
-use jsgen_place::Settings;
-use jsgen_printer::Printer;
-use jsgen_syntax::{JsStr, Memory};
-use jsgen_tree::{CodegenOptions, Program};
+use jsgen_nodes::{PrintAlone, PrintAtLevel, print_program};
+use jsgen_place::{Place, Settings};
+use jsgen_printer::{Context, Printer};
+use jsgen_syntax::{JsStr, Memory, Precedence};
+use jsgen_tree::{CodegenOptions, Expression, Program};
 use std::alloc::Global;
 use std::marker::PhantomData;
 
@@ -56,7 +62,7 @@ pub struct Codegen<'a> {
 }
 
 impl<'a> Codegen<'a> {
-    ghost use Rattle.jsgen.specs.Codegen.{options_of, job_for, has_printed, has_failed, pen_at, printed_so_far, Prints};
+    ghost use Rattle.jsgen.specs.Codegen.{options_of, job_for, has_printed, has_failed, pen_at, settings_at, printed_so_far, Prints};
 
     /// A printer by the default options: of pretty text.
     pub fn new(alloc: Global) -> Codegen<'a>
@@ -181,6 +187,68 @@ impl<'a> Codegen<'a> {
         Ok(())
     }
 
+    /// Prints an expression by itself, which `check_expression` has to accept: at the lowest level, where nothing is forbidden. As
+    /// the first that is printed it begins a statement, so that an object stands in parentheses.
+    pub fn print_expression(&mut self, expression: &Expression) -> Result<(), CodegenError>
+        requires valid { IsValidExpression (options_of self.old) no_tables (expression_plain node_plain expression.now) }
+        requires unfailed { has_failed self.old ≡ false }
+        ensures { Prints self.old self.new (layout (spell (expression_plain node_plain expression.now) (at_level Lowest (settings_at self.old) free (pen_at self.old).start)) (pen_at self.old)) result }
+    {
+        let place = Place::within_statement(self.settings());
+        self.print_at(expression, place)
+    }
+
+    // What a spelling depends on beside the tree.
+    fn settings(&self) -> Settings
+        ensures { settings_of result ≡ settings_at self.now }
+    {
+        Settings {
+            minified: self.options.minify,
+        }
+    }
+
+    // Prints what stands at a place.
+    #[tactic(auto, unfolding(jsgen_nodes::specs::Place::pen_after))]
+    fn print_at<T: PrintAtLevel>(&mut self, node: &T, place: Place) -> Result<(), CodegenError>
+        requires unfailed { has_failed self.old ≡ false }
+        ensures { Prints self.old self.new (layout (spell (T.plain node.now) (place_of place (pen_at self.old))) (pen_at self.old)) result }
+    {
+        self.begin();
+        node.print_at(&mut self.printer, place)?;
+        self.has_failed = false;
+        Ok(())
+    }
+
+    // Prints an expression, or what else has a level.
+    pub(crate) fn print_at_level<T: PrintAtLevel>(
+        &mut self,
+        node: &T,
+        level: Precedence,
+        context: Context,
+    ) -> Result<(), CodegenError>
+        requires unfailed { has_failed self.old ≡ false }
+        ensures { Prints self.old self.new (layout (spell (T.plain node.now) (at_level level (settings_at self.old) (context_at context) (pen_at self.old).start)) (pen_at self.old)) result }
+    {
+        let place = Place::at_level(level, self.settings(), place_context(context));
+        self.print_at(node, place)
+    }
+
+    // Prints what stands by itself.
+    pub(crate) fn print_alone<T: PrintAlone>(
+        &mut self,
+        node: &T,
+        context: Context,
+    ) -> Result<(), CodegenError>
+        requires unfailed { has_failed self.old ≡ false }
+        ensures { Prints self.old self.new (layout (T.alone node.now (settings_at self.old) (context_at context) (pen_at self.old).start) (pen_at self.old)) result }
+    {
+        let settings = self.settings();
+        self.begin();
+        node.print_alone(&mut self.printer, settings, place_context(context))?;
+        self.has_failed = false;
+        Ok(())
+    }
+
     /// The code so far, and nothing is copied.
     pub fn into_source_text(self) -> String
         ensures { string_bytes result ≡ printed_so_far self.entry }
@@ -196,6 +264,14 @@ impl<'a> Codegen<'a> {
         check_program(&self.options, program)
     }
 
+    /// Says Ok exactly where the expression by itself keeps each rule, and otherwise a rule that it breaks: it is checked as the
+    /// one statement of a module, without a source. It takes no memory.
+    pub fn check_expression(&self, expression: &Expression) -> Result<(), TreeFault>
+        ensures { Judges (expression_breaches (options_of self.now) no_tables (expression_plain node_plain expression.now)) result }
+    {
+        check_expression(&self.options, expression)
+    }
+
     /// Prints a program, which `check` has to accept, before anything else is printed. The only error is want of memory.
     pub fn build(self, program: &'a Program) -> Result<CodegenReturn, CodegenError>
         requires unprinted { has_printed self ≡ false }
@@ -209,14 +285,22 @@ impl<'a> Codegen<'a> {
         ensures reads { IfOk result (λ printed. IsPlain (program_plain program.now) → IsQuiet (job_for self.entry (program_plain program.now))
             → IsReadAs (chars (string_bytes printed.code)) (job_for self.entry (program_plain program.now))) }
     {
+        let settings = self.settings();
         let mut p = self.printer;
-        let settings = Settings {
-            minified: self.options.minify,
-        };
         print_program(program, &mut p, settings)?;
         Ok(CodegenReturn {
             code: p.into_string(),
         })
+    }
+}
+
+// What the context of a call forbids.
+fn place_context(context: Context) -> jsgen_place::Context
+    ensures { context_of result ≡ context_at context }
+{
+    jsgen_place::Context {
+        forbids_in: context.forbid_in(),
+        forbids_call: context.forbid_call(),
     }
 }
 

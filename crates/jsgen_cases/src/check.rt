@@ -1,5 +1,5 @@
 // Checks of what no job or text by itself tells, by their names.
-use crate::{print_checks, run_checks, syntax_checks, text_checks, tree_checks};
+use crate::{gen_checks, print_checks, run_checks, syntax_checks, text_checks, tree_checks};
 use jsgen_syntax::Memory;
 use std::alloc::Global;
 
@@ -15,6 +15,9 @@ pub fn push_check(alloc: Global, name: &str, answer: &mut String) -> Result<(), 
 
 fn holds(alloc: Global, name: &str) -> Result<Option<bool>, Memory> {
     if let Some(holds) = holds_of_values(name) {
+        return Ok(Some(holds));
+    }
+    if let Some(holds) = holds_of_nodes(alloc, name) {
         return Ok(Some(holds));
     }
     if let Some(holds) = holds_of_a_run(alloc, name)? {
@@ -42,7 +45,19 @@ fn holds_of_values(name: &str) -> Option<bool> {
         "line terminators" => text_checks::line_terminators(),
         "close tags" => text_checks::close_tags(),
         "kinds of declarations" => tree_checks::kinds_of_declarations(),
+        "flags are set alone" => gen_checks::flags_are_set_alone(),
+        "operators are wrapped" => gen_checks::operators_are_wrapped(),
         "types are in their sets" => tree_checks::types_are_in_their_sets(),
+        _ => return None,
+    })
+}
+
+fn holds_of_nodes(alloc: Global, name: &str) -> Option<bool> {
+    Some(match name {
+        "nodes print by themselves" => gen_checks::nodes_print_by_themselves(alloc),
+        "levels and contexts are asked" => gen_checks::levels_and_contexts_are_asked(alloc),
+        "expressions print by themselves" => gen_checks::expressions_print_by_themselves(alloc),
+        "nodes go on with pieces" => gen_checks::nodes_go_on_with_pieces(alloc),
         _ => return None,
     })
 }

@@ -5,6 +5,7 @@
 #![tactic(auto)]
 
 mod check;
+mod gen_checks;
 mod line;
 mod meaning;
 mod print_checks;

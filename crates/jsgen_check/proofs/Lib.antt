@@ -1,3 +1,4 @@
+mod Alone
 pub mod Declarators
 pub mod Keys
 pub mod Programs

@@ -1,5 +1,5 @@
 -- The verdict on a program, whose height is judged behind its children.
-use Rattle.std.proofs.Common.{◌≡◌, ℕ, suc, ◌==◌, Bool, false, List, [], ◌∷◌, ◌++◌, map, nat_lt, Result, if◌then◌else◌, refl, sym, ap, ◌∙◌, arith}
+use Rattle.std.proofs.Common.{◌≡◌, ℕ, suc, Bool, false, List, [], ◌∷◌, ◌++◌, map, nat_lt, Result, if◌then◌else◌, refl, sym, ap, ◌∙◌, arith}
 use Rattle.std.specs.Str.{chars}
 use Rattle.std.proofs.lemmas.Bool.Decides.{nat_tests}
 use Rattle.std.proofs.lemmas.List.Elements.{Contains-append_right}
@@ -17,11 +17,11 @@ use Rattle.jsgen_check.specs.declared.surroundings.Surroundings.{Surroundings}
 use Rattle.jsgen_check.specs.Verdict.{surroundings_plain, capped, measured, both, ended, height_faults}
 use Rattle.jsgen_check.proofs.Verdicts.{slots_verdict, place, of_both, of_slots}
 
--- children fill 32 bits where a node above them passes these
-fills : (n : ℕ) → (capped n == 4294967295) ≡ nat_lt 4294967295 (suc n)
+-- a height that passes 32 bits does so too where it is counted up to what 64 bits hold
+fills : (n : ℕ) → nat_lt 4294967295 (suc (capped n)) ≡ nat_lt 4294967295 (suc n)
 fills n = grind (arith, nat_tests)
 
-of_height : (minified : Bool) (s : Span) (n : ℕ) → height_faults minified s (capped n) ≡ fault_if (if minified then false else nat_lt 4294967295 (suc n)) (faults.Indent s.start)
+of_height : (minified : Bool) (s : Span) (n : ℕ) → height_faults minified s (suc (capped n)) ≡ fault_if (if minified then false else nat_lt 4294967295 (suc n)) (faults.Indent s.start)
 of_height minified s n = ap (λ b. fault_if (if minified then false else b) (faults.Indent s.start)) (fills n)
 
 of_ended : (minified : Bool) (s : Span) (n : ℕ) (a : List TreeFault) → ended minified s (measured n a) ≡ verdict (a ++ fault_if (if minified then false else nat_lt 4294967295 (suc n)) (faults.Indent s.start))

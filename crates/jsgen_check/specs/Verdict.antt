@@ -1,5 +1,5 @@
 -- What the checker answers about a tree: Ok with its height where it keeps each rule, else the first rule that it breaks.
-use Rattle.std.specs.Prelude.{ℕ, suc, ◌==◌, min, max, Bool, false, List, [], ◌∷◌, ◌++◌, Result, Ok, Err, if◌then◌else◌}
+use Rattle.std.specs.Prelude.{ℕ, suc, nat_lt, min, max, Bool, false, List, [], ◌∷◌, ◌++◌, Result, Ok, Err, if◌then◌else◌}
 use Rattle.std.specs.Str.{chars}
 use Rattle.jsgen_syntax.specs.declared.span.Span.{Span}
 use Rattle.jsgen_tree.specs.declared.types.NodeSet.{NodeSet}
@@ -16,9 +16,9 @@ use Rattle.jsgen_check.specs.declared.surroundings.Surroundings.{Surroundings}
 unfoldable pub surroundings_plain : Surroundings → valid.Surroundings
 surroundings_plain around = record { options = options_plain around.options.now; tables = no_tables; source = chars around.source.now }
 
--- a height, counted up to what 32 bits hold
+-- a height, counted up to what 64 bits hold
 abbrev pub capped : ℕ → ℕ
-capped height = min height 4294967295
+capped height = min height 18446744073709551615
 
 -- Ok with this height where there is no fault, else the first
 unfoldable pub measured : ℕ → List TreeFault → Result ℕ TreeFault
@@ -41,14 +41,19 @@ unfoldable pub raised : Result ℕ TreeFault → Result ℕ TreeFault
 raised (Ok n) = Ok (capped (suc n))
 raised (Err e) = Err e
 
--- what a program breaks by its height, from that of its children: it passes 32 bits where theirs fills them
+-- what a tree with this span breaks by its height
 abbrev pub height_faults : Bool → Span → ℕ → List TreeFault
-height_faults minified s below = fault_if (if minified then false else (below == 4294967295)) (faults.Indent s.start)
+height_faults minified s height = fault_if (if minified then false else nat_lt 4294967295 height) (faults.Indent s.start)
 
 -- a fault of the children of a program, else of its height
 unfoldable pub ended : Bool → Span → Result ℕ TreeFault → Result (Unit {0}) TreeFault
-ended minified s (Ok n) = verdict (height_faults minified s n)
+ended minified s (Ok n) = verdict (height_faults minified s (suc n))
 ended minified s (Err e) = Err e
+
+-- a fault of an expression by itself, else of its height
+unfoldable pub topped : Bool → Span → Result ℕ TreeFault → Result (Unit {0}) TreeFault
+topped minified s (Ok n) = verdict (height_faults minified s n)
+topped minified s (Err e) = Err e
 
 -- ---- trees
 

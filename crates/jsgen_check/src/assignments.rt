@@ -14,7 +14,7 @@ use jsgen_tree::{AssignmentExpression, ConditionalExpression, NodeSet, SequenceE
 pub fn check_conditional_expression<N: CheckNode>(
     node: &ConditionalExpression<N>,
     around: Surroundings<'_>,
-) -> Result<u32, TreeFault>
+) -> Result<u64, TreeFault>
     ensures { result ≡ tree_verdict around.entry (conditional_expression_row N.plain node.now) }
 {
     let test = check_child(node.test.get(), NodeSet::Expression, around);
@@ -30,7 +30,7 @@ pub fn check_conditional_expression<N: CheckNode>(
 pub fn check_sequence_expression<N: CheckNode>(
     node: &SequenceExpression<N>,
     around: Surroundings<'_>,
-) -> Result<u32, TreeFault>
+) -> Result<u64, TreeFault>
     ensures { result ≡ tree_verdict around.entry (sequence_expression_row N.plain node.now) }
 {
     let rules = check_sequence_expression_rules(node, around);
@@ -41,7 +41,7 @@ pub fn check_sequence_expression<N: CheckNode>(
 pub fn check_assignment_expression<N: CheckNode>(
     node: &AssignmentExpression<N>,
     around: Surroundings<'_>,
-) -> Result<u32, TreeFault>
+) -> Result<u64, TreeFault>
     ensures { result ≡ tree_verdict around.entry (assignment_expression_row N.plain node.now) }
 {
     let rules = check_assignment_expression_rules(node, around);

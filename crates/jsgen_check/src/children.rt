@@ -21,7 +21,7 @@ use jsgen_tree::{
     VariableDeclarator,
 };
 
-pub fn check_directives(nodes: &[Directive], around: Surroundings<'_>) -> Result<u32, TreeFault>
+pub fn check_directives(nodes: &[Directive], around: Surroundings<'_>) -> Result<u64, TreeFault>
     ensures { result ≡ children_verdict around.entry sets.Directive (trees (map directive_row nodes.now)) }
 {
     let mut below = Ok(0);
@@ -35,7 +35,7 @@ pub fn check_directives(nodes: &[Directive], around: Surroundings<'_>) -> Result
 pub fn check_statements<N: CheckNode>(
     nodes: &[StatementNode<N>],
     around: Surroundings<'_>,
-) -> Result<u32, TreeFault>
+) -> Result<u64, TreeFault>
     ensures { result ≡ children_verdict around.entry sets.Statement (trees (map (in_statement N.plain) nodes.now)) }
 {
     let mut below = Ok(0);
@@ -49,7 +49,7 @@ pub fn check_statements<N: CheckNode>(
 pub fn check_variable_declarators<N: CheckNode>(
     nodes: &[VariableDeclarator<N>],
     around: Surroundings<'_>,
-) -> Result<u32, TreeFault>
+) -> Result<u64, TreeFault>
     ensures { result ≡ children_verdict around.entry sets.VariableDeclarator (trees (map (variable_declarator_row N.plain) nodes.now)) }
 {
     let mut below = Ok(0);
@@ -63,7 +63,7 @@ pub fn check_variable_declarators<N: CheckNode>(
 pub fn check_arguments<N: CheckNode>(
     nodes: &[Argument<N>],
     around: Surroundings<'_>,
-) -> Result<u32, TreeFault>
+) -> Result<u64, TreeFault>
     ensures { result ≡ children_verdict around.entry sets.Argument (trees (map (in_argument N.plain) nodes.now)) }
 {
     let mut below = Ok(0);
@@ -77,7 +77,7 @@ pub fn check_arguments<N: CheckNode>(
 pub fn check_object_property_kinds<N: CheckNode>(
     nodes: &[ObjectPropertyKind<N>],
     around: Surroundings<'_>,
-) -> Result<u32, TreeFault>
+) -> Result<u64, TreeFault>
     ensures { result ≡ children_verdict around.entry sets.ObjectPropertyKind (trees (map (in_object_property_kind N.plain) nodes.now)) }
 {
     let mut below = Ok(0);
@@ -91,7 +91,7 @@ pub fn check_object_property_kinds<N: CheckNode>(
 pub fn check_expressions<N: CheckNode>(
     nodes: &[ExpressionNode<N>],
     around: Surroundings<'_>,
-) -> Result<u32, TreeFault>
+) -> Result<u64, TreeFault>
     ensures { result ≡ children_verdict around.entry sets.Expression (trees (map (in_expression N.plain) nodes.now)) }
 {
     let mut below = Ok(0);
@@ -105,7 +105,7 @@ pub fn check_expressions<N: CheckNode>(
 pub fn check_array_expression_elements_or_holes<N: CheckNode>(
     nodes: &[Option<ArrayExpressionElement<N>>],
     around: Surroundings<'_>,
-) -> Result<u32, TreeFault>
+) -> Result<u64, TreeFault>
     ensures { result ≡ children_verdict around.entry sets.ArrayExpressionElement (holed (map (option_map (in_array_expression_element N.plain)) nodes.now)) }
 {
     let mut below = Ok(0);
@@ -119,7 +119,7 @@ pub fn check_array_expression_elements_or_holes<N: CheckNode>(
 pub fn check_optional_expression<N: CheckNode>(
     node: &Option<ExpressionNode<N>>,
     around: Surroundings<'_>,
-) -> Result<u32, TreeFault>
+) -> Result<u64, TreeFault>
     ensures { result ≡ maybe_verdict around.entry sets.Expression (optional (option_map (in_expression N.plain) node.now)) }
 {
     match node {
@@ -131,7 +131,7 @@ pub fn check_optional_expression<N: CheckNode>(
 pub fn check_optional_statement<N: CheckNode>(
     node: &Option<StatementNode<N>>,
     around: Surroundings<'_>,
-) -> Result<u32, TreeFault>
+) -> Result<u64, TreeFault>
     ensures { result ≡ maybe_verdict around.entry sets.Statement (optional (option_map (in_statement N.plain) node.now)) }
 {
     match node {
@@ -143,7 +143,7 @@ pub fn check_optional_statement<N: CheckNode>(
 pub fn check_optional_array_expression_element<N: CheckNode>(
     node: &Option<ArrayExpressionElement<N>>,
     around: Surroundings<'_>,
-) -> Result<u32, TreeFault>
+) -> Result<u64, TreeFault>
     ensures { result ≡ maybe_verdict around.entry sets.ArrayExpressionElement (optional (option_map (in_array_expression_element N.plain) node.now)) }
 {
     match node {
@@ -155,7 +155,7 @@ pub fn check_optional_array_expression_element<N: CheckNode>(
 pub fn check_argument<N: CheckNode>(
     node: &Argument<N>,
     around: Surroundings<'_>,
-) -> Result<u32, TreeFault>
+) -> Result<u64, TreeFault>
     ensures { result ≡ child_verdict around.entry sets.Argument (in_argument N.plain node.now) }
 {
     match node {
@@ -167,7 +167,7 @@ pub fn check_argument<N: CheckNode>(
 pub fn check_array_expression_element<N: CheckNode>(
     node: &ArrayExpressionElement<N>,
     around: Surroundings<'_>,
-) -> Result<u32, TreeFault>
+) -> Result<u64, TreeFault>
     ensures { result ≡ child_verdict around.entry sets.ArrayExpressionElement (in_array_expression_element N.plain node.now) }
 {
     match node {
@@ -183,7 +183,7 @@ pub fn check_array_expression_element<N: CheckNode>(
 pub fn check_chain_element<N: CheckNode>(
     node: &ChainElement<N>,
     around: Surroundings<'_>,
-) -> Result<u32, TreeFault>
+) -> Result<u64, TreeFault>
     ensures { result ≡ child_verdict around.entry sets.ChainElement (in_chain_element N.plain node.now) }
 {
     match node {
@@ -198,7 +198,7 @@ pub fn check_chain_element<N: CheckNode>(
 pub fn check_simple_assignment_target<N: CheckNode>(
     node: &SimpleAssignmentTarget<N>,
     around: Surroundings<'_>,
-) -> Result<u32, TreeFault>
+) -> Result<u64, TreeFault>
     ensures { result ≡ child_verdict around.entry sets.SimpleAssignmentTarget (in_simple_assignment_target N.plain node.now) }
 {
     match node {
@@ -217,7 +217,7 @@ pub fn check_simple_assignment_target<N: CheckNode>(
 pub fn check_assignment_target<N: CheckNode>(
     node: &AssignmentTarget<N>,
     around: Surroundings<'_>,
-) -> Result<u32, TreeFault>
+) -> Result<u64, TreeFault>
     ensures { result ≡ child_verdict around.entry sets.AssignmentTarget (in_assignment_target N.plain node.now) }
 {
     match node {
@@ -234,7 +234,7 @@ pub fn check_assignment_target<N: CheckNode>(
 pub fn check_object_property_kind<N: CheckNode>(
     node: &ObjectPropertyKind<N>,
     around: Surroundings<'_>,
-) -> Result<u32, TreeFault>
+) -> Result<u64, TreeFault>
     ensures { result ≡ child_verdict around.entry sets.ObjectPropertyKind (in_object_property_kind N.plain node.now) }
 {
     match node {
@@ -246,7 +246,7 @@ pub fn check_object_property_kind<N: CheckNode>(
 pub fn check_property_key<N: CheckNode>(
     node: &PropertyKey<N>,
     around: Surroundings<'_>,
-) -> Result<u32, TreeFault>
+) -> Result<u64, TreeFault>
     ensures { result ≡ child_verdict around.entry sets.PropertyKey (in_property_key N.plain node.now) }
 {
     match node {

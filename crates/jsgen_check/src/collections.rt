@@ -16,7 +16,7 @@ use jsgen_tree::{ArrayExpression, NodeSet, ObjectExpression, ObjectProperty, Spr
 pub fn check_spread_element<N: CheckNode>(
     node: &SpreadElement<N>,
     around: Surroundings<'_>,
-) -> Result<u32, TreeFault>
+) -> Result<u64, TreeFault>
     ensures { result ≡ tree_verdict around.entry (spread_element_row N.plain node.now) }
 {
     let argument = check_child(node.argument.get(), NodeSet::Expression, around);
@@ -26,7 +26,7 @@ pub fn check_spread_element<N: CheckNode>(
 pub fn check_array_expression<N: CheckNode>(
     node: &ArrayExpression<N>,
     around: Surroundings<'_>,
-) -> Result<u32, TreeFault>
+) -> Result<u64, TreeFault>
     ensures { result ≡ tree_verdict around.entry (array_expression_row N.plain node.now) }
 {
     let elements = check_array_expression_elements_or_holes(&node.elements, around);
@@ -36,7 +36,7 @@ pub fn check_array_expression<N: CheckNode>(
 pub fn check_object_property<N: CheckNode>(
     node: &ObjectProperty<N>,
     around: Surroundings<'_>,
-) -> Result<u32, TreeFault>
+) -> Result<u64, TreeFault>
     ensures { result ≡ tree_verdict around.entry (object_property_row N.plain node.now) }
 {
     let rules = check_object_property_rules(node, around);
@@ -48,7 +48,7 @@ pub fn check_object_property<N: CheckNode>(
 pub fn check_object_expression<N: CheckNode>(
     node: &ObjectExpression<N>,
     around: Surroundings<'_>,
-) -> Result<u32, TreeFault>
+) -> Result<u64, TreeFault>
     ensures { result ≡ tree_verdict around.entry (object_expression_row N.plain node.now) }
 {
     let properties = check_object_property_kinds(&node.properties, around);

@@ -24,7 +24,7 @@ use jsgen_tree::{
 pub fn check_identifier_reference(
     node: &IdentifierReference,
     around: Surroundings<'_>,
-) -> Result<u32, TreeFault>
+) -> Result<u64, TreeFault>
     ensures { result ≡ tree_verdict around.entry (identifier_reference_row node.now) }
 {
     let rules = check_identifier_reference_rules(node, around);
@@ -34,14 +34,14 @@ pub fn check_identifier_reference(
 pub fn check_this_expression(
     node: &ThisExpression,
     around: Surroundings<'_>,
-) -> Result<u32, TreeFault>
+) -> Result<u64, TreeFault>
     ensures { result ≡ tree_verdict around.entry (this_expression_row node.now) }
 {
     let _ = around;
     check_node(node.span, Ok(()), Ok(0))
 }
 
-pub fn check_null_literal(node: &NullLiteral, around: Surroundings<'_>) -> Result<u32, TreeFault>
+pub fn check_null_literal(node: &NullLiteral, around: Surroundings<'_>) -> Result<u64, TreeFault>
     ensures { result ≡ tree_verdict around.entry (null_literal_row node.now) }
 {
     let _ = around;
@@ -51,7 +51,7 @@ pub fn check_null_literal(node: &NullLiteral, around: Surroundings<'_>) -> Resul
 pub fn check_boolean_literal(
     node: &BooleanLiteral,
     around: Surroundings<'_>,
-) -> Result<u32, TreeFault>
+) -> Result<u64, TreeFault>
     ensures { result ≡ tree_verdict around.entry (boolean_literal_row node.now) }
 {
     let _ = around;
@@ -61,7 +61,7 @@ pub fn check_boolean_literal(
 pub fn check_numeric_literal(
     node: &NumericLiteral,
     around: Surroundings<'_>,
-) -> Result<u32, TreeFault>
+) -> Result<u64, TreeFault>
     ensures { result ≡ tree_verdict around.entry (numeric_literal_row node.now) }
 {
     let rules = check_numeric_literal_rules(node, around);
@@ -71,7 +71,7 @@ pub fn check_numeric_literal(
 pub fn check_big_int_literal(
     node: &BigIntLiteral,
     around: Surroundings<'_>,
-) -> Result<u32, TreeFault>
+) -> Result<u64, TreeFault>
     ensures { result ≡ tree_verdict around.entry (big_int_literal_row node.now) }
 {
     let rules = check_big_int_literal_rules(node, around);
@@ -81,7 +81,7 @@ pub fn check_big_int_literal(
 pub fn check_string_literal(
     node: &StringLiteral,
     around: Surroundings<'_>,
-) -> Result<u32, TreeFault>
+) -> Result<u64, TreeFault>
     ensures { result ≡ tree_verdict around.entry (string_literal_row node.now) }
 {
     let _ = around;
@@ -91,7 +91,7 @@ pub fn check_string_literal(
 pub fn check_parenthesized_expression<N: CheckNode>(
     node: &ParenthesizedExpression<N>,
     around: Surroundings<'_>,
-) -> Result<u32, TreeFault>
+) -> Result<u64, TreeFault>
     ensures { result ≡ tree_verdict around.entry (parenthesized_expression_row N.plain node.now) }
 {
     let expression = check_child(node.expression.get(), NodeSet::Expression, around);
@@ -101,7 +101,7 @@ pub fn check_parenthesized_expression<N: CheckNode>(
 pub fn check_binary_expression<N: CheckNode>(
     node: &BinaryExpression<N>,
     around: Surroundings<'_>,
-) -> Result<u32, TreeFault>
+) -> Result<u64, TreeFault>
     ensures { result ≡ tree_verdict around.entry (binary_expression_row N.plain node.now) }
 {
     let left = check_child(node.left.get(), NodeSet::Expression, around);
@@ -112,7 +112,7 @@ pub fn check_binary_expression<N: CheckNode>(
 pub fn check_logical_expression<N: CheckNode>(
     node: &LogicalExpression<N>,
     around: Surroundings<'_>,
-) -> Result<u32, TreeFault>
+) -> Result<u64, TreeFault>
     ensures { result ≡ tree_verdict around.entry (logical_expression_row N.plain node.now) }
 {
     let left = check_child(node.left.get(), NodeSet::Expression, around);
@@ -123,7 +123,7 @@ pub fn check_logical_expression<N: CheckNode>(
 pub fn check_identifier_name(
     node: &IdentifierName,
     around: Surroundings<'_>,
-) -> Result<u32, TreeFault>
+) -> Result<u64, TreeFault>
     ensures { result ≡ tree_verdict around.entry (identifier_name_row node.now) }
 {
     let rules = check_identifier_name_rules(node, around);
@@ -133,7 +133,7 @@ pub fn check_identifier_name(
 pub fn check_static_member_expression<N: CheckNode>(
     node: &StaticMemberExpression<N>,
     around: Surroundings<'_>,
-) -> Result<u32, TreeFault>
+) -> Result<u64, TreeFault>
     ensures { result ≡ tree_verdict around.entry (static_member_expression_row N.plain node.now) }
 {
     let rules = check_static_member_expression_rules(node, around);
@@ -145,7 +145,7 @@ pub fn check_static_member_expression<N: CheckNode>(
 pub fn check_computed_member_expression<N: CheckNode>(
     node: &ComputedMemberExpression<N>,
     around: Surroundings<'_>,
-) -> Result<u32, TreeFault>
+) -> Result<u64, TreeFault>
     ensures { result ≡ tree_verdict around.entry (computed_member_expression_row N.plain node.now) }
 {
     let rules = check_computed_member_expression_rules(node, around);
@@ -157,7 +157,7 @@ pub fn check_computed_member_expression<N: CheckNode>(
 pub fn check_call_expression<N: CheckNode>(
     node: &CallExpression<N>,
     around: Surroundings<'_>,
-) -> Result<u32, TreeFault>
+) -> Result<u64, TreeFault>
     ensures { result ≡ tree_verdict around.entry (call_expression_row N.plain node.now) }
 {
     let rules = check_call_expression_rules(node, around);
@@ -169,7 +169,7 @@ pub fn check_call_expression<N: CheckNode>(
 pub fn check_chain_expression<N: CheckNode>(
     node: &ChainExpression<N>,
     around: Surroundings<'_>,
-) -> Result<u32, TreeFault>
+) -> Result<u64, TreeFault>
     ensures { result ≡ tree_verdict around.entry (chain_expression_row N.plain node.now) }
 {
     let rules = check_chain_expression_rules(node, around);

@@ -7,7 +7,9 @@ ghost use Rattle.jsgen_tree.specs.Tree.{Tree, type_of, span_of};
 ghost use Rattle.jsgen_tree.specs.Plain.{node_plain, program_plain};
 ghost use Rattle.jsgen_tree.specs.Options.{options_plain};
 ghost use Rattle.jsgen_tree.specs.Job.{no_tables};
-ghost use Rattle.jsgen_model.specs.Valid.{job_breaches, set_faults, link_faults, Judges};
+ghost use Rattle.jsgen_tree.specs.Rows.{expression_plain};
+ghost use Rattle.jsgen_tree.specs.declared.types.NodeSet.TheVariants as sets;
+ghost use Rattle.jsgen_model.specs.Valid.{job_breaches, expression_breaches, set_faults, link_faults, Judges};
 ghost use Rattle.jsgen_rules.specs.Verdict.{verdict};
 ghost use Rattle.jsgen_check.specs.Verdict.{tree_verdict, child_verdict};
 
@@ -24,6 +26,7 @@ mod sets;
 mod statements;
 mod surroundings;
 
+use crate::heights::check_top;
 use crate::links::{
     binding_pattern_has_optional_link, declaration_has_optional_link, expression_has_optional_link,
     statement_has_optional_link,
@@ -35,7 +38,7 @@ use crate::sets::{
 pub use crate::surroundings::Surroundings;
 use jsgen_model::TreeFault;
 use jsgen_rules::{check_no_optional_link, check_set, takes_optional_link};
-use jsgen_tree::{CodegenOptions, GetSpan, Node, NodeSet, NodeType, Program};
+use jsgen_tree::{CodegenOptions, Expression, GetSpan, Node, NodeSet, NodeType, Program};
 
 /// What the checks ask of a child. Only `Node` implements it.
 pub trait CheckNode {
@@ -68,8 +71,8 @@ pub trait CheckNode {
     fn has_optional_link(&self) -> bool
         ensures { result ≡ has_optional_link (plain self.now) };
 
-    /// Where no rule is broken, how many nodes stand on the longest way down, counted up to what 32 bits hold.
-    fn check(&self, around: Surroundings<'_>) -> Result<u32, TreeFault>
+    /// Where no rule is broken, how many nodes stand on the longest way down, counted up to what 64 bits hold.
+    fn check(&self, around: Surroundings<'_>) -> Result<u64, TreeFault>
         ensures { result ≡ tree_verdict around.entry (plain self.now) };
 }
 
@@ -81,11 +84,41 @@ pub fn check_program(options: &CodegenOptions, program: &Program) -> Result<(), 
     check_program_row(program, Surroundings { options, source })
 }
 
+/// Says Ok exactly where an expression by itself, which is printed under these options, keeps each rule, and otherwise a rule
+/// that it breaks: it is checked as the one statement of a module.
+pub fn check_expression(options: &CodegenOptions, expression: &Expression) -> Result<(), TreeFault>
+    ensures { Judges (expression_breaches (options_plain options.now) no_tables (expression_plain node_plain expression.now)) result }
+{
+    let around = Surroundings {
+        options,
+        source: "",
+    };
+    let found = check_alone(expression, around);
+    check_top(options.minify, expression.span(), found)
+}
+
+// An expression that nothing stands round.
+fn check_alone(expression: &Expression, around: Surroundings<'_>) -> Result<u64, TreeFault>
+    ensures { result ≡ child_verdict around.entry sets.Expression (expression_plain node_plain expression.now) }
+{
+    check_place_alone(expression)?;
+    check_expression_set(expression, around)
+}
+
+// Neither `super` nor a link that may be left out stands there by itself.
+fn check_place_alone(expression: &Expression) -> Result<(), TreeFault>
+    ensures { result ≡ verdict (set_faults sets.Expression (expression_plain node_plain expression.now)) }
+{
+    let start = expression.span().start;
+    check_set(expression.node_type(), NodeSet::Expression, start)?;
+    check_no_optional_link(expression_has_optional_link(expression), start)
+}
+
 fn check_child<N: CheckNode>(
     child: &N,
     set: NodeSet,
     around: Surroundings<'_>,
-) -> Result<u32, TreeFault>
+) -> Result<u64, TreeFault>
     ensures { result ≡ child_verdict around.entry set (N.plain child.now) }
 {
     check_place(child, set)?;
@@ -145,7 +178,7 @@ impl CheckNode for Node {
     }
 
     #[cycle(node)]
-    fn check(&self, around: Surroundings<'_>) -> Result<u32, TreeFault> {
+    fn check(&self, around: Surroundings<'_>) -> Result<u64, TreeFault> {
         match self {
             Node::Expression(expression) => check_expression_set(expression, around),
             Node::Statement(statement) => check_statement_set(statement, around),

@@ -14,14 +14,14 @@ use jsgen_tree::{NewExpression, NewTarget, NodeSet, Super, UnaryExpression, Upda
 pub fn check_unary_expression<N: CheckNode>(
     node: &UnaryExpression<N>,
     around: Surroundings<'_>,
-) -> Result<u32, TreeFault>
+) -> Result<u64, TreeFault>
     ensures { result ≡ tree_verdict around.entry (unary_expression_row N.plain node.now) }
 {
     let argument = check_child(node.argument.get(), NodeSet::Expression, around);
     check_node(node.span, Ok(()), argument)
 }
 
-pub fn check_new_target(node: &NewTarget, around: Surroundings<'_>) -> Result<u32, TreeFault>
+pub fn check_new_target(node: &NewTarget, around: Surroundings<'_>) -> Result<u64, TreeFault>
     ensures { result ≡ tree_verdict around.entry (new_target_row node.now) }
 {
     let _ = around;
@@ -31,7 +31,7 @@ pub fn check_new_target(node: &NewTarget, around: Surroundings<'_>) -> Result<u3
 pub fn check_update_expression<N: CheckNode>(
     node: &UpdateExpression<N>,
     around: Surroundings<'_>,
-) -> Result<u32, TreeFault>
+) -> Result<u64, TreeFault>
     ensures { result ≡ tree_verdict around.entry (update_expression_row N.plain node.now) }
 {
     let rules = check_update_expression_rules(node, around);
@@ -42,7 +42,7 @@ pub fn check_update_expression<N: CheckNode>(
 pub fn check_new_expression<N: CheckNode>(
     node: &NewExpression<N>,
     around: Surroundings<'_>,
-) -> Result<u32, TreeFault>
+) -> Result<u64, TreeFault>
     ensures { result ≡ tree_verdict around.entry (new_expression_row N.plain node.now) }
 {
     let callee = check_child(node.callee.get(), NodeSet::Expression, around);
@@ -50,7 +50,7 @@ pub fn check_new_expression<N: CheckNode>(
     check_node(node.span, Ok(()), higher(callee, arguments))
 }
 
-pub fn check_super(node: &Super, around: Surroundings<'_>) -> Result<u32, TreeFault>
+pub fn check_super(node: &Super, around: Surroundings<'_>) -> Result<u64, TreeFault>
     ensures { result ≡ tree_verdict around.entry (super_row node.now) }
 {
     let _ = around;

@@ -30,7 +30,7 @@ use jsgen_tree::{BindingPattern, Declaration, Expression, Statement};
 pub fn check_expression_set<N: CheckNode>(
     node: &Expression<N>,
     around: Surroundings<'_>,
-) -> Result<u32, TreeFault>
+) -> Result<u64, TreeFault>
     ensures { result ≡ tree_verdict around.entry (expression_plain N.plain node.now) }
 {
     match node {
@@ -66,7 +66,7 @@ pub fn check_expression_set<N: CheckNode>(
 pub fn check_declaration_set<N: CheckNode>(
     node: &Declaration<N>,
     around: Surroundings<'_>,
-) -> Result<u32, TreeFault>
+) -> Result<u64, TreeFault>
     ensures { result ≡ tree_verdict around.entry (declaration_plain N.plain node.now) }
 {
     match node {
@@ -77,7 +77,7 @@ pub fn check_declaration_set<N: CheckNode>(
 pub fn check_statement_set<N: CheckNode>(
     node: &Statement<N>,
     around: Surroundings<'_>,
-) -> Result<u32, TreeFault>
+) -> Result<u64, TreeFault>
     ensures { result ≡ tree_verdict around.entry (statement_plain N.plain node.now) }
 {
     match node {
@@ -92,7 +92,7 @@ pub fn check_statement_set<N: CheckNode>(
 pub fn check_binding_pattern_set(
     node: &BindingPattern,
     around: Surroundings<'_>,
-) -> Result<u32, TreeFault>
+) -> Result<u64, TreeFault>
     ensures { result ≡ tree_verdict around.entry (binding_pattern_plain node.now) }
 {
     match node {

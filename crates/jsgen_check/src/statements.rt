@@ -20,7 +20,7 @@ use jsgen_tree::{
     NodeSet, VariableDeclaration, VariableDeclarator,
 };
 
-pub fn check_directive(node: &Directive, around: Surroundings<'_>) -> Result<u32, TreeFault>
+pub fn check_directive(node: &Directive, around: Surroundings<'_>) -> Result<u64, TreeFault>
     ensures { result ≡ tree_verdict around.entry (directive_row node.now) }
 {
     let rules = check_directive_rules(node, around);
@@ -30,7 +30,7 @@ pub fn check_directive(node: &Directive, around: Surroundings<'_>) -> Result<u32
 pub fn check_variable_declaration<N: CheckNode>(
     node: &VariableDeclaration<N>,
     around: Surroundings<'_>,
-) -> Result<u32, TreeFault>
+) -> Result<u64, TreeFault>
     ensures { result ≡ tree_verdict around.entry (variable_declaration_row N.plain node.now) }
 {
     let rules = check_variable_declaration_rules(node, around);
@@ -41,7 +41,7 @@ pub fn check_variable_declaration<N: CheckNode>(
 pub fn check_variable_declarator<N: CheckNode>(
     node: &VariableDeclarator<N>,
     around: Surroundings<'_>,
-) -> Result<u32, TreeFault>
+) -> Result<u64, TreeFault>
     ensures { result ≡ tree_verdict around.entry (variable_declarator_row N.plain node.now) }
 {
     let id = check_child(node.id.get(), NodeSet::BindingPattern, around);
@@ -52,7 +52,7 @@ pub fn check_variable_declarator<N: CheckNode>(
 pub fn check_binding_identifier(
     node: &BindingIdentifier,
     around: Surroundings<'_>,
-) -> Result<u32, TreeFault>
+) -> Result<u64, TreeFault>
     ensures { result ≡ tree_verdict around.entry (binding_identifier_row node.now) }
 {
     let rules = check_binding_identifier_rules(node, around);
@@ -62,7 +62,7 @@ pub fn check_binding_identifier(
 pub fn check_expression_statement<N: CheckNode>(
     node: &ExpressionStatement<N>,
     around: Surroundings<'_>,
-) -> Result<u32, TreeFault>
+) -> Result<u64, TreeFault>
     ensures { result ≡ tree_verdict around.entry (expression_statement_row N.plain node.now) }
 {
     let expression = check_child(node.expression.get(), NodeSet::Expression, around);
@@ -72,7 +72,7 @@ pub fn check_expression_statement<N: CheckNode>(
 pub fn check_block_statement<N: CheckNode>(
     node: &BlockStatement<N>,
     around: Surroundings<'_>,
-) -> Result<u32, TreeFault>
+) -> Result<u64, TreeFault>
     ensures { result ≡ tree_verdict around.entry (block_statement_row N.plain node.now) }
 {
     let body = check_statements(&node.body, around);
@@ -82,7 +82,7 @@ pub fn check_block_statement<N: CheckNode>(
 pub fn check_if_statement<N: CheckNode>(
     node: &IfStatement<N>,
     around: Surroundings<'_>,
-) -> Result<u32, TreeFault>
+) -> Result<u64, TreeFault>
     ensures { result ≡ tree_verdict around.entry (if_statement_row N.plain node.now) }
 {
     let rules = check_if_statement_rules(node, around);
@@ -99,7 +99,7 @@ pub fn check_if_statement<N: CheckNode>(
 pub fn check_empty_statement(
     node: &EmptyStatement,
     around: Surroundings<'_>,
-) -> Result<u32, TreeFault>
+) -> Result<u64, TreeFault>
     ensures { result ≡ tree_verdict around.entry (empty_statement_row node.now) }
 {
     let _ = around;

@@ -286,6 +286,17 @@ job_breaches job = breaches (surroundings_of job) job.program
 abbrev pub IsValid : JobData → Type 0
 IsValid job = job_breaches job ≡ []
 
+-- ---- expressions by themselves
+
+-- An expression by itself is checked as that of the one statement of a module, where `super` has no place. It has no source, and
+-- its own height counts, from level 0
+abbrev pub expression_breaches : Options → Tables → Tree → List TreeFault
+expression_breaches options tables t = set_faults sets.Expression t ++ breaches (record { options = options; tables = tables; source = [] }) t ++ indent_faults options.minify t
+
+-- no rule is broken by the expression, under these options and tables
+abbrev pub IsValidExpression : Options → Tables → Tree → Type 0
+IsValidExpression options tables t = expression_breaches options tables t ≡ []
+
 -- Ok where no rule is broken, else one that is
 abbrev pub Judges : List TreeFault → Result (Unit {0}) TreeFault → Type 0
 Judges found (Ok done) = found ≡ []

@@ -144,7 +144,7 @@ impl<N: PrintNode> PrintElement<ObjectPropertyKind<N>> for Properties {
 }
 
 #[tactic(auto, unfolding(crate::specs::Place::pen_after))]
-fn print_object_property<N: PrintNode>(
+pub fn print_object_property<N: PrintNode>(
     node: &ObjectProperty<N>,
     p: &mut Printer,
     place: Place,
@@ -250,7 +250,7 @@ fn print_computed_key<N: PrintNode>(
 }
 
 #[tactic(auto, unfolding(crate::specs::Place::pen_after))]
-fn print_key_text<N: PrintNode>(
+pub fn print_key_text<N: PrintNode>(
     key: &PropertyKey<N>,
     p: &mut Printer,
     place: Place,

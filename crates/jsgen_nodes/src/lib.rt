@@ -1,6 +1,7 @@
 //! Print functions: one for each row, generic in the tree's recursive type, and one impl that ties the knot.
 #![tactic(auto)]
 
+mod alone;
 mod assignments;
 mod blocks;
 mod choices;
@@ -27,7 +28,7 @@ ghost use Rattle.jsgen_printer.specs.Printer.{pen_of};
 ghost use Rattle.jsgen_place.specs.Place.{operand_of};
 ghost use Rattle.jsgen_nodes.specs.Place.{pen_after};
 
-use jsgen_place::{Operand, Place};
+use jsgen_place::{Context, Operand, Place, Settings};
 use jsgen_printer::Printer;
 use jsgen_syntax::{JsStr, Memory};
 use jsgen_tree::{Node, NodeType};
@@ -82,6 +83,35 @@ pub trait PrintNode {
     /// Whether it is a number or a big integer with a minus before it, without the parentheses that it may have round it.
     fn is_negative(&self) -> bool
         ensures { result ≡ is_negative (without_parentheses (plain self.now)) };
+}
+
+/// What is printed by itself: as what holds it in a tree prints it, with nothing round it.
+pub trait PrintAlone {
+    ghost use Rattle.jsgen_model.specs.Items.{Items};
+    ghost use Rattle.jsgen_model.specs.Spell as spells;
+    ghost use Rattle.jsgen_model.specs.Layout.{Start, layout};
+    ghost use Rattle.jsgen_place.specs.Place.{settings_of, context_of};
+
+    // Its items, where this begins with it.
+    ghost alone: { Self → spells.Settings → spells.Context → Start → Items };
+
+    fn print_alone(
+        &self,
+        p: &mut Printer,
+        settings: Settings,
+        context: Context,
+    ) -> Result<(), Memory>
+        ensures { Reaches result (pen_of p.old) (pen_of p.new) (layout (alone self.now (settings_of settings) (context_of context) (pen_of p.old).start) (pen_of p.old)) };
+}
+
+/// What is printed at a level, which decides whether parentheses stand round it.
+pub trait PrintAtLevel {
+    ghost use Rattle.jsgen_tree.specs.Tree.{Tree};
+
+    ghost plain: { Self → Tree };
+
+    fn print_at(&self, p: &mut Printer, place: Place) -> Result<(), Memory>
+        ensures { Reaches result (pen_of p.old) (pen_of p.new) (pen_after (plain self.now) place p.old) };
 }
 
 /// The knot: the one recursion.

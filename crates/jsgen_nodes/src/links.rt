@@ -25,7 +25,7 @@ use jsgen_tree::{
 };
 
 #[tactic(auto, unfolding(crate::specs::Place::pen_after))]
-pub(crate) fn print_identifier_name(
+pub fn print_identifier_name(
     node: &IdentifierName,
     p: &mut Printer,
     place: Place,

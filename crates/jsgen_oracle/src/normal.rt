@@ -439,13 +439,7 @@ fn assignment_target_form<N: NormalNode>(
             static_member_expression_form(alloc, node)
         }
         AssignmentTarget::ComputedMemberExpression(node) => {
-            pair(
-                alloc,
-                NodeType::ComputedMemberExpression,
-                Value::Nothing,
-                node.object.get(),
-                node.expression.get(),
-            )
+            computed_member_expression_form(alloc, node)
         }
     }
 }

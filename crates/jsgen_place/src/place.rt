@@ -60,6 +60,26 @@ impl Place {
         Place::in_brackets(Precedence::Lowest, settings)
     }
 
+    /// The place of what is printed by itself, at the lowest level.
+    pub fn by_itself(settings: Settings, context: Context) -> Place
+        ensures { result ≡ record { settings = settings; level = Precedence.Lowest; context = context; in_list = false; left_operand = false } }
+    {
+        Place::at_level(Precedence::Lowest, settings, context)
+    }
+
+    /// The place of what is printed by itself, at a level.
+    pub fn at_level(level: Precedence, settings: Settings, context: Context) -> Place
+        ensures { result ≡ record { settings = settings; level = level; context = context; in_list = false; left_operand = false } }
+    {
+        Place {
+            settings,
+            level,
+            context,
+            in_list: false,
+            left_operand: false,
+        }
+    }
+
     /// A child's place, under the same context.
     pub fn child(self, level: Precedence) -> Place
         ensures { result ≡ record { settings = self.settings; level = level; context = self.context; in_list = false; left_operand = false } }

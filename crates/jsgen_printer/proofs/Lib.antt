@@ -1,3 +1,4 @@
+mod Flags
 pub mod Handed
 pub mod Bangs
 pub mod Operators

@@ -13,7 +13,7 @@ VERDICT = "Rattle.jsgen_check.specs.Verdict"
 AROUND = "around: Surroundings<'_>"
 STEPS = ["no_rules", "two_children", "last_child", "of_row", "none_before", "turn", "turns_end", "turn_or_hole", "turns_or_holes_end"]
 PROGRAM = "Program"  # its row stands by hand, in crates/jsgen_check/src/program.rt
-RESULT = "Result<u32, TreeFault>"
+RESULT = "Result<u64, TreeFault>"
 
 
 def write(table):

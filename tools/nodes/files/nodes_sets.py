@@ -32,7 +32,7 @@ def write(table):
 
 def print_functions():
     """The print functions that are written by hand, by the file in which they stand."""
-    files = [p for p in sorted((CRATE / "src").glob("*.rt")) if p.name not in ("sets.rt", "lib.rt")]
+    files = [p for p in sorted((CRATE / "src").glob("*.rt")) if p.name not in ("alone.rt", "sets.rt", "lib.rt")]
     return [(f"crate::{p.stem}", re.findall(r"pub fn (print_\w+)", p.read_text())) for p in files]
 
 

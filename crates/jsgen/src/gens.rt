@@ -1,0 +1,60 @@
+// Print calls of nodes: each goes on with what was printed before, and is no part of a program.
+ghost use Rattle.std.specs.Prelude.{◌≡◌, false};
+ghost use Rattle.jsgen_model.specs.Layout.{layout};
+ghost use Rattle.jsgen_model.specs.Spell.{spell};
+ghost use Rattle.jsgen_nodes.specs.Alone.{at_level};
+ghost use Rattle.jsgen.specs.Codegen.{has_failed, pen_at, settings_at, Prints};
+ghost use Rattle.jsgen.specs.Context.{context_at};
+
+use crate::codegen::{Codegen, CodegenError};
+use jsgen_nodes::{PrintAlone, PrintAtLevel};
+use jsgen_printer::Context;
+use jsgen_syntax::Precedence;
+use jsgen_tree::GetSpan;
+
+/// What is printed by itself: as what holds it in a tree prints it, with nothing round it. A statement is printed as it
+/// stands among statements.
+pub trait Gen: GetSpan + PrintAlone {
+    final fn gen_node(&self, p: &mut Codegen<'_>, ctx: Context) -> Result<(), CodegenError>
+        requires unfailed { has_failed p.old ≡ false }
+        ensures { Prints p.old p.new (layout (Self.alone self.now (settings_at p.old) (context_at ctx) (pen_at p.old).start) (pen_at p.old)) result }
+    {
+        p.print_alone(self, ctx)
+    }
+
+    /// The same text.
+    final fn print(&self, p: &mut Codegen<'_>, ctx: Context) -> Result<(), CodegenError>
+        requires unfailed { has_failed p.old ≡ false }
+        ensures { Prints p.old p.new (layout (Self.alone self.now (settings_at p.old) (context_at ctx) (pen_at p.old).start) (pen_at p.old)) result }
+    {
+        self.gen_node(p, ctx)
+    }
+}
+
+/// What is printed at a level, which decides whether parentheses stand round it.
+pub trait GenExpr: GetSpan + PrintAtLevel {
+    final fn gen_expr(
+        &self,
+        p: &mut Codegen<'_>,
+        precedence: Precedence,
+        ctx: Context,
+    ) -> Result<(), CodegenError>
+        requires unfailed { has_failed p.old ≡ false }
+        ensures { Prints p.old p.new (layout (spell (Self.plain self.now) (at_level precedence (settings_at p.old) (context_at ctx) (pen_at p.old).start)) (pen_at p.old)) result }
+    {
+        p.print_at_level(self, precedence, ctx)
+    }
+
+    /// The same text.
+    final fn print_expr(
+        &self,
+        p: &mut Codegen<'_>,
+        precedence: Precedence,
+        ctx: Context,
+    ) -> Result<(), CodegenError>
+        requires unfailed { has_failed p.old ≡ false }
+        ensures { Prints p.old p.new (layout (spell (Self.plain self.now) (at_level precedence (settings_at p.old) (context_at ctx) (pen_at p.old).start)) (pen_at p.old)) result }
+    {
+        self.gen_expr(p, precedence, ctx)
+    }
+}

@@ -1,0 +1,105 @@
+// Generated from tools/nodes/table.txt; edit that and run tools/nodes/generate.
+// What is printed by itself has `Gen`, and what is printed at a level `GenExpr`.
+
+use crate::gens::{Gen, GenExpr};
+use jsgen_tree::{
+    Argument, ArrayExpression, ArrayExpressionElement, AssignmentExpression, AssignmentTarget,
+    BigIntLiteral, BinaryExpression, BindingIdentifier, BindingPattern, BlockStatement,
+    BooleanLiteral, CallExpression, ChainExpression, ComputedMemberExpression,
+    ConditionalExpression, Directive, EmptyStatement, Expression, ExpressionStatement,
+    IdentifierName, IdentifierReference, IfStatement, LogicalExpression, NewExpression, NewTarget,
+    NullLiteral, NumericLiteral, ObjectExpression, ObjectProperty, ObjectPropertyKind,
+    ParenthesizedExpression, Program, PropertyKey, SequenceExpression, SimpleAssignmentTarget,
+    SpreadElement, Statement, StaticMemberExpression, StringLiteral, Super, ThisExpression,
+    UnaryExpression, UpdateExpression, VariableDeclaration, VariableDeclarator,
+};
+
+impl Gen for Program {}
+
+impl Gen for Directive {}
+
+impl Gen for VariableDeclaration {}
+
+impl Gen for VariableDeclarator {}
+
+impl Gen for BindingIdentifier {}
+
+impl Gen for ExpressionStatement {}
+
+impl Gen for BlockStatement {}
+
+impl Gen for IfStatement {}
+
+impl Gen for EmptyStatement {}
+
+impl Gen for IdentifierReference {}
+
+impl Gen for ThisExpression {}
+
+impl Gen for NullLiteral {}
+
+impl Gen for BooleanLiteral {}
+
+impl GenExpr for NumericLiteral {}
+
+impl GenExpr for BigIntLiteral {}
+
+impl Gen for StringLiteral {}
+
+impl GenExpr for ParenthesizedExpression {}
+
+impl GenExpr for BinaryExpression {}
+
+impl GenExpr for LogicalExpression {}
+
+impl Gen for IdentifierName {}
+
+impl GenExpr for StaticMemberExpression {}
+
+impl GenExpr for ComputedMemberExpression {}
+
+impl GenExpr for CallExpression {}
+
+impl GenExpr for ChainExpression {}
+
+impl Gen for SpreadElement {}
+
+impl Gen for ArrayExpression {}
+
+impl Gen for ObjectProperty {}
+
+impl GenExpr for ObjectExpression {}
+
+impl GenExpr for UnaryExpression {}
+
+impl Gen for NewTarget {}
+
+impl GenExpr for UpdateExpression {}
+
+impl GenExpr for NewExpression {}
+
+impl Gen for Super {}
+
+impl GenExpr for ConditionalExpression {}
+
+impl GenExpr for SequenceExpression {}
+
+impl GenExpr for AssignmentExpression {}
+
+impl GenExpr for Expression {}
+
+impl Gen for Argument {}
+
+impl Gen for ArrayExpressionElement {}
+
+impl GenExpr for SimpleAssignmentTarget {}
+
+impl Gen for AssignmentTarget {}
+
+impl Gen for ObjectPropertyKind {}
+
+impl Gen for PropertyKey {}
+
+impl Gen for Statement {}
+
+impl Gen for BindingPattern {}

@@ -1,0 +1,261 @@
+// Checks of the print calls of nodes.
+ghost use Rattle.std.specs.Prelude.{◌≡◌, false};
+ghost use Rattle.jsgen.specs.Codegen.{has_failed};
+
+use bitflags::Flags;
+use jsgen::{
+    Codegen, CodegenError, CodegenOptions, Context, Gen, GenExpr, Job, Operator, TreeFault,
+    read_job,
+};
+use jsgen_syntax::{BinaryOperator, Precedence, UnaryOperator, UpdateOperator};
+use jsgen_tree::{Declaration, Expression, Node, ObjectPropertyKind, Program, Statement};
+use std::alloc::Global;
+
+// `{};`, `1;`, `{ if: b };`, `a in b;`, `f(b);`, `const c = 1;` and `super;`.
+const JOB: &str = "{\"rows\":[\
+    {\"type\":\"ObjectExpression\"},\
+    {\"type\":\"ExpressionStatement\",\"expression\":0},\
+    {\"type\":\"NumericLiteral\",\"kind\":\"whole\",\"digits\":1},\
+    {\"type\":\"ExpressionStatement\",\"expression\":2},\
+    {\"type\":\"IdentifierName\",\"name\":\"if\"},\
+    {\"type\":\"IdentifierReference\",\"name\":\"b\"},\
+    {\"type\":\"ObjectProperty\",\"kind\":\"init\",\"key\":4,\"value\":5},\
+    {\"type\":\"ObjectExpression\",\"properties\":[6]},\
+    {\"type\":\"ExpressionStatement\",\"expression\":7},\
+    {\"type\":\"IdentifierReference\",\"name\":\"a\"},\
+    {\"type\":\"IdentifierReference\",\"name\":\"b\"},\
+    {\"type\":\"BinaryExpression\",\"operator\":\"in\",\"left\":9,\"right\":10},\
+    {\"type\":\"ExpressionStatement\",\"expression\":11},\
+    {\"type\":\"IdentifierReference\",\"name\":\"f\"},\
+    {\"type\":\"IdentifierReference\",\"name\":\"b\"},\
+    {\"type\":\"CallExpression\",\"callee\":13,\"arguments\":[14]},\
+    {\"type\":\"ExpressionStatement\",\"expression\":15},\
+    {\"type\":\"BindingIdentifier\",\"name\":\"c\"},\
+    {\"type\":\"NumericLiteral\",\"kind\":\"whole\",\"digits\":1},\
+    {\"type\":\"VariableDeclarator\",\"id\":17,\"init\":18},\
+    {\"type\":\"VariableDeclaration\",\"kind\":\"const\",\"declarations\":[19]},\
+    {\"type\":\"Super\"},\
+    {\"type\":\"ExpressionStatement\",\"expression\":21},\
+    {\"type\":\"Program\",\"kind\":\"module\",\"body\":[1,3,8,12,16,20,22]}]}";
+
+// Whether a check of the program of the job holds. Here alone the tree is let go of, so that this is proved once.
+fn of_program(alloc: Global, check: &str) -> bool {
+    match read_job(alloc, JOB.as_bytes()) {
+        Ok(job) => of_job(alloc, job, check),
+        Err(_) => false,
+    }
+}
+
+fn of_job(alloc: Global, job: Job, check: &str) -> bool {
+    let program = &job.program;
+    match check {
+        "alone" => alone(alloc, program),
+        "levels" => levels(alloc, program),
+        "expressions" => expressions(alloc, program),
+        "pieces" => pieces(alloc, program),
+        _ => false,
+    }
+}
+
+fn statement_of(program: &Program, at: usize) -> Option<&Statement> {
+    match program.body.as_slice().get(at)?.get() {
+        Node::Statement(statement) => Some(statement),
+        _ => None,
+    }
+}
+
+fn expression_of(program: &Program, at: usize) -> Option<&Expression> {
+    match statement_of(program, at)? {
+        Statement::ExpressionStatement(node) => match node.expression.get() {
+            Node::Expression(expression) => Some(expression),
+            _ => None,
+        },
+        _ => None,
+    }
+}
+
+fn is(printer: Codegen, outcome: Result<(), CodegenError>, wanted: &str) -> bool {
+    outcome.is_ok() && !printer.has_failed() && printer.into_source_text().as_str() == wanted
+}
+
+fn prints<G: Gen>(alloc: Global, node: &G, wanted: &str) -> bool {
+    let mut printer = Codegen::new(alloc);
+    let outcome = node.print(&mut printer, Context::default());
+    let mut other = Codegen::new(alloc);
+    let same = node.gen_node(&mut other, Context::FORBID_IN);
+    is(printer, outcome, wanted) && is(other, same, wanted)
+}
+
+fn prints_at<E: GenExpr>(
+    alloc: Global,
+    node: &E,
+    level: Precedence,
+    ctx: Context,
+    wanted: &str,
+) -> bool {
+    let mut printer = Codegen::new(alloc);
+    let outcome = node.print_expr(&mut printer, level, ctx);
+    let mut other = Codegen::new(alloc);
+    let same = node.gen_expr(&mut other, level, ctx);
+    is(printer, outcome, wanted) && is(other, same, wanted)
+}
+
+fn prints_by_itself(alloc: Global, expression: &Expression, wanted: &str) -> bool {
+    let mut printer = Codegen::new(alloc);
+    if printer.check_expression(expression).is_err() {
+        return false;
+    }
+    let outcome = printer.print_expression(expression);
+    is(printer, outcome, wanted)
+}
+
+// A key, a property, statements and a declaration, each by itself.
+fn alone(alloc: Global, program: &Program) -> bool {
+    let Some(Expression::ObjectExpression(object)) = expression_of(program, 2) else {
+        return false;
+    };
+    let [ObjectPropertyKind::ObjectProperty(property)] = object.properties.as_slice() else {
+        return false;
+    };
+    let Some(Statement::Declaration(declaration)) = statement_of(program, 5) else {
+        return false;
+    };
+    let Node::Declaration(Declaration::VariableDeclaration(declaration)) = declaration.get() else {
+        return false;
+    };
+    prints(alloc, &property.key, "if")
+        && prints(alloc, &**property, "if: b")
+        && prints(alloc, &**declaration, "const c = 1")
+        && statement_of(program, 5).is_some_and(|s| prints(alloc, s, "const c = 1;\n"))
+        && statement_of(program, 0).is_some_and(|s| prints(alloc, s, "({});\n"))
+}
+
+// Numbers, an operation by `in` and a call, at levels and under contexts.
+fn levels(alloc: Global, program: &Program) -> bool {
+    let free = Context::default();
+    let (Some(number), Some(operation), Some(call)) = (
+        expression_of(program, 1),
+        expression_of(program, 3),
+        expression_of(program, 4),
+    ) else {
+        return false;
+    };
+    prints_at(alloc, number, Precedence::Lowest, free, "1")
+        && prints_at(alloc, number, Precedence::Prefix, free, "1")
+        && prints_at(alloc, operation, Precedence::Lowest, free, "a in b")
+        && prints_at(alloc, operation, Precedence::Prefix, free, "(a in b)")
+        && prints_at(
+            alloc,
+            operation,
+            Precedence::Lowest,
+            Context::FORBID_IN,
+            "(a in b)",
+        )
+        && prints_at(
+            alloc,
+            operation,
+            Precedence::Lowest,
+            Context::FORBID_CALL,
+            "a in b",
+        )
+        && prints_at(alloc, call, Precedence::Lowest, Context::FORBID_IN, "f(b)")
+        && prints_at(
+            alloc,
+            call,
+            Precedence::Lowest,
+            Context::FORBID_CALL,
+            "(f(b))",
+        )
+}
+
+// Expressions by themselves, of which `super` is none.
+fn expressions(alloc: Global, program: &Program) -> bool {
+    let (Some(object), Some(operation), Some(link)) = (
+        expression_of(program, 0),
+        expression_of(program, 3),
+        expression_of(program, 6),
+    ) else {
+        return false;
+    };
+    prints_by_itself(alloc, object, "({})")
+        && prints_by_itself(alloc, operation, "a in b")
+        && Codegen::new(alloc).check_expression(link) == Err(TreeFault::Place { start: 0 })
+}
+
+// A name in ASCII, and behind it a word, which stands apart from the name's escape, and an object, which begins nothing there.
+fn print_pieces(printer: &mut Codegen, program: &Program) -> Result<bool, CodegenError>
+    requires { has_failed printer.old ≡ false }
+{
+    let (Some(object), Some(link)) = (expression_of(program, 0), expression_of(program, 6)) else {
+        return Ok(false);
+    };
+    printer.print_name("é")?;
+    link.print_expr(printer, Precedence::Lowest, Context::default())?;
+    object.print_expr(printer, Precedence::Lowest, Context::default())?;
+    printer.print_str("x")?;
+    link.print_expr(printer, Precedence::Lowest, Context::default())?;
+    Ok(true)
+}
+
+fn pieces(alloc: Global, program: &Program) -> bool {
+    let options = CodegenOptions {
+        ascii_only: true,
+        ..CodegenOptions::default()
+    };
+    let mut printer = Codegen::new(alloc).with_options(options);
+    match print_pieces(&mut printer, program) {
+        Ok(true) => printer.into_source_text().as_str() == "\\u00E9 super{}x super",
+        _ => false,
+    }
+}
+
+/// Nodes by themselves.
+pub fn nodes_print_by_themselves(alloc: Global) -> bool {
+    of_program(alloc, "alone")
+}
+
+/// Expressions at levels and under contexts.
+pub fn levels_and_contexts_are_asked(alloc: Global) -> bool {
+    of_program(alloc, "levels")
+}
+
+/// Expressions by themselves.
+pub fn expressions_print_by_themselves(alloc: Global) -> bool {
+    of_program(alloc, "expressions")
+}
+
+/// Nodes behind other pieces.
+pub fn nodes_go_on_with_pieces(alloc: Global) -> bool {
+    of_program(alloc, "pieces")
+}
+
+/// Flags of a context, each alone.
+pub fn flags_are_set_alone() -> bool {
+    let both = Context::default().and_forbid_in(true).and_forbid_call(true);
+    let call = both.and_forbid_in(false);
+    both.forbid_in()
+        && both.forbid_call()
+        && both.bits() == 3
+        && !call.forbid_in()
+        && call.forbid_call()
+        && call.with_typescript().bits() == 6
+        && Context::TAGGED_TEMPLATE.bits() == 8
+}
+
+fn is_operator(operator: Operator, wanted: Operator) -> bool {
+    operator == wanted
+}
+
+/// Operators of every kind.
+pub fn operators_are_wrapped() -> bool {
+    is_operator(
+        BinaryOperator::In.into(),
+        Operator::Binary(BinaryOperator::In),
+    ) && is_operator(
+        UnaryOperator::Void.into(),
+        Operator::Unary(UnaryOperator::Void),
+    ) && is_operator(
+        UpdateOperator::Increment.into(),
+        Operator::Update(UpdateOperator::Increment),
+    )
+}

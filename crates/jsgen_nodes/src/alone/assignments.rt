@@ -1,0 +1,39 @@
+// Generated from tools/nodes/table.txt; edit that and run tools/nodes/generate.
+// What is printed by itself, or at a level.
+ghost use Rattle.jsgen_tree.specs.Rows.{conditional_expression_row, sequence_expression_row, assignment_expression_row};
+
+use crate::assignments::print_assignment_expression;
+use crate::choices::print_conditional_expression;
+use crate::sequences::print_sequence_expression;
+use crate::{PrintAtLevel, PrintNode};
+use jsgen_place::Place;
+use jsgen_printer::Printer;
+use jsgen_syntax::Memory;
+use jsgen_tree::{AssignmentExpression, ConditionalExpression, SequenceExpression};
+
+#[tactic(auto, unfolding(crate::specs::Place::pen_after))]
+impl<N: PrintNode> PrintAtLevel for ConditionalExpression<N> {
+    ghost plain = { conditional_expression_row N.plain };
+
+    fn print_at(&self, p: &mut Printer, place: Place) -> Result<(), Memory> {
+        print_conditional_expression(self, p, place)
+    }
+}
+
+#[tactic(auto, unfolding(crate::specs::Place::pen_after))]
+impl<N: PrintNode> PrintAtLevel for SequenceExpression<N> {
+    ghost plain = { sequence_expression_row N.plain };
+
+    fn print_at(&self, p: &mut Printer, place: Place) -> Result<(), Memory> {
+        print_sequence_expression(self, p, place)
+    }
+}
+
+#[tactic(auto, unfolding(crate::specs::Place::pen_after))]
+impl<N: PrintNode> PrintAtLevel for AssignmentExpression<N> {
+    ghost plain = { assignment_expression_row N.plain };
+
+    fn print_at(&self, p: &mut Printer, place: Place) -> Result<(), Memory> {
+        print_assignment_expression(self, p, place)
+    }
+}

@@ -1,0 +1,190 @@
+// Generated from tools/nodes/table.txt; edit that and run tools/nodes/generate.
+// What is printed by itself, or at a level.
+ghost use Rattle.jsgen_tree.specs.Rows.{identifier_reference_row, this_expression_row, null_literal_row, boolean_literal_row, numeric_literal_row, big_int_literal_row, string_literal_row, parenthesized_expression_row, binary_expression_row, logical_expression_row, identifier_name_row, static_member_expression_row, computed_member_expression_row, call_expression_row, chain_expression_row};
+ghost use Rattle.jsgen_model.specs.Spell.{spell};
+ghost use Rattle.jsgen_nodes.specs.Alone.{by_itself};
+
+use crate::expressions::{
+    print_big_int_literal, print_binary_expression, print_boolean_literal,
+    print_identifier_reference, print_logical_expression, print_null_literal,
+    print_numeric_literal, print_parenthesized_expression, print_string_literal,
+    print_this_expression,
+};
+use crate::links::{
+    print_call_expression, print_chain_expression, print_computed_member_expression,
+    print_identifier_name, print_static_member_expression,
+};
+use crate::{PrintAlone, PrintAtLevel, PrintNode};
+use jsgen_place::{Context, Place, Settings};
+use jsgen_printer::Printer;
+use jsgen_syntax::Memory;
+use jsgen_tree::{
+    BigIntLiteral, BinaryExpression, BooleanLiteral, CallExpression, ChainExpression,
+    ComputedMemberExpression, IdentifierName, IdentifierReference, LogicalExpression, NullLiteral,
+    NumericLiteral, ParenthesizedExpression, StaticMemberExpression, StringLiteral, ThisExpression,
+};
+
+#[tactic(auto, unfolding(crate::specs::Place::pen_after))]
+impl PrintAlone for IdentifierReference {
+    ghost alone = { λ n settings context start. spell (identifier_reference_row n) (by_itself settings context start) };
+
+    fn print_alone(
+        &self,
+        p: &mut Printer,
+        settings: Settings,
+        context: Context,
+    ) -> Result<(), Memory> {
+        print_identifier_reference(self, p, Place::by_itself(settings, context))
+    }
+}
+
+#[tactic(auto, unfolding(crate::specs::Place::pen_after))]
+impl PrintAlone for ThisExpression {
+    ghost alone = { λ n settings context start. spell (this_expression_row n) (by_itself settings context start) };
+
+    fn print_alone(
+        &self,
+        p: &mut Printer,
+        settings: Settings,
+        context: Context,
+    ) -> Result<(), Memory> {
+        print_this_expression(self, p, Place::by_itself(settings, context))
+    }
+}
+
+#[tactic(auto, unfolding(crate::specs::Place::pen_after))]
+impl PrintAlone for NullLiteral {
+    ghost alone = { λ n settings context start. spell (null_literal_row n) (by_itself settings context start) };
+
+    fn print_alone(
+        &self,
+        p: &mut Printer,
+        settings: Settings,
+        context: Context,
+    ) -> Result<(), Memory> {
+        print_null_literal(self, p, Place::by_itself(settings, context))
+    }
+}
+
+#[tactic(auto, unfolding(crate::specs::Place::pen_after))]
+impl PrintAlone for BooleanLiteral {
+    ghost alone = { λ n settings context start. spell (boolean_literal_row n) (by_itself settings context start) };
+
+    fn print_alone(
+        &self,
+        p: &mut Printer,
+        settings: Settings,
+        context: Context,
+    ) -> Result<(), Memory> {
+        print_boolean_literal(self, p, Place::by_itself(settings, context))
+    }
+}
+
+#[tactic(auto, unfolding(crate::specs::Place::pen_after))]
+impl PrintAtLevel for NumericLiteral {
+    ghost plain = { numeric_literal_row };
+
+    fn print_at(&self, p: &mut Printer, place: Place) -> Result<(), Memory> {
+        print_numeric_literal(self, p, place)
+    }
+}
+
+#[tactic(auto, unfolding(crate::specs::Place::pen_after))]
+impl PrintAtLevel for BigIntLiteral {
+    ghost plain = { big_int_literal_row };
+
+    fn print_at(&self, p: &mut Printer, place: Place) -> Result<(), Memory> {
+        print_big_int_literal(self, p, place)
+    }
+}
+
+#[tactic(auto, unfolding(crate::specs::Place::pen_after))]
+impl PrintAlone for StringLiteral {
+    ghost alone = { λ n settings context start. spell (string_literal_row n) (by_itself settings context start) };
+
+    fn print_alone(
+        &self,
+        p: &mut Printer,
+        settings: Settings,
+        context: Context,
+    ) -> Result<(), Memory> {
+        print_string_literal(self, p, Place::by_itself(settings, context))
+    }
+}
+
+#[tactic(auto, unfolding(crate::specs::Place::pen_after))]
+impl<N: PrintNode> PrintAtLevel for ParenthesizedExpression<N> {
+    ghost plain = { parenthesized_expression_row N.plain };
+
+    fn print_at(&self, p: &mut Printer, place: Place) -> Result<(), Memory> {
+        print_parenthesized_expression(self, p, place)
+    }
+}
+
+#[tactic(auto, unfolding(crate::specs::Place::pen_after))]
+impl<N: PrintNode> PrintAtLevel for BinaryExpression<N> {
+    ghost plain = { binary_expression_row N.plain };
+
+    fn print_at(&self, p: &mut Printer, place: Place) -> Result<(), Memory> {
+        print_binary_expression(self, p, place)
+    }
+}
+
+#[tactic(auto, unfolding(crate::specs::Place::pen_after))]
+impl<N: PrintNode> PrintAtLevel for LogicalExpression<N> {
+    ghost plain = { logical_expression_row N.plain };
+
+    fn print_at(&self, p: &mut Printer, place: Place) -> Result<(), Memory> {
+        print_logical_expression(self, p, place)
+    }
+}
+
+#[tactic(auto, unfolding(crate::specs::Place::pen_after))]
+impl PrintAlone for IdentifierName {
+    ghost alone = { λ n settings context start. spell (identifier_name_row n) (by_itself settings context start) };
+
+    fn print_alone(
+        &self,
+        p: &mut Printer,
+        settings: Settings,
+        context: Context,
+    ) -> Result<(), Memory> {
+        print_identifier_name(self, p, Place::by_itself(settings, context))
+    }
+}
+
+#[tactic(auto, unfolding(crate::specs::Place::pen_after))]
+impl<N: PrintNode> PrintAtLevel for StaticMemberExpression<N> {
+    ghost plain = { static_member_expression_row N.plain };
+
+    fn print_at(&self, p: &mut Printer, place: Place) -> Result<(), Memory> {
+        print_static_member_expression(self, p, place)
+    }
+}
+
+#[tactic(auto, unfolding(crate::specs::Place::pen_after))]
+impl<N: PrintNode> PrintAtLevel for ComputedMemberExpression<N> {
+    ghost plain = { computed_member_expression_row N.plain };
+
+    fn print_at(&self, p: &mut Printer, place: Place) -> Result<(), Memory> {
+        print_computed_member_expression(self, p, place)
+    }
+}
+
+#[tactic(auto, unfolding(crate::specs::Place::pen_after))]
+impl<N: PrintNode> PrintAtLevel for CallExpression<N> {
+    ghost plain = { call_expression_row N.plain };
+
+    fn print_at(&self, p: &mut Printer, place: Place) -> Result<(), Memory> {
+        print_call_expression(self, p, place)
+    }
+}
+
+#[tactic(auto, unfolding(crate::specs::Place::pen_after))]
+impl<N: PrintNode> PrintAtLevel for ChainExpression<N> {
+    ghost plain = { chain_expression_row N.plain };
+
+    fn print_at(&self, p: &mut Printer, place: Place) -> Result<(), Memory> {
+        print_chain_expression(self, p, place)
+    }
+}

@@ -1,0 +1,172 @@
+// Generated from tools/nodes/table.txt; edit that and run tools/nodes/generate.
+// What is printed by itself, or at a level.
+ghost use Rattle.jsgen_tree.specs.Rows.{in_argument, in_array_expression_element, in_simple_assignment_target, in_assignment_target, in_object_property_kind, in_property_key, expression_plain, statement_plain, binding_pattern_plain};
+ghost use Rattle.jsgen_model.specs.Spell.{spell, key_text};
+ghost use Rattle.jsgen_nodes.specs.Alone.{by_itself, as_member, as_statement};
+
+use crate::collections::{print_key_text, print_object_property, print_spread_element};
+use crate::expressions::print_identifier_reference;
+use crate::links::{print_computed_member_expression, print_static_member_expression};
+use crate::sets::{print_binding_pattern, print_expression, print_statement};
+use crate::{PrintAlone, PrintAtLevel, PrintNode};
+use jsgen_place::{Context, Place, Settings};
+use jsgen_printer::Printer;
+use jsgen_syntax::{Memory, Precedence};
+use jsgen_tree::{
+    Argument, ArrayExpressionElement, AssignmentTarget, BindingPattern, Expression,
+    ObjectPropertyKind, PropertyKey, SimpleAssignmentTarget, Statement,
+};
+
+#[tactic(auto, unfolding(crate::specs::Place::pen_after))]
+impl<N: PrintNode> PrintAtLevel for Expression<N> {
+    ghost plain = { expression_plain N.plain };
+
+    fn print_at(&self, p: &mut Printer, place: Place) -> Result<(), Memory> {
+        print_expression(self, p, place)
+    }
+}
+
+#[tactic(auto, unfolding(crate::specs::Place::pen_after))]
+impl<N: PrintNode> PrintAlone for Argument<N> {
+    ghost alone = { λ n settings context start. spell (in_argument N.plain n) (as_member settings context start) };
+
+    fn print_alone(
+        &self,
+        p: &mut Printer,
+        settings: Settings,
+        context: Context,
+    ) -> Result<(), Memory> {
+        let _ = context;
+        let place = Place::in_brackets(Precedence::Comma, settings);
+        match self {
+            Argument::SpreadElement(node) => print_spread_element(node, p, place),
+            Argument::Expression(node) => node.get().print(p, place),
+        }
+    }
+}
+
+#[tactic(auto, unfolding(crate::specs::Place::pen_after))]
+impl<N: PrintNode> PrintAlone for ArrayExpressionElement<N> {
+    ghost alone = { λ n settings context start. spell (in_array_expression_element N.plain n) (as_member settings context start) };
+
+    fn print_alone(
+        &self,
+        p: &mut Printer,
+        settings: Settings,
+        context: Context,
+    ) -> Result<(), Memory> {
+        let _ = context;
+        let place = Place::in_brackets(Precedence::Comma, settings);
+        match self {
+            ArrayExpressionElement::SpreadElement(node) => print_spread_element(node, p, place),
+            ArrayExpressionElement::Expression(node) => node.get().print(p, place),
+        }
+    }
+}
+
+#[tactic(auto, unfolding(crate::specs::Place::pen_after))]
+impl<N: PrintNode> PrintAtLevel for SimpleAssignmentTarget<N> {
+    ghost plain = { in_simple_assignment_target N.plain };
+
+    fn print_at(&self, p: &mut Printer, place: Place) -> Result<(), Memory> {
+        match self {
+            SimpleAssignmentTarget::IdentifierReference(node) => print_identifier_reference(
+                node, p, place,
+            ),
+            SimpleAssignmentTarget::StaticMemberExpression(node) => print_static_member_expression(
+                node, p, place,
+            ),
+            SimpleAssignmentTarget::ComputedMemberExpression(node) =>
+                print_computed_member_expression(node, p, place),
+        }
+    }
+}
+
+#[tactic(auto, unfolding(crate::specs::Place::pen_after))]
+impl<N: PrintNode> PrintAlone for AssignmentTarget<N> {
+    ghost alone = { λ n settings context start. spell (in_assignment_target N.plain n) (as_member settings context start) };
+
+    fn print_alone(
+        &self,
+        p: &mut Printer,
+        settings: Settings,
+        context: Context,
+    ) -> Result<(), Memory> {
+        let _ = context;
+        let place = Place::in_brackets(Precedence::Comma, settings);
+        match self {
+            AssignmentTarget::IdentifierReference(node) => print_identifier_reference(
+                node, p, place,
+            ),
+            AssignmentTarget::StaticMemberExpression(node) => print_static_member_expression(
+                node, p, place,
+            ),
+            AssignmentTarget::ComputedMemberExpression(node) => print_computed_member_expression(
+                node, p, place,
+            ),
+        }
+    }
+}
+
+#[tactic(auto, unfolding(crate::specs::Place::pen_after))]
+impl<N: PrintNode> PrintAlone for ObjectPropertyKind<N> {
+    ghost alone = { λ n settings context start. spell (in_object_property_kind N.plain n) (as_member settings context start) };
+
+    fn print_alone(
+        &self,
+        p: &mut Printer,
+        settings: Settings,
+        context: Context,
+    ) -> Result<(), Memory> {
+        let _ = context;
+        let place = Place::in_brackets(Precedence::Comma, settings);
+        match self {
+            ObjectPropertyKind::ObjectProperty(node) => print_object_property(node, p, place),
+            ObjectPropertyKind::SpreadElement(node) => print_spread_element(node, p, place),
+        }
+    }
+}
+
+#[tactic(auto, unfolding(crate::specs::Place::pen_after))]
+impl<N: PrintNode> PrintAlone for PropertyKey<N> {
+    ghost alone = { λ n settings context start. key_text (in_property_key N.plain n) (spell (in_property_key N.plain n) (as_member settings context start)) };
+
+    fn print_alone(
+        &self,
+        p: &mut Printer,
+        settings: Settings,
+        context: Context,
+    ) -> Result<(), Memory> {
+        let _ = context;
+        print_key_text(self, p, Place::in_brackets(Precedence::Comma, settings))
+    }
+}
+
+#[tactic(auto, unfolding(crate::specs::Place::pen_after))]
+impl<N: PrintNode> PrintAlone for Statement<N> {
+    ghost alone = { λ n settings context start. spell (statement_plain N.plain n) (as_statement settings context start) };
+
+    fn print_alone(
+        &self,
+        p: &mut Printer,
+        settings: Settings,
+        context: Context,
+    ) -> Result<(), Memory> {
+        let _ = context;
+        print_statement(self, p, Place::among_statements(settings))
+    }
+}
+
+#[tactic(auto, unfolding(crate::specs::Place::pen_after))]
+impl PrintAlone for BindingPattern {
+    ghost alone = { λ n settings context start. spell (binding_pattern_plain n) (by_itself settings context start) };
+
+    fn print_alone(
+        &self,
+        p: &mut Printer,
+        settings: Settings,
+        context: Context,
+    ) -> Result<(), Memory> {
+        print_binding_pattern(self, p, Place::by_itself(settings, context))
+    }
+}
