@@ -11,7 +11,7 @@ use jsgen_syntax::{BinaryOperator, Precedence, UnaryOperator, UpdateOperator};
 use jsgen_tree::{Declaration, Expression, Node, ObjectPropertyKind, Program, Statement};
 use std::alloc::Global;
 
-// `{};`, `1;`, `{ if: b };`, `a in b;`, `f(b);`, `const c = 1;` and `super;`.
+// `{};`, `1;`, `{ if: b };`, `a in b;`, `f(b);`, `const c = 1;`, `super;` and `-1;`.
 const JOB: &str = "{\"rows\":[\
     {\"type\":\"ObjectExpression\"},\
     {\"type\":\"ExpressionStatement\",\"expression\":0},\
@@ -36,7 +36,9 @@ const JOB: &str = "{\"rows\":[\
     {\"type\":\"VariableDeclaration\",\"kind\":\"const\",\"declarations\":[19]},\
     {\"type\":\"Super\"},\
     {\"type\":\"ExpressionStatement\",\"expression\":21},\
-    {\"type\":\"Program\",\"kind\":\"module\",\"body\":[1,3,8,12,16,20,22]}]}";
+    {\"type\":\"NumericLiteral\",\"kind\":\"whole\",\"negative\":true,\"digits\":1},\
+    {\"type\":\"ExpressionStatement\",\"expression\":23},\
+    {\"type\":\"Program\",\"kind\":\"module\",\"body\":[1,3,8,12,16,20,22,24]}]}";
 
 // Whether a check of the program of the job holds. Here alone the tree is let go of, so that this is proved once.
 fn of_program(alloc: Global, check: &str) -> bool {
@@ -50,7 +52,7 @@ fn of_job(alloc: Global, job: Job, check: &str) -> bool {
     let program = &job.program;
     match check {
         "alone" => alone(alloc, program),
-        "levels" => levels(alloc, program),
+        "levels" => levels(alloc, program) && negative_levels(alloc, program),
         "expressions" => expressions(alloc, program),
         "pieces" => pieces(alloc, program),
         _ => false,
@@ -166,6 +168,17 @@ fn levels(alloc: Global, program: &Program) -> bool {
             Context::FORBID_CALL,
             "(f(b))",
         )
+}
+
+// A number with a minus before it, at levels.
+fn negative_levels(alloc: Global, program: &Program) -> bool {
+    let free = Context::default();
+    let Some(number) = expression_of(program, 7) else {
+        return false;
+    };
+    prints_at(alloc, number, Precedence::Lowest, free, "-1")
+        && prints_at(alloc, number, Precedence::Exponentiation, free, "-1")
+        && prints_at(alloc, number, Precedence::Prefix, free, "(-1)")
 }
 
 // Expressions by themselves, of which `super` is none.

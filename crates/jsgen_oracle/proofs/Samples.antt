@@ -204,7 +204,7 @@ member_of_number =
     let object = piece false (Number (codes "1.5")) done in (
       object ⧺ sign dot (word (codes "a") (sign semicolon done)),
       ([], codes ".a;", refl, refl, refl, refl, refl, ([], codes "a;", refl, refl, refl, refl, refl, ([], codes ";", refl, refl, refl, refl, refl, ([], [], refl, refl, refl, refl, refl, refl)))),
-      undirected refl (grammar.last_statement (item {a = object ⧺ sign dot (word (codes "a") done)} refl (of_left (grammar.a_new (grammar.a_member (grammar.a_named_member {a = object} (codes "a") false false refl value_a (grammar.a_primary grammar.a_number))))))),
+      undirected refl (grammar.last_statement (item {a = object ⧺ sign dot (word (codes "a") done)} refl (of_left (grammar.a_new (grammar.a_member (grammar.a_named_member {a = object} (codes "a") false false refl value_a (grammar.a_primary (grammar.a_number refl)))))))),
     )
 
 pub type_of_member : IsRead (codes "typeof a.b;") (samples.module_of (more (samples.statement_of (samples.unary_of Typeof (samples.member_of samples.a (codes "b")))) no_trees))
