@@ -105,7 +105,7 @@ fn check_alone(expression: &Expression, around: Surroundings<'_>) -> Result<u64,
     check_expression_set(expression, around)
 }
 
-// Neither `super` nor a link that may be left out stands there by itself.
+// Neither `super` nor an optional link outside a chain stands there by itself.
 fn check_place_alone(expression: &Expression) -> Result<(), TreeFault>
     ensures { result ≡ verdict (set_faults sets.Expression (expression_plain node_plain expression.now)) }
 {
