@@ -390,6 +390,7 @@ mutual
   parts_valid c around no_trees n p e = no_part
   parts_valid c around (more t ts) n p e = let k = standing around sets.Expression t _ e in first_part (expression_valid c around t p.0 k.0 k.1) (parts_valid c around ts n p.1 k.2)
   parts_valid c around (hole ts) n p e = absurd (no_truth n)
+
   chain_valid : (c : Allowed) (around : Surroundings) (t : Tree) → IsPlain t → breaches around t ≡ [] → has_optional_link t ≡ true → IsChain c t
   chain_valid c around (tree.static_member a o n) p e i =
       let h = parts (span_faults a.span) (super_faults (static_member_expression_optional a) o) _ e in
