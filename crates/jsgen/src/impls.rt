@@ -3,15 +3,16 @@
 
 use crate::gens::{Gen, GenExpr};
 use jsgen_tree::{
-    Argument, ArrayExpression, ArrayExpressionElement, AssignmentExpression, AssignmentTarget,
-    BigIntLiteral, BinaryExpression, BindingIdentifier, BindingPattern, BlockStatement,
-    BooleanLiteral, CallExpression, ChainExpression, ComputedMemberExpression,
-    ConditionalExpression, Directive, EmptyStatement, Expression, ExpressionStatement,
-    IdentifierName, IdentifierReference, IfStatement, LogicalExpression, NewExpression, NewTarget,
-    NullLiteral, NumericLiteral, ObjectExpression, ObjectProperty, ObjectPropertyKind,
-    ParenthesizedExpression, Program, PropertyKey, SequenceExpression, SimpleAssignmentTarget,
-    SpreadElement, Statement, StaticMemberExpression, StringLiteral, Super, ThisExpression,
-    UnaryExpression, UpdateExpression, VariableDeclaration, VariableDeclarator,
+    Argument, ArrayExpression, ArrayExpressionElement, ArrowFunctionExpression,
+    AssignmentExpression, AssignmentTarget, BigIntLiteral, BinaryExpression, BindingIdentifier,
+    BindingPattern, BlockStatement, BooleanLiteral, CallExpression, ChainExpression,
+    ComputedMemberExpression, ConditionalExpression, Directive, EmptyStatement, Expression,
+    ExpressionStatement, FormalParameter, FormalParameterRest, FormalParameters, IdentifierName,
+    IdentifierReference, IfStatement, LogicalExpression, NewExpression, NewTarget, NullLiteral,
+    NumericLiteral, ObjectExpression, ObjectProperty, ObjectPropertyKind, ParenthesizedExpression,
+    Program, PropertyKey, SequenceExpression, SimpleAssignmentTarget, SpreadElement, Statement,
+    StaticMemberExpression, StringLiteral, Super, ThisExpression, UnaryExpression,
+    UpdateExpression, VariableDeclaration, VariableDeclarator,
 };
 
 impl Gen for Program {}
@@ -85,6 +86,14 @@ impl GenExpr for ConditionalExpression {}
 impl GenExpr for SequenceExpression {}
 
 impl GenExpr for AssignmentExpression {}
+
+impl Gen for FormalParameter {}
+
+impl Gen for FormalParameterRest {}
+
+impl Gen for FormalParameters {}
+
+impl GenExpr for ArrowFunctionExpression {}
 
 impl GenExpr for Expression {}
 

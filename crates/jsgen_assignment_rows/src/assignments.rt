@@ -1,11 +1,11 @@
 // Generated from tools/nodes/table.txt; edit that and run tools/nodes/generate.
 // Rows of a job: conditional expressions, sequences and assignments (ECMA-262, 13.14 to 13.16).
-ghost use Rattle.std.specs.Prelude.{◌≡◌, false};
+ghost use Rattle.std.specs.Prelude.{◌≡◌, true};
 ghost use Rattle.serde_json.specs.View.{view};
 ghost use Rattle.jsgen_tree.specs.Fields.{conditional_expression_fields, sequence_expression_fields, assignment_expression_fields};
 ghost use Rattle.jsgen_fields.specs.Reads.{Gives, read_node, read_typed};
 ghost use Rattle.jsgen_fields.specs.Kept.{entries, row_plain};
-ghost use Rattle.jsgen_fields.specs.Parts.{is_in_statements, is_in_expressions, is_in_collections, is_in_operations};
+ghost use Rattle.jsgen_fields.specs.Parts.{is_in_assignments};
 ghost use Rattle.jsgen_tree.specs.declared.types.NodeType.TheVariants as types;
 
 use jsgen_fields::InputFault;
@@ -122,10 +122,7 @@ pub fn read_in_assignments<N: ReadNode + Drop>(
     span: Span,
     row: &Value,
 ) -> Result<Row<N>, InputFault>
-    requires not_in_statements { is_in_statements node_type ≡ false }
-    requires not_in_expressions { is_in_expressions node_type ≡ false }
-    requires not_in_collections { is_in_collections node_type ≡ false }
-    requires not_in_operations { is_in_operations node_type ≡ false }
+    requires { is_in_assignments node_type ≡ true }
     ensures { Gives (row_plain N.plain) result (entries N.plain kept.new.items)
         (read_typed number node_type span (view row.now) (entries N.plain kept.old.items)) }
 {

@@ -2,7 +2,7 @@
 // Lists, children that may be absent, and sets that don't nest.
 ghost use Rattle.std.specs.Prelude.{◌≡◌, map, option_map};
 ghost use Rattle.jsgen_tree.specs.Tree.{optional, trees, holed};
-ghost use Rattle.jsgen_tree.specs.Rows.{in_expression, in_argument, in_array_expression_element, in_chain_element, in_simple_assignment_target, in_assignment_target, in_object_property_kind, in_property_key, in_statement, directive_row, variable_declarator_row};
+ghost use Rattle.jsgen_tree.specs.Rows.{in_expression, in_argument, in_array_expression_element, in_chain_element, in_simple_assignment_target, in_assignment_target, in_arrow_function_body, in_object_property_kind, in_property_key, in_statement, directive_row, variable_declarator_row, formal_parameter_row, formal_parameter_rest_row};
 ghost use Rattle.jsgen_check.specs.Verdict.{child_verdict, maybe_verdict, children_verdict};
 ghost use Rattle.jsgen_tree.specs.declared.types.NodeSet.TheVariants as sets;
 
@@ -11,14 +11,15 @@ use crate::expressions::{
     check_call_expression, check_computed_member_expression, check_identifier_name,
     check_identifier_reference, check_static_member_expression,
 };
+use crate::functions::{check_formal_parameter, check_formal_parameter_rest};
 use crate::heights::higher;
 use crate::statements::{check_directive, check_variable_declarator};
 use crate::{CheckNode, Surroundings, check_child};
 use jsgen_model::TreeFault;
 use jsgen_tree::{
-    Argument, ArrayExpressionElement, AssignmentTarget, ChainElement, Directive, ExpressionNode,
-    NodeSet, ObjectPropertyKind, PropertyKey, SimpleAssignmentTarget, StatementNode,
-    VariableDeclarator,
+    Argument, ArrayExpressionElement, ArrowFunctionBody, AssignmentTarget, ChainElement, Directive,
+    ExpressionNode, FormalParameter, FormalParameterRest, NodeSet, ObjectPropertyKind, PropertyKey,
+    SimpleAssignmentTarget, StatementNode, VariableDeclarator,
 };
 
 pub fn check_directives(nodes: &[Directive], around: Surroundings<'_>) -> Result<u64, TreeFault>
@@ -102,6 +103,20 @@ pub fn check_expressions<N: CheckNode>(
     below
 }
 
+pub fn check_each_formal_parameter<N: CheckNode>(
+    nodes: &[FormalParameter<N>],
+    around: Surroundings<'_>,
+) -> Result<u64, TreeFault>
+    ensures { result ≡ children_verdict around.entry sets.FormalParameter (trees (map (formal_parameter_row N.plain) nodes.now)) }
+{
+    let mut below = Ok(0);
+    for node in nodes {
+        let found = check_formal_parameter(node, around);
+        below = higher(below, found);
+    }
+    below
+}
+
 pub fn check_array_expression_elements_or_holes<N: CheckNode>(
     nodes: &[Option<ArrayExpressionElement<N>>],
     around: Surroundings<'_>,
@@ -136,6 +151,18 @@ pub fn check_optional_statement<N: CheckNode>(
 {
     match node {
         Some(node) => check_child(node.get(), NodeSet::Statement, around),
+        None => Ok(0),
+    }
+}
+
+pub fn check_optional_formal_parameter_rest<N: CheckNode>(
+    node: &Option<Box<FormalParameterRest<N>>>,
+    around: Surroundings<'_>,
+) -> Result<u64, TreeFault>
+    ensures { result ≡ maybe_verdict around.entry sets.FormalParameterRest (optional (option_map (formal_parameter_rest_row N.plain) node.now)) }
+{
+    match node {
+        Some(node) => check_formal_parameter_rest(node, around),
         None => Ok(0),
     }
 }
@@ -227,6 +254,21 @@ pub fn check_assignment_target<N: CheckNode>(
         ),
         AssignmentTarget::ComputedMemberExpression(node) => check_computed_member_expression(
             node, around,
+        ),
+    }
+}
+
+pub fn check_arrow_function_body<N: CheckNode>(
+    node: &ArrowFunctionBody<N>,
+    around: Surroundings<'_>,
+) -> Result<u64, TreeFault>
+    ensures { result ≡ child_verdict around.entry sets.ArrowFunctionBody (in_arrow_function_body N.plain node.now) }
+{
+    match node {
+        ArrowFunctionBody::Expression(node) => check_child(
+            node.get(),
+            NodeSet::ArrowFunctionBody,
+            around,
         ),
     }
 }

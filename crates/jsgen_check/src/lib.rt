@@ -17,6 +17,7 @@ mod assignments;
 mod children;
 mod collections;
 mod expressions;
+mod functions;
 mod heights;
 mod links;
 mod operations;

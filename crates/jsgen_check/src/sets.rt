@@ -15,6 +15,7 @@ use crate::expressions::{
     check_parenthesized_expression, check_static_member_expression, check_string_literal,
     check_this_expression,
 };
+use crate::functions::check_arrow_function_expression;
 use crate::operations::{
     check_new_expression, check_new_target, check_super, check_unary_expression,
     check_update_expression,
@@ -60,6 +61,7 @@ pub fn check_expression_set<N: CheckNode>(
         Expression::ConditionalExpression(node) => check_conditional_expression(node, around),
         Expression::SequenceExpression(node) => check_sequence_expression(node, around),
         Expression::AssignmentExpression(node) => check_assignment_expression(node, around),
+        Expression::ArrowFunctionExpression(node) => check_arrow_function_expression(node, around),
     }
 }
 

@@ -3,7 +3,7 @@
 use Rattle.std.proofs.Common.{◌≡◌, Bool, true, false, refl}
 use Rattle.jsgen_tree.specs.Tree.{Tree, type_of}
 use Rattle.jsgen_tree.specs.declared.types.NodeType.{NodeType}
-use Rattle.jsgen_tree.specs.Sets.{is_directive, is_statement, is_variable_declarator, is_binding_pattern, is_expression, is_identifier_name, is_argument, is_chain_element, is_array_expression_element, is_property_key, is_object_property_kind, is_simple_assignment_target, is_assignment_target}
+use Rattle.jsgen_tree.specs.Sets.{is_directive, is_statement, is_variable_declarator, is_binding_pattern, is_expression, is_identifier_name, is_argument, is_chain_element, is_array_expression_element, is_property_key, is_object_property_kind, is_simple_assignment_target, is_assignment_target, is_formal_parameter, is_formal_parameter_rest, is_formal_parameters}
 use Rattle.jsgen_tree.specs.Rows.{expression_plain, declaration_plain, statement_plain, binding_pattern_plain}
 use Rattle.jsgen_fields.specs.Meaning.{is_program}
 use Rattle.jsgen_tree.specs.declared.sets.Expression.{Expression}
@@ -33,31 +33,32 @@ of_statement plain f b h0 h1 h2 h3 (statements.BlockStatement r) o = h1
 of_statement plain f b h0 h1 h2 h3 (statements.IfStatement r) o = h2
 of_statement plain f b h0 h1 h2 h3 (statements.EmptyStatement r) o = h3
 
-of_expression : {N : Type 0} (plain : N → Tree) (f : NodeType → Bool) (b : Bool) → f types.IdentifierReference ≡ b → f types.ThisExpression ≡ b → f types.NullLiteral ≡ b → f types.BooleanLiteral ≡ b → f types.NumericLiteral ≡ b → f types.BigIntLiteral ≡ b → f types.StringLiteral ≡ b → f types.BinaryExpression ≡ b → f types.LogicalExpression ≡ b → f types.ParenthesizedExpression ≡ b → f types.StaticMemberExpression ≡ b → f types.ComputedMemberExpression ≡ b → f types.CallExpression ≡ b → f types.ChainExpression ≡ b → f types.ArrayExpression ≡ b → f types.ObjectExpression ≡ b → f types.UnaryExpression ≡ b → f types.UpdateExpression ≡ b → f types.NewExpression ≡ b → f types.NewTarget ≡ b → f types.Super ≡ b → f types.ConditionalExpression ≡ b → f types.SequenceExpression ≡ b → f types.AssignmentExpression ≡ b → (r : Expression N) → f (type_of (expression_plain plain r)) ≡ b
-of_expression plain f b h0 h1 h2 h3 h4 h5 h6 h7 h8 h9 h10 h11 h12 h13 h14 h15 h16 h17 h18 h19 h20 h21 h22 h23 (expressions.IdentifierReference r) = h0
-of_expression plain f b h0 h1 h2 h3 h4 h5 h6 h7 h8 h9 h10 h11 h12 h13 h14 h15 h16 h17 h18 h19 h20 h21 h22 h23 (expressions.ThisExpression r) = h1
-of_expression plain f b h0 h1 h2 h3 h4 h5 h6 h7 h8 h9 h10 h11 h12 h13 h14 h15 h16 h17 h18 h19 h20 h21 h22 h23 (expressions.NullLiteral r) = h2
-of_expression plain f b h0 h1 h2 h3 h4 h5 h6 h7 h8 h9 h10 h11 h12 h13 h14 h15 h16 h17 h18 h19 h20 h21 h22 h23 (expressions.BooleanLiteral r) = h3
-of_expression plain f b h0 h1 h2 h3 h4 h5 h6 h7 h8 h9 h10 h11 h12 h13 h14 h15 h16 h17 h18 h19 h20 h21 h22 h23 (expressions.NumericLiteral r) = h4
-of_expression plain f b h0 h1 h2 h3 h4 h5 h6 h7 h8 h9 h10 h11 h12 h13 h14 h15 h16 h17 h18 h19 h20 h21 h22 h23 (expressions.BigIntLiteral r) = h5
-of_expression plain f b h0 h1 h2 h3 h4 h5 h6 h7 h8 h9 h10 h11 h12 h13 h14 h15 h16 h17 h18 h19 h20 h21 h22 h23 (expressions.StringLiteral r) = h6
-of_expression plain f b h0 h1 h2 h3 h4 h5 h6 h7 h8 h9 h10 h11 h12 h13 h14 h15 h16 h17 h18 h19 h20 h21 h22 h23 (expressions.BinaryExpression r) = h7
-of_expression plain f b h0 h1 h2 h3 h4 h5 h6 h7 h8 h9 h10 h11 h12 h13 h14 h15 h16 h17 h18 h19 h20 h21 h22 h23 (expressions.LogicalExpression r) = h8
-of_expression plain f b h0 h1 h2 h3 h4 h5 h6 h7 h8 h9 h10 h11 h12 h13 h14 h15 h16 h17 h18 h19 h20 h21 h22 h23 (expressions.ParenthesizedExpression r) = h9
-of_expression plain f b h0 h1 h2 h3 h4 h5 h6 h7 h8 h9 h10 h11 h12 h13 h14 h15 h16 h17 h18 h19 h20 h21 h22 h23 (expressions.StaticMemberExpression r) = h10
-of_expression plain f b h0 h1 h2 h3 h4 h5 h6 h7 h8 h9 h10 h11 h12 h13 h14 h15 h16 h17 h18 h19 h20 h21 h22 h23 (expressions.ComputedMemberExpression r) = h11
-of_expression plain f b h0 h1 h2 h3 h4 h5 h6 h7 h8 h9 h10 h11 h12 h13 h14 h15 h16 h17 h18 h19 h20 h21 h22 h23 (expressions.CallExpression r) = h12
-of_expression plain f b h0 h1 h2 h3 h4 h5 h6 h7 h8 h9 h10 h11 h12 h13 h14 h15 h16 h17 h18 h19 h20 h21 h22 h23 (expressions.ChainExpression r) = h13
-of_expression plain f b h0 h1 h2 h3 h4 h5 h6 h7 h8 h9 h10 h11 h12 h13 h14 h15 h16 h17 h18 h19 h20 h21 h22 h23 (expressions.ArrayExpression r) = h14
-of_expression plain f b h0 h1 h2 h3 h4 h5 h6 h7 h8 h9 h10 h11 h12 h13 h14 h15 h16 h17 h18 h19 h20 h21 h22 h23 (expressions.ObjectExpression r) = h15
-of_expression plain f b h0 h1 h2 h3 h4 h5 h6 h7 h8 h9 h10 h11 h12 h13 h14 h15 h16 h17 h18 h19 h20 h21 h22 h23 (expressions.UnaryExpression r) = h16
-of_expression plain f b h0 h1 h2 h3 h4 h5 h6 h7 h8 h9 h10 h11 h12 h13 h14 h15 h16 h17 h18 h19 h20 h21 h22 h23 (expressions.UpdateExpression r) = h17
-of_expression plain f b h0 h1 h2 h3 h4 h5 h6 h7 h8 h9 h10 h11 h12 h13 h14 h15 h16 h17 h18 h19 h20 h21 h22 h23 (expressions.NewExpression r) = h18
-of_expression plain f b h0 h1 h2 h3 h4 h5 h6 h7 h8 h9 h10 h11 h12 h13 h14 h15 h16 h17 h18 h19 h20 h21 h22 h23 (expressions.NewTarget r) = h19
-of_expression plain f b h0 h1 h2 h3 h4 h5 h6 h7 h8 h9 h10 h11 h12 h13 h14 h15 h16 h17 h18 h19 h20 h21 h22 h23 (expressions.Super r) = h20
-of_expression plain f b h0 h1 h2 h3 h4 h5 h6 h7 h8 h9 h10 h11 h12 h13 h14 h15 h16 h17 h18 h19 h20 h21 h22 h23 (expressions.ConditionalExpression r) = h21
-of_expression plain f b h0 h1 h2 h3 h4 h5 h6 h7 h8 h9 h10 h11 h12 h13 h14 h15 h16 h17 h18 h19 h20 h21 h22 h23 (expressions.SequenceExpression r) = h22
-of_expression plain f b h0 h1 h2 h3 h4 h5 h6 h7 h8 h9 h10 h11 h12 h13 h14 h15 h16 h17 h18 h19 h20 h21 h22 h23 (expressions.AssignmentExpression r) = h23
+of_expression : {N : Type 0} (plain : N → Tree) (f : NodeType → Bool) (b : Bool) → f types.IdentifierReference ≡ b → f types.ThisExpression ≡ b → f types.NullLiteral ≡ b → f types.BooleanLiteral ≡ b → f types.NumericLiteral ≡ b → f types.BigIntLiteral ≡ b → f types.StringLiteral ≡ b → f types.BinaryExpression ≡ b → f types.LogicalExpression ≡ b → f types.ParenthesizedExpression ≡ b → f types.StaticMemberExpression ≡ b → f types.ComputedMemberExpression ≡ b → f types.CallExpression ≡ b → f types.ChainExpression ≡ b → f types.ArrayExpression ≡ b → f types.ObjectExpression ≡ b → f types.UnaryExpression ≡ b → f types.UpdateExpression ≡ b → f types.NewExpression ≡ b → f types.NewTarget ≡ b → f types.Super ≡ b → f types.ConditionalExpression ≡ b → f types.SequenceExpression ≡ b → f types.AssignmentExpression ≡ b → f types.ArrowFunctionExpression ≡ b → (r : Expression N) → f (type_of (expression_plain plain r)) ≡ b
+of_expression plain f b h0 h1 h2 h3 h4 h5 h6 h7 h8 h9 h10 h11 h12 h13 h14 h15 h16 h17 h18 h19 h20 h21 h22 h23 h24 (expressions.IdentifierReference r) = h0
+of_expression plain f b h0 h1 h2 h3 h4 h5 h6 h7 h8 h9 h10 h11 h12 h13 h14 h15 h16 h17 h18 h19 h20 h21 h22 h23 h24 (expressions.ThisExpression r) = h1
+of_expression plain f b h0 h1 h2 h3 h4 h5 h6 h7 h8 h9 h10 h11 h12 h13 h14 h15 h16 h17 h18 h19 h20 h21 h22 h23 h24 (expressions.NullLiteral r) = h2
+of_expression plain f b h0 h1 h2 h3 h4 h5 h6 h7 h8 h9 h10 h11 h12 h13 h14 h15 h16 h17 h18 h19 h20 h21 h22 h23 h24 (expressions.BooleanLiteral r) = h3
+of_expression plain f b h0 h1 h2 h3 h4 h5 h6 h7 h8 h9 h10 h11 h12 h13 h14 h15 h16 h17 h18 h19 h20 h21 h22 h23 h24 (expressions.NumericLiteral r) = h4
+of_expression plain f b h0 h1 h2 h3 h4 h5 h6 h7 h8 h9 h10 h11 h12 h13 h14 h15 h16 h17 h18 h19 h20 h21 h22 h23 h24 (expressions.BigIntLiteral r) = h5
+of_expression plain f b h0 h1 h2 h3 h4 h5 h6 h7 h8 h9 h10 h11 h12 h13 h14 h15 h16 h17 h18 h19 h20 h21 h22 h23 h24 (expressions.StringLiteral r) = h6
+of_expression plain f b h0 h1 h2 h3 h4 h5 h6 h7 h8 h9 h10 h11 h12 h13 h14 h15 h16 h17 h18 h19 h20 h21 h22 h23 h24 (expressions.BinaryExpression r) = h7
+of_expression plain f b h0 h1 h2 h3 h4 h5 h6 h7 h8 h9 h10 h11 h12 h13 h14 h15 h16 h17 h18 h19 h20 h21 h22 h23 h24 (expressions.LogicalExpression r) = h8
+of_expression plain f b h0 h1 h2 h3 h4 h5 h6 h7 h8 h9 h10 h11 h12 h13 h14 h15 h16 h17 h18 h19 h20 h21 h22 h23 h24 (expressions.ParenthesizedExpression r) = h9
+of_expression plain f b h0 h1 h2 h3 h4 h5 h6 h7 h8 h9 h10 h11 h12 h13 h14 h15 h16 h17 h18 h19 h20 h21 h22 h23 h24 (expressions.StaticMemberExpression r) = h10
+of_expression plain f b h0 h1 h2 h3 h4 h5 h6 h7 h8 h9 h10 h11 h12 h13 h14 h15 h16 h17 h18 h19 h20 h21 h22 h23 h24 (expressions.ComputedMemberExpression r) = h11
+of_expression plain f b h0 h1 h2 h3 h4 h5 h6 h7 h8 h9 h10 h11 h12 h13 h14 h15 h16 h17 h18 h19 h20 h21 h22 h23 h24 (expressions.CallExpression r) = h12
+of_expression plain f b h0 h1 h2 h3 h4 h5 h6 h7 h8 h9 h10 h11 h12 h13 h14 h15 h16 h17 h18 h19 h20 h21 h22 h23 h24 (expressions.ChainExpression r) = h13
+of_expression plain f b h0 h1 h2 h3 h4 h5 h6 h7 h8 h9 h10 h11 h12 h13 h14 h15 h16 h17 h18 h19 h20 h21 h22 h23 h24 (expressions.ArrayExpression r) = h14
+of_expression plain f b h0 h1 h2 h3 h4 h5 h6 h7 h8 h9 h10 h11 h12 h13 h14 h15 h16 h17 h18 h19 h20 h21 h22 h23 h24 (expressions.ObjectExpression r) = h15
+of_expression plain f b h0 h1 h2 h3 h4 h5 h6 h7 h8 h9 h10 h11 h12 h13 h14 h15 h16 h17 h18 h19 h20 h21 h22 h23 h24 (expressions.UnaryExpression r) = h16
+of_expression plain f b h0 h1 h2 h3 h4 h5 h6 h7 h8 h9 h10 h11 h12 h13 h14 h15 h16 h17 h18 h19 h20 h21 h22 h23 h24 (expressions.UpdateExpression r) = h17
+of_expression plain f b h0 h1 h2 h3 h4 h5 h6 h7 h8 h9 h10 h11 h12 h13 h14 h15 h16 h17 h18 h19 h20 h21 h22 h23 h24 (expressions.NewExpression r) = h18
+of_expression plain f b h0 h1 h2 h3 h4 h5 h6 h7 h8 h9 h10 h11 h12 h13 h14 h15 h16 h17 h18 h19 h20 h21 h22 h23 h24 (expressions.NewTarget r) = h19
+of_expression plain f b h0 h1 h2 h3 h4 h5 h6 h7 h8 h9 h10 h11 h12 h13 h14 h15 h16 h17 h18 h19 h20 h21 h22 h23 h24 (expressions.Super r) = h20
+of_expression plain f b h0 h1 h2 h3 h4 h5 h6 h7 h8 h9 h10 h11 h12 h13 h14 h15 h16 h17 h18 h19 h20 h21 h22 h23 h24 (expressions.ConditionalExpression r) = h21
+of_expression plain f b h0 h1 h2 h3 h4 h5 h6 h7 h8 h9 h10 h11 h12 h13 h14 h15 h16 h17 h18 h19 h20 h21 h22 h23 h24 (expressions.SequenceExpression r) = h22
+of_expression plain f b h0 h1 h2 h3 h4 h5 h6 h7 h8 h9 h10 h11 h12 h13 h14 h15 h16 h17 h18 h19 h20 h21 h22 h23 h24 (expressions.AssignmentExpression r) = h23
+of_expression plain f b h0 h1 h2 h3 h4 h5 h6 h7 h8 h9 h10 h11 h12 h13 h14 h15 h16 h17 h18 h19 h20 h21 h22 h23 h24 (expressions.ArrowFunctionExpression r) = h24
 
 -- ---- set by set
 
@@ -71,7 +72,7 @@ pub no_statement_is_a_program : {N : Type 0} (plain : N → Tree) (r : OtherStat
 no_statement_is_a_program plain r = of_statement plain is_program false refl refl refl refl r.statement r.other
 
 pub no_expression_is_a_program : {N : Type 0} (plain : N → Tree) (r : Expression N) → is_program (type_of (expression_plain plain r)) ≡ false
-no_expression_is_a_program plain r = of_expression plain is_program false refl refl refl refl refl refl refl refl refl refl refl refl refl refl refl refl refl refl refl refl refl refl refl refl r
+no_expression_is_a_program plain r = of_expression plain is_program false refl refl refl refl refl refl refl refl refl refl refl refl refl refl refl refl refl refl refl refl refl refl refl refl refl r
 
 pub no_declaration_is_a_directive : {N : Type 0} (plain : N → Tree) (r : Declaration N) → is_directive (type_of (declaration_plain plain r)) ≡ false
 no_declaration_is_a_directive plain r = of_declaration plain is_directive false refl r
@@ -83,7 +84,7 @@ pub no_statement_is_a_directive : {N : Type 0} (plain : N → Tree) (r : OtherSt
 no_statement_is_a_directive plain r = of_statement plain is_directive false refl refl refl refl r.statement r.other
 
 pub no_expression_is_a_directive : {N : Type 0} (plain : N → Tree) (r : Expression N) → is_directive (type_of (expression_plain plain r)) ≡ false
-no_expression_is_a_directive plain r = of_expression plain is_directive false refl refl refl refl refl refl refl refl refl refl refl refl refl refl refl refl refl refl refl refl refl refl refl refl r
+no_expression_is_a_directive plain r = of_expression plain is_directive false refl refl refl refl refl refl refl refl refl refl refl refl refl refl refl refl refl refl refl refl refl refl refl refl refl r
 
 pub each_declaration_is_a_statement : {N : Type 0} (plain : N → Tree) (r : Declaration N) → is_statement (type_of (declaration_plain plain r)) ≡ true
 each_declaration_is_a_statement plain r = of_declaration plain is_statement true refl r
@@ -95,7 +96,7 @@ pub each_statement_is_a_statement : {N : Type 0} (plain : N → Tree) (r : Other
 each_statement_is_a_statement plain r = of_statement plain is_statement true refl refl refl refl r.statement r.other
 
 pub no_expression_is_a_statement : {N : Type 0} (plain : N → Tree) (r : Expression N) → is_statement (type_of (expression_plain plain r)) ≡ false
-no_expression_is_a_statement plain r = of_expression plain is_statement false refl refl refl refl refl refl refl refl refl refl refl refl refl refl refl refl refl refl refl refl refl refl refl refl r
+no_expression_is_a_statement plain r = of_expression plain is_statement false refl refl refl refl refl refl refl refl refl refl refl refl refl refl refl refl refl refl refl refl refl refl refl refl refl r
 
 pub no_declaration_is_a_variable_declarator : {N : Type 0} (plain : N → Tree) (r : Declaration N) → is_variable_declarator (type_of (declaration_plain plain r)) ≡ false
 no_declaration_is_a_variable_declarator plain r = of_declaration plain is_variable_declarator false refl r
@@ -107,7 +108,7 @@ pub no_statement_is_a_variable_declarator : {N : Type 0} (plain : N → Tree) (r
 no_statement_is_a_variable_declarator plain r = of_statement plain is_variable_declarator false refl refl refl refl r.statement r.other
 
 pub no_expression_is_a_variable_declarator : {N : Type 0} (plain : N → Tree) (r : Expression N) → is_variable_declarator (type_of (expression_plain plain r)) ≡ false
-no_expression_is_a_variable_declarator plain r = of_expression plain is_variable_declarator false refl refl refl refl refl refl refl refl refl refl refl refl refl refl refl refl refl refl refl refl refl refl refl refl r
+no_expression_is_a_variable_declarator plain r = of_expression plain is_variable_declarator false refl refl refl refl refl refl refl refl refl refl refl refl refl refl refl refl refl refl refl refl refl refl refl refl refl r
 
 pub no_declaration_is_a_binding_pattern : {N : Type 0} (plain : N → Tree) (r : Declaration N) → is_binding_pattern (type_of (declaration_plain plain r)) ≡ false
 no_declaration_is_a_binding_pattern plain r = of_declaration plain is_binding_pattern false refl r
@@ -119,7 +120,7 @@ pub no_statement_is_a_binding_pattern : {N : Type 0} (plain : N → Tree) (r : O
 no_statement_is_a_binding_pattern plain r = of_statement plain is_binding_pattern false refl refl refl refl r.statement r.other
 
 pub no_expression_is_a_binding_pattern : {N : Type 0} (plain : N → Tree) (r : Expression N) → is_binding_pattern (type_of (expression_plain plain r)) ≡ false
-no_expression_is_a_binding_pattern plain r = of_expression plain is_binding_pattern false refl refl refl refl refl refl refl refl refl refl refl refl refl refl refl refl refl refl refl refl refl refl refl refl r
+no_expression_is_a_binding_pattern plain r = of_expression plain is_binding_pattern false refl refl refl refl refl refl refl refl refl refl refl refl refl refl refl refl refl refl refl refl refl refl refl refl refl r
 
 pub no_declaration_is_an_expression : {N : Type 0} (plain : N → Tree) (r : Declaration N) → is_expression (type_of (declaration_plain plain r)) ≡ false
 no_declaration_is_an_expression plain r = of_declaration plain is_expression false refl r
@@ -131,7 +132,7 @@ pub no_statement_is_an_expression : {N : Type 0} (plain : N → Tree) (r : Other
 no_statement_is_an_expression plain r = of_statement plain is_expression false refl refl refl refl r.statement r.other
 
 pub each_expression_is_an_expression : {N : Type 0} (plain : N → Tree) (r : Expression N) → is_expression (type_of (expression_plain plain r)) ≡ true
-each_expression_is_an_expression plain r = of_expression plain is_expression true refl refl refl refl refl refl refl refl refl refl refl refl refl refl refl refl refl refl refl refl refl refl refl refl r
+each_expression_is_an_expression plain r = of_expression plain is_expression true refl refl refl refl refl refl refl refl refl refl refl refl refl refl refl refl refl refl refl refl refl refl refl refl refl r
 
 pub no_declaration_is_an_identifier_name : {N : Type 0} (plain : N → Tree) (r : Declaration N) → is_identifier_name (type_of (declaration_plain plain r)) ≡ false
 no_declaration_is_an_identifier_name plain r = of_declaration plain is_identifier_name false refl r
@@ -143,7 +144,7 @@ pub no_statement_is_an_identifier_name : {N : Type 0} (plain : N → Tree) (r : 
 no_statement_is_an_identifier_name plain r = of_statement plain is_identifier_name false refl refl refl refl r.statement r.other
 
 pub no_expression_is_an_identifier_name : {N : Type 0} (plain : N → Tree) (r : Expression N) → is_identifier_name (type_of (expression_plain plain r)) ≡ false
-no_expression_is_an_identifier_name plain r = of_expression plain is_identifier_name false refl refl refl refl refl refl refl refl refl refl refl refl refl refl refl refl refl refl refl refl refl refl refl refl r
+no_expression_is_an_identifier_name plain r = of_expression plain is_identifier_name false refl refl refl refl refl refl refl refl refl refl refl refl refl refl refl refl refl refl refl refl refl refl refl refl refl r
 
 pub no_declaration_is_an_argument : {N : Type 0} (plain : N → Tree) (r : Declaration N) → is_argument (type_of (declaration_plain plain r)) ≡ false
 no_declaration_is_an_argument plain r = of_declaration plain is_argument false refl r
@@ -155,7 +156,7 @@ pub no_statement_is_an_argument : {N : Type 0} (plain : N → Tree) (r : OtherSt
 no_statement_is_an_argument plain r = of_statement plain is_argument false refl refl refl refl r.statement r.other
 
 pub each_expression_is_an_argument : {N : Type 0} (plain : N → Tree) (r : Expression N) → is_argument (type_of (expression_plain plain r)) ≡ true
-each_expression_is_an_argument plain r = of_expression plain is_argument true refl refl refl refl refl refl refl refl refl refl refl refl refl refl refl refl refl refl refl refl refl refl refl refl r
+each_expression_is_an_argument plain r = of_expression plain is_argument true refl refl refl refl refl refl refl refl refl refl refl refl refl refl refl refl refl refl refl refl refl refl refl refl refl r
 
 pub no_declaration_is_a_chain_element : {N : Type 0} (plain : N → Tree) (r : Declaration N) → is_chain_element (type_of (declaration_plain plain r)) ≡ false
 no_declaration_is_a_chain_element plain r = of_declaration plain is_chain_element false refl r
@@ -176,7 +177,7 @@ pub no_statement_is_an_array_expression_element : {N : Type 0} (plain : N → Tr
 no_statement_is_an_array_expression_element plain r = of_statement plain is_array_expression_element false refl refl refl refl r.statement r.other
 
 pub each_expression_is_an_array_expression_element : {N : Type 0} (plain : N → Tree) (r : Expression N) → is_array_expression_element (type_of (expression_plain plain r)) ≡ true
-each_expression_is_an_array_expression_element plain r = of_expression plain is_array_expression_element true refl refl refl refl refl refl refl refl refl refl refl refl refl refl refl refl refl refl refl refl refl refl refl refl r
+each_expression_is_an_array_expression_element plain r = of_expression plain is_array_expression_element true refl refl refl refl refl refl refl refl refl refl refl refl refl refl refl refl refl refl refl refl refl refl refl refl refl r
 
 pub no_declaration_is_a_property_key : {N : Type 0} (plain : N → Tree) (r : Declaration N) → is_property_key (type_of (declaration_plain plain r)) ≡ false
 no_declaration_is_a_property_key plain r = of_declaration plain is_property_key false refl r
@@ -188,7 +189,7 @@ pub no_statement_is_a_property_key : {N : Type 0} (plain : N → Tree) (r : Othe
 no_statement_is_a_property_key plain r = of_statement plain is_property_key false refl refl refl refl r.statement r.other
 
 pub each_expression_is_a_property_key : {N : Type 0} (plain : N → Tree) (r : Expression N) → is_property_key (type_of (expression_plain plain r)) ≡ true
-each_expression_is_a_property_key plain r = of_expression plain is_property_key true refl refl refl refl refl refl refl refl refl refl refl refl refl refl refl refl refl refl refl refl refl refl refl refl r
+each_expression_is_a_property_key plain r = of_expression plain is_property_key true refl refl refl refl refl refl refl refl refl refl refl refl refl refl refl refl refl refl refl refl refl refl refl refl refl r
 
 pub no_declaration_is_an_object_property_kind : {N : Type 0} (plain : N → Tree) (r : Declaration N) → is_object_property_kind (type_of (declaration_plain plain r)) ≡ false
 no_declaration_is_an_object_property_kind plain r = of_declaration plain is_object_property_kind false refl r
@@ -200,7 +201,7 @@ pub no_statement_is_an_object_property_kind : {N : Type 0} (plain : N → Tree) 
 no_statement_is_an_object_property_kind plain r = of_statement plain is_object_property_kind false refl refl refl refl r.statement r.other
 
 pub no_expression_is_an_object_property_kind : {N : Type 0} (plain : N → Tree) (r : Expression N) → is_object_property_kind (type_of (expression_plain plain r)) ≡ false
-no_expression_is_an_object_property_kind plain r = of_expression plain is_object_property_kind false refl refl refl refl refl refl refl refl refl refl refl refl refl refl refl refl refl refl refl refl refl refl refl refl r
+no_expression_is_an_object_property_kind plain r = of_expression plain is_object_property_kind false refl refl refl refl refl refl refl refl refl refl refl refl refl refl refl refl refl refl refl refl refl refl refl refl refl r
 
 pub no_declaration_is_a_simple_assignment_target : {N : Type 0} (plain : N → Tree) (r : Declaration N) → is_simple_assignment_target (type_of (declaration_plain plain r)) ≡ false
 no_declaration_is_a_simple_assignment_target plain r = of_declaration plain is_simple_assignment_target false refl r
@@ -219,6 +220,42 @@ no_binding_pattern_is_an_assignment_target r = of_binding_pattern is_assignment_
 
 pub no_statement_is_an_assignment_target : {N : Type 0} (plain : N → Tree) (r : OtherStatement N) → is_assignment_target (type_of (statement_plain plain r.statement)) ≡ false
 no_statement_is_an_assignment_target plain r = of_statement plain is_assignment_target false refl refl refl refl r.statement r.other
+
+pub no_declaration_is_a_formal_parameter : {N : Type 0} (plain : N → Tree) (r : Declaration N) → is_formal_parameter (type_of (declaration_plain plain r)) ≡ false
+no_declaration_is_a_formal_parameter plain r = of_declaration plain is_formal_parameter false refl r
+
+pub no_binding_pattern_is_a_formal_parameter : (r : BindingPattern) → is_formal_parameter (type_of (binding_pattern_plain r)) ≡ false
+no_binding_pattern_is_a_formal_parameter r = of_binding_pattern is_formal_parameter false refl r
+
+pub no_statement_is_a_formal_parameter : {N : Type 0} (plain : N → Tree) (r : OtherStatement N) → is_formal_parameter (type_of (statement_plain plain r.statement)) ≡ false
+no_statement_is_a_formal_parameter plain r = of_statement plain is_formal_parameter false refl refl refl refl r.statement r.other
+
+pub no_expression_is_a_formal_parameter : {N : Type 0} (plain : N → Tree) (r : Expression N) → is_formal_parameter (type_of (expression_plain plain r)) ≡ false
+no_expression_is_a_formal_parameter plain r = of_expression plain is_formal_parameter false refl refl refl refl refl refl refl refl refl refl refl refl refl refl refl refl refl refl refl refl refl refl refl refl refl r
+
+pub no_declaration_is_a_formal_parameter_rest : {N : Type 0} (plain : N → Tree) (r : Declaration N) → is_formal_parameter_rest (type_of (declaration_plain plain r)) ≡ false
+no_declaration_is_a_formal_parameter_rest plain r = of_declaration plain is_formal_parameter_rest false refl r
+
+pub no_binding_pattern_is_a_formal_parameter_rest : (r : BindingPattern) → is_formal_parameter_rest (type_of (binding_pattern_plain r)) ≡ false
+no_binding_pattern_is_a_formal_parameter_rest r = of_binding_pattern is_formal_parameter_rest false refl r
+
+pub no_statement_is_a_formal_parameter_rest : {N : Type 0} (plain : N → Tree) (r : OtherStatement N) → is_formal_parameter_rest (type_of (statement_plain plain r.statement)) ≡ false
+no_statement_is_a_formal_parameter_rest plain r = of_statement plain is_formal_parameter_rest false refl refl refl refl r.statement r.other
+
+pub no_expression_is_a_formal_parameter_rest : {N : Type 0} (plain : N → Tree) (r : Expression N) → is_formal_parameter_rest (type_of (expression_plain plain r)) ≡ false
+no_expression_is_a_formal_parameter_rest plain r = of_expression plain is_formal_parameter_rest false refl refl refl refl refl refl refl refl refl refl refl refl refl refl refl refl refl refl refl refl refl refl refl refl refl r
+
+pub no_declaration_is_a_formal_parameters : {N : Type 0} (plain : N → Tree) (r : Declaration N) → is_formal_parameters (type_of (declaration_plain plain r)) ≡ false
+no_declaration_is_a_formal_parameters plain r = of_declaration plain is_formal_parameters false refl r
+
+pub no_binding_pattern_is_a_formal_parameters : (r : BindingPattern) → is_formal_parameters (type_of (binding_pattern_plain r)) ≡ false
+no_binding_pattern_is_a_formal_parameters r = of_binding_pattern is_formal_parameters false refl r
+
+pub no_statement_is_a_formal_parameters : {N : Type 0} (plain : N → Tree) (r : OtherStatement N) → is_formal_parameters (type_of (statement_plain plain r.statement)) ≡ false
+no_statement_is_a_formal_parameters plain r = of_statement plain is_formal_parameters false refl refl refl refl r.statement r.other
+
+pub no_expression_is_a_formal_parameters : {N : Type 0} (plain : N → Tree) (r : Expression N) → is_formal_parameters (type_of (expression_plain plain r)) ≡ false
+no_expression_is_a_formal_parameters plain r = of_expression plain is_formal_parameters false refl refl refl refl refl refl refl refl refl refl refl refl refl refl refl refl refl refl refl refl refl refl refl refl refl r
 
 pub program_type : (t : NodeType) → is_program t ≡ true → t ≡ types.Program
 program_type types.Program h = refl
@@ -257,6 +294,10 @@ program_type types.Super h = cc
 program_type types.ConditionalExpression h = cc
 program_type types.SequenceExpression h = cc
 program_type types.AssignmentExpression h = cc
+program_type types.FormalParameter h = cc
+program_type types.FormalParameterRest h = cc
+program_type types.FormalParameters h = cc
+program_type types.ArrowFunctionExpression h = cc
 
 -- ---- which rows a place takes
 
@@ -287,3 +328,9 @@ pub ruleset takes_object_property_kinds = (no_declaration_is_an_object_property_
 pub ruleset takes_simple_assignment_targets = (no_declaration_is_a_simple_assignment_target, no_binding_pattern_is_a_simple_assignment_target, no_statement_is_a_simple_assignment_target)
 
 pub ruleset takes_assignment_targets = (no_declaration_is_an_assignment_target, no_binding_pattern_is_an_assignment_target, no_statement_is_an_assignment_target)
+
+pub ruleset takes_formal_parameters = (no_declaration_is_a_formal_parameter, no_binding_pattern_is_a_formal_parameter, no_statement_is_a_formal_parameter, no_expression_is_a_formal_parameter)
+
+pub ruleset takes_formal_parameter_rests = (no_declaration_is_a_formal_parameter_rest, no_binding_pattern_is_a_formal_parameter_rest, no_statement_is_a_formal_parameter_rest, no_expression_is_a_formal_parameter_rest)
+
+pub ruleset takes_formal_parameterss = (no_declaration_is_a_formal_parameters, no_binding_pattern_is_a_formal_parameters, no_statement_is_a_formal_parameters, no_expression_is_a_formal_parameters)

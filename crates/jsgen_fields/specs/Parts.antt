@@ -48,3 +48,9 @@ is_in_operations types.UpdateExpression = true
 is_in_operations types.NewExpression = true
 is_in_operations types.Super = true
 is_in_operations other = false
+
+abbrev pub is_in_assignments : NodeType → Bool
+is_in_assignments types.ConditionalExpression = true
+is_in_assignments types.SequenceExpression = true
+is_in_assignments types.AssignmentExpression = true
+is_in_assignments other = false

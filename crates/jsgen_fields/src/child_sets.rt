@@ -3,17 +3,17 @@
 ghost use Rattle.std.specs.Prelude.{◌≡◌, IfOk, Some, None, option_map, if◌then◌else◌};
 ghost use Rattle.jsgen_tree.specs.Tree.{type_of};
 ghost use Rattle.jsgen_tree.specs.Sets.{in_set};
-ghost use Rattle.jsgen_tree.specs.Rows.{in_expression, in_argument, in_array_expression_element, in_chain_element, in_simple_assignment_target, in_assignment_target, in_object_property_kind, in_property_key, in_declaration, in_statement, in_binding_pattern, directive_row, variable_declarator_row, identifier_name_row, expression_plain};
+ghost use Rattle.jsgen_tree.specs.Rows.{in_expression, in_argument, in_array_expression_element, in_chain_element, in_simple_assignment_target, in_assignment_target, in_arrow_function_body, in_object_property_kind, in_property_key, in_declaration, in_statement, in_binding_pattern, directive_row, variable_declarator_row, identifier_name_row, formal_parameter_row, formal_parameter_rest_row, formal_parameters_row, expression_plain};
 ghost use Rattle.jsgen_fields.specs.Kept.{row_plain};
 ghost use Rattle.jsgen_tree.specs.declared.types.NodeSet.TheVariants as sets;
 
 use crate::children::Child;
 use crate::kept::{ReadNode, Row};
 use jsgen_tree::{
-    Argument, ArrayExpressionElement, AssignmentTarget, BindingPatternNode, ChainElement,
-    DeclarationNode, Directive, Expression, ExpressionNode, IdentifierName, NodeSet,
-    ObjectPropertyKind, PropertyKey, SimpleAssignmentTarget, Statement, StatementNode,
-    VariableDeclarator,
+    Argument, ArrayExpressionElement, ArrowFunctionBody, AssignmentTarget, BindingPatternNode,
+    ChainElement, DeclarationNode, Directive, Expression, ExpressionNode, FormalParameter,
+    FormalParameterRest, FormalParameters, IdentifierName, NodeSet, ObjectPropertyKind,
+    PropertyKey, SimpleAssignmentTarget, Statement, StatementNode, VariableDeclarator,
 };
 use std::alloc::{AllocError, Global};
 
@@ -318,6 +318,99 @@ impl<N: ReadNode + Drop> Child<N> for AssignmentTarget<N> {
     }
 }
 
+impl<N: ReadNode + Drop> Child<N> for FormalParameter<N> {
+    ghost plain = { λ n. formal_parameter_row N.plain n };
+
+    ghost of_set = { sets.FormalParameter };
+
+    fn set() -> NodeSet {
+        NodeSet::FormalParameter
+    }
+
+    #[tactic(auto, using(crate::proofs::Sets::takes_formal_parameters))]
+    fn from_row(alloc: Global, row: Row<N>) -> Result<Option<FormalParameter<N>>, AllocError>
+        ensures { IfOk result (λ child. option_map (formal_parameter_row N.plain) child
+            ≡ (if in_set sets.FormalParameter (type_of (row_plain N.plain row)) then Some (row_plain N.plain row) else None)) }
+    {
+        let _ = alloc;
+        match row {
+            Row::FormalParameter(row) => Ok(Some(Box::into_inner(row))),
+            _ => Ok(None),
+        }
+    }
+}
+
+impl<N: ReadNode + Drop> Child<N> for Box<FormalParameterRest<N>> {
+    ghost plain = { λ n. formal_parameter_rest_row N.plain n.value };
+
+    ghost of_set = { sets.FormalParameterRest };
+
+    fn set() -> NodeSet {
+        NodeSet::FormalParameterRest
+    }
+
+    #[tactic(auto, using(crate::proofs::Sets::takes_formal_parameter_rests))]
+    fn from_row(
+        alloc: Global,
+        row: Row<N>,
+    ) -> Result<Option<Box<FormalParameterRest<N>>>, AllocError>
+        ensures { IfOk result (λ child. option_map (λ b. formal_parameter_rest_row N.plain b.value) child
+            ≡ (if in_set sets.FormalParameterRest (type_of (row_plain N.plain row)) then Some (row_plain N.plain row) else None)) }
+    {
+        let _ = alloc;
+        match row {
+            Row::FormalParameterRest(row) => Ok(Some(row)),
+            _ => Ok(None),
+        }
+    }
+}
+
+impl<N: ReadNode + Drop> Child<N> for Box<FormalParameters<N>> {
+    ghost plain = { λ n. formal_parameters_row N.plain n.value };
+
+    ghost of_set = { sets.FormalParameters };
+
+    fn set() -> NodeSet {
+        NodeSet::FormalParameters
+    }
+
+    #[tactic(auto, using(crate::proofs::Sets::takes_formal_parameterss))]
+    fn from_row(alloc: Global, row: Row<N>) -> Result<Option<Box<FormalParameters<N>>>, AllocError>
+        ensures { IfOk result (λ child. option_map (λ b. formal_parameters_row N.plain b.value) child
+            ≡ (if in_set sets.FormalParameters (type_of (row_plain N.plain row)) then Some (row_plain N.plain row) else None)) }
+    {
+        let _ = alloc;
+        match row {
+            Row::FormalParameters(row) => Ok(Some(row)),
+            _ => Ok(None),
+        }
+    }
+}
+
+impl<N: ReadNode + Drop> Child<N> for ArrowFunctionBody<N> {
+    ghost plain = { λ n. in_arrow_function_body N.plain n };
+
+    ghost of_set = { sets.ArrowFunctionBody };
+
+    fn set() -> NodeSet {
+        NodeSet::ArrowFunctionBody
+    }
+
+    #[tactic(auto, using(crate::proofs::Sets::takes_expressions))]
+    fn from_row(alloc: Global, row: Row<N>) -> Result<Option<ArrowFunctionBody<N>>, AllocError>
+        ensures { IfOk result (λ child. option_map (in_arrow_function_body N.plain) child
+            ≡ (if in_set sets.ArrowFunctionBody (type_of (row_plain N.plain row)) then Some (row_plain N.plain row) else None)) }
+    {
+        match row {
+            Row::Expression(row) => arrow_function_body_of_expression(
+                alloc,
+                N::expression_node(Box::into_inner(row)),
+            ),
+            _ => Ok(None),
+        }
+    }
+}
+
 // ---- a member of a set within the set, which stands in a box of its own
 
 fn statement_of_declaration<N: ReadNode + Drop>(
@@ -358,6 +451,16 @@ fn property_key_of_expression<N: ReadNode + Drop>(
 {
     let expression = Box::new(alloc, expression)?;
     Ok(Some(PropertyKey::Expression(expression)))
+}
+
+fn arrow_function_body_of_expression<N: ReadNode + Drop>(
+    alloc: Global,
+    expression: ExpressionNode<N>,
+) -> Result<Option<ArrowFunctionBody<N>>, AllocError>
+    ensures { IfOk result (λ child. option_map (in_arrow_function_body N.plain) child ≡ Some (in_expression N.plain expression)) }
+{
+    let expression = Box::new(alloc, expression)?;
+    Ok(Some(ArrowFunctionBody::Expression(expression)))
 }
 
 // ---- a place that takes some types of a set

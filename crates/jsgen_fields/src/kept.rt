@@ -13,8 +13,8 @@ use crate::others::OtherStatement;
 use jsgen_pool::Typed;
 use jsgen_tree::{
     BindingPattern, BindingPatternNode, Declaration, DeclarationNode, Directive, Expression,
-    ExpressionNode, IdentifierName, Node, NodeType, ObjectProperty, Program, SpreadElement,
-    Statement, StatementNode, VariableDeclarator,
+    ExpressionNode, FormalParameter, FormalParameterRest, FormalParameters, IdentifierName, Node,
+    NodeType, ObjectProperty, Program, SpreadElement, Statement, StatementNode, VariableDeclarator,
 };
 use std::alloc::Global;
 
@@ -32,6 +32,9 @@ pub enum Row<N = Node> {
     IdentifierName(Box<IdentifierName>),
     SpreadElement(Box<SpreadElement<N>>),
     ObjectProperty(Box<ObjectProperty<N>>),
+    FormalParameter(Box<FormalParameter<N>>),
+    FormalParameterRest(Box<FormalParameterRest<N>>),
+    FormalParameters(Box<FormalParameters<N>>),
 }
 
 // ---- what becomes of a row
@@ -129,6 +132,9 @@ impl<N: ReadNode> Typed for Row<N> {
             Row::IdentifierName(_) => NodeType::IdentifierName,
             Row::SpreadElement(_) => NodeType::SpreadElement,
             Row::ObjectProperty(_) => NodeType::ObjectProperty,
+            Row::FormalParameter(_) => NodeType::FormalParameter,
+            Row::FormalParameterRest(_) => NodeType::FormalParameterRest,
+            Row::FormalParameters(_) => NodeType::FormalParameters,
         }
     }
 }

@@ -5,7 +5,7 @@ ghost use Rattle.jsgen_fields.specs.Names.{first_named, type_named};
 
 use jsgen_tree::NodeType;
 
-const TYPE_NAMES: [(&str, NodeType); 36] = [
+const TYPE_NAMES: [(&str, NodeType); 40] = [
     ("Program", NodeType::Program),
     ("Directive", NodeType::Directive),
     ("VariableDeclaration", NodeType::VariableDeclaration),
@@ -45,6 +45,10 @@ const TYPE_NAMES: [(&str, NodeType); 36] = [
     ("ConditionalExpression", NodeType::ConditionalExpression),
     ("SequenceExpression", NodeType::SequenceExpression),
     ("AssignmentExpression", NodeType::AssignmentExpression),
+    ("FormalParameter", NodeType::FormalParameter),
+    ("FormalParameterRest", NodeType::FormalParameterRest),
+    ("FormalParameters", NodeType::FormalParameters),
+    ("ArrowFunctionExpression", NodeType::ArrowFunctionExpression),
 ];
 
 fn first_named(names: &[(&str, NodeType)], name: &str) -> Option<NodeType>

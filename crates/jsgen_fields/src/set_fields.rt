@@ -4,7 +4,7 @@ ghost use Rattle.std.specs.Prelude.{true, false, map, option_map};
 ghost use Rattle.serde_json.specs.View.{view};
 ghost use Rattle.jsgen_tree.specs.Tree.{optional, trees, holed};
 ghost use Rattle.jsgen_tree.specs.Table.{needed, may_be_absent, child, children as many, children_or_holes as many_or_holes};
-ghost use Rattle.jsgen_tree.specs.Rows.{in_expression, in_argument, in_array_expression_element, in_chain_element, in_simple_assignment_target, in_assignment_target, in_object_property_kind, in_property_key, in_statement, in_binding_pattern, directive_row, variable_declarator_row, identifier_name_row};
+ghost use Rattle.jsgen_tree.specs.Rows.{in_expression, in_argument, in_array_expression_element, in_chain_element, in_simple_assignment_target, in_assignment_target, in_arrow_function_body, in_object_property_kind, in_property_key, in_statement, in_binding_pattern, directive_row, variable_declarator_row, identifier_name_row, formal_parameter_row, formal_parameter_rest_row, formal_parameters_row};
 ghost use Rattle.jsgen_fields.specs.Values.{at, field as value_under};
 ghost use Rattle.jsgen_fields.specs.Meaning.{a_child, a_maybe, a_list};
 ghost use Rattle.jsgen_fields.specs.Reads.{Gives, read_children};
@@ -16,9 +16,10 @@ use crate::fields::{children, children_or_holes, needed_child, optional_child};
 use crate::kept::{ReadNode, Row};
 use jsgen_pool::Kept;
 use jsgen_tree::{
-    Argument, ArrayExpressionElement, AssignmentTarget, BindingPatternNode, ChainElement,
-    Directive, ExpressionNode, IdentifierName, ObjectPropertyKind, PropertyKey,
-    SimpleAssignmentTarget, StatementNode, VariableDeclarator,
+    Argument, ArrayExpressionElement, ArrowFunctionBody, AssignmentTarget, BindingPatternNode,
+    ChainElement, Directive, ExpressionNode, FormalParameter, FormalParameterRest,
+    FormalParameters, IdentifierName, ObjectPropertyKind, PropertyKey, SimpleAssignmentTarget,
+    StatementNode, VariableDeclarator,
 };
 use serde_json::Value;
 use std::alloc::Global;
@@ -257,6 +258,62 @@ pub fn needed_assignment_target<N: ReadNode + Drop>(
 ) -> Result<AssignmentTarget<N>, InputFault>
     ensures { Gives (λ c. a_child (in_assignment_target N.plain c)) result (entries N.plain kept.new.items)
         (read_children (at number field) true needed (child sets.AssignmentTarget) (value_under name.now (view row.now)) (entries N.plain kept.old.items)) }
+{
+    needed_child(alloc, kept, number, field, row, name)
+}
+
+pub fn formal_parameter_list<N: ReadNode + Drop>(
+    alloc: Global,
+    kept: &mut Vec<Kept<Row<N>>>,
+    number: usize,
+    field: usize,
+    row: &Value,
+    name: &str,
+) -> Result<Vec<FormalParameter<N>>, InputFault>
+    ensures { Gives (λ v. a_list (trees (map (formal_parameter_row N.plain) v.items))) result (entries N.plain kept.new.items)
+        (read_children (at number field) false may_be_absent (many sets.FormalParameter) (value_under name.now (view row.now)) (entries N.plain kept.old.items)) }
+{
+    children(alloc, kept, number, field, row, name)
+}
+
+pub fn optional_formal_parameter_rest<N: ReadNode + Drop>(
+    alloc: Global,
+    kept: &mut Vec<Kept<Row<N>>>,
+    number: usize,
+    field: usize,
+    row: &Value,
+    name: &str,
+) -> Result<Option<Box<FormalParameterRest<N>>>, InputFault>
+    ensures { Gives (λ o. a_maybe (optional (option_map (λ b. formal_parameter_rest_row N.plain b.value) o))) result (entries N.plain kept.new.items)
+        (read_children (at number field) false may_be_absent (child sets.FormalParameterRest) (value_under name.now (view row.now)) (entries N.plain kept.old.items)) }
+{
+    optional_child(alloc, kept, number, field, row, name)
+}
+
+pub fn needed_formal_parameters<N: ReadNode + Drop>(
+    alloc: Global,
+    kept: &mut Vec<Kept<Row<N>>>,
+    number: usize,
+    field: usize,
+    row: &Value,
+    name: &str,
+) -> Result<Box<FormalParameters<N>>, InputFault>
+    ensures { Gives (λ c. a_child (formal_parameters_row N.plain c.value)) result (entries N.plain kept.new.items)
+        (read_children (at number field) true needed (child sets.FormalParameters) (value_under name.now (view row.now)) (entries N.plain kept.old.items)) }
+{
+    needed_child(alloc, kept, number, field, row, name)
+}
+
+pub fn needed_arrow_function_body<N: ReadNode + Drop>(
+    alloc: Global,
+    kept: &mut Vec<Kept<Row<N>>>,
+    number: usize,
+    field: usize,
+    row: &Value,
+    name: &str,
+) -> Result<ArrowFunctionBody<N>, InputFault>
+    ensures { Gives (λ c. a_child (in_arrow_function_body N.plain c)) result (entries N.plain kept.new.items)
+        (read_children (at number field) true needed (child sets.ArrowFunctionBody) (value_under name.now (view row.now)) (entries N.plain kept.old.items)) }
 {
     needed_child(alloc, kept, number, field, row, name)
 }

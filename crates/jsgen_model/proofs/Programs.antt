@@ -2,7 +2,7 @@
 -- A node of Rust is plain where its children are.
 use Rattle.std.proofs.Common.{refl}
 use Rattle.jsgen_tree.specs.Plain.{node_plain, layer}
-use Rattle.jsgen_tree.proofs.Cases.{with_argument, with_array_expression_element, with_object_property_kind, variable_declarator_by_init, if_statement_by_alternate, chain_expression_by_expression, boxed_object_property_by_key, update_expression_by_argument, assignment_expression_by_left}
+use Rattle.jsgen_tree.proofs.Cases.{with_argument, with_array_expression_element, with_object_property_kind, variable_declarator_by_init, if_statement_by_alternate, chain_expression_by_expression, boxed_object_property_by_key, update_expression_by_argument, assignment_expression_by_left, formal_parameter_by_initializer, boxed_formal_parameters_by_rest, arrow_function_expression_by_params, arrow_function_expression_by_body}
 use Rattle.jsgen_tree.specs.declared.nodes.Node.{Node, Node-F, map-Node}
 use Rattle.jsgen_tree.specs.Tree.{Tree}
 use Rattle.jsgen_tree.specs.declared.sets.Expression.{Expression}
@@ -44,6 +44,7 @@ module _ {A : Type 0} (f : A → Node) (h : (a : A) → IsPlain (node_plain (f a
   expression_is_plain (expressions.ConditionalExpression b) = (refl, (h b.value.test.node, (h b.value.consequent.node, (h b.value.alternate.node, tt))))
   expression_is_plain (expressions.SequenceExpression b) = (no_hole_changed _ _ _ b.value.expressions.items, (all_changed _ _ _ (λ n. h n.node) b.value.expressions.items, tt))
   expression_is_plain (expressions.AssignmentExpression b) = (assignment_expression_by_left (λ n. IsPlain (layer (map-Node Node Tree node_plain (map-Node A Node f (opened.Expression (expressions.AssignmentExpression (record b { value = n }))))))) (λ n_left. (λ n. (refl, ((refl, tt), (h n.right.node, tt))))) (λ n_left. (λ n. (refl, ((refl, (h n_left.value.object.node, ((refl, tt), tt))), (h n.right.node, tt))))) (λ n_left. (λ n. (refl, ((refl, (h n_left.value.object.node, (h n_left.value.expression.node, tt))), (h n.right.node, tt)))))) b.value
+  expression_is_plain (expressions.ArrowFunctionExpression b) = (arrow_function_expression_by_params (λ n. IsPlain (layer (map-Node Node Tree node_plain (map-Node A Node f (opened.Expression (expressions.ArrowFunctionExpression (record b { value = n }))))))) (boxed_formal_parameters_by_rest _ (λ n_params. (arrow_function_expression_by_body _ (λ n_body. (λ n. (refl, ((no_hole_changed _ _ _ n_params.value.items.items, (all_changed _ _ _ (formal_parameter_by_initializer _ (λ n. (refl, (h n.pattern.node, (tt, tt)))) (λ n_initializer. (λ n. (refl, (h n.pattern.node, (h n_initializer.node, tt)))))) n_params.value.items.items, (tt, tt))), (h n_body.value.node, tt))))))) (λ n_params_rest. (λ n_params. (arrow_function_expression_by_body _ (λ n_body. (λ n. (refl, ((no_hole_changed _ _ _ n_params.value.items.items, (all_changed _ _ _ (formal_parameter_by_initializer _ (λ n. (refl, (h n.pattern.node, (tt, tt)))) (λ n_initializer. (λ n. (refl, (h n.pattern.node, (h n_initializer.node, tt)))))) n_params.value.items.items, ((refl, (h n_params_rest.value.argument.node, tt)), tt))), (h n_body.value.node, tt)))))))))) b.value
 
   declaration_is_plain : (n : Declaration A) → IsPlain (layer (map-Node Node Tree node_plain (map-Node A Node f (opened.Declaration n))))
   declaration_is_plain (declarations.VariableDeclaration b) = (no_hole_changed _ _ _ b.value.declarations.items, (all_changed _ _ _ (variable_declarator_by_init _ (λ n. (refl, (h n.id.node, (tt, tt)))) (λ n_init. (λ n. (refl, (h n.id.node, (h n_init.node, tt)))))) b.value.declarations.items, tt))

@@ -20,7 +20,7 @@ use Rattle.jsgen_model.specs.Numbers.{ends_in}
 use Rattle.jsgen_tree.specs.Tree.{Tree, Maybe, absent, given, Trees, no_trees, more, hole, Atoms}
 use Rattle.jsgen_tree.specs.Places.{bare}
 use Rattle.jsgen_tree.specs.Nodes as tree
-use Rattle.jsgen_model.specs.Punctuator.{plus, minus, star, slash, percent, star_star, equal_equal, not_equal, equal_equal_equal, not_equal_equal, less, less_equal, greater, greater_equal, shift_left, shift_right, shift_right_zero, bit_and, bit_or, bit_xor, and_and, or_or, nullish, dot, ellipsis, comma, semicolon, equal, Round, Square, Brace, bang, tilde, Punctuator, plus_plus, minus_minus, colon, question, plus_equal, minus_equal, star_equal, slash_equal, percent_equal, star_star_equal, shift_left_equal, shift_right_equal, shift_right_zero_equal, bit_or_equal, bit_xor_equal, bit_and_equal, or_or_equal, and_and_equal, nullish_equal, question_dot}
+use Rattle.jsgen_model.specs.Punctuator.{plus, minus, star, slash, percent, star_star, equal_equal, not_equal, equal_equal_equal, not_equal_equal, less, less_equal, greater, greater_equal, shift_left, shift_right, shift_right_zero, bit_and, bit_or, bit_xor, and_and, or_or, nullish, dot, ellipsis, comma, semicolon, equal, Round, Square, Brace, bang, tilde, Punctuator, plus_plus, minus_minus, colon, question, plus_equal, minus_equal, star_equal, slash_equal, percent_equal, star_star_equal, shift_left_equal, shift_right_equal, shift_right_zero_equal, bit_or_equal, bit_xor_equal, bit_and_equal, or_or_equal, and_and_equal, nullish_equal, question_dot, arrow}
 use Rattle.jsgen_tree.specs.declared.collections.PropertyKind.TheVariants.{Init}
 use Rattle.jsgen_model.specs.Tokens.{Piece, Tokens, done, piece, group, ◌⧺◌, Word, Number, Quoted, Sign}
 use Rattle.jsgen_model.specs.Normal.{nothing_of, named, unnumbered, link_values, call_values, by_text, declared_as}
@@ -39,6 +39,10 @@ in_module = record { in_operator = true; yield_operand = false; await_operand = 
 -- within a group, and in a statement that is no loop's head, `in` may stand
 abbrev pub with_in : Allowed → Allowed
 with_in allowed = record allowed { in_operator = true }
+
+-- in the body of an arrow function neither `yield` nor `await` is an operator (15.3)
+abbrev pub in_arrow_body : Allowed → Allowed
+in_arrow_body allowed = record allowed { yield_operand = false; await_operand = false }
 
 -- of a property with a value: whether its name alone says it, and whether its key is computed
 abbrev pub property_values : Bool → Bool → Atoms
@@ -184,6 +188,10 @@ abbrev pub starts_in_square : Tokens → Bool
 starts_in_square (group mark Square inside ts) = true
 starts_in_square ts = false
 
+abbrev pub starts_in_brace : Tokens → Bool
+starts_in_brace (group mark Brace inside ts) = true
+starts_in_brace ts = false
+
 -- a word with which no expression statement begins: `function`, `class`, `async function`, `let [` (14.5)
 abbrev pub starts_declaration : List ℕ → Tokens → Bool
 starts_declaration w ts =
@@ -275,6 +283,25 @@ mutual
     an_optional_chain : {c : Allowed} {ts : Tokens} {t : Tree} → ReadsChain c ts t → ReadsExpression c LeftHandSide ts (tree.chain (nothing_of 0) t)
     an_array : {c : Allowed} {mark : Bool} {inside : Tokens} {es : Trees} → ReadsElements (with_in c) inside es → ReadsExpression c Primary (group mark Square inside done) (tree.array (nothing_of 0) es)
     an_object : {c : Allowed} {mark : Bool} {inside : Tokens} {ps : Trees} → ReadsProperties (with_in c) inside ps → ReadsExpression c Primary (group mark Brace inside done) (tree.object_expression (nothing_of 0) ps)
+    -- on the line of its parameters; its body is an expression that begins with no brace (15.3)
+    an_arrow_function : {c : Allowed} {ts a b : Tokens} {ps e : Tree} → ts ≡ a ⧺ piece false (Sign arrow) b → ReadsArrowParameters c a ps → starts_in_brace b ≡ false → ReadsExpression (in_arrow_body c) Assignment b e → ReadsExpression c Assignment ts (tree.arrow_function (nothing_of 3) ps e)
+
+  -- before an arrow: a name alone, or parameters in parentheses (15.3)
+  pub data ReadsArrowParameters : Allowed → Tokens → Tree → Type 0 where
+    a_parameter_name : {c : Allowed} {mark : Bool} {w v : List ℕ} → word_value w ≡ Some v → is_free_name v ≡ true → ReadsArrowParameters c (piece mark (Word w) done) (tree.formal_parameters (nothing_of 0) (more (tree.formal_parameter (nothing_of 3) (tree.binding_identifier (unnumbered v)) absent) no_trees) absent)
+    grouped_parameters : {c : Allowed} {mark : Bool} {inside : Tokens} {ps : Trees} {rest : Maybe} → ReadsParameters (with_in c) inside ps rest → ReadsArrowParameters c (group mark Round inside done) (tree.formal_parameters (nothing_of 0) ps rest)
+
+  -- parameters, and the one that takes the rest (15.1); a comma may end them where nothing takes the rest
+  pub data ReadsParameters : Allowed → Tokens → Trees → Maybe → Type 0 where
+    no_parameter : {c : Allowed} → ReadsParameters c done no_trees absent
+    last_parameter : {c : Allowed} {ts : Tokens} {p : Tree} → ReadsParameter c ts p → ReadsParameters c ts (more p no_trees) absent
+    first_parameter : {c : Allowed} {ts a b : Tokens} {p : Tree} {ps : Trees} {rest : Maybe} (mark : Bool) → ts ≡ a ⧺ piece mark (Sign comma) b → ReadsParameter c a p → ReadsParameters c b ps rest → ReadsParameters c ts (more p ps) rest
+    a_rest : {c : Allowed} {mark : Bool} {ts : Tokens} {b : Tree} → ReadsBinding c ts b → ReadsParameters c (piece mark (Sign ellipsis) ts) no_trees (given (tree.formal_parameter_rest (nothing_of 0) b))
+
+  -- a parameter, by itself or with the value that it has where none is given (15.1)
+  pub data ReadsParameter : Allowed → Tokens → Tree → Type 0 where
+    a_parameter : {c : Allowed} {ts : Tokens} {b : Tree} → ReadsBinding c ts b → ReadsParameter c ts (tree.formal_parameter (nothing_of 3) b absent)
+    with_initializer : {c : Allowed} {ts a v : Tokens} {b e : Tree} (mark : Bool) → ts ≡ a ⧺ piece mark (Sign equal) v → ReadsBinding c a b → ReadsExpression c Assignment v e → ReadsParameter c ts (tree.formal_parameter (nothing_of 3) b (given e))
 
   -- the parts of a sequence behind its first (13.16)
   pub data ReadsParts : Allowed → Tokens → Trees → Type 0 where

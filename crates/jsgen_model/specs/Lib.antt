@@ -2,6 +2,7 @@ pub mod Punctuator
 pub mod Items
 pub mod Layout
 pub mod Printing
+pub mod Quotes
 pub mod Spell
 pub mod Valid
 pub mod Numbers

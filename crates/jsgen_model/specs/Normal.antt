@@ -6,7 +6,7 @@ use Rattle.jsgen_tree.specs.Number.{NumericKind, Whole, Raw}
 use Rattle.jsgen_tree.specs.Tree.{Tree, node, Slots, no_slots, one, maybe, many, maybe_many, Maybe, absent, given, Trees, no_trees, more, hole, MaybeTrees, no_list, listed, Atoms}
 use Rattle.jsgen_tree.specs.declared.types.NodeType.TheVariants as types
 use Rattle.jsgen_tree.specs.Places.{bare, absent_values}
-use Rattle.jsgen_tree.specs.Values.{directive_directive, variable_declaration_kind, binding_identifier_name, identifier_reference_name, identifier_name_name, boolean_literal_value, numeric_literal_kind, numeric_literal_negative, numeric_literal_digits, numeric_literal_text, big_int_literal_value, string_literal_value, binary_expression_operator, logical_expression_operator, unary_expression_operator, update_expression_operator, update_expression_prefix, variable_declaration_declare, variable_declarator_definite, static_member_expression_optional, computed_member_expression_optional, call_expression_optional, object_property_kind, object_property_method, object_property_shorthand, object_property_computed, assignment_expression_operator}
+use Rattle.jsgen_tree.specs.Values.{directive_directive, variable_declaration_kind, binding_identifier_name, identifier_reference_name, identifier_name_name, boolean_literal_value, numeric_literal_kind, numeric_literal_negative, numeric_literal_digits, numeric_literal_text, big_int_literal_value, string_literal_value, binary_expression_operator, logical_expression_operator, unary_expression_operator, update_expression_operator, update_expression_prefix, variable_declaration_declare, variable_declarator_definite, static_member_expression_optional, computed_member_expression_optional, call_expression_optional, object_property_kind, object_property_method, object_property_shorthand, object_property_computed, assignment_expression_operator, formal_parameter_is_override, formal_parameter_readonly, formal_parameter_optional, arrow_function_expression_is_async}
 use Rattle.jsgen_syntax.specs.Raw.{directive_value}
 use Rattle.jsgen_syntax.specs.declared.operator.LogicalOperator.{LogicalOperator}
 use Rattle.jsgen_syntax.specs.declared.operator.UnaryOperator.TheVariants.{UnaryNegation}
@@ -115,7 +115,7 @@ is_proto_shorthand shorthand key = option_map_or is_proto (written_name_in key) 
 abbrev pub is_computed : Bool → Tree → Bool
 is_computed computed key = computed || is_negative_number key
 
--- Parentheses, spans, the source and the kind of a program are away, and whether a call or `new` is pure; a directive is its value; a
+-- Parentheses, spans, the source and the kind of a program are away, and whether a call, `new` or a function is pure, or is marked as called; a directive is its value; a
 -- whole number is its digits, and a minus before a number is an operation; a negative number that is a key is a computed one; a chain of one logical operator is one list, however it was grouped, and so is a sequence; braces round a consequent
 -- that ends in an `if` without `else` are away; a property that its value alone says is written out, but for `__proto__`.
 abbrev mutual
@@ -156,6 +156,10 @@ abbrev mutual
   normal (tree.conditional a test consequent alternate) = tree.conditional (nothing_of 0) (normal test) (normal consequent) (normal alternate)
   normal (tree.sequence a expressions) = tree.sequence (nothing_of 0) (flattened (normal_trees expressions))
   normal (tree.assignment a left right) = tree.assignment (bare (assignment_operator (assignment_expression_operator a) ∷ [])) (normal left) (normal right)
+  normal (tree.formal_parameter a pattern initializer) = tree.formal_parameter (bare (formal_parameter_is_override a ∷ formal_parameter_readonly a ∷ formal_parameter_optional a ∷ [])) (normal pattern) (normal_maybe initializer)
+  normal (tree.formal_parameter_rest a argument) = tree.formal_parameter_rest (nothing_of 0) (normal argument)
+  normal (tree.formal_parameters a items rest) = tree.formal_parameters (nothing_of 0) (normal_trees items) (normal_maybe rest)
+  normal (tree.arrow_function a params body) = tree.arrow_function (bare (arrow_function_expression_is_async a ∷ no_value ∷ no_value ∷ [])) (normal params) (normal body)
   normal (node type a slots) = node type (bare a.values) (normal_slots slots)
 
   pub normal_slots : Slots → Slots

@@ -22,12 +22,13 @@ use Rattle.jsgen_tree.specs.Inside.{without_parentheses, ends_open, reference_in
 use Rattle.jsgen_tree.specs.Words.{declaration_word}
 use Rattle.jsgen_tree.specs.Number.{NumericKind, Whole, Raw}
 use Rattle.jsgen_tree.specs.Tree.{Tree, Maybe, absent, given, Trees, no_trees, more, hole, Atoms, type_of}
-use Rattle.jsgen_tree.specs.Values.{as_text, directive_directive, variable_declaration_kind, binding_identifier_name, identifier_reference_name, identifier_name_name, boolean_literal_value, numeric_literal_kind, numeric_literal_negative, numeric_literal_digits, numeric_literal_text, big_int_literal_value, string_literal_value, binary_expression_operator, logical_expression_operator, unary_expression_operator, update_expression_operator, update_expression_prefix, object_property_shorthand, object_property_computed, assignment_expression_operator, static_member_expression_optional, computed_member_expression_optional, call_expression_optional}
+use Rattle.jsgen_tree.specs.Values.{as_text, directive_directive, variable_declaration_kind, binding_identifier_name, identifier_reference_name, identifier_name_name, boolean_literal_value, numeric_literal_kind, numeric_literal_negative, numeric_literal_digits, numeric_literal_text, big_int_literal_value, string_literal_value, binary_expression_operator, logical_expression_operator, unary_expression_operator, update_expression_operator, update_expression_prefix, object_property_shorthand, object_property_computed, assignment_expression_operator, static_member_expression_optional, computed_member_expression_optional, call_expression_optional, arrow_function_expression_pife}
 use Rattle.jsgen_tree.specs.Job.{Tables, JobData}
 use Rattle.jsgen_tree.specs.Nodes as tree
 use Rattle.jsgen_model.specs.Numbers.{takes_no_dot}
-use Rattle.jsgen_model.specs.Punctuator.{ellipsis, comma, semicolon, equal, plus, minus, star, slash, percent, star_star, equal_equal, not_equal, equal_equal_equal, not_equal_equal, less, less_equal, greater, greater_equal, shift_left, shift_right, shift_right_zero, bit_and, bit_or, bit_xor, and_and, or_or, nullish, Round, Square, Brace, bang, tilde, plus_plus, minus_minus, colon, question, plus_equal, minus_equal, star_equal, slash_equal, percent_equal, star_star_equal, shift_left_equal, shift_right_equal, shift_right_zero_equal, bit_or_equal, bit_xor_equal, bit_and_equal, or_or_equal, and_and_equal, nullish_equal, question_dot}
-use Rattle.jsgen_model.specs.Items.{Items, nothing, ◌⊕◌, word, name, number, string, first_string, directive, punctuator, operator, member_dot, brackets, soft_space, soft_line, hard_space, body_space, deeper, indentation, wrapped, statement_end, due_semicolon, drop_semicolon, statement_begins}
+use Rattle.jsgen_model.specs.Punctuator.{ellipsis, comma, semicolon, equal, plus, minus, star, slash, percent, star_star, equal_equal, not_equal, equal_equal_equal, not_equal_equal, less, less_equal, greater, greater_equal, shift_left, shift_right, shift_right_zero, bit_and, bit_or, bit_xor, and_and, or_or, nullish, Round, Square, Brace, bang, tilde, plus_plus, minus_minus, colon, question, plus_equal, minus_equal, star_equal, slash_equal, percent_equal, star_star_equal, shift_left_equal, shift_right_equal, shift_right_zero_equal, bit_or_equal, bit_xor_equal, bit_and_equal, or_or_equal, and_and_equal, nullish_equal, question_dot, arrow}
+use Rattle.jsgen_model.specs.Quotes.{is_require_call, is_definition_call, is_export_target, is_export_mark}
+use Rattle.jsgen_model.specs.Items.{Items, nothing, ◌⊕◌, word, name, number, string, first_string, directive, punctuator, operator, member_dot, brackets, soft_space, soft_line, hard_space, body_space, deeper, indentation, wrapped, statement_end, due_semicolon, drop_semicolon, statement_begins, arrow_body_begins}
 use Rattle.jsgen_model.specs.Layout.{Start, nowhere, statement, arrow_body, unless_printed, layout, empty_pen, style_of}
 
 -- what an expression's surroundings forbid
@@ -55,13 +56,15 @@ pub record Place : Type 0 where
   pub in_list : Bool
   -- the left operand of an operation, whose own operator goes on with no chain
   pub left_operand : Bool
+  -- a string that stands here is never in backticks
+  pub plain_quotes : Bool
 
 abbrev pub free : Context
 free = record { forbids_in = false; forbids_call = false }
 
 -- a statement's place
 abbrev pub among_statements : Settings → Place
-among_statements settings = record { settings = settings; level = Lowest; context = free; start = nowhere; in_list = true; left_operand = false }
+among_statements settings = record { settings = settings; level = Lowest; context = free; start = nowhere; in_list = true; left_operand = false; plain_quotes = false }
 
 -- the place of a block or an `if` that goes on with a line
 abbrev pub within_statement : Settings → Place
@@ -73,7 +76,7 @@ whole_statement settings = record (within_statement settings) { start = statemen
 
 -- a child that something is printed before, at a level, under the same context
 abbrev pub behind : Precedence → Place → Place
-behind level place = record { settings = place.settings; level = level; context = place.context; start = nowhere; in_list = false; left_operand = false }
+behind level place = record { settings = place.settings; level = level; context = place.context; start = nowhere; in_list = false; left_operand = false; plain_quotes = false }
 
 -- a child that nothing is printed before
 abbrev pub in_front : Precedence → Place → Place
@@ -89,6 +92,10 @@ in_brackets level place = record (behind level place) { context = free }
 -- a part of a choice or of a list, in which calls may stand
 abbrev pub with_calls : Place → Place
 with_calls place = record place { context = record place.context { forbids_call = false } }
+
+-- a string is never in backticks, where the test holds
+abbrev pub quoted_plainly : Bool → Place → Place
+quoted_plainly test place = record place { plain_quotes = test }
 
 -- what is given a value, where nothing is forbidden
 abbrev pub assigned : Place → Place
@@ -481,6 +488,38 @@ abbrev pub big_integer_items : List ℕ → Option (List ℕ) → Place → Item
 big_integer_items value (Some digits) place = negative false (big_text digits) place
 big_integer_items value None place = number false (big_text value)
 
+-- ---- functions
+
+-- in minified text a parameter may stand without parentheses, where it is the only one, and a name alone (ECMA-262, 15.3)
+abbrev pub is_name_alone : Tree → Bool
+is_name_alone (tree.formal_parameters a (more (tree.formal_parameter b (tree.binding_identifier i) absent) no_trees) absent) = true
+is_name_alone t = false
+
+abbrev pub is_bare : Settings → Tree → Bool
+is_bare settings params = settings.minified && is_name_alone params
+
+abbrev pub parameter_items : Bool → Items → Items
+parameter_items true items = items
+parameter_items false items = brackets Round items
+
+-- an arrow function stands in parentheses where something tighter is asked for, and where it is marked so
+abbrev pub arrow_wraps : Bool → Place → Bool
+arrow_wraps pife place = pife || wraps Assign place
+
+-- parameters stand in brackets, in which `in` may stand
+abbrev pub parameters_place : Place → Place
+parameters_place place = behind Comma (record place { context = allow_in true place.context })
+
+-- what an arrow function does, behind its arrow
+abbrev pub arrow_body_place : Place → Place
+arrow_body_place place = record (behind Comma place) { start = arrow_body }
+
+-- a comma stands between the parameters and the one that takes the rest
+abbrev pub comma_between : Trees → Maybe → Items
+comma_between no_trees rest = nothing
+comma_between items absent = nothing
+comma_between items (given rest) = punctuator comma ⊕ soft_space
+
 -- ---- the whole
 
 abbrev mutual
@@ -497,12 +536,12 @@ abbrev mutual
   spell (tree.boolean_literal a) place = word (truth_word (boolean_literal_value a))
   spell (tree.numeric_literal a) place = number_items (numeric_literal_kind a) a place
   spell (tree.big_int_literal a) place = big_integer_items (big_int_literal_value a) (behind_minus (big_int_literal_value a)) place
-  spell (tree.string_literal a) place = string true (string_literal_value a)
+  spell (tree.string_literal a) place = string (not place.plain_quotes) (string_literal_value a)
   spell (tree.parenthesized a expression) place = spell expression place
   spell (tree.binary a left right) place =
       operation (binary_wraps (binary_expression_operator a) place) (operator_item (binary_expression_operator a))
-      (spell left (left_of (left_level (binary_expression_operator a) left) (within (binary_wraps (binary_expression_operator a) place) place)))
-      (spell right (behind (right_level (binary_expression_operator a)) (within (binary_wraps (binary_expression_operator a) place) place)))
+      (spell left (quoted_plainly (is_export_mark place.settings.minified (binary_expression_operator a) left) (left_of (left_level (binary_expression_operator a) left) (within (binary_wraps (binary_expression_operator a) place) place))))
+      (spell right (quoted_plainly (is_export_mark place.settings.minified (binary_expression_operator a) right) (behind (right_level (binary_expression_operator a)) (within (binary_wraps (binary_expression_operator a) place) place))))
   spell (tree.logical a left right) place =
       operation (logical_wraps (logical_expression_operator a) place) (logical_item (logical_expression_operator a))
       (spell left (left_of (unmixed (logical_expression_operator a) left (logical_lower_level (logical_expression_operator a))) (within (logical_wraps (logical_expression_operator a) place) place)))
@@ -515,9 +554,9 @@ abbrev mutual
   spell (tree.empty_statement a) place = indentation ⊕ (punctuator semicolon ⊕ soft_line)
   spell (tree.identifier_name a) place = name (identifier_name_name a)
   spell (tree.static_member a object property) place = spell object (linked place) ⊕ (name_link (static_member_expression_optional a) ⊕ spell property (behind Lowest place))
-  spell (tree.computed_member a object expression) place = spell object (linked place) ⊕ (bracket_link (computed_member_expression_optional a) ⊕ brackets Square (spell expression (in_brackets Lowest place)))
+  spell (tree.computed_member a object expression) place = spell object (linked place) ⊕ (bracket_link (computed_member_expression_optional a) ⊕ brackets Square (spell expression (quoted_plainly place.plain_quotes (in_brackets Lowest place))))
   spell (tree.call a callee arguments) place =
-      wrapped (call_wraps place) (spell callee (called (within (call_wraps place) place)) ⊕ (bracket_link (call_expression_optional a) ⊕ brackets Round (spell_list arguments (in_brackets Comma place))))
+      wrapped (call_wraps place) (spell callee (called (within (call_wraps place) place)) ⊕ (bracket_link (call_expression_optional a) ⊕ brackets Round (spell_arguments (is_require_call place.settings.minified callee arguments) (is_definition_call place.settings.minified callee arguments) arguments (in_brackets Comma place))))
   spell (tree.chain a element) place = wrapped (chain_wraps place) (spell element (chain_place (chain_wraps place) place))
   spell (tree.spread a argument) place = punctuator ellipsis ⊕ spell argument (in_brackets Comma place)
   -- up to two elements stand on one line
@@ -547,7 +586,14 @@ abbrev mutual
   spell (tree.sequence a expressions) place = wrapped (wraps Comma place) (spell_parts expressions (with_calls (in_front Lowest (enclosed (wraps Comma place) place))))
   -- an assignment binds to the right, and hands on what is forbidden
   spell (tree.assignment a left right) place =
-      operation (wraps Assign place) (assignment_item (assignment_expression_operator a)) (spell left (assigned (enclosed (wraps Assign place) place))) (spell right (behind Comma place))
+      operation (wraps Assign place) (assignment_item (assignment_expression_operator a)) (spell left (quoted_plainly (is_export_target place.settings.minified left) (assigned (enclosed (wraps Assign place) place)))) (spell right (behind Comma place))
+  spell (tree.formal_parameter a pattern initializer) place = spell pattern (in_front Lowest place) ⊕ spell_value initializer (behind Comma place)
+  spell (tree.formal_parameter_rest a argument) place = punctuator ellipsis ⊕ spell argument (behind Lowest place)
+  spell (tree.formal_parameters a items rest) place = spell_list items place ⊕ (comma_between items rest ⊕ spell_if_given rest place)
+  -- no line end stands before the arrow (ECMA-262, 15.3)
+  spell (tree.arrow_function a params body) place =
+      wrapped (arrow_wraps (arrow_function_expression_pife a) place) (parameter_items (is_bare place.settings params) (spell params (parameters_place place))
+      ⊕ (soft_space ⊕ (punctuator arrow ⊕ (soft_space ⊕ (arrow_body_begins ⊕ spell body (arrow_body_place (within (arrow_wraps (arrow_function_expression_pife a) place) place)))))))
   spell t place = nothing
 
   -- the directives of a body, each with a semicolon of its own
@@ -573,6 +619,17 @@ abbrev mutual
   spell_list no_trees place = nothing
   spell_list (more t ts) place = spell t place ⊕ spell_more ts place
   spell_list (hole ts) place = spell_list ts place
+
+  -- arguments, of which the first or the second is a string that is never in backticks, where the tests hold
+  pub spell_arguments : Bool → Bool → Trees → Place → Items
+  spell_arguments first second no_trees place = nothing
+  spell_arguments first second (more t ts) place = spell t (quoted_plainly first place) ⊕ spell_behind_first second ts place
+  spell_arguments first second (hole ts) place = spell_arguments first second ts place
+
+  pub spell_behind_first : Bool → Trees → Place → Items
+  spell_behind_first second no_trees place = nothing
+  spell_behind_first second (more t ts) place = punctuator comma ⊕ (soft_space ⊕ (spell t (quoted_plainly second place) ⊕ spell_more ts place))
+  spell_behind_first second (hole ts) place = spell_behind_first second ts place
 
   pub spell_more : Trees → Place → Items
   spell_more no_trees place = nothing
@@ -601,7 +658,11 @@ abbrev mutual
   spell_alternate absent settings = nothing
   spell_alternate (given t) settings = due_semicolon ⊕ (word (codes "else") ⊕ alternate_items (shape t) (spell t (within_statement settings)) (spell t (among_statements settings)))
 
-  -- the value of a declarator
+  pub spell_if_given : Maybe → Place → Items
+  spell_if_given absent place = nothing
+  spell_if_given (given t) place = spell t place
+
+  -- the value of a declarator, or of a parameter
   pub spell_value : Maybe → Place → Items
   spell_value absent place = nothing
   spell_value (given t) place = soft_space ⊕ (punctuator equal ⊕ (soft_space ⊕ spell t place))

@@ -68,7 +68,7 @@ expression_past_2 (expressions.NewExpression b) later no_0 no_1 no_2 no_3 no_4 =
 expression_past_2 (expressions.Super b) later no_0 no_1 no_2 no_3 no_4 = absurd (no_4 b refl)
 expression_past_2 n later no_0 no_1 no_2 no_3 no_4 = refl
 
-pub expression_past_3 : {N : Type 0} (n : Expression N) → nat_le 3 (expression_part n) ≡ true → IsNot n expressions.ConditionalExpression → IsNot n expressions.SequenceExpression → IsNot n expressions.AssignmentExpression → ⊥
+pub expression_past_3 : {N : Type 0} (n : Expression N) → nat_le 3 (expression_part n) ≡ true → IsNot n expressions.ConditionalExpression → IsNot n expressions.SequenceExpression → IsNot n expressions.AssignmentExpression → nat_le 4 (expression_part n) ≡ true
 expression_past_3 (expressions.IdentifierReference b) later no_0 no_1 no_2 = let no : false ≡ true = later in cc
 expression_past_3 (expressions.ThisExpression b) later no_0 no_1 no_2 = let no : false ≡ true = later in cc
 expression_past_3 (expressions.NullLiteral b) later no_0 no_1 no_2 = let no : false ≡ true = later in cc
@@ -93,6 +93,34 @@ expression_past_3 (expressions.Super b) later no_0 no_1 no_2 = let no : false �
 expression_past_3 (expressions.ConditionalExpression b) later no_0 no_1 no_2 = absurd (no_0 b refl)
 expression_past_3 (expressions.SequenceExpression b) later no_0 no_1 no_2 = absurd (no_1 b refl)
 expression_past_3 (expressions.AssignmentExpression b) later no_0 no_1 no_2 = absurd (no_2 b refl)
+expression_past_3 n later no_0 no_1 no_2 = refl
+
+pub expression_past_4 : {N : Type 0} (n : Expression N) → nat_le 4 (expression_part n) ≡ true → IsNot n expressions.ArrowFunctionExpression → ⊥
+expression_past_4 (expressions.IdentifierReference b) later no_0 = let no : false ≡ true = later in cc
+expression_past_4 (expressions.ThisExpression b) later no_0 = let no : false ≡ true = later in cc
+expression_past_4 (expressions.NullLiteral b) later no_0 = let no : false ≡ true = later in cc
+expression_past_4 (expressions.BooleanLiteral b) later no_0 = let no : false ≡ true = later in cc
+expression_past_4 (expressions.NumericLiteral b) later no_0 = let no : false ≡ true = later in cc
+expression_past_4 (expressions.BigIntLiteral b) later no_0 = let no : false ≡ true = later in cc
+expression_past_4 (expressions.StringLiteral b) later no_0 = let no : false ≡ true = later in cc
+expression_past_4 (expressions.ParenthesizedExpression b) later no_0 = let no : false ≡ true = later in cc
+expression_past_4 (expressions.BinaryExpression b) later no_0 = let no : false ≡ true = later in cc
+expression_past_4 (expressions.LogicalExpression b) later no_0 = let no : false ≡ true = later in cc
+expression_past_4 (expressions.StaticMemberExpression b) later no_0 = let no : false ≡ true = later in cc
+expression_past_4 (expressions.ComputedMemberExpression b) later no_0 = let no : false ≡ true = later in cc
+expression_past_4 (expressions.CallExpression b) later no_0 = let no : false ≡ true = later in cc
+expression_past_4 (expressions.ChainExpression b) later no_0 = let no : false ≡ true = later in cc
+expression_past_4 (expressions.ArrayExpression b) later no_0 = let no : false ≡ true = later in cc
+expression_past_4 (expressions.ObjectExpression b) later no_0 = let no : false ≡ true = later in cc
+expression_past_4 (expressions.UnaryExpression b) later no_0 = let no : false ≡ true = later in cc
+expression_past_4 (expressions.NewTarget b) later no_0 = let no : false ≡ true = later in cc
+expression_past_4 (expressions.UpdateExpression b) later no_0 = let no : false ≡ true = later in cc
+expression_past_4 (expressions.NewExpression b) later no_0 = let no : false ≡ true = later in cc
+expression_past_4 (expressions.Super b) later no_0 = let no : false ≡ true = later in cc
+expression_past_4 (expressions.ConditionalExpression b) later no_0 = let no : false ≡ true = later in cc
+expression_past_4 (expressions.SequenceExpression b) later no_0 = let no : false ≡ true = later in cc
+expression_past_4 (expressions.AssignmentExpression b) later no_0 = let no : false ≡ true = later in cc
+expression_past_4 (expressions.ArrowFunctionExpression b) later no_0 = absurd (no_0 b refl)
 
 pub statement_past_0 : {N : Type 0} (n : Statement N) → IsNot n statements.Declaration → nat_le 1 (statement_part n) ≡ true
 statement_past_0 (statements.Declaration b) no_0 = absurd (no_0 b refl)

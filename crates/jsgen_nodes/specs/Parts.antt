@@ -31,6 +31,7 @@ expression_part (expression.Super b) = 2
 expression_part (expression.ConditionalExpression b) = 3
 expression_part (expression.SequenceExpression b) = 3
 expression_part (expression.AssignmentExpression b) = 3
+expression_part (expression.ArrowFunctionExpression b) = 4
 
 abbrev pub statement_part : {N : Type 0} → Statement N → ℕ
 statement_part (statement.Declaration b) = 0

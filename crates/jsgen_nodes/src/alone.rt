@@ -4,6 +4,7 @@
 mod assignments;
 mod collections;
 mod expressions;
+mod functions;
 mod operations;
 mod sets;
 mod statements;

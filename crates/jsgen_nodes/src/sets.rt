@@ -108,6 +108,22 @@ fn print_expression_in_assignments<N: PrintNode>(
         Expression::ConditionalExpression(node) => print_conditional_expression(node, p, place),
         Expression::SequenceExpression(node) => print_sequence_expression(node, p, place),
         Expression::AssignmentExpression(node) => print_assignment_expression(node, p, place),
+        _ => print_expression_in_functions(node, p, place),
+    }
+}
+
+fn print_expression_in_functions<N: PrintNode>(
+    node: &Expression<N>,
+    p: &mut Printer,
+    place: Place,
+) -> Result<(), Memory>
+    requires { nat_le 4 (expression_part node.now) ≡ true }
+    ensures { Reaches result (pen_of p.old) (pen_of p.new) (pen_after (expression_plain N.plain node.now) place p.old) }
+{
+    match node {
+        Expression::ArrowFunctionExpression(node) => print_arrow_function_expression(
+            node, p, place,
+        ),
         _ => unreachable!(),
     }
 }

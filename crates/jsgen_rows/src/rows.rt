@@ -4,13 +4,14 @@ ghost use Rattle.std.specs.Prelude.{◌≡◌};
 ghost use Rattle.serde_json.specs.View.{view};
 ghost use Rattle.jsgen_fields.specs.Reads.{Gives, read_typed};
 ghost use Rattle.jsgen_fields.specs.Kept.{entries, row_plain};
-ghost use Rattle.jsgen_fields.specs.Parts.{is_in_statements, is_in_expressions, is_in_collections, is_in_operations};
+ghost use Rattle.jsgen_fields.specs.Parts.{is_in_statements, is_in_expressions, is_in_collections, is_in_operations, is_in_assignments};
 
 use jsgen_assignment_rows::assignments::read_in_assignments;
 use jsgen_collection_rows::collections::read_in_collections;
 use jsgen_expression_rows::expressions::read_in_expressions;
 use jsgen_fields::InputFault;
 use jsgen_fields::kept::{ReadNode, Row};
+use jsgen_function_rows::functions::read_in_functions;
 use jsgen_operation_rows::operations::read_in_operations;
 use jsgen_pool::Kept;
 use jsgen_statement_rows::statements::read_in_statements;
@@ -84,6 +85,17 @@ fn is_in_operations(node_type: NodeType) -> bool
     )
 }
 
+fn is_in_assignments(node_type: NodeType) -> bool
+    ensures { result ≡ is_in_assignments node_type }
+{
+    matches!(
+        &node_type,
+        NodeType::ConditionalExpression
+            | NodeType::SequenceExpression
+            | NodeType::AssignmentExpression
+    )
+}
+
 /// The row of a type.
 pub fn read_typed<N: ReadNode + Drop>(
     alloc: Global,
@@ -108,5 +120,8 @@ pub fn read_typed<N: ReadNode + Drop>(
     if is_in_operations(node_type) {
         return read_in_operations(alloc, kept, node_type, number, span, row);
     }
-    read_in_assignments(alloc, kept, node_type, number, span, row)
+    if is_in_assignments(node_type) {
+        return read_in_assignments(alloc, kept, node_type, number, span, row);
+    }
+    read_in_functions(alloc, kept, node_type, number, span, row)
 }

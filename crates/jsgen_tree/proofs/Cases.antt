@@ -7,6 +7,7 @@ use Rattle.jsgen_tree.specs.declared.sets.ArrayExpressionElement.{ArrayExpressio
 use Rattle.jsgen_tree.specs.declared.sets.ChainElement.{ChainElement}
 use Rattle.jsgen_tree.specs.declared.sets.SimpleAssignmentTarget.{SimpleAssignmentTarget}
 use Rattle.jsgen_tree.specs.declared.sets.AssignmentTarget.{AssignmentTarget}
+use Rattle.jsgen_tree.specs.declared.sets.ArrowFunctionBody.{ArrowFunctionBody}
 use Rattle.jsgen_tree.specs.declared.sets.ObjectPropertyKind.{ObjectPropertyKind}
 use Rattle.jsgen_tree.specs.declared.sets.PropertyKey.{PropertyKey}
 use Rattle.jsgen_tree.specs.declared.nodes.ExpressionNode.{ExpressionNode}
@@ -23,11 +24,16 @@ use Rattle.jsgen_tree.specs.declared.collections.SpreadElement.{SpreadElement}
 use Rattle.jsgen_tree.specs.declared.collections.ObjectProperty.{ObjectProperty}
 use Rattle.jsgen_tree.specs.declared.operations.UpdateExpression.{UpdateExpression}
 use Rattle.jsgen_tree.specs.declared.assignments.AssignmentExpression.{AssignmentExpression}
+use Rattle.jsgen_tree.specs.declared.functions.FormalParameter.{FormalParameter}
+use Rattle.jsgen_tree.specs.declared.functions.FormalParameterRest.{FormalParameterRest}
+use Rattle.jsgen_tree.specs.declared.functions.FormalParameters.{FormalParameters}
+use Rattle.jsgen_tree.specs.declared.functions.ArrowFunctionExpression.{ArrowFunctionExpression}
 use Rattle.jsgen_tree.specs.declared.sets.Argument.TheVariants as arguments
 use Rattle.jsgen_tree.specs.declared.sets.ArrayExpressionElement.TheVariants as array_expression_elements
 use Rattle.jsgen_tree.specs.declared.sets.ChainElement.TheVariants as chain_elements
 use Rattle.jsgen_tree.specs.declared.sets.SimpleAssignmentTarget.TheVariants as simple_assignment_targets
 use Rattle.jsgen_tree.specs.declared.sets.AssignmentTarget.TheVariants as assignment_targets
+use Rattle.jsgen_tree.specs.declared.sets.ArrowFunctionBody.TheVariants as arrow_function_bodys
 use Rattle.jsgen_tree.specs.declared.sets.ObjectPropertyKind.TheVariants as object_property_kinds
 use Rattle.jsgen_tree.specs.declared.sets.PropertyKey.TheVariants as property_keys
 
@@ -55,6 +61,9 @@ pub with_assignment_target : {N : Type 0} (P : AssignmentTarget N → Type 0) �
 with_assignment_target P of_identifier_reference of_static_member_expression of_computed_member_expression (assignment_targets.IdentifierReference b) = of_identifier_reference b
 with_assignment_target P of_identifier_reference of_static_member_expression of_computed_member_expression (assignment_targets.StaticMemberExpression b) = of_static_member_expression b
 with_assignment_target P of_identifier_reference of_static_member_expression of_computed_member_expression (assignment_targets.ComputedMemberExpression b) = of_computed_member_expression b
+
+pub with_arrow_function_body : {N : Type 0} (P : ArrowFunctionBody N → Type 0) → ((b : Box (ExpressionNode N) Global) → P (arrow_function_bodys.Expression b)) → (n : ArrowFunctionBody N) → P n
+with_arrow_function_body P of_expression (arrow_function_bodys.Expression b) = of_expression b
 
 pub with_object_property_kind : {N : Type 0} (P : ObjectPropertyKind N → Type 0) → ((b : Box (ObjectProperty N) Global) → P (object_property_kinds.ObjectProperty b)) → ((b : Box (SpreadElement N) Global) → P (object_property_kinds.SpreadElement b)) → (n : ObjectPropertyKind N) → P n
 with_object_property_kind P of_object_property of_spread_element (object_property_kinds.ObjectProperty b) = of_object_property b
@@ -86,3 +95,18 @@ update_expression_by_argument P of_identifier_reference of_static_member_express
 
 pub assignment_expression_by_left : {N : Type 0} (P : AssignmentExpression N → Type 0) → ((b : Box IdentifierReference Global) (n : AssignmentExpression N) → P (record n { left = (assignment_targets.IdentifierReference b) })) → ((b : Box (StaticMemberExpression N) Global) (n : AssignmentExpression N) → P (record n { left = (assignment_targets.StaticMemberExpression b) })) → ((b : Box (ComputedMemberExpression N) Global) (n : AssignmentExpression N) → P (record n { left = (assignment_targets.ComputedMemberExpression b) })) → (n : AssignmentExpression N) → P n
 assignment_expression_by_left P of_identifier_reference of_static_member_expression of_computed_member_expression n = elim n.left as (λ o. P (record n { left = o })) [ assignment_targets.IdentifierReference b ↦ of_identifier_reference b n | assignment_targets.StaticMemberExpression b ↦ of_static_member_expression b n | assignment_targets.ComputedMemberExpression b ↦ of_computed_member_expression b n ]
+
+pub formal_parameter_by_initializer : {N : Type 0} (P : FormalParameter N → Type 0) → ((n : FormalParameter N) → P (record n { initializer = None })) → ((c : ExpressionNode N) (n : FormalParameter N) → P (record n { initializer = Some c })) → (n : FormalParameter N) → P n
+formal_parameter_by_initializer P none some n = elim n.initializer as (λ o. P (record n { initializer = o })) [ None ↦ none n | Some c ↦ some c n ]
+
+pub formal_parameters_by_rest : {N : Type 0} (P : FormalParameters N → Type 0) → ((n : FormalParameters N) → P (record n { rest = None })) → ((c : Box (FormalParameterRest N) Global) (n : FormalParameters N) → P (record n { rest = Some c })) → (n : FormalParameters N) → P n
+formal_parameters_by_rest P none some n = elim n.rest as (λ o. P (record n { rest = o })) [ None ↦ none n | Some c ↦ some c n ]
+
+pub boxed_formal_parameters_by_rest : {N : Type 0} (P : Box (FormalParameters N) Global → Type 0) → ((n : Box (FormalParameters N) Global) → P (record n { value = record n.value { rest = None } })) → ((c : Box (FormalParameterRest N) Global) (n : Box (FormalParameters N) Global) → P (record n { value = record n.value { rest = Some c } })) → (n : Box (FormalParameters N) Global) → P n
+boxed_formal_parameters_by_rest P none some n = elim n.value.rest as (λ o. P (record n { value = record n.value { rest = o } })) [ None ↦ none n | Some c ↦ some c n ]
+
+pub arrow_function_expression_by_params : {N : Type 0} (P : ArrowFunctionExpression N → Type 0) → ((c : Box (FormalParameters N) Global) (n : ArrowFunctionExpression N) → P (record n { params = c })) → (n : ArrowFunctionExpression N) → P n
+arrow_function_expression_by_params P all n = all n.params n
+
+pub arrow_function_expression_by_body : {N : Type 0} (P : ArrowFunctionExpression N → Type 0) → ((b : Box (ExpressionNode N) Global) (n : ArrowFunctionExpression N) → P (record n { body = (arrow_function_bodys.Expression b) })) → (n : ArrowFunctionExpression N) → P n
+arrow_function_expression_by_body P of_expression n = elim n.body as (λ o. P (record n { body = o })) [ arrow_function_bodys.Expression b ↦ of_expression b n ]

@@ -1,12 +1,12 @@
 -- Generated from tools/nodes/table.txt; edit that and run tools/nodes/generate.
 -- The plain data of the recursive type is, set by set, that of what it holds.
 use Rattle.std.proofs.Common.{◌≡◌, refl, sym, ap, ◌∙◌}
-use Rattle.jsgen_tree.proofs.Cases.{with_argument, with_array_expression_element, with_object_property_kind, variable_declarator_by_init, if_statement_by_alternate, chain_expression_by_expression, boxed_object_property_by_key, update_expression_by_argument, assignment_expression_by_left}
+use Rattle.jsgen_tree.proofs.Cases.{with_argument, with_array_expression_element, with_object_property_kind, variable_declarator_by_init, if_statement_by_alternate, chain_expression_by_expression, boxed_object_property_by_key, update_expression_by_argument, assignment_expression_by_left, formal_parameter_by_initializer, boxed_formal_parameters_by_rest, arrow_function_expression_by_params, arrow_function_expression_by_body}
 use Rattle.jsgen_tree.specs.Plain.{node_plain, layer}
 use Rattle.jsgen_tree.specs.Spans.{expression_span, declaration_span, statement_span, binding_pattern_span}
 use Rattle.jsgen_tree.specs.Tree.{Tree, trees, holed, span_of}
 use Rattle.jsgen_tree.specs.Rows.{expression_plain, declaration_plain, statement_plain, binding_pattern_plain}
-use Rattle.jsgen_tree.proofs.Layers.{map_after, with_hole, same_slots, same_one, same_many}
+use Rattle.jsgen_tree.proofs.Layers.{map_after, with_hole, same_slots, same_one, same_maybe, same_many}
 use Rattle.jsgen_tree.specs.declared.nodes.Node.{Node, out-Node, map-Node, fold_out-Node}
 use Rattle.jsgen_tree.specs.declared.nodes.Node.TheVariants.{outs-Expression, outs-Declaration, outs-Statement, outs-BindingPattern}
 use Rattle.jsgen_tree.specs.declared.sets.Expression.{Expression}
@@ -51,6 +51,7 @@ natural_expression h (expressions.Super b) = refl
 natural_expression h (expressions.ConditionalExpression b) = refl
 natural_expression h (expressions.SequenceExpression b) = same_slots (same_many (ap trees (map_after _ _ _ (λ n. refl) b.value.expressions.items)) refl)
 natural_expression h (expressions.AssignmentExpression b) = (assignment_expression_by_left (λ n. layer (map-Node Node Tree h (opened.Expression (expressions.AssignmentExpression (record b { value = n })))) ≡ expression_plain h (expressions.AssignmentExpression (record b { value = n }))) (λ n_left. (λ n. refl)) (λ n_left. (λ n. refl)) (λ n_left. (λ n. refl))) b.value
+natural_expression h (expressions.ArrowFunctionExpression b) = (arrow_function_expression_by_params (λ n. layer (map-Node Node Tree h (opened.Expression (expressions.ArrowFunctionExpression (record b { value = n })))) ≡ expression_plain h (expressions.ArrowFunctionExpression (record b { value = n }))) (boxed_formal_parameters_by_rest _ (λ n_params. (arrow_function_expression_by_body _ (λ n_body. (λ n. same_slots (same_one (same_slots (same_many (ap trees (map_after _ _ _ (formal_parameter_by_initializer _ (λ n. refl) (λ n_initializer. (λ n. refl))) n_params.value.items.items)) (same_maybe refl refl))) (same_one refl refl)))))) (λ n_params_rest. (λ n_params. (arrow_function_expression_by_body _ (λ n_body. (λ n. same_slots (same_one (same_slots (same_many (ap trees (map_after _ _ _ (formal_parameter_by_initializer _ (λ n. refl) (λ n_initializer. (λ n. refl))) n_params.value.items.items)) (same_maybe refl refl))) (same_one refl refl))))))))) b.value
 
 natural_declaration : (h : Node → Tree) (n : Declaration Node) → layer (map-Node Node Tree h (opened.Declaration n)) ≡ declaration_plain h n
 natural_declaration h (declarations.VariableDeclaration b) = same_slots (same_many (ap trees (map_after _ _ _ (variable_declarator_by_init _ (λ n. refl) (λ n_init. (λ n. refl))) b.value.declarations.items)) refl)
@@ -101,6 +102,7 @@ of_expression h (expressions.Super b) = refl
 of_expression h (expressions.ConditionalExpression b) = refl
 of_expression h (expressions.SequenceExpression b) = refl
 of_expression h (expressions.AssignmentExpression b) = refl
+of_expression h (expressions.ArrowFunctionExpression b) = refl
 
 pub expression_spans : (n : Expression Node) → expression_span n ≡ span_of (node_plain (nodes.Expression n))
 expression_spans n = of_expression node_plain n ∙ ap span_of (sym (plain_expression n))

@@ -40,6 +40,7 @@ of_expression h (expressions.Super b) = refl
 of_expression h (expressions.ConditionalExpression b) = refl
 of_expression h (expressions.SequenceExpression b) = refl
 of_expression h (expressions.AssignmentExpression b) = refl
+of_expression h (expressions.ArrowFunctionExpression b) = refl
 
 pub expression_is_one : (n : Expression Node) → is_expression (type_of (node_plain (nodes.Expression n))) ≡ true
 expression_is_one n = ap (λ t. is_expression (type_of t)) (plain_expression n) ∙ of_expression node_plain n

@@ -156,6 +156,18 @@ sequence_expression_fields = may_have (codes "expressions") (sorts.children sets
 abbrev pub assignment_expression_fields : List Field
 assignment_expression_fields = needs (codes "operator") (sorts.word assignment_operator_words) ∷ needs (codes "left") (sorts.child sets.AssignmentTarget) ∷ needs (codes "right") (sorts.child sets.Expression) ∷ []
 
+abbrev pub formal_parameter_fields : List Field
+formal_parameter_fields = not_yet (codes "decorators") sorts.unread_child ∷ not_yet (codes "accessibility") sorts.unread_child ∷ not_yet (codes "is_override") sorts.flag ∷ not_yet (codes "readonly") sorts.flag ∷ needs (codes "pattern") (sorts.child sets.BindingPattern) ∷ not_yet (codes "optional") sorts.flag ∷ not_yet (codes "type_annotation") sorts.unread_child ∷ may_have (codes "initializer") (sorts.child sets.Expression) ∷ []
+
+abbrev pub formal_parameter_rest_fields : List Field
+formal_parameter_rest_fields = not_yet (codes "decorators") sorts.unread_child ∷ needs (codes "argument") (sorts.child sets.BindingPattern) ∷ not_yet (codes "type_annotation") sorts.unread_child ∷ []
+
+abbrev pub formal_parameters_fields : List Field
+formal_parameters_fields = may_have (codes "items") (sorts.children sets.FormalParameter) ∷ may_have (codes "rest") (sorts.child sets.FormalParameterRest) ∷ []
+
+abbrev pub arrow_function_expression_fields : List Field
+arrow_function_expression_fields = not_yet (codes "is_async") sorts.flag ∷ has_by_default (atoms.flag false) (codes "pure") sorts.flag ∷ has_by_default (atoms.flag false) (codes "pife") sorts.flag ∷ not_yet (codes "type_parameters") sorts.unread_child ∷ needs (codes "params") (sorts.child sets.FormalParameters) ∷ not_yet (codes "return_type") sorts.unread_child ∷ needs (codes "body") (sorts.child sets.ArrowFunctionBody) ∷ []
+
 abbrev pub fields : NodeType → List Field
 fields types.Program = program_fields
 fields types.Directive = directive_fields
@@ -193,3 +205,7 @@ fields types.Super = super_fields
 fields types.ConditionalExpression = conditional_expression_fields
 fields types.SequenceExpression = sequence_expression_fields
 fields types.AssignmentExpression = assignment_expression_fields
+fields types.FormalParameter = formal_parameter_fields
+fields types.FormalParameterRest = formal_parameter_rest_fields
+fields types.FormalParameters = formal_parameters_fields
+fields types.ArrowFunctionExpression = arrow_function_expression_fields

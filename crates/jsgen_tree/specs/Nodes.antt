@@ -110,3 +110,15 @@ sequence a expressions = node types.SequenceExpression a (many expressions no_sl
 
 pattern abbrev pub assignment : Atoms → Tree → Tree → Tree
 assignment a left right = node types.AssignmentExpression a (one left (one right no_slots))
+
+pattern abbrev pub formal_parameter : Atoms → Tree → Maybe → Tree
+formal_parameter a pattern initializer = node types.FormalParameter a (one pattern (maybe initializer no_slots))
+
+pattern abbrev pub formal_parameter_rest : Atoms → Tree → Tree
+formal_parameter_rest a argument = node types.FormalParameterRest a (one argument no_slots)
+
+pattern abbrev pub formal_parameters : Atoms → Trees → Maybe → Tree
+formal_parameters a items rest = node types.FormalParameters a (many items (maybe rest no_slots))
+
+pattern abbrev pub arrow_function : Atoms → Tree → Tree → Tree
+arrow_function a params body = node types.ArrowFunctionExpression a (one params (one body no_slots))

@@ -5,7 +5,7 @@ use Rattle.jsgen_syntax.specs.Units.{js_units}
 use Rattle.jsgen_tree.specs.Characters.{characters, numeric_values}
 use Rattle.jsgen_tree.specs.Tree.{Tree, optional, trees, holed}
 use Rattle.jsgen_tree.specs.Atom.{no_value, text, units, flag, source_kind, declaration_kind, binary_operator, logical_operator, property_kind, unary_operator, update_operator, assignment_operator}
-use Rattle.jsgen_tree.specs.Nodes.{program, directive, variable_declaration, variable_declarator, binding_identifier, expression_statement, block, if_statement, empty_statement, identifier_reference, this_expression, null_literal, boolean_literal, numeric_literal, big_int_literal, string_literal, parenthesized, binary, logical, identifier_name, static_member, computed_member, call, chain, spread, array, object_property, object_expression, unary, new_target, update, new_expression, super, conditional, sequence, assignment}
+use Rattle.jsgen_tree.specs.Nodes.{program, directive, variable_declaration, variable_declarator, binding_identifier, expression_statement, block, if_statement, empty_statement, identifier_reference, this_expression, null_literal, boolean_literal, numeric_literal, big_int_literal, string_literal, parenthesized, binary, logical, identifier_name, static_member, computed_member, call, chain, spread, array, object_property, object_expression, unary, new_target, update, new_expression, super, conditional, sequence, assignment, formal_parameter, formal_parameter_rest, formal_parameters, arrow_function}
 use Rattle.jsgen_tree.specs.declared.nodes.ExpressionNode.{ExpressionNode}
 use Rattle.jsgen_tree.specs.declared.nodes.DeclarationNode.{DeclarationNode}
 use Rattle.jsgen_tree.specs.declared.nodes.StatementNode.{StatementNode}
@@ -46,12 +46,17 @@ use Rattle.jsgen_tree.specs.declared.operations.Super.{Super}
 use Rattle.jsgen_tree.specs.declared.assignments.ConditionalExpression.{ConditionalExpression}
 use Rattle.jsgen_tree.specs.declared.assignments.SequenceExpression.{SequenceExpression}
 use Rattle.jsgen_tree.specs.declared.assignments.AssignmentExpression.{AssignmentExpression}
+use Rattle.jsgen_tree.specs.declared.functions.FormalParameter.{FormalParameter}
+use Rattle.jsgen_tree.specs.declared.functions.FormalParameterRest.{FormalParameterRest}
+use Rattle.jsgen_tree.specs.declared.functions.FormalParameters.{FormalParameters}
+use Rattle.jsgen_tree.specs.declared.functions.ArrowFunctionExpression.{ArrowFunctionExpression}
 use Rattle.jsgen_tree.specs.declared.sets.Expression.{Expression}
 use Rattle.jsgen_tree.specs.declared.sets.Argument.{Argument}
 use Rattle.jsgen_tree.specs.declared.sets.ArrayExpressionElement.{ArrayExpressionElement}
 use Rattle.jsgen_tree.specs.declared.sets.ChainElement.{ChainElement}
 use Rattle.jsgen_tree.specs.declared.sets.SimpleAssignmentTarget.{SimpleAssignmentTarget}
 use Rattle.jsgen_tree.specs.declared.sets.AssignmentTarget.{AssignmentTarget}
+use Rattle.jsgen_tree.specs.declared.sets.ArrowFunctionBody.{ArrowFunctionBody}
 use Rattle.jsgen_tree.specs.declared.sets.ObjectPropertyKind.{ObjectPropertyKind}
 use Rattle.jsgen_tree.specs.declared.sets.PropertyKey.{PropertyKey}
 use Rattle.jsgen_tree.specs.declared.sets.Declaration.{Declaration}
@@ -63,6 +68,7 @@ use Rattle.jsgen_tree.specs.declared.sets.ArrayExpressionElement.TheVariants as 
 use Rattle.jsgen_tree.specs.declared.sets.ChainElement.TheVariants as chain_element
 use Rattle.jsgen_tree.specs.declared.sets.SimpleAssignmentTarget.TheVariants as simple_assignment_target
 use Rattle.jsgen_tree.specs.declared.sets.AssignmentTarget.TheVariants as assignment_target
+use Rattle.jsgen_tree.specs.declared.sets.ArrowFunctionBody.TheVariants as arrow_function_body
 use Rattle.jsgen_tree.specs.declared.sets.ObjectPropertyKind.TheVariants as object_property_kind
 use Rattle.jsgen_tree.specs.declared.sets.PropertyKey.TheVariants as property_key
 use Rattle.jsgen_tree.specs.declared.sets.Declaration.TheVariants as declaration
@@ -224,6 +230,21 @@ in_assignment_target plain (assignment_target.ComputedMemberExpression b) = comp
 abbrev pub assignment_expression_row : {N : Type 0} → (N → Tree) → AssignmentExpression N → Tree
 assignment_expression_row plain n = assignment (record { span = n.span; values = assignment_operator n.operator ∷ [] }) (in_assignment_target plain n.left) (in_expression plain n.right)
 
+abbrev pub formal_parameter_row : {N : Type 0} → (N → Tree) → FormalParameter N → Tree
+formal_parameter_row plain n = formal_parameter (record { span = n.span; values = no_value ∷ no_value ∷ no_value ∷ [] }) (in_binding_pattern plain n.pattern) (optional (option_map (in_expression plain) n.initializer))
+
+abbrev pub formal_parameter_rest_row : {N : Type 0} → (N → Tree) → FormalParameterRest N → Tree
+formal_parameter_rest_row plain n = formal_parameter_rest (record { span = n.span; values = [] }) (in_binding_pattern plain n.argument)
+
+abbrev pub formal_parameters_row : {N : Type 0} → (N → Tree) → FormalParameters N → Tree
+formal_parameters_row plain n = formal_parameters (record { span = n.span; values = [] }) (trees (map (formal_parameter_row plain) n.items.items)) (optional (option_map (λ b. formal_parameter_rest_row plain b.value) n.rest))
+
+abbrev pub in_arrow_function_body : {N : Type 0} → (N → Tree) → ArrowFunctionBody N → Tree
+in_arrow_function_body plain (arrow_function_body.Expression b) = in_expression plain b.value
+
+abbrev pub arrow_function_expression_row : {N : Type 0} → (N → Tree) → ArrowFunctionExpression N → Tree
+arrow_function_expression_row plain n = arrow_function (record { span = n.span; values = no_value ∷ flag n.pure ∷ flag n.pife ∷ [] }) (formal_parameters_row plain n.params.value) (in_arrow_function_body plain n.body)
+
 -- ---- sets that nest
 
 abbrev pub expression_plain : {N : Type 0} → (N → Tree) → Expression N → Tree
@@ -251,6 +272,7 @@ expression_plain plain (expression.Super b) = super_row b.value
 expression_plain plain (expression.ConditionalExpression b) = conditional_expression_row plain b.value
 expression_plain plain (expression.SequenceExpression b) = sequence_expression_row plain b.value
 expression_plain plain (expression.AssignmentExpression b) = assignment_expression_row plain b.value
+expression_plain plain (expression.ArrowFunctionExpression b) = arrow_function_expression_row plain b.value
 
 abbrev pub declaration_plain : {N : Type 0} → (N → Tree) → Declaration N → Tree
 declaration_plain plain (declaration.VariableDeclaration b) = variable_declaration_row plain b.value

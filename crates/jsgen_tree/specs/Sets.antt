@@ -31,6 +31,7 @@ is_expression types.Super = true
 is_expression types.ConditionalExpression = true
 is_expression types.SequenceExpression = true
 is_expression types.AssignmentExpression = true
+is_expression types.ArrowFunctionExpression = true
 is_expression other = false
 
 abbrev pub is_argument : NodeType → Bool
@@ -59,6 +60,7 @@ is_argument types.Super = true
 is_argument types.ConditionalExpression = true
 is_argument types.SequenceExpression = true
 is_argument types.AssignmentExpression = true
+is_argument types.ArrowFunctionExpression = true
 is_argument other = false
 
 abbrev pub is_array_expression_element : NodeType → Bool
@@ -87,6 +89,7 @@ is_array_expression_element types.Super = true
 is_array_expression_element types.ConditionalExpression = true
 is_array_expression_element types.SequenceExpression = true
 is_array_expression_element types.AssignmentExpression = true
+is_array_expression_element types.ArrowFunctionExpression = true
 is_array_expression_element other = false
 
 abbrev pub is_chain_element : NodeType → Bool
@@ -138,6 +141,7 @@ is_property_key types.Super = true
 is_property_key types.ConditionalExpression = true
 is_property_key types.SequenceExpression = true
 is_property_key types.AssignmentExpression = true
+is_property_key types.ArrowFunctionExpression = true
 is_property_key other = false
 
 abbrev pub is_declaration : NodeType → Bool
@@ -168,6 +172,18 @@ abbrev pub is_identifier_name : NodeType → Bool
 is_identifier_name types.IdentifierName = true
 is_identifier_name other = false
 
+abbrev pub is_formal_parameter : NodeType → Bool
+is_formal_parameter types.FormalParameter = true
+is_formal_parameter other = false
+
+abbrev pub is_formal_parameter_rest : NodeType → Bool
+is_formal_parameter_rest types.FormalParameterRest = true
+is_formal_parameter_rest other = false
+
+abbrev pub is_formal_parameters : NodeType → Bool
+is_formal_parameters types.FormalParameters = true
+is_formal_parameters other = false
+
 abbrev pub in_set : NodeSet → NodeType → Bool
 in_set sets.Directive t = is_directive t
 in_set sets.Statement t = is_statement t
@@ -182,4 +198,8 @@ in_set sets.PropertyKey t = is_property_key t
 in_set sets.ObjectPropertyKind t = is_object_property_kind t
 in_set sets.SimpleAssignmentTarget t = is_simple_assignment_target t
 in_set sets.AssignmentTarget t = is_assignment_target t
+in_set sets.FormalParameter t = is_formal_parameter t
+in_set sets.FormalParameterRest t = is_formal_parameter_rest t
+in_set sets.FormalParameters t = is_formal_parameters t
+in_set sets.ArrowFunctionBody t = is_expression t
 in_set sets.Link t = is_expression t

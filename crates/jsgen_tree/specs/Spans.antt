@@ -7,6 +7,7 @@ use Rattle.jsgen_tree.specs.declared.sets.ArrayExpressionElement.{ArrayExpressio
 use Rattle.jsgen_tree.specs.declared.sets.ChainElement.{ChainElement}
 use Rattle.jsgen_tree.specs.declared.sets.SimpleAssignmentTarget.{SimpleAssignmentTarget}
 use Rattle.jsgen_tree.specs.declared.sets.AssignmentTarget.{AssignmentTarget}
+use Rattle.jsgen_tree.specs.declared.sets.ArrowFunctionBody.{ArrowFunctionBody}
 use Rattle.jsgen_tree.specs.declared.sets.ObjectPropertyKind.{ObjectPropertyKind}
 use Rattle.jsgen_tree.specs.declared.sets.PropertyKey.{PropertyKey}
 use Rattle.jsgen_tree.specs.declared.sets.Declaration.{Declaration}
@@ -18,6 +19,7 @@ use Rattle.jsgen_tree.specs.declared.sets.ArrayExpressionElement.TheVariants as 
 use Rattle.jsgen_tree.specs.declared.sets.ChainElement.TheVariants as chain_element
 use Rattle.jsgen_tree.specs.declared.sets.SimpleAssignmentTarget.TheVariants as simple_assignment_target
 use Rattle.jsgen_tree.specs.declared.sets.AssignmentTarget.TheVariants as assignment_target
+use Rattle.jsgen_tree.specs.declared.sets.ArrowFunctionBody.TheVariants as arrow_function_body
 use Rattle.jsgen_tree.specs.declared.sets.ObjectPropertyKind.TheVariants as object_property_kind
 use Rattle.jsgen_tree.specs.declared.sets.PropertyKey.TheVariants as property_key
 use Rattle.jsgen_tree.specs.declared.sets.Declaration.TheVariants as declaration
@@ -49,6 +51,7 @@ expression_span (expression.Super b) = b.value.span
 expression_span (expression.ConditionalExpression b) = b.value.span
 expression_span (expression.SequenceExpression b) = b.value.span
 expression_span (expression.AssignmentExpression b) = b.value.span
+expression_span (expression.ArrowFunctionExpression b) = b.value.span
 
 abbrev pub argument_span : {N : Type 0} → (N → Span) → Argument N → Span
 argument_span own (argument.SpreadElement b) = b.value.span
@@ -72,6 +75,9 @@ abbrev pub assignment_target_span : {N : Type 0} → AssignmentTarget N → Span
 assignment_target_span (assignment_target.IdentifierReference b) = b.value.span
 assignment_target_span (assignment_target.StaticMemberExpression b) = b.value.span
 assignment_target_span (assignment_target.ComputedMemberExpression b) = b.value.span
+
+abbrev pub arrow_function_body_span : {N : Type 0} → (N → Span) → ArrowFunctionBody N → Span
+arrow_function_body_span own (arrow_function_body.Expression b) = own b.value.node
 
 abbrev pub object_property_kind_span : {N : Type 0} → ObjectPropertyKind N → Span
 object_property_kind_span (object_property_kind.ObjectProperty b) = b.value.span

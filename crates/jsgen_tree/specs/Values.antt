@@ -191,3 +191,25 @@ new_expression_pure a = as_flag (value_at 0 a.values)
 
 abbrev pub assignment_expression_operator : Atoms → AssignmentOperator
 assignment_expression_operator a = as_assignment_operator (value_at 0 a.values)
+
+-- not read yet
+abbrev pub formal_parameter_is_override : Atoms → Atom
+formal_parameter_is_override a = value_at 0 a.values
+
+-- not read yet
+abbrev pub formal_parameter_readonly : Atoms → Atom
+formal_parameter_readonly a = value_at 1 a.values
+
+-- not read yet
+abbrev pub formal_parameter_optional : Atoms → Atom
+formal_parameter_optional a = value_at 2 a.values
+
+-- not read yet
+abbrev pub arrow_function_expression_is_async : Atoms → Atom
+arrow_function_expression_is_async a = value_at 0 a.values
+
+abbrev pub arrow_function_expression_pure : Atoms → Bool
+arrow_function_expression_pure a = as_flag (value_at 1 a.values)
+
+abbrev pub arrow_function_expression_pife : Atoms → Bool
+arrow_function_expression_pife a = as_flag (value_at 2 a.values)

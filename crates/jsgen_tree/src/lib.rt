@@ -9,6 +9,7 @@
 mod assignments;
 mod collections;
 mod expressions;
+mod functions;
 mod inside;
 mod laws;
 mod names;
@@ -31,6 +32,9 @@ pub use expressions::{
     ComputedMemberExpression, IdentifierName, IdentifierReference, LogicalExpression, NullLiteral,
     NumericLiteral, ParenthesizedExpression, StaticMemberExpression, StringLiteral, ThisExpression,
 };
+pub use functions::{
+    ArrowFunctionExpression, FormalParameter, FormalParameterRest, FormalParameters,
+};
 pub use laws::fields_are_named;
 pub use names::is_proto;
 pub use nodes::{BindingPatternNode, DeclarationNode, ExpressionNode, Node, StatementNode};
@@ -38,8 +42,9 @@ pub use numbers::{NumericValue, behind_minus};
 pub use operations::{NewExpression, NewTarget, Super, UnaryExpression, UpdateExpression};
 pub use options::{CodegenOptions, CommentOptions, LegalComment};
 pub use sets::{
-    Argument, ArrayExpressionElement, AssignmentTarget, BindingPattern, ChainElement, Declaration,
-    Expression, ObjectPropertyKind, PropertyKey, SimpleAssignmentTarget, Statement,
+    Argument, ArrayExpressionElement, ArrowFunctionBody, AssignmentTarget, BindingPattern,
+    ChainElement, Declaration, Expression, ObjectPropertyKind, PropertyKey, SimpleAssignmentTarget,
+    Statement,
 };
 pub use span::GetSpan;
 pub use statements::{

@@ -2,13 +2,14 @@
 // The type of a member of each set.
 ghost use Rattle.std.specs.Prelude.{◌≡◌};
 ghost use Rattle.jsgen_tree.specs.Tree.{type_of};
-ghost use Rattle.jsgen_tree.specs.Rows.{expression_plain, declaration_plain, statement_plain, binding_pattern_plain, in_argument, in_array_expression_element, in_chain_element, in_simple_assignment_target, in_assignment_target, in_object_property_kind, in_property_key};
+ghost use Rattle.jsgen_tree.specs.Rows.{expression_plain, declaration_plain, statement_plain, binding_pattern_plain, in_argument, in_array_expression_element, in_chain_element, in_simple_assignment_target, in_assignment_target, in_arrow_function_body, in_object_property_kind, in_property_key};
 ghost use Rattle.jsgen_tree.specs.Plain.{node_plain};
 
 use crate::nodes::Node;
 use crate::sets::{
-    Argument, ArrayExpressionElement, AssignmentTarget, BindingPattern, ChainElement, Declaration,
-    Expression, ObjectPropertyKind, PropertyKey, SimpleAssignmentTarget, Statement,
+    Argument, ArrayExpressionElement, ArrowFunctionBody, AssignmentTarget, BindingPattern,
+    ChainElement, Declaration, Expression, ObjectPropertyKind, PropertyKey, SimpleAssignmentTarget,
+    Statement,
 };
 use crate::types::NodeType;
 
@@ -42,6 +43,7 @@ impl Expression {
             Expression::ConditionalExpression(_) => NodeType::ConditionalExpression,
             Expression::SequenceExpression(_) => NodeType::SequenceExpression,
             Expression::AssignmentExpression(_) => NodeType::AssignmentExpression,
+            Expression::ArrowFunctionExpression(_) => NodeType::ArrowFunctionExpression,
         }
     }
 }
@@ -106,6 +108,17 @@ impl AssignmentTarget {
             AssignmentTarget::IdentifierReference(_) => NodeType::IdentifierReference,
             AssignmentTarget::StaticMemberExpression(_) => NodeType::StaticMemberExpression,
             AssignmentTarget::ComputedMemberExpression(_) => NodeType::ComputedMemberExpression,
+        }
+    }
+}
+
+impl ArrowFunctionBody {
+    /// The type of the node.
+    pub fn node_type(&self) -> NodeType
+        ensures { result ≡ type_of (in_arrow_function_body node_plain self.now) }
+    {
+        match self {
+            ArrowFunctionBody::Expression(node) => node.get().node_type(),
         }
     }
 }

@@ -8,6 +8,7 @@ use crate::expressions::{
     ComputedMemberExpression, IdentifierName, IdentifierReference, LogicalExpression, NullLiteral,
     NumericLiteral, ParenthesizedExpression, StaticMemberExpression, StringLiteral, ThisExpression,
 };
+use crate::functions::ArrowFunctionExpression;
 use crate::nodes::{DeclarationNode, ExpressionNode, Node};
 use crate::operations::{NewExpression, NewTarget, Super, UnaryExpression, UpdateExpression};
 use crate::statements::{
@@ -41,6 +42,7 @@ pub enum Expression<N = Node> {
     ConditionalExpression(Box<ConditionalExpression<N>>),
     SequenceExpression(Box<SequenceExpression<N>>),
     AssignmentExpression(Box<AssignmentExpression<N>>),
+    ArrowFunctionExpression(Box<ArrowFunctionExpression<N>>),
 }
 
 /// What a call is given.
@@ -79,6 +81,12 @@ pub enum AssignmentTarget<N = Node> {
     IdentifierReference(Box<IdentifierReference>),
     StaticMemberExpression(Box<StaticMemberExpression<N>>),
     ComputedMemberExpression(Box<ComputedMemberExpression<N>>),
+}
+
+/// What an arrow function does: so far an expression whose value is the result.
+#[derive(Drop)]
+pub enum ArrowFunctionBody<N = Node> {
+    Expression(Box<ExpressionNode<N>>),
 }
 
 /// What may stand in an object.

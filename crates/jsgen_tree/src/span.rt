@@ -3,7 +3,7 @@
 ghost use Rattle.std.specs.Prelude.{◌≡◌};
 ghost use Rattle.jsgen_tree.specs.Tree.{span_of};
 ghost use Rattle.jsgen_tree.specs.Plain.{node_plain};
-ghost use Rattle.jsgen_tree.specs.Spans.{expression_span, argument_span, array_expression_element_span, chain_element_span, simple_assignment_target_span, assignment_target_span, object_property_kind_span, property_key_span, declaration_span, statement_span, binding_pattern_span};
+ghost use Rattle.jsgen_tree.specs.Spans.{expression_span, argument_span, array_expression_element_span, chain_element_span, simple_assignment_target_span, assignment_target_span, arrow_function_body_span, object_property_kind_span, property_key_span, declaration_span, statement_span, binding_pattern_span};
 
 use crate::assignments::{AssignmentExpression, ConditionalExpression, SequenceExpression};
 use crate::collections::{ArrayExpression, ObjectExpression, ObjectProperty, SpreadElement};
@@ -12,11 +12,15 @@ use crate::expressions::{
     ComputedMemberExpression, IdentifierName, IdentifierReference, LogicalExpression, NullLiteral,
     NumericLiteral, ParenthesizedExpression, StaticMemberExpression, StringLiteral, ThisExpression,
 };
+use crate::functions::{
+    ArrowFunctionExpression, FormalParameter, FormalParameterRest, FormalParameters,
+};
 use crate::nodes::Node;
 use crate::operations::{NewExpression, NewTarget, Super, UnaryExpression, UpdateExpression};
 use crate::sets::{
-    Argument, ArrayExpressionElement, AssignmentTarget, BindingPattern, ChainElement, Declaration,
-    Expression, ObjectPropertyKind, PropertyKey, SimpleAssignmentTarget, Statement,
+    Argument, ArrayExpressionElement, ArrowFunctionBody, AssignmentTarget, BindingPattern,
+    ChainElement, Declaration, Expression, ObjectPropertyKind, PropertyKey, SimpleAssignmentTarget,
+    Statement,
 };
 use crate::statements::{
     BindingIdentifier, BlockStatement, Directive, EmptyStatement, ExpressionStatement, IfStatement,
@@ -322,6 +326,38 @@ impl<N> GetSpan for AssignmentExpression<N> {
     }
 }
 
+impl<N> GetSpan for FormalParameter<N> {
+    ghost own_span = { λ n. n.span };
+
+    fn span(&self) -> Span {
+        self.span
+    }
+}
+
+impl<N> GetSpan for FormalParameterRest<N> {
+    ghost own_span = { λ n. n.span };
+
+    fn span(&self) -> Span {
+        self.span
+    }
+}
+
+impl<N> GetSpan for FormalParameters<N> {
+    ghost own_span = { λ n. n.span };
+
+    fn span(&self) -> Span {
+        self.span
+    }
+}
+
+impl<N> GetSpan for ArrowFunctionExpression<N> {
+    ghost own_span = { λ n. n.span };
+
+    fn span(&self) -> Span {
+        self.span
+    }
+}
+
 impl<N> GetSpan for Expression<N> {
     ghost own_span = { λ n. expression_span n };
 
@@ -351,6 +387,7 @@ impl<N> GetSpan for Expression<N> {
             Expression::ConditionalExpression(node) => node.span,
             Expression::SequenceExpression(node) => node.span,
             Expression::AssignmentExpression(node) => node.span,
+            Expression::ArrowFunctionExpression(node) => node.span,
         }
     }
 }
@@ -409,6 +446,16 @@ impl<N> GetSpan for AssignmentTarget<N> {
             AssignmentTarget::IdentifierReference(node) => node.span,
             AssignmentTarget::StaticMemberExpression(node) => node.span,
             AssignmentTarget::ComputedMemberExpression(node) => node.span,
+        }
+    }
+}
+
+impl<N: GetSpan> GetSpan for ArrowFunctionBody<N> {
+    ghost own_span = { λ n. arrow_function_body_span N.own_span n };
+
+    fn span(&self) -> Span {
+        match self {
+            ArrowFunctionBody::Expression(node) => node.get().span(),
         }
     }
 }

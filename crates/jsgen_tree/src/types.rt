@@ -42,6 +42,10 @@ pub enum NodeType {
     ConditionalExpression,
     SequenceExpression,
     AssignmentExpression,
+    FormalParameter,
+    FormalParameterRest,
+    FormalParameters,
+    ArrowFunctionExpression,
 }
 
 /// What the child of a field may be: a member of a set, or a node of one type.
@@ -60,6 +64,10 @@ pub enum NodeSet {
     ObjectPropertyKind,
     SimpleAssignmentTarget,
     AssignmentTarget,
+    FormalParameter,
+    FormalParameterRest,
+    FormalParameters,
+    ArrowFunctionBody,
     Link,
 }
 
@@ -82,6 +90,10 @@ impl NodeType {
             NodeSet::ObjectPropertyKind => self.is_object_property_kind(),
             NodeSet::SimpleAssignmentTarget => self.is_simple_assignment_target(),
             NodeSet::AssignmentTarget => self.is_assignment_target(),
+            NodeSet::FormalParameter => matches!(&self, NodeType::FormalParameter),
+            NodeSet::FormalParameterRest => matches!(&self, NodeType::FormalParameterRest),
+            NodeSet::FormalParameters => matches!(&self, NodeType::FormalParameters),
+            NodeSet::ArrowFunctionBody => self.is_expression(),
             NodeSet::Link => self.is_expression(),
         }
     }
@@ -116,6 +128,7 @@ impl NodeType {
                 | NodeType::ConditionalExpression
                 | NodeType::SequenceExpression
                 | NodeType::AssignmentExpression
+                | NodeType::ArrowFunctionExpression
         )
     }
 
@@ -150,6 +163,7 @@ impl NodeType {
                 | NodeType::ConditionalExpression
                 | NodeType::SequenceExpression
                 | NodeType::AssignmentExpression
+                | NodeType::ArrowFunctionExpression
         )
     }
 
@@ -184,6 +198,7 @@ impl NodeType {
                 | NodeType::ConditionalExpression
                 | NodeType::SequenceExpression
                 | NodeType::AssignmentExpression
+                | NodeType::ArrowFunctionExpression
         )
     }
 
@@ -261,6 +276,7 @@ impl NodeType {
                 | NodeType::ConditionalExpression
                 | NodeType::SequenceExpression
                 | NodeType::AssignmentExpression
+                | NodeType::ArrowFunctionExpression
         )
     }
 

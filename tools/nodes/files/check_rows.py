@@ -14,6 +14,7 @@ AROUND = "around: Surroundings<'_>"
 STEPS = ["no_rules", "two_children", "last_child", "of_row", "none_before", "turn", "turns_end", "turn_or_hole", "turns_or_holes_end"]
 PROGRAM = "Program"  # its row stands by hand, in crates/jsgen_check/src/program.rt
 RESULT = "Result<u64, TreeFault>"
+LISTS_THAT_ARE_TYPES = ["FormalParameter"]  # the plural of its name is the name of another type
 
 
 def write(table):
@@ -37,6 +38,9 @@ def write(table):
     for k in holed:
         files[f"{CHECK}/proofs/children/{check_all_or_holes(k)}/Invariants.antt"] = holed_invariant(table, k)
         files[f"{CHECK}/proofs/children/{check_all_or_holes(k)}/Answers.antt"] = holed_answers(table, k)
+    for k in optional:
+        if k in table.nodes:
+            files[f"{CHECK}/proofs/children/{check_optional(k)}/Answers.antt"] = optional_answers(table, k)
     for s in inner:
         if any(m in table.nodes for m in s.members):
             files[f"{CHECK}/proofs/children/{check(s.name)}/Answers.antt"] = inner_answers(table, s)
@@ -74,7 +78,7 @@ def rules(n):
 
 
 def check_all(kind):
-    return f"check_{plural(kind)}"
+    return f"check_each_{snake(kind)}" if kind in LISTS_THAT_ARE_TYPES else f"check_{plural(kind)}"
 
 
 def check_all_or_holes(kind):
@@ -191,10 +195,9 @@ def of_holed_list(table, kind):
 
 
 def of_optional(table, kind):
-    if kind in table.nodes:
-        raise SystemExit(f"{kind}?: an optional child of a type has no form in {CHECK} yet")
     of, parameter = child_type(table, kind)
     call = f"check_child(node.get(), NodeSet::{kind}, around)" if nests(table, kind) else f"{check(kind)}(node, around)"
+    of = f"Box<{of}>" if kind in table.nodes else of
     return f"""pub fn {check_optional(kind)}{parameter}(node: &Option<{of}>, {AROUND}) -> {RESULT}
     ensures {{ result ≡ maybe_verdict around.entry sets.{kind} (optional (option_map {each(table, kind)} node.now)) }}
 {{
@@ -291,6 +294,16 @@ returns {g}c = turns_or_holes_end {every} c.loop-node-test.false c.loop-node.inv
     aliases = [(f"{SPECS}.declared.types.NodeSet.TheVariants", "sets"),
                (f"{PROOFS}.children.{check_all_or_holes(kind)}.Goals", "goal")]
     return layout.antt("The loop, turn by turn.", homes, aliases, body)
+
+
+def optional_answers(table, kind):
+    """A child of one type is surely of the set that is this type."""
+    g = "g " if child_type(table, kind)[1] else ""
+    said = f"(rw c.deref.ensures at c.{check(kind)}.ensures) ∙ sym (of_right_set _ sets.{kind} _ refl)"
+    body = f"pub returns-in-Some : goal.returns-in-Some\nreturns-in-Some {g}c = rw c.in-Some.is ({said})"
+    homes = [("Rattle.std.proofs.Common", ["◌≡◌", "refl", "sym", "◌∙◌"]), (f"{PROOFS}.Verdicts", ["of_right_set"])]
+    aliases = [(f"{SPECS}.declared.types.NodeSet.TheVariants", "sets"), (f"{PROOFS}.children.{check_optional(kind)}.Goals", "goal")]
+    return layout.antt("A child of one type is of its set.", homes, aliases, body)
 
 
 def inner_answers(table, s):

@@ -3,5 +3,5 @@
 use Rattle.jsgen_nodes.proofs.Parts.{expression_past_3}
 use Rattle.jsgen_nodes.proofs.sets.print_expression_in_assignments.Goals as goal
 
-pub unreachable-requires : goal.unreachable-requires
-unreachable-requires g c = expression_past_3 c.args.node.now c.requires c.in_default.not-ConditionalExpression c.in_default.not-SequenceExpression c.in_default.not-AssignmentExpression
+pub print_expression_in_functions-requires : goal.print_expression_in_functions-requires
+print_expression_in_functions-requires g c = expression_past_3 c.args.node.now c.requires c.in_default.not-ConditionalExpression c.in_default.not-SequenceExpression c.in_default.not-AssignmentExpression

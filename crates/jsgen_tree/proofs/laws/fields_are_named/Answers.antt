@@ -26,4 +26,6 @@ returns c = record {
   update_expression = λ a. (refl, refl);
   new_expression = λ a. refl;
   assignment_expression = λ a. refl;
+  formal_parameter = λ a. (refl, refl, refl);
+  arrow_function_expression = λ a. (refl, refl, refl);
 }

@@ -1,0 +1,59 @@
+// Generated from tools/nodes/table.txt; edit that and run tools/nodes/generate.
+// Functions and their parameters (ECMA-262, clause 15).
+ghost use Rattle.std.specs.Prelude.{◌≡◌};
+ghost use Rattle.jsgen_tree.specs.Rows.{formal_parameter_row, formal_parameter_rest_row, formal_parameters_row, arrow_function_expression_row};
+ghost use Rattle.jsgen_check.specs.Verdict.{tree_verdict};
+
+use crate::children::{
+    check_arrow_function_body, check_each_formal_parameter, check_optional_expression,
+    check_optional_formal_parameter_rest,
+};
+use crate::heights::{check_node, higher};
+use crate::{CheckNode, Surroundings, check_child};
+use jsgen_model::TreeFault;
+use jsgen_tree::{
+    ArrowFunctionExpression, FormalParameter, FormalParameterRest, FormalParameters, NodeSet,
+};
+
+pub fn check_formal_parameter<N: CheckNode>(
+    node: &FormalParameter<N>,
+    around: Surroundings<'_>,
+) -> Result<u64, TreeFault>
+    ensures { result ≡ tree_verdict around.entry (formal_parameter_row N.plain node.now) }
+{
+    let pattern = check_child(node.pattern.get(), NodeSet::BindingPattern, around);
+    let initializer = check_optional_expression(&node.initializer, around);
+    check_node(node.span, Ok(()), higher(pattern, initializer))
+}
+
+pub fn check_formal_parameter_rest<N: CheckNode>(
+    node: &FormalParameterRest<N>,
+    around: Surroundings<'_>,
+) -> Result<u64, TreeFault>
+    ensures { result ≡ tree_verdict around.entry (formal_parameter_rest_row N.plain node.now) }
+{
+    let argument = check_child(node.argument.get(), NodeSet::BindingPattern, around);
+    check_node(node.span, Ok(()), argument)
+}
+
+pub fn check_formal_parameters<N: CheckNode>(
+    node: &FormalParameters<N>,
+    around: Surroundings<'_>,
+) -> Result<u64, TreeFault>
+    ensures { result ≡ tree_verdict around.entry (formal_parameters_row N.plain node.now) }
+{
+    let items = check_each_formal_parameter(&node.items, around);
+    let rest = check_optional_formal_parameter_rest(&node.rest, around);
+    check_node(node.span, Ok(()), higher(items, rest))
+}
+
+pub fn check_arrow_function_expression<N: CheckNode>(
+    node: &ArrowFunctionExpression<N>,
+    around: Surroundings<'_>,
+) -> Result<u64, TreeFault>
+    ensures { result ≡ tree_verdict around.entry (arrow_function_expression_row N.plain node.now) }
+{
+    let params = check_formal_parameters(&node.params, around);
+    let body = check_arrow_function_body(&node.body, around);
+    check_node(node.span, Ok(()), higher(params, body))
+}

@@ -1,0 +1,204 @@
+// Generated from tools/nodes/table.txt; edit that and run tools/nodes/generate.
+// Rows of a job: functions and their parameters (ECMA-262, clause 15).
+ghost use Rattle.std.specs.Prelude.{◌≡◌, false};
+ghost use Rattle.serde_json.specs.View.{view};
+ghost use Rattle.jsgen_tree.specs.Fields.{formal_parameter_fields, formal_parameter_rest_fields, formal_parameters_fields, arrow_function_expression_fields};
+ghost use Rattle.jsgen_fields.specs.Reads.{Gives, read_node, read_typed};
+ghost use Rattle.jsgen_fields.specs.Kept.{entries, row_plain};
+ghost use Rattle.jsgen_fields.specs.Parts.{is_in_statements, is_in_expressions, is_in_collections, is_in_operations, is_in_assignments};
+ghost use Rattle.jsgen_tree.specs.declared.types.NodeType.TheVariants as types;
+
+use jsgen_fields::InputFault;
+use jsgen_fields::fields::boxed;
+use jsgen_fields::kept::{ReadNode, Row, expression_row};
+use jsgen_fields::set_fields::{
+    formal_parameter_list, needed_arrow_function_body, needed_binding_pattern,
+    needed_formal_parameters, optional_expression, optional_formal_parameter_rest,
+};
+use jsgen_fields::values::{field_not_given, neither_given, optional_flag};
+use jsgen_pool::Kept;
+use jsgen_syntax::Span;
+use jsgen_tree::{
+    ArrowFunctionExpression, Expression, FormalParameter, FormalParameterRest, FormalParameters,
+    NodeType,
+};
+use serde_json::Value;
+use std::alloc::Global;
+
+#[tactic(auto, unfolding(jsgen_fields::specs::Reads::read_node))]
+fn read_formal_parameter<N: ReadNode + Drop>(
+    alloc: Global,
+    kept: &mut Vec<Kept<Row<N>>>,
+    number: usize,
+    span: Span,
+    row: &Value,
+) -> Result<Row<N>, InputFault>
+    ensures { Gives (row_plain N.plain) result (entries N.plain kept.new.items)
+        (read_node number types.FormalParameter formal_parameter_fields span (view row.now) (entries N.plain kept.old.items)) }
+{
+    match neither_given(number, 2, row, "decorators", "accessibility") {
+        Ok(()) => {}
+        Err(fault) => return Err(fault),
+    }
+    match neither_given(number, 4, row, "is_override", "readonly") {
+        Ok(()) => {}
+        Err(fault) => return Err(fault),
+    }
+    let pattern = match needed_binding_pattern(alloc, kept, number, 6, row, "pattern") {
+        Ok(pattern) => pattern,
+        Err(fault) => return Err(fault),
+    };
+    match neither_given(number, 7, row, "optional", "type_annotation") {
+        Ok(()) => {}
+        Err(fault) => return Err(fault),
+    }
+    let initializer = match optional_expression(alloc, kept, number, 9, row, "initializer") {
+        Ok(initializer) => initializer,
+        Err(fault) => return Err(fault),
+    };
+    let node = FormalParameter {
+        span,
+        pattern,
+        initializer,
+    };
+    match boxed(alloc, node) {
+        Ok(node) => Ok(Row::FormalParameter(node)),
+        Err(fault) => Err(fault),
+    }
+}
+
+#[tactic(auto, unfolding(jsgen_fields::specs::Reads::read_node))]
+fn read_formal_parameter_rest<N: ReadNode + Drop>(
+    alloc: Global,
+    kept: &mut Vec<Kept<Row<N>>>,
+    number: usize,
+    span: Span,
+    row: &Value,
+) -> Result<Row<N>, InputFault>
+    ensures { Gives (row_plain N.plain) result (entries N.plain kept.new.items)
+        (read_node number types.FormalParameterRest formal_parameter_rest_fields span (view row.now) (entries N.plain kept.old.items)) }
+{
+    match field_not_given(number, 2, row, "decorators") {
+        Ok(()) => {}
+        Err(fault) => return Err(fault),
+    }
+    let argument = match needed_binding_pattern(alloc, kept, number, 3, row, "argument") {
+        Ok(argument) => argument,
+        Err(fault) => return Err(fault),
+    };
+    match field_not_given(number, 4, row, "type_annotation") {
+        Ok(()) => {}
+        Err(fault) => return Err(fault),
+    }
+    let node = FormalParameterRest { span, argument };
+    match boxed(alloc, node) {
+        Ok(node) => Ok(Row::FormalParameterRest(node)),
+        Err(fault) => Err(fault),
+    }
+}
+
+#[tactic(auto, unfolding(jsgen_fields::specs::Reads::read_node))]
+fn read_formal_parameters<N: ReadNode + Drop>(
+    alloc: Global,
+    kept: &mut Vec<Kept<Row<N>>>,
+    number: usize,
+    span: Span,
+    row: &Value,
+) -> Result<Row<N>, InputFault>
+    ensures { Gives (row_plain N.plain) result (entries N.plain kept.new.items)
+        (read_node number types.FormalParameters formal_parameters_fields span (view row.now) (entries N.plain kept.old.items)) }
+{
+    let items = match formal_parameter_list(alloc, kept, number, 2, row, "items") {
+        Ok(items) => items,
+        Err(fault) => return Err(fault),
+    };
+    let rest = match optional_formal_parameter_rest(alloc, kept, number, 3, row, "rest") {
+        Ok(rest) => rest,
+        Err(fault) => return Err(fault),
+    };
+    let node = FormalParameters { span, items, rest };
+    match boxed(alloc, node) {
+        Ok(node) => Ok(Row::FormalParameters(node)),
+        Err(fault) => Err(fault),
+    }
+}
+
+#[tactic(auto, unfolding(jsgen_fields::specs::Reads::read_node))]
+fn read_arrow_function_expression<N: ReadNode + Drop>(
+    alloc: Global,
+    kept: &mut Vec<Kept<Row<N>>>,
+    number: usize,
+    span: Span,
+    row: &Value,
+) -> Result<Row<N>, InputFault>
+    ensures { Gives (row_plain N.plain) result (entries N.plain kept.new.items)
+        (read_node number types.ArrowFunctionExpression arrow_function_expression_fields span (view row.now) (entries N.plain kept.old.items)) }
+{
+    match field_not_given(number, 2, row, "is_async") {
+        Ok(()) => {}
+        Err(fault) => return Err(fault),
+    }
+    let pure = match optional_flag(number, 3, row, "pure") {
+        Ok(pure) => pure,
+        Err(fault) => return Err(fault),
+    };
+    let pife = match optional_flag(number, 4, row, "pife") {
+        Ok(pife) => pife,
+        Err(fault) => return Err(fault),
+    };
+    match field_not_given(number, 5, row, "type_parameters") {
+        Ok(()) => {}
+        Err(fault) => return Err(fault),
+    }
+    let params = match needed_formal_parameters(alloc, kept, number, 6, row, "params") {
+        Ok(params) => params,
+        Err(fault) => return Err(fault),
+    };
+    match field_not_given(number, 7, row, "return_type") {
+        Ok(()) => {}
+        Err(fault) => return Err(fault),
+    }
+    let body = match needed_arrow_function_body(alloc, kept, number, 8, row, "body") {
+        Ok(body) => body,
+        Err(fault) => return Err(fault),
+    };
+    let node = ArrowFunctionExpression {
+        span,
+        pure,
+        pife,
+        params,
+        body,
+    };
+    match boxed(alloc, node) {
+        Ok(node) => expression_row(alloc, Expression::ArrowFunctionExpression(node)),
+        Err(fault) => Err(fault),
+    }
+}
+
+/// The row of a type of this part.
+pub fn read_in_functions<N: ReadNode + Drop>(
+    alloc: Global,
+    kept: &mut Vec<Kept<Row<N>>>,
+    node_type: NodeType,
+    number: usize,
+    span: Span,
+    row: &Value,
+) -> Result<Row<N>, InputFault>
+    requires not_in_statements { is_in_statements node_type ≡ false }
+    requires not_in_expressions { is_in_expressions node_type ≡ false }
+    requires not_in_collections { is_in_collections node_type ≡ false }
+    requires not_in_operations { is_in_operations node_type ≡ false }
+    requires not_in_assignments { is_in_assignments node_type ≡ false }
+    ensures { Gives (row_plain N.plain) result (entries N.plain kept.new.items)
+        (read_typed number node_type span (view row.now) (entries N.plain kept.old.items)) }
+{
+    match node_type {
+        NodeType::FormalParameter => read_formal_parameter(alloc, kept, number, span, row),
+        NodeType::FormalParameterRest => read_formal_parameter_rest(alloc, kept, number, span, row),
+        NodeType::FormalParameters => read_formal_parameters(alloc, kept, number, span, row),
+        NodeType::ArrowFunctionExpression => read_arrow_function_expression(
+            alloc, kept, number, span, row,
+        ),
+        _ => unreachable!(),
+    }
+}

@@ -1,0 +1,62 @@
+// Generated from tools/nodes/table.txt; edit that and run tools/nodes/generate.
+// What is printed by itself, or at a level.
+ghost use Rattle.jsgen_tree.specs.Rows.{formal_parameter_row, formal_parameter_rest_row, formal_parameters_row, arrow_function_expression_row};
+ghost use Rattle.jsgen_model.specs.Spell.{spell};
+ghost use Rattle.jsgen_nodes.specs.Alone.{by_itself};
+
+use crate::{PrintAlone, PrintAtLevel, PrintNode};
+use jsgen_place::{Context, Place, Settings};
+use jsgen_printer::Printer;
+use jsgen_syntax::Memory;
+use jsgen_tree::{ArrowFunctionExpression, FormalParameter, FormalParameterRest, FormalParameters};
+
+#[tactic(auto, unfolding(crate::specs::Place::pen_after))]
+impl<N: PrintNode> PrintAlone for FormalParameter<N> {
+    ghost alone = { λ n settings context start. spell (formal_parameter_row N.plain n) (by_itself settings context start) };
+
+    fn print_alone(
+        &self,
+        p: &mut Printer,
+        settings: Settings,
+        context: Context,
+    ) -> Result<(), Memory> {
+        print_formal_parameter(self, p, Place::by_itself(settings, context))
+    }
+}
+
+#[tactic(auto, unfolding(crate::specs::Place::pen_after))]
+impl<N: PrintNode> PrintAlone for FormalParameterRest<N> {
+    ghost alone = { λ n settings context start. spell (formal_parameter_rest_row N.plain n) (by_itself settings context start) };
+
+    fn print_alone(
+        &self,
+        p: &mut Printer,
+        settings: Settings,
+        context: Context,
+    ) -> Result<(), Memory> {
+        print_formal_parameter_rest(self, p, Place::by_itself(settings, context))
+    }
+}
+
+#[tactic(auto, unfolding(crate::specs::Place::pen_after))]
+impl<N: PrintNode> PrintAlone for FormalParameters<N> {
+    ghost alone = { λ n settings context start. spell (formal_parameters_row N.plain n) (by_itself settings context start) };
+
+    fn print_alone(
+        &self,
+        p: &mut Printer,
+        settings: Settings,
+        context: Context,
+    ) -> Result<(), Memory> {
+        print_formal_parameters(self, p, Place::by_itself(settings, context))
+    }
+}
+
+#[tactic(auto, unfolding(crate::specs::Place::pen_after))]
+impl<N: PrintNode> PrintAtLevel for ArrowFunctionExpression<N> {
+    ghost plain = { arrow_function_expression_row N.plain };
+
+    fn print_at(&self, p: &mut Printer, place: Place) -> Result<(), Memory> {
+        print_arrow_function_expression(self, p, place)
+    }
+}
