@@ -16,7 +16,7 @@ use Rattle.jsgen_tree.specs.Fields.{fields}
 use Rattle.jsgen_tree.specs.Sets.{in_set, is_expression}
 use Rattle.jsgen_tree.specs.Number.{NumericKind, Whole, Raw}
 use Rattle.jsgen_tree.specs.Inside.{without_parentheses, reference_in, written_name_in, is_proto, is_negative_big_integer, has_optional_link}
-use Rattle.jsgen_tree.specs.Tree.{Tree, node, Slots, no_slots, one, maybe, many, maybe_many, Maybe, absent, given, Trees, no_trees, more, hole, MaybeTrees, no_list, listed, Atoms, type_of, span_of}
+use Rattle.jsgen_tree.specs.Tree.{Tree, node, Slots, no_slots, one, maybe, many, maybe_many, Maybe, absent, given, Trees, no_trees, more, hole, MaybeTrees, no_list, listed, type_of, span_of}
 use Rattle.jsgen_tree.specs.Nodes as tree
 use Rattle.jsgen_tree.specs.Values.{as_text, program_source, directive_directive, binding_identifier_name, identifier_reference_name, identifier_name_name, numeric_literal_kind, numeric_literal_text, big_int_literal_value, object_property_shorthand, object_property_computed, static_member_expression_optional, computed_member_expression_optional, call_expression_optional}
 use Rattle.jsgen_model.specs.Numbers.{is_raw_number, is_big_integer}
