@@ -20,7 +20,7 @@ from pathlib import Path
 
 from gate import TICK, TOP, gate, measured
 
-WATCHED = ("jsgen_printer", "jsgen_nodes", "jsgen_fields", "jsgen_expression_rows", "jsgen_collection_rows", "jsgen_operation_rows", "jsgen_assignment_rows", "jsgen_statement_rows", "jsgen_rows")
+WATCHED = ("jsgen_printer", "jsgen_nodes", "jsgen_fields", "jsgen_expression_rows", "jsgen_collection_rows", "jsgen_operation_rows", "jsgen_assignment_rows", "jsgen_function_rows", "jsgen_statement_rows", "jsgen_rows")
 FAMILIES = {"Expression": "synthetic_expressions", "Statement": "synthetic_statements"}
 PARTS = (".ci", "HANDLES", "crates", "crates.txt", "docs", "tools", "tests")
 
