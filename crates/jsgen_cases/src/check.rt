@@ -57,6 +57,7 @@ fn holds_of_nodes(alloc: Global, name: &str) -> Option<bool> {
         "nodes print by themselves" => gen_checks::nodes_print_by_themselves(alloc),
         "levels and contexts are asked" => gen_checks::levels_and_contexts_are_asked(alloc),
         "expressions print by themselves" => gen_checks::expressions_print_by_themselves(alloc),
+        "functions print by themselves" => gen_checks::functions_print_by_themselves(alloc),
         "nodes go on with pieces" => gen_checks::nodes_go_on_with_pieces(alloc),
         _ => return None,
     })

@@ -11,7 +11,7 @@ use jsgen_syntax::{BinaryOperator, Precedence, UnaryOperator, UpdateOperator};
 use jsgen_tree::{Declaration, Expression, Node, ObjectPropertyKind, Program, Statement};
 use std::alloc::Global;
 
-// `{};`, `1;`, `{ if: b };`, `a in b;`, `f(b);`, `const c = 1;`, `super;` and `-1;`.
+// `{};`, `1;`, `{ if: b };`, `a in b;`, `f(b);`, `const c = 1;`, `super;`, `-1;` and `(a, b = 1, ...c) => a in b;`.
 const JOB: &str = "{\"rows\":[\
     {\"type\":\"ObjectExpression\"},\
     {\"type\":\"ExpressionStatement\",\"expression\":0},\
@@ -38,7 +38,20 @@ const JOB: &str = "{\"rows\":[\
     {\"type\":\"ExpressionStatement\",\"expression\":21},\
     {\"type\":\"NumericLiteral\",\"kind\":\"whole\",\"negative\":true,\"digits\":1},\
     {\"type\":\"ExpressionStatement\",\"expression\":23},\
-    {\"type\":\"Program\",\"kind\":\"module\",\"body\":[1,3,8,12,16,20,22,24]}]}";
+    {\"type\":\"BindingIdentifier\",\"name\":\"a\"},\
+    {\"type\":\"FormalParameter\",\"pattern\":25},\
+    {\"type\":\"BindingIdentifier\",\"name\":\"b\"},\
+    {\"type\":\"NumericLiteral\",\"kind\":\"whole\",\"digits\":1},\
+    {\"type\":\"FormalParameter\",\"pattern\":27,\"initializer\":28},\
+    {\"type\":\"BindingIdentifier\",\"name\":\"c\"},\
+    {\"type\":\"FormalParameterRest\",\"argument\":30},\
+    {\"type\":\"FormalParameters\",\"items\":[26,29],\"rest\":31},\
+    {\"type\":\"IdentifierReference\",\"name\":\"a\"},\
+    {\"type\":\"IdentifierReference\",\"name\":\"b\"},\
+    {\"type\":\"BinaryExpression\",\"operator\":\"in\",\"left\":33,\"right\":34},\
+    {\"type\":\"ArrowFunctionExpression\",\"params\":32,\"body\":35},\
+    {\"type\":\"ExpressionStatement\",\"expression\":36},\
+    {\"type\":\"Program\",\"kind\":\"module\",\"body\":[1,3,8,12,16,20,22,24,37]}]}";
 
 // Whether a check of the program of the job holds. Here alone the tree is let go of, so that this is proved once.
 fn of_program(alloc: Global, check: &str) -> bool {
@@ -54,6 +67,7 @@ fn of_job(alloc: Global, job: Job, check: &str) -> bool {
         "alone" => alone(alloc, program),
         "levels" => levels(alloc, program) && negative_levels(alloc, program),
         "expressions" => expressions(alloc, program),
+        "functions" => parameters(alloc, program) && functions(alloc, program),
         "pieces" => pieces(alloc, program),
         _ => false,
     }
@@ -181,6 +195,55 @@ fn negative_levels(alloc: Global, program: &Program) -> bool {
         && prints_at(alloc, number, Precedence::Prefix, free, "(-1)")
 }
 
+// Parameters by themselves.
+fn parameters(alloc: Global, program: &Program) -> bool {
+    let Some(Expression::ArrowFunctionExpression(function)) = expression_of(program, 8) else {
+        return false;
+    };
+    let params = &*function.params;
+    let rest = match &params.rest {
+        Some(rest) => prints(alloc, &**rest, "...c"),
+        None => false,
+    };
+    rest && prints(alloc, params, "a, b = 1, ...c")
+        && params
+            .items
+            .as_slice()
+            .get(1)
+            .is_some_and(|it| prints(alloc, it, "b = 1"))
+}
+
+// An arrow function, in whose own parentheses `in` is free.
+fn functions(alloc: Global, program: &Program) -> bool {
+    let (free, no_in) = (Context::default(), Context::FORBID_IN);
+    let bare = "(a, b = 1, ...c) => a in b";
+    let Some(function) = expression_of(program, 8) else {
+        return false;
+    };
+    prints_at(alloc, function, Precedence::Yield, free, bare)
+        && prints_at(
+            alloc,
+            function,
+            Precedence::Assign,
+            free,
+            "((a, b = 1, ...c) => a in b)",
+        )
+        && prints_at(
+            alloc,
+            function,
+            Precedence::Lowest,
+            no_in,
+            "(a, b = 1, ...c) => (a in b)",
+        )
+        && prints_at(
+            alloc,
+            function,
+            Precedence::Assign,
+            no_in,
+            "((a, b = 1, ...c) => a in b)",
+        )
+}
+
 // Expressions by themselves, of which `super` is none.
 fn expressions(alloc: Global, program: &Program) -> bool {
     let (Some(object), Some(operation), Some(link)) = (
@@ -235,6 +298,11 @@ pub fn levels_and_contexts_are_asked(alloc: Global) -> bool {
 /// Expressions by themselves.
 pub fn expressions_print_by_themselves(alloc: Global) -> bool {
     of_program(alloc, "expressions")
+}
+
+/// Functions and their parameters by themselves.
+pub fn functions_print_by_themselves(alloc: Global) -> bool {
+    of_program(alloc, "functions")
 }
 
 /// Nodes behind other pieces.
