@@ -17,6 +17,7 @@ SIGN = re.compile(
     (?P<string>"(?:[^"\\]|\\.)*")
   | (?P<number>0x[0-9a-fA-F]+|\d+)
   | (?P<word>[^\W\d]\w*)
+  | (?P<arrow>=>|\.\.\.)
   | (?P<operator>>>>=|>>>|===|!==|\*\*=|<<=|>>=|&&=|\|\|=|\?\?=|[-+*/%|^&]=|\*\*|<<|>>|<=|>=|==|!=|&&|\|\||\?\?|[-+*/%|^&<>])
   | (?P<sign>[(){}\[\].,;=?:])
   | (?P<end>$)
@@ -139,12 +140,14 @@ class Reader:
             return Child("NumericLiteral", kind="whole", digits=value)
         if kind != "word":
             raise NotProgram(f"no expression begins with {value!r}")
-        if value[0].isupper():
+        if value[0].isupper() and self.is_here("("):
             return self.by_type(value)
         return Child("IdentifierReference", name=value)
 
     def operation(self):
         self.take()
+        if self.is_here("(") and self.begins_arrow():
+            return self.arrow()
         left = self.expression()
         if self.is_here("?"):
             return self.choice(left)
@@ -168,6 +171,40 @@ class Reader:
         alternate = self.expression()
         self.expect(")")
         return Child("ConditionalExpression", test=test, consequent=consequent, alternate=alternate)
+
+    # ---- arrows
+
+    def begins_arrow(self):
+        """Whether `=>` stands behind the parentheses that begin here."""
+        at, depth = self.at, 1
+        while depth > 0:
+            found = SIGN.match(self.text, at)
+            if not found or found["end"] is not None:
+                return False
+            at, depth = found.end(), depth + {"(": 1, ")": -1}.get(found["sign"], 0)
+        behind = SIGN.match(self.text, at)
+        return behind is not None and behind["arrow"] == "=>"
+
+    def arrow(self):
+        self.take()
+        items = self.several(")", self.parameter)
+        rest = {"rest": items.pop()} if items and items[-1].node_type == "FormalParameterRest" else {}
+        self.expect("=>")
+        body = self.expression()
+        self.expect(")")
+        return Child("ArrowFunctionExpression", params=Child("FormalParameters", items=items, **rest), body=body)
+
+    def parameter(self):
+        is_rest = self.is_here("...")
+        if is_rest:
+            self.take()
+        name = Child("BindingIdentifier", name=self.take())
+        if is_rest:
+            return Child("FormalParameterRest", argument=name)
+        if not self.is_here("="):
+            return Child("FormalParameter", pattern=name)
+        self.take()
+        return Child("FormalParameter", pattern=name, initializer=self.expression())
 
     # ---- a node by its type, with its fields in their order or by their names
 
