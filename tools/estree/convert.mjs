@@ -258,26 +258,41 @@ class Rows {
   // ---- functions
 
   arrow(node) {
-    const params = this.parameters(node);
+    const params = this.parameters(node.params);
     if (node.body.type === "BlockStatement") this.refuse("FunctionBody", node.body);
-    return this.add(node.type, node, { is_async: node.async, params, body: this.expression(node.body) });
+    return this.add(node.type, node, {
+      is_async: node.async,
+      type_parameters: node.typeParameters,
+      params,
+      return_type: node.returnType,
+      body: this.expression(node.body),
+    });
   }
 
-  parameters(node) {
-    const last = node.params.at(-1);
-    const rest = last?.type === "RestElement" ? last : null;
-    const items = rest ? node.params.slice(0, -1) : node.params;
+  parameters(nodes) {
+    const rest = nodes.at(-1)?.type === "RestElement" ? nodes.at(-1) : null;
+    const items = rest ? nodes.slice(0, -1) : nodes;
     return this.add("FormalParameters", null, {
       items: this.several(items, this.parameter),
-      rest: this.maybe(rest, (it) => this.add("FormalParameterRest", it, { argument: this.binding(it.argument) })),
+      rest: this.maybe(rest, this.restParameter),
     });
   }
 
   parameter(node) {
     const isDefault = node.type === "AssignmentPattern";
+    const pattern = isDefault ? node.left : node;
     return this.add("FormalParameter", node, {
-      pattern: this.binding(isDefault ? node.left : node),
+      decorators: node.decorators,
+      pattern: this.binding(pattern),
+      optional: pattern.optional,
+      type_annotation: pattern.typeAnnotation,
       initializer: isDefault ? this.expression(node.right) : null,
+    });
+  }
+
+  restParameter(node) {
+    return this.add("FormalParameterRest", node, {
+      decorators: node.decorators, argument: this.binding(node.argument), type_annotation: node.typeAnnotation,
     });
   }
 }

@@ -23,6 +23,8 @@ export function normal(node) {
       return ["sequence", operands(node, (inside) => inside.type === node.type)];
     case "Property":
       return [...members(node), isProtoShorthand(node)];
+    case "ArrowFunctionExpression":
+      return ["arrow", node.async, normal(node.params), normal(node.body)];
     case "IfStatement":
       return ["if", normal(node.test), normal(unbraced(node.consequent)), normal(node.alternate)];
     case "ExpressionStatement":

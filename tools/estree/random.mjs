@@ -4,6 +4,7 @@ import { isType, wordsOf } from "./reads.mjs";
 const NAMES = ["a", "b", "total", "$", "_x", "größe", "日本", "of", "async", "get", "undefined"];
 const KEYS = [...NAMES, "if", "class", "__proto__", "constructor"];
 const STRINGS = ['""', "'it\\'s'", '"a\\nb"', "'</script>'", '"\\u2028 ${x} `"', '"use strict"', "'\\ud800'", '"日本\\0"', '"\\x001"'];
+const QUOTED = [...STRINGS, '"default"', `'"'`, `"'\\""`, `'""\\''`];
 const WHOLE = ["0", "1", "7", "42", "1000000", "340282366920938463463374607431768211455"];
 const RAW = ["1.5", "0x1F", "0b101", "0o17", "1e3", "1E-7", "1_000", "1_000.5e-7", ".5", "5.", "340282366920938463463374607431768211456"];
 const DEPTH = 4;
@@ -94,6 +95,7 @@ class Draw {
       when("AssignmentExpression", this.assignment),
       when("ChainExpression", this.chain),
       when("ArrowFunctionExpression", this.arrow),
+      this.quoted,
     ];
   }
 
@@ -197,9 +199,43 @@ class Draw {
   }
 
   arrow(depth) {
-    const params = this.several(0, 2, () => `p${this.declared++}${this.below(3) ? "" : ` = ${this.assigned(depth)}`}`);
-    if (this.below(4) === 0) params.push(`...p${this.declared++}`);
-    const body = this.assigned(depth);
-    return `((${params.join(", ")}) => ${body.startsWith("{") ? `(${body})` : body})`;
+    const names = this.several(0, 3, () => this.of(NAMES)).filter((name, at, all) => all.indexOf(name) === at);
+    const rest = names.length > 0 && this.below(4) === 0 ? [`...${names.pop()}`] : [];
+    const items = names.map((name) => (this.below(4) ? name : `${name} = ${this.assigned(depth)}`));
+    const isBare = items.length + rest.length === 1 && items[0] === names[0] && this.below(2) === 0;
+    return `${isBare ? names[0] : `(${[...items, ...rest].join(", ")})`} => ${this.arrowBody(depth)}`;
+  }
+
+  // Some have an object at their start, which stands in parentheses.
+  arrowBody(depth) {
+    switch (this.below(8)) {
+      case 0:
+        return `(${this.expression(depth)})`;
+      case 1:
+        return isType("ObjectExpression") ? `${this.object(depth)}${this.of(["", ".a", "[b]", "()", " + a", " ? a : b", ".a = b"])}` : "a";
+      default:
+        return this.assigned(depth);
+    }
+  }
+
+  // A string in a place where minified text keeps it in plain quotes, or nearly such a place.
+  quoted(depth) {
+    const string = this.of(QUOTED);
+    switch (this.below(4)) {
+      case 0:
+        return `${this.of(["require", "require", "(require)", "a.require"])}(${string}${this.of(["", "", ", a"])})`;
+      case 1:
+        return `${this.of(["Object", "Reflect", "(Object)"])}.defineProperty(${this.listed(depth)}, ${string}, ${this.assigned(depth)})`;
+      case 2:
+        return this.exported(depth, string);
+      default:
+        return `${this.of(['"default"', "('__esModule')", string])} ${this.of(["==", "!=", "===", "!==", "<"])} ${this.inside(depth)}`;
+    }
+  }
+
+  exported(depth, string) {
+    const member = `${this.of(["exports", "module.exports", "(module.exports)", "this.exports"])}[${string}]`;
+    if (!isType("AssignmentExpression") || this.below(4) === 0) return member;
+    return `${member} ${this.of(wordsOf("AssignmentExpression", "operator"))} ${this.assigned(depth)}`;
   }
 }

@@ -69,3 +69,60 @@ test("a tree without places is taken", () => {
   const program = { type: "Program", sourceType: "module", body: [{ type: "ExpressionStatement", expression: name }] };
   assert.deepEqual(jobOf(program).rows[0], { type: "IdentifierReference", name: "a" });
 });
+
+test("an arrow function has its parameters, the values of some, and a last one that takes the rest", () => {
+  assert.deepEqual(rowsOf("(a, b = 1, ...c) => a").slice(0, -2), [
+    { type: "BindingIdentifier", name: "a" },
+    { type: "FormalParameter", pattern: 0 },
+    { type: "BindingIdentifier", name: "b" },
+    { type: "NumericLiteral", kind: "whole", digits: 1 },
+    { type: "FormalParameter", pattern: 2, initializer: 3 },
+    { type: "BindingIdentifier", name: "c" },
+    { type: "FormalParameterRest", argument: 5 },
+    { type: "FormalParameters", items: [1, 4], rest: 6 },
+    { type: "IdentifierReference", name: "a" },
+    { type: "ArrowFunctionExpression", params: 7, body: 8 },
+  ]);
+});
+
+test("parameters have the spans that the tree has of them", () => {
+  const source = "(a = 1, ...b) => a";
+  const spanOf = (type) => jobOf(parsed(source), { source }).rows.find((row) => row.type === type).span;
+  assert.deepEqual(spanOf("FormalParameter"), [1, 6]);
+  assert.deepEqual(spanOf("FormalParameterRest"), [8, 12]);
+  assert.equal(spanOf("FormalParameters"), undefined);
+});
+
+const NOT_READ_YET = [
+  ["f(async () => a)", "is_async of ArrowFunctionExpression in line 1, column 3 is not read yet"],
+  ["f(() => { a })", "FunctionBody in line 1, column 9 is not read yet"],
+  ["f(({ a }) => a)", "ObjectPattern in line 1, column 4 is not read yet"],
+  ["f(([a] = b) => a)", "ArrayPattern in line 1, column 4 is not read yet"],
+  ["f((...[a]) => a)", "ArrayPattern in line 1, column 7 is not read yet"],
+  ["f((a = function () {}) => a)", "FunctionExpression in line 1, column 8 is not read yet"],
+];
+
+for (const [source, message] of NOT_READ_YET) {
+  test(`${source} is refused`, () => assert.throws(() => jobOf(parsed(source), { source }), { name: "NotRead", message }));
+}
+
+// As Babel gives it with its plugin `estree`: nodes have members that acorn's don't have.
+function babelArrow(params, rest = {}) {
+  const body = { type: "Identifier", name: "a", extra: { parenthesized: true, parenStart: 9 } };
+  const arrow = { type: "ArrowFunctionExpression", id: null, generator: false, async: false, expression: true, params, body, ...rest };
+  const statement = { type: "ExpressionStatement", expression: arrow };
+  return { type: "Program", sourceType: "module", interpreter: null, body: [statement] };
+}
+
+test("Babel's arrow functions are taken, and what a type says of them is refused", () => {
+  const name = { type: "Identifier", name: "a", loc: { identifierName: "a" } };
+  const withDefault = { type: "AssignmentPattern", left: name, right: { type: "Literal", value: 1, raw: "1" } };
+  const types = (program) => jobOf(program).rows.map((row) => row.type);
+  assert.deepEqual(types(babelArrow([withDefault, { type: "RestElement", argument: name }])), [
+    "BindingIdentifier", "NumericLiteral", "FormalParameter", "BindingIdentifier", "FormalParameterRest",
+    "FormalParameters", "IdentifierReference", "ArrowFunctionExpression", "ExpressionStatement", "Program",
+  ]);
+  const annotation = { type: "TSTypeAnnotation" };
+  assert.throws(() => jobOf(babelArrow([{ ...name, typeAnnotation: annotation }])), /^NotRead: type_annotation of FormalParameter /);
+  assert.throws(() => jobOf(babelArrow([], { returnType: annotation })), /^NotRead: return_type of ArrowFunctionExpression /);
+});

@@ -18,6 +18,9 @@ const SAME = [
   ["if (a) { if (b) c }", "if (a) if (b) c"],
   ["'use strict'", '"use strict"'],
   [".5 + 1.", "0.5 + 1"],
+  ["((a) => (a))", "a => a"],
+  ["(a, b = (1), ...c) => ((a, b), c)", "(a, b = 1, ...c) => (a, b, c)"],
+  ["require('x')", "require(`x`)"],
 ];
 
 const OTHER = [
@@ -29,6 +32,12 @@ const OTHER = [
   ["[a,,]", "[a]"],
   ["1", "1.0"],
   ["new (f())()", "new f()()"],
+  ["() => ({})", "() => {}"],
+  ["(() => a)()", "() => a()"],
+  ["(a) => (b) => c", "(a, b) => c"],
+  ["(...a) => b", "(a) => b"],
+  ["(a = 1) => b", "(a) => b"],
+  ["async () => a", "() => a"],
 ];
 
 for (const [one, other] of SAME) {

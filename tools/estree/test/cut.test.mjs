@@ -1,0 +1,32 @@
+// What a program is cut down to, and the programs that are made up.
+import assert from "node:assert/strict";
+import { test } from "node:test";
+import { cut, isRead } from "../cut.mjs";
+import { parsed } from "../parser.mjs";
+import { randomProgram } from "../random.mjs";
+
+function cutDown(source) {
+  return cut(source, parsed(source), parsed);
+}
+
+test("a program that is read stays as it is", () => {
+  const source = "const f = (a, b = 1, ...c) => ({ a })\nf(2)";
+  assert.equal(cutDown(source), source);
+});
+
+test("of a function that isn't read the parts that are read are kept", () => {
+  assert.equal(cutDown("a = async () => b(2)"), "(b(2));");
+  assert.equal(cutDown("a = ({ b }) => c * 3"), "(c * 3);");
+  assert.equal(cutDown("a = (b = c / 4) => { d(b => 5) }"), "(c / 4);\n{ d(b => 5) }");
+  assert.equal(cutDown("function a(b) { return (c) => c - 6 }"), "((c) => c - 6);");
+});
+
+test("an arrow function whose text isn't a program by itself is left out", () => {
+  assert.equal(cutDown("class A { b() { return () => super.b } }"), "");
+});
+
+test("programs that are made up are read whole, and have arrow functions and strings in the places of plain quotes", () => {
+  const sources = Array.from({ length: 40 }, (_, at) => randomProgram(at + 1));
+  for (const source of sources) assert.equal(isRead(parsed(source)), true);
+  for (const part of ["=>", "require(", ".defineProperty(", "exports["]) assert.ok(sources.some((source) => source.includes(part)), part);
+});
