@@ -1,9 +1,11 @@
-"""Writes a job: `make_job.py SIZE [nested|list|ascii|wide|escapes] [minify]`.
+"""Writes a job: `make_job.py SIZE [nested|sum|logical|choices|list|ascii|wide|escapes] [minify]`.
 
 SIZE is in megabytes. By itself the job holds declarations and statements, blocks and `if` of mixed expressions, a third of
 which are literals, unary operations, updates, `new`, and arrays and objects up to six deep, and a fifth of the others
-conditionals, sequences, assignments and optional chains; with `nested`, blocks and `if` a thousand deep and sums nested a
-thousand to the left and to the right, as often as fill it; with `list`, one array of 12,500 numbers a megabyte.
+conditionals, sequences, assignments, optional chains and arrow functions; with `nested`, blocks and `if` a thousand deep and
+sums nested a thousand to the left and to the right, as often as fill it. With `sum` it holds 20,000 `+` nested to the left, with
+`logical` 20,000 `&&` nested to the right, and with `choices` 20,000 conditionals, each the alternate of the one before, as often
+as fill it; with `list`, one array of 12,500 numbers a megabyte.
 With `ascii`, `wide` and `escapes` it is one string as long as the job: of ASCII, of characters of one to four bytes, and
 with a quote or another character that needs an escape at every tenth place.
 """
@@ -18,6 +20,7 @@ UNARY = ["+", "-", "!", "~", "typeof", "void"]
 ASSIGNMENT = ["=", "+=", "-=", "**=", ">>>=", "&&=", "??="]
 RAW = ["1.5", "0.25", "0xff", "1e21", "1_000.5e-7", "3.141592653589793"]
 DEPTH = 1000
+CHAIN = 20000
 NUMBERS = 12500
 STRINGS = {
     "ascii": ("abcdefghij klmnop,.", None),
@@ -39,6 +42,9 @@ class Rows:
     def name(self, name):
         start = len(self.rows)
         return self.add('{"type":"IdentifierReference","span":[%d,%d],"name":"%s"}' % (start, start + 3, name))
+
+    def short_name(self):
+        return self.add('{"type":"IdentifierReference","name":"a"}')
 
     def binary(self, operator, left, right):
         return self.add('{"type":"BinaryExpression","operator":"%s","left":%d,"right":%d}' % (operator, left, right))
@@ -121,16 +127,36 @@ def leaf(rows, draw):
     return rows.add('{"type":"StringLiteral","value":"%s"}' % draw.choice(TEXTS))
 
 
+def parameter(rows, draw):
+    """A name, and a value in one of four."""
+    name = rows.add('{"type":"BindingIdentifier","name":"given%d"}' % len(rows.rows))
+    value = ',"initializer":%d' % leaf(rows, draw) if draw.random() < 0.25 else ""
+    return rows.add('{"type":"FormalParameter","pattern":%d%s}' % (name, value))
+
+
+def arrow(rows, depth, draw):
+    items = [parameter(rows, draw) for _ in range(draw.randrange(4))]
+    rest = ""
+    if draw.random() < 0.25:
+        name = rows.add('{"type":"BindingIdentifier","name":"others%d"}' % len(rows.rows))
+        rest = ',"rest":%d' % rows.add('{"type":"FormalParameterRest","argument":%d}' % name)
+    params = rows.add('{"type":"FormalParameters","items":[%s]%s}' % (",".join(map(str, items)), rest))
+    body = expression(rows, depth - 1, draw)
+    return rows.add('{"type":"ArrowFunctionExpression","params":%d,"body":%d}' % (params, body))
+
+
 def two_or_three(rows, depth, draw):
-    """A sequence, an assignment, a conditional, or a chain."""
+    """A sequence, an assignment, a conditional, a chain, or an arrow function."""
     kind = draw.random()
+    if kind > 0.8:
+        return arrow(rows, depth, draw)
     first = expression(rows, depth - 1, draw)
-    if kind < 0.2:
+    if kind < 0.15:
         return rows.add('{"type":"SequenceExpression","expressions":[%d,%d]}' % (first, expression(rows, depth - 1, draw)))
-    if kind < 0.5:
+    if kind < 0.4:
         words = draw.choice(ASSIGNMENT), rows.name(draw.choice(NAMES)), first
         return rows.add('{"type":"AssignmentExpression","operator":"%s","left":%d,"right":%d}' % words)
-    if kind < 0.75:
+    if kind < 0.6:
         consequent, alternate = expression(rows, depth - 1, draw), leaf(rows, draw)
         return rows.add('{"type":"ConditionalExpression","test":%d,"consequent":%d,"alternate":%d}' % (first, consequent, alternate))
     name = rows.add('{"type":"IdentifierName","name":"%s"}' % draw.choice(NAMES))
@@ -211,6 +237,31 @@ def deep_sum(rows, to_the_left):
     return rows.statement(inner)
 
 
+def long_sum(rows):
+    inner = rows.short_name()
+    for _ in range(CHAIN):
+        inner = rows.binary("+", inner, rows.short_name())
+    return rows.statement(inner)
+
+
+def long_logical(rows):
+    inner = rows.short_name()
+    for _ in range(CHAIN):
+        inner = rows.add('{"type":"LogicalExpression","operator":"&&","left":%d,"right":%d}' % (rows.short_name(), inner))
+    return rows.statement(inner)
+
+
+def long_choices(rows):
+    inner = rows.short_name()
+    for _ in range(CHAIN):
+        parts = rows.short_name(), rows.short_name(), inner
+        inner = rows.add('{"type":"ConditionalExpression","test":%d,"consequent":%d,"alternate":%d}' % parts)
+    return rows.statement(inner)
+
+
+CHAINS = {"sum": long_sum, "logical": long_logical, "choices": long_choices}
+
+
 def long_list(rows, count, draw):
     numbers = [whole(rows, draw) for _ in range(count)]
     return rows.statement(rows.add('{"type":"ArrayExpression","elements":[%s]}' % ",".join(map(str, numbers))))
@@ -235,7 +286,9 @@ def body_of(rows, kind, megabytes, draw):
     if kind == "list":
         return [long_list(rows, megabytes * NUMBERS, draw)]
     while rows.size < wanted:
-        if kind == "nested":
+        if kind in CHAINS:
+            body.append(CHAINS[kind](rows))
+        elif kind == "nested":
             body += [deep_blocks(rows), deep_sum(rows, True), deep_sum(rows, False)]
         else:
             body.append(statement(rows, 4, draw))
@@ -244,7 +297,7 @@ def body_of(rows, kind, megabytes, draw):
 
 def main():
     words = sys.argv[2:]
-    kind = next((it for it in words if it in ("nested", "list", *STRINGS)), "mixed")
+    kind = next((it for it in words if it in ("nested", *CHAINS, "list", *STRINGS)), "mixed")
     rows = Rows()
     body = body_of(rows, kind, int(sys.argv[1]), random.Random(1))
     rows.add('{"type":"Program","kind":"module","body":[%s]}' % ",".join(map(str, body)))
