@@ -1,0 +1,1 @@
+const load=name=>require("./names")[name];const pairs=(first,second=first,...others)=>({first,second,others});Object.defineProperty(exports,"load",{value:load});exports["pairs"]=pairs;
