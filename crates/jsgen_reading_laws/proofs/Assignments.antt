@@ -15,7 +15,8 @@ use Rattle.jsgen_model.specs.Layout.{Pen, Start, nowhere, other_end, layout, unl
 use Rattle.jsgen_model.specs.Grammar.{Allowed, Level, ReadsExpression, with_in, assignment_sign, simple_target}
 use Rattle.jsgen_model.specs.Grammar as grammar
 use Rattle.jsgen_model.specs.Normal.{normal}
-use Rattle.jsgen_model.specs.Spell.{Place, spell, enclosed, assigned, behind, wraps, assignment_item}
+use Rattle.jsgen_model.specs.Quotes.{is_export_target}
+use Rattle.jsgen_model.specs.Spell.{Place, spell, enclosed, assigned, quoted_plainly, behind, wraps, assignment_item}
 use Rattle.jsgen_token_laws.proofs.Last.{Last, After, line_of, Ready, Remembers, Knows, NoDot}
 use Rattle.jsgen_token_laws.proofs.Writes.{Writes, wrote_both}
 use Rattle.jsgen_token_laws.proofs.Steps.{Soft, soft_space_written}
@@ -53,8 +54,12 @@ assignment_parts c a t u start level p p1 p2 p3 p4 q l g simple left b w n h =
       same = same_assignment o g.tree h.tree t u g.same h.same;
     }
 
+-- where the target stands
+abbrev target_place : Tree → Place → Bool → Place
+target_place t place w = quoted_plainly (is_export_target place.settings.minified t) (assigned (enclosed w place))
+
 abbrev items_of : Atoms → Tree → Tree → Place → Bool → Items
-items_of a t u place w = spell t (assigned (enclosed w place)) ⊕ (soft_space ⊕ (assignment_item (assignment_expression_operator a) ⊕ (soft_space ⊕ spell u (behind levels.Comma place))))
+items_of a t u place w = spell t (target_place t place w) ⊕ (soft_space ⊕ (assignment_item (assignment_expression_operator a) ⊕ (soft_space ⊕ spell u (behind levels.Comma place))))
 
 pub good_assignment : (c : Allowed) (a : Atoms) (t u : Tree) → TargetPrinted c t → Printed c u → Printed c (tree.assignment a t u)
 good_assignment c a t u f h place =
@@ -64,7 +69,7 @@ good_assignment c a t u f h place =
     inner : (v : Bool) (p : Pen) (l : Last) → p.pending_semicolon ≡ false → Ready l → Knows p l → Good p l (layout (items_of a t u place v) p) (under place c) grammar.Assignment (unless_printed v place.start) (tree.assignment a t u)
     inner v p l z y k =
         let o : AssignmentOperator = assignment_expression_operator a in
-        let at : Place = assigned (enclosed v place) in
+        let at : Place = target_place t place v in
         let p1 : Pen = layout (spell t at) p in
         let p2 : Pen = layout soft_space p1 in
         let p3 : Pen = layout (assignment_item o) p2 in

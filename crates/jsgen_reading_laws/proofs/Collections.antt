@@ -29,7 +29,7 @@ pub no_elements : (c : Allowed) → ElementsOf c no_trees
 no_elements c lines place = nothing_inside (ReadsElements (with_in c)) grammar.no_element lines (in_brackets levels.Comma place)
 
 pub first_of_elements : (c : Allowed) (e : Tree) (es : Trees) → ElementOf c e → ElementsOf c es → ElementsOf c (more e es)
-first_of_elements c e es f h lines place = first_inside (ReadsElement (with_in c)) (ReadsElements (with_in c)) (λ ts t r. grammar.last_element r) (λ mark a b t us r s. grammar.first_element mark refl r s) lines (in_brackets levels.Comma place) e es (f place) (h lines place)
+first_of_elements c e es f h lines place = first_inside (ReadsElement (with_in c)) (ReadsElements (with_in c)) (λ ts t r. grammar.last_element r) (λ mark a b t us r s. grammar.first_element mark refl r s) lines (in_brackets levels.Comma place) e es (f false place) (h lines place)
 
 pub left_out_of_elements : (c : Allowed) (es : Trees) → ElementsOf c es → ElementsOf c (hole es)
 left_out_of_elements c es h lines place = hole_inside (ReadsElements (with_in c)) grammar.no_element (λ mark b us r. grammar.an_elision r) lines (in_brackets levels.Comma place) es (h lines place)

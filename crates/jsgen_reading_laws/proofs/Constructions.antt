@@ -1,5 +1,5 @@
 -- `new`, with arguments or without.
-use Rattle.std.proofs.Common.{◌≡◌, Bool, true, false, not, ◌||◌, codes, refl, ap, ◌∙◌, arith}
+use Rattle.std.proofs.Common.{◌≡◌, Bool, true, false, not, ◌||◌, codes, refl, ap, ◌∙◌, subst, arith}
 use Rattle.std.proofs.lemmas.Bool.{both_ways, or_parts}
 use Rattle.jsgen_syntax.specs.declared.precedence.Precedence.TheVariants as levels
 use Rattle.jsgen_tree.specs.Tree.{Tree, Trees, no_trees, more, hole, Atoms}
@@ -20,7 +20,7 @@ use Rattle.jsgen_reading_laws.proofs.Levels.{level_of, under, weaken_member, lif
 use Rattle.jsgen_reading_laws.proofs.Good.{Good, Printed, good_wrapped}
 use Rattle.jsgen_reading_laws.proofs.Lists.{Elements}
 use Rattle.jsgen_reading_laws.proofs.Prefixes.{Before, word_before, word_begins, good_prefix}
-use Rattle.jsgen_reading_laws.proofs.Links.{ArgumentsAt}
+use Rattle.jsgen_reading_laws.proofs.Links.{ArgumentsAt, spelled_as_list}
 
 same_construction : (a : Atoms) (u x : Tree) (us xs : Trees) → normal u ≡ normal x → normal_trees us ≡ normal_trees xs → normal (tree.new_expression (nothing_of 1) u us) ≡ normal (tree.new_expression a x xs)
 same_construction a u x us xs e f = λ i. tree.new_expression (nothing_of 1) (e i) (f i)
@@ -65,7 +65,7 @@ with_arguments c a t es f h place =
         let w = new_before.writes p l k in
         let n = soft_space_written p1 (After (Word (codes "new"))) w.knows in
         let g = f (constructed (within v place)) p2 n.last (n.semicolon ∙ z) (n.ready tt) n.writes.knows in
-        let i = h place p4 g.semicolon (within_brackets Round p3 g.last g.writes.knows) in
+        let i = subst (λ items. Elements (ReadsArguments (with_in c)) p4 (Open false) (layout items p4) es) (spelled_as_list es place) (h false false place p4 g.semicolon (within_brackets Round p3 g.last g.writes.knows)) in
         construction_parts (under (within v place) c) a t es (unless_printed v place.start) p p1 p2 p3 (layout (spell_list es (in_brackets levels.Comma place)) p4) l w n g i
 
 -- ---- without them

@@ -37,7 +37,7 @@ use Rattle.jsgen_reading_laws.proofs.Operations.{good_operation}
 use Rattle.jsgen_reading_laws.proofs.Prefixes.{word_begins, good_unary_operation}
 use Rattle.jsgen_reading_laws.proofs.Chains.{good_logical_operation}
 use Rattle.jsgen_reading_laws.proofs.Constructions.{good_construction}
-use Rattle.jsgen_reading_laws.proofs.Links.{ElementOf, ArgumentsAt, MoreArgumentsAt, LinkPrinted, link_expression, link_super, good_named_member, good_computed_member, good_call, good_element, good_spread, no_arguments, first_of_arguments, no_more_arguments, one_more_argument, named_target, computed_target}
+use Rattle.jsgen_reading_laws.proofs.Links.{ElementOf, ArgumentsAt, BehindFirstAt, MoreArgumentsAt, LinkPrinted, link_expression, link_super, good_named_member, good_computed_member, good_call, good_element, good_spread, no_arguments, first_of_arguments, none_behind_first, second_argument, no_more_arguments, one_more_argument, named_target, computed_target}
 use Rattle.jsgen_reading_laws.proofs.OptionalChains.{ChainPrinted, BasePrinted, base_expression, base_chain, optional_named_member, optional_computed_member, optional_call, further_named_member, further_computed_member, further_call, good_chain}
 use Rattle.jsgen_reading_laws.proofs.Collections.{ElementsOf, no_elements, first_of_elements, left_out_of_elements, good_array, PropertiesOf, no_properties, first_of_properties, good_object}
 use Rattle.jsgen_reading_laws.proofs.Updates.{good_update}
@@ -181,13 +181,14 @@ quoted_begins default_export line q w b = refl
 pub good_string : (c : Allowed) (a : Atoms) → are_units (string_literal_value a) ≡ true → Printed c (tree.string_literal a)
 good_string c a h place p l z y k =
     let us : List ℕ = string_literal_value a in
-    let q : Quote = chosen_quote p.style true us in
+    let backticks : Bool = not place.plain_quotes in
+    let q : Quote = chosen_quote p.style backticks us in
     let w : List ℕ = escaped q p.style.ascii us in
     let e : string_value q w ≡ Some us = escaped_value q p.style.ascii us h in
     record {
       last = After (Quoted q w);
       tokens = piece (line_of l) (Quoted q w) done;
-      writes = wrote_quoted q w us p (layout (string true us) p) l e refl refl k;
+      writes = wrote_quoted q w us p (layout (string backticks us) p) l e refl refl k;
       operand = tt;
       semicolon = z;
       begins = λ b n. quoted_begins place.start (line_of l) q w b;
@@ -260,7 +261,11 @@ mutual
 
   printed_arguments : {c : Allowed} {es : Trees} → AreArguments c es → ArgumentsAt c es
   printed_arguments {c} family.no_argument = no_arguments c
-  printed_arguments {c} (family.first_argument {e} {es} v w) = first_of_arguments c e es (printed_element v) (more_arguments w)
+  printed_arguments {c} (family.first_argument {e} {es} v w) = first_of_arguments c e es (printed_element v) (behind_first w)
+
+  behind_first : {c : Allowed} {es : Trees} → AreArguments c es → BehindFirstAt c es
+  behind_first {c} family.no_argument = none_behind_first c
+  behind_first {c} (family.first_argument {e} {es} v w) = second_argument c e es (printed_element v) (more_arguments w)
 
   more_arguments : {c : Allowed} {es : Trees} → AreArguments c es → MoreArgumentsAt c es
   more_arguments {c} family.no_argument = no_more_arguments c

@@ -5,17 +5,18 @@ use Rattle.jsgen_syntax.specs.Escapes.{name_text, word_value}
 use Rattle.jsgen_syntax.specs.Name.{spells_name}
 use Rattle.jsgen_syntax.proofs.Escapes.{word_text_value}
 use Rattle.jsgen_syntax.specs.declared.precedence.Precedence.TheVariants as levels
-use Rattle.jsgen_tree.specs.Tree.{Tree, Trees, no_trees, more, Atoms}
+use Rattle.jsgen_tree.specs.Tree.{Tree, Trees, no_trees, more, hole, Atoms}
 use Rattle.jsgen_tree.specs.Values.{identifier_name_name, static_member_expression_optional, computed_member_expression_optional, call_expression_optional}
 use Rattle.jsgen_tree.specs.Nodes as tree
 use Rattle.jsgen_model.specs.Punctuator.{dot, ellipsis, Round, Square, opening, closing}
 use Rattle.jsgen_model.specs.Tokens.{Tokens, done, piece, group, ◌⧺◌, Word, Sign}
-use Rattle.jsgen_model.specs.Items.{◌⊕◌, brackets, member_dot, name, punctuator}
+use Rattle.jsgen_model.specs.Items.{Items, ◌⊕◌, brackets, member_dot, name, punctuator}
 use Rattle.jsgen_model.specs.Layout.{Pen, Start, other_end, layout, written, unless_printed}
 use Rattle.jsgen_model.specs.Grammar.{Allowed, Level, ReadsExpression, ReadsElement, ReadsArguments, ReadsArgumentList, with_in, is_word, on_same_line, simple_target}
 use Rattle.jsgen_model.specs.Grammar as grammar
 use Rattle.jsgen_model.specs.Normal.{normal, normal_trees, nothing_of, named, link_values, call_values}
-use Rattle.jsgen_model.specs.Spell.{Place, spell, spell_list, within, linked, called, in_brackets, wraps, call_wraps, name_link, bracket_link}
+use Rattle.jsgen_model.specs.Quotes.{is_require_call, is_definition_call}
+use Rattle.jsgen_model.specs.Spell.{Place, spell, spell_list, spell_more, spell_arguments, spell_behind_first, within, linked, called, in_brackets, quoted_plainly, wraps, call_wraps, name_link, bracket_link}
 use Rattle.jsgen_token_laws.proofs.Characters.{letters_spelled}
 use Rattle.jsgen_token_laws.proofs.Last.{Last, Open, After, line_of, Operand, Ready, begun_ready, Knows}
 use Rattle.jsgen_token_laws.proofs.Writes.{Writes, wrote_none, wrote_both}
@@ -23,7 +24,7 @@ use Rattle.jsgen_token_laws.proofs.Steps.{wrote_word, wrote_name, wrote_dot, wro
 use Rattle.jsgen_reading_laws.proofs.Levels.{number_of, operation_number, left_hand_side, level_of, under, weaken_member, read_left, lifted, unwrapped, from_left}
 use Rattle.jsgen_reading_laws.proofs.Good.{Good, Printed, TargetPrinted, may_begin, begins_then, line_then, good_wrapped}
 use Rattle.jsgen_reading_laws.proofs.Prefixes.{word_begins}
-use Rattle.jsgen_reading_laws.proofs.Lists.{Elements, ElementAt, MoreAt, Joins, no_more, one_more, whole_list}
+use Rattle.jsgen_reading_laws.proofs.Lists.{Elements, ElementAt, GivesMore, MoreAt, Joins, none_behind, one_behind, no_more, one_more, first_and_others}
 
 -- ---- a link behind a member or a call
 
@@ -130,10 +131,14 @@ named_target c a b o m h f place p l z y k =
 pub good_named_member : (c : Allowed) (a b : Atoms) (o : Tree) → static_member_expression_optional a ≡ false → spells_name (identifier_name_name b) ≡ true → LinkPrinted c o → Printed c (tree.static_member a o (tree.identifier_name b))
 good_named_member c a b o m h f place p l z y k = (named_target c a b o m h f place p l z y k).0
 
+-- where the key of a member stands
+abbrev pub key_place : Place → Place
+key_place place = quoted_plainly place.plain_quotes (in_brackets levels.Lowest place)
+
 same_member : (a : Atoms) (u v x y : Tree) → computed_member_expression_optional a ≡ false → normal u ≡ normal x → normal v ≡ normal y → normal (tree.computed_member (link_values false) u v) ≡ normal (tree.computed_member a x y)
 same_member a u v x y m e f = λ i. tree.computed_member (link_values (sym m i)) (e i) (f i)
 
-computed_parts : (c : Allowed) (a : Atoms) (o x : Tree) (place : Place) (p p1 q : Pen) (l : Last) → computed_member_expression_optional a ≡ false → (g : Linkable p l p1 (under place c) place.context.forbids_call place.start o) → Good (written (opening Square) other_end p1) (Open false) q (with_in c) grammar.Expression (in_brackets levels.Lowest place).start x → (r : Good p l (written (closing Square) other_end q) (under place c) (level_of place) place.start (tree.computed_member a o x)) × (simple_target r.tree ≡ Some r.tree) × (line_of r.last ≡ false) × ReadsExpression (under place c) grammar.LeftHandSide r.tokens r.tree
+computed_parts : (c : Allowed) (a : Atoms) (o x : Tree) (place : Place) (p p1 q : Pen) (l : Last) → computed_member_expression_optional a ≡ false → (g : Linkable p l p1 (under place c) place.context.forbids_call place.start o) → Good (written (opening Square) other_end p1) (Open false) q (with_in c) grammar.Expression (key_place place).start x → (r : Good p l (written (closing Square) other_end q) (under place c) (level_of place) place.start (tree.computed_member a o x)) × (simple_target r.tree ≡ Some r.tree) × (line_of r.last ≡ false) × ReadsExpression (under place c) grammar.LeftHandSide r.tokens r.tree
 computed_parts c a o x place p p1 q l m g h = (
   record {
     last = Open false;
@@ -157,9 +162,10 @@ computed_target c a o x m f h place p l z y k =
     let p1 : Pen = layout (spell o (linked place)) p in
     let p2 : Pen = written (opening Square) other_end p1 in
     let g = f place p l z y k in
-    let i = h (in_brackets levels.Lowest place) p2 (Open false) g.semicolon tt (within_brackets Square p1 g.last g.writes.knows) in
-    let q : Pen = layout (spell x (in_brackets levels.Lowest place)) p2 in
-    subst (λ optional. TargetAt p l (layout (bracket_link optional ⊕ brackets Square (spell x (in_brackets levels.Lowest place))) p1) c place (tree.computed_member a o x)) (sym m) (computed_parts c a o x place p p1 q l m g i)
+    let key : Place = key_place place in
+    let i = h key p2 (Open false) g.semicolon tt (within_brackets Square p1 g.last g.writes.knows) in
+    let q : Pen = layout (spell x key) p2 in
+    subst (λ optional. TargetAt p l (layout (bracket_link optional ⊕ brackets Square (spell x key)) p1) c place (tree.computed_member a o x)) (sym m) (computed_parts c a o x place p p1 q l m g i)
 
 pub good_computed_member : (c : Allowed) (a : Atoms) (o x : Tree) → computed_member_expression_optional a ≡ false → LinkPrinted c o → Printed c x → Printed c (tree.computed_member a o x)
 good_computed_member c a o x m f h place p l z y k = (computed_target c a o x m f h place p l z y k).0
@@ -167,16 +173,19 @@ good_computed_member c a o x m f h place p l z y k = (computed_target c a o x m 
 -- ---- elements: expressions, and those whose values are spread
 
 -- in brackets
+abbrev pub element_place : Bool → Place → Place
+element_place plain place = quoted_plainly plain (in_brackets levels.Comma place)
+
 abbrev pub ElementOf : Allowed → Tree → Type 0
-ElementOf c e = (place : Place) → ElementAt (ReadsElement (with_in c)) (in_brackets levels.Comma place) e
+ElementOf c e = (plain : Bool) (place : Place) → ElementAt (ReadsElement (with_in c)) (element_place plain place) e
 
 pub good_element : (c : Allowed) (e : Tree) → Printed c e → ElementOf c e
-good_element c e f place p l z b k =
-    let g = f (in_brackets levels.Comma place) p l z (begun_ready l b) k in
+good_element c e f plain place p l z b k =
+    let g = f (element_place plain place) p l z (begun_ready l b) k in
     record { last = g.last; tokens = g.tokens; writes = g.writes; operand = g.operand; semicolon = g.semicolon; tree = g.tree; reads = grammar.an_element g.reads; same = g.same }
 
 pub good_spread : (c : Allowed) (a : Atoms) (e : Tree) → Printed c e → ElementOf c (tree.spread a e)
-good_spread c a e f place p l z b k =
+good_spread c a e f plain place p l z b k =
     let o = wrote_dots p l b k in
     let g = f (in_brackets levels.Comma place) (layout (punctuator ellipsis) p) (After (Sign ellipsis)) z tt o.knows in
     record {
@@ -192,9 +201,12 @@ good_spread c a e f place p l z b k =
 
 -- ---- arguments
 
--- behind an opening bracket
+-- behind an opening bracket; the tests hold where the first or the second is a string that is never in backticks
 abbrev pub ArgumentsAt : Allowed → Trees → Type 0
-ArgumentsAt c es = (place : Place) (p : Pen) → p.pending_semicolon ≡ false → Knows p (Open false) → Elements (ReadsArguments (with_in c)) p (Open false) (layout (spell_list es (in_brackets levels.Comma place)) p) es
+ArgumentsAt c es = (first second : Bool) (place : Place) (p : Pen) → p.pending_semicolon ≡ false → Knows p (Open false) → Elements (ReadsArguments (with_in c)) p (Open false) (layout (spell_arguments first second es (in_brackets levels.Comma place)) p) es
+
+abbrev pub BehindFirstAt : Allowed → Trees → Type 0
+BehindFirstAt c es = (second : Bool) (place : Place) → GivesMore (ReadsElement (with_in c)) (ReadsArgumentList (with_in c)) (spell_behind_first second es (in_brackets levels.Comma place)) es
 
 abbrev pub MoreArgumentsAt : Allowed → Trees → Type 0
 MoreArgumentsAt c es = (place : Place) → MoreAt (ReadsElement (with_in c)) (ReadsArgumentList (with_in c)) (in_brackets levels.Comma place) es
@@ -203,18 +215,39 @@ arguments_join : (c : Allowed) → Joins (ReadsElement c) (ReadsArgumentList c)
 arguments_join c = record { one = λ ts e r. grammar.last_argument r; first = λ mark a b e es r s. grammar.first_argument mark refl r s }
 
 pub no_arguments : (c : Allowed) → ArgumentsAt c no_trees
-no_arguments c place p z k = record { last = Open false; tokens = done; writes = wrote_none p p (Open false) refl k; operand = tt; semicolon = z; trees = no_trees; reads = grammar.no_argument; same = refl }
+no_arguments c first second place p z k = record { last = Open false; tokens = done; writes = wrote_none p p (Open false) refl k; operand = tt; semicolon = z; trees = no_trees; reads = grammar.no_argument; same = refl }
 
-pub first_of_arguments : (c : Allowed) (e : Tree) (es : Trees) → ElementOf c e → MoreArgumentsAt c es → ArgumentsAt c (more e es)
-first_of_arguments c e es f m place p z k =
-    let g = whole_list (ReadsElement (with_in c)) (ReadsArgumentList (with_in c)) (in_brackets levels.Comma place) e es (f place) (m place) p (Open false) z tt k in
+pub first_of_arguments : (c : Allowed) (e : Tree) (es : Trees) → ElementOf c e → BehindFirstAt c es → ArgumentsAt c (more e es)
+first_of_arguments c e es f m first second place p z k =
+    let g = first_and_others (ReadsElement (with_in c)) (ReadsArgumentList (with_in c)) e es (spell e (element_place first place)) (spell_behind_first second es (in_brackets levels.Comma place)) (f first place) (m second place) p (Open false) z tt k in
     record { last = g.last; tokens = g.tokens; writes = g.writes; operand = g.operand; semicolon = g.semicolon; trees = g.trees; reads = grammar.some_arguments g.reads; same = g.same }
+
+pub none_behind_first : (c : Allowed) → BehindFirstAt c no_trees
+none_behind_first c second place = none_behind (ReadsElement (with_in c)) (ReadsArgumentList (with_in c)) (arguments_join (with_in c))
+
+pub second_argument : (c : Allowed) (e : Tree) (es : Trees) → ElementOf c e → MoreArgumentsAt c es → BehindFirstAt c (more e es)
+second_argument c e es f m second place = one_behind (ReadsElement (with_in c)) (ReadsArgumentList (with_in c)) (arguments_join (with_in c)) e es (spell e (element_place second place)) (spell_more es (in_brackets levels.Comma place)) (f second place) (m place)
 
 pub no_more_arguments : (c : Allowed) → MoreArgumentsAt c no_trees
 no_more_arguments c place = no_more (ReadsElement (with_in c)) (ReadsArgumentList (with_in c)) (arguments_join (with_in c)) (in_brackets levels.Comma place)
 
 pub one_more_argument : (c : Allowed) (e : Tree) (es : Trees) → ElementOf c e → MoreArgumentsAt c es → MoreArgumentsAt c (more e es)
-one_more_argument c e es f m place = one_more (ReadsElement (with_in c)) (ReadsArgumentList (with_in c)) (arguments_join (with_in c)) (in_brackets levels.Comma place) e es (f place) (m place)
+one_more_argument c e es f m place = one_more (ReadsElement (with_in c)) (ReadsArgumentList (with_in c)) (arguments_join (with_in c)) (in_brackets levels.Comma place) e es (f false place) (m place)
+
+-- where neither test holds they are spelled as any list
+behind_as_list : (es : Trees) (place : Place) → spell_behind_first false es (in_brackets levels.Comma place) ≡ spell_more es (in_brackets levels.Comma place)
+behind_as_list no_trees place = refl
+behind_as_list (more e es) place = refl
+behind_as_list (hole es) place = behind_as_list es place
+
+pub spelled_as_list : (es : Trees) (place : Place) → spell_arguments false false es (in_brackets levels.Comma place) ≡ spell_list es (in_brackets levels.Comma place)
+spelled_as_list no_trees place = refl
+spelled_as_list (more e es) place = ap (λ items. spell e (in_brackets levels.Comma place) ⊕ items) (behind_as_list es place)
+spelled_as_list (hole es) place = spelled_as_list es place
+
+-- those of a call
+abbrev pub argument_items : Tree → Trees → Place → Items
+argument_items t es place = spell_arguments (is_require_call place.settings.minified t es) (is_definition_call place.settings.minified t es) es (in_brackets levels.Comma place)
 
 -- ---- calls
 
@@ -243,15 +276,15 @@ unwrapped_call {c} {ts} {u} place e r =
 
 pub good_call : (c : Allowed) (a : Atoms) (t : Tree) (es : Trees) → call_expression_optional a ≡ false → LinkPrinted c t → ArgumentsAt c es → Printed c (tree.call a t es)
 good_call c a t es m f h place =
-    good_wrapped c place grammar.Call (call_wraps place) (λ w. spell t (called (within w place)) ⊕ (bracket_link (call_expression_optional a) ⊕ brackets Round (spell_list es (in_brackets levels.Comma place)))) (tree.call a t es)
+    good_wrapped c place grammar.Call (call_wraps place) (λ w. spell t (called (within w place)) ⊕ (bracket_link (call_expression_optional a) ⊕ brackets Round (argument_items t es place))) (tree.call a t es)
     (λ d ts u r. lifted false levels.Postfix levels.Lowest (omega arith) (grammar.a_called_call r)) (λ e ts u r. unwrapped_call place e r) inner
   where
-    inner : (v : Bool) → call_wraps place ≡ v → (p : Pen) (l : Last) → p.pending_semicolon ≡ false → Ready l → Knows p l → Good p l (layout (spell t (called (within v place)) ⊕ (bracket_link (call_expression_optional a) ⊕ brackets Round (spell_list es (in_brackets levels.Comma place)))) p) (under (within v place) c) grammar.Call (unless_printed v place.start) (tree.call a t es)
+    inner : (v : Bool) → call_wraps place ≡ v → (p : Pen) (l : Last) → p.pending_semicolon ≡ false → Ready l → Knows p l → Good p l (layout (spell t (called (within v place)) ⊕ (bracket_link (call_expression_optional a) ⊕ brackets Round (argument_items t es place))) p) (under (within v place) c) grammar.Call (unless_printed v place.start) (tree.call a t es)
     inner v e p l z y k =
         let p1 : Pen = layout (spell t (called (within v place))) p in
         let p2 : Pen = written (opening Round) other_end p1 in
         let at : Place = within v place in
         let g = f (record at { context = record at.context { forbids_call = false } }) p l z y k in
-        let i = h place p2 g.semicolon (within_brackets Round p1 g.last g.writes.knows) in
-        let q : Pen = layout (spell_list es (in_brackets levels.Comma place)) p2 in
-        subst (λ optional. Good p l (layout (bracket_link optional ⊕ brackets Round (spell_list es (in_brackets levels.Comma place))) p1) (under (within v place) c) grammar.Call (unless_printed v place.start) (tree.call a t es)) (sym m) (call_parts (under (within v place) c) a t es (unless_printed v place.start) p p1 q l m g i)
+        let i = h (is_require_call place.settings.minified t es) (is_definition_call place.settings.minified t es) place p2 g.semicolon (within_brackets Round p1 g.last g.writes.knows) in
+        let q : Pen = layout (argument_items t es place) p2 in
+        subst (λ optional. Good p l (layout (bracket_link optional ⊕ brackets Round (argument_items t es place)) p1) (under (within v place) c) grammar.Call (unless_printed v place.start) (tree.call a t es)) (sym m) (call_parts (under (within v place) c) a t es (unless_printed v place.start) p p1 q l m g i)

@@ -3,7 +3,7 @@ use Rattle.std.proofs.Common.{◌≡◌, Bool, false, refl, sym, subst, ◌∙�
 use Rattle.jsgen_tree.specs.Tree.{Tree, Trees, no_trees, more}
 use Rattle.jsgen_model.specs.Punctuator.{comma}
 use Rattle.jsgen_model.specs.Tokens.{Tokens, done, piece, ◌⧺◌, Sign}
-use Rattle.jsgen_model.specs.Items.{punctuator, soft_space}
+use Rattle.jsgen_model.specs.Items.{Items, nothing, ◌⊕◌, punctuator, soft_space}
 use Rattle.jsgen_model.specs.Layout.{Pen, layout}
 use Rattle.jsgen_model.specs.Normal.{normal, normal_trees}
 use Rattle.jsgen_model.specs.Spell.{Place, spell, spell_list, spell_more}
@@ -49,18 +49,28 @@ pub record Joins (R : Tokens → Tree → Type 0) (L : Tokens → Trees → Type
   pub one : (ts : Tokens) (t : Tree) → R ts t → L ts (more t no_trees)
   pub first : (mark : Bool) (a b : Tokens) (t : Tree) (us : Trees) → R a t → L b us → L (a ⧺ piece mark (Sign comma) b) (more t us)
 
--- printed at one place from any pen
+-- these items give it from any pen
+abbrev pub GivesElement : (Tokens → Tree → Type 0) → Items → Tree → Type 0
+GivesElement R items t = (p : Pen) (l : Last) → p.pending_semicolon ≡ false → Begun l → Knows p l → Element R p l (layout items p) t
+
+abbrev pub GivesElements : (Tokens → Trees → Type 0) → Items → Trees → Type 0
+GivesElements L items ts = (p : Pen) (l : Last) → p.pending_semicolon ≡ false → Begun l → Knows p l → Elements L p l (layout items p) ts
+
+abbrev pub GivesMore : (Tokens → Tree → Type 0) → (Tokens → Trees → Type 0) → Items → Trees → Type 0
+GivesMore R L items ts = (p : Pen) (l : Last) → p.pending_semicolon ≡ false → Operand l → Knows p l → MoreElements R L p l (layout items p) ts
+
+-- printed at one place
 abbrev pub ElementAt : (Tokens → Tree → Type 0) → Place → Tree → Type 0
-ElementAt R place t = (p : Pen) (l : Last) → p.pending_semicolon ≡ false → Begun l → Knows p l → Element R p l (layout (spell t place) p) t
+ElementAt R place t = GivesElement R (spell t place) t
 
 abbrev pub ElementsAt : (Tokens → Trees → Type 0) → Place → Trees → Type 0
-ElementsAt L place ts = (p : Pen) (l : Last) → p.pending_semicolon ≡ false → Begun l → Knows p l → Elements L p l (layout (spell_list ts place) p) ts
+ElementsAt L place ts = GivesElements L (spell_list ts place) ts
 
 abbrev pub MoreAt : (Tokens → Tree → Type 0) → (Tokens → Trees → Type 0) → Place → Trees → Type 0
-MoreAt R L place ts = (p : Pen) (l : Last) → p.pending_semicolon ≡ false → Operand l → Knows p l → MoreElements R L p l (layout (spell_more ts place) p) ts
+MoreAt R L place ts = GivesMore R L (spell_more ts place) ts
 
-pub no_more : (R : Tokens → Tree → Type 0) (L : Tokens → Trees → Type 0) → Joins R L → (place : Place) → MoreAt R L place no_trees
-no_more R L j place p l z o k = record {
+pub none_behind : (R : Tokens → Tree → Type 0) (L : Tokens → Trees → Type 0) → Joins R L → GivesMore R L nothing no_trees
+none_behind R L j p l z o k = record {
   last = l;
   tokens = done;
   writes = wrote_none p p l refl k;
@@ -86,20 +96,20 @@ more_parts R L j t ts p p1 p2 p3 q l o n g m = record {
   same = same_more g.tree t m.trees ts g.same m.same;
 }
 
-pub one_more : (R : Tokens → Tree → Type 0) (L : Tokens → Trees → Type 0) → Joins R L → (place : Place) (t : Tree) (ts : Trees) → ElementAt R place t → MoreAt R L place ts → MoreAt R L place (more t ts)
-one_more R L j place t ts f h p l z o k =
+pub one_behind : (R : Tokens → Tree → Type 0) (L : Tokens → Trees → Type 0) → Joins R L → (t : Tree) (ts : Trees) (items others : Items) → GivesElement R items t → GivesMore R L others ts → GivesMore R L (punctuator comma ⊕ (soft_space ⊕ (items ⊕ others))) (more t ts)
+one_behind R L j t ts items others f h p l z o k =
     let p1 : Pen = layout (punctuator comma) p in
     let p2 : Pen = layout soft_space p1 in
-    let p3 : Pen = layout (spell t place) p2 in
+    let p3 : Pen = layout items p2 in
     let w = wrote_punctuator comma p l tt tt o k in
     let n = soft_space_written p1 (After (Sign comma)) w.knows in
     let g = f p2 n.last (n.semicolon ∙ z) (n.begun tt) n.writes.knows in
     let m = h p3 g.last g.semicolon g.operand g.writes.knows in
-    more_parts R L j t ts p p1 p2 p3 (layout (spell_more ts place) p3) l w n g m
+    more_parts R L j t ts p p1 p2 p3 (layout others p3) l w n g m
 
-pub whole_list : (R : Tokens → Tree → Type 0) (L : Tokens → Trees → Type 0) (place : Place) (t : Tree) (ts : Trees) → ElementAt R place t → MoreAt R L place ts → ElementsAt L place (more t ts)
-whole_list R L place t ts f h p l z y k =
-    let p1 : Pen = layout (spell t place) p in
+pub first_and_others : (R : Tokens → Tree → Type 0) (L : Tokens → Trees → Type 0) (t : Tree) (ts : Trees) (items others : Items) → GivesElement R items t → GivesMore R L others ts → GivesElements L (items ⊕ others) (more t ts)
+first_and_others R L t ts items others f h p l z y k =
+    let p1 : Pen = layout items p in
     let g = f p l z y k in
     let m = h p1 g.last g.semicolon g.operand g.writes.knows in
     record {
@@ -112,3 +122,14 @@ whole_list R L place t ts f h p l z y k =
       reads = m.reads g.tokens g.tree g.reads;
       same = same_more g.tree t m.trees ts g.same m.same;
     }
+
+-- ---- at one place
+
+pub no_more : (R : Tokens → Tree → Type 0) (L : Tokens → Trees → Type 0) → Joins R L → (place : Place) → MoreAt R L place no_trees
+no_more R L j place = none_behind R L j
+
+pub one_more : (R : Tokens → Tree → Type 0) (L : Tokens → Trees → Type 0) → Joins R L → (place : Place) (t : Tree) (ts : Trees) → ElementAt R place t → MoreAt R L place ts → MoreAt R L place (more t ts)
+one_more R L j place t ts f h = one_behind R L j t ts (spell t place) (spell_more ts place) f h
+
+pub whole_list : (R : Tokens → Tree → Type 0) (L : Tokens → Trees → Type 0) (place : Place) (t : Tree) (ts : Trees) → ElementAt R place t → MoreAt R L place ts → ElementsAt L place (more t ts)
+whole_list R L place t ts f h = first_and_others R L t ts (spell t place) (spell_more ts place) f h

@@ -16,13 +16,14 @@ use Rattle.jsgen_model.specs.Layout.{Pen, Start, nowhere, statement, arrow_body,
 use Rattle.jsgen_model.specs.Grammar.{Allowed, ReadsExpression, ReadsChain, ReadsChainBase, with_in, is_word}
 use Rattle.jsgen_model.specs.Grammar as grammar
 use Rattle.jsgen_model.specs.Normal.{normal, normal_trees, nothing_of, named, link_values, call_values}
-use Rattle.jsgen_model.specs.Spell.{Place, spell, spell_list, within, linked, called, in_brackets, wraps, call_wraps, chain_wraps, chain_place, name_link, bracket_link}
+use Rattle.jsgen_model.specs.Quotes.{is_require_call, is_definition_call}
+use Rattle.jsgen_model.specs.Spell.{Place, spell, within, linked, called, in_brackets, wraps, call_wraps, chain_wraps, chain_place, name_link, bracket_link}
 use Rattle.jsgen_token_laws.proofs.Last.{Last, Open, After, line_of, Operand, Ready, Knows}
 use Rattle.jsgen_token_laws.proofs.Writes.{Writes, wrote_both}
 use Rattle.jsgen_token_laws.proofs.Steps.{wrote_name, wrote_dot, wrote_punctuator, unopened, within_brackets, brackets_written}
 use Rattle.jsgen_reading_laws.proofs.Levels.{left_hand_side, level_of, under, lifted, unwrapped}
 use Rattle.jsgen_reading_laws.proofs.Good.{GoodAs, Good, Printed, begins_then, line_then, soft_round, unless_not, good_wrapped}
-use Rattle.jsgen_reading_laws.proofs.Links.{ArgumentsAt}
+use Rattle.jsgen_reading_laws.proofs.Links.{ArgumentsAt, key_place, argument_items}
 
 -- printed where no parentheses stand round a call
 abbrev pub ChainPrinted : Allowed → Tree → Type 0
@@ -95,7 +96,7 @@ further_named_member c a b o m h f place n p l z y k =
 -- ---- members by values
 
 abbrev ComputedAt : Allowed → Atoms → Tree → Tree → Place → Pen → Last → Bool → Type 0
-ComputedAt c a o x place p l optional = GoodAs (ReadsChain (under place c)) p l (layout (bracket_link optional ⊕ brackets Square (spell x (in_brackets levels.Lowest place))) (layout (spell o (linked place)) p)) place.start (tree.computed_member a o x)
+ComputedAt c a o x place p l optional = GoodAs (ReadsChain (under place c)) p l (layout (bracket_link optional ⊕ brackets Square (spell x (key_place place))) (layout (spell o (linked place)) p)) place.start (tree.computed_member a o x)
 
 same_member : (a : Atoms) (optional : Bool) (u v x y : Tree) → computed_member_expression_optional a ≡ optional → normal u ≡ normal x → normal v ≡ normal y → normal (tree.computed_member (link_values optional) u v) ≡ normal (tree.computed_member a x y)
 same_member a optional u v x y m e f = λ i. tree.computed_member (link_values (sym m i)) (e i) (f i)
@@ -105,10 +106,10 @@ optional_computed_member c a o x m f h place n p l z y k =
     let p1 : Pen = layout (spell o (linked place)) p in
     let p2 : Pen = layout (punctuator question_dot) p1 in
     let p3 : Pen = written (opening Square) other_end p2 in
-    let q : Pen = layout (spell x (in_brackets levels.Lowest place)) p3 in
+    let q : Pen = layout (spell x (key_place place)) p3 in
     let g = f place (no_call place n) p l z y k in
     let d = wrote_punctuator question_dot p1 g.last tt tt g.operand g.writes.knows in
-    let i = h (in_brackets levels.Lowest place) p3 (Open false) g.semicolon tt (within_brackets Square p2 (After (Sign question_dot)) d.knows) in
+    let i = h (key_place place) p3 (Open false) g.semicolon tt (within_brackets Square p2 (After (Sign question_dot)) d.knows) in
     subst (λ optional. ComputedAt c a o x place p l optional) (sym m)
     (link_parts (under place c) o _ _ place.start p p1 (written (closing Square) other_end q) l _ (piece (line_of g.last) (Sign question_dot) (group false Square i.tokens done)) g (wrote_both d (brackets_written Square p2 q (After (Sign question_dot)) i.last i.tokens i.writes)) tt i.semicolon (λ ts. refl)
     (grammar.an_optional_computed_member (line_of g.last) false refl g.reads i.reads) (same_member a true g.tree i.tree o x m g.same i.same))
@@ -117,9 +118,9 @@ pub further_computed_member : (c : Allowed) (a : Atoms) (o x : Tree) → compute
 further_computed_member c a o x m f h place n p l z y k =
     let p1 : Pen = layout (spell o (linked place)) p in
     let p2 : Pen = written (opening Square) other_end p1 in
-    let q : Pen = layout (spell x (in_brackets levels.Lowest place)) p2 in
+    let q : Pen = layout (spell x (key_place place)) p2 in
     let g = f (linked place) (no_call place n) p l z y k in
-    let i = h (in_brackets levels.Lowest place) p2 (Open false) g.semicolon tt (within_brackets Square p1 g.last g.writes.knows) in
+    let i = h (key_place place) p2 (Open false) g.semicolon tt (within_brackets Square p1 g.last g.writes.knows) in
     subst (λ optional. ComputedAt c a o x place p l optional) (sym m)
     (link_parts (under place c) o _ _ place.start p p1 (written (closing Square) other_end q) l _ (group (line_of g.last) Square i.tokens done) g (brackets_written Square p1 q g.last i.last i.tokens i.writes) tt i.semicolon (λ ts. refl)
     (grammar.a_further_computed_member (line_of g.last) refl g.reads i.reads) (same_member a false g.tree i.tree o x m g.same i.same))
@@ -128,7 +129,7 @@ further_computed_member c a o x m f h place n p l z y k =
 
 -- what stands where a call needs no parentheses
 abbrev call_items : Atoms → Tree → Trees → Place → Bool → Bool → Items
-call_items a t es place optional w = spell t (called (within w place)) ⊕ (bracket_link optional ⊕ brackets Round (spell_list es (in_brackets levels.Comma place)))
+call_items a t es place optional w = spell t (called (within w place)) ⊕ (bracket_link optional ⊕ brackets Round (argument_items t es place))
 
 abbrev CallAt : Allowed → Atoms → Tree → Trees → Place → Pen → Last → Bool → Type 0
 CallAt c a t es place p l optional = GoodAs (ReadsChain (under place c)) p l (layout (call_items a t es place optional false) p) (unless_printed false place.start) (tree.call a t es)
@@ -155,10 +156,10 @@ optional_call c a t es m f h place n = without_wrapping c a t es place n inner
         let p1 : Pen = layout (spell t (called at)) p in
         let p2 : Pen = layout (punctuator question_dot) p1 in
         let p3 : Pen = written (opening Round) other_end p2 in
-        let q : Pen = layout (spell_list es (in_brackets levels.Comma place)) p3 in
+        let q : Pen = layout (argument_items t es place) p3 in
         let g = f (record at { context = record at.context { forbids_call = false } }) refl p l z y k in
         let d = wrote_punctuator question_dot p1 g.last tt tt g.operand g.writes.knows in
-        let i = h place p3 g.semicolon (within_brackets Round p2 (After (Sign question_dot)) d.knows) in
+        let i = h (is_require_call place.settings.minified t es) (is_definition_call place.settings.minified t es) place p3 g.semicolon (within_brackets Round p2 (After (Sign question_dot)) d.knows) in
         subst (λ optional. CallAt c a t es place p l optional) (sym m)
         (link_parts (under place c) t _ _ (unless_printed false place.start) p p1 (written (closing Round) other_end q) l _ (piece (line_of g.last) (Sign question_dot) (group false Round i.tokens done)) g (wrote_both d (brackets_written Round p2 q (After (Sign question_dot)) i.last i.tokens i.writes)) tt i.semicolon (λ ts. refl)
         (grammar.an_optional_call (line_of g.last) false refl g.reads i.reads) (same_call a true g.tree t i.trees es m g.same i.same))
@@ -171,9 +172,9 @@ further_call c a t es m f h place n = without_wrapping c a t es place n inner
         let at : Place = within false place in
         let p1 : Pen = layout (spell t (called at)) p in
         let p2 : Pen = written (opening Round) other_end p1 in
-        let q : Pen = layout (spell_list es (in_brackets levels.Comma place)) p2 in
+        let q : Pen = layout (argument_items t es place) p2 in
         let g = f (called at) refl p l z y k in
-        let i = h place p2 g.semicolon (within_brackets Round p1 g.last g.writes.knows) in
+        let i = h (is_require_call place.settings.minified t es) (is_definition_call place.settings.minified t es) place p2 g.semicolon (within_brackets Round p1 g.last g.writes.knows) in
         subst (λ optional. CallAt c a t es place p l optional) (sym m)
         (link_parts (under place c) t _ _ (unless_printed false place.start) p p1 (written (closing Round) other_end q) l _ (group (line_of g.last) Round i.tokens done) g (brackets_written Round p1 q g.last i.last i.tokens i.writes) tt i.semicolon (λ ts. refl)
         (grammar.a_further_call (line_of g.last) refl g.reads i.reads) (same_call a false g.tree t i.trees es m g.same i.same))
