@@ -9,7 +9,7 @@ use Rattle.jsgen_syntax.specs.declared.precedence.Precedence.{Precedence}
 use Rattle.jsgen_syntax.specs.declared.precedence.Precedence.TheVariants as levels
 use Rattle.jsgen_tree.specs.Inside.{without_parentheses}
 use Rattle.jsgen_tree.specs.Atom.{logical_operator}
-use Rattle.jsgen_tree.specs.Tree.{Tree, Trees, no_trees, more, hole, Atoms}
+use Rattle.jsgen_tree.specs.Tree.{Tree, Atoms}
 use Rattle.jsgen_tree.specs.Places.{bare}
 use Rattle.jsgen_tree.specs.Values.{logical_expression_operator}
 use Rattle.jsgen_tree.specs.Nodes as tree

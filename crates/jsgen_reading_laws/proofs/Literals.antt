@@ -1,5 +1,5 @@
 -- Numbers and big integers, with a minus before them or not.
-use Rattle.std.proofs.Common.{◌≡◌, ◌^◌, nat_lt, ℕ, ◌==◌, Bool, true, false, not, ◌&&◌, ◌||◌, decimal, codes, Option, Some, None, is_some, option_and_then, unwrap_or, if◌then◌else◌, List, [], ◌∷◌, ◌++◌, refl, sym, ap, subst, ◌∙◌, arith}
+use Rattle.std.proofs.Common.{◌≡◌, ◌^◌, nat_lt, ℕ, ◌==◌, Bool, true, false, not, ◌&&◌, ◌||◌, decimal, codes, Option, Some, None, is_some, option_and_then, unwrap_or, if◌then◌else◌, List, [], ◌∷◌, refl, sym, ap, subst, ◌∙◌, arith}
 use Rattle.std.specs.Char.{is_ascii_digit}
 use Rattle.std.specs.List.{last_or, list_any, list_all}
 use Rattle.std.specs.Option.{option_map_or}

@@ -35,7 +35,7 @@ use Rattle.jsgen_model.specs.Spell.{Place, spell, in_brackets, in_front, key_tex
 use Rattle.jsgen_model.specs.Valid.{named_faults, shorthand_faults}
 use Rattle.jsgen_token_laws.proofs.Last.{Last, Open, After, line_of, Operand, Begun, begun_ready, Knows}
 use Rattle.jsgen_token_laws.proofs.Writes.{Writes, wrote_both}
-use Rattle.jsgen_token_laws.proofs.Steps.{wrote_name, wrote_quoted, wrote_punctuator, wrote_dots, within_brackets, brackets_written, soft_space_written, wrote_whole}
+use Rattle.jsgen_token_laws.proofs.Steps.{wrote_name, wrote_quoted, wrote_punctuator, wrote_dots, within_brackets, brackets_written, soft_space_written}
 use Rattle.jsgen_reading_laws.proofs.Families.{IsExpression, IsKey, none_unless, has_value}
 use Rattle.jsgen_reading_laws.proofs.Families as family
 use Rattle.jsgen_reading_laws.proofs.Names.{free_spelled}
