@@ -131,3 +131,4 @@ asked (family.a_choice v w x) = no_string refl refl refl refl refl
 asked (family.a_sequence v w x) = no_string refl refl refl refl refl
 asked (family.an_assignment s v w) = no_string refl refl refl refl refl
 asked family.a_new_target = no_string refl refl refl refl refl
+asked (family.an_arrow_function h v w) = no_string refl refl refl refl refl

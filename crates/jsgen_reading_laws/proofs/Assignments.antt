@@ -1,5 +1,5 @@
 -- Assignments: a target, a sign and what the target is given.
-use Rattle.std.proofs.Common.{◌≡◌, Bool, true, false, Some, [], ◌∷◌, refl, sym, ap, ◌∙◌}
+use Rattle.std.proofs.Common.{◌≡◌, Bool, false, Some, [], ◌∷◌, refl, ◌∙◌}
 use Rattle.jsgen_syntax.specs.declared.operator.AssignmentOperator.{AssignmentOperator}
 use Rattle.jsgen_syntax.specs.declared.operator.AssignmentOperator.TheVariants as operators
 use Rattle.jsgen_syntax.specs.declared.precedence.Precedence.TheVariants as levels
@@ -8,16 +8,15 @@ use Rattle.jsgen_tree.specs.Tree.{Tree, Atoms}
 use Rattle.jsgen_tree.specs.Places.{bare}
 use Rattle.jsgen_tree.specs.Values.{assignment_expression_operator}
 use Rattle.jsgen_tree.specs.Nodes as tree
-use Rattle.jsgen_model.specs.Punctuator.{Punctuator}
 use Rattle.jsgen_model.specs.Tokens.{Tokens, done, piece, ◌⧺◌, Sign}
-use Rattle.jsgen_model.specs.Items.{Items, ◌⊕◌, soft_space, punctuator}
-use Rattle.jsgen_model.specs.Layout.{Pen, Start, nowhere, other_end, layout, unless_printed}
+use Rattle.jsgen_model.specs.Items.{Items, ◌⊕◌, soft_space}
+use Rattle.jsgen_model.specs.Layout.{Pen, Start, nowhere, layout, unless_printed}
 use Rattle.jsgen_model.specs.Grammar.{Allowed, Level, ReadsExpression, with_in, assignment_sign, simple_target}
 use Rattle.jsgen_model.specs.Grammar as grammar
 use Rattle.jsgen_model.specs.Normal.{normal}
 use Rattle.jsgen_model.specs.Quotes.{is_export_target}
 use Rattle.jsgen_model.specs.Spell.{Place, spell, enclosed, assigned, quoted_plainly, behind, wraps, assignment_item}
-use Rattle.jsgen_token_laws.proofs.Last.{Last, After, line_of, Ready, Remembers, Knows, NoDot}
+use Rattle.jsgen_token_laws.proofs.Last.{Last, After, line_of, Ready, Knows}
 use Rattle.jsgen_token_laws.proofs.Writes.{Writes, wrote_both}
 use Rattle.jsgen_token_laws.proofs.Steps.{Soft, soft_space_written}
 use Rattle.jsgen_reading_laws.proofs.Levels.{level_of, under, unwrapped}

@@ -19,11 +19,11 @@ use Rattle.jsgen_tree.specs.Atom.{units}
 use Rattle.jsgen_tree.specs.Tree.{Tree, Trees, no_trees, more, Atoms}
 use Rattle.jsgen_tree.specs.Places.{bare}
 use Rattle.jsgen_tree.specs.Nodes as tree
-use Rattle.jsgen_model.specs.Punctuator.{dot, question_dot, comma, star_star, and_and, or_or, nullish, question, semicolon, Round, Square, opening, closing}
+use Rattle.jsgen_model.specs.Punctuator.{dot, question_dot, comma, star_star, and_and, or_or, nullish, question, arrow, semicolon, Round, Square, opening, closing}
 use Rattle.jsgen_model.specs.Tokens.{Tokens, done, piece, group, ◌⧺◌, Quoted, Sign}
 use Rattle.jsgen_model.specs.Items.{Items, first_string, due_semicolon}
 use Rattle.jsgen_model.specs.Layout.{Pen, layout, written, other_end}
-use Rattle.jsgen_model.specs.Grammar.{Allowed, Level, EndsBy, ReadsExpression, ReadsChain, ReadsChainBase, ReadsStatement, ReadsItem, ReadsBody, operator_piece, unary_piece, update_sign, assignment_sign, starts_with_directive}
+use Rattle.jsgen_model.specs.Grammar.{Allowed, Level, EndsBy, ReadsExpression, ReadsArrowParameters, ReadsChain, ReadsChainBase, ReadsStatement, ReadsItem, ReadsBody, operator_piece, unary_piece, update_sign, assignment_sign, starts_with_directive}
 use Rattle.jsgen_model.specs.Grammar as grammar
 use Rattle.jsgen_model.specs.Normal.{normal, nothing_of}
 use Rattle.jsgen_model.specs.Spell.{Settings, spell, spell_body, string_in, unless_string, first_statement, among_statements, whole_statement}
@@ -84,6 +84,10 @@ update_goes update_operators.Decrement m b = tt
 assignment_goes : (o : AssignmentOperator) (m : Bool) (b : Tokens) → Goes (piece m (Sign (assignment_sign o)) b)
 assignment_goes assignment_operators.Assign m b = tt
 assignment_goes o m b = tt
+
+parameters_open : {c : Allowed} {ts : Tokens} {t : Tree} → ReadsArrowParameters c ts t → Opens ts t
+parameters_open (grammar.a_parameter_name e h) = tt
+parameters_open (grammar.grouped_parameters r) = tt
 
 -- what a chain begins with is what it goes on from
 mutual
@@ -148,6 +152,7 @@ mutual
   opens (grammar.an_optional_chain r) = chain_opens _ r
   opens (grammar.an_array r) = tt
   opens (grammar.an_object r) = tt
+  opens (grammar.an_arrow_function {a = a} {ps = ps} e r n s) = opens_behind _ a (piece false (Sign arrow) _) ps _ e (parameters_open r) tt
 
   chain_opens : {c : Allowed} {ts : Tokens} {t : Tree} (u : Tree) → ReadsChain c ts t → Opens ts u
   chain_opens u (grammar.an_optional_named_member {a = a} {o = o} w m n e v r) = opens_behind _ a (piece m (Sign question_dot) _) o _ e (base_opens r) tt

@@ -11,7 +11,7 @@ use Rattle.jsgen_syntax.proofs.Strings.{escaped_value}
 use Rattle.jsgen_model.specs.Punctuator.{dot}
 use Rattle.jsgen_model.specs.Items.{string, word, member_dot}
 use Rattle.jsgen_tree.specs.Atom.{units, flag}
-use Rattle.jsgen_tree.specs.Tree.{Tree, Trees, Atoms, type_of}
+use Rattle.jsgen_tree.specs.Tree.{Tree, Maybe, Trees, Atoms, type_of}
 use Rattle.jsgen_tree.specs.Sets.{is_simple_assignment_target}
 use Rattle.jsgen_tree.specs.Places.{bare}
 use Rattle.jsgen_tree.specs.Values.{identifier_reference_name, boolean_literal_value, string_literal_value}
@@ -24,13 +24,13 @@ use Rattle.jsgen_model.specs.Normal.{nothing_of, unnumbered}
 use Rattle.jsgen_model.specs.Spell.{truth_word}
 use Rattle.jsgen_token_laws.proofs.Characters.{letters_spelled}
 use Rattle.jsgen_token_laws.proofs.Last.{After, line_of}
-use Rattle.jsgen_token_laws.proofs.Steps.{wrote_word, wrote_name, wrote_quoted, wrote_dot, wrote_whole}
-use Rattle.jsgen_reading_laws.proofs.Levels.{from_primary, weaken_member, from_left, level_of, under}
-use Rattle.jsgen_reading_laws.proofs.Families.{IsExpression, IsLink, IsElement, AreArguments, AreElements, IsProperty, AreProperties, IsKey, AreParts, IsChain, IsChainBase}
+use Rattle.jsgen_token_laws.proofs.Steps.{wrote_word, wrote_name, wrote_quoted, wrote_dot}
+use Rattle.jsgen_reading_laws.proofs.Levels.{from_primary, weaken_member, from_left}
+use Rattle.jsgen_reading_laws.proofs.Families.{IsExpression, IsParameters, AreParameters, IsParameter, IsRest, IsValue, IsLink, IsElement, AreArguments, AreElements, IsProperty, AreProperties, IsKey, AreParts, IsChain, IsChainBase}
 use Rattle.jsgen_token_laws.proofs.Writes.{wrote_both}
 use Rattle.jsgen_reading_laws.proofs.Families as family
 use Rattle.jsgen_reading_laws.proofs.Asked.{asked}
-use Rattle.jsgen_reading_laws.proofs.Names.{free_spelled, free_starts_none}
+use Rattle.jsgen_reading_laws.proofs.Names.{free_spelled, name_begins}
 use Rattle.jsgen_reading_laws.proofs.Literals.{good_number, good_big_integer}
 use Rattle.jsgen_reading_laws.proofs.Good.{Printed, TargetPrinted, may_begin}
 use Rattle.jsgen_reading_laws.proofs.Operations.{good_operation}
@@ -44,15 +44,12 @@ use Rattle.jsgen_reading_laws.proofs.Updates.{good_update}
 use Rattle.jsgen_reading_laws.proofs.Properties.{KeyOf, PropertyOf, good_name_key, good_string_key, good_number_key, good_big_integer_key, good_computed_key, good_spread_property, good_property}
 use Rattle.jsgen_reading_laws.proofs.Choices.{good_choice}
 use Rattle.jsgen_reading_laws.proofs.Assignments.{good_assignment}
+use Rattle.jsgen_reading_laws.proofs.Bindings.{PrintedIfGiven, bound}
+use Rattle.jsgen_reading_laws.proofs.Parameters.{ParameterOf, RestOf, MoreParametersOf, ParametersOf, ArrowParametersOf, good_parameter, good_rest, no_more_parameters, one_more_parameter, no_parameters, some_parameters, name_alone, good_arrow_parameters}
+use Rattle.jsgen_reading_laws.proofs.Arrows.{good_arrow_function}
 use Rattle.jsgen_reading_laws.proofs.Sequences.{MorePartsAt, good_sequence, no_more_parts, one_more_part}
 
 -- ---- names and numbers
-
-name_begins : (start : Start) (line : Bool) (w v : List ℕ) (b : Tokens) → word_value w ≡ Some v → is_free_name v ≡ true → is_word (codes "function") b ≡ false → may_begin start (piece line (Word w) b) ≡ true
-name_begins nowhere line w v b e h n = refl
-name_begins statement line w v b e h n = ap not (free_starts_none w v b e h n)
-name_begins arrow_body line w v b e h n = refl
-name_begins default_export line w v b e h n = ap not (free_starts_none w v b e h n)
 
 pub reference_target : (c : Allowed) (a : Atoms) → is_free_name (identifier_reference_name a) ≡ true → TargetPrinted c (tree.identifier_reference a)
 reference_target c a h place p l z y k =
@@ -232,6 +229,29 @@ mutual
   printed_expression {c} (family.a_chain {a} {t} v) = good_chain c a t (printed_chain v)
   printed_expression {c} (family.an_array {a} {es} v) = good_array c a es (printed_elements v)
   printed_expression {c} (family.an_object {a} {ps} v) = good_object c a ps (printed_properties v)
+  printed_expression {c} (family.an_arrow_function {a} {ps} {e} h v w) = good_arrow_function c a ps e h (printed_parameters v) (printed_expression w)
+
+  printed_parameters : {c : Allowed} {t : Tree} → IsParameters c t → ArrowParametersOf c t
+  printed_parameters {c} (family.all_parameters {a} {ps} {rest} v w) = good_arrow_parameters c a ps rest (name_alone (family.all_parameters v w)) (parameters_of v rest (printed_rest w))
+
+  parameters_of : {c : Allowed} {ps : Trees} → AreParameters c ps → (rest : Maybe) → RestOf c rest → ParametersOf c ps rest
+  parameters_of {c} family.no_parameter rest f = no_parameters c rest f
+  parameters_of {c} (family.first_parameter {t} {ts} v w) rest f = some_parameters c t ts rest (printed_parameter v) (more_parameters w) f
+
+  more_parameters : {c : Allowed} {ps : Trees} → AreParameters c ps → MoreParametersOf c ps
+  more_parameters {c} family.no_parameter = no_more_parameters c
+  more_parameters {c} (family.first_parameter {t} {ts} v w) = one_more_parameter c t ts (printed_parameter v) (more_parameters w)
+
+  printed_parameter : {c : Allowed} {t : Tree} → IsParameter c t → ParameterOf c t
+  printed_parameter {c} (family.a_parameter {a} {b} {m} h i j v w) = good_parameter c a b m h i j (bound v) (printed_value w)
+
+  printed_rest : {c : Allowed} {rest : Maybe} → IsRest c rest → RestOf c rest
+  printed_rest {c} family.no_rest = tt
+  printed_rest {c} (family.a_rest {a} {b} v) = good_rest c a b (bound v)
+
+  pub printed_value : {c : Allowed} {m : Maybe} → IsValue c m → PrintedIfGiven c m
+  printed_value {c} family.no_value = tt
+  printed_value {c} (family.a_value v) = printed_expression v
 
   printed_parts : {c : Allowed} {ts : Trees} → AreParts c ts → MorePartsAt c ts
   printed_parts {c} family.no_part = no_more_parts c

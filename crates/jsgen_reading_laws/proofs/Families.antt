@@ -5,11 +5,11 @@ use Rattle.jsgen_tree.specs.Atom.{Atom, text}
 use Rattle.jsgen_tree.specs.Atom as atoms
 use Rattle.jsgen_tree.specs.Tree.{Tree, node, Maybe, absent, given, Trees, no_trees, more, hole, Atoms, type_of, span_of}
 use Rattle.jsgen_tree.specs.Nodes as tree
-use Rattle.jsgen_tree.specs.Values.{as_text, program_kind, directive_directive, binding_identifier_name, identifier_reference_name, identifier_name_name, numeric_literal_kind, numeric_literal_digits, numeric_literal_text, big_int_literal_value, string_literal_value, variable_declaration_declare, variable_declarator_definite, static_member_expression_optional, computed_member_expression_optional, call_expression_optional, object_property_method, object_property_shorthand, object_property_computed}
+use Rattle.jsgen_tree.specs.Values.{as_text, program_kind, directive_directive, binding_identifier_name, identifier_reference_name, identifier_name_name, numeric_literal_kind, numeric_literal_digits, numeric_literal_text, big_int_literal_value, string_literal_value, variable_declaration_declare, variable_declarator_definite, static_member_expression_optional, computed_member_expression_optional, call_expression_optional, object_property_method, object_property_shorthand, object_property_computed, formal_parameter_is_override, formal_parameter_readonly, formal_parameter_optional, arrow_function_expression_is_async}
 use Rattle.jsgen_tree.specs.Number.{NumericKind, Whole, Raw}
 use Rattle.jsgen_tree.specs.Inside.{is_negative_big_integer, has_optional_link}
 use Rattle.jsgen_tree.specs.Everywhere.{EverywhereIfGiven, EverywhereInTrees}
-use Rattle.jsgen_tree.specs.Sets.{in_set, is_expression, is_argument, is_statement, is_binding_pattern, is_variable_declarator, is_identifier_name, is_directive, is_simple_assignment_target, is_assignment_target, is_object_property_kind}
+use Rattle.jsgen_tree.specs.Sets.{in_set, is_expression, is_argument, is_statement, is_binding_pattern, is_variable_declarator, is_identifier_name, is_directive, is_simple_assignment_target, is_assignment_target, is_object_property_kind, is_formal_parameter, is_formal_parameter_rest, is_formal_parameters}
 use Rattle.jsgen_tree.specs.declared.types.NodeType.{NodeType}
 use Rattle.jsgen_tree.specs.declared.types.NodeType.TheVariants as types
 use Rattle.jsgen_tree.specs.declared.types.NodeSet.{NodeSet}
@@ -20,7 +20,7 @@ use Rattle.jsgen_syntax.specs.Wtf8.{are_units}
 use Rattle.jsgen_model.specs.declared.fault.TreeFault.{TreeFault}
 use Rattle.jsgen_model.specs.declared.fault.TreeFault.TheVariants as faults
 use Rattle.jsgen_model.specs.Numbers.{is_raw_number, is_big_integer}
-use Rattle.jsgen_model.specs.Grammar.{Allowed, in_module}
+use Rattle.jsgen_model.specs.Grammar.{Allowed, in_module, in_arrow_body}
 use Rattle.jsgen_model.specs.Plain.{IsPlain, is_plain_row, is_module, is_number, is_raw, is_absent, has_no_hole}
 use Rattle.jsgen_model.specs.Normal.{or_none, directive_units}
 use Rattle.jsgen_model.specs.Valid.{Surroundings, ChildPlace, takes_super, is_super, may_stand, breaches, in_maybe, in_trees, fault_if, set_faults, span_faults, own_faults, body_faults, name_faults, directive_faults, written_name_faults, number_faults, big_integer_faults, declaration_faults, is_literal_key, may_be_key, key_faults, shorthand_faults, sequence_faults, takes_optional_link, link_faults, super_faults, chain_faults, target_faults}
@@ -60,6 +60,7 @@ mutual
     an_assignment : {c : Allowed} {a : Atoms} {t u : Tree} → is_simple_assignment_target (type_of t) ≡ true → IsExpression c t → IsExpression c u → IsExpression c (tree.assignment a t u)
     an_array : {c : Allowed} {a : Atoms} {es : Trees} → AreElements c es → IsExpression c (tree.array a es)
     an_object : {c : Allowed} {a : Atoms} {ps : Trees} → AreProperties c ps → IsExpression c (tree.object_expression a ps)
+    an_arrow_function : {c : Allowed} {a : Atoms} {ps e : Tree} → arrow_function_expression_is_async a ≡ atoms.no_value → IsParameters c ps → IsExpression (in_arrow_body c) e → IsExpression c (tree.arrow_function a ps e)
 
   -- the parts of a sequence behind its first two
   pub data AreParts : Allowed → Trees → Type 0 where
@@ -111,6 +112,21 @@ mutual
   pub data IsElement : Allowed → Tree → Type 0 where
     an_element : {c : Allowed} {e : Tree} → IsExpression c e → IsElement c e
     a_spread : {c : Allowed} {a : Atoms} {e : Tree} → IsExpression c e → IsElement c (tree.spread a e)
+
+  -- the parameters of a function, of which one may take the rest
+  pub data IsParameters : Allowed → Tree → Type 0 where
+    all_parameters : {c : Allowed} {a : Atoms} {ps : Trees} {rest : Maybe} → AreParameters c ps → IsRest c rest → IsParameters c (tree.formal_parameters a ps rest)
+
+  pub data AreParameters : Allowed → Trees → Type 0 where
+    no_parameter : {c : Allowed} → AreParameters c no_trees
+    first_parameter : {c : Allowed} {t : Tree} {ts : Trees} → IsParameter c t → AreParameters c ts → AreParameters c (more t ts)
+
+  pub data IsParameter : Allowed → Tree → Type 0 where
+    a_parameter : {c : Allowed} {a : Atoms} {b : Tree} {m : Maybe} → formal_parameter_is_override a ≡ atoms.no_value → formal_parameter_readonly a ≡ atoms.no_value → formal_parameter_optional a ≡ atoms.no_value → IsBinding c b → IsValue c m → IsParameter c (tree.formal_parameter a b m)
+
+  pub data IsRest : Allowed → Maybe → Type 0 where
+    no_rest : {c : Allowed} → IsRest c absent
+    a_rest : {c : Allowed} {a : Atoms} {b : Tree} → IsBinding c b → IsRest c (given (tree.formal_parameter_rest a b))
 
   pub data IsBinding : Allowed → Tree → Type 0 where
     a_bound_name : {c : Allowed} {a : Atoms} → is_free_name (binding_identifier_name a) ≡ true → IsBinding c (tree.binding_identifier a)
@@ -302,6 +318,24 @@ link_kind : {A : Type 0} (b : Bool) (o : Tree) → (b || has_optional_link o) �
 link_kind true o i e f g = f refl e
 link_kind false o i e f g = g refl i
 
+binding_valid : (c : Allowed) (around : Surroundings) (t : Tree) → IsPlain t → is_binding_pattern (type_of t) ≡ true → breaches around t ≡ [] → IsBinding c t
+binding_valid c around (tree.binding_identifier a) p s e = a_bound_name (none_unless (is_free_name (binding_identifier_name a)) (faults.Name a.span.start) (parts (span_faults a.span) (name_faults a.span (binding_identifier_name a)) [] e).0)
+binding_valid c around t p s e = absurd (search no_truth)
+
+-- the parameter that takes the rest
+rest_parameter_valid : (c : Allowed) (around : Surroundings) (t : Tree) → IsPlain t → is_formal_parameter_rest (type_of t) ≡ true → breaches around t ≡ [] → IsRest c (given t)
+rest_parameter_valid c around (tree.formal_parameter_rest a b) p s e =
+    let k = placed around sets.BindingPattern b [] (parts (span_faults a.span) [] _ e).1 in
+    a_rest (binding_valid c around b p.1.0 k.0 k.1)
+rest_parameter_valid c around t p s e = absurd (search no_truth)
+
+rest_valid : (c : Allowed) (around : Surroundings) (m : Maybe) → EverywhereIfGiven is_plain_row m → in_maybe around (place_of sets.FormalParameterRest around ∷ []) m ≡ [] → IsRest c m
+rest_valid c around absent p e = no_rest
+rest_valid c around (given t) p e =
+    let h = none_both (set_faults sets.FormalParameterRest t) (breaches around t) e in
+    let s = stands_at sets.FormalParameterRest t h.0 in
+    rest_parameter_valid c around t p (and_parts (is_formal_parameter_rest (type_of t)) (false || not (is_super (type_of t))) s.0).0 h.1
+
 mutual
   pub expression_valid : (c : Allowed) (around : Surroundings) (t : Tree) → IsPlain t → StandsAt sets.Expression t → breaches around t ≡ [] → IsExpression c t
   expression_valid c around (tree.identifier_reference a) p s e = a_reference (none_unless (is_free_name (identifier_reference_name a)) (faults.Name a.span.start) (parts (span_faults a.span) (name_faults a.span (identifier_reference_name a)) [] e).0)
@@ -374,7 +408,40 @@ mutual
       let j = standing around sets.Expression u [] k.2 in
       let i = target_is_simple (type_of t) k.0 in
       an_assignment i (expression_valid c around t p.1.0 (target_stands (type_of t) i, none_if (has_optional_link t) (faults.Place (span_of t).start) h.0) k.1) (expression_valid c around u p.1.1.0 j.0 j.1)
+  expression_valid c around (tree.arrow_function a ps t) p s e =
+      let k = placed around sets.FormalParameters ps _ (parts (span_faults a.span) [] _ e).1 in
+      let j = standing around sets.ArrowFunctionBody t [] k.2 in
+      an_arrow_function (holds_nothing (arrow_function_expression_is_async a) p.0) (parameters_valid c around ps p.1.0 k.0 k.1) (expression_valid (in_arrow_body c) around t p.1.1.0 j.0 j.1)
   expression_valid c around t p s e = absurd (search no_truth)
+
+  parameters_valid : (c : Allowed) (around : Surroundings) (t : Tree) → IsPlain t → is_formal_parameters (type_of t) ≡ true → breaches around t ≡ [] → IsParameters c t
+  parameters_valid c around (tree.formal_parameters a ps rest) p s e =
+      let others : List ChildPlace = place_of sets.FormalParameterRest around ∷ [] in
+      let k = none_both (in_trees around (place_of sets.FormalParameter around ∷ others) ps) _ (parts (span_faults a.span) [] _ e).1 in
+      let j = none_both (in_maybe around others rest) [] k.1 in
+      all_parameters (each_parameter_valid c around others ps p.0 p.1.0 k.0) (rest_valid c around rest p.1.1.0 j.0)
+  parameters_valid c around t p s e = absurd (search no_truth)
+
+  -- behind their field stand others
+  each_parameter_valid : (c : Allowed) (around : Surroundings) (others : List ChildPlace) (ps : Trees) → has_no_hole ps ≡ true → EverywhereInTrees is_plain_row ps → in_trees around (place_of sets.FormalParameter around ∷ others) ps ≡ [] → AreParameters c ps
+  each_parameter_valid c around others no_trees n p e = no_parameter
+  each_parameter_valid c around others (more t ts) n p e = let k = placed around sets.FormalParameter t _ e in first_parameter (parameter_valid c around t p.0 k.0 k.1) (each_parameter_valid c around others ts n p.1 k.2)
+  each_parameter_valid c around others (hole ts) n p e = absurd (no_truth n)
+
+  parameter_valid : (c : Allowed) (around : Surroundings) (t : Tree) → IsPlain t → is_formal_parameter (type_of t) ≡ true → breaches around t ≡ [] → IsParameter c t
+  parameter_valid c around (tree.formal_parameter a b m) p s e =
+      let k = placed around sets.BindingPattern b _ (parts (span_faults a.span) [] _ e).1 in
+      let j = none_both (in_maybe around (place_of sets.Expression around ∷ []) m) [] k.2 in
+      let h = and_parts (is_absent (formal_parameter_is_override a) && is_absent (formal_parameter_readonly a)) (is_absent (formal_parameter_optional a)) p.0 in
+      let i = and_parts (is_absent (formal_parameter_is_override a)) (is_absent (formal_parameter_readonly a)) h.0 in
+      a_parameter (holds_nothing (formal_parameter_is_override a) i.0) (holds_nothing (formal_parameter_readonly a) i.1) (holds_nothing (formal_parameter_optional a) h.1) (binding_valid c around b p.1.0 k.0 k.1) (value_valid c around m p.1.1.0 j.0)
+  parameter_valid c around t p s e = absurd (search no_truth)
+
+  value_valid : (c : Allowed) (around : Surroundings) (m : Maybe) → EverywhereIfGiven is_plain_row m → in_maybe around (place_of sets.Expression around ∷ []) m ≡ [] → IsValue c m
+  value_valid c around absent p e = no_value
+  value_valid c around (given t) p e =
+      let h = none_both (set_faults sets.Expression t) (breaches around t) e in
+      a_value (expression_valid c around t p (stands_at sets.Expression t h.0) h.1)
 
   sequence_valid : (c : Allowed) (around : Surroundings) (a : Atoms) (ts : Trees) → has_no_hole ts ≡ true → EverywhereInTrees is_plain_row ts → sequence_faults a.span ts ≡ [] → in_trees around (place_of sets.Expression around ∷ []) ts ≡ [] → IsExpression c (tree.sequence a ts)
   sequence_valid c around a (more t (more u ts)) n p f e =
@@ -453,16 +520,6 @@ mutual
   elements_valid c around (hole ts) p e = an_elision (elements_valid c around ts p e)
 
 -- ---- the rows of declarations
-
-binding_valid : (c : Allowed) (around : Surroundings) (t : Tree) → IsPlain t → is_binding_pattern (type_of t) ≡ true → breaches around t ≡ [] → IsBinding c t
-binding_valid c around (tree.binding_identifier a) p s e = a_bound_name (none_unless (is_free_name (binding_identifier_name a)) (faults.Name a.span.start) (parts (span_faults a.span) (name_faults a.span (binding_identifier_name a)) [] e).0)
-binding_valid c around t p s e = absurd (search no_truth)
-
-value_valid : (c : Allowed) (around : Surroundings) (m : Maybe) → EverywhereIfGiven is_plain_row m → in_maybe around (place_of sets.Expression around ∷ []) m ≡ [] → IsValue c m
-value_valid c around absent p e = no_value
-value_valid c around (given t) p e =
-    let h = none_both (set_faults sets.Expression t) (breaches around t) e in
-    a_value (expression_valid c around t p (stands_at sets.Expression t h.0) h.1)
 
 declarator_valid : (c : Allowed) (around : Surroundings) (t : Tree) → IsPlain t → is_variable_declarator (type_of t) ≡ true → breaches around t ≡ [] → IsDeclarator c t
 declarator_valid c around (tree.variable_declarator a b m) p s e =

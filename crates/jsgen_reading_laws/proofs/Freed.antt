@@ -4,7 +4,7 @@ use Rattle.jsgen_syntax.specs.declared.operator.BinaryOperator.{BinaryOperator}
 use Rattle.jsgen_syntax.specs.declared.operator.BinaryOperator.TheVariants as operators
 use Rattle.jsgen_tree.specs.Tree.{Tree, Trees}
 use Rattle.jsgen_model.specs.Tokens.{Tokens}
-use Rattle.jsgen_model.specs.Grammar.{Allowed, Level, ReadsExpression, ReadsParts, ReadsChain, ReadsChainBase, with_in, may_stand}
+use Rattle.jsgen_model.specs.Grammar.{Allowed, Level, ReadsExpression, ReadsArrowParameters, ReadsParts, ReadsChain, ReadsChainBase, with_in, may_stand}
 use Rattle.jsgen_model.specs.Grammar as grammar
 
 all_stand : (c : Allowed) (o : BinaryOperator) → may_stand (with_in c) o ≡ true
@@ -73,6 +73,11 @@ mutual
   freed (grammar.an_optional_chain x) = grammar.an_optional_chain (freed_chain x)
   freed (grammar.an_array x) = grammar.an_array x
   freed (grammar.an_object x) = grammar.an_object x
+  freed (grammar.an_arrow_function x y z u) = grammar.an_arrow_function x (freed_parameters y) z (freed u)
+
+  freed_parameters : {c : Allowed} {ts : Tokens} {t : Tree} → ReadsArrowParameters c ts t → ReadsArrowParameters (with_in c) ts t
+  freed_parameters (grammar.a_parameter_name x y) = grammar.a_parameter_name x y
+  freed_parameters (grammar.grouped_parameters x) = grammar.grouped_parameters x
 
   freed_parts : {c : Allowed} {ts : Tokens} {us : Trees} → ReadsParts c ts us → ReadsParts (with_in c) ts us
   freed_parts (grammar.last_part r) = grammar.last_part (freed r)

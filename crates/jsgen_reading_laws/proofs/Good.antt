@@ -101,7 +101,7 @@ soft_round a g b = record {
 
 -- ---- parentheses
 
-parentheses_begin : (start : Start) (line : Bool) (ts b : Tokens) → may_begin start (group line Round ts b) ≡ true
+pub parentheses_begin : (start : Start) (line : Bool) (ts b : Tokens) → may_begin start (group line Round ts b) ≡ true
 parentheses_begin nowhere line ts b = refl
 parentheses_begin statement line ts b = refl
 parentheses_begin arrow_body line ts b = refl

@@ -1,9 +1,9 @@
 pub mod Levels
 pub mod Families
 pub mod Numbers
-pub mod Names
 pub mod Freed
 pub mod Good
+pub mod Names
 pub mod Lists
 pub mod Elements
 pub mod Asked
@@ -21,6 +21,9 @@ pub mod Updates
 pub mod Choices
 pub mod Sequences
 pub mod Assignments
+pub mod Bindings
+pub mod Parameters
+pub mod Arrows
 pub mod Expressions
 pub mod Ends
 pub mod Stands

@@ -1,5 +1,5 @@
 -- Members and calls.
-use Rattle.std.proofs.Common.{◌≡◌, ℕ, Bool, true, false, not, codes, Some, List, [], ◌∷◌, refl, sym, ap, subst, arith}
+use Rattle.std.proofs.Common.{◌≡◌, ℕ, Bool, true, false, not, codes, Some, List, refl, sym, ap, subst, arith}
 use Rattle.std.proofs.lemmas.Bool.{or_parts}
 use Rattle.jsgen_syntax.specs.Escapes.{name_text, word_value}
 use Rattle.jsgen_syntax.specs.Name.{spells_name}
@@ -172,7 +172,7 @@ good_computed_member c a o x m f h place p l z y k = (computed_target c a o x m 
 
 -- ---- elements: expressions, and those whose values are spread
 
--- in brackets
+-- in brackets; the test holds where it is a string that is never in backticks
 abbrev pub element_place : Bool → Place → Place
 element_place plain place = quoted_plainly plain (in_brackets levels.Comma place)
 
@@ -223,10 +223,10 @@ first_of_arguments c e es f m first second place p z k =
     record { last = g.last; tokens = g.tokens; writes = g.writes; operand = g.operand; semicolon = g.semicolon; trees = g.trees; reads = grammar.some_arguments g.reads; same = g.same }
 
 pub none_behind_first : (c : Allowed) → BehindFirstAt c no_trees
-none_behind_first c second place = none_behind (ReadsElement (with_in c)) (ReadsArgumentList (with_in c)) (arguments_join (with_in c))
+none_behind_first c second place = none_behind (ReadsElement (with_in c)) (ReadsArgumentList (with_in c)) (arguments_join (with_in c)).one
 
 pub second_argument : (c : Allowed) (e : Tree) (es : Trees) → ElementOf c e → MoreArgumentsAt c es → BehindFirstAt c (more e es)
-second_argument c e es f m second place = one_behind (ReadsElement (with_in c)) (ReadsArgumentList (with_in c)) (arguments_join (with_in c)) e es (spell e (element_place second place)) (spell_more es (in_brackets levels.Comma place)) (f second place) (m place)
+second_argument c e es f m second place = one_behind (ReadsElement (with_in c)) (ReadsArgumentList (with_in c)) (arguments_join (with_in c)).first e es (spell e (element_place second place)) (spell_more es (in_brackets levels.Comma place)) (f second place) (m place)
 
 pub no_more_arguments : (c : Allowed) → MoreArgumentsAt c no_trees
 no_more_arguments c place = no_more (ReadsElement (with_in c)) (ReadsArgumentList (with_in c)) (arguments_join (with_in c)) (in_brackets levels.Comma place)

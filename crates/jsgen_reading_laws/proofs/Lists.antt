@@ -45,9 +45,15 @@ pub record MoreElements (R : Tokens → Tree → Type 0) (L : Tokens → Trees �
   pub same : normal_trees trees ≡ normal_trees ts
 
 -- a list is one member, or a member, a comma and a list
+abbrev pub JoinsOne : (Tokens → Tree → Type 0) → (Tokens → Trees → Type 0) → Type 0
+JoinsOne R L = (ts : Tokens) (t : Tree) → R ts t → L ts (more t no_trees)
+
+abbrev pub JoinsFirst : (Tokens → Tree → Type 0) → (Tokens → Trees → Type 0) → Type 0
+JoinsFirst R L = (mark : Bool) (a b : Tokens) (t : Tree) (us : Trees) → R a t → L b us → L (a ⧺ piece mark (Sign comma) b) (more t us)
+
 pub record Joins (R : Tokens → Tree → Type 0) (L : Tokens → Trees → Type 0) : Type 0 where
-  pub one : (ts : Tokens) (t : Tree) → R ts t → L ts (more t no_trees)
-  pub first : (mark : Bool) (a b : Tokens) (t : Tree) (us : Trees) → R a t → L b us → L (a ⧺ piece mark (Sign comma) b) (more t us)
+  pub one : JoinsOne R L
+  pub first : JoinsFirst R L
 
 -- these items give it from any pen
 abbrev pub GivesElement : (Tokens → Tree → Type 0) → Items → Tree → Type 0
@@ -69,35 +75,35 @@ ElementsAt L place ts = GivesElements L (spell_list ts place) ts
 abbrev pub MoreAt : (Tokens → Tree → Type 0) → (Tokens → Trees → Type 0) → Place → Trees → Type 0
 MoreAt R L place ts = GivesMore R L (spell_more ts place) ts
 
-pub none_behind : (R : Tokens → Tree → Type 0) (L : Tokens → Trees → Type 0) → Joins R L → GivesMore R L nothing no_trees
-none_behind R L j p l z o k = record {
+pub none_behind : (R : Tokens → Tree → Type 0) (L : Tokens → Trees → Type 0) → JoinsOne R L → GivesMore R L nothing no_trees
+none_behind R L one p l z o k = record {
   last = l;
   tokens = done;
   writes = wrote_none p p l refl k;
   operand = o;
   semicolon = z;
   trees = no_trees;
-  reads = λ a t r. subst (λ ts. L ts (more t no_trees)) (sym (then_done a)) (j.one a t r);
+  reads = λ a t r. subst (λ ts. L ts (more t no_trees)) (sym (then_done a)) (one a t r);
   same = refl;
 }
 
 pub same_more : (t u : Tree) (ts us : Trees) → normal t ≡ normal u → normal_trees ts ≡ normal_trees us → more (normal t) (normal_trees ts) ≡ more (normal u) (normal_trees us)
 same_more t u ts us e f = λ i. more (e i) (f i)
 
-more_parts : (R : Tokens → Tree → Type 0) (L : Tokens → Trees → Type 0) → Joins R L → (t : Tree) (ts : Trees) (p p1 p2 p3 q : Pen) (l : Last) → Writes p l p1 (After (Sign comma)) (piece (line_of l) (Sign comma) done) → (n : Soft p1 (After (Sign comma)) p2) (g : Element R p2 n.last p3 t) → MoreElements R L p3 g.last q ts → MoreElements R L p l q (more t ts)
-more_parts R L j t ts p p1 p2 p3 q l o n g m = record {
+more_parts : (R : Tokens → Tree → Type 0) (L : Tokens → Trees → Type 0) → JoinsFirst R L → (t : Tree) (ts : Trees) (p p1 p2 p3 q : Pen) (l : Last) → Writes p l p1 (After (Sign comma)) (piece (line_of l) (Sign comma) done) → (n : Soft p1 (After (Sign comma)) p2) (g : Element R p2 n.last p3 t) → MoreElements R L p3 g.last q ts → MoreElements R L p l q (more t ts)
+more_parts R L first t ts p p1 p2 p3 q l o n g m = record {
   last = m.last;
   tokens = piece (line_of l) (Sign comma) (g.tokens ⧺ m.tokens);
   writes = wrote_both o (wrote_both n.writes (wrote_both g.writes m.writes));
   operand = m.operand;
   semicolon = m.semicolon;
   trees = more g.tree m.trees;
-  reads = λ a u r. j.first (line_of l) a (g.tokens ⧺ m.tokens) u (more g.tree m.trees) r (m.reads g.tokens g.tree g.reads);
+  reads = λ a u r. first (line_of l) a (g.tokens ⧺ m.tokens) u (more g.tree m.trees) r (m.reads g.tokens g.tree g.reads);
   same = same_more g.tree t m.trees ts g.same m.same;
 }
 
-pub one_behind : (R : Tokens → Tree → Type 0) (L : Tokens → Trees → Type 0) → Joins R L → (t : Tree) (ts : Trees) (items others : Items) → GivesElement R items t → GivesMore R L others ts → GivesMore R L (punctuator comma ⊕ (soft_space ⊕ (items ⊕ others))) (more t ts)
-one_behind R L j t ts items others f h p l z o k =
+pub one_behind : (R : Tokens → Tree → Type 0) (L : Tokens → Trees → Type 0) → JoinsFirst R L → (t : Tree) (ts : Trees) (items others : Items) → GivesElement R items t → GivesMore R L others ts → GivesMore R L (punctuator comma ⊕ (soft_space ⊕ (items ⊕ others))) (more t ts)
+one_behind R L first t ts items others f h p l z o k =
     let p1 : Pen = layout (punctuator comma) p in
     let p2 : Pen = layout soft_space p1 in
     let p3 : Pen = layout items p2 in
@@ -105,7 +111,7 @@ one_behind R L j t ts items others f h p l z o k =
     let n = soft_space_written p1 (After (Sign comma)) w.knows in
     let g = f p2 n.last (n.semicolon ∙ z) (n.begun tt) n.writes.knows in
     let m = h p3 g.last g.semicolon g.operand g.writes.knows in
-    more_parts R L j t ts p p1 p2 p3 (layout others p3) l w n g m
+    more_parts R L first t ts p p1 p2 p3 (layout others p3) l w n g m
 
 pub first_and_others : (R : Tokens → Tree → Type 0) (L : Tokens → Trees → Type 0) (t : Tree) (ts : Trees) (items others : Items) → GivesElement R items t → GivesMore R L others ts → GivesElements L (items ⊕ others) (more t ts)
 first_and_others R L t ts items others f h p l z y k =
@@ -126,10 +132,10 @@ first_and_others R L t ts items others f h p l z y k =
 -- ---- at one place
 
 pub no_more : (R : Tokens → Tree → Type 0) (L : Tokens → Trees → Type 0) → Joins R L → (place : Place) → MoreAt R L place no_trees
-no_more R L j place = none_behind R L j
+no_more R L j place = none_behind R L j.one
 
 pub one_more : (R : Tokens → Tree → Type 0) (L : Tokens → Trees → Type 0) → Joins R L → (place : Place) (t : Tree) (ts : Trees) → ElementAt R place t → MoreAt R L place ts → MoreAt R L place (more t ts)
-one_more R L j place t ts f h = one_behind R L j t ts (spell t place) (spell_more ts place) f h
+one_more R L j place t ts f h = one_behind R L j.first t ts (spell t place) (spell_more ts place) f h
 
 pub whole_list : (R : Tokens → Tree → Type 0) (L : Tokens → Trees → Type 0) (place : Place) (t : Tree) (ts : Trees) → ElementAt R place t → MoreAt R L place ts → ElementsAt L place (more t ts)
 whole_list R L place t ts f h = first_and_others R L t ts (spell t place) (spell_more ts place) f h

@@ -1,13 +1,15 @@
 -- What a name that a module may use isn't.
-use Rattle.std.proofs.Common.{◌≡◌, ℕ, true, false, not, ◌&&◌, codes, Some, List, refl, sym, ap, ◌∙◌, subst, encode_utf8_all, bytes_eq}
+use Rattle.std.proofs.Common.{◌≡◌, ℕ, Bool, true, false, not, ◌&&◌, codes, Some, List, refl, sym, ap, ◌∙◌, subst, encode_utf8_all, bytes_eq}
 use Rattle.std.proofs.Math.Utf8.{encode}
 use Rattle.std.proofs.lemmas.Bool.{both_ways, false_from_ne_true, or_from, and_parts, and_right, and_left, not-true}
 use Rattle.std.proofs.lemmas.Slice.Eq.{bytes_eq-Decides}
 use Rattle.std.proofs.lemmas.Option.{same_Some}
 use Rattle.jsgen_syntax.specs.Escapes.{word_value}
 use Rattle.jsgen_syntax.specs.Name.{spells_name, is_reserved, is_strict_reserved, is_free_name}
-use Rattle.jsgen_model.specs.Tokens.{Tokens}
+use Rattle.jsgen_model.specs.Tokens.{Tokens, piece, Word}
+use Rattle.jsgen_model.specs.Layout.{Start, nowhere, statement, arrow_body, default_export}
 use Rattle.jsgen_model.specs.Grammar.{is_word, on_same_line, starts_in_square, starts_declaration}
+use Rattle.jsgen_reading_laws.proofs.Good.{may_begin}
 
 -- a free name is a name in neither list
 record Free (w : List ℕ) : Type 0 where
@@ -43,3 +45,10 @@ free_starts_none w v ts e h n =
     or_from _ _ (or_from _ _ (or_from _ _ (no_keyword w v (codes "function") e refl (no_reserved v (codes "function") k.unreserved refl)) (no_keyword w v (codes "class") e refl (no_reserved v (codes "class") k.unreserved refl)))
     (and_left _ (on_same_line ts) (and_right (bytes_eq w (codes "async")) (is_word (codes "function") ts) n)))
     (and_left (bytes_eq w (codes "let")) (starts_in_square ts) (no_keyword w v (codes "let") e refl (no_strict v (codes "let") k.unreserved_in_strict refl)))
+
+-- it begins a statement and what else may begin so, where no `function` follows
+pub name_begins : (start : Start) (line : Bool) (w v : List ℕ) (b : Tokens) → word_value w ≡ Some v → is_free_name v ≡ true → is_word (codes "function") b ≡ false → may_begin start (piece line (Word w) b) ≡ true
+name_begins nowhere line w v b e h n = refl
+name_begins statement line w v b e h n = ap not (free_starts_none w v b e h n)
+name_begins arrow_body line w v b e h n = refl
+name_begins default_export line w v b e h n = ap not (free_starts_none w v b e h n)

@@ -5,7 +5,7 @@ use Rattle.jsgen_syntax.specs.declared.operator.LogicalOperator.{LogicalOperator
 use Rattle.jsgen_tree.specs.Atom.{no_value, declaration_kind, binary_operator, logical_operator, unary_operator, update_operator, assignment_operator, flag, property_kind}
 use Rattle.jsgen_tree.specs.Tree.{Tree, node, Slots, no_slots, one, maybe, many, maybe_many, Maybe, absent, given, Trees, no_trees, more, hole, MaybeTrees, no_list, listed}
 use Rattle.jsgen_tree.specs.Places.{bare}
-use Rattle.jsgen_tree.specs.Values.{variable_declaration_kind, variable_declaration_declare, variable_declarator_definite, static_member_expression_optional, computed_member_expression_optional, call_expression_optional, binary_expression_operator, logical_expression_operator, unary_expression_operator, update_expression_operator, update_expression_prefix, identifier_name_name, numeric_literal_kind, numeric_literal_negative, big_int_literal_value, object_property_kind, object_property_method, object_property_shorthand, object_property_computed, assignment_expression_operator}
+use Rattle.jsgen_tree.specs.Values.{variable_declaration_kind, variable_declaration_declare, variable_declarator_definite, static_member_expression_optional, computed_member_expression_optional, call_expression_optional, binary_expression_operator, logical_expression_operator, unary_expression_operator, update_expression_operator, update_expression_prefix, identifier_name_name, numeric_literal_kind, numeric_literal_negative, big_int_literal_value, object_property_kind, object_property_method, object_property_shorthand, object_property_computed, assignment_expression_operator, formal_parameter_is_override, formal_parameter_readonly, formal_parameter_optional, arrow_function_expression_is_async}
 use Rattle.jsgen_tree.specs.Inside.{ends_open, written_name_in, is_proto, after_minus, unless_minus, behind_minus, is_negative_number}
 use Rattle.jsgen_tree.specs.Nodes as tree
 use Rattle.std.proofs.lemmas.Bool.{both_ways}
@@ -172,6 +172,10 @@ mutual
   normal_again (tree.conditional a test consequent alternate) = let e = normal_again test in let f = normal_again consequent in let g = normal_again alternate in λ i. tree.conditional (nothing_of 0) (e i) (f i) (g i)
   normal_again (tree.sequence a expressions) = ap (λ ts. tree.sequence (nothing_of 0) ts) (flattened_again expressions)
   normal_again (tree.assignment a left right) = let e = normal_again left in let f = normal_again right in λ i. tree.assignment (bare (assignment_operator (assignment_expression_operator a) ∷ [])) (e i) (f i)
+  normal_again (tree.formal_parameter a pattern initializer) = let e = normal_again pattern in let f = normal_maybe_again initializer in λ i. tree.formal_parameter (bare (formal_parameter_is_override a ∷ formal_parameter_readonly a ∷ formal_parameter_optional a ∷ [])) (e i) (f i)
+  normal_again (tree.formal_parameter_rest a argument) = ap (λ e. tree.formal_parameter_rest (nothing_of 0) e) (normal_again argument)
+  normal_again (tree.formal_parameters a items rest) = let e = normal_trees_again items in let f = normal_maybe_again rest in λ i. tree.formal_parameters (nothing_of 0) (e i) (f i)
+  normal_again (tree.arrow_function a params body) = let e = normal_again params in let f = normal_again body in λ i. tree.arrow_function (bare (arrow_function_expression_is_async a ∷ no_value ∷ no_value ∷ [])) (e i) (f i)
   normal_again (node type a slots) = ap (λ s. node type (bare a.values) s) (normal_slots_again slots)
 
   flattened_again : (ts : Trees) → flattened (normal_trees (flattened (normal_trees ts))) ≡ flattened (normal_trees ts)

@@ -1,0 +1,110 @@
+-- Bindings, alone and with a value.
+use Rattle.std.proofs.Common.{◌≡◌, ℕ, Bool, List, true, false, refl, ap, ◌∙◌}
+use Rattle.jsgen_syntax.specs.declared.precedence.Precedence.TheVariants as levels
+use Rattle.jsgen_syntax.specs.Escapes.{name_text}
+use Rattle.jsgen_syntax.specs.Name.{is_free_name}
+use Rattle.jsgen_syntax.proofs.Escapes.{word_text_value}
+use Rattle.jsgen_tree.specs.Tree.{Tree, Maybe, absent, given, Atoms}
+use Rattle.jsgen_tree.specs.Values.{binding_identifier_name}
+use Rattle.jsgen_tree.specs.Nodes as tree
+use Rattle.jsgen_model.specs.Punctuator.{equal}
+use Rattle.jsgen_model.specs.Tokens.{Tokens, done, piece, ◌⧺◌, Word, Sign}
+use Rattle.jsgen_model.specs.Items.{◌⊕◌, punctuator, soft_space}
+use Rattle.jsgen_model.specs.Layout.{Pen, Start, layout}
+use Rattle.jsgen_model.specs.Grammar.{Allowed, ReadsBinding, ReadsExpression}
+use Rattle.jsgen_model.specs.Grammar as grammar
+use Rattle.jsgen_model.specs.Normal.{normal, normal_maybe, unnumbered}
+use Rattle.jsgen_model.specs.Spell.{Place, spell, spell_value, in_front, behind}
+use Rattle.jsgen_token_laws.proofs.Last.{Last, After, line_of, Operand, Ready, begun_ready, Knows}
+use Rattle.jsgen_token_laws.proofs.Writes.{Writes, wrote_both}
+use Rattle.jsgen_token_laws.proofs.Steps.{Soft, wrote_name, wrote_punctuator, soft_space_written}
+use Rattle.jsgen_reading_laws.proofs.Levels.{under}
+use Rattle.jsgen_reading_laws.proofs.Families.{IsBinding}
+use Rattle.jsgen_reading_laws.proofs.Families as family
+use Rattle.jsgen_reading_laws.proofs.Names.{free_spelled}
+use Rattle.jsgen_reading_laws.proofs.Good.{Good, Printed}
+use Rattle.jsgen_reading_laws.proofs.Lists.{Element, GivesElement}
+
+-- between two pens stands a binding
+pub record GoodBinding (p : Pen) (l : Last) (q : Pen) (c : Allowed) (t : Tree) : Type 0 where
+  pub last : Last
+  pub tokens : Tokens
+  pub writes : Writes p l q last tokens
+  pub operand : Operand last
+  pub semicolon : q.pending_semicolon ≡ false
+  pub tree : Tree
+  pub reads : ReadsBinding c tokens tree
+  pub same : normal tree ≡ normal t
+
+abbrev pub Bound : Allowed → Tree → Type 0
+Bound c t = (place : Place) (p : Pen) (l : Last) → p.pending_semicolon ≡ false → Ready l → Knows p l → GoodBinding p l (layout (spell t place) p) (under place c) t
+
+good_bound_name : (c : Allowed) (a : Atoms) → is_free_name (binding_identifier_name a) ≡ true → Bound c (tree.binding_identifier a)
+good_bound_name c a h place p l z y k =
+    let v : List ℕ = binding_identifier_name a in
+    record {
+      last = _;
+      tokens = piece (line_of l) (Word (name_text p.style.ascii v)) done;
+      writes = wrote_name v p l (free_spelled v h) k;
+      operand = tt;
+      semicolon = z;
+      tree = tree.binding_identifier (unnumbered v);
+      reads = grammar.a_bound_name (word_text_value p.style.ascii v (free_spelled v h)) h;
+      same = refl;
+    }
+
+pub bound : {c : Allowed} {t : Tree} → IsBinding c t → Bound c t
+bound {c} (family.a_bound_name {a} h) = good_bound_name c a h
+
+-- ---- with a value, or without one
+
+-- the value is printed, where there is one
+abbrev pub PrintedIfGiven : Allowed → Maybe → Type 0
+PrintedIfGiven c absent = Unit {0}
+PrintedIfGiven c (given t) = Printed c t
+
+-- what is made of a binding and its value is read so, as a tree of the same normal form
+pub record Holds (c : Allowed) (R : Tokens → Tree → Type 0) (made : Tree → Maybe → Tree) : Type 0 where
+  pub reading : Tree → Maybe → Tree
+  pub alone : (ts : Tokens) (b : Tree) → ReadsBinding c ts b → R ts (reading b absent)
+  pub with_value : (mark : Bool) (a v : Tokens) (b e : Tree) → ReadsBinding c a b → ReadsExpression c grammar.Assignment v e → R (a ⧺ piece mark (Sign equal) v) (reading b (given e))
+  pub same : (b u : Tree) (m n : Maybe) → normal b ≡ normal u → normal_maybe m ≡ normal_maybe n → normal (reading b m) ≡ normal (made u n)
+
+alone_parts : {p q : Pen} {l : Last} {c : Allowed} (R : Tokens → Tree → Type 0) (made : Tree → Maybe → Tree) (b : Tree) → Holds c R made → GoodBinding p l q c b → Element R p l q (made b absent)
+alone_parts R made b h g = record {
+  last = g.last;
+  tokens = g.tokens;
+  writes = g.writes;
+  operand = g.operand;
+  semicolon = g.semicolon;
+  tree = h.reading g.tree absent;
+  reads = h.alone g.tokens g.tree g.reads;
+  same = h.same g.tree b absent absent g.same refl;
+}
+
+-- from the binding, a blank, the sign, a blank and the value
+value_parts : (c : Allowed) (R : Tokens → Tree → Type 0) (made : Tree → Maybe → Tree) (b v : Tree) (start : Start) (p p1 p2 p3 p4 q : Pen) (l : Last) → Holds c R made → (g : GoodBinding p l p1 c b) (x : Soft p1 g.last p2) → Writes p2 x.last p3 (After (Sign equal)) (piece (line_of x.last) (Sign equal) done) → (n : Soft p3 (After (Sign equal)) p4) → Good p4 n.last q c grammar.Assignment start v → Element R p l q (made b (given v))
+value_parts c R made b v start p p1 p2 p3 p4 q l h g x o n e = record {
+  last = e.last;
+  tokens = g.tokens ⧺ piece (line_of x.last) (Sign equal) e.tokens;
+  writes = wrote_both g.writes (wrote_both x.writes (wrote_both o (wrote_both n.writes e.writes)));
+  operand = e.operand;
+  semicolon = e.semicolon;
+  tree = h.reading g.tree (given e.tree);
+  reads = h.with_value (line_of x.last) g.tokens e.tokens g.tree e.tree g.reads e.reads;
+  same = h.same g.tree b (given e.tree) (given v) g.same (ap (λ t. given t) e.same);
+}
+
+pub good_held : (c : Allowed) (R : Tokens → Tree → Type 0) (made : Tree → Maybe → Tree) (b : Tree) (m : Maybe) (place : Place) → Holds (under place c) R made → Bound c b → PrintedIfGiven c m → GivesElement R (spell b (in_front levels.Lowest place) ⊕ spell_value m (behind levels.Comma place)) (made b m)
+good_held c R made b absent place h f v p l z y k = alone_parts R made b h (f (in_front levels.Lowest place) p l z (begun_ready l y) k)
+good_held c R made b (given t) place h f v p l z y k =
+    let p1 : Pen = layout (spell b (in_front levels.Lowest place)) p in
+    let p2 : Pen = layout soft_space p1 in
+    let p3 : Pen = layout (punctuator equal) p2 in
+    let p4 : Pen = layout soft_space p3 in
+    let g = f (in_front levels.Lowest place) p l z (begun_ready l y) k in
+    let x = soft_space_written p1 g.last g.writes.knows in
+    let o = wrote_punctuator equal p2 x.last tt tt (x.operand g.operand) x.writes.knows in
+    let n = soft_space_written p3 (After (Sign equal)) o.knows in
+    let e = v (behind levels.Comma place) p4 n.last (n.semicolon ∙ (x.semicolon ∙ g.semicolon)) (n.ready tt) n.writes.knows in
+    value_parts (under place c) R made b t (behind levels.Comma place).start p p1 p2 p3 p4 (layout (spell t (behind levels.Comma place)) p4) l h g x o n e
