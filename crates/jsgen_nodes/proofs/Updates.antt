@@ -20,5 +20,5 @@ update_nowhere operators.Increment pen = refl
 update_nowhere operators.Decrement pen = refl
 
 -- nothing begins behind the operator
-pub place_behind_update : (o : UpdateOperator) (place inner : Place) (a : Pen) → inner ≡ record { settings = place.settings; level = Prefix; context = place.context; in_list = false; left_operand = false } → place_of inner (layout (update_item o) a) ≡ behind Prefix (place_of place a)
-place_behind_update o place inner a h = ap (λ q. place_of q (layout (update_item o) a)) h ∙ ap (λ s. record { settings = settings_of place.settings; level = Prefix; context = context_of place.context; start = s; in_list = false; left_operand = false }) (update_nowhere o a)
+pub place_behind_update : (o : UpdateOperator) (place inner : Place) (a : Pen) → inner ≡ record { settings = place.settings; level = Prefix; context = place.context; in_list = false; left_operand = false; plain_quotes = false } → place_of inner (layout (update_item o) a) ≡ behind Prefix (place_of place a)
+place_behind_update o place inner a h = ap (λ q. place_of q (layout (update_item o) a)) h ∙ ap (λ s. record { settings = settings_of place.settings; level = Prefix; context = context_of place.context; start = s; in_list = false; left_operand = false; plain_quotes = false }) (update_nowhere o a)
