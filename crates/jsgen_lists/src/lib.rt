@@ -3,12 +3,12 @@
 
 mod arguments;
 mod elements;
-mod given;
+mod maybe;
 mod members;
 mod statements;
 
 pub use arguments::{PlainQuotes, print_arguments};
 pub use elements::{PrintElement, print_array, print_object};
-pub use given::{print_comma_between, print_if_given, print_value};
+pub use maybe::{print_comma_between, print_if_given, print_value};
 pub use members::{PrintMember, print_in_brackets, print_more, print_parts};
 pub use statements::{PrintStatement, print_statements, print_whole_body};
