@@ -78,10 +78,10 @@ pub fn print_update_expression<N: PrintNode>(
 /// What `++` and `--` change.
 pub struct Targets;
 
+#[tactic(auto, unfolding(crate::specs::Place::pen_after))]
 impl<N: PrintNode> PrintMember<SimpleAssignmentTarget<N>> for Targets {
     ghost plain = { in_simple_assignment_target N.plain };
 
-    #[tactic(auto, unfolding(crate::specs::Place::pen_after))]
     fn print_member(
         member: &SimpleAssignmentTarget<N>,
         p: &mut Printer,
