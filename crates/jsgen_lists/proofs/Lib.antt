@@ -1,2 +1,4 @@
+pub mod Rest
 pub mod Holes
 pub mod Turns
+pub mod Operands

@@ -6,7 +6,7 @@ use Rattle.jsgen_tree.specs.Tree.{Tree}
 use Rattle.jsgen_model.specs.Punctuator.{Bracket, opening, closing}
 use Rattle.jsgen_model.specs.Items.{Items, ◌⊕◌, brackets, soft_space}
 use Rattle.jsgen_model.specs.Layout.{Pen, nowhere, layout, written, other_end, unless_printed, not}
-use Rattle.jsgen_model.specs.Spell.{spell}
+use Rattle.jsgen_model.specs.Spell.{spell, quoted_plainly}
 use Rattle.jsgen_model.specs.Printing.{IsPrefix, Stops, Reaches}
 use Rattle.jsgen_printer.proofs.Prefixes.{whole_prefix, prefix_append, more_prefix}
 use Rattle.jsgen_printer.proofs.Stops.{layout_appends, layout_more, stops_within, stops_second, reaches_last}
@@ -37,6 +37,10 @@ still_nowhere false = refl
 -- a member where nothing begins
 pub begun_nowhere : (place : Place) (at : Pen) → at.start ≡ nowhere → place_of place at ≡ listed place
 begun_nowhere place at none = ap (λ s. record (listed place) { start = s }) none
+
+-- the same where a string is never in backticks, if the test holds
+pub quoted_nowhere : (test : Bool) (place : Place) (at : Pen) → at.start ≡ nowhere → place_of (record place { plain_quotes = test }) at ≡ quoted_plainly test (listed place)
+quoted_nowhere test place at none = begun_nowhere (record place { plain_quotes = test }) at none
 
 -- behind a space, nothing begins where nothing began before it
 pub behind_space : (place : Place) (at spaced : Pen) → at.start ≡ nowhere → spaced ≡ layout soft_space at → place_of place spaced ≡ listed place

@@ -10,7 +10,7 @@ use Rattle.jsgen_place.specs.Place.{settings_of, context_of}
 
 -- behind a bracket or a comma, where nothing begins
 abbrev pub listed : Place → spells.Place
-listed place = record { settings = settings_of place.settings; level = place.level; context = context_of place.context; start = nowhere; in_list = place.in_list; left_operand = place.left_operand }
+listed place = record { settings = settings_of place.settings; level = place.level; context = context_of place.context; start = nowhere; in_list = place.in_list; left_operand = place.left_operand; plain_quotes = place.plain_quotes }
 
 -- a member, or nothing where it is left out
 abbrev pub element_items : Option Tree → spells.Place → Items

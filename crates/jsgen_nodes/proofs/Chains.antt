@@ -30,8 +30,8 @@ chain_placed : (a b : Pen) (test : Bool) (place inner : Place) → inner ≡ cha
 chain_placed a b test place inner hi hb = ap (λ q. place_of q b) hi ∙ (ap (λ p. place_of (chain_within test place) p) hb ∙ by test)
   where
     by : (w : Bool) → place_of (chain_within w place) (written_if w (opening Round) a) ≡ chain_place w (place_of place a)
-    by true = ap (λ s. record { settings = settings_of place.settings; level = Lowest; context = record { forbids_in = false; forbids_call = false }; start = s; in_list = false; left_operand = false }) (after_text a.start)
-    by false = ap (λ s. record { settings = settings_of place.settings; level = place.level; context = context_of place.context; start = s; in_list = place.in_list; left_operand = place.left_operand }) (after_none a.start)
+    by true = ap (λ s. record { settings = settings_of place.settings; level = Lowest; context = record { forbids_in = false; forbids_call = false }; start = s; in_list = false; left_operand = false; plain_quotes = false }) (after_text a.start)
+    by false = ap (λ s. record { settings = settings_of place.settings; level = place.level; context = context_of place.context; start = s; in_list = place.in_list; left_operand = place.left_operand; plain_quotes = place.plain_quotes }) (after_none a.start)
 
 pub chain_laid : {T E : Type 0} (r : Result T E) (z a b c : Pen) (test wraps : Bool) (place inner : Place) (element : Tree) → test ≡ wraps → inner ≡ chain_within test place → b ≡ written_if test (opening Round) a → c ≡ layout (spell element (place_of inner b)) b → Reaches r c z (written_if test (closing Round) c) → Reaches r a z (layout (wrapped wraps (spell element (chain_place wraps (place_of place a)))) a)
 chain_laid r z a b c test wraps place inner element ht hi hb hc h =

@@ -27,9 +27,9 @@ behind_sign r z a b d e s t inner outer there hb hd he h =
     reaches_last r a e z _ _ h kept (ap (λ q. layout (spell t q) e) (there e start) ∙ ap (λ p. layout (spell t outer) p) before)
 
 -- a part of a choice or of a list, behind something
-pub part_behind : (level : Precedence) (place inner : Place) (a pen : Pen) → inner ≡ record { settings = place.settings; level = level; context = record { forbids_in = place.context.forbids_in; forbids_call = false }; in_list = false; left_operand = false } → pen.start ≡ nowhere → place_of inner pen ≡ with_calls (behind level (place_of place a))
+pub part_behind : (level : Precedence) (place inner : Place) (a pen : Pen) → inner ≡ record { settings = place.settings; level = level; context = record { forbids_in = place.context.forbids_in; forbids_call = false }; in_list = false; left_operand = false; plain_quotes = false } → pen.start ≡ nowhere → place_of inner pen ≡ with_calls (behind level (place_of place a))
 part_behind level place inner a pen h e = ap (λ q. place_of q pen) h ∙ ap (λ s. record (with_calls (behind level (place_of place a))) { start = s }) e
 
 -- in brackets, or behind a sign
-pub free_behind : (level : Precedence) (place inner : Place) (a pen : Pen) → inner ≡ record { settings = place.settings; level = level; context = record { forbids_in = false; forbids_call = false }; in_list = false; left_operand = false } → pen.start ≡ nowhere → place_of inner pen ≡ in_brackets level (place_of place a)
+pub free_behind : (level : Precedence) (place inner : Place) (a pen : Pen) → inner ≡ record { settings = place.settings; level = level; context = record { forbids_in = false; forbids_call = false }; in_list = false; left_operand = false; plain_quotes = false } → pen.start ≡ nowhere → place_of inner pen ≡ in_brackets level (place_of place a)
 free_behind level place inner a pen h e = ap (λ q. place_of q pen) h ∙ ap (λ s. record (in_brackets level (place_of place a)) { start = s }) e

@@ -17,10 +17,10 @@ abbrev pub new_items : Tree → Trees → spells.Place → Items
 new_items callee arguments place = word (codes "new") ⊕ (soft_space ⊕ (spell callee (constructed place) ⊕ new_arguments (needs_arguments place (any_given arguments)) (spell_list arguments (in_brackets Comma place))))
 
 -- nothing begins behind `new`
-pub place_behind_new : (place inner : Place) (a : Pen) → inner ≡ record { settings = place.settings; level = New; context = record { forbids_in = place.context.forbids_in; forbids_call = true }; in_list = false; left_operand = false } → place_of inner (layout soft_space (layout (word (codes "new")) a)) ≡ constructed (place_of place a)
+pub place_behind_new : (place inner : Place) (a : Pen) → inner ≡ record { settings = place.settings; level = New; context = record { forbids_in = place.context.forbids_in; forbids_call = true }; in_list = false; left_operand = false; plain_quotes = false } → place_of inner (layout soft_space (layout (word (codes "new")) a)) ≡ constructed (place_of place a)
 place_behind_new place inner a h =
     let start : (layout soft_space (layout (word (codes "new")) a)).start ≡ nowhere = still_nowhere (layouts.not a.style.minified) in
-    ap (λ q. place_of q (layout soft_space (layout (word (codes "new")) a))) h ∙ ap (λ s. record { settings = settings_of place.settings; level = New; context = record { forbids_in = place.context.forbids_in; forbids_call = true }; start = s; in_list = false; left_operand = false }) start
+    ap (λ q. place_of q (layout soft_space (layout (word (codes "new")) a))) h ∙ ap (λ s. record { settings = settings_of place.settings; level = New; context = record { forbids_in = place.context.forbids_in; forbids_call = true }; start = s; in_list = false; left_operand = false; plain_quotes = false }) start
 
 some : (n : ℕ) → not (suc n == 0) ≡ true
 some n = grind (arith, nat_tests)

@@ -23,11 +23,11 @@ sign_nowhere : (o : AssignmentOperator) (pen : Pen) → (layout (assignment_item
 sign_nowhere operators.Assign pen = refl
 sign_nowhere o pen = refl
 
-value_behind : (place inner : Place) (a pen : Pen) → inner ≡ record { settings = place.settings; level = Comma; context = place.context; in_list = false; left_operand = false } → pen.start ≡ nowhere → place_of inner pen ≡ behind Comma (place_of place a)
+value_behind : (place inner : Place) (a pen : Pen) → inner ≡ record { settings = place.settings; level = Comma; context = place.context; in_list = false; left_operand = false; plain_quotes = false } → pen.start ≡ nowhere → place_of inner pen ≡ behind Comma (place_of place a)
 value_behind place inner a pen h e = ap (λ q. place_of q pen) h ∙ ap (λ s. record (behind Comma (place_of place a)) { start = s }) e
 
 -- a blank, the sign, a blank and what the target is given
-pub value_laid : {T E : Type 0} (r : Result T E) (z a b d e : Pen) (o : AssignmentOperator) (t : Tree) (place inner : Place) → inner ≡ record { settings = place.settings; level = Comma; context = place.context; in_list = false; left_operand = false } → b ≡ layout soft_space a → d ≡ layout (assignment_item o) b → e ≡ layout soft_space d → Reaches r e z (layout (spell t (place_of inner e)) e) → Reaches r a z (layout (soft_space ⊕ (assignment_item o ⊕ (soft_space ⊕ spell t (behind Comma (place_of place a))))) a)
+pub value_laid : {T E : Type 0} (r : Result T E) (z a b d e : Pen) (o : AssignmentOperator) (t : Tree) (place inner : Place) → inner ≡ record { settings = place.settings; level = Comma; context = place.context; in_list = false; left_operand = false; plain_quotes = false } → b ≡ layout soft_space a → d ≡ layout (assignment_item o) b → e ≡ layout soft_space d → Reaches r e z (layout (spell t (place_of inner e)) e) → Reaches r a z (layout (soft_space ⊕ (assignment_item o ⊕ (soft_space ⊕ spell t (behind Comma (place_of place a))))) a)
 value_laid r z a b d e o t place inner there hb hd he h =
     let start : e.start ≡ nowhere = ap (λ p. p.start) he ∙ ap (λ s. unless_printed (not d.style.minified) s) (ap (λ p. p.start) hd ∙ sign_nowhere o b) ∙ still_nowhere (not d.style.minified) in
     let before : e ≡ layout soft_space (layout (assignment_item o) (layout soft_space a)) = he ∙ ap (λ p. layout soft_space p) (hd ∙ ap (λ p. layout (assignment_item o) p) hb) in

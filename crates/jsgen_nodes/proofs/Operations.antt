@@ -32,10 +32,10 @@ still_nowhere true = refl
 still_nowhere false = refl
 
 -- the operands and the operator between them, one after another
-pub operation_laid : {T E : Type 0} (r : Result T E) (z a b c d e : Pen) (item : Items) (left right : Tree) (place lp rp : Place) (ll rl : Precedence) → ((pen : Pen) → (layout item pen).start ≡ nowhere) → lp ≡ record { settings = place.settings; level = ll; context = place.context; in_list = false; left_operand = true } → rp ≡ record { settings = place.settings; level = rl; context = place.context; in_list = false; left_operand = false } → b ≡ layout (spell left (place_of lp a)) a → c ≡ layout soft_space b → d ≡ layout item c → e ≡ layout soft_space d → Reaches r e z (layout (spell right (place_of rp e)) e) → Reaches r a z (layout (spell left (left_of ll (place_of place a)) ⊕ (soft_space ⊕ (item ⊕ (soft_space ⊕ spell right (behind rl (place_of place a)))))) a)
+pub operation_laid : {T E : Type 0} (r : Result T E) (z a b c d e : Pen) (item : Items) (left right : Tree) (place lp rp : Place) (ll rl : Precedence) → ((pen : Pen) → (layout item pen).start ≡ nowhere) → lp ≡ record { settings = place.settings; level = ll; context = place.context; in_list = false; left_operand = true; plain_quotes = false } → rp ≡ record { settings = place.settings; level = rl; context = place.context; in_list = false; left_operand = false; plain_quotes = false } → b ≡ layout (spell left (place_of lp a)) a → c ≡ layout soft_space b → d ≡ layout item c → e ≡ layout soft_space d → Reaches r e z (layout (spell right (place_of rp e)) e) → Reaches r a z (layout (spell left (left_of ll (place_of place a)) ⊕ (soft_space ⊕ (item ⊕ (soft_space ⊕ spell right (behind rl (place_of place a)))))) a)
 operation_laid r z a b c d e item left right place lp rp ll rl none at_left at_right hb hc hd he h =
     let start : e.start ≡ nowhere = ap (λ p. p.start) he ∙ ap (λ s. unless_printed (not d.style.minified) s) (ap (λ p. p.start) hd ∙ none c) ∙ still_nowhere (not d.style.minified) in
-    let behind_it : place_of rp e ≡ behind rl (place_of place a) = ap (λ q. place_of q e) at_right ∙ ap (λ s. record { settings = settings_of place.settings; level = rl; context = context_of place.context; start = s; in_list = false; left_operand = false }) start in
+    let behind_it : place_of rp e ≡ behind rl (place_of place a) = ap (λ q. place_of q e) at_right ∙ ap (λ s. record { settings = settings_of place.settings; level = rl; context = context_of place.context; start = s; in_list = false; left_operand = false; plain_quotes = false }) start in
     let before : e ≡ layout soft_space (layout item (layout soft_space (layout (spell left (left_of ll (place_of place a))) a))) = he ∙ ap (λ p. layout soft_space p) (hd ∙ ap (λ p. layout item p) (hc ∙ ap (λ p. layout soft_space p) (hb ∙ ap (λ q. layout (spell left (place_of q a)) a) at_left))) in
     let kept : IsPrefix a.code e.code = rw (he, hd, hc, hb) (search appends) in
     reaches_last r a e z _ _ h kept (ap (λ q. layout (spell right q) e) behind_it ∙ ap (λ p. layout (spell right (behind rl (place_of place a))) p) before)

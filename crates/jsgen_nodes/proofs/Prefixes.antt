@@ -25,10 +25,10 @@ unary_nowhere o pen = refl
 abbrev pub unary_items : UnaryOperator → Tree → spells.Place → Items
 unary_items o argument place = unary_sign o ⊕ (behind_unary o ⊕ spell argument (behind Exponentiation place))
 
-pub unary_laid : {T E : Type 0} (r : Result T E) (z a b c : Pen) (o : UnaryOperator) (argument : Tree) (place inner : Place) → inner ≡ record { settings = place.settings; level = Exponentiation; context = place.context; in_list = false; left_operand = false } → b ≡ layout (unary_sign o) a → c ≡ layout (behind_unary o) b → Reaches r c z (layout (spell argument (place_of inner c)) c) → Reaches r a z (layout (unary_items o argument (place_of place a)) a)
+pub unary_laid : {T E : Type 0} (r : Result T E) (z a b c : Pen) (o : UnaryOperator) (argument : Tree) (place inner : Place) → inner ≡ record { settings = place.settings; level = Exponentiation; context = place.context; in_list = false; left_operand = false; plain_quotes = false } → b ≡ layout (unary_sign o) a → c ≡ layout (behind_unary o) b → Reaches r c z (layout (spell argument (place_of inner c)) c) → Reaches r a z (layout (unary_items o argument (place_of place a)) a)
 unary_laid r z a b c o argument place inner hi hb hc h =
     let start : c.start ≡ nowhere = ap (λ p. p.start) hc ∙ ap (λ p. (layout (behind_unary o) p).start) hb ∙ unary_nowhere o a in
-    let behind_it : place_of inner c ≡ behind Exponentiation (place_of place a) = ap (λ q. place_of q c) hi ∙ ap (λ s. record { settings = settings_of place.settings; level = Exponentiation; context = context_of place.context; start = s; in_list = false; left_operand = false }) start in
+    let behind_it : place_of inner c ≡ behind Exponentiation (place_of place a) = ap (λ q. place_of q c) hi ∙ ap (λ s. record { settings = settings_of place.settings; level = Exponentiation; context = context_of place.context; start = s; in_list = false; left_operand = false; plain_quotes = false }) start in
     let before : c ≡ layout (behind_unary o) (layout (unary_sign o) a) = hc ∙ ap (λ p. layout (behind_unary o) p) hb in
     let kept : IsPrefix a.code c.code = rw (hc, hb) (search appends) in
     reaches_last r a c z _ _ h kept (ap (λ q. layout (spell argument q) c) behind_it ∙ ap (λ p. layout (spell argument (behind Exponentiation (place_of place a))) p) before)

@@ -14,11 +14,3 @@ use Rattle.jsgen_place.specs.Place.{settings_of, context_of, place_of}
 -- the operator and its operand, as the test says
 abbrev pub update_parts : Bool → UpdateOperator → Tree → spells.Place → Items
 update_parts prefix o target place = update_items prefix (update_item o) (spell target (in_front Postfix place)) (spell target (behind Prefix place))
-
-update_nowhere : (o : UpdateOperator) (pen : Pen) → (layout (update_item o) pen).start ≡ nowhere
-update_nowhere operators.Increment pen = refl
-update_nowhere operators.Decrement pen = refl
-
--- nothing begins behind the operator
-pub place_behind_update : (o : UpdateOperator) (place inner : Place) (a : Pen) → inner ≡ record { settings = place.settings; level = Prefix; context = place.context; in_list = false; left_operand = false } → place_of inner (layout (update_item o) a) ≡ behind Prefix (place_of place a)
-place_behind_update o place inner a h = ap (λ q. place_of q (layout (update_item o) a)) h ∙ ap (λ s. record { settings = settings_of place.settings; level = Prefix; context = context_of place.context; start = s; in_list = false; left_operand = false }) (update_nowhere o a)

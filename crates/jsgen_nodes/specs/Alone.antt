@@ -7,7 +7,7 @@ use Rattle.jsgen_model.specs.Spell.{Settings, Context, Place, free, among_statem
 
 -- at a level
 abbrev pub at_level : Precedence → Settings → Context → Start → Place
-at_level level settings context start = record { settings = settings; level = level; context = context; start = start; in_list = false; left_operand = false }
+at_level level settings context start = record { settings = settings; level = level; context = context; start = start; in_list = false; left_operand = false; plain_quotes = false }
 
 abbrev pub by_itself : Settings → Context → Start → Place
 by_itself settings context start = at_level Lowest settings context start

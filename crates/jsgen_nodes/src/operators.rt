@@ -1,11 +1,11 @@
 // Operations of one operand, and `new` (ECMA-262, clause 13), one function for each row.
 ghost use Rattle.std.specs.Prelude.{◌≡◌, map, codes};
-ghost use Rattle.jsgen_syntax.specs.declared.precedence.Precedence.TheVariants.{Comma, Exponentiation, Prefix, Postfix};
+ghost use Rattle.jsgen_syntax.specs.declared.precedence.Precedence.TheVariants.{Comma, Exponentiation};
 ghost use Rattle.jsgen_tree.specs.Tree.{trees};
 ghost use Rattle.jsgen_tree.specs.Rows.{unary_expression_row, update_expression_row, in_simple_assignment_target, new_expression_row, super_row, new_target_row, in_argument, in_expression};
 ghost use Rattle.jsgen_model.specs.Items.{◌⊕◌, word, soft_space};
 ghost use Rattle.jsgen_model.specs.Layout.{layout};
-ghost use Rattle.jsgen_model.specs.Spell.{spell, spell_list, behind, in_front, update_item, update_items, in_brackets, constructed, any_given, needs_arguments, new_arguments, unary_sign, behind_unary};
+ghost use Rattle.jsgen_model.specs.Spell.{spell, spell_list, behind, in_brackets, constructed, any_given, needs_arguments, new_arguments, unary_sign, behind_unary};
 ghost use Rattle.jsgen_model.specs.Printing.{Reaches};
 ghost use Rattle.jsgen_printer.specs.Printer.{pen_of};
 ghost use Rattle.jsgen_place.specs.Place.{place_of};
@@ -14,7 +14,7 @@ ghost use Rattle.jsgen_nodes.specs.Place.{pen_after};
 use crate::PrintNode;
 use crate::expressions::print_identifier_reference;
 use crate::links::{Arguments, print_computed_member_expression, print_static_member_expression};
-use jsgen_lists::print_in_brackets;
+use jsgen_lists::{PrintMember, print_in_brackets, print_update};
 use jsgen_place::{Place, update_level};
 use jsgen_printer::{Bracket, Printer};
 use jsgen_syntax::{Memory, Precedence};
@@ -65,52 +65,30 @@ pub fn print_update_expression<N: PrintNode>(
     let level = update_level(node.prefix);
     let wrap = place.wraps(level);
     p.print_opening_if(wrap)?;
-    print_update(node, p, place.within(wrap))?;
+    print_update::<SimpleAssignmentTarget<N>, Targets>(
+        node.prefix,
+        node.operator,
+        &node.argument,
+        p,
+        place.within(wrap),
+    )?;
     p.print_closing_if(wrap)
 }
 
-// The operator and its operand, within the parentheses.
+/// What `++` and `--` change.
+pub struct Targets;
+
 #[tactic(auto, unfolding(crate::specs::Place::pen_after))]
-fn print_update<N: PrintNode>(
-    node: &UpdateExpression<N>,
-    p: &mut Printer,
-    place: Place,
-) -> Result<(), Memory>
-    ensures { Reaches result (pen_of p.old) (pen_of p.new) (layout (update_items node.now.prefix (update_item node.now.operator)
-        (spell (in_simple_assignment_target N.plain node.now.argument) (in_front Postfix (place_of place (pen_of p.old))))
-        (spell (in_simple_assignment_target N.plain node.now.argument) (behind Prefix (place_of place (pen_of p.old))))) (pen_of p.old)) }
-{
-    if node.prefix {
-        print_update_before(node, p, place)
-    } else {
-        print_update_behind(node, p, place)
+impl<N: PrintNode> PrintMember<SimpleAssignmentTarget<N>> for Targets {
+    ghost plain = { in_simple_assignment_target N.plain };
+
+    fn print_member(
+        member: &SimpleAssignmentTarget<N>,
+        p: &mut Printer,
+        place: Place,
+    ) -> Result<(), Memory> {
+        print_simple_assignment_target(member, p, place)
     }
-}
-
-#[tactic(auto, unfolding(crate::specs::Place::pen_after))]
-fn print_update_before<N: PrintNode>(
-    node: &UpdateExpression<N>,
-    p: &mut Printer,
-    place: Place,
-) -> Result<(), Memory>
-    ensures { Reaches result (pen_of p.old) (pen_of p.new) (layout (update_item node.now.operator
-        ⊕ spell (in_simple_assignment_target N.plain node.now.argument) (behind Prefix (place_of place (pen_of p.old)))) (pen_of p.old)) }
-{
-    p.print_update_operator(node.operator)?;
-    print_simple_assignment_target(&node.argument, p, place.child(Precedence::Prefix))
-}
-
-#[tactic(auto, unfolding(crate::specs::Place::pen_after))]
-fn print_update_behind<N: PrintNode>(
-    node: &UpdateExpression<N>,
-    p: &mut Printer,
-    place: Place,
-) -> Result<(), Memory>
-    ensures { Reaches result (pen_of p.old) (pen_of p.new) (layout (spell (in_simple_assignment_target N.plain node.now.argument)
-        (in_front Postfix (place_of place (pen_of p.old))) ⊕ update_item node.now.operator) (pen_of p.old)) }
-{
-    print_simple_assignment_target(&node.argument, p, place.child(Precedence::Postfix))?;
-    p.print_update_operator(node.operator)
 }
 
 fn print_simple_assignment_target<N: PrintNode>(

@@ -19,7 +19,7 @@ settings_of settings = record { minified = settings.minified; tables = no_tables
 
 -- what begins with a node is what begins at the pen
 abbrev pub place_of : Place → Pen → spells.Place
-place_of place pen = record { settings = settings_of place.settings; level = place.level; context = context_of place.context; start = pen.start; in_list = place.in_list; left_operand = place.left_operand }
+place_of place pen = record { settings = settings_of place.settings; level = place.level; context = context_of place.context; start = pen.start; in_list = place.in_list; left_operand = place.left_operand; plain_quotes = place.plain_quotes }
 
 -- within parentheses, where the test holds, `in` may stand
 abbrev pub place_within : Bool → Place → Place
@@ -28,7 +28,7 @@ place_within false place = place
 
 -- of a chain's links, within parentheses where the test holds
 abbrev pub chain_within : Bool → Place → Place
-chain_within true place = record { settings = place.settings; level = Lowest; context = record { forbids_in = false; forbids_call = false }; in_list = false; left_operand = false }
+chain_within true place = record { settings = place.settings; level = Lowest; context = record { forbids_in = false; forbids_call = false }; in_list = false; left_operand = false; plain_quotes = false }
 chain_within false place = place
 
 -- what matters of an operand

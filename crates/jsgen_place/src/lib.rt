@@ -4,11 +4,15 @@
 mod endings;
 mod numbers;
 mod operands;
+mod parameters;
 mod place;
 mod properties;
+mod quotes;
 
 pub use endings::if_ends_open;
 pub use numbers::{needs_brackets, takes_no_dot};
 pub use operands::{Operand, left_level, right_level, unmixed, update_level};
+pub use parameters::is_bare;
 pub use place::{Context, Place, Settings};
-pub use properties::says_name;
+pub use properties::{is_reference_to, says_name};
+pub use quotes::{is_definition_call, is_export_mark, is_export_target, is_require_call};

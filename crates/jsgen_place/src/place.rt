@@ -2,7 +2,7 @@
 ghost use Rattle.std.specs.Prelude.{◌≡◌, nat_le, false, true};
 ghost use Rattle.jsgen_syntax.specs.Precedence.{rank};
 ghost use Rattle.jsgen_model.specs.Layout.{Pen};
-ghost use Rattle.jsgen_model.specs.Spell.{is_forbidden, binary_wraps, wraps, goes_on, logical_wraps, called, call_wraps, needs_arguments, chain_wraps};
+ghost use Rattle.jsgen_model.specs.Spell.{is_forbidden, binary_wraps, wraps, goes_on, logical_wraps, called, call_wraps, needs_arguments, chain_wraps, arrow_wraps};
 ghost use Rattle.jsgen_place.specs.Place.{place_of, place_within, chain_within};
 
 use jsgen_syntax::{BinaryOperator, GetPrecedence, LogicalOperator, Precedence};
@@ -38,11 +38,13 @@ pub struct Place {
     pub in_list: bool,
     /// The left operand of an operation, whose own operator goes on with no chain.
     pub left_operand: bool,
+    /// A string that stands here is never in backticks.
+    pub plain_quotes: bool,
 }
 
 impl Place {
     pub fn among_statements(settings: Settings) -> Place
-        ensures { result ≡ record { settings = settings; level = Precedence.Lowest; context = record { forbids_in = false; forbids_call = false }; in_list = true; left_operand = false } }
+        ensures { result ≡ record { settings = settings; level = Precedence.Lowest; context = record { forbids_in = false; forbids_call = false }; in_list = true; left_operand = false; plain_quotes = false } }
     {
         Place {
             settings,
@@ -50,26 +52,27 @@ impl Place {
             context: Context::FREE,
             in_list: true,
             left_operand: false,
+            plain_quotes: false,
         }
     }
 
     /// A block or an `if` that goes on with a line, or the expression of an expression statement.
     pub fn within_statement(settings: Settings) -> Place
-        ensures { result ≡ record { settings = settings; level = Precedence.Lowest; context = record { forbids_in = false; forbids_call = false }; in_list = false; left_operand = false } }
+        ensures { result ≡ record { settings = settings; level = Precedence.Lowest; context = record { forbids_in = false; forbids_call = false }; in_list = false; left_operand = false; plain_quotes = false } }
     {
         Place::in_brackets(Precedence::Lowest, settings)
     }
 
     /// The place of what is printed by itself, at the lowest level.
     pub fn by_itself(settings: Settings, context: Context) -> Place
-        ensures { result ≡ record { settings = settings; level = Precedence.Lowest; context = context; in_list = false; left_operand = false } }
+        ensures { result ≡ record { settings = settings; level = Precedence.Lowest; context = context; in_list = false; left_operand = false; plain_quotes = false } }
     {
         Place::at_level(Precedence::Lowest, settings, context)
     }
 
     /// The place of what is printed by itself, at a level.
     pub fn at_level(level: Precedence, settings: Settings, context: Context) -> Place
-        ensures { result ≡ record { settings = settings; level = level; context = context; in_list = false; left_operand = false } }
+        ensures { result ≡ record { settings = settings; level = level; context = context; in_list = false; left_operand = false; plain_quotes = false } }
     {
         Place {
             settings,
@@ -77,12 +80,13 @@ impl Place {
             context,
             in_list: false,
             left_operand: false,
+            plain_quotes: false,
         }
     }
 
     /// A child's place, under the same context.
     pub fn child(self, level: Precedence) -> Place
-        ensures { result ≡ record { settings = self.settings; level = level; context = self.context; in_list = false; left_operand = false } }
+        ensures { result ≡ record { settings = self.settings; level = level; context = self.context; in_list = false; left_operand = false; plain_quotes = false } }
     {
         Place {
             settings: self.settings,
@@ -90,12 +94,13 @@ impl Place {
             context: self.context,
             in_list: false,
             left_operand: false,
+            plain_quotes: false,
         }
     }
 
     /// A left operand's place, under the same context.
     pub fn left_operand(self, level: Precedence) -> Place
-        ensures { result ≡ record { settings = self.settings; level = level; context = self.context; in_list = false; left_operand = true } }
+        ensures { result ≡ record { settings = self.settings; level = level; context = self.context; in_list = false; left_operand = true; plain_quotes = false } }
     {
         Place {
             settings: self.settings,
@@ -103,12 +108,13 @@ impl Place {
             context: self.context,
             in_list: false,
             left_operand: true,
+            plain_quotes: false,
         }
     }
 
     /// A child's place in brackets, where nothing is forbidden.
     pub fn in_brackets(level: Precedence, settings: Settings) -> Place
-        ensures { result ≡ record { settings = settings; level = level; context = record { forbids_in = false; forbids_call = false }; in_list = false; left_operand = false } }
+        ensures { result ≡ record { settings = settings; level = level; context = record { forbids_in = false; forbids_call = false }; in_list = false; left_operand = false; plain_quotes = false } }
     {
         Place {
             settings,
@@ -116,6 +122,7 @@ impl Place {
             context: Context::FREE,
             in_list: false,
             left_operand: false,
+            plain_quotes: false,
         }
     }
 
@@ -132,12 +139,13 @@ impl Place {
             },
             in_list: false,
             left_operand: false,
+            plain_quotes: false,
         }
     }
 
     /// The place of a part of a choice or of a list: calls may stand in it.
     pub fn part(self, level: Precedence) -> Place
-        ensures { result ≡ record { settings = self.settings; level = level; context = record { forbids_in = self.context.forbids_in; forbids_call = false }; in_list = false; left_operand = false } }
+        ensures { result ≡ record { settings = self.settings; level = level; context = record { forbids_in = self.context.forbids_in; forbids_call = false }; in_list = false; left_operand = false; plain_quotes = false } }
     {
         Place {
             settings: self.settings,
@@ -148,12 +156,13 @@ impl Place {
             },
             in_list: false,
             left_operand: false,
+            plain_quotes: false,
         }
     }
 
     /// The place of what `new` stands before: no call may stand in it.
     pub fn constructed(self) -> Place
-        ensures { result ≡ record { settings = self.settings; level = Precedence.New; context = record { forbids_in = self.context.forbids_in; forbids_call = true }; in_list = false; left_operand = false } }
+        ensures { result ≡ record { settings = self.settings; level = Precedence.New; context = record { forbids_in = self.context.forbids_in; forbids_call = true }; in_list = false; left_operand = false; plain_quotes = false } }
     {
         Place {
             settings: self.settings,
@@ -164,6 +173,7 @@ impl Place {
             },
             in_list: false,
             left_operand: false,
+            plain_quotes: false,
         }
     }
 
@@ -181,6 +191,16 @@ impl Place {
             }
         } else {
             self
+        }
+    }
+
+    /// The same place, where a string is never in backticks, if the test holds.
+    pub fn quoted_plainly(self, test: bool) -> Place
+        ensures { result ≡ record self { plain_quotes = test } }
+    {
+        Place {
+            plain_quotes: test,
+            ..self
         }
     }
 
@@ -203,6 +223,20 @@ impl Place {
         ensures { result ≡ nat_le (rank Precedence.Assign) (rank self.level) }
     {
         self.wraps(Precedence::Assign)
+    }
+
+    /// Whether an arrow function stands in parentheses here, by whether it is marked so.
+    pub fn wraps_arrow(self, pife: bool) -> bool
+        ensures { (pen : Pen) → result ≡ arrow_wraps pife (place_of self pen) }
+    {
+        pife || self.wraps(Precedence::Assign)
+    }
+
+    /// The place of parameters, which brackets stand round, so that `in` may stand there.
+    pub fn parameters(self) -> Place
+        ensures { result ≡ record { settings = self.settings; level = Precedence.Comma; context = record { forbids_in = false; forbids_call = self.context.forbids_call }; in_list = false; left_operand = false; plain_quotes = false } }
+    {
+        self.within(true).child(Precedence::Comma)
     }
 
     fn is_forbidden(self, operator: BinaryOperator) -> bool

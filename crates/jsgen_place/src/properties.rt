@@ -18,7 +18,8 @@ pub fn says_name(shorthand: bool, name: &str, reference: Option<&str>) -> bool
     }
 }
 
-fn is_reference_to(name: &str, reference: Option<&str>) -> bool
+/// Whether there is a reference, and to this name.
+pub fn is_reference_to(name: &str, reference: Option<&str>) -> bool
     ensures { result ≡ option_map_or (λ v. bytes_eq v (chars name.now)) (option_map (λ s. chars s.now) reference.entry) false }
 {
     match reference {

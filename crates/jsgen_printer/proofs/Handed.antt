@@ -1,5 +1,5 @@
 -- A text that is handed in, which may be empty.
-use Rattle.std.proofs.Common.{◌≡◌, ℕ, Bool, true, false, List, [], ◌∷◌, length, ◌==◌, ◌<◌, sym, refl, ◌∙◌, arith}
+use Rattle.std.proofs.Common.{◌≡◌, ℕ, true, false, List, [], ◌∷◌, length, ◌==◌, ◌<◌, sym, refl, ◌∙◌, arith}
 use Rattle.std.specs.Str.{chars, encode_utf8_all, IsUtf8}
 use Rattle.std.proofs.lemmas.Str.{chars-IsAscii, encodes-chars, chars_from_encodes}
 use Rattle.std.proofs.lemmas.Bool.Decides.{nat_tests}

@@ -50,6 +50,7 @@ ending_of endings.EscapedName = layouts.escaped_name_end
 abbrev pub start_of : Start → layouts.Start
 start_of starts.Nowhere = layouts.nowhere
 start_of starts.Statement = layouts.statement
+start_of starts.ArrowBody = layouts.arrow_body
 
 -- the pen, whose code is the characters of the buffer's bytes
 unfoldable pub pen_of : Printer → Pen

@@ -37,6 +37,7 @@ pub enum Ending {
 pub enum Start {
     Nowhere,
     Statement,
+    ArrowBody,
 }
 
 /// Brackets that stand round what is printed.
@@ -66,8 +67,8 @@ pub struct Printer {
 impl Printer {
     ghost use Rattle.std.specs.Prelude.{IfOk, [], ◌∷◌, ◌++◌, replicate, string_bytes, true, IsTrue};
     ghost use Rattle.std.specs.Str.{chars, encode_utf8_all};
-    ghost use Rattle.jsgen_model.specs.Punctuator.{Round, opening, closing, ellipsis, comma, semicolon, equal, plus, minus, equal_equal, equal_equal_equal, plus_plus, minus_minus, colon, question, question_dot};
-    ghost use Rattle.jsgen_model.specs.Items.{word, name, string, first_string, directive, member_dot, punctuator, soft_space, soft_line, hard_space, indentation, body_space, statement_end, due_semicolon, drop_semicolon, statement_begins};
+    ghost use Rattle.jsgen_model.specs.Punctuator.{Round, opening, closing, ellipsis, comma, semicolon, equal, plus, minus, equal_equal, equal_equal_equal, plus_plus, minus_minus, colon, question, question_dot, arrow};
+    ghost use Rattle.jsgen_model.specs.Items.{word, name, string, first_string, directive, member_dot, punctuator, soft_space, soft_line, hard_space, indentation, body_space, statement_end, due_semicolon, drop_semicolon, statement_begins, arrow_body_begins};
     ghost use Rattle.jsgen_model.specs.Printing.{Reaches};
     ghost use Rattle.jsgen_model.specs.Layout.{layout, written, written_if, other_end, space_if, ends_in_word, ends_in_escapes, is_apart, name_ending, joins, dot_joins, indented, ends_in_less_bang, chosen_quote, deeper_level, empty_pen, style_of};
     ghost use Rattle.jsgen_syntax.specs.Buffer.{indent_byte};
@@ -345,11 +346,11 @@ impl Printer {
         Ok(())
     }
 
-    /// Whether a brace at the end of the code would not open an object (ECMA-262, 14.5).
+    /// Whether a brace at the end of the code would not open an object (ECMA-262, 14.5 and 15.3).
     pub fn bars_brace(&self) -> bool
         ensures { result ≡ bars_brace (pen_of self.now).start }
     {
-        matches!(&self.start, Start::Statement)
+        matches!(&self.start, Start::Statement | Start::ArrowBody)
     }
 
     pub fn print_opening(&mut self, bracket: Bracket) -> Result<(), Memory>
@@ -427,6 +428,12 @@ impl Printer {
         ensures { Reaches result (pen_of self.old) (pen_of self.new) (layout (punctuator equal) (pen_of self.old)) }
     {
         self.print_str("=", Ending::Other)
+    }
+
+    pub fn print_arrow(&mut self) -> Result<(), Memory>
+        ensures { Reaches result (pen_of self.old) (pen_of self.new) (layout (punctuator arrow) (pen_of self.old)) }
+    {
+        self.print_str("=>", Ending::Other)
     }
 
     pub fn print_operator(&mut self, operator: BinaryOperator) -> Result<(), Memory>
@@ -602,6 +609,13 @@ impl Printer {
         ensures { pen_of self.new ≡ layout statement_begins (pen_of self.old) }
     {
         self.start = Start::Statement;
+    }
+
+    /// The body of an arrow function begins here.
+    pub fn begin_arrow_body(&mut self)
+        ensures { pen_of self.new ≡ layout arrow_body_begins (pen_of self.old) }
+    {
+        self.start = Start::ArrowBody;
     }
 
     pub fn print_opening_if(&mut self, test: bool) -> Result<(), Memory>

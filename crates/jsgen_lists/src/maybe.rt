@@ -1,0 +1,88 @@
+// What may be there or not.
+ghost use Rattle.std.specs.Prelude.{◌≡◌, map, option_map};
+ghost use Rattle.jsgen_tree.specs.Tree.{Tree, given, trees, optional};
+ghost use Rattle.jsgen_model.specs.Items.{◌⊕◌, soft_space, punctuator};
+ghost use Rattle.jsgen_model.specs.Punctuator.{comma, equal};
+ghost use Rattle.jsgen_model.specs.Layout.{layout};
+ghost use Rattle.jsgen_model.specs.Spell.{spell, spell_value, spell_if_given, comma_between};
+ghost use Rattle.jsgen_model.specs.Printing.{Reaches};
+ghost use Rattle.jsgen_printer.specs.Printer.{pen_of};
+ghost use Rattle.jsgen_place.specs.Place.{place_of};
+ghost use Rattle.jsgen_lists.specs.Lists.{listed};
+
+use crate::members::PrintMember;
+use jsgen_place::Place;
+use jsgen_printer::Printer;
+use jsgen_syntax::Memory;
+
+/// The value of what is declared, behind `=`.
+pub fn print_value<E, L: PrintMember<E>>(
+    value: &Option<E>,
+    p: &mut Printer,
+    place: Place,
+) -> Result<(), Memory>
+    ensures { Reaches result (pen_of p.old) (pen_of p.new) (layout (spell_value (optional (option_map L.plain value.now)) (listed place)) (pen_of p.old)) }
+{
+    match value {
+        Some(value) => print_behind_equal::<E, L>(value, p, place),
+        None => Ok(()),
+    }
+}
+
+fn print_behind_equal<E, L: PrintMember<E>>(
+    value: &E,
+    p: &mut Printer,
+    place: Place,
+) -> Result<(), Memory>
+    ensures { Reaches result (pen_of p.old) (pen_of p.new) (layout (soft_space ⊕ (punctuator equal ⊕ (soft_space ⊕ spell (L.plain value.now) (listed place)))) (pen_of p.old)) }
+{
+    p.print_soft_space()?;
+    p.print_equal()?;
+    p.print_soft_space()?;
+    L::print_member(value, p, place)
+}
+
+/// The comma between some members and what takes the rest, where both are there.
+pub fn print_comma_between<E, R, L: PrintMember<E>, M: PrintMember<R>>(
+    members: &[E],
+    rest: &Option<R>,
+    p: &mut Printer,
+) -> Result<(), Memory>
+    ensures { Reaches result (pen_of p.old) (pen_of p.new) (layout (comma_between (trees (map L.plain members.now)) (optional (option_map M.plain rest.now))) (pen_of p.old)) }
+{
+    match rest {
+        Some(_) => print_comma_behind::<E, L>(members, p),
+        None => Ok(()),
+    }
+}
+
+fn print_comma_behind<E, L: PrintMember<E>>(members: &[E], p: &mut Printer) -> Result<(), Memory>
+    ensures { (rest : Tree) → Reaches result (pen_of p.old) (pen_of p.new) (layout (comma_between (trees (map L.plain members.now)) (given rest)) (pen_of p.old)) }
+{
+    if members.is_empty() {
+        Ok(())
+    } else {
+        print_comma_and_space(p)
+    }
+}
+
+fn print_comma_and_space(p: &mut Printer) -> Result<(), Memory>
+    ensures { Reaches result (pen_of p.old) (pen_of p.new) (layout (punctuator comma ⊕ soft_space) (pen_of p.old)) }
+{
+    p.print_comma()?;
+    p.print_soft_space()
+}
+
+/// A member, if there is one.
+pub fn print_if_given<E, L: PrintMember<E>>(
+    member: &Option<E>,
+    p: &mut Printer,
+    place: Place,
+) -> Result<(), Memory>
+    ensures { Reaches result (pen_of p.old) (pen_of p.new) (layout (spell_if_given (optional (option_map L.plain member.now)) (place_of place (pen_of p.old))) (pen_of p.old)) }
+{
+    match member {
+        Some(member) => L::print_member(member, p, place),
+        None => Ok(()),
+    }
+}
