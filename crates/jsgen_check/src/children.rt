@@ -159,7 +159,7 @@ pub fn check_optional_formal_parameter_rest<N: CheckNode>(
     node: &Option<Box<FormalParameterRest<N>>>,
     around: Surroundings<'_>,
 ) -> Result<u64, TreeFault>
-    ensures { result ≡ maybe_verdict around.entry sets.FormalParameterRest (optional (option_map (formal_parameter_rest_row N.plain) node.now)) }
+    ensures { result ≡ maybe_verdict around.entry sets.FormalParameterRest (optional (option_map (λ b. formal_parameter_rest_row N.plain b.value) node.now)) }
 {
     match node {
         Some(node) => check_formal_parameter_rest(node, around),

@@ -197,9 +197,11 @@ def of_holed_list(table, kind):
 def of_optional(table, kind):
     of, parameter = child_type(table, kind)
     call = f"check_child(node.get(), NodeSet::{kind}, around)" if nests(table, kind) else f"{check(kind)}(node, around)"
-    of = f"Box<{of}>" if kind in table.nodes else of
+    row = each(table, kind)
+    if kind in table.nodes:
+        of, row = f"Box<{of}>", f"(λ b. {plain(table, kind)} b.value)"
     return f"""pub fn {check_optional(kind)}{parameter}(node: &Option<{of}>, {AROUND}) -> {RESULT}
-    ensures {{ result ≡ maybe_verdict around.entry sets.{kind} (optional (option_map {each(table, kind)} node.now)) }}
+    ensures {{ result ≡ maybe_verdict around.entry sets.{kind} (optional (option_map {row} node.now)) }}
 {{
     match node {{
         Some(node) => {call},
