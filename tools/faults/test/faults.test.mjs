@@ -1,5 +1,5 @@
-// The second reader of jobs, the generator of damaged jobs, and the command that compares. The last test needs the
-// program, which `./jsgen` builds; where it isn't built it is skipped.
+// The second reader of jobs, the generator of damaged jobs, and the command that compares. The last two need the
+// program, which `./jsgen` builds; where it isn't built they are skipped.
 import assert from "node:assert/strict";
 import { spawnSync } from "node:child_process";
 import { existsSync, mkdtempSync, readdirSync, readFileSync, rmSync, writeFileSync } from "node:fs";
@@ -35,6 +35,22 @@ test("the stored cases have the fault that is told of them", () => {
     const fault = firstFault(format, Buffer.from(job));
     if (fault === null) assert.match(wanted, /^[01] \|/, job);
     else assert.equal(`3 | not a job: ${fault}⏎`, wanted, job);
+  }
+});
+
+// The jobs of docs/FORMAT.md, "When a job is refused", each with its line.
+function documentedCases() {
+  const rows = readFileSync(here("../../../docs/FORMAT.md"), "utf8").matchAll(/^\| `([^`]+)` \|.*\| `(\{.*)` \|$/gm);
+  return [...rows].map(([, line, job]) => [line, job]);
+}
+
+test("the documented jobs have the fault that is told of them", () => {
+  const cases = documentedCases();
+  assert.ok(cases.length > 10);
+  for (const [line, job] of cases) {
+    const fault = firstFault(format, Buffer.from(job));
+    if (fault === null) assert.match(line, /^refused: /, job);
+    else assert.equal(`not a job: ${fault}`, line, job);
   }
 });
 
@@ -145,9 +161,14 @@ test("compare writes its usage for other words", () => {
   }
 });
 
-const isBuilt = existsSync(here("../../../crates/jsgen_cli/out/built"));
+const program = here("../../../crates/jsgen_cli/out/jsgen_cli");
+const skip = existsSync(here("../../../crates/jsgen_cli/out/built")) ? false : "the program isn't built";
 
-test("the program tells the first fault", { skip: isBuilt ? false : "the program isn't built" }, () => {
-  const { status, out } = compared("300", "1", here("../../../crates/jsgen_cli/out/jsgen_cli"));
+test("the program tells the first fault", { skip }, () => {
+  const { status, out } = compared("300", "1", program);
   assert.equal(status, 0, out);
+});
+
+test("the program says the documented lines", { skip }, () => {
+  for (const [line, job] of documentedCases()) assert.equal(spawnSync(program, ["print"], { input: job }).stderr.toString(), `${line}\n`, job);
 });
