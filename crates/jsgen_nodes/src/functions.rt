@@ -1,5 +1,5 @@
 // Functions and their parameters (ECMA-262, clause 15), one function for each row.
-ghost use Rattle.std.specs.Prelude.{◌≡◌};
+ghost use Rattle.std.specs.Prelude.{◌≡◌, false};
 ghost use Rattle.jsgen_tree.specs.Rows.{formal_parameter_row, formal_parameter_rest_row, formal_parameters_row, arrow_function_expression_row, in_arrow_function_body};
 ghost use Rattle.jsgen_model.specs.Punctuator.{arrow};
 ghost use Rattle.jsgen_model.specs.Items.{◌⊕◌, soft_space, punctuator, arrow_body_begins};
