@@ -22,9 +22,14 @@ pub struct PlainQuotes {
 }
 
 impl PlainQuotes {
-    pub const NONE: PlainQuotes = PlainQuotes {
-        first: false,
+    pub const FIRST: PlainQuotes = PlainQuotes {
+        first: true,
         second: false,
+    };
+
+    pub const SECOND: PlainQuotes = PlainQuotes {
+        first: false,
+        second: true,
     };
 }
 

@@ -7,7 +7,8 @@ use Rattle.jsgen_tree.specs.Tree.{Tree}
 use Rattle.jsgen_model.specs.Items.{Items, ◌⊕◌, soft_space}
 use Rattle.jsgen_model.specs.Layout.{Pen, nowhere, layout, unless_printed, not}
 use Rattle.jsgen_model.specs.Spell as spells
-use Rattle.jsgen_model.specs.Spell.{spell, assigned, behind, assignment_item}
+use Rattle.jsgen_model.specs.Spell.{spell, assigned, behind, assignment_item, quoted_plainly}
+use Rattle.jsgen_model.specs.Quotes.{is_export_target}
 use Rattle.jsgen_model.specs.Printing.{Reaches, IsPrefix}
 use Rattle.jsgen_place.specs.declared.place.Place.{Place}
 use Rattle.jsgen_place.specs.Place.{place_of}
@@ -16,7 +17,7 @@ use Rattle.jsgen_nodes.proofs.Operations.{still_nowhere}
 
 -- a target, the sign and what the target is given
 abbrev pub assignment_items : AssignmentOperator → Tree → Tree → spells.Place → Items
-assignment_items o left right place = spell left (assigned place) ⊕ (soft_space ⊕ (assignment_item o ⊕ (soft_space ⊕ spell right (behind Comma place))))
+assignment_items o left right place = spell left (quoted_plainly (is_export_target place.settings.minified left) (assigned place)) ⊕ (soft_space ⊕ (assignment_item o ⊕ (soft_space ⊕ spell right (behind Comma place))))
 
 -- nothing begins behind the sign
 sign_nowhere : (o : AssignmentOperator) (pen : Pen) → (layout (assignment_item o) pen).start ≡ nowhere

@@ -1,3 +1,4 @@
+pub mod Arrows
 pub mod BlockStops
 pub mod Braces
 pub mod Elsewhere

@@ -11,7 +11,8 @@ use Rattle.jsgen_model.specs.Punctuator.{Round, opening, closing}
 use Rattle.jsgen_model.specs.Items.{Items, ◌⊕◌, soft_space, wrapped}
 use Rattle.jsgen_model.specs.Layout.{Pen, nowhere, layout, written_if, text_if, unless_printed, not}
 use Rattle.jsgen_model.specs.Spell as spells
-use Rattle.jsgen_model.specs.Spell.{spell, left_of, behind, within, left_level, right_level, unmixed, operator_item, logical_item}
+use Rattle.jsgen_model.specs.Spell.{spell, left_of, behind, within, left_level, right_level, unmixed, operator_item, logical_item, quoted_plainly}
+use Rattle.jsgen_model.specs.Quotes.{is_export_mark}
 use Rattle.jsgen_place.specs.declared.place.Place.{Place}
 use Rattle.jsgen_place.specs.Place.{settings_of, context_of, place_of, place_within}
 use Rattle.jsgen_model.specs.Printing.{Reaches, IsPrefix, Stops}
@@ -32,13 +33,13 @@ still_nowhere true = refl
 still_nowhere false = refl
 
 -- the operands and the operator between them, one after another
-pub operation_laid : {T E : Type 0} (r : Result T E) (z a b c d e : Pen) (item : Items) (left right : Tree) (place lp rp : Place) (ll rl : Precedence) → ((pen : Pen) → (layout item pen).start ≡ nowhere) → lp ≡ record { settings = place.settings; level = ll; context = place.context; in_list = false; left_operand = true; plain_quotes = false } → rp ≡ record { settings = place.settings; level = rl; context = place.context; in_list = false; left_operand = false; plain_quotes = false } → b ≡ layout (spell left (place_of lp a)) a → c ≡ layout soft_space b → d ≡ layout item c → e ≡ layout soft_space d → Reaches r e z (layout (spell right (place_of rp e)) e) → Reaches r a z (layout (spell left (left_of ll (place_of place a)) ⊕ (soft_space ⊕ (item ⊕ (soft_space ⊕ spell right (behind rl (place_of place a)))))) a)
-operation_laid r z a b c d e item left right place lp rp ll rl none at_left at_right hb hc hd he h =
+pub operation_laid : {T E : Type 0} (r : Result T E) (z a b c d e : Pen) (item : Items) (left right : Tree) (place lp rp : Place) (ll rl : Precedence) (lq rq : Bool) → ((pen : Pen) → (layout item pen).start ≡ nowhere) → lp ≡ record { settings = place.settings; level = ll; context = place.context; in_list = false; left_operand = true; plain_quotes = lq } → rp ≡ record { settings = place.settings; level = rl; context = place.context; in_list = false; left_operand = false; plain_quotes = rq } → b ≡ layout (spell left (place_of lp a)) a → c ≡ layout soft_space b → d ≡ layout item c → e ≡ layout soft_space d → Reaches r e z (layout (spell right (place_of rp e)) e) → Reaches r a z (layout (spell left (quoted_plainly lq (left_of ll (place_of place a))) ⊕ (soft_space ⊕ (item ⊕ (soft_space ⊕ spell right (quoted_plainly rq (behind rl (place_of place a))))))) a)
+operation_laid r z a b c d e item left right place lp rp ll rl lq rq none at_left at_right hb hc hd he h =
     let start : e.start ≡ nowhere = ap (λ p. p.start) he ∙ ap (λ s. unless_printed (not d.style.minified) s) (ap (λ p. p.start) hd ∙ none c) ∙ still_nowhere (not d.style.minified) in
-    let behind_it : place_of rp e ≡ behind rl (place_of place a) = ap (λ q. place_of q e) at_right ∙ ap (λ s. record { settings = settings_of place.settings; level = rl; context = context_of place.context; start = s; in_list = false; left_operand = false; plain_quotes = false }) start in
-    let before : e ≡ layout soft_space (layout item (layout soft_space (layout (spell left (left_of ll (place_of place a))) a))) = he ∙ ap (λ p. layout soft_space p) (hd ∙ ap (λ p. layout item p) (hc ∙ ap (λ p. layout soft_space p) (hb ∙ ap (λ q. layout (spell left (place_of q a)) a) at_left))) in
+    let behind_it : place_of rp e ≡ quoted_plainly rq (behind rl (place_of place a)) = ap (λ q. place_of q e) at_right ∙ ap (λ s. record { settings = settings_of place.settings; level = rl; context = context_of place.context; start = s; in_list = false; left_operand = false; plain_quotes = rq }) start in
+    let before : e ≡ layout soft_space (layout item (layout soft_space (layout (spell left (quoted_plainly lq (left_of ll (place_of place a)))) a))) = he ∙ ap (λ p. layout soft_space p) (hd ∙ ap (λ p. layout item p) (hc ∙ ap (λ p. layout soft_space p) (hb ∙ ap (λ q. layout (spell left (place_of q a)) a) at_left))) in
     let kept : IsPrefix a.code e.code = rw (he, hd, hc, hb) (search appends) in
-    reaches_last r a e z _ _ h kept (ap (λ q. layout (spell right q) e) behind_it ∙ ap (λ p. layout (spell right (behind rl (place_of place a))) p) before)
+    reaches_last r a e z _ _ h kept (ap (λ q. layout (spell right q) e) behind_it ∙ ap (λ p. layout (spell right (quoted_plainly rq (behind rl (place_of place a)))) p) before)
 
 within_printed : (test : Bool) (place : Place) (pen : Pen) → place_of (place_within test place) (written_if test (opening Round) pen) ≡ within test (place_of place pen)
 within_printed true place pen = refl
@@ -65,7 +66,7 @@ stops_wrapped z a b test wraps place inner items ht hi hb s =
 
 -- both operands and the operator between them
 abbrev pub binary_items : BinaryOperator → Tree → Tree → spells.Place → Items
-binary_items o left right place = spell left (left_of (left_level o left) place) ⊕ (soft_space ⊕ (operator_item o ⊕ (soft_space ⊕ spell right (behind (right_level o) place))))
+binary_items o left right place = spell left (quoted_plainly (is_export_mark place.settings.minified o left) (left_of (left_level o left) place)) ⊕ (soft_space ⊕ (operator_item o ⊕ (soft_space ⊕ spell right (quoted_plainly (is_export_mark place.settings.minified o right) (behind (right_level o) place)))))
 
 abbrev pub logical_items : LogicalOperator → Tree → Tree → spells.Place → Items
 logical_items o left right place = spell left (left_of (unmixed o left (logical_lower_level o)) place) ⊕ (soft_space ⊕ (logical_item o ⊕ (soft_space ⊕ spell right (behind (unmixed o right (logical_level o)) place))))

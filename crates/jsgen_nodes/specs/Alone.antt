@@ -3,7 +3,10 @@ use Rattle.std.specs.Prelude.{false}
 use Rattle.jsgen_syntax.specs.declared.precedence.Precedence.{Precedence}
 use Rattle.jsgen_syntax.specs.declared.precedence.Precedence.TheVariants.{Lowest, Comma}
 use Rattle.jsgen_model.specs.Layout.{Start}
-use Rattle.jsgen_model.specs.Spell.{Settings, Context, Place, free, among_statements}
+use Rattle.jsgen_tree.specs.Tree.{Tree}
+use Rattle.jsgen_tree.specs.Nodes as tree
+use Rattle.jsgen_model.specs.Items.{Items, nothing, ◌⊕◌}
+use Rattle.jsgen_model.specs.Spell.{Settings, Context, Place, free, among_statements, spell_parts, comma_between, spell_if_given}
 
 -- at a level
 abbrev pub at_level : Precedence → Settings → Context → Start → Place
@@ -18,3 +21,8 @@ as_member settings context start = at_level Comma settings free start
 
 abbrev pub as_statement : Settings → Context → Start → Place
 as_statement settings context start = record (among_statements settings) { start = start }
+
+-- parameters, of which the first begins where they do; where nothing begins, they are spelled so in a tree
+abbrev pub parameter_parts : Tree → Place → Items
+parameter_parts (tree.formal_parameters a items rest) place = spell_parts items place ⊕ (comma_between items rest ⊕ spell_if_given rest place)
+parameter_parts t place = nothing

@@ -4,7 +4,8 @@ ghost use Rattle.jsgen_syntax.specs.declared.precedence.Precedence.TheVariants.{
 ghost use Rattle.jsgen_tree.specs.Rows.{assignment_expression_row, in_assignment_target, in_expression};
 ghost use Rattle.jsgen_model.specs.Items.{◌⊕◌, soft_space};
 ghost use Rattle.jsgen_model.specs.Layout.{layout};
-ghost use Rattle.jsgen_model.specs.Spell.{spell, assigned, behind, assignment_item};
+ghost use Rattle.jsgen_model.specs.Spell.{spell, assigned, behind, assignment_item, quoted_plainly};
+ghost use Rattle.jsgen_model.specs.Quotes.{is_export_target};
 ghost use Rattle.jsgen_model.specs.Printing.{Reaches};
 ghost use Rattle.jsgen_printer.specs.Printer.{pen_of};
 ghost use Rattle.jsgen_place.specs.Place.{place_of};
@@ -13,6 +14,7 @@ ghost use Rattle.jsgen_nodes.specs.Place.{pen_after};
 use crate::PrintNode;
 use crate::expressions::print_identifier_reference;
 use crate::links::{print_computed_member_expression, print_static_member_expression};
+use crate::quotes::is_export;
 use jsgen_place::Place;
 use jsgen_printer::Printer;
 use jsgen_syntax::{AssignmentOperator, Memory, Precedence};
@@ -39,12 +41,14 @@ fn print_assignment<N: PrintNode>(
     p: &mut Printer,
     place: Place,
 ) -> Result<(), Memory>
-    ensures { Reaches result (pen_of p.old) (pen_of p.new) (layout (spell (in_assignment_target N.plain node.now.left) (assigned (place_of place (pen_of p.old)))
+    ensures { Reaches result (pen_of p.old) (pen_of p.new) (layout (spell (in_assignment_target N.plain node.now.left)
+        (quoted_plainly (is_export_target place.settings.minified (in_assignment_target N.plain node.now.left)) (assigned (place_of place (pen_of p.old))))
         ⊕ (soft_space ⊕ (assignment_item node.now.operator ⊕ (soft_space
         ⊕ spell (in_expression N.plain node.now.right) (behind Comma (place_of place (pen_of p.old))))))) (pen_of p.old)) }
 {
     let target = Place::in_brackets(Precedence::Comma, place.settings);
-    print_assignment_target(&node.left, p, target)?;
+    let quoted = is_export(place.settings.minified, &node.left);
+    print_assignment_target(&node.left, p, target.quoted_plainly(quoted))?;
     print_value(node.operator, &node.right, p, place)
 }
 
@@ -65,7 +69,7 @@ fn print_value<N: PrintNode>(
     value.get().print(p, place.child(Precedence::Comma))
 }
 
-fn print_assignment_target<N: PrintNode>(
+pub fn print_assignment_target<N: PrintNode>(
     node: &AssignmentTarget<N>,
     p: &mut Printer,
     place: Place,

@@ -279,7 +279,7 @@ fn print_key_expression<N: PrintNode>(
 }
 
 // The string that a key is, where no parentheses are round it.
-fn key_string<N: PrintNode>(key: &N) -> Option<&JsStr>
+pub fn key_string<N: PrintNode>(key: &N) -> Option<&JsStr>
     ensures { option_map (λ v. js_units v.now) result ≡ string_in (N.plain key.now) }
 {
     if is_string(key.node_type()) {

@@ -4,13 +4,15 @@ ghost use Rattle.jsgen_syntax.specs.Operator.{logical_level, logical_lower_level
 ghost use Rattle.jsgen_tree.specs.Rows.{identifier_reference_row, this_expression_row, null_literal_row, boolean_literal_row, numeric_literal_row, big_int_literal_row, string_literal_row, parenthesized_expression_row, binary_expression_row, logical_expression_row, in_expression};
 ghost use Rattle.jsgen_model.specs.Items.{◌⊕◌, soft_space};
 ghost use Rattle.jsgen_model.specs.Layout.{layout};
-ghost use Rattle.jsgen_model.specs.Spell.{spell, signed, left_of, behind, left_level, right_level, unmixed, operator_item, logical_item};
+ghost use Rattle.jsgen_model.specs.Spell.{spell, signed, left_of, behind, left_level, right_level, unmixed, operator_item, logical_item, quoted_plainly};
+ghost use Rattle.jsgen_model.specs.Quotes.{is_export_mark};
 ghost use Rattle.jsgen_model.specs.Printing.{Reaches};
 ghost use Rattle.jsgen_printer.specs.Printer.{pen_of};
 ghost use Rattle.jsgen_place.specs.Place.{place_of};
 ghost use Rattle.jsgen_nodes.specs.Place.{pen_after};
 
 use crate::PrintNode;
+use crate::quotes::is_mark;
 use jsgen_place::{Place, left_level, right_level, takes_no_dot, unmixed};
 use jsgen_printer::Printer;
 use jsgen_syntax::{GetPrecedence, Memory};
@@ -114,8 +116,7 @@ pub fn print_string_literal(
 ) -> Result<(), Memory>
     ensures { Reaches result (pen_of p.old) (pen_of p.new) (pen_after (string_literal_row node.now) place p.old) }
 {
-    let _ = place;
-    p.print_string(&node.value, true)
+    p.print_string(&node.value, !place.plain_quotes)
 }
 
 /// The printer sets parentheses by levels alone, and prints none for this node.
@@ -152,21 +153,24 @@ fn print_binary_operation<N: PrintNode>(
     place: Place,
 ) -> Result<(), Memory>
     ensures { Reaches result (pen_of p.old) (pen_of p.new) (layout (spell (in_expression N.plain node.now.left)
-        (left_of (left_level node.now.operator (in_expression N.plain node.now.left)) (place_of place (pen_of p.old)))
+        (quoted_plainly (is_export_mark place.settings.minified node.now.operator (in_expression N.plain node.now.left))
+        (left_of (left_level node.now.operator (in_expression N.plain node.now.left)) (place_of place (pen_of p.old))))
         ⊕ (soft_space ⊕ (operator_item node.now.operator ⊕ (soft_space
         ⊕ spell (in_expression N.plain node.now.right)
-        (behind (right_level node.now.operator) (place_of place (pen_of p.old))))))) (pen_of p.old)) }
+        (quoted_plainly (is_export_mark place.settings.minified node.now.operator (in_expression N.plain node.now.right))
+        (behind (right_level node.now.operator) (place_of place (pen_of p.old)))))))) (pen_of p.old)) }
 {
     let left = node.left.get();
-    left.print(
-        p,
-        place.left_operand(left_level(node.operator, left.operand())),
-    )?;
+    let level = left_level(node.operator, left.operand());
+    let quoted = is_mark(place.settings.minified, node.operator, left);
+    left.print(p, place.left_operand(level).quoted_plainly(quoted))?;
     p.print_soft_space()?;
     p.print_operator(node.operator)?;
     p.print_soft_space()?;
     let right = node.right.get();
-    right.print(p, place.child(right_level(node.operator)))
+    let quoted = is_mark(place.settings.minified, node.operator, right);
+    let below = place.child(right_level(node.operator));
+    right.print(p, below.quoted_plainly(quoted))
 }
 
 #[tactic(auto, unfolding(crate::specs::Place::pen_after))]

@@ -7,9 +7,12 @@ mod blocks;
 mod choices;
 mod collections;
 mod expressions;
+mod functions;
 mod links;
+mod names;
 mod operands;
 mod operators;
+mod quotes;
 mod sequences;
 mod sets;
 mod shapes;
@@ -23,17 +26,27 @@ ghost use Rattle.std.specs.Str.{chars};
 ghost use Rattle.jsgen_tree.specs.Inside.{without_parentheses, ends_open, reference_in, written_name_in, is_negative};
 ghost use Rattle.jsgen_tree.specs.Plain.{node_plain};
 ghost use Rattle.jsgen_model.specs.Spell.{string_in, string_statement};
+ghost use Rattle.jsgen_model.specs.Quotes.{is_member_of};
 ghost use Rattle.jsgen_model.specs.Printing.{Reaches};
 ghost use Rattle.jsgen_printer.specs.Printer.{pen_of};
 ghost use Rattle.jsgen_place.specs.Place.{operand_of};
+ghost use Rattle.jsgen_nodes.specs.Names.{is_binding_name};
 ghost use Rattle.jsgen_nodes.specs.Place.{pen_after};
 
 use jsgen_place::{Context, Operand, Place, Settings};
 use jsgen_printer::Printer;
 use jsgen_syntax::{JsStr, Memory};
 use jsgen_tree::{Node, NodeType};
+use names::{
+    binding_pattern_is_member, binding_pattern_is_name, declaration_is_member, declaration_is_name,
+    expression_is_member, expression_is_name, statement_is_member, statement_is_name,
+};
 use operands::{
     binding_pattern_operand, declaration_operand, expression_operand, statement_operand,
+};
+pub use quotes::{
+    try_print_define_property_call, try_print_equality_string, try_print_exports_computed_target,
+    try_print_require_call,
 };
 use sets::{print_binding_pattern, print_declaration, print_expression, print_statement};
 use shapes::{
@@ -79,6 +92,14 @@ pub trait PrintNode {
     /// The name that stands there as it is written.
     fn written_name(&self) -> Option<&str>
         ensures { option_map (λ s. chars s.now) result ≡ written_name_in (plain self.now) };
+
+    /// Whether it is the member of this name of a reference to that name, by no optional link.
+    fn is_member(&self, object: &str, name: &str) -> bool
+        ensures { result ≡ is_member_of (chars object.now) (chars name.now) (plain self.now) };
+
+    /// Whether it is a name that is bound.
+    fn is_binding_name(&self) -> bool
+        ensures { result ≡ is_binding_name (plain self.now) };
 
     /// Whether it is a number or a big integer with a minus before it, without the parentheses that it may have round it.
     fn is_negative(&self) -> bool
@@ -169,6 +190,26 @@ impl PrintNode for Node {
             Node::Statement(node) => statement_ends_open(node),
             Node::Declaration(node) => declaration_ends_open(node),
             Node::BindingPattern(node) => binding_pattern_ends_open(node),
+        }
+    }
+
+    #[cycle(node)]
+    fn is_member(&self, object: &str, name: &str) -> bool {
+        match self {
+            Node::Expression(node) => expression_is_member(node, object, name),
+            Node::Statement(node) => statement_is_member(node, object, name),
+            Node::Declaration(node) => declaration_is_member(node, object, name),
+            Node::BindingPattern(node) => binding_pattern_is_member(node, object, name),
+        }
+    }
+
+    #[cycle(node)]
+    fn is_binding_name(&self) -> bool {
+        match self {
+            Node::Expression(node) => expression_is_name(node),
+            Node::Statement(node) => statement_is_name(node),
+            Node::Declaration(node) => declaration_is_name(node),
+            Node::BindingPattern(node) => binding_pattern_is_name(node),
         }
     }
 

@@ -7,7 +7,8 @@ ghost use Rattle.jsgen_tree.specs.Rows.{identifier_name_row, static_member_expre
 ghost use Rattle.jsgen_model.specs.Punctuator.{Round, Square};
 ghost use Rattle.jsgen_model.specs.Items.{◌⊕◌, brackets, name};
 ghost use Rattle.jsgen_model.specs.Layout.{layout};
-ghost use Rattle.jsgen_model.specs.Spell.{spell, spell_list, called, in_brackets, name_link, bracket_link};
+ghost use Rattle.jsgen_model.specs.Spell.{spell, spell_arguments, called, in_brackets, name_link, bracket_link, quoted_plainly};
+ghost use Rattle.jsgen_model.specs.Quotes.{is_require_call, is_definition_call};
 ghost use Rattle.jsgen_model.specs.Printing.{Reaches};
 ghost use Rattle.jsgen_printer.specs.Printer.{pen_of};
 ghost use Rattle.jsgen_place.specs.Place.{place_of};
@@ -15,7 +16,8 @@ ghost use Rattle.jsgen_nodes.specs.Place.{pen_after};
 
 use crate::PrintNode;
 use crate::collections::print_spread_element;
-use jsgen_lists::{PrintMember, print_in_brackets};
+use crate::quotes::plain_quotes;
+use jsgen_lists::{PrintMember, print_arguments};
 use jsgen_place::Place;
 use jsgen_printer::{Bracket, Printer};
 use jsgen_syntax::{Memory, Precedence};
@@ -109,13 +111,14 @@ fn print_computed_name<N: PrintNode>(
     place: Place,
 ) -> Result<(), Memory>
     ensures { Reaches result (pen_of p.old) (pen_of p.new) (layout (bracket_link node.now.optional
-        ⊕ brackets Square (spell (in_expression N.plain node.now.expression) (in_brackets Lowest (place_of place (pen_of p.old))))) (pen_of p.old)) }
+        ⊕ brackets Square (spell (in_expression N.plain node.now.expression) (quoted_plainly place.plain_quotes (in_brackets Lowest (place_of place (pen_of p.old)))))) (pen_of p.old)) }
 {
     print_bracket_link(node.optional, p)?;
     p.print_opening(Bracket::Square)?;
+    let within = Place::in_brackets(Precedence::Lowest, place.settings);
     node.expression
         .get()
-        .print(p, Place::in_brackets(Precedence::Lowest, place.settings))?;
+        .print(p, within.quoted_plainly(place.plain_quotes))?;
     p.print_closing(Bracket::Square)
 }
 
@@ -141,13 +144,17 @@ fn print_call<N: PrintNode>(
     place: Place,
 ) -> Result<(), Memory>
     ensures { Reaches result (pen_of p.old) (pen_of p.new) (layout (spell (in_expression N.plain node.now.callee) (called (place_of place (pen_of p.old)))
-        ⊕ (bracket_link node.now.optional ⊕ brackets Round (spell_list (trees (map (in_argument N.plain) node.now.arguments.items)) (in_brackets Comma (place_of place (pen_of p.old))))))
+        ⊕ (bracket_link node.now.optional ⊕ brackets Round (spell_arguments
+        (is_require_call place.settings.minified (in_expression N.plain node.now.callee) (trees (map (in_argument N.plain) node.now.arguments.items)))
+        (is_definition_call place.settings.minified (in_expression N.plain node.now.callee) (trees (map (in_argument N.plain) node.now.arguments.items)))
+        (trees (map (in_argument N.plain) node.now.arguments.items)) (in_brackets Comma (place_of place (pen_of p.old))))))
         (pen_of p.old)) }
 {
     node.callee.get().print(p, place.called())?;
     print_bracket_link(node.optional, p)?;
     let within = Place::in_brackets(Precedence::Comma, place.settings);
-    print_in_brackets::<_, Arguments>(Bracket::Round, &node.arguments, p, within)
+    let quotes = plain_quotes(place.settings.minified, node);
+    print_arguments::<_, Arguments>(quotes, &node.arguments, p, within)
 }
 
 #[tactic(auto, unfolding(crate::specs::Place::pen_after))]

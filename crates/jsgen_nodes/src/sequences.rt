@@ -22,18 +22,22 @@ pub fn print_sequence_expression<N: PrintNode>(
     let wrap = place.wraps_sequence();
     let within = place.part(Precedence::Lowest);
     p.print_opening_if(wrap)?;
-    print_parts::<_, Parts>(&node.expressions, p, within)?;
+    print_parts::<_, Expressions>(&node.expressions, p, within)?;
     p.print_closing_if(wrap)
 }
 
-/// The parts of a sequence.
-struct Parts;
+/// Expressions in a row, or one by itself.
+pub struct Expressions;
 
 #[tactic(auto, unfolding(crate::specs::Place::pen_after))]
-impl<N: PrintNode> PrintMember<ExpressionNode<N>> for Parts {
+impl<N: PrintNode> PrintMember<ExpressionNode<N>> for Expressions {
     ghost plain = { in_expression N.plain };
 
-    fn print_member(part: &ExpressionNode<N>, p: &mut Printer, place: Place) -> Result<(), Memory> {
-        part.get().print(p, place)
+    fn print_member(
+        expression: &ExpressionNode<N>,
+        p: &mut Printer,
+        place: Place,
+    ) -> Result<(), Memory> {
+        expression.get().print(p, place)
     }
 }

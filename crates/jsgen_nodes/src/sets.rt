@@ -18,6 +18,7 @@ use crate::expressions::{
     print_numeric_literal, print_parenthesized_expression, print_string_literal,
     print_this_expression,
 };
+use crate::functions::print_arrow_function_expression;
 use crate::links::{
     print_call_expression, print_chain_expression, print_computed_member_expression,
     print_static_member_expression,

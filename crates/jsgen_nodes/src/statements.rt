@@ -1,25 +1,26 @@
 // Programs, statements and declarations (ECMA-262, clauses 14 and 16), one function for each row.
-ghost use Rattle.std.specs.Prelude.{◌≡◌, map, option_map};
-ghost use Rattle.jsgen_syntax.specs.declared.precedence.Precedence.TheVariants.{Lowest, Comma};
-ghost use Rattle.jsgen_tree.specs.Tree.{trees, optional};
+ghost use Rattle.std.specs.Prelude.{◌≡◌, map};
+ghost use Rattle.jsgen_syntax.specs.declared.precedence.Precedence.TheVariants.{Lowest};
+ghost use Rattle.jsgen_tree.specs.Tree.{trees};
 ghost use Rattle.jsgen_tree.specs.Words.{declaration_word};
-ghost use Rattle.jsgen_tree.specs.Rows.{binding_identifier_row, variable_declarator_row, variable_declaration_row, expression_statement_row, program_row, directive_row, in_expression, in_statement};
+ghost use Rattle.jsgen_tree.specs.Rows.{binding_identifier_row, variable_declarator_row, variable_declaration_row, expression_statement_row, program_row, directive_row, in_statement};
 ghost use Rattle.jsgen_model.specs.Items.{◌⊕◌, word, soft_space, due_semicolon};
 ghost use Rattle.jsgen_model.specs.Layout.{layout};
-ghost use Rattle.jsgen_model.specs.Spell.{spell, spell_list, spell_value, spell_directives, spell_body, first_statement, behind, among_statements};
+ghost use Rattle.jsgen_model.specs.Spell.{spell, spell_list, spell_directives, spell_body, first_statement, behind, among_statements};
 ghost use Rattle.jsgen_model.specs.Printing.{Reaches};
 ghost use Rattle.jsgen_printer.specs.Printer.{pen_of};
 ghost use Rattle.jsgen_place.specs.Place.{place_of, settings_of};
 ghost use Rattle.jsgen_nodes.specs.Place.{pen_after};
 
 use crate::PrintNode;
-use jsgen_lists::{PrintMember, PrintStatement, print_more, print_whole_body};
+use crate::sequences::Expressions;
+use jsgen_lists::{PrintMember, PrintStatement, print_more, print_value, print_whole_body};
 use jsgen_place::{Place, Settings};
 use jsgen_printer::Printer;
 use jsgen_syntax::{Memory, Precedence};
 use jsgen_tree::{
-    BindingIdentifier, Directive, ExpressionNode, ExpressionStatement, Program, StatementNode,
-    VariableDeclaration, VariableDeclarator,
+    BindingIdentifier, Directive, ExpressionStatement, Program, StatementNode, VariableDeclaration,
+    VariableDeclarator,
 };
 
 #[tactic(auto, unfolding(crate::specs::Place::pen_after))]
@@ -182,28 +183,7 @@ pub fn print_variable_declarator<N: PrintNode>(
     ensures { Reaches result (pen_of p.old) (pen_of p.new) (pen_after (variable_declarator_row N.plain node.now) place p.old) }
 {
     node.id.get().print(p, place.child(Precedence::Lowest))?;
-    print_value(&node.init, p, place)
-}
-
-// The value of a declarator.
-#[tactic(auto, unfolding(crate::specs::Place::pen_after))]
-fn print_value<N: PrintNode>(
-    value: &Option<ExpressionNode<N>>,
-    p: &mut Printer,
-    place: Place,
-) -> Result<(), Memory>
-    ensures { Reaches result (pen_of p.old) (pen_of p.new) (layout (spell_value (optional (option_map (in_expression N.plain) value.now))
-        (behind Comma (place_of place (pen_of p.old)))) (pen_of p.old)) }
-{
-    match value {
-        Some(value) => {
-            p.print_soft_space()?;
-            p.print_equal()?;
-            p.print_soft_space()?;
-            value.get().print(p, place.child(Precedence::Comma))
-        }
-        None => Ok(()),
-    }
+    print_value::<_, Expressions>(&node.init, p, place.child(Precedence::Comma))
 }
 
 #[tactic(auto, unfolding(crate::specs::Place::pen_after))]

@@ -96,6 +96,13 @@ impl Printer {
         }
     }
 
+    /// Whether the text is minified.
+    pub fn is_minified(&self) -> bool
+        ensures { result ≡ (pen_of self.now).style.minified }
+    {
+        self.minify
+    }
+
     // The code goes on with a text, which ends so.
     fn print_str(&mut self, text: &str, ending: Ending) -> Result<(), Memory>
         ensures { Reaches result (pen_of self.old) (pen_of self.new)

@@ -49,7 +49,7 @@ def write(table):
 def of_file(table, types):
     ghosts = [("Rattle.std.specs.Prelude", ["◌≡◌"])] + row_names(table)
     ghosts += [("Rattle.jsgen_model.specs.Spell", ["spell", "key_text"]),
-               ("Rattle.jsgen_nodes.specs.Alone", list(PLACES))]
+               ("Rattle.jsgen_nodes.specs.Alone", ["parameter_parts"] + list(PLACES))]
     homes = print_functions() + [("crate::sets", [f"print_{snake(s.name)}" for s in table.nesting()]),
                                  ("crate", ["PrintAlone", "PrintAtLevel", "PrintNode"]),
                                  ("jsgen_place", ["Context", "Place", "Settings"]), ("jsgen_printer", ["Printer"]),
@@ -95,7 +95,8 @@ def of_type(table, name):
 
 
 def spelled(table, name):
-    items = f"spell ({plain(table, name)} n) ({place(name)} settings context start)"
+    spelling = "parameter_parts" if name == "FormalParameters" else "spell"
+    items = f"{spelling} ({plain(table, name)} n) ({place(name)} settings context start)"
     return f"key_text ({plain(table, name)} n) ({items})" if name == "PropertyKey" else items
 
 

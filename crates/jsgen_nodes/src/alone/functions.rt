@@ -2,8 +2,12 @@
 // What is printed by itself, or at a level.
 ghost use Rattle.jsgen_tree.specs.Rows.{formal_parameter_row, formal_parameter_rest_row, formal_parameters_row, arrow_function_expression_row};
 ghost use Rattle.jsgen_model.specs.Spell.{spell};
-ghost use Rattle.jsgen_nodes.specs.Alone.{by_itself};
+ghost use Rattle.jsgen_nodes.specs.Alone.{parameter_parts, by_itself};
 
+use crate::functions::{
+    print_arrow_function_expression, print_formal_parameter, print_formal_parameter_rest,
+    print_formal_parameters,
+};
 use crate::{PrintAlone, PrintAtLevel, PrintNode};
 use jsgen_place::{Context, Place, Settings};
 use jsgen_printer::Printer;
@@ -40,7 +44,7 @@ impl<N: PrintNode> PrintAlone for FormalParameterRest<N> {
 
 #[tactic(auto, unfolding(crate::specs::Place::pen_after))]
 impl<N: PrintNode> PrintAlone for FormalParameters<N> {
-    ghost alone = { λ n settings context start. spell (formal_parameters_row N.plain n) (by_itself settings context start) };
+    ghost alone = { λ n settings context start. parameter_parts (formal_parameters_row N.plain n) (by_itself settings context start) };
 
     fn print_alone(
         &self,

@@ -1,3 +1,4 @@
+use Rattle.std.proofs.Common.{false}
 use Rattle.jsgen_syntax.specs.Operator.{logical_level, logical_lower_level}
 use Rattle.jsgen_model.specs.Spell.{unmixed, logical_item}
 use Rattle.jsgen_printer.specs.Printer.{pen_of}
@@ -31,7 +32,7 @@ returns g c =
     let right = c.args.node.now.right.node in
     let before = pen_of c.args.p.now in
     let between = pen_of c.print_soft_space-2.new.self in
-    operation_laid c.print-2.result (pen_of c.print-2.new.p) before _ _ _ between (logical_item o) (plain left) (plain right) c.args.place c.left_operand.result c.child.result (unmixed o (plain left) (logical_lower_level o)) (unmixed o (plain right) (logical_level o)) (logical_nowhere o)
+    operation_laid c.print-2.result (pen_of c.print-2.new.p) before _ _ _ between (logical_item o) (plain left) (plain right) c.args.place c.left_operand.result c.child.result (unmixed o (plain left) (logical_lower_level o)) (unmixed o (plain right) (logical_level o)) false false (logical_nowhere o)
     (rw (c.unmixed-level.ensures (g.N.PrintNode.plain c.get-left.result.now) c.operand.ensures, c.lower_precedence.ensures, c.get-left.ensures) at c.left_operand.ensures)
     (rw (c.unmixed-level-2.ensures (g.N.PrintNode.plain c.get-right.result.now) c.operand-2.ensures, c.precedence.ensures, c.get-right.ensures) at c.child.ensures)
     (rw c.get-left.ensures at c.in_ok-print.ensures)

@@ -14,4 +14,4 @@ returns-in_err-print_bracket_link g c = stopped _ c.from_residual-in_err-print_b
 
 pub returns : goal.returns
 unfolding pen_after
-returns g c = reaches_last _ _ _ _ _ _ (rw (c.in_ok-print_bracket_link.ensures, c.in_ok-print.ensures, c.deref.ensures.value, c.get.ensures, c.called.ensures (pen_of c.args.p.now), c.in_brackets-within.ensures) at c.print_in_brackets.ensures) (search appends) refl
+returns g c = reaches_last _ _ _ _ _ _ (rw (c.in_ok-print_bracket_link.ensures, c.in_ok-print.ensures, c.deref.ensures.value, c.get.ensures, c.called.ensures (pen_of c.args.p.now), c.in_brackets-within.ensures, c.plain_quotes-quotes.ensures.first, c.plain_quotes-quotes.ensures.second) at c.print_arguments.ensures) (search appends) refl

@@ -4,7 +4,8 @@ use Rattle.jsgen_tree.specs.Tree.{Tree, Trees, trees}
 use Rattle.jsgen_tree.specs.Rows.{in_argument}
 use Rattle.jsgen_model.specs.Punctuator.{Round}
 use Rattle.jsgen_model.specs.Items.{Items, ◌⊕◌, brackets}
-use Rattle.jsgen_model.specs.Spell.{Place, spell, spell_list, called, in_brackets, bracket_link}
+use Rattle.jsgen_model.specs.Spell.{Place, spell, spell_arguments, called, in_brackets, bracket_link}
+use Rattle.jsgen_model.specs.Quotes.{is_require_call, is_definition_call}
 use Rattle.jsgen_printer.specs.Printer.{pen_of}
 use Rattle.jsgen_printer.proofs.Stops.{appends, stopped, stops_within}
 use Rattle.jsgen_nodes.specs.Place.{pen_after}
@@ -13,7 +14,7 @@ use Rattle.jsgen_nodes.proofs.links.print_call_expression.Goals as goal
 
 -- what is called and what it is given
 abbrev call_items : Bool → Tree → Trees → Place → Items
-call_items optional callee arguments place = spell callee (called place) ⊕ (bracket_link optional ⊕ brackets Round (spell_list arguments (in_brackets Comma place)))
+call_items optional callee arguments place = spell callee (called place) ⊕ (bracket_link optional ⊕ brackets Round (spell_arguments (is_require_call place.settings.minified callee arguments) (is_definition_call place.settings.minified callee arguments) arguments (in_brackets Comma place)))
 
 pub returns-in_err-print_opening_if : goal.returns-in_err-print_opening_if
 unfolding pen_after

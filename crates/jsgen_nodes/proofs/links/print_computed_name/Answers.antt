@@ -13,8 +13,8 @@ returns-in_err-print_opening g c = stopped _ c.from_residual-in_err-print_openin
 
 pub returns-in_err-print : goal.returns-in_err-print
 unfolding pen_after
-returns-in_err-print g c = stopped _ c.from_residual-in_err-print.ensures.0 (stops_within (rw (c.in_ok-print_opening.ensures, c.in_ok-print_bracket_link.ensures, c.get.ensures, c.in_brackets.ensures) at c.in_err-print.ensures) (search appends) (search appends))
+returns-in_err-print g c = stopped _ c.from_residual-in_err-print.ensures.0 (stops_within (rw (c.in_ok-print_opening.ensures, c.in_ok-print_bracket_link.ensures, c.get.ensures, c.quoted_plainly.ensures, c.in_brackets-within.ensures) at c.in_err-print.ensures) (search appends) (search appends))
 
 pub returns : goal.returns
 unfolding pen_after
-returns g c = reaches_last _ _ _ _ _ _ (rw (c.in_ok-print.ensures, c.in_ok-print_opening.ensures, c.in_ok-print_bracket_link.ensures, c.get.ensures, c.in_brackets.ensures) at c.print_closing.ensures) (search appends) refl
+returns g c = reaches_last _ _ _ _ _ _ (rw (c.in_ok-print.ensures, c.in_ok-print_opening.ensures, c.in_ok-print_bracket_link.ensures, c.get.ensures, c.quoted_plainly.ensures, c.in_brackets-within.ensures) at c.print_closing.ensures) (search appends) refl

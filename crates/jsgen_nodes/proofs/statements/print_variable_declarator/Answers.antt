@@ -9,4 +9,4 @@ returns-in_err-print g c = stopped _ c.from_residual.ensures.0 (stops_within (rw
 
 pub returns : goal.returns
 unfolding pen_after
-returns g c = reaches_last _ _ _ _ _ _ (rw (c.in_ok-print.ensures, c.get.ensures, c.child.ensures) at c.print_value.ensures) (search appends) refl
+returns g c = reaches_last _ _ _ _ _ _ (rw (c.in_ok-print.ensures, c.get.ensures, c.child.ensures, c.child-2.ensures) at c.print_value.ensures) (search appends) refl

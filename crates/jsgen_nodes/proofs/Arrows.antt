@@ -1,0 +1,52 @@
+-- Arrow functions and their parameters, from the steps that print them.
+use Rattle.std.proofs.Common.{◌≡◌, Box, Bool, true, false, Option, Some, None, option_map, List, [], ◌∷◌, map, sym, length, suc, ◌&&◌, is_none, refl, ap, arith}
+use Rattle.std.specs.Bool.{◌==◌}
+use Rattle.std.proofs.lemmas.Bool.{both_ways, eqb-true}
+use Rattle.jsgen_tree.specs.Tree.{Tree, Atoms, Trees, no_trees, more, hole, Maybe, absent, given, trees, optional}
+use Rattle.jsgen_tree.specs.Nodes as tree
+use Rattle.jsgen_model.specs.Punctuator.{Round, arrow}
+use Rattle.jsgen_model.specs.Items.{Items, ◌⊕◌, soft_space, punctuator, arrow_body_begins, brackets}
+use Rattle.jsgen_model.specs.Layout.{Pen, nowhere}
+use Rattle.jsgen_model.specs.Spell as spells
+use Rattle.jsgen_model.specs.Spell.{spell, spell_list, spell_parts, spell_if_given, behind, within, is_name_alone, parameter_items, parameters_place, arrow_body_place}
+use Rattle.jsgen_place.specs.declared.place.Place.{Place}
+use Rattle.jsgen_place.specs.Place.{place_of}
+use Rattle.jsgen_nodes.specs.Alone.{parameter_parts}
+use Rattle.jsgen_nodes.specs.Names.{is_name_parameter}
+
+-- parameters, the arrow and the body
+abbrev pub arrow_items : Bool → Tree → Tree → spells.Place → spells.Place → Items
+arrow_items bare params body inside place = parameter_items bare (spell params inside) ⊕ (soft_space ⊕ (punctuator arrow ⊕ (soft_space ⊕ (arrow_body_begins ⊕ spell body (arrow_body_place place)))))
+
+-- parentheses round the function allow no more in its parameters
+pub parameters_within : (test : Bool) (place : spells.Place) → parameters_place (within test place) ≡ parameters_place place
+parameters_within true place = refl
+parameters_within false place = refl
+
+-- where nothing begins, parameters are a list
+parts_listed : (ts : Trees) (place : spells.Place) → place.start ≡ nowhere → spell_parts ts place ≡ spell_list ts place
+parts_listed no_trees place none = refl
+parts_listed (more t ts) place none = ap (λ s. spell t place ⊕ spells.spell_more ts (record place { start = s })) (sym none)
+parts_listed (hole ts) place none = parts_listed ts place none
+
+pub parts_in_brackets : (a : Atoms) (items : Trees) (rest : Maybe) (place : spells.Place) → place.start ≡ nowhere → parameter_parts (tree.formal_parameters a items rest) place ≡ spell (tree.formal_parameters a items rest) place
+parts_in_brackets a items rest place none = ap (λ l. l ⊕ (spells.comma_between items rest ⊕ spell_if_given rest place)) (parts_listed items place none)
+
+-- a name alone is spelled so anywhere
+pub bare_parts : (params : Tree) (p q : spells.Place) → is_name_alone params ≡ true → parameter_parts params p ≡ spell params q
+bare_parts (tree.formal_parameters a (more (tree.formal_parameter b (tree.binding_identifier i) absent) no_trees) absent) p q h = refl
+bare_parts t p q h = absurd (both_ways false refl h)
+
+-- one parameter, a name, and none that takes the rest
+one_alone : {A B : Type 0} (t : Tree) (f : A → Tree) (g : B → Tree) (xs : List A) (rest : Option B) (a : Atoms) → (is_name_parameter t && ((length xs == 0) && is_none rest)) ≡ is_name_alone (tree.formal_parameters a (more t (trees (map f xs))) (optional (option_map g rest)))
+one_alone (tree.formal_parameter b (tree.binding_identifier i) absent) f g [] None a = refl
+one_alone (tree.formal_parameter b (tree.binding_identifier i) absent) f g [] (Some y) a = refl
+one_alone (tree.formal_parameter b (tree.binding_identifier i) absent) f g (x ∷ xs) rest a = go (length (x ∷ xs) == 0) refl
+  where
+    go : (e : Bool) → (length (x ∷ xs) == 0) ≡ e → ((length (x ∷ xs) == 0) && is_none rest) ≡ false
+    go true h = absurd (omega (arith, eqb-true (suc (length xs)) 0 h))
+    go false h = rw h refl
+one_alone t f g xs rest a = refl
+
+pub alone_or_not : {A B : Type 0} (f : A → Tree) (g : B → Tree) (x : A) (xs : List A) (rest : Option B) (a : Atoms) → (is_name_parameter (f x) && ((length xs == 0) && is_none rest)) ≡ is_name_alone (tree.formal_parameters a (trees (map f (x ∷ xs))) (optional (option_map g rest)))
+alone_or_not f g x xs rest a = one_alone (f x) f g xs rest a

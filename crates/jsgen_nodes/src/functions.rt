@@ -1,0 +1,207 @@
+// Functions and their parameters (ECMA-262, clause 15), one function for each row.
+ghost use Rattle.std.specs.Prelude.{◌≡◌, false};
+ghost use Rattle.jsgen_tree.specs.Rows.{formal_parameter_row, formal_parameter_rest_row, formal_parameters_row, arrow_function_expression_row, in_arrow_function_body};
+ghost use Rattle.jsgen_model.specs.Punctuator.{arrow};
+ghost use Rattle.jsgen_model.specs.Items.{◌⊕◌, soft_space, punctuator, arrow_body_begins};
+ghost use Rattle.jsgen_model.specs.Layout.{layout};
+ghost use Rattle.jsgen_model.specs.Spell.{spell, is_name_alone, is_bare, parameter_items, parameters_place, arrow_body_place};
+ghost use Rattle.jsgen_model.specs.Printing.{Reaches};
+ghost use Rattle.jsgen_printer.specs.Printer.{pen_of};
+ghost use Rattle.jsgen_place.specs.Place.{place_of, settings_of};
+ghost use Rattle.jsgen_nodes.specs.Alone.{parameter_parts};
+ghost use Rattle.jsgen_nodes.specs.Names.{is_name_parameter};
+ghost use Rattle.jsgen_nodes.specs.Place.{pen_after};
+
+use crate::PrintNode;
+use crate::sequences::Expressions;
+use jsgen_lists::{PrintMember, print_comma_between, print_if_given, print_parts, print_value};
+use jsgen_place::{Place, is_bare};
+use jsgen_printer::{Bracket, Printer};
+use jsgen_syntax::{Memory, Precedence};
+use jsgen_tree::{
+    ArrowFunctionBody, ArrowFunctionExpression, FormalParameter, FormalParameterRest,
+    FormalParameters,
+};
+
+// ---- parameters
+
+#[tactic(auto, unfolding(crate::specs::Place::pen_after))]
+pub fn print_formal_parameter<N: PrintNode>(
+    node: &FormalParameter<N>,
+    p: &mut Printer,
+    place: Place,
+) -> Result<(), Memory>
+    ensures { Reaches result (pen_of p.old) (pen_of p.new) (pen_after (formal_parameter_row N.plain node.now) place p.old) }
+{
+    node.pattern
+        .get()
+        .print(p, place.child(Precedence::Lowest))?;
+    print_value::<_, Expressions>(&node.initializer, p, place.child(Precedence::Comma))
+}
+
+#[tactic(auto, unfolding(crate::specs::Place::pen_after))]
+pub fn print_formal_parameter_rest<N: PrintNode>(
+    node: &FormalParameterRest<N>,
+    p: &mut Printer,
+    place: Place,
+) -> Result<(), Memory>
+    ensures { Reaches result (pen_of p.old) (pen_of p.new) (pen_after (formal_parameter_rest_row N.plain node.now) place p.old) }
+{
+    p.print_ellipsis()?;
+    node.argument
+        .get()
+        .print(p, place.child(Precedence::Lowest))
+}
+
+/// Parameters, of which the first begins where they do.
+#[tactic(auto, unfolding(crate::specs::Place::pen_after))]
+pub fn print_formal_parameters<N: PrintNode>(
+    node: &FormalParameters<N>,
+    p: &mut Printer,
+    place: Place,
+) -> Result<(), Memory>
+    ensures { Reaches result (pen_of p.old) (pen_of p.new) (layout (parameter_parts (formal_parameters_row N.plain node.now) (place_of place (pen_of p.old))) (pen_of p.old)) }
+{
+    print_parts::<_, Parameters>(&node.items, p, place)?;
+    print_comma_between::<_, _, Parameters, Rest>(&node.items, &node.rest, p)?;
+    print_if_given::<_, Rest>(&node.rest, p, place)
+}
+
+/// The parameters of a function.
+struct Parameters;
+
+#[tactic(auto, unfolding(crate::specs::Place::pen_after))]
+impl<N: PrintNode> PrintMember<FormalParameter<N>> for Parameters {
+    ghost plain = { formal_parameter_row N.plain };
+
+    fn print_member(
+        parameter: &FormalParameter<N>,
+        p: &mut Printer,
+        place: Place,
+    ) -> Result<(), Memory> {
+        print_formal_parameter(parameter, p, place)
+    }
+}
+
+/// The parameter that takes what the others leave.
+struct Rest;
+
+#[tactic(auto, unfolding(crate::specs::Place::pen_after))]
+impl<N: PrintNode> PrintMember<Box<FormalParameterRest<N>>> for Rest {
+    ghost plain = { λ b. formal_parameter_rest_row N.plain b.value };
+
+    fn print_member(
+        rest: &Box<FormalParameterRest<N>>,
+        p: &mut Printer,
+        place: Place,
+    ) -> Result<(), Memory> {
+        print_formal_parameter_rest(rest, p, place)
+    }
+}
+
+// ---- arrow functions
+
+#[tactic(auto, unfolding(crate::specs::Place::pen_after))]
+pub fn print_arrow_function_expression<N: PrintNode>(
+    node: &ArrowFunctionExpression<N>,
+    p: &mut Printer,
+    place: Place,
+) -> Result<(), Memory>
+    ensures { Reaches result (pen_of p.old) (pen_of p.new) (pen_after (arrow_function_expression_row N.plain node.now) place p.old) }
+{
+    let wrap = place.wraps_arrow(node.pife);
+    p.print_opening_if(wrap)?;
+    print_arrow(node, p, place.within(wrap))?;
+    p.print_closing_if(wrap)
+}
+
+// The parameters, the arrow and the body, within the parentheses.
+#[tactic(auto, unfolding(crate::specs::Place::pen_after))]
+fn print_arrow<N: PrintNode>(
+    node: &ArrowFunctionExpression<N>,
+    p: &mut Printer,
+    place: Place,
+) -> Result<(), Memory>
+    ensures { Reaches result (pen_of p.old) (pen_of p.new) (layout (parameter_items (is_bare (settings_of place.settings) (formal_parameters_row N.plain node.now.params.value))
+        (spell (formal_parameters_row N.plain node.now.params.value) (parameters_place (place_of place (pen_of p.old))))
+        ⊕ (soft_space ⊕ (punctuator arrow ⊕ (soft_space ⊕ (arrow_body_begins
+        ⊕ spell (in_arrow_function_body N.plain node.now.body) (arrow_body_place (place_of place (pen_of p.old)))))))) (pen_of p.old)) }
+{
+    print_arrow_parameters(&node.params, p, place)?;
+    print_behind_parameters(&node.body, p, place)
+}
+
+// A name alone, or parameters in parentheses.
+#[tactic(auto, unfolding(crate::specs::Place::pen_after))]
+fn print_arrow_parameters<N: PrintNode>(
+    parameters: &FormalParameters<N>,
+    p: &mut Printer,
+    place: Place,
+) -> Result<(), Memory>
+    ensures { Reaches result (pen_of p.old) (pen_of p.new) (layout (parameter_items (is_bare (settings_of place.settings) (formal_parameters_row N.plain parameters.now))
+        (spell (formal_parameters_row N.plain parameters.now) (parameters_place (place_of place (pen_of p.old))))) (pen_of p.old)) }
+{
+    if is_bare(place.settings, is_name_alone(parameters)) {
+        print_formal_parameters(parameters, p, place.parameters())
+    } else {
+        print_parameters_in_brackets(parameters, p, place)
+    }
+}
+
+#[tactic(auto, unfolding(crate::specs::Place::pen_after))]
+fn print_parameters_in_brackets<N: PrintNode>(
+    parameters: &FormalParameters<N>,
+    p: &mut Printer,
+    place: Place,
+) -> Result<(), Memory>
+    ensures { Reaches result (pen_of p.old) (pen_of p.new) (layout (parameter_items false
+        (spell (formal_parameters_row N.plain parameters.now) (parameters_place (place_of place (pen_of p.old))))) (pen_of p.old)) }
+{
+    p.print_opening(Bracket::Round)?;
+    print_formal_parameters(parameters, p, place.parameters())?;
+    p.print_closing(Bracket::Round)
+}
+
+fn is_name_alone<N: PrintNode>(parameters: &FormalParameters<N>) -> bool
+    ensures { result ≡ is_name_alone (formal_parameters_row N.plain parameters.now) }
+{
+    match parameters.items.split_first() {
+        Some((first, others)) => is_name(first) && (others.is_empty() && parameters.rest.is_none()),
+        None => false,
+    }
+}
+
+fn is_name<N: PrintNode>(parameter: &FormalParameter<N>) -> bool
+    ensures { result ≡ is_name_parameter (formal_parameter_row N.plain parameter.now) }
+{
+    parameter.initializer.is_none() && parameter.pattern.get().is_binding_name()
+}
+
+// The arrow, and the body behind it.
+#[tactic(auto, unfolding(crate::specs::Place::pen_after))]
+fn print_behind_parameters<N: PrintNode>(
+    body: &ArrowFunctionBody<N>,
+    p: &mut Printer,
+    place: Place,
+) -> Result<(), Memory>
+    ensures { Reaches result (pen_of p.old) (pen_of p.new) (layout (soft_space ⊕ (punctuator arrow ⊕ (soft_space ⊕ (arrow_body_begins
+        ⊕ spell (in_arrow_function_body N.plain body.now) (arrow_body_place (place_of place (pen_of p.old))))))) (pen_of p.old)) }
+{
+    p.print_soft_space()?;
+    p.print_arrow()?;
+    p.print_soft_space()?;
+    p.begin_arrow_body();
+    print_arrow_function_body(body, p, place.child(Precedence::Comma))
+}
+
+fn print_arrow_function_body<N: PrintNode>(
+    body: &ArrowFunctionBody<N>,
+    p: &mut Printer,
+    place: Place,
+) -> Result<(), Memory>
+    ensures { Reaches result (pen_of p.old) (pen_of p.new) (pen_after (in_arrow_function_body N.plain body.now) place p.old) }
+{
+    match body {
+        ArrowFunctionBody::Expression(node) => node.get().print(p, place),
+    }
+}
