@@ -1,5 +1,5 @@
 -- The verdict on an expression by itself, whose height is judged behind its other rules.
-use Rattle.std.proofs.Common.{◌≡◌, ℕ, ◌+◌, ⊎, inl, inr, true, false, List, [], ◌∷◌, ◌++◌, nat_lt, Result, if◌then◌else◌, refl, ap, ◌∙◌, arith}
+use Rattle.std.proofs.Common.{◌≡◌, ℕ, ◌+◌, ◌⊎◌, inl, inr, true, false, List, [], ◌∷◌, ◌++◌, nat_lt, Result, if◌then◌else◌, refl, ap, ◌∙◌, arith}
 use Rattle.std.proofs.lemmas.Bool.Decides.{nat_tests}
 use Rattle.jsgen_syntax.specs.declared.span.Span.{Span}
 use Rattle.jsgen_tree.specs.declared.types.NodeSet.TheVariants as sets

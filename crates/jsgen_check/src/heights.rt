@@ -48,6 +48,7 @@ fn passes_levels(options: &CodegenOptions, height: u64) -> bool
 }
 
 // What a tree with this span breaks by its height: minified text has no indentation.
+#[tactic(auto, unfolding(jsgen_rules::specs::Verdict::verdict))]
 fn check_height(options: &CodegenOptions, span: Span, height: u64) -> Result<(), TreeFault>
     ensures { result ≡ verdict (height_faults (options_plain options.now) span height) }
 {
