@@ -270,8 +270,8 @@ def rows_of(child, rows):
 
 
 def job_of(program, options):
-    """The job that prints the program under these options."""
+    """The job that prints the program under these options, each with its value."""
     rows = []
     rows_of(Reader(program).program(), rows)
-    job = {"options": {name: True for name in options}, "rows": rows}
+    job = {"options": options, "rows": rows}
     return json.dumps(job, ensure_ascii=False, separators=(",", ":"))

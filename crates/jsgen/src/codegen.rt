@@ -272,7 +272,8 @@ impl<'a> Codegen<'a> {
         check_expression(&self.options, expression)
     }
 
-    /// Prints a program, which `check` has to accept, before anything else is printed. The only error is want of memory.
+    /// Prints a program, which `check` has to accept, before anything else is printed: its first line stands at the level
+    /// `initial_indent`, where print calls begin at level 0. The only error is want of memory.
     pub fn build(self, program: &'a Program) -> Result<CodegenReturn, CodegenError>
         requires unprinted { has_printed self ≡ false }
         requires valid { IsValid (job_for self (program_plain program.now)) }
@@ -287,6 +288,7 @@ impl<'a> Codegen<'a> {
     {
         let settings = self.settings();
         let mut p = self.printer;
+        p.set_depth(self.options.initial_indent);
         print_program(program, &mut p, settings)?;
         Ok(CodegenReturn {
             code: p.into_string(),

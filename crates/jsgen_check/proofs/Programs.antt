@@ -1,33 +1,29 @@
 -- The verdict on a program, whose height is judged behind its children.
-use Rattle.std.proofs.Common.{◌≡◌, ℕ, suc, Bool, false, List, [], ◌∷◌, ◌++◌, map, nat_lt, Result, if◌then◌else◌, refl, sym, ap, ◌∙◌, arith}
+use Rattle.std.proofs.Common.{◌≡◌, ℕ, suc, List, [], ◌∷◌, ◌++◌, map, Result, refl, sym, ap, ◌∙◌, arith}
 use Rattle.std.specs.Str.{chars}
-use Rattle.std.proofs.lemmas.Bool.Decides.{nat_tests}
 use Rattle.std.proofs.lemmas.List.Elements.{Contains-append_right}
 use Rattle.jsgen_syntax.specs.declared.span.Span.{Span}
 use Rattle.jsgen_tree.specs.declared.types.NodeSet.TheVariants as sets
 use Rattle.jsgen_tree.specs.Tree.{Tree, trees, Slots, no_slots, many}
 use Rattle.jsgen_tree.specs.Rows.{directive_row, in_statement, program_row}
 use Rattle.jsgen_tree.specs.declared.statements.Program.{Program}
+use Rattle.jsgen_tree.specs.Options.{Options, options_plain}
 use Rattle.jsgen_tree.specs.Job.{JobData}
-use Rattle.jsgen_model.specs.Valid.{breaches, span_faults, source_faults, indent_faults, fault_if, in_slots, height_of_slots, surroundings_of, job_breaches, Judges}
+use Rattle.jsgen_model.specs.Valid.{breaches, span_faults, source_faults, indent_faults, in_slots, height_of_slots, surroundings_of, job_breaches, Judges}
 use Rattle.jsgen_model.specs.declared.fault.TreeFault.{TreeFault}
-use Rattle.jsgen_model.specs.declared.fault.TreeFault.TheVariants as faults
 use Rattle.jsgen_rules.specs.Verdict.{verdict}
 use Rattle.jsgen_check.specs.declared.surroundings.Surroundings.{Surroundings}
 use Rattle.jsgen_check.specs.Verdict.{surroundings_plain, capped, measured, both, ended, height_faults}
-use Rattle.jsgen_check.proofs.Verdicts.{slots_verdict, place, of_both, of_slots}
+use Rattle.jsgen_check.proofs.Verdicts.{capped_suc, slots_verdict, place, of_both, of_slots}
+use Rattle.jsgen_check.proofs.Alone.{capped_height}
 
--- a height that passes 32 bits does so too where it is counted up to what 64 bits hold
-fills : (n : ℕ) → nat_lt 4294967295 (suc (capped n)) ≡ nat_lt 4294967295 (suc n)
-fills n = grind (arith, nat_tests)
+of_height : (options : Options) (s : Span) (n : ℕ) → height_faults options s (capped (suc (capped n))) ≡ height_faults options s (suc n)
+of_height options s n = ap (height_faults options s) (sym (capped_suc n)) ∙ capped_height options s (suc n)
 
-of_height : (minified : Bool) (s : Span) (n : ℕ) → height_faults minified s (suc (capped n)) ≡ fault_if (if minified then false else nat_lt 4294967295 (suc n)) (faults.Indent s.start)
-of_height minified s n = ap (λ b. fault_if (if minified then false else b) (faults.Indent s.start)) (fills n)
-
-of_ended : (minified : Bool) (s : Span) (n : ℕ) (a : List TreeFault) → ended minified s (measured n a) ≡ verdict (a ++ fault_if (if minified then false else nat_lt 4294967295 (suc n)) (faults.Indent s.start))
+of_ended : (options : Options) (s : Span) (n : ℕ) (a : List TreeFault) → ended options s (measured n a) ≡ verdict (a ++ height_faults options s (suc n))
 unfolding ended measured verdict
-of_ended minified s n [] = ap verdict (of_height minified s n)
-of_ended minified s n (f ∷ a) = refl
+of_ended options s n [] = ap verdict (of_height options s n)
+of_ended options s n (f ∷ a) = refl
 
 -- any fault may be told, so a rule may be judged behind the children too
 judged_behind : (a b c d : List TreeFault) → Judges (a ++ (b ++ d) ++ c) (verdict (a ++ (b ++ (c ++ d))))
@@ -41,17 +37,17 @@ judged_behind (f ∷ a) b c d = (0, omega arith, refl)
 abbrev pub program_slots : {N : Type 0} → (N → Tree) → Program N → Slots
 program_slots plain p = many (trees (map directive_row p.directives.items)) (many (trees (map (in_statement plain) p.body.items)) no_slots)
 
-pub of_program : {N : Type 0} {r source : Result (Unit {0}) TreeFault} {q : Result ℕ TreeFault} (around : Surroundings) (plain : N → Tree) (p : Program N) → r ≡ both (verdict (span_faults p.span)) (both source (ended around.options.now.minify p.span q)) → source ≡ verdict (source_faults p.span (chars around.source.now)) → q ≡ slots_verdict around (sets.Directive ∷ sets.Statement ∷ []) (program_slots plain p) → Judges (breaches (surroundings_plain around) (program_row plain p)) r
+pub of_program : {N : Type 0} {r source : Result (Unit {0}) TreeFault} {q : Result ℕ TreeFault} (around : Surroundings) (plain : N → Tree) (p : Program N) → r ≡ both (verdict (span_faults p.span)) (both source (ended (options_plain around.options.now) p.span q)) → source ≡ verdict (source_faults p.span (chars around.source.now)) → q ≡ slots_verdict around (sets.Directive ∷ sets.Statement ∷ []) (program_slots plain p) → Judges (breaches (surroundings_plain around) (program_row plain p)) r
 unfolding surroundings_plain
 of_program {N} {r} {source} {q} around plain p parts own children =
-    let minified = around.options.now.minify in
+    let options = options_plain around.options.now in
     let span = span_faults p.span in
     let rule = source_faults p.span (chars around.source.now) in
     let slots = program_slots plain p in
     let below = in_slots (surroundings_plain around) (place around sets.Directive ∷ place around sets.Statement ∷ []) slots in
-    let indent = indent_faults minified (program_row plain p) in
-    let end = ap (ended minified p.span) (children ∙ sym (of_slots around (sets.Directive ∷ sets.Statement ∷ []) slots)) ∙ of_ended minified p.span (height_of_slots slots) below in
-    let behind = ap (λ x. both x (ended minified p.span q)) own ∙ (ap (both (verdict rule)) end ∙ sym (of_both rule (below ++ indent))) in
+    let indent = indent_faults options (program_row plain p) in
+    let end = ap (ended options p.span) (children ∙ sym (of_slots around (sets.Directive ∷ sets.Statement ∷ []) slots)) ∙ of_ended options p.span (height_of_slots slots) below in
+    let behind = ap (λ x. both x (ended options p.span q)) own ∙ (ap (both (verdict rule)) end ∙ sym (of_both rule (below ++ indent))) in
     let first = parts ∙ (ap (both (verdict span)) behind ∙ sym (of_both span (rule ++ (below ++ indent)))) in
     rw first (judged_behind span rule below indent)
 

@@ -16,7 +16,7 @@ use Rattle.jsgen_check.specs.Verdict.{surroundings_plain, capped, measured, tree
 capped_max : (m n : ℕ) → capped (max m n) ≡ max (capped m) (capped n)
 capped_max m n = omega arith
 
-capped_suc : (n : ℕ) → capped (suc n) ≡ capped (suc (capped n))
+pub capped_suc : (n : ℕ) → capped (suc n) ≡ capped (suc (capped n))
 capped_suc n = omega arith
 
 no_height : measured 0 [] ≡ Ok 0

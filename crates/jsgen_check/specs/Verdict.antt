@@ -1,13 +1,13 @@
 -- What the checker answers about a tree: Ok with its height where it keeps each rule, else the first rule that it breaks.
-use Rattle.std.specs.Prelude.{ℕ, suc, nat_lt, min, max, Bool, false, List, [], ◌∷◌, ◌++◌, Result, Ok, Err, if◌then◌else◌}
+use Rattle.std.specs.Prelude.{ℕ, suc, min, max, false, List, [], ◌∷◌, ◌++◌, Result, Ok, Err, if◌then◌else◌}
 use Rattle.std.specs.Str.{chars}
 use Rattle.jsgen_syntax.specs.declared.span.Span.{Span}
 use Rattle.jsgen_tree.specs.declared.types.NodeSet.{NodeSet}
 use Rattle.jsgen_tree.specs.Tree.{Tree, Maybe, absent, given, Trees}
-use Rattle.jsgen_tree.specs.Options.{options_plain}
+use Rattle.jsgen_tree.specs.Options.{Options, options_plain}
 use Rattle.jsgen_tree.specs.Job.{no_tables}
 use Rattle.jsgen_model.specs.Valid as valid
-use Rattle.jsgen_model.specs.Valid.{breaches, set_faults, in_trees, height, greatest_height, fault_if}
+use Rattle.jsgen_model.specs.Valid.{breaches, set_faults, in_trees, height, greatest_height, fault_if, passes_levels}
 use Rattle.jsgen_model.specs.declared.fault.TreeFault.{TreeFault}
 use Rattle.jsgen_model.specs.declared.fault.TreeFault.TheVariants as faults
 use Rattle.jsgen_rules.specs.Verdict.{verdict}
@@ -41,19 +41,19 @@ unfoldable pub raised : Result ℕ TreeFault → Result ℕ TreeFault
 raised (Ok n) = Ok (capped (suc n))
 raised (Err e) = Err e
 
--- what a tree with this span breaks by its height
-abbrev pub height_faults : Bool → Span → ℕ → List TreeFault
-height_faults minified s height = fault_if (if minified then false else nat_lt 4294967295 height) (faults.Indent s.start)
+-- what a tree with this span breaks by its height, under these options
+abbrev pub height_faults : Options → Span → ℕ → List TreeFault
+height_faults options s height = fault_if (if options.minify then false else passes_levels options height) (faults.Indent s.start)
 
 -- a fault of the children of a program, else of its height
-unfoldable pub ended : Bool → Span → Result ℕ TreeFault → Result (Unit {0}) TreeFault
-ended minified s (Ok n) = verdict (height_faults minified s (suc n))
-ended minified s (Err e) = Err e
+unfoldable pub ended : Options → Span → Result ℕ TreeFault → Result (Unit {0}) TreeFault
+ended options s (Ok n) = verdict (height_faults options s (capped (suc n)))
+ended options s (Err e) = Err e
 
 -- a fault of an expression by itself, else of its height
-unfoldable pub topped : Bool → Span → Result ℕ TreeFault → Result (Unit {0}) TreeFault
-topped minified s (Ok n) = verdict (height_faults minified s n)
-topped minified s (Err e) = Err e
+unfoldable pub topped : Options → Span → Result ℕ TreeFault → Result (Unit {0}) TreeFault
+topped options s (Ok n) = verdict (height_faults options s n)
+topped options s (Err e) = Err e
 
 -- ---- trees
 

@@ -1,13 +1,15 @@
 // What is found of a node: the first fault, else its height, which is how many nodes stand on the longest way down,
 // counted up to what 64 bits hold. A row asks all its children, also behind a fault: its proof is then one line.
 ghost use Rattle.std.specs.Prelude.{◌≡◌};
-ghost use Rattle.jsgen_model.specs.Valid.{span_faults};
+ghost use Rattle.jsgen_tree.specs.Options.{options_plain};
+ghost use Rattle.jsgen_model.specs.Valid.{span_faults, passes_levels};
 ghost use Rattle.jsgen_rules.specs.Verdict.{verdict};
-ghost use Rattle.jsgen_check.specs.Verdict.{both, higher, raised, ended, topped};
+ghost use Rattle.jsgen_check.specs.Verdict.{both, higher, raised, height_faults, ended, topped};
 
 use jsgen_model::TreeFault;
 use jsgen_rules::check_span;
 use jsgen_syntax::Span;
+use jsgen_tree::CodegenOptions;
 
 /// The first fault of two checks, else the greater height.
 #[tactic(auto, unfolding(crate::specs::Verdict::higher))]
@@ -37,34 +39,50 @@ pub fn check_node(
     Ok(below.saturating_add(1))
 }
 
-/// The first fault of a program's span, of its source and of its children, else of its height: no level of indentation
-/// passes 32 bits.
-#[tactic(auto, unfolding(crate::specs::Verdict::both, crate::specs::Verdict::ended, jsgen_rules::specs::Verdict::verdict))]
-pub fn check_program_parts(
-    minified: bool,
-    span: Span,
-    source: Result<(), TreeFault>,
-    below: Result<u64, TreeFault>,
-) -> Result<(), TreeFault>
-    ensures { result ≡ both (verdict (span_faults span)) (both source (ended minified span below)) }
+// Whether a level of indentation of a tree of this height could pass 32 bits, or be wider than 64 bits.
+fn passes_levels(options: &CodegenOptions, height: u64) -> bool
+    ensures { result ≡ passes_levels (options_plain options.now) height }
 {
-    check_span(span)?;
-    source?;
-    let below = below?;
-    if !minified && below >= 4_294_967_295 {
+    let levels = u128::from(options.initial_indent) + u128::from(height);
+    levels > 4_294_967_295 || levels * options.indent_width as u128 > 18_446_744_073_709_551_615
+}
+
+// What a tree with this span breaks by its height: minified text has no indentation.
+#[tactic(auto, unfolding(jsgen_rules::specs::Verdict::verdict))]
+fn check_height(options: &CodegenOptions, span: Span, height: u64) -> Result<(), TreeFault>
+    ensures { result ≡ verdict (height_faults (options_plain options.now) span height) }
+{
+    if !options.minify && passes_levels(options, height) {
         return Err(TreeFault::Indent { start: span.start });
     }
     Ok(())
 }
 
-/// The first fault of an expression by itself, else of its height: no level of indentation passes 32 bits.
-#[tactic(auto, unfolding(crate::specs::Verdict::topped, jsgen_rules::specs::Verdict::verdict))]
-pub fn check_top(minified: bool, span: Span, found: Result<u64, TreeFault>) -> Result<(), TreeFault>
-    ensures { result ≡ topped minified span found }
+/// The first fault of a program's span, of its source and of its children, else of its height.
+#[tactic(auto, unfolding(crate::specs::Verdict::both, crate::specs::Verdict::ended, jsgen_rules::specs::Verdict::verdict))]
+pub fn check_program_parts(
+    options: &CodegenOptions,
+    span: Span,
+    source: Result<(), TreeFault>,
+    below: Result<u64, TreeFault>,
+) -> Result<(), TreeFault>
+    ensures { result ≡ both (verdict (span_faults span)) (both source (ended (options_plain options.now) span below)) }
+{
+    check_span(span)?;
+    source?;
+    let below = below?;
+    check_height(options, span, below.saturating_add(1))
+}
+
+/// The first fault of an expression by itself, else of its height.
+#[tactic(auto, unfolding(crate::specs::Verdict::topped))]
+pub fn check_top(
+    options: &CodegenOptions,
+    span: Span,
+    found: Result<u64, TreeFault>,
+) -> Result<(), TreeFault>
+    ensures { result ≡ topped (options_plain options.now) span found }
 {
     let height = found?;
-    if !minified && height > 4_294_967_295 {
-        return Err(TreeFault::Indent { start: span.start });
-    }
-    Ok(())
+    check_height(options, span, height)
 }

@@ -95,7 +95,7 @@ pub fn check_expression(options: &CodegenOptions, expression: &Expression) -> Re
         source: "",
     };
     let found = check_alone(expression, around);
-    check_top(options.minify, expression.span(), found)
+    check_top(options, expression.span(), found)
 }
 
 // An expression that nothing stands round.

@@ -20,5 +20,5 @@ pub fn check_program_row<N: CheckNode>(
     let directives = check_directives(&node.directives, around);
     let body = check_statements(&node.body, around);
     let below = higher(directives, body);
-    check_program_parts(around.options.minify, node.span, source, below)
+    check_program_parts(around.options, node.span, source, below)
 }

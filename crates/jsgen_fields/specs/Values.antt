@@ -6,6 +6,8 @@ use Rattle.std.specs.Str.Parse.{digits_value}
 use Rattle.serde_json.specs.Data.{Data, null, Items, no_items, item}
 use Rattle.serde_json.specs.Find.{get, as_bool, as_str, as_array, as_number, as_object, as_u64}
 use Rattle.serde_json.specs.Written.{has_float}
+use Rattle.jsgen_syntax.specs.declared.buffer.IndentChar.{IndentChar}
+use Rattle.jsgen_syntax.specs.declared.buffer.IndentChar.TheVariants.{Tab, Space}
 use Rattle.jsgen_syntax.specs.declared.span.Span.{Span}
 use Rattle.jsgen_tree.specs.declared.types.NodeType.{NodeType}
 use Rattle.jsgen_tree.specs.Options.{Options, default_options}
@@ -205,7 +207,7 @@ none_given a (name ∷ names) d = after (not_given a (field name d)) (λ _. none
 
 -- the options that aren't read yet
 abbrev pub text_options : List (List ℕ)
-text_options = codes "source_map_path" ∷ codes "indent_char" ∷ codes "indent_width" ∷ codes "initial_indent" ∷ []
+text_options = codes "source_map_path" ∷ []
 
 abbrev pub comment_options : List (List ℕ)
 comment_options = codes "normal" ∷ codes "jsdoc" ∷ codes "annotation" ∷ codes "legal" ∷ codes "legal_path" ∷ []
@@ -218,6 +220,24 @@ abbrev pub choice_given : Option Data → Result Bool InputFault
 choice_given None = Ok false
 choice_given (Some d) = or_fault (Wrong (head 0)) (as_bool d)
 
+-- what a level of indentation is made of
+abbrev pub char_named : List ℕ → Option IndentChar
+char_named s = if bytes_eq s (codes "tab") then Some Tab else if bytes_eq s (codes "space") then Some Space else None
+
+abbrev pub char_given : Option Data → Result IndentChar InputFault
+char_given None = Ok default_options.indent_char
+char_given (Some d) = after (text_in (head 0) d) (λ s. or_fault (Wrong (head 0)) (char_named s))
+
+-- and how many of it, in 64 bits
+abbrev pub width_given : Option Data → Result ℕ InputFault
+width_given None = Ok default_options.indent_width
+width_given (Some d) = or_fault (Wrong (head 0)) (whole_number d)
+
+-- the level of the first line
+abbrev pub level_given : Option Data → Result ℕ InputFault
+level_given None = Ok default_options.initial_indent
+level_given (Some d) = or_fault (Wrong (head 0)) (number_of_bits 32 d)
+
 -- an object
 abbrev pub options_read : Data → Result Options InputFault
 options_read d =
@@ -226,7 +246,17 @@ options_read d =
     (λ _. after (choice_given (field (codes "single_quote") d))
     (λ single_quote. after (choice_given (field (codes "minify") d))
     (λ minify. after (choice_given (field (codes "ascii_only") d))
-    (λ ascii_only. Ok (record default_options { single_quote = single_quote; minify = minify; ascii_only = ascii_only }))))))
+    (λ ascii_only. after (char_given (field (codes "indent_char") d))
+    (λ indent_char. after (width_given (field (codes "indent_width") d))
+    (λ indent_width. after (level_given (field (codes "initial_indent") d))
+    (λ initial_indent. Ok (record default_options {
+      single_quote = single_quote;
+      minify = minify;
+      ascii_only = ascii_only;
+      indent_char = indent_char;
+      indent_width = indent_width;
+      initial_indent = initial_indent;
+    })))))))))
 
 abbrev pub options_given : Option Data → Result Options InputFault
 options_given None = Ok default_options

@@ -2,6 +2,7 @@
 use Rattle.std.specs.Prelude.{ℕ, suc, ◌*◌, List, [], ◌∷◌, ◌++◌, Bool, true, false, None, ◌&&◌, ◌||◌, ◌==◌, codes, replicate, if◌then◌else◌}
 use Rattle.std.specs.List.{last_or}
 use Rattle.std.specs.Option.{option_map_or}
+use Rattle.jsgen_syntax.specs.Buffer.{indent_code}
 use Rattle.jsgen_syntax.specs.Name.{goes_in_word}
 use Rattle.jsgen_syntax.specs.Escapes.{name_text, has_escapes}
 use Rattle.jsgen_syntax.specs.Strings.{quote_char, quoted, cheapest}
@@ -207,10 +208,12 @@ layout default_export_begins pen = record pen { start = default_export }
 abbrev pub empty_pen : Style → ℕ → Pen
 empty_pen style depth = record { style = style; code = []; depth = depth; pending_space = false; pending_semicolon = false; ending = other_end; start = statement }
 
--- pretty text, with double quotes and indented by tabs
-abbrev pub pretty : Style
-pretty = record { minified = false; ascii = false; quote = Double; indent = 9; width = 1 }
-
--- the style of these options: so far they say nothing of indentation
+-- the style of these options
 abbrev pub style_of : Options → Style
-style_of options = record pretty { minified = options.minify; ascii = options.ascii_only; quote = if options.single_quote then Single else Double }
+style_of options = record {
+  minified = options.minify;
+  ascii = options.ascii_only;
+  quote = if options.single_quote then Single else Double;
+  indent = indent_code options.indent_char;
+  width = options.indent_width;
+}

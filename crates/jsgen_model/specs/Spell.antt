@@ -667,9 +667,9 @@ abbrev mutual
   spell_value absent place = nothing
   spell_value (given t) place = soft_space ⊕ (punctuator equal ⊕ (soft_space ⊕ spell t place))
 
--- the characters of the text of a job's program
+-- the characters of the text of a job's program, whose first line is at the level that the options ask for
 abbrev pub printed : JobData → List ℕ
-printed job = (layout (spell job.program (among_statements (settings_of job))) (empty_pen (style_of job.options) 0)).code
+printed job = (layout (spell job.program (among_statements (settings_of job))) (empty_pen (style_of job.options) job.options.initial_indent)).code
 
 -- and its bytes in UTF-8
 abbrev pub text_bytes : JobData → List ℕ

@@ -1,5 +1,5 @@
 -- Validity: the rules that a tree breaks, each with the start of the node at which it is broken.
-use Rattle.std.specs.Prelude.{◌≡◌, ℕ, suc, max, List, [], ◌∷◌, ◌++◌, map, length, Bool, true, false, not, ◌&&◌, ◌||◌, nat_lt, Contains, is_some, Result, Ok, Err, if◌then◌else◌, Option, Some, None}
+use Rattle.std.specs.Prelude.{◌≡◌, ℕ, suc, ◌+◌, ◌*◌, max, List, [], ◌∷◌, ◌++◌, map, length, Bool, true, false, not, ◌&&◌, ◌||◌, nat_lt, Contains, is_some, Result, Ok, Err, if◌then◌else◌, Option, Some, None}
 use Rattle.std.specs.Option.{option_map_or}
 use Rattle.std.specs.Str.{encode_utf8_all}
 use Rattle.jsgen_syntax.specs.Name.{spells_name, is_free_name}
@@ -182,13 +182,17 @@ abbrev mutual
   height_if_listed no_list = 0
   height_if_listed (listed ts) = greatest_height ts
 
--- the level of indentation, from 0 on, could pass 32 bits; minified text has none
-abbrev pub indent_faults : Bool → Tree → List TreeFault
-indent_faults minified t = fault_if (if minified then false else nat_lt 4294967295 (height t)) (faults.Indent (span_of t).start)
+-- a level of indentation of a tree of this height could pass 32 bits, or be wider than 64 bits
+abbrev pub passes_levels : Options → ℕ → Bool
+passes_levels options height = nat_lt 4294967295 (options.initial_indent + height) || nat_lt 18446744073709551615 ((options.initial_indent + height) * options.indent_width)
+
+-- minified text has no indentation
+abbrev pub indent_faults : Options → Tree → List TreeFault
+indent_faults options t = fault_if (if options.minify then false else passes_levels options (height t)) (faults.Indent (span_of t).start)
 
 -- a row's rules of its own
 abbrev pub own_faults : Surroundings → Tree → List TreeFault
-own_faults around (tree.program a directives body) = source_faults a.span around.source ++ indent_faults around.options.minify (tree.program a directives body)
+own_faults around (tree.program a directives body) = source_faults a.span around.source ++ indent_faults around.options (tree.program a directives body)
 own_faults around (tree.directive a) = directive_faults a.span (as_text (directive_directive a))
 own_faults around (tree.variable_declaration a declarations) = declaration_faults a.span declarations
 own_faults around (tree.binding_identifier a) = name_faults a.span (binding_identifier_name a)
@@ -289,9 +293,9 @@ IsValid job = job_breaches job ≡ []
 -- ---- expressions by themselves
 
 -- An expression by itself is checked as that of the one statement of a module, where `super` has no place. It has no source, and
--- its own height counts, from level 0
+-- its own height counts
 abbrev pub expression_breaches : Options → Tables → Tree → List TreeFault
-expression_breaches options tables t = set_faults sets.Expression t ++ breaches (record { options = options; tables = tables; source = [] }) t ++ indent_faults options.minify t
+expression_breaches options tables t = set_faults sets.Expression t ++ breaches (record { options = options; tables = tables; source = [] }) t ++ indent_faults options t
 
 -- no rule is broken by the expression, under these options and tables
 abbrev pub IsValidExpression : Options → Tables → Tree → Type 0

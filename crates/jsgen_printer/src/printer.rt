@@ -1,5 +1,5 @@
 // What has been printed so far, and the steps by which it goes on. Each step is an item of the layout.
-ghost use Rattle.std.specs.Prelude.{◌≡◌, ◌^◌, ◌≤◌, ◌*◌, if◌then◌else◌};
+ghost use Rattle.std.specs.Prelude.{◌≡◌, ◌*◌, if◌then◌else◌};
 ghost use Rattle.jsgen_syntax.specs.Buffer.{indent_width};
 ghost use Rattle.jsgen_syntax.specs.Name.{goes_in_word};
 ghost use Rattle.jsgen_syntax.specs.declared.quote.Quote.TheVariants.{Single, Double};
@@ -11,7 +11,7 @@ mod handed;
 mod numbers;
 
 use jsgen_syntax::{
-    AssignmentOperator, BinaryOperator, CodeBuffer, IndentChar, JsStr, LogicalOperator, Memory,
+    AssignmentOperator, BinaryOperator, CodeBuffer, JsStr, LogicalOperator, Memory,
     Quote, UnaryOperator, UpdateOperator,
 };
 use jsgen_text::{
@@ -52,6 +52,7 @@ pub enum Bracket {
 #[derive(Drop)]
 pub struct Printer {
     code: CodeBuffer,
+    width: usize,
     minify: bool,
     ascii_only: bool,
     quote: Quote,
@@ -60,7 +61,7 @@ pub struct Printer {
     pending_semicolon: bool,
     ending: Ending,
     start: Start,
-    ghost indents: { indent_width code ≤ 2 ^ 32 },
+    ghost indents: { width ≡ indent_width code },
 }
 
 #[tactic(auto, using(crate::proofs::Texts::ascii_chars), unfolding(crate::specs::Printer::pen_of))]
@@ -84,7 +85,8 @@ impl Printer {
         ensures { pen_of result ≡ empty_pen (style_of (options_plain options.now)) 0 }
     {
         Printer {
-            code: CodeBuffer::with_indent(alloc, IndentChar::Tab, 1),
+            code: CodeBuffer::with_indent(alloc, options.indent_char, options.indent_width),
+            width: options.indent_width,
             minify: options.minify,
             ascii_only: options.ascii_only,
             quote: wanted_quote(options.single_quote),
@@ -531,14 +533,18 @@ impl Printer {
         }
     }
 
-    // The levels' own indentation.
+    // The levels' own indentation. Wider than 64 bits it is want of memory: no tree that keeps the rules is so deep.
     fn print_levels(&mut self) -> Result<(), Memory>
         ensures { Reaches result (pen_of self.old) (pen_of self.new)
             (indented (replicate (self.old.depth * indent_width self.old.code) (indent_byte self.old.code))
             (pen_of self.old)) }
     {
+        let depth = self.depth as usize;
+        if depth.checked_mul(self.width).is_none() {
+            return Err(Memory);
+        }
         let before = self.code.len();
-        self.code.print_indent(self.depth as usize)?;
+        self.code.print_indent(depth)?;
         if self.code.len() == before {
             return Ok(());
         }

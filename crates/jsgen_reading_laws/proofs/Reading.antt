@@ -2,6 +2,9 @@
 use Rattle.std.proofs.Common.{◌≡◌, ℕ, true, false, List, chars, encode_utf8_all, refl, sym, ap, ◌∙◌, subst}
 use Rattle.std.specs.Str.{IsUtf8}
 use Rattle.std.proofs.lemmas.Str.{chars-encodes}
+use Rattle.jsgen_syntax.specs.Buffer.{indent_code}
+use Rattle.jsgen_syntax.specs.declared.buffer.IndentChar.{IndentChar}
+use Rattle.jsgen_syntax.specs.declared.buffer.IndentChar.TheVariants as indents
 use Rattle.jsgen_tree.specs.declared.types.NodeType.TheVariants as types
 use Rattle.jsgen_tree.specs.Options.{Options}
 use Rattle.jsgen_tree.specs.Job.{Tables, no_tables, JobData}
@@ -28,7 +31,11 @@ use Rattle.jsgen_reading_laws.proofs.Prologue.{whole_body}
 
 -- the indentation of a job's options is of spaces or of tabs
 style_indents : (options : Options) → is_indent (style_of options).indent ≡ true
-style_indents options = refl
+style_indents options = by options.indent_char
+  where
+    by : (c : IndentChar) → is_indent (indent_code c) ≡ true
+    by indents.Tab = refl
+    by indents.Space = refl
 
 -- no name is printed otherwise
 renamed_so : (tables : Tables) (t : Tree) → renamed tables t ≡ t
@@ -39,7 +46,7 @@ renamed_so no_tables t = refl
 read_as : (options : Options) (tables : Tables) (t : Tree) → IsProgram t → let job : JobData = record { options = options; tables = tables; program = t } in IsReadAs (printed job) job
 read_as options tables t (family.a_program {a} {directives} {body} v w) =
     let settings : Settings = settings_of (record { options = options; tables = tables; program = t }) in
-    let p : Pen = empty_pen (style_of options) 0 in
+    let p : Pen = empty_pen (style_of options) options.initial_indent in
     let q : Pen = layout (spell_directives directives settings ⊕ spell_body body settings) p in
     let b = whole_body v w settings p (Open false) refl tt (record { indent = style_indents options; ending = tt }) in
     let d = due_ends q b.last b.ready b.writes.knows in

@@ -19,7 +19,7 @@ use Rattle.jsgen_fields.specs.declared.At.{At}
 use Rattle.jsgen_fields.specs.declared.InputFault.{InputFault}
 use Rattle.jsgen_fields.specs.declared.InputFault.TheVariants.{Json, Float, Wrong, Child, Shared, Memory}
 use Rattle.jsgen_fields.specs.Names.{type_named}
-use Rattle.jsgen_fields.specs.Values.{after, or_fault, at, head, field, field_in, not_given, text_in, items_in, digits_in, in_row, is_needed, given_in, number_of_bits, unit_in, units_listed, text_or_listed, units_in, value_in, type_given, type_of, offsets, span_given, span_of, none_given, text_options, comment_options, unread_options, choice_given, options_given, options_in, unread_head, some_rows, rows_listed, rows_given, rows_in}
+use Rattle.jsgen_fields.specs.Values.{after, or_fault, at, head, field, field_in, not_given, text_in, items_in, digits_in, in_row, is_needed, given_in, whole_number, number_of_bits, unit_in, units_listed, text_or_listed, units_in, value_in, type_given, type_of, offsets, span_given, span_of, none_given, text_options, comment_options, unread_options, choice_given, char_named, char_given, width_given, level_given, options_given, options_in, unread_head, some_rows, rows_listed, rows_given, rows_in}
 use Rattle.jsgen_fields.specs.Meaning.{Mark, fault, use_of, number_marks, child_marks, hole_marks, each, marks_of, sort_marks, given_marks, field_marks, fields_marks, typed_marks, row_marks, row_tree, is_used, is_program, found_faults, mark_faults, with_mark, with_marks, faults_in, root_tree, root_faults, faults_after, unless, rows_meaning, program_meaning, value_meaning}
 use Rattle.jsgen_rows.specs.Job.{json_of, job_of}
 
@@ -218,6 +218,18 @@ choice_given_told : (o : Option Data) → ResultTold (choice_given o)
 choice_given_told None = tt
 choice_given_told (Some d) = or_told (Wrong (head 0)) (as_bool d) (wrong_told _)
 
+char_given_told : (o : Option Data) → ResultTold (char_given o)
+char_given_told None = tt
+char_given_told (Some d) = after_told (text_in (head 0) d) _ (text_told (head 0) d) (λ s. or_told (Wrong (head 0)) (char_named s) (wrong_told _))
+
+width_given_told : (o : Option Data) → ResultTold (width_given o)
+width_given_told None = tt
+width_given_told (Some d) = or_told (Wrong (head 0)) (whole_number d) (wrong_told _)
+
+level_given_told : (o : Option Data) → ResultTold (level_given o)
+level_given_told None = tt
+level_given_told (Some d) = or_told (Wrong (head 0)) (number_of_bits 32 d) (wrong_told _)
+
 unread_options_told : (d : Data) → ResultTold (unread_options d)
 unread_options_told d = after_told (none_given (head 0) text_options d) _ (none_given_told _ text_options d) (λ u. none_given_told (head 0) comment_options d)
 
@@ -228,7 +240,10 @@ options_given_told (Some d) =
     (λ members. after_told (unread_options d) _ (unread_options_told d)
     (λ u. after_told (choice_given (field (codes "single_quote") d)) _ (choice_given_told _)
     (λ single_quote. after_told (choice_given (field (codes "minify") d)) _ (choice_given_told _)
-    (λ minify. after_told (choice_given (field (codes "ascii_only") d)) _ (choice_given_told _) (λ ascii_only. tt)))))
+    (λ minify. after_told (choice_given (field (codes "ascii_only") d)) _ (choice_given_told _)
+    (λ ascii_only. after_told (char_given (field (codes "indent_char") d)) _ (char_given_told (field (codes "indent_char") d))
+    (λ indent_char. after_told (width_given (field (codes "indent_width") d)) _ (width_given_told (field (codes "indent_width") d))
+    (λ indent_width. after_told (level_given (field (codes "initial_indent") d)) _ (level_given_told (field (codes "initial_indent") d)) (λ initial_indent. tt))))))))
 
 options_told : (d : Data) → ResultTold (options_in d)
 options_told d =

@@ -107,7 +107,7 @@ impl Default for CommentOptions {
     }
 }
 
-/// How a program is printed. So far `single_quote`, `minify` and `ascii_only` change the text; the others are kept.
+/// How a program is printed. So far `comments` and `source_map_path` are kept and change no text.
 #[derive(Debug, PartialEq, Eq, Drop)]
 pub struct CodegenOptions {
     /// Strings of pretty text, and directives, stand in single quotes.
@@ -122,7 +122,7 @@ pub struct CodegenOptions {
     /// What a level of indentation is made of, and how many of it.
     pub indent_char: IndentChar,
     pub indent_width: usize,
-    /// The level of the first line.
+    /// The level of a program's first line.
     pub initial_indent: u32,
 }
 

@@ -3,8 +3,7 @@ child may name, and that the last row is the program."""
 
 import json
 
-OPTIONS = ["minify", "single_quote", "ascii_only"]
-NOT_READ = ["normal", "jsdoc", "annotation", "legal", "legal_path", "source_map_path", "indent_char", "indent_width", "initial_indent"]
+NOT_READ = ["normal", "jsdoc", "annotation", "legal", "legal_path", "source_map_path"]
 VALUES = {
     "text": {"type": "string"},
     "units": {"anyOf": [{"type": "string"}, {"type": "array", "items": {"type": "integer", "minimum": 0, "maximum": 65535}}]},
@@ -12,12 +11,19 @@ VALUES = {
     "number": {"type": "integer", "minimum": 0, "maximum": 4294967295},
     "flag": {"type": "boolean"},
 }
+OPTIONS = {
+    "single_quote": VALUES["flag"],
+    "minify": VALUES["flag"],
+    "ascii_only": VALUES["flag"],
+    "indent_char": {"enum": ["tab", "space"]},
+    "indent_width": {"type": "integer", "minimum": 0, "maximum": 2**64 - 1},
+    "initial_indent": VALUES["number"],
+}
 ROW = {"$ref": "#/$defs/row number"}
 
 
 def write(table):
-    flag = or_null({"type": "boolean"})
-    options = {name: flag for name in OPTIONS} | {name: {"type": "null"} for name in NOT_READ}
+    options = {name: or_null(value) for name, value in OPTIONS.items()} | {name: {"type": "null"} for name in NOT_READ}
     schema = {
         "$schema": "https://json-schema.org/draft/2020-12/schema",
         "$comment": "Generated from tools/nodes/table.txt; edit that and run tools/nodes/generate.",
