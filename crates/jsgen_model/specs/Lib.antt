@@ -12,3 +12,4 @@ pub mod Plain
 pub mod Grammar
 pub mod Reading
 pub mod Law
+pub mod Fault
