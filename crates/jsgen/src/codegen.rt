@@ -1,5 +1,5 @@
 // The printer's public calls.
-ghost use Rattle.std.specs.Prelude.{◌≡◌, ◌<◌, [], ◌∷◌, true, false, flat_map, IfOk, string_bytes};
+ghost use Rattle.std.specs.Prelude.{◌≡◌, ◌<◌, [], ◌∷◌, true, false, flat_map, Some, IfOk, string_bytes, codes};
 ghost use Rattle.std.specs.Char.Escape.{encode_utf16};
 ghost use Rattle.jsgen_tree.specs.Options.{options_plain, default_options};
 ghost use Rattle.jsgen_tree.specs.Plain.{program_plain, node_plain};
@@ -27,6 +27,8 @@ use jsgen_printer::{Context, Printer};
 use jsgen_syntax::{JsStr, Memory, Precedence};
 use jsgen_tree::{CodegenOptions, Expression, Program};
 use std::alloc::Global;
+use std::error::Error;
+use std::fmt;
 use std::marker::PhantomData;
 
 /// Why a call didn't print the whole text.
@@ -35,6 +37,18 @@ pub enum CodegenError {
     /// Memory ran out.
     Memory,
 }
+
+impl fmt::Display for CodegenError {
+    ghost output = { λ _. Some (codes "out of memory") };
+
+    fn fmt<W: fmt::Write>(&self, f: &mut fmt::Formatter<W>) -> fmt::Result {
+        match self {
+            CodegenError::Memory => f.write_str("out of memory"),
+        }
+    }
+}
+
+impl Error for CodegenError {}
 
 impl From<Memory> for CodegenError {
     fn from(_error: Memory) -> CodegenError {

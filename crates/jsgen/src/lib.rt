@@ -1,4 +1,5 @@
-//! The printer's public calls, beside those of the checker of trees and the reader of jobs.
+//! The printer's public calls, beside those of the checker of trees and the reader of jobs, and the types of trees: what a
+//! caller needs comes from here.
 #![tactic(auto)]
 
 mod codegen;
@@ -9,8 +10,13 @@ mod laws;
 pub use codegen::{Codegen, CodegenError, CodegenReturn};
 pub use gens::{Gen, GenExpr};
 pub use jsgen_fields::{At, InputFault};
-pub use jsgen_model::TreeFault;
+pub use jsgen_model::{TreeFault, programs_are_plain};
 pub use jsgen_printer::{Context, Operator};
 pub use jsgen_rows::{Job, job_faults_are_told, read_job};
+pub use jsgen_syntax::{
+    AssignmentOperator, BinaryOperator, IndentChar, JsStr, LogicalOperator, Memory, Precedence,
+    SourceKind, Span, UnaryOperator, UpdateOperator, is_name, is_reserved, is_strict_reserved,
+};
+pub use jsgen_tree as tree;
 pub use jsgen_tree::{CodegenOptions, CommentOptions, LegalComment};
 pub use laws::jobs_are_plain;

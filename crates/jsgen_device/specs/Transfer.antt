@@ -1,10 +1,10 @@
 -- What reading an input whole does to the source.
-use Rattle.std.specs.Prelude.{◌≡◌, ⊤, ℕ, ◌<◌, ◌≤◌, List, length, IfSome, Option, Result, Ok, Err, Vec}
+use Rattle.std.specs.Prelude.{◌≡◌, ⊤, ℕ, ◌<◌, ◌≤◌, List, length, IfSome, Option, Result, Ok, Err, Vec, codes}
 use Rattle.std.specs.declared.alloc.Global.{Global}
 use Rattle.std.specs.Io.KnownBytes.{Consumes}
 use Rattle.jsgen_device.specs.Device.{Rose}
 use Rattle.jsgen_device.specs.declared.transfer.Unread.{Unread}
-use Rattle.jsgen_device.specs.declared.transfer.Unread.TheVariants.{Failed, TooLong}
+use Rattle.jsgen_device.specs.declared.transfer.Unread.TheVariants.{Failed, TooLong, Memory}
 
 -- the most bytes of an input: 32 MiB
 abbrev pub limit : ℕ
@@ -27,3 +27,9 @@ HeldBy (Err other) held = ⊤
 abbrev pub UnreadCount : Result (Vec ℕ Global) Unread → ℕ → ℕ → Type 0
 UnreadCount (Err Failed) before now = (before ≤ now) × Rose before now
 UnreadCount other before now = now ≡ before
+
+-- what is said of an input that wasn't read whole
+abbrev pub unread_text : Unread → List ℕ
+unread_text Failed = codes "read failed"
+unread_text TooLong = codes "input too long"
+unread_text Memory = codes "out of memory"

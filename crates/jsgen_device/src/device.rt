@@ -1,13 +1,26 @@
 // Where bytes come from and go to. Each counts its own failures, and a failure is told only where its count rose.
-ghost use Rattle.std.specs.Prelude.{List, ℕ, OnOk, OnErr};
+ghost use Rattle.std.specs.Prelude.{List, ℕ, Some, OnOk, OnErr, codes};
 ghost use Rattle.std.specs.Io.{ReadsAtMost};
 ghost use Rattle.std.specs.Io.KnownBytes.{ReadConsumes, Appends};
 ghost use Rattle.std.specs.declared.option.Option.{Option};
 ghost use Rattle.jsgen_device.specs.Device.{HasCause, AppendsPart};
 
+use std::error::Error;
+use std::fmt;
+
 /// The device failed, and counted it.
 #[derive(Clone, Copy, Debug, PartialEq, Eq)]
 pub struct Failed;
+
+impl fmt::Display for Failed {
+    ghost output = { λ _. Some (codes "the device failed") };
+
+    fn fmt<W: fmt::Write>(&self, f: &mut fmt::Formatter<W>) -> fmt::Result {
+        f.write_str("the device failed")
+    }
+}
+
+impl Error for Failed {}
 
 /// Where bytes come from.
 pub trait Source {

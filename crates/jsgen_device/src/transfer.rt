@@ -1,11 +1,13 @@
 // Reading an input whole, and pushing a text whole.
-ghost use Rattle.std.specs.Prelude.{◌+◌, ◌++◌, OnOk, OnErr};
+ghost use Rattle.std.specs.Prelude.{◌+◌, ◌++◌, Some, OnOk, OnErr};
 ghost use Rattle.std.specs.Io.KnownBytes.{Appends};
 ghost use Rattle.jsgen_device.specs.Device.{HasCause, AppendsPart};
-ghost use Rattle.jsgen_device.specs.Transfer.{HeldBy, UnreadCount, TakesAtMost, limit};
+ghost use Rattle.jsgen_device.specs.Transfer.{HeldBy, UnreadCount, TakesAtMost, limit, unread_text};
 
 use crate::device::{Failed, Sink, Source};
 use std::alloc::Global;
+use std::error::Error;
+use std::fmt;
 
 /// The most bytes of an input.
 pub const LIMIT: usize = 33_554_432;
@@ -26,6 +28,20 @@ pub enum Unread {
     /// Memory ran out.
     Memory,
 }
+
+impl fmt::Display for Unread {
+    ghost output = { λ fault. Some (unread_text fault) };
+
+    fn fmt<W: fmt::Write>(&self, f: &mut fmt::Formatter<W>) -> fmt::Result {
+        match self {
+            Unread::Failed => f.write_str("read failed"),
+            Unread::TooLong => f.write_str("input too long"),
+            Unread::Memory => f.write_str("out of memory"),
+        }
+    }
+}
+
+impl Error for Unread {}
 
 /// Reads to the end, or to one byte past the limit. Each turn takes at least one byte.
 pub fn read_all<S: Source>(alloc: Global, source: &mut S) -> Result<Vec<u8>, Unread>

@@ -4,4 +4,5 @@ pub mod Names
 pub mod Others
 pub mod Parts
 pub mod Reads
+pub mod Texts
 pub mod Values

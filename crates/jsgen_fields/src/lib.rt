@@ -1,7 +1,8 @@
 //! The fields of a job's rows: what stands in them, the rows that were read, and what becomes of a row where it is a child.
 #![tactic(auto)]
 
-ghost use Rattle.std.specs.Prelude.{◌≡◌};
+ghost use Rattle.std.specs.Prelude.{◌≡◌, Some};
+ghost use Rattle.jsgen_fields.specs.Texts.{at_text, fault_text};
 ghost use Rattle.jsgen_fields.specs.Values.{at, head};
 ghost use Rattle.jsgen_fields.specs.declared.InputFault.TheVariants as faults;
 
@@ -19,6 +20,8 @@ pub mod words;
 
 use jsgen_syntax::Memory;
 use std::alloc::{AllocError, AllocFailed};
+use std::error::Error;
+use std::fmt;
 
 /// A field of a job: by its number, in a row or, where there is none, in the job's head.
 #[derive(Clone, Copy, Debug, PartialEq, Eq)]
@@ -46,6 +49,18 @@ impl At {
     }
 }
 
+impl fmt::Display for At {
+    ghost output = { λ at. Some (at_text at) };
+
+    fn fmt<W: fmt::Write>(&self, f: &mut fmt::Formatter<W>) -> fmt::Result {
+        let field = self.field;
+        match self.row {
+            None => write!(f, "head field {field}"),
+            Some(row) => write!(f, "row {row} field {field}"),
+        }
+    }
+}
+
 /// Why bytes are no job.
 #[derive(Clone, Copy, Debug, PartialEq, Eq)]
 pub enum InputFault {
@@ -64,6 +79,24 @@ pub enum InputFault {
     /// Memory ran out.
     Memory,
 }
+
+impl fmt::Display for InputFault {
+    ghost output = { λ fault. Some (fault_text fault) };
+
+    fn fmt<W: fmt::Write>(&self, f: &mut fmt::Formatter<W>) -> fmt::Result {
+        match self {
+            InputFault::Json => f.write_str("Json"),
+            InputFault::Float(at) => write!(f, "Float {at}"),
+            InputFault::Missing(at) => write!(f, "Missing {at}"),
+            InputFault::Wrong(at) => write!(f, "Wrong {at}"),
+            InputFault::Child(at) => write!(f, "Child {at}"),
+            InputFault::Shared(row) => write!(f, "Shared row {row}"),
+            InputFault::Memory => f.write_str("Memory"),
+        }
+    }
+}
+
+impl Error for InputFault {}
 
 impl From<AllocError> for InputFault {
     ghost from_gives = { λ x y. y ≡ faults.Memory };

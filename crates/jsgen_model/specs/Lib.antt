@@ -13,3 +13,4 @@ pub mod Plain
 pub mod Grammar
 pub mod Reading
 pub mod Law
+pub mod Fault

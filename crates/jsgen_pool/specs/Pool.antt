@@ -1,5 +1,5 @@
 -- Rows by their number: each still there, or a child of an earlier place already.
-use Rattle.std.specs.Prelude.{◌≡◌, ℕ, List, map, Option, Some, None, Result, Ok, Err, slice_get, slice_set, if◌then◌else◌}
+use Rattle.std.specs.Prelude.{◌≡◌, ℕ, List, map, Option, Some, None, Result, Ok, Err, slice_get, slice_set, if◌then◌else◌, ◌++◌, codes, decimal}
 use Rattle.jsgen_tree.specs.Tree.{Tree, type_of}
 use Rattle.jsgen_tree.specs.Sets.{in_set}
 use Rattle.jsgen_tree.specs.declared.types.NodeType.{NodeType}
@@ -45,3 +45,8 @@ take_row s c rows = take_found s c (slice_get rows c) rows
 abbrev pub Takes : {R : Type 0} → (R → Tree) → Result R TakeFault → List Entry → Took → Type 0
 Takes plain (Ok row) rows took = took ≡ Ok (plain row, rows)
 Takes plain (Err fault) rows took = took ≡ Err fault
+
+-- what is said of a row that can't be taken
+abbrev pub take_text : TakeFault → List ℕ
+take_text Absent = codes "no row fits"
+take_text (Taken row) = codes "row " ++ decimal row ++ codes " is taken"

@@ -1,13 +1,14 @@
 //! Rows by their number: each can be taken once, as the child of one place.
 #![tactic(auto)]
 
-ghost use Rattle.std.specs.Prelude.{◌≡◌, true, IfOk};
+ghost use Rattle.std.specs.Prelude.{◌≡◌, true, Some, IfOk};
 ghost use Rattle.jsgen_tree.specs.Tree.{type_of};
 ghost use Rattle.jsgen_tree.specs.Sets.{in_set};
-ghost use Rattle.jsgen_pool.specs.Pool.{entry, entries, entry_type, take_row, Takes};
+ghost use Rattle.jsgen_pool.specs.Pool.{take_text, entry, entries, entry_type, take_row, Takes};
 
 use jsgen_tree::{NodeSet, NodeType};
-use std::mem;
+use std::error::Error;
+use std::{fmt, mem};
 
 /// What has a type of node.
 pub trait Typed {
@@ -34,6 +35,19 @@ pub enum TakeFault {
     /// The row of this number was taken before.
     Taken(usize),
 }
+
+impl fmt::Display for TakeFault {
+    ghost output = { λ fault. Some (take_text fault) };
+
+    fn fmt<W: fmt::Write>(&self, f: &mut fmt::Formatter<W>) -> fmt::Result {
+        match self {
+            TakeFault::Absent => f.write_str("no row fits"),
+            TakeFault::Taken(row) => write!(f, "row {row} is taken"),
+        }
+    }
+}
+
+impl Error for TakeFault {}
 
 fn kept_type<R: Typed>(kept: &Kept<R>) -> NodeType
     ensures { result ≡ entry_type (entry R.plain kept.now) }

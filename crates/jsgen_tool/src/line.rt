@@ -2,7 +2,7 @@
 ghost use Rattle.std.specs.Prelude.{◌++◌, OnOk, OnErr, codes, decimal};
 ghost use Rattle.std.specs.Io.KnownBytes.{Appends};
 ghost use Rattle.jsgen_device.specs.Device.{HasCause, AppendsPart};
-ghost use Rattle.jsgen_tool.specs.Lines.{Says, row_text, field_text, spot_text, line_of};
+ghost use Rattle.jsgen_tool.specs.Lines.{Says, spot_row, spot_field, spot_text, line_of};
 
 use crate::status::{Spot, Status};
 use itoa::Buffer;
@@ -20,8 +20,8 @@ fn push_number<K: Sink>(sink: &mut K, text: &[u8], number: usize) -> Result<(), 
 }
 
 fn push_row<K: Sink>(sink: &mut K, row: Option<usize>) -> Result<(), Failed>
-    ensures all { OnOk result (Appends (K.got sink.old) (K.got sink.new) (row_text row)) }
-    ensures part { OnErr result (AppendsPart (K.got sink.old) (K.got sink.new) (row_text row)) }
+    ensures all { OnOk result (Appends (K.got sink.old) (K.got sink.new) (spot_row row)) }
+    ensures part { OnErr result (AppendsPart (K.got sink.old) (K.got sink.new) (spot_row row)) }
     ensures cause { HasCause (K.faults sink.old) (K.faults sink.new) result }
 {
     match row {
@@ -31,8 +31,8 @@ fn push_row<K: Sink>(sink: &mut K, row: Option<usize>) -> Result<(), Failed>
 }
 
 fn push_field<K: Sink>(sink: &mut K, at: At) -> Result<(), Failed>
-    ensures all { OnOk result (Appends (K.got sink.old) (K.got sink.new) (field_text at)) }
-    ensures part { OnErr result (AppendsPart (K.got sink.old) (K.got sink.new) (field_text at)) }
+    ensures all { OnOk result (Appends (K.got sink.old) (K.got sink.new) (spot_field at)) }
+    ensures part { OnErr result (AppendsPart (K.got sink.old) (K.got sink.new) (spot_field at)) }
     ensures cause { HasCause (K.faults sink.old) (K.faults sink.new) result }
 {
     if push_row(sink, at.row).is_err() {

@@ -1,6 +1,8 @@
 // The answers of a run, and the line that is said of each.
 ghost use Rattle.std.specs.Prelude.{◌≡◌, ◌++◌, codes, MatchOption};
-ghost use Rattle.jsgen_tool.specs.Lines.{code_of, line_of, rule_text, fault_text, spot_text};
+ghost use Rattle.jsgen_model.specs.Fault.{rule_text};
+ghost use Rattle.jsgen_fields.specs.Texts.{fault_text};
+ghost use Rattle.jsgen_tool.specs.Lines.{code_of, line_of, spot_text};
 
 use jsgen::{At, InputFault, TreeFault};
 

@@ -1,5 +1,5 @@
 use Rattle.std.proofs.Common.{◌++◌, codes, ap, sym}
-use Rattle.jsgen_tool.specs.Lines.{fault_text}
+use Rattle.jsgen_fields.specs.Texts.{fault_text}
 use Rattle.jsgen_tool.proofs.status.not_job.Goals as goal
 
 pub returns-in-Shared : goal.returns-in-Shared

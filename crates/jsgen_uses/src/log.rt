@@ -1,0 +1,78 @@
+// A statement that logs a value.
+ghost use Rattle.std.specs.Prelude.{◌≡◌, true, false, codes, IfOk, OnOk, IsErrOf, string_bytes};
+ghost use Rattle.std.specs.Str.{chars};
+ghost use Rattle.jsgen_syntax.specs.Name.{is_free_name};
+ghost use Rattle.jsgen_tree.specs.Plain.{node_plain, program_plain};
+ghost use Rattle.jsgen_tree.specs.Rows.{expression_plain};
+ghost use Rattle.jsgen_uses.specs.declared.log.LogError.TheVariants as errors;
+ghost use Rattle.jsgen_uses.specs.Log.{console_log, log_call, log_program, ReadsAsLogCall};
+
+use crate::build::{call, member, only, reference, statement, string};
+use jsgen::tree::{Expression, Program};
+use jsgen::{Codegen, CodegenError, Memory, programs_are_plain};
+use std::alloc::Global;
+use thiserror::Error;
+
+/// Why there is no code.
+#[derive(Clone, Copy, Debug, PartialEq, Eq, Error)]
+pub enum LogError {
+    #[error("the name is no identifier")]
+    Name,
+    #[error("out of memory")]
+    Memory,
+}
+
+impl From<Memory> for LogError {
+    ghost from_gives = { λ _ e. e ≡ errors.Memory };
+
+    fn from(_error: Memory) -> LogError {
+        LogError::Memory
+    }
+}
+
+impl From<CodegenError> for LogError {
+    ghost from_gives = { λ _ e. e ≡ errors.Memory };
+
+    fn from(_error: CodegenError) -> LogError {
+        LogError::Memory
+    }
+}
+
+fn console_log(alloc: Global) -> Result<Expression, Memory>
+    ensures { IfOk result (λ built. expression_plain node_plain built ≡ console_log) }
+{
+    member(alloc, reference(alloc, "console")?, "log")
+}
+
+fn log_call(alloc: Global, message: &str, name: &str) -> Result<Expression, Memory>
+    ensures { IfOk result (λ built. expression_plain node_plain built ≡ log_call (chars message.now) (chars name.now)) }
+{
+    let callee = console_log(alloc)?;
+    let message = string(alloc, message)?;
+    let value = reference(alloc, name)?;
+    call(alloc, callee, message, value)
+}
+
+fn log_program(alloc: Global, message: &str, name: &str) -> Result<Program, Memory>
+    ensures { IfOk result (λ built. program_plain built ≡ log_program (chars message.now) (chars name.now)) }
+{
+    only(alloc, statement(alloc, log_call(alloc, message, name)?)?)
+}
+
+/// The code of `console.log(MESSAGE, NAME);`, where the message is a string of any text, and the name an identifier.
+pub fn log_statement(alloc: Global, message: &str, name: &str) -> Result<String, LogError>
+    // The code is read as that statement.
+    ensures code { IfOk result (λ code. ReadsAsLogCall (chars message.now) (chars name.now) (chars (string_bytes code))) }
+
+    // A name is taken where it can stand for an identifier, and refused where it can't.
+    ensures taken { OnOk result (is_free_name (chars name.now) ≡ true) }
+    ensures refused { IsErrOf result LogError.Name → is_free_name (chars name.now) ≡ false }
+{
+    programs_are_plain();
+    let program = log_program(alloc, message, name)?;
+    let printer = Codegen::new(alloc);
+    if let Err(_) = printer.check(&program) {
+        return Err(LogError::Name);
+    }
+    Ok(printer.build(&program)?.code)
+}
