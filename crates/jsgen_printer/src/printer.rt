@@ -11,8 +11,8 @@ mod handed;
 mod numbers;
 
 use jsgen_syntax::{
-    AssignmentOperator, BinaryOperator, CodeBuffer, JsStr, LogicalOperator, Memory,
-    Quote, UnaryOperator, UpdateOperator,
+    AssignmentOperator, BinaryOperator, CodeBuffer, JsStr, LogicalOperator, Memory, Quote,
+    UnaryOperator, UpdateOperator,
 };
 use jsgen_text::{
     cheapest_quote, directive_quote, print_directive_raw, print_name_text, print_string_text,
