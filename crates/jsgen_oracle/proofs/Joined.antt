@@ -1,4 +1,5 @@
--- In each program that is read a name stands behind each dot, and an expression in parentheses that need one; and texts where that isn't so.
+-- In each program that is read a name stands behind each dot, an expression in parentheses that need one, and each arrow
+-- behind parameters and before no brace; and texts where that isn't so.
 use Rattle.std.proofs.Common.{◌≡◌, ℕ, Bool, true, false, ◌&&◌, List, [], codes, refl, sym, subst}
 use Rattle.std.proofs.lemmas.Bool.{both_ways, and_parts, and_from}
 use lib.Utf8.{encode}
@@ -15,16 +16,17 @@ use Rattle.jsgen_syntax.specs.declared.operator.UpdateOperator.{UpdateOperator}
 use Rattle.jsgen_syntax.specs.declared.operator.UpdateOperator.TheVariants as update_operators
 use Rattle.jsgen_syntax.specs.declared.operator.AssignmentOperator.{AssignmentOperator}
 use Rattle.jsgen_syntax.specs.declared.operator.AssignmentOperator.TheVariants as assignment_operators
-use Rattle.jsgen_tree.specs.Tree.{Tree, Trees}
-use Rattle.jsgen_model.specs.Punctuator.{dot, question_dot, ellipsis, comma, equal, star_star, and_and, or_or, nullish, question, colon, semicolon, Round, Square, Brace}
+use Rattle.std.specs.Prelude.{not}
+use Rattle.jsgen_tree.specs.Tree.{Tree, Trees, Maybe}
+use Rattle.jsgen_model.specs.Punctuator.{dot, question_dot, ellipsis, comma, equal, arrow, star_star, and_and, or_or, nullish, question, colon, semicolon, Round, Square, Brace}
 use Rattle.jsgen_model.specs.Tokens.{Tokens, done, piece, group, ◌⧺◌, Word, Quoted, Sign, longer_stands, AreTokensOf}
-use Rattle.jsgen_model.specs.Grammar.{Allowed, Level, operator_piece, ReadsExpression, ReadsParts, ReadsElement, ReadsArguments, ReadsArgumentList, ReadsBinding, ReadsDeclarator, ReadsDeclarators, ReadsDeclaration, EndsBy, ReadsStatement, ReadsItem, ReadsStatements, ReadsBody, ReadsModule, a_module, unary_piece, update_sign, assignment_sign, ReadsChain, ReadsChainBase}
+use Rattle.jsgen_model.specs.Grammar.{Allowed, Level, operator_piece, ReadsExpression, ReadsParts, ReadsElement, ReadsArguments, ReadsArgumentList, ReadsBinding, ReadsDeclarator, ReadsDeclarators, ReadsDeclaration, EndsBy, ReadsStatement, ReadsItem, ReadsStatements, ReadsBody, ReadsModule, a_module, unary_piece, update_sign, assignment_sign, ReadsChain, ReadsChainBase, starts_in_brace, ReadsArrowParameters, ReadsParameters, ReadsParameter}
 use Rattle.jsgen_model.specs.Grammar as grammar
 use Rattle.jsgen_token_laws.proofs.Plain.{all_plain}
 use Rattle.jsgen_token_laws.proofs.OneList.{one_token_list}
 use Rattle.jsgen_oracle.specs.Samples.{IsNotRead}
 use Rattle.jsgen_oracle.proofs.Samples.{word, sign}
-use Rattle.jsgen_oracle.proofs.Refused.{begins_with_name, starts_well, named_further, joined, expression_starts}
+use Rattle.jsgen_oracle.proofs.Refused.{begins_with_name, starts_well, named_further, name_starts, joined, expression_starts}
 
 -- an expression's tokens, or three dots before them
 abbrev starts_element : Tokens → Bool
@@ -36,26 +38,74 @@ abbrev may_be_given : Tokens → Bool
 may_be_given done = true
 may_be_given ts = starts_element ts
 
-abbrev is_joined : Tokens → Bool
-is_joined done = true
-is_joined (piece m (Sign dot) ts) = begins_with_name ts && is_joined ts
-is_joined (piece m p ts) = is_joined ts
-is_joined (group m Round inside ts) = may_be_given inside && is_joined ts
-is_joined (group m b inside ts) = is_joined ts
+-- one token
+abbrev is_one : Tokens → Bool
+is_one (piece m p done) = true
+is_one (group m b inside done) = true
+is_one ts = false
 
-behind : (a b : Tokens) → is_joined a ≡ true → is_joined b ≡ true → is_joined (a ⧺ b) ≡ true
-behind done b h g = g
-behind (piece m (Sign dot) ts) b h g = let k = and_parts (begins_with_name ts) (is_joined ts) h in and_from _ _ (named_further ts b k.0) (behind ts b k.1 g)
-behind (piece m p ts) b h g = behind ts b h g
-behind (group m Square inside ts) b h g = behind ts b h g
-behind (group m Round inside ts) b h g = let k = and_parts (may_be_given inside) (is_joined ts) h in and_from _ _ k.0 (behind ts b k.1 g)
-behind (group m Brace inside ts) b h g = behind ts b h g
+-- what parameters begin with; behind three dots one token is all
+abbrev are_parameters : Tokens → Bool
+are_parameters (piece m (Sign ellipsis) ts) = is_one ts
+are_parameters ts = may_be_given ts
+
+-- something that begins with no brace
+abbrev is_body : Tokens → Bool
+is_body done = false
+is_body (group m Brace inside ts) = false
+is_body ts = true
+
+-- the flag tells that what stands before them may be parameters
+abbrev is_joined_behind : Bool → Tokens → Bool
+is_joined_behind k done = true
+is_joined_behind k (piece m (Sign arrow) ts) = k && (not m && (is_body ts && is_joined_behind false ts))
+is_joined_behind k (piece m (Sign dot) ts) = begins_with_name ts && is_joined_behind false ts
+is_joined_behind k (piece m (Word w) ts) = is_joined_behind true ts
+is_joined_behind k (piece m p ts) = is_joined_behind false ts
+is_joined_behind k (group m Round inside ts) = may_be_given inside && is_joined_behind (are_parameters inside) ts
+is_joined_behind k (group m b inside ts) = is_joined_behind false ts
+
+abbrev is_joined : Tokens → Bool
+is_joined ts = is_joined_behind false ts
+
+-- what may stand behind anything may stand behind parameters
+with_parameters : (k : Bool) (ts : Tokens) → is_joined ts ≡ true → is_joined_behind k ts ≡ true
+with_parameters k done h = h
+with_parameters k (piece m (Sign arrow) ts) h = absurd (both_ways false refl h)
+with_parameters k (piece m p ts) h = h
+with_parameters k (group m Round inside ts) h = h
+with_parameters k (group m Square inside ts) h = h
+with_parameters k (group m Brace inside ts) h = h
+
+body_further : (ts b : Tokens) → is_body ts ≡ true → is_body (ts ⧺ b) ≡ true
+body_further done b h = absurd (both_ways false refl h)
+body_further (piece m p ts) b h = refl
+body_further (group m Round inside ts) b h = refl
+body_further (group m Square inside ts) b h = refl
+body_further (group m Brace inside ts) b h = absurd (both_ways false refl h)
+
+-- where the second of two holds further on, both do
+further : (p q r : Bool) → (q ≡ true → r ≡ true) → (p && q) ≡ true → (p && r) ≡ true
+further true q r f h = f h
+further false q r f h = absurd (both_ways false refl h)
+
+behind : (k : Bool) (a b : Tokens) → is_joined_behind k a ≡ true → is_joined b ≡ true → is_joined_behind k (a ⧺ b) ≡ true
+behind k done b h g = with_parameters k b g
+behind k (piece m (Sign arrow) ts) b h g =
+    further k (not m && (is_body ts && is_joined ts)) (not m && (is_body (ts ⧺ b) && is_joined (ts ⧺ b))) (further (not m) (is_body ts && is_joined ts) (is_body (ts ⧺ b) && is_joined (ts ⧺ b)) (λ i. let x = and_parts (is_body ts) (is_joined ts) i in and_from (is_body (ts ⧺ b)) (is_joined (ts ⧺ b)) (body_further ts b x.0) (behind false ts b x.1 g))) h
+behind k (piece m (Sign dot) ts) b h g = let x = and_parts (begins_with_name ts) (is_joined ts) h in and_from _ _ (named_further ts b x.0) (behind false ts b x.1 g)
+behind k (piece m (Word w) ts) b h g = behind true ts b h g
+behind k (piece m p ts) b h g = behind false ts b h g
+behind k (group m Square inside ts) b h g = behind false ts b h g
+behind k (group m Round inside ts) b h g = further (may_be_given inside) (is_joined_behind (are_parameters inside) ts) (is_joined_behind (are_parameters inside) (ts ⧺ b)) (λ i. behind (are_parameters inside) ts b i g) h
+behind k (group m Brace inside ts) b h g = behind false ts b h g
 
 made : (ts a b : Tokens) → ts ≡ a ⧺ b → is_joined a ≡ true → is_joined b ≡ true → is_joined ts ≡ true
-made ts a b e h g = subst (λ x. is_joined x ≡ true) (sym e) (behind a b h g)
+made ts a b e h g = subst (λ x. is_joined x ≡ true) (sym e) (behind false a b h g)
 
 operator_joined : (o : BinaryOperator) (m : Bool) (b : Tokens) → is_joined b ≡ true → is_joined (piece m (operator_piece o) b) ≡ true
-operator_joined operators.Addition m b h = h
+operator_joined operators.In m b h = with_parameters true b h
+operator_joined operators.Instanceof m b h = with_parameters true b h
 operator_joined o m b h = h
 
 element_from : (ts : Tokens) → starts_well ts ≡ true → starts_element ts ≡ true
@@ -67,7 +117,9 @@ given done h = refl
 given ts h = h
 
 unary_joined : (o : UnaryOperator) (m : Bool) (b : Tokens) → is_joined b ≡ true → is_joined (piece m (unary_piece o) b) ≡ true
-unary_joined unary_operators.UnaryPlus m b h = h
+unary_joined unary_operators.Typeof m b h = with_parameters true b h
+unary_joined unary_operators.Void m b h = with_parameters true b h
+unary_joined unary_operators.Delete m b h = with_parameters true b h
 unary_joined o m b h = h
 
 update_joined : (o : UpdateOperator) (m : Bool) (b : Tokens) → is_joined b ≡ true → is_joined (piece m (Sign (update_sign o)) b) ≡ true
@@ -113,6 +165,44 @@ arguments_start grammar.no_argument = refl
 arguments_start (grammar.some_arguments {ts = ts} r) = given ts (list_starts r)
 arguments_start (grammar.with_last_comma {a = a} m e r) = subst (λ x. may_be_given x ≡ true) (sym e) (given (a ⧺ piece m (Sign comma) done) (element_further m a done (list_starts r)))
 
+-- ---- parameters
+
+binding_starts : {c : Allowed} {ts : Tokens} {t : Tree} → ReadsBinding c ts t → starts_well ts ≡ true
+binding_starts (grammar.a_bound_name {mark = m} {w = w} {v = v} e h) = name_starts m w v done e h refl
+
+binding_is_one : {c : Allowed} {ts : Tokens} {t : Tree} → ReadsBinding c ts t → is_one ts ≡ true
+binding_is_one (grammar.a_bound_name e h) = refl
+
+parameter_starts : {c : Allowed} {ts : Tokens} {t : Tree} → ReadsParameter c ts t → starts_well ts ≡ true
+parameter_starts (grammar.a_parameter r) = binding_starts r
+parameter_starts (grammar.with_initializer m e r v) = joined _ _ (piece m (Sign equal) _) refl e (binding_starts r)
+
+parameters_from : (ts : Tokens) → starts_well ts ≡ true → are_parameters ts ≡ true
+parameters_from done h = refl
+parameters_from (piece m (Sign ellipsis) ts) h = absurd (both_ways false refl h)
+parameters_from ts h = h
+
+parameters_start : {c : Allowed} {ts : Tokens} {ps : Trees} {rest : Maybe} → ReadsParameters c ts ps rest → are_parameters ts ≡ true
+parameters_start grammar.no_parameter = refl
+parameters_start (grammar.last_parameter {ts = ts} r) = parameters_from ts (parameter_starts r)
+parameters_start (grammar.first_parameter {ts = ts} m e r s) = parameters_from ts (joined _ _ (piece m (Sign comma) _) refl e (parameter_starts r))
+parameters_start (grammar.a_rest r) = binding_is_one r
+
+given_parameters : (ts : Tokens) → are_parameters ts ≡ true → may_be_given ts ≡ true
+given_parameters (piece m (Sign ellipsis) ts) h = refl
+given_parameters ts h = h
+
+body_from : (ts : Tokens) → starts_in_brace ts ≡ false → starts_well ts ≡ true → is_body ts ≡ true
+body_from done n h = absurd (both_ways false refl h)
+body_from (group m Brace inside ts) n h = absurd (both_ways true n refl)
+body_from (group m Round inside ts) n h = refl
+body_from (group m Square inside ts) n h = refl
+body_from (piece m p ts) n h = refl
+
+arrow_joined : {c : Allowed} {a : Tokens} {ps : Tree} → ReadsArrowParameters c a ps → (b : Tokens) → is_body b ≡ true → is_joined b ≡ true → is_joined (a ⧺ piece false (Sign arrow) b) ≡ true
+arrow_joined (grammar.a_parameter_name e h) b f g = and_from (is_body b) (is_joined b) f g
+arrow_joined (grammar.grouped_parameters {inside = i} r) b f g = let p = parameters_start r in and_from (may_be_given i) _ (given_parameters i p) (and_from (are_parameters i) _ p (and_from (is_body b) (is_joined b) f g))
+
 mutual
   expression_joined : {c : Allowed} {l : Level} {ts : Tokens} {t : Tree} → ReadsExpression c l ts t → is_joined ts ≡ true
   expression_joined (grammar.an_assignment r) = expression_joined r
@@ -153,12 +243,12 @@ mutual
   expression_joined (grammar.a_conjunction m e l r) = made _ _ (piece m (Sign and_and) _) e (expression_joined l) (expression_joined r)
   expression_joined (grammar.a_disjunction m e l r) = made _ _ (piece m (Sign or_or) _) e (expression_joined l) (expression_joined r)
   expression_joined (grammar.a_coalescing m e l r) = made _ _ (piece m (Sign nullish) _) e (expression_joined l) (expression_joined r)
-  expression_joined (grammar.a_choice {b = b} {d = d} m n e r s t) = made _ _ (piece m (Sign question) (b ⧺ piece n (Sign colon) d)) e (expression_joined r) (behind b (piece n (Sign colon) d) (expression_joined s) (expression_joined t))
+  expression_joined (grammar.a_choice {b = b} {d = d} m n e r s t) = made _ _ (piece m (Sign question) (b ⧺ piece n (Sign colon) d)) e (expression_joined r) (behind false b (piece n (Sign colon) d) (expression_joined s) (expression_joined t))
   expression_joined (grammar.a_unary_operation {mark = m} o r) = unary_joined o m _ (expression_joined r)
   expression_joined (grammar.an_update_before {mark = m} {ts = ts} o r s) = update_joined o m ts (expression_joined r)
   expression_joined (grammar.an_update_behind {a = a} o e r s) = made _ a (piece false (Sign (update_sign o)) done) e (expression_joined r) (update_joined o false done refl)
-  expression_joined (grammar.new_with_arguments {a = a} {inside = i} m n e r s) = made _ a (group n Round i done) e (expression_joined r) (and_from (may_be_given i) true (arguments_start s) refl)
-  expression_joined (grammar.new_alone r) = expression_joined r
+  expression_joined (grammar.new_with_arguments {ts = ts} {a = a} {inside = i} m n e r s) = with_parameters true ts (made _ a (group n Round i done) e (expression_joined r) (and_from (may_be_given i) true (arguments_start s) refl))
+  expression_joined (grammar.new_alone {ts = ts} r) = with_parameters true ts (expression_joined r)
   expression_joined (grammar.a_named_member_of_super w m n l e) = refl
   expression_joined (grammar.a_computed_member_of_super r) = refl
   expression_joined (grammar.a_call_of_super {inside = i} s) = and_from (may_be_given i) true (arguments_start s) refl
@@ -175,6 +265,7 @@ mutual
   expression_joined (grammar.an_optional_chain r) = chain_joined r
   expression_joined (grammar.an_array r) = refl
   expression_joined (grammar.an_object r) = refl
+  expression_joined (grammar.an_arrow_function {b = b} e r n s) = subst (λ x. is_joined x ≡ true) (sym e) (arrow_joined r b (body_from b n (expression_starts s)) (expression_joined s))
 
   parts_joined : {c : Allowed} {ts : Tokens} {us : Trees} → ReadsParts c ts us → is_joined ts ≡ true
   parts_joined (grammar.last_part r) = expression_joined r
@@ -204,7 +295,7 @@ declarators_joined (grammar.last_declarator r) = declarator_joined r
 declarators_joined (grammar.first_declarator m e r s) = made _ _ (piece m (Sign comma) _) e (declarator_joined r) (declarators_joined s)
 
 declaration_joined : {c : Allowed} {ts : Tokens} {t : Tree} → ReadsDeclaration c ts t → is_joined ts ≡ true
-declaration_joined (grammar.a_const r) = declarators_joined r
+declaration_joined (grammar.a_const {ts = ts} r) = with_parameters true ts (declarators_joined r)
 
 ended_joined : {last : Bool} {ts a : Tokens} → EndsBy last ts a → is_joined a ≡ true → is_joined ts ≡ true
 ended_joined (grammar.a_semicolon m e) h = made _ _ (piece m (Sign semicolon) done) e h refl
@@ -214,8 +305,8 @@ statement_joined : {c : Allowed} {last before_else : Bool} {ts : Tokens} {s : Tr
 statement_joined (grammar.an_expression_statement e h r) = ended_joined e (expression_joined r)
 statement_joined grammar.an_empty_statement = refl
 statement_joined (grammar.a_block r) = refl
-statement_joined (grammar.an_if {test = i} r s) = and_from (may_be_given i) _ (given_from i (expression_starts r)) (statement_joined s)
-statement_joined (grammar.an_if_with_else {test = i} k e r s u) = and_from (may_be_given i) _ (given_from i (expression_starts r)) (made _ _ (piece k (Word (codes "else")) _) e (statement_joined s) (statement_joined u))
+statement_joined (grammar.an_if {test = i} {ts = ts} r s) = and_from (may_be_given i) _ (given_from i (expression_starts r)) (with_parameters (are_parameters i) ts (statement_joined s))
+statement_joined (grammar.an_if_with_else {test = i} {ts = ts} {b = b} k e r s u) = and_from (may_be_given i) _ (given_from i (expression_starts r)) (with_parameters (are_parameters i) ts (made _ _ (piece k (Word (codes "else")) b) e (statement_joined s) (with_parameters true b (statement_joined u))))
 
 item_joined : {c : Allowed} {last : Bool} {ts : Tokens} {s : Tree} → ReadsItem c last ts s → is_joined ts ≡ true
 item_joined (grammar.a_statement r) = statement_joined r
@@ -250,3 +341,19 @@ no_name = refused (codes "a.;") (word (codes "a") (sign dot (sign semicolon done
 pub no_argument : IsNotRead (codes "a(,);")
 unfolding unicode_ident longer_stands word_value is_reserved is_strict_reserved encode
 no_argument = refused (codes "a(,);") (word (codes "a") (group false Round (sign comma done) (sign semicolon done))) ([], codes "(,);", refl, refl, refl, refl, refl, ([], codes ",", codes ";", refl, refl, refl, ([], [], refl, refl, refl, refl, refl, refl), ([], [], refl, refl, refl, refl, refl, refl))) refl
+
+pub body_in_braces : IsNotRead (codes "a=>{};")
+unfolding unicode_ident longer_stands word_value is_reserved is_strict_reserved encode
+body_in_braces = refused (codes "a=>{};") (word (codes "a") (sign arrow (group false Brace done (sign semicolon done)))) ([], codes "=>{};", refl, refl, refl, refl, refl, ([], codes "{};", refl, refl, refl, refl, refl, ([], [], codes ";", refl, refl, refl, refl, ([], [], refl, refl, refl, refl, refl, refl)))) refl
+
+pub arrow_on_next_line : IsNotRead (codes "a\n=>b;")
+unfolding unicode_ident longer_stands word_value is_reserved is_strict_reserved encode
+arrow_on_next_line = refused (codes "a\n=>b;") (word (codes "a") (piece true (Sign arrow) (word (codes "b") (sign semicolon done)))) ([], codes "\n=>b;", refl, refl, refl, refl, refl, (codes "\n", codes "b;", refl, refl, refl, refl, refl, ([], codes ";", refl, refl, refl, refl, refl, ([], [], refl, refl, refl, refl, refl, refl)))) refl
+
+pub comma_behind_rest : IsNotRead (codes "(...a,)=>b;")
+unfolding unicode_ident longer_stands word_value is_reserved is_strict_reserved encode
+comma_behind_rest = refused (codes "(...a,)=>b;") (group false Round (sign ellipsis (word (codes "a") (sign comma done))) (sign arrow (word (codes "b") (sign semicolon done)))) ([], codes "...a,", codes "=>b;", refl, refl, refl, ([], codes "a,", refl, refl, refl, refl, refl, ([], codes ",", refl, refl, refl, refl, refl, ([], [], refl, refl, refl, refl, refl, refl))), ([], codes "b;", refl, refl, refl, refl, refl, ([], codes ";", refl, refl, refl, refl, refl, ([], [], refl, refl, refl, refl, refl, refl)))) refl
+
+pub comma_alone : IsNotRead (codes "(,)=>a;")
+unfolding unicode_ident longer_stands word_value is_reserved is_strict_reserved encode
+comma_alone = refused (codes "(,)=>a;") (group false Round (sign comma done) (sign arrow (word (codes "a") (sign semicolon done)))) ([], codes ",", codes "=>a;", refl, refl, refl, ([], [], refl, refl, refl, refl, refl, refl), ([], codes "a;", refl, refl, refl, refl, refl, ([], codes ";", refl, refl, refl, refl, refl, ([], [], refl, refl, refl, refl, refl, refl)))) refl

@@ -8,6 +8,8 @@ pub mod Rows
 pub mod Groups
 pub mod Made
 pub mod Samples
+pub mod Assigned
+pub mod Arrows
 pub mod Refused
 pub mod Joined
 pub mod Negative

@@ -1,5 +1,5 @@
 -- What every program that the grammar reads has in common, and texts that haven't.
-use Rattle.std.proofs.Common.{◌≡◌, ℕ, Bool, true, false, ◌&&◌, ◌||◌, ◌==◌, ◌⊎◌, inl, inr, List, [], ◌∷◌, ◌++◌, codes, refl, sym, ap, ◌∙◌, subst}
+use Rattle.std.proofs.Common.{◌≡◌, ℕ, Bool, true, false, ◌&&◌, ◌||◌, ◌==◌, ◌⊎◌, inl, inr, Some, List, [], ◌∷◌, ◌++◌, codes, refl, sym, ap, ◌∙◌, subst}
 use Rattle.std.specs.Prelude.{not}
 use Rattle.std.specs.List.{list_any}
 use Rattle.std.specs.Option.{option_map_or}
@@ -21,10 +21,10 @@ use Rattle.jsgen_syntax.specs.declared.operator.UpdateOperator.TheVariants as up
 use Rattle.jsgen_syntax.specs.declared.operator.AssignmentOperator.{AssignmentOperator}
 use Rattle.jsgen_syntax.specs.declared.operator.AssignmentOperator.TheVariants as assignment_operators
 use Rattle.jsgen_tree.specs.Tree.{Tree, Trees}
-use Rattle.jsgen_model.specs.Punctuator.{Punctuator, dot, question_dot, plus, minus, plus_plus, minus_minus, bang, tilde, comma, star_star, and_and, or_or, nullish, question, semicolon, Bracket, Round, Square, Brace, opening, closing}
+use Rattle.jsgen_model.specs.Punctuator.{Punctuator, dot, question_dot, plus, minus, plus_plus, minus_minus, bang, tilde, comma, star_star, and_and, or_or, nullish, question, arrow, semicolon, Bracket, Round, Square, Brace, opening, closing}
 use Rattle.jsgen_model.specs.Numbers.{spells_number}
 use Rattle.jsgen_model.specs.Tokens.{Tokens, done, piece, group, ◌⧺◌, Piece, Word, Number, Quoted, Sign, piece_text, is_blank, longer_stands, longer_number_stands, AreTokensOf}
-use Rattle.jsgen_model.specs.Grammar.{Allowed, Level, operator_piece, unary_piece, update_sign, assignment_sign, ReadsExpression, ReadsBinding, ReadsDeclarator, ReadsDeclarators, ReadsDeclaration, EndsBy, ReadsStatement, ReadsItem, ReadsStatements, ReadsBody, ReadsModule, a_module, ReadsChain, ReadsChainBase}
+use Rattle.jsgen_model.specs.Grammar.{Allowed, Level, operator_piece, unary_piece, update_sign, assignment_sign, ReadsExpression, ReadsBinding, ReadsDeclarator, ReadsDeclarators, ReadsDeclaration, EndsBy, ReadsStatement, ReadsItem, ReadsStatements, ReadsBody, ReadsModule, a_module, ReadsChain, ReadsChainBase, ReadsArrowParameters}
 use Rattle.jsgen_model.specs.Grammar as grammar
 use Rattle.jsgen_token_laws.proofs.Characters.{any_append}
 use Rattle.jsgen_token_laws.proofs.Plain.{all_plain}
@@ -249,6 +249,14 @@ element_goes m done ts h = absurd (both_ways false refl h)
 element_goes m (piece n p us) ts h = refl
 element_goes m (group n b i us) ts h = refl
 
+-- a name
+pub name_starts : (m : Bool) (w v : List ℕ) (ts : Tokens) → word_value w ≡ Some v → is_free_name v ≡ true → goes_on ts ≡ true → starts_well (piece m (Word w) ts) ≡ true
+name_starts m w v ts e h g = or_left _ _ (and_from (is_operand_word w) (goes_on ts) (or_right (is_keyword w) _ (ap (λ o. option_map_or is_free_name o false) e ∙ h)) g)
+
+arrow_parameters_start : {c : Allowed} {ts : Tokens} {t : Tree} → ReadsArrowParameters c ts t → starts_well ts ≡ true
+arrow_parameters_start (grammar.a_parameter_name {mark = m} {w = w} {v = v} e h) = name_starts m w v done e h refl
+arrow_parameters_start (grammar.grouped_parameters r) = refl
+
 mutual
   pub expression_starts : {c : Allowed} {l : Level} {ts : Tokens} {t : Tree} → ReadsExpression c l ts t → starts_well ts ≡ true
   expression_starts (grammar.an_assignment r) = expression_starts r
@@ -299,7 +307,7 @@ mutual
   expression_starts (grammar.a_computed_member_of_super {next = n} {inside = i} r) = or_left (goes_on (group n Square i done)) false (element_goes n i done (expression_starts r))
   expression_starts (grammar.a_call_of_super r) = refl
   expression_starts grammar.a_new_target = refl
-  expression_starts (grammar.a_reference {w = w} e h) = or_left _ _ (and_from (is_operand_word w) true (or_right (is_keyword w) _ (ap (λ o. option_map_or is_free_name o false) e ∙ h)) refl)
+  expression_starts (grammar.a_reference {mark = m} {w = w} {v = v} e h) = name_starts m w v done e h refl
   expression_starts grammar.a_this = refl
   expression_starts grammar.a_null = refl
   expression_starts grammar.a_true = refl
@@ -311,6 +319,7 @@ mutual
   expression_starts (grammar.an_optional_chain r) = chain_starts r
   expression_starts (grammar.an_array r) = refl
   expression_starts (grammar.an_object r) = refl
+  expression_starts (grammar.an_arrow_function e r n s) = joined _ _ (piece false (Sign arrow) _) refl e (arrow_parameters_start r)
 
   chain_starts : {c : Allowed} {ts : Tokens} {t : Tree} → ReadsChain c ts t → starts_well ts ≡ true
   chain_starts (grammar.an_optional_named_member w m n e v r) = joined _ _ (piece m (Sign question_dot) _) refl e (base_starts r)

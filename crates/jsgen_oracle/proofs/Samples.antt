@@ -13,7 +13,7 @@ use Rattle.jsgen_tree.specs.Tree.{Tree, absent, given, Trees, no_trees, more}
 use Rattle.jsgen_model.specs.Punctuator.{Punctuator, plus, plus_plus, minus, star, star_star, comma, semicolon, dot, equal, Round, Square, Brace}
 use Rattle.jsgen_model.specs.Numbers.{spells_number}
 use Rattle.jsgen_model.specs.Tokens.{Tokens, done, piece, group, ◌⧺◌, Word, Number, Quoted, Sign, longer_stands, longer_number_stands, AreTokensOf}
-use Rattle.jsgen_model.specs.Grammar.{Allowed, Level, Expression, Assignment, Multiplicative, Additive, Exponent, Unary, Update, LeftHandSide, Primary, in_module, with_in, ReadsExpression, ReadsBinding, ReadsDeclarator, ReadsDeclarators, ReadsDeclaration, ReadsStatement, ReadsItem, ReadsStatements, ReadsModule, a_module, starts_with_directive, starts_statement}
+use Rattle.jsgen_model.specs.Grammar.{Allowed, Level, Expression, Assignment, ShortCircuit, Multiplicative, Additive, Exponent, Unary, Update, LeftHandSide, Primary, in_module, with_in, ReadsExpression, ReadsBinding, ReadsDeclarator, ReadsDeclarators, ReadsDeclaration, ReadsStatement, ReadsItem, ReadsStatements, ReadsModule, a_module, starts_with_directive, starts_statement}
 use Rattle.jsgen_model.specs.Grammar as grammar
 use Rattle.jsgen_oracle.specs.Samples.{IsRead, IsNotRead}
 use Rattle.jsgen_oracle.specs.Samples as samples
@@ -29,13 +29,16 @@ power r = grammar.a_unary (grammar.an_update (update r))
 times : {c : Allowed} {ts : Tokens} {t : Tree} → ReadsExpression c Primary ts t → ReadsExpression c Multiplicative ts t
 times r = grammar.an_exponent (power r)
 
-first_of_sum : {c : Allowed} {ts : Tokens} {t : Tree} → ReadsExpression c Primary ts t → ReadsExpression c Additive ts t
+pub first_of_sum : {c : Allowed} {ts : Tokens} {t : Tree} → ReadsExpression c Primary ts t → ReadsExpression c Additive ts t
 first_of_sum r = grammar.a_multiplicative (times r)
 
-value : {c : Allowed} {ts : Tokens} {t : Tree} → ReadsExpression c Additive ts t → ReadsExpression c Assignment ts t
-value r = grammar.a_conditional (grammar.a_short_circuit (grammar.a_logical_or (grammar.a_logical_and (grammar.a_bit_or (grammar.a_bit_xor (grammar.a_bit_and (grammar.an_equality (grammar.a_relation (grammar.a_shift (grammar.an_additive r))))))))))
+pub test : {c : Allowed} {ts : Tokens} {t : Tree} → ReadsExpression c Additive ts t → ReadsExpression c ShortCircuit ts t
+test r = grammar.a_logical_or (grammar.a_logical_and (grammar.a_bit_or (grammar.a_bit_xor (grammar.a_bit_and (grammar.an_equality (grammar.a_relation (grammar.a_shift (grammar.an_additive r))))))))
 
-whole : {c : Allowed} {ts : Tokens} {t : Tree} → ReadsExpression c Additive ts t → ReadsExpression c Expression ts t
+pub value : {c : Allowed} {ts : Tokens} {t : Tree} → ReadsExpression c Additive ts t → ReadsExpression c Assignment ts t
+value r = grammar.a_conditional (grammar.a_short_circuit (test r))
+
+pub whole : {c : Allowed} {ts : Tokens} {t : Tree} → ReadsExpression c Additive ts t → ReadsExpression c Expression ts t
 whole r = grammar.an_assignment (value r)
 
 abbrev pub word : List ℕ → Tokens → Tokens
@@ -45,50 +48,72 @@ abbrev pub sign : Punctuator → Tokens → Tokens
 sign s ts = piece false (Sign s) ts
 
 -- a program without directives
-undirected : {ts : Tokens} {body : Trees} → starts_with_directive ts ≡ false → ReadsStatements in_module false ts body → ReadsModule ts (samples.module_of body)
+pub undirected : {ts : Tokens} {body : Trees} → starts_with_directive ts ≡ false → ReadsStatements in_module false ts body → ReadsModule ts (samples.module_of body)
 undirected h r = a_module (grammar.statements h r)
 
 -- an expression with its semicolon, as a statement and in a list of statements
 ended : {c : Allowed} {last before_else : Bool} {a : Tokens} {e : Tree} → starts_statement a ≡ true → ReadsExpression (with_in c) Expression a e → ReadsStatement c last before_else (a ⧺ sign semicolon done) (samples.statement_of e)
 ended h r = grammar.an_expression_statement (grammar.a_semicolon false refl) h r
 
-item : {c : Allowed} {last : Bool} {a : Tokens} {e : Tree} → starts_statement a ≡ true → ReadsExpression (with_in c) Expression a e → ReadsItem c last (a ⧺ sign semicolon done) (samples.statement_of e)
+pub item : {c : Allowed} {last : Bool} {a : Tokens} {e : Tree} → starts_statement a ≡ true → ReadsExpression (with_in c) Expression a e → ReadsItem c last (a ⧺ sign semicolon done) (samples.statement_of e)
 item h r = grammar.a_statement (ended h r)
 
 -- ---- names
 
-free_a : is_free_name (codes "a") ≡ true
+pub free_a : is_free_name (codes "a") ≡ true
 unfolding unicode_ident is_reserved is_strict_reserved encode
 free_a = refl
 
-free_b : is_free_name (codes "b") ≡ true
+pub free_b : is_free_name (codes "b") ≡ true
 unfolding unicode_ident is_reserved is_strict_reserved encode
 free_b = refl
 
-value_a : word_value (codes "a") ≡ Some (codes "a")
+pub value_a : word_value (codes "a") ≡ Some (codes "a")
 unfolding word_value
 value_a = refl
 
-value_b : word_value (codes "b") ≡ Some (codes "b")
+pub value_b : word_value (codes "b") ≡ Some (codes "b")
 unfolding word_value
 value_b = refl
 
-value_c : word_value (codes "c") ≡ Some (codes "c")
+pub value_c : word_value (codes "c") ≡ Some (codes "c")
 unfolding word_value
 value_c = refl
 
-free_c : is_free_name (codes "c") ≡ true
+pub free_c : is_free_name (codes "c") ≡ true
 unfolding unicode_ident is_reserved is_strict_reserved encode
 free_c = refl
 
-read_a : {c : Allowed} {mark : Bool} → ReadsExpression c Primary (piece mark (Word (codes "a")) done) samples.a
+pub value_d : word_value (codes "d") ≡ Some (codes "d")
+unfolding word_value
+value_d = refl
+
+pub free_d : is_free_name (codes "d") ≡ true
+unfolding unicode_ident is_reserved is_strict_reserved encode
+free_d = refl
+
+value_e : word_value (codes "e") ≡ Some (codes "e")
+unfolding word_value
+value_e = refl
+
+free_e : is_free_name (codes "e") ≡ true
+unfolding unicode_ident is_reserved is_strict_reserved encode
+free_e = refl
+
+pub read_a : {c : Allowed} {mark : Bool} → ReadsExpression c Primary (piece mark (Word (codes "a")) done) samples.a
 read_a = grammar.a_reference value_a free_a
 
-read_b : {c : Allowed} {mark : Bool} → ReadsExpression c Primary (piece mark (Word (codes "b")) done) samples.b
+pub read_b : {c : Allowed} {mark : Bool} → ReadsExpression c Primary (piece mark (Word (codes "b")) done) samples.b
 read_b = grammar.a_reference value_b free_b
 
-read_c : {c : Allowed} {mark : Bool} → ReadsExpression c Primary (piece mark (Word (codes "c")) done) samples.c
+pub read_c : {c : Allowed} {mark : Bool} → ReadsExpression c Primary (piece mark (Word (codes "c")) done) samples.c
 read_c = grammar.a_reference value_c free_c
+
+pub read_d : {c : Allowed} {mark : Bool} → ReadsExpression c Primary (piece mark (Word (codes "d")) done) samples.d
+read_d = grammar.a_reference value_d free_d
+
+pub read_e : {c : Allowed} {mark : Bool} → ReadsExpression c Primary (piece mark (Word (codes "e")) done) samples.e
+read_e = grammar.a_reference value_e free_e
 
 -- ---- what is read
 
@@ -187,7 +212,7 @@ members =
 of_unary : {c : Allowed} {ts : Tokens} {t : Tree} → ReadsExpression c Unary ts t → ReadsExpression c Expression ts t
 of_unary r = whole (grammar.a_multiplicative (grammar.an_exponent (grammar.a_unary r)))
 
-of_left : {c : Allowed} {ts : Tokens} {t : Tree} → ReadsExpression c LeftHandSide ts t → ReadsExpression c Expression ts t
+pub of_left : {c : Allowed} {ts : Tokens} {t : Tree} → ReadsExpression c LeftHandSide ts t → ReadsExpression c Expression ts t
 of_left r = of_unary (grammar.an_update (grammar.a_left_hand_side r))
 
 pub two_minuses : IsRead (codes "- -a;") (samples.module_of (more (samples.statement_of (samples.unary_of UnaryNegation (samples.unary_of UnaryNegation samples.a))) no_trees))

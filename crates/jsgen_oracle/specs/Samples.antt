@@ -5,8 +5,9 @@ use Rattle.jsgen_syntax.specs.declared.operator.LogicalOperator.TheVariants.{Or,
 use Rattle.jsgen_syntax.specs.declared.operator.UnaryOperator.{UnaryOperator}
 use Rattle.jsgen_syntax.specs.declared.operator.UnaryOperator.TheVariants.{UnaryNegation, Typeof}
 use Rattle.jsgen_syntax.specs.declared.operator.UpdateOperator.TheVariants.{Increment}
+use Rattle.jsgen_syntax.specs.declared.operator.AssignmentOperator.TheVariants.{Assign}
 use Rattle.jsgen_tree.specs.declared.statements.VariableDeclarationKind.TheVariants.{Const}
-use Rattle.jsgen_tree.specs.Atom.{no_value, text, units, flag, digits, numeric_kind, binary_operator, logical_operator, unary_operator, update_operator}
+use Rattle.jsgen_tree.specs.Atom.{no_value, text, units, flag, digits, numeric_kind, binary_operator, logical_operator, unary_operator, update_operator, assignment_operator}
 use Rattle.jsgen_tree.specs.Number.{Whole}
 use Rattle.jsgen_tree.specs.Tree.{Tree, Maybe, absent, given, Trees, no_trees, more}
 use Rattle.jsgen_tree.specs.Nodes as tree
@@ -40,11 +41,20 @@ b = tree.identifier_reference (unnumbered (codes "b"))
 abbrev pub c : Tree
 c = tree.identifier_reference (unnumbered (codes "c"))
 
+abbrev pub d : Tree
+d = tree.identifier_reference (unnumbered (codes "d"))
+
+abbrev pub e : Tree
+e = tree.identifier_reference (unnumbered (codes "e"))
+
 abbrev pub one : Tree
 one = tree.numeric_literal (by_text (codes "1"))
 
 abbrev pub one_and_a_half : Tree
 one_and_a_half = tree.numeric_literal (by_text (codes "1.5"))
+
+abbrev pub half : Tree
+half = tree.numeric_literal (by_text (codes ".5"))
 
 abbrev pub sum_of : Tree → Tree → Tree
 sum_of left right = tree.binary (bare (binary_operator Addition ∷ [])) left right
@@ -90,6 +100,42 @@ incremented_behind argument = tree.update (bare (update_operator Increment ∷ f
 
 abbrev pub new_of : Tree → Trees → Tree
 new_of callee arguments = tree.new_expression (nothing_of 1) callee arguments
+
+abbrev pub conditional_of : Tree → Tree → Tree → Tree
+conditional_of test consequent alternate = tree.conditional (nothing_of 0) test consequent alternate
+
+abbrev pub sequence_of : Trees → Tree
+sequence_of expressions = tree.sequence (nothing_of 0) expressions
+
+abbrev pub assignment_of : Tree → Tree → Tree
+assignment_of target value = tree.assignment (bare (assignment_operator Assign ∷ [])) target value
+
+abbrev pub optional_member_of : Tree → List ℕ → Tree
+optional_member_of object name = tree.static_member (link_values true) object (tree.identifier_name (named name))
+
+abbrev pub optional_element_of : Tree → Tree → Tree
+optional_element_of object expression = tree.computed_member (link_values true) object expression
+
+abbrev pub chain_of : Tree → Tree
+chain_of last = tree.chain (nothing_of 0) last
+
+abbrev pub empty_object : Tree
+empty_object = tree.object_expression (nothing_of 0) no_trees
+
+abbrev pub arrow_of : Tree → Tree → Tree
+arrow_of parameters body = tree.arrow_function (nothing_of 3) parameters body
+
+abbrev pub parameters_of : Trees → Maybe → Tree
+parameters_of items rest = tree.formal_parameters (nothing_of 0) items rest
+
+abbrev pub parameter : List ℕ → Maybe → Tree
+parameter name value = tree.formal_parameter (nothing_of 3) (tree.binding_identifier (unnumbered name)) value
+
+abbrev pub rest_in : List ℕ → Tree
+rest_in name = tree.formal_parameter_rest (nothing_of 0) (tree.binding_identifier (unnumbered name))
+
+abbrev pub one_parameter : List ℕ → Tree
+one_parameter name = parameters_of (more (parameter name absent) no_trees) absent
 
 abbrev pub super : Tree
 super = tree.super (nothing_of 0)
@@ -142,6 +188,30 @@ pub record GrammarSamples : Type 0 where
   -- arguments go with the last `new` that has none (13.3.5)
   pub two_news : IsRead (codes "new new a(b);") (module_of (more (statement_of (new_of (new_of a (more b no_trees)) no_trees)) no_trees))
   pub member_of_super : IsRead (codes "super.a;") (module_of (more (statement_of (member_of super (codes "a"))) no_trees))
+  -- the last alternate takes as much as it can (13.14)
+  pub choices_to_the_right : IsRead (codes "a?b:c?d:e;") (module_of (more (statement_of (conditional_of a b (conditional_of c d e))) no_trees))
+  -- `?.` before a digit is no sign, and the number begins with its dot (12.8)
+  pub number_behind_question : IsRead (codes "a?.5:b;") (module_of (more (statement_of (conditional_of a half b)) no_trees))
+  pub sequence : IsRead (codes "a,b;") (module_of (more (statement_of (sequence_of (more a (more b no_trees)))) no_trees))
+  -- assignments group to the right (13.15)
+  pub assignments_to_the_right : IsRead (codes "a=b=c;") (module_of (more (statement_of (assignment_of a (assignment_of b c))) no_trees))
+  -- parentheses round a target are away (8.6.4)
+  pub assignment_to_parentheses : IsRead (codes "(a)=b;") (module_of (more (statement_of (assignment_of a b)) no_trees))
+  pub assignment_in_alternate : IsRead (codes "a?b:c=d;") (module_of (more (statement_of (conditional_of a b (assignment_of c d))) no_trees))
+  -- the links behind an optional one are of its chain (13.3)
+  pub chain : IsRead (codes "a?.b.c;") (module_of (more (statement_of (chain_of (member_of (optional_member_of a (codes "b")) (codes "c")))) no_trees))
+  pub optional_element : IsRead (codes "a?.[b];") (module_of (more (statement_of (chain_of (optional_element_of a b))) no_trees))
+  -- one parameter by its name alone, and parameters in parentheses (15.3)
+  pub arrow_with_name : IsRead (codes "a=>b;") (module_of (more (statement_of (arrow_of (one_parameter (codes "a")) b)) no_trees))
+  pub parameters : IsRead (codes "(a,b=1,...c)=>a;") (module_of (more (statement_of (arrow_of (parameters_of (more (parameter (codes "a") absent) (more (parameter (codes "b") (given one)) no_trees)) (given (rest_in (codes "c")))) a)) no_trees))
+  -- an object that is a body stands in parentheses
+  pub arrow_to_object : IsRead (codes "()=>({});") (module_of (more (statement_of (arrow_of (parameters_of no_trees absent) (in_parentheses empty_object))) no_trees))
+  -- a comma may end the parameters (15.1)
+  pub comma_behind_parameters : IsRead (codes "(a,)=>b;") (module_of (more (statement_of (arrow_of (one_parameter (codes "a")) b)) no_trees))
+  -- a body takes as much as it can
+  pub arrow_to_arrow : IsRead (codes "a=>b=>c;") (module_of (more (statement_of (arrow_of (one_parameter (codes "a")) (arrow_of (one_parameter (codes "b")) c))) no_trees))
+  pub arrow_to_choice : IsRead (codes "(a)=>a?b:c;") (module_of (more (statement_of (arrow_of (one_parameter (codes "a")) (conditional_of a b c))) no_trees))
+  pub arrow_in_alternate : IsRead (codes "a?(b):c=>d;") (module_of (more (statement_of (conditional_of a (in_parentheses b) (arrow_of (one_parameter (codes "c")) d))) no_trees))
   pub string : IsRead (codes "(\"a\");") (module_of (more (statement_of (in_parentheses (string_of (codes "a")))) no_trees))
   -- a template may begin a program, since it is no directive (11.2.1), and an escape is read
   pub template : IsRead (codes "`\\n`;") (module_of (more (statement_of (string_of (10 ∷ []))) no_trees))
@@ -174,6 +244,13 @@ pub record GrammarSamples : Type 0 where
   pub no_element : IsNotRead (codes "a[];")
   pub no_name : IsNotRead (codes "a.;")
   pub no_argument : IsNotRead (codes "a(,);")
+  -- a brace behind an arrow begins a function's body, which isn't read yet (15.3)
+  pub body_in_braces : IsNotRead (codes "a=>{};")
+  -- no line end stands before an arrow (15.3)
+  pub arrow_on_next_line : IsNotRead (codes "a\n=>b;")
+  -- no comma follows the parameter that takes the rest (15.1)
+  pub comma_behind_rest : IsNotRead (codes "(...a,)=>b;")
+  pub comma_alone : IsNotRead (codes "(,)=>a;")
   pub string_behind_name : IsNotRead (codes "a'b';")
   -- at a module's end the definition adds no semicolon, though 12.10 does
   pub unended_name : IsNotRead (codes "a")
@@ -222,3 +299,11 @@ pub record NormalSamples : Type 0 where
   pub block_or_statement : AreTwo (if_of a (block_of (more (statement_of b) no_trees)) absent) (if_of a (statement_of b) absent)
   -- `if(a)b;else;` and `if(a)b;`
   pub alternate_or_none : AreTwo (if_of a (statement_of b) (given empty)) (if_of a (statement_of b) absent)
+  -- `(a,b),c` and `a,b,c`
+  pub parts_of_a_sequence : AreOne (sequence_of (more (in_parentheses (sequence_of (more a (more b no_trees)))) (more c no_trees))) (sequence_of (more a (more b (more c no_trees))))
+  -- an arrow function with its two marks, and without
+  pub marks_of_an_arrow : AreOne (tree.arrow_function (bare (no_value ∷ flag true ∷ flag true ∷ [])) (one_parameter (codes "a")) b) (arrow_of (one_parameter (codes "a")) b)
+  -- `a=>b` and `(a=1)=>b`
+  pub parameter_without_value : AreTwo (arrow_of (one_parameter (codes "a")) b) (arrow_of (parameters_of (more (parameter (codes "a") (given one)) no_trees) absent) b)
+  -- `a=>b` and `(...a)=>b`
+  pub parameter_or_rest : AreTwo (arrow_of (one_parameter (codes "a")) b) (arrow_of (parameters_of no_trees (given (rest_in (codes "a")))) b)

@@ -17,6 +17,7 @@ mod chain;
 mod characters;
 mod directive;
 mod form;
+mod functions;
 mod normal;
 mod number;
 mod number_forms;

@@ -16,6 +16,7 @@ use crate::chain::{joined, links, parts};
 use crate::characters::characters_of;
 use crate::directive::directive_units;
 use crate::form::{Form, Slot, Value};
+use crate::functions::arrow_function_form;
 use crate::number_forms::{big_int_literal_form, is_negative_number, numeric_literal_form};
 use crate::shape::{
     holed_list, identifier, leaf, list, literal, one_value, pair, row, row_of_two, single,
@@ -207,7 +208,7 @@ fn variable_declarator_form<N: NormalNode>(
     )
 }
 
-fn init_form<N: NormalNode>(
+pub(crate) fn init_form<N: NormalNode>(
     alloc: Global,
     init: &Option<ExpressionNode<N>>,
 ) -> Result<Option<Form>, Memory>
@@ -718,6 +719,7 @@ fn expression_form<N: NormalNode>(alloc: Global, node: &Expression<N>) -> Result
         Expression::ConditionalExpression(node) => conditional_expression_form(alloc, node),
         Expression::SequenceExpression(node) => sequence_expression_form(alloc, node),
         Expression::AssignmentExpression(node) => assignment_expression_form(alloc, node),
+        Expression::ArrowFunctionExpression(node) => arrow_function_form(alloc, node),
     }
 }
 

@@ -63,6 +63,10 @@ abbrev has_directives : Tree → Bool
 has_directives (tree.program a no_trees body) = false
 has_directives t = true
 
+abbrev has_bare_parameter : Tree → Bool
+has_bare_parameter (tree.arrow_function a (tree.formal_parameters b (more (tree.formal_parameter d pattern absent) ps) rest) body) = true
+has_bare_parameter t = false
+
 pub returns : goal.returns
 unfolding digits string_value
 returns c = record {
@@ -82,4 +86,8 @@ returns c = record {
   braces_of_a_consequent = refl;
   block_or_statement = λ e. both_ways true (ap has_block e) refl;
   alternate_or_none = λ e. both_ways true (ap has_alternate e) refl;
+  parts_of_a_sequence = refl;
+  marks_of_an_arrow = refl;
+  parameter_without_value = λ e. both_ways true (ap has_bare_parameter e) refl;
+  parameter_or_rest = λ e. both_ways true (ap has_bare_parameter e) refl;
 }
