@@ -67,7 +67,7 @@ function oddRows(draw) {
 function oddOptions({ head, format }, draw) {
   if (draw.once(6)) return oddValue(draw);
   const members = head.get("options") instanceof Members ? head.get("options") : new Members([]);
-  const name = draw.of(draw.of([format.flags, format.unread, ["Minify", "", "target"]]));
+  const name = draw.of(draw.of([[...format.options.keys()], format.unread, ["Minify", "", "target"]]));
   members.set(name, draw.once(4) ? draw.of([true, false, null]) : oddValue(draw));
   return members;
 }

@@ -4,7 +4,7 @@ import { NotJson, parseJson } from "./json.mjs";
 
 const UNREAD_HEAD = ["symbols", "references", "private"];
 const ROWS = 4;
-const LIMIT = { span: 2n ** 32n, number: 2n ** 32n, unit: 2n ** 16n, digits: 2n ** 128n };
+const LIMIT = { span: 2n ** 32n, number: 2n ** 32n, whole: 2n ** 64n, unit: 2n ** 16n, digits: 2n ** 128n };
 
 /** A fault, whose message is what stands behind `not a job: `. */
 export class Fault extends Error {}
@@ -50,10 +50,10 @@ function judgeHead(format, members) {
   if (rows.items.length === 0) throw fault("Wrong", ROWS);
 }
 
-function areOptions({ flags, unread }, value) {
+function areOptions({ options, unread }, value) {
   if (value.is !== "object") return false;
-  const isFlag = (name) => (given(value.members, name)?.is ?? "flag") === "flag";
-  return flags.every(isFlag) && unread.every((name) => given(value.members, name) === null);
+  const mayBe = ([name, option]) => given(value.members, name) === null || mayHold(option, given(value.members, name));
+  return [...options].every(mayBe) && unread.every((name) => given(value.members, name) === null);
 }
 
 class Rows {
@@ -133,6 +133,8 @@ function mayHold(field, value) {
       return value.is === "text" && field.words.includes(value.value);
     case "number":
       return isBelow(value, LIMIT.number);
+    case "whole":
+      return isBelow(value, LIMIT.whole);
     case "units":
       return value.is === "text" || (value.is === "list" && value.items.every((item) => isBelow(item, LIMIT.unit)));
     case "digits":

@@ -8,13 +8,24 @@ const SCHEMA = new URL("../../docs/job.schema.json", import.meta.url);
 const VALUES = new Set(["text", "units", "digits", "number", "flag"]);
 const FIELD = /^(\w+)(?: as \w+)? (unread )?(\S+?)(!?)(\?\*|\?|\*|)(?: at \w+)?(?: for (\S+))?( = .*)?$/;
 
-/** The types, each with its fields from number 2 on, and the options that are read, which are flags, and those that aren't. */
+/** The types, each with its fields from number 2 on, the options that are read, each with what it may hold, and those that aren't read. */
 export function readFormat() {
   const options = JSON.parse(readFileSync(SCHEMA, "utf8")).properties.options.anyOf.find((kind) => kind.properties).properties;
   const unread = Object.keys(options).filter((name) => options[name].type === "null");
-  const flags = Object.keys(options).filter((name) => options[name].anyOf?.some((kind) => kind.type === "boolean"));
-  if (flags.length + unread.length < Object.keys(options).length) throw new Error("an option that is no flag");
-  return { types: typesOfTable(readFileSync(TABLE, "utf8")), flags, unread };
+  const read = Object.keys(options).filter((name) => !unread.includes(name));
+  const held = new Map(read.map((name) => [name, optionOf(name, options[name].anyOf)]));
+  return { types: typesOfTable(readFileSync(TABLE, "utf8")), options: held, unread };
+}
+
+// What an option may hold: a flag, one of some words, or a whole number of 32 or of 64 bits.
+function optionOf(name, schemas) {
+  const words = schemas.find((schema) => schema.enum)?.enum;
+  if (words) return { kind: "word", words };
+  const schema = schemas.find(({ type }) => type === "boolean" || type === "integer");
+  if (schema?.type === "boolean") return { kind: "flag" };
+  if (schema?.maximum === 2 ** 32 - 1) return { kind: "number" };
+  if (schema?.maximum === 2 ** 64) return { kind: "whole" }; // 2^64 - 1, as node reads it
+  throw new Error(`no such kind of option: ${name}`);
 }
 
 function typesOfTable(text) {

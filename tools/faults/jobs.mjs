@@ -1,5 +1,5 @@
 // Jobs that are made up, of every type of the table and without a fault: what a rule says of their trees isn't looked at.
-import { Members } from "./text.mjs";
+import { Members, Raw } from "./text.mjs";
 
 const NAMES = ["a", "b", "total", "$", "_x", "größe", "日本", "if", "__proto__"];
 const TEXTS = [...NAMES, "use strict", "1.5", "0x1F", "42", "-7", "", "it's", '"', "a\nb", "\u0000", "\u{1F600}", "</script>"];
@@ -8,18 +8,25 @@ const DIGITS = ["0", "7", "18446744073709551616", "34028236692093846346337460743
 const DEPTH = 5;
 
 /** A job's head, whose member `rows` is a list of rows. */
-export function madeJob({ types, flags }, draw) {
+export function madeJob({ types, options }, draw) {
   const rows = inOrder(new Maker(types, draw).nodes(), draw);
   const head = [["rows", rows]];
-  if (draw.once(2)) head.push(["options", madeOptions(flags, draw)]);
+  if (draw.once(2)) head.push(["options", madeOptions(options, draw)]);
   for (const name of ["symbols", "references", "private"]) if (draw.once(10)) head.push([name, null]);
   if (draw.once(8)) head.push(["version", draw.of([1, 0.5, "1", null])]);
   return new Members(draw.mixed(head));
 }
 
-function madeOptions(flags, draw) {
-  const members = flags.filter(() => draw.once(2)).map((name) => [name, draw.of([true, false, null])]);
+function madeOptions(options, draw) {
+  const members = [...options].filter(() => draw.once(2)).map(([name, option]) => [name, draw.once(4) ? null : heldBy(option, draw)]);
   return draw.once(8) ? null : new Members(draw.once(8) ? [...members, ["legal", null]] : members);
+}
+
+// A value that the option may hold.
+function heldBy({ kind, words }, draw) {
+  if (kind === "flag") return draw.once(2);
+  if (kind === "word") return draw.of(words);
+  return draw.of(kind === "number" ? WHOLE.slice(0, -1) : [...WHOLE, new Raw("18446744073709551615")]);
 }
 
 class Node {
