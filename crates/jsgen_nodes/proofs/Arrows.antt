@@ -1,14 +1,17 @@
 -- Arrow functions and their parameters, from the steps that print them.
-use Rattle.std.proofs.Common.{◌≡◌, Box, Bool, true, false, Option, Some, None, option_map, List, [], ◌∷◌, map, sym, length, suc, ◌&&◌, is_none, refl, ap, arith}
+use Rattle.std.proofs.Common.{◌≡◌, Box, Bool, true, false, Option, Some, None, option_map, List, [], ◌∷◌, map, sym, length, suc, ◌&&◌, is_none, refl, ap, ◌∙◌, Global, arith}
 use Rattle.std.specs.Bool.{◌==◌}
 use Rattle.std.proofs.lemmas.Bool.{both_ways, eqb-true}
 use Rattle.jsgen_tree.specs.Tree.{Tree, Atoms, Trees, no_trees, more, hole, Maybe, absent, given, trees, optional}
 use Rattle.jsgen_tree.specs.Nodes as tree
+use Rattle.jsgen_tree.specs.Rows.{formal_parameter_rest_row}
+use Rattle.jsgen_tree.specs.declared.functions.FormalParameterRest.{FormalParameterRest}
+use Rattle.jsgen_syntax.specs.declared.precedence.Precedence.TheVariants.{Comma}
 use Rattle.jsgen_model.specs.Punctuator.{Round, arrow}
 use Rattle.jsgen_model.specs.Items.{Items, ◌⊕◌, soft_space, punctuator, arrow_body_begins, brackets}
 use Rattle.jsgen_model.specs.Layout.{Pen, nowhere}
 use Rattle.jsgen_model.specs.Spell as spells
-use Rattle.jsgen_model.specs.Spell.{spell, spell_list, spell_parts, spell_if_given, behind, within, is_name_alone, parameter_items, parameters_place, arrow_body_place}
+use Rattle.jsgen_model.specs.Spell.{spell, spell_list, spell_parts, spell_if_given, behind, within, is_name_alone, is_bare, parameter_items, parameters_place, arrow_body_place}
 use Rattle.jsgen_place.specs.declared.place.Place.{Place}
 use Rattle.jsgen_place.specs.Place.{place_of}
 use Rattle.jsgen_nodes.specs.Alone.{parameter_parts}
@@ -36,6 +39,25 @@ parts_in_brackets a items rest place none = ap (λ l. l ⊕ (spells.comma_betwee
 pub bare_parts : (params : Tree) (p q : spells.Place) → is_name_alone params ≡ true → parameter_parts params p ≡ spell params q
 bare_parts (tree.formal_parameters a (more (tree.formal_parameter b (tree.binding_identifier i) absent) no_trees) absent) p q h = refl
 bare_parts t p q h = absurd (both_ways false refl h)
+
+-- behind a bracket
+parameters_behind : (place inner : Place) (a pen : Pen) → inner ≡ record { settings = place.settings; level = Comma; context = record { forbids_in = false; forbids_call = place.context.forbids_call }; in_list = false; left_operand = false; plain_quotes = false } → pen.start ≡ nowhere → place_of inner pen ≡ parameters_place (place_of place a)
+parameters_behind place inner a pen h e = ap (λ q. place_of q pen) h ∙ ap (λ s. record (parameters_place (place_of place a)) { start = s }) e
+
+pub parts_behind : (t : Atoms) (items : Trees) (rest : Maybe) (place inner : Place) (a pen : Pen) → inner ≡ record { settings = place.settings; level = Comma; context = record { forbids_in = false; forbids_call = place.context.forbids_call }; in_list = false; left_operand = false; plain_quotes = false } → pen.start ≡ nowhere → parameter_parts (tree.formal_parameters t items rest) (place_of inner pen) ≡ spell (tree.formal_parameters t items rest) (parameters_place (place_of place a))
+parts_behind t items rest place inner a pen h e = ap (λ q. parameter_parts (tree.formal_parameters t items rest) q) (parameters_behind place inner a pen h e) ∙ parts_in_brackets t items rest (parameters_place (place_of place a)) refl
+
+-- what takes the rest is spelled so wherever it begins
+pub rest_anywhere : {N : Type 0} (h : N → Tree) (r : Option (Box (FormalParameterRest N) Global)) (place : Place) (a b : Pen) → spell_if_given (optional (option_map (λ x. formal_parameter_rest_row h x.value) r)) (place_of place a) ≡ spell_if_given (optional (option_map (λ x. formal_parameter_rest_row h x.value) r)) (place_of place b)
+rest_anywhere h None place a b = refl
+rest_anywhere h (Some x) place a b = refl
+
+second_holds : (a b : Bool) → (a && b) ≡ true → b ≡ true
+second_holds true b h = h
+second_holds false b h = let no : false ≡ true = h in cc
+
+pub bare_name : (settings : spells.Settings) (t : Tree) → is_bare settings t ≡ true → is_name_alone t ≡ true
+bare_name settings t h = second_holds settings.minified (is_name_alone t) h
 
 -- one parameter, a name, and none that takes the rest
 one_alone : {A B : Type 0} (t : Tree) (f : A → Tree) (g : B → Tree) (xs : List A) (rest : Option B) (a : Atoms) → (is_name_parameter t && ((length xs == 0) && is_none rest)) ≡ is_name_alone (tree.formal_parameters a (more t (trees (map f xs))) (optional (option_map g rest)))

@@ -13,3 +13,4 @@ pub mod Updates
 pub mod Conditionals
 pub mod Enclosed
 pub mod Given
+pub mod Asked

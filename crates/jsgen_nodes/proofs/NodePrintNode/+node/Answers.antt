@@ -60,3 +60,27 @@ ends_open-returns-in-Declaration t c = rw (c.in-Declaration.is, plain_declaratio
 
 pub ends_open-returns-in-BindingPattern : goal.ends_open-returns-in-BindingPattern
 ends_open-returns-in-BindingPattern t c = rw (c.in-BindingPattern.is, plain_binding_pattern c.in-BindingPattern.node) c.binding_pattern_ends_open.ensures
+
+pub is_member-returns-in-Expression : goal.is_member-returns-in-Expression
+is_member-returns-in-Expression t c = rw (c.in-Expression.is, plain_expression c.in-Expression.node) c.expression_is_member.ensures
+
+pub is_member-returns-in-Statement : goal.is_member-returns-in-Statement
+is_member-returns-in-Statement t c = rw (c.in-Statement.is, plain_statement c.in-Statement.node) c.statement_is_member.ensures
+
+pub is_member-returns-in-Declaration : goal.is_member-returns-in-Declaration
+is_member-returns-in-Declaration t c = rw (c.in-Declaration.is, plain_declaration c.in-Declaration.node) c.declaration_is_member.ensures
+
+pub is_member-returns-in-BindingPattern : goal.is_member-returns-in-BindingPattern
+is_member-returns-in-BindingPattern t c = rw (c.in-BindingPattern.is, plain_binding_pattern c.in-BindingPattern.node) c.binding_pattern_is_member.ensures
+
+pub is_binding_name-returns-in-Expression : goal.is_binding_name-returns-in-Expression
+is_binding_name-returns-in-Expression t c = rw (c.in-Expression.is, plain_expression c.in-Expression.node) c.expression_is_name.ensures
+
+pub is_binding_name-returns-in-Statement : goal.is_binding_name-returns-in-Statement
+is_binding_name-returns-in-Statement t c = rw (c.in-Statement.is, plain_statement c.in-Statement.node) c.statement_is_name.ensures
+
+pub is_binding_name-returns-in-Declaration : goal.is_binding_name-returns-in-Declaration
+is_binding_name-returns-in-Declaration t c = rw (c.in-Declaration.is, plain_declaration c.in-Declaration.node) c.declaration_is_name.ensures
+
+pub is_binding_name-returns-in-BindingPattern : goal.is_binding_name-returns-in-BindingPattern
+is_binding_name-returns-in-BindingPattern t c = rw (c.in-BindingPattern.is, plain_binding_pattern c.in-BindingPattern.node) c.binding_pattern_is_name.ensures

@@ -25,7 +25,7 @@ returns-in_err-print_arrow g c =
     let before = pen_of c.args.p.now in
     let place = place_of c.args.place before in
     let wraps = arrow_wraps c.args.node.now.pife place in
-    let s = stops_wrapped _ before _ c.wraps_arrow-wrap.result wraps c.args.place c.within.result (λ q. arrow_items bare params body (parameters_place q) q) (c.wraps_arrow-wrap.ensures before) c.within.ensures c.in_ok-print_opening_if.ensures c.in_err-print_arrow.ensures in
+    let s = stops_wrapped _ before _ c.wraps_arrow-wrap.result wraps c.args.place c.within.result (λ q. arrow_items (is_bare q.settings params) params body (parameters_place q) q) (c.wraps_arrow-wrap.ensures before) c.within.ensures c.in_ok-print_opening_if.ensures c.in_err-print_arrow.ensures in
     stopped _ c.from_residual-in_err-print_arrow.ensures.0 (subst (λ q. Stops before (pen_of c.print_arrow.new.p) (layout (wrapped wraps (arrow_items bare params body q (within wraps place))) before)) (parameters_within wraps place) s)
 
 pub returns : goal.returns
@@ -37,4 +37,4 @@ returns g c =
     let before = pen_of c.args.p.now in
     let place = place_of c.args.place before in
     let wraps = arrow_wraps c.args.node.now.pife place in
-    subst (λ q. Reaches c.print_closing_if.result before (pen_of c.print_closing_if.new.self) (layout (wrapped wraps (arrow_items bare params body q (within wraps place))) before)) (parameters_within wraps place) (wrapped_laid c.print_closing_if.result (pen_of c.print_closing_if.new.self) before _ _ c.wraps_arrow-wrap.result wraps c.args.place c.within.result (λ q. arrow_items bare params body (parameters_place q) q) (c.wraps_arrow-wrap.ensures before) c.within.ensures c.in_ok-print_opening_if.ensures c.in_ok-print_arrow.ensures c.print_closing_if.ensures)
+    subst (λ q. Reaches c.print_closing_if.result before (pen_of c.print_closing_if.new.self) (layout (wrapped wraps (arrow_items bare params body q (within wraps place))) before)) (parameters_within wraps place) (wrapped_laid c.print_closing_if.result (pen_of c.print_closing_if.new.self) before _ _ c.wraps_arrow-wrap.result wraps c.args.place c.within.result (λ q. arrow_items (is_bare q.settings params) params body (parameters_place q) q) (c.wraps_arrow-wrap.ensures before) c.within.ensures c.in_ok-print_opening_if.ensures c.in_ok-print_arrow.ensures c.print_closing_if.ensures)

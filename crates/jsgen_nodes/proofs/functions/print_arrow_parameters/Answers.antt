@@ -1,0 +1,25 @@
+use Rattle.std.proofs.Common.{sym, subst, ◌∙◌}
+use Rattle.jsgen_tree.specs.Rows.{formal_parameters_row}
+use Rattle.jsgen_model.specs.Layout.{layout}
+use Rattle.jsgen_model.specs.Spell.{parameters_place}
+use Rattle.jsgen_model.specs.Printing.{Reaches}
+use Rattle.jsgen_place.specs.Place.{place_of, settings_of}
+use Rattle.jsgen_printer.specs.Printer.{pen_of}
+use Rattle.jsgen_nodes.specs.Place.{pen_after}
+use Rattle.jsgen_nodes.proofs.Arrows.{bare_parts, bare_name}
+use Rattle.jsgen_nodes.proofs.functions.print_arrow_parameters.Goals as goal
+
+pub returns-then-is_bare : goal.returns-then-is_bare
+unfolding pen_after
+returns-then-is_bare g c =
+    let row = formal_parameters_row g.N.PrintNode.plain c.args.parameters.now in
+    let before = pen_of c.args.p.now in
+    let bare = sym (c.is_bare.ensures row c.is_name_alone.ensures) ∙ c.if-is_bare.true in
+    let alone = bare_parts row (place_of c.parameters.result before) (parameters_place (place_of c.args.place before)) (bare_name (settings_of c.args.place.settings) row bare) in
+    rw bare (subst (λ items. Reaches c.print_formal_parameters.result before (pen_of c.print_formal_parameters.new.p) (layout items before)) alone c.print_formal_parameters.ensures)
+
+pub returns-else-is_bare : goal.returns-else-is_bare
+unfolding pen_after
+returns-else-is_bare g c =
+    let row = formal_parameters_row g.N.PrintNode.plain c.args.parameters.now in
+    rw (sym (c.is_bare.ensures row c.is_name_alone.ensures) ∙ c.if-is_bare.false) c.print_parameters_in_brackets.ensures
