@@ -1,13 +1,10 @@
 -- Where the operand of an update stands.
-use Rattle.std.proofs.Common.{◌≡◌, Bool, false, refl, ap, ◌∙◌}
+use Rattle.std.proofs.Common.{◌≡◌, false, refl, ap, ◌∙◌}
 use Rattle.jsgen_syntax.specs.declared.operator.UpdateOperator.{UpdateOperator}
 use Rattle.jsgen_syntax.specs.declared.operator.UpdateOperator.TheVariants as operators
-use Rattle.jsgen_syntax.specs.declared.precedence.Precedence.TheVariants.{Prefix, Postfix}
-use Rattle.jsgen_tree.specs.Tree.{Tree}
-use Rattle.jsgen_model.specs.Items.{Items}
+use Rattle.jsgen_syntax.specs.declared.precedence.Precedence.TheVariants.{Prefix}
 use Rattle.jsgen_model.specs.Layout.{Pen, nowhere, layout}
-use Rattle.jsgen_model.specs.Spell as spells
-use Rattle.jsgen_model.specs.Spell.{spell, behind, in_front, update_item, update_items}
+use Rattle.jsgen_model.specs.Spell.{behind, update_item}
 use Rattle.jsgen_place.specs.declared.place.Place.{Place}
 use Rattle.jsgen_place.specs.Place.{settings_of, context_of, place_of}
 
