@@ -2,13 +2,13 @@
 use Rattle.std.proofs.Common.{◌≡◌, Box, Bool, true, false, Option, Some, None, option_map, List, [], ◌∷◌, map, sym, length, suc, ◌&&◌, is_none, refl, ap, ◌∙◌, Global, arith}
 use Rattle.std.specs.Bool.{◌==◌}
 use Rattle.std.proofs.lemmas.Bool.{both_ways, eqb-true}
-use Rattle.jsgen_tree.specs.Tree.{Tree, Atoms, Trees, no_trees, more, hole, Maybe, absent, given, trees, optional}
+use Rattle.jsgen_tree.specs.Tree.{Tree, Atoms, Trees, no_trees, more, hole, Maybe, absent, trees, optional}
 use Rattle.jsgen_tree.specs.Nodes as tree
 use Rattle.jsgen_tree.specs.Rows.{formal_parameter_rest_row}
 use Rattle.jsgen_tree.specs.declared.functions.FormalParameterRest.{FormalParameterRest}
 use Rattle.jsgen_syntax.specs.declared.precedence.Precedence.TheVariants.{Comma}
-use Rattle.jsgen_model.specs.Punctuator.{Round, arrow}
-use Rattle.jsgen_model.specs.Items.{Items, ◌⊕◌, soft_space, punctuator, arrow_body_begins, brackets}
+use Rattle.jsgen_model.specs.Punctuator.{arrow}
+use Rattle.jsgen_model.specs.Items.{Items, ◌⊕◌, soft_space, punctuator, arrow_body_begins}
 use Rattle.jsgen_model.specs.Layout.{Pen, nowhere}
 use Rattle.jsgen_model.specs.Spell as spells
 use Rattle.jsgen_model.specs.Spell.{spell, spell_list, spell_parts, spell_if_given, behind, within, is_name_alone, is_bare, parameter_items, parameters_place, arrow_body_place}

@@ -3,9 +3,8 @@ use Rattle.std.proofs.Common.{◌≡◌, Bool, true, false, Result, refl, ap, su
 use Rattle.jsgen_syntax.specs.declared.precedence.Precedence.TheVariants.{Lowest}
 use Rattle.jsgen_tree.specs.Tree.{Tree}
 use Rattle.jsgen_model.specs.Punctuator.{Round, opening, closing}
-use Rattle.jsgen_model.specs.Items.{Items, wrapped}
+use Rattle.jsgen_model.specs.Items.{wrapped}
 use Rattle.jsgen_model.specs.Layout.{Pen, Start, nowhere, statement, arrow_body, default_export, layout, written_if, text_if, unless_printed}
-use Rattle.jsgen_model.specs.Spell as spells
 use Rattle.jsgen_model.specs.Spell.{spell, chain_place}
 use Rattle.jsgen_model.specs.Printing.{Reaches, IsPrefix, Stops}
 use Rattle.jsgen_place.specs.declared.place.Place.{Place}

@@ -1,5 +1,5 @@
 -- `new`, from the steps that print it.
-use Rattle.std.proofs.Common.{◌≡◌, ℕ, suc, ◌==◌, Bool, true, false, not, codes, List, [], ◌∷◌, length, map, Result, refl, ap, ◌∙◌, arith}
+use Rattle.std.proofs.Common.{◌≡◌, ℕ, suc, ◌==◌, true, false, not, codes, List, [], ◌∷◌, length, map, refl, ap, ◌∙◌, arith}
 use Rattle.std.proofs.lemmas.Bool.Decides.{nat_tests}
 use Rattle.jsgen_syntax.specs.declared.precedence.Precedence.TheVariants.{Comma, New}
 use Rattle.jsgen_tree.specs.Tree.{Tree, Trees, trees}

@@ -1,18 +1,10 @@
 -- What a question of all types answers for those that it doesn't name.
-use Rattle.std.proofs.Common.{◌≡◌, Box, Bool, true, false, None, refl}
-use Rattle.std.specs.declared.alloc.Global.{Global}
+use Rattle.std.proofs.Common.{◌≡◌, Bool, true, false, None, refl}
 use Rattle.jsgen_tree.specs.Tree.{Tree, Atoms, type_of}
 use Rattle.jsgen_tree.specs.Nodes.{numeric_literal, big_int_literal, string_literal, unary, logical, parenthesized}
 use Rattle.jsgen_tree.specs.Sets.{is_expression}
 use Rattle.jsgen_tree.specs.Inside.{without_parentheses, ends_open}
 use Rattle.jsgen_tree.specs.Rows.{expression_plain, statement_plain}
-use Rattle.jsgen_tree.specs.declared.nodes.DeclarationNode.{DeclarationNode}
-use Rattle.jsgen_tree.specs.declared.expressions.NumericLiteral.{NumericLiteral}
-use Rattle.jsgen_tree.specs.declared.expressions.StringLiteral.{StringLiteral}
-use Rattle.jsgen_tree.specs.declared.expressions.LogicalExpression.{LogicalExpression}
-use Rattle.jsgen_tree.specs.declared.expressions.ParenthesizedExpression.{ParenthesizedExpression}
-use Rattle.jsgen_tree.specs.declared.statements.ExpressionStatement.{ExpressionStatement}
-use Rattle.jsgen_tree.specs.declared.statements.IfStatement.{IfStatement}
 use Rattle.jsgen_tree.specs.declared.sets.Expression.{Expression}
 use Rattle.jsgen_tree.specs.declared.sets.Statement.{Statement}
 use Rattle.jsgen_tree.specs.declared.sets.Expression.TheVariants as expressions

@@ -2,7 +2,7 @@ use Rattle.std.proofs.Common.{codes, refl}
 use Rattle.jsgen_model.specs.Items.{◌⊕◌, word, soft_space}
 use Rattle.jsgen_printer.specs.Printer.{pen_of}
 use Rattle.jsgen_nodes.specs.Place.{pen_after}
-use Rattle.jsgen_printer.proofs.Stops.{appends, stopped, stops_within, reaches_last, layout_more, layout_appends}
+use Rattle.jsgen_printer.proofs.Stops.{appends, stopped, stops_within, reaches_last, layout_appends}
 use Rattle.jsgen_nodes.proofs.Constructions.{place_behind_new}
 use Rattle.jsgen_nodes.proofs.operators.print_construction.Goals as goal
 
