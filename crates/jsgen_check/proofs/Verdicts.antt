@@ -1,9 +1,9 @@
 -- The verdict on a tree, from those on its parts.
-use Rattle.std.proofs.Common.{◌≡◌, ℕ, suc, max, true, List, [], ◌∷◌, ◌++◌, map, Result, Ok, refl, ap, ◌∙◌, arith}
+use Rattle.std.proofs.Common.{◌≡◌, ℕ, suc, max, List, [], ◌∷◌, ◌++◌, map, Result, Ok, refl, ap, ◌∙◌, arith}
 use Rattle.std.proofs.lemmas.List.{append_assoc}
 use Rattle.jsgen_tree.specs.declared.types.NodeSet.{NodeSet}
 use Rattle.jsgen_tree.specs.declared.types.NodeType.{NodeType}
-use Rattle.jsgen_tree.specs.Tree.{Tree, node, Atoms, Slots, no_slots, one, maybe, many, maybe_many, Maybe, absent, given, Trees, no_trees, more, hole, MaybeTrees, no_list, listed, type_of}
+use Rattle.jsgen_tree.specs.Tree.{Tree, node, Atoms, Slots, no_slots, one, maybe, many, maybe_many, Maybe, absent, given, Trees, no_trees, more, hole, MaybeTrees, no_list, listed}
 use Rattle.jsgen_model.specs.Valid as valid
 use Rattle.jsgen_model.specs.Valid.{ChildPlace, asked_sets, may_stand, breaches, span_faults, own_faults, set_faults, in_slots, in_maybe, in_trees, in_maybe_trees, height, height_of_slots, height_if_given, height_if_listed, greatest_height}
 use Rattle.jsgen_model.specs.declared.fault.TreeFault.{TreeFault}
