@@ -16,7 +16,12 @@ const SIMPLEST = '{"rows":[{"type":"Program","kind":"module"}]}';
 const REFUSED = /^refused: (Place|Name|Literal|Template|Span|Comment|Indent) at \d+\n$/;
 const SHOWN = 20;
 
-process.exitCode = main(process.argv.slice(2));
+try {
+  process.exitCode = main(process.argv.slice(2));
+} catch (error) {
+  process.stderr.write(`${error.message}\n`);
+  process.exitCode = 2;
+}
 
 function main(words) {
   const folder = words[0] === "--write" ? words.splice(0, 2)[1] : null;
@@ -63,7 +68,7 @@ function compare(format, count, seed, program) {
 
 function answerOf(program, input) {
   const { status, signal, stdout, stderr, error } = spawnSync(program, ["print"], { input, timeout: 60000, maxBuffer: 2 ** 28 });
-  if (error && error.code !== "EPIPE") throw error;
+  if (error && !["EPIPE", "ETIMEDOUT"].includes(error.code)) throw error;
   return { status: status ?? signal, out: stdout, line: stderr.toString("utf8") };
 }
 
@@ -75,5 +80,6 @@ function agrees(fault, { status, out, line }) {
 
 function difference(number, names, bytes, fault, { status, line }) {
   const wanted = fault === null ? "no fault" : `3, not a job: ${fault}`;
-  return `job ${number} (${names.join(", ")})\n  wanted: ${wanted}\n  told:   ${status}, ${line.trimEnd()}\n  ${JSON.stringify(bytes.toString("latin1"))}\n`;
+  const shown = JSON.stringify(bytes.toString("latin1")); // a byte a character
+  return `job ${number} (${names.join(", ")})\n  wanted: ${wanted}\n  told:   ${status}, ${line.trimEnd()}\n  ${shown}\n`;
 }
