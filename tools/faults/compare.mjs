@@ -6,6 +6,7 @@ import { fileURLToPath } from "node:url";
 import { damagedJob } from "./damaged.mjs";
 import { firstFault } from "./fault.mjs";
 import { readFormat } from "./format.mjs";
+import { parseJson } from "./json.mjs";
 
 const USAGE = `usage: tools/faults/compare N SEED [PROGRAM]          compares N jobs; PROGRAM is ./jsgen where none is given
        tools/faults/compare --write FOLDER N SEED    writes the N jobs to FOLDER, and runs nothing
@@ -15,8 +16,14 @@ const BUILT = fileURLToPath(new URL("../../crates/jsgen_cli/out/jsgen_cli", impo
 const SIMPLEST = '{"rows":[{"type":"Program","kind":"module"}]}';
 const REFUSED = /^refused: (Place|Name|Literal|Template|Span|Comment|Indent) at \d+\n$/;
 const SHOWN = 20;
+const WIDE = 100n;
 
-process.exitCode = main(process.argv.slice(2));
+try {
+  process.exitCode = main(process.argv.slice(2));
+} catch (error) {
+  process.stderr.write(`${error.message}\n`);
+  process.exitCode = 2;
+}
 
 function main(words) {
   const folder = words[0] === "--write" ? words.splice(0, 2)[1] : null;
@@ -38,7 +45,10 @@ function built() {
 
 function write(format, count, seed, folder) {
   mkdirSync(folder, { recursive: true });
-  for (let number = 0; number < count; number++) writeFileSync(join(folder, `${number}.json`), damagedJob(format, seed, number).bytes);
+  for (let number = 0; number < count; number++) {
+    const { bytes } = damagedJob(format, seed, number);
+    if (mayRun(firstFault(format, bytes), bytes)) writeFileSync(join(folder, `${number}.json`), bytes);
+  }
   return 0;
 }
 
@@ -48,12 +58,12 @@ function compare(format, count, seed, program) {
   for (let number = 0; number < count; number++) {
     const { bytes, names } = damagedJob(format, seed, number);
     const fault = firstFault(format, bytes);
-    const answer = answerOf(program, bytes);
-    if (!agrees(fault, answer)) {
+    const answer = mayRun(fault, bytes) ? answerOf(program, bytes) : null;
+    if (answer && !agrees(fault, answer)) {
       differences += 1;
       if (differences <= SHOWN) process.stdout.write(difference(number, names, bytes, fault, answer));
     }
-    const kind = fault === null ? `none, status ${answer.status}` : fault.split(" ")[0];
+    const kind = fault?.split(" ")[0] ?? (answer ? `no fault, status ${answer.status}` : "no fault, not run");
     tally.set(kind, (tally.get(kind) ?? 0) + 1);
   }
   const counts = [...tally].sort().map(([kind, times]) => `${kind}: ${times}`);
@@ -61,9 +71,17 @@ function compare(format, count, seed, program) {
   return differences === 0 ? 0 : 1;
 }
 
+// A job without a fault isn't run where it may be printed with more indentation than there is memory for.
+function mayRun(fault, bytes) {
+  if (fault !== null) return true;
+  const options = parseJson(bytes).members.get("options")?.members;
+  const isGreat = (name) => options?.get(name)?.value > WIDE;
+  return options?.get("minify")?.value === true || !(isGreat("indent_width") || isGreat("initial_indent"));
+}
+
 function answerOf(program, input) {
   const { status, signal, stdout, stderr, error } = spawnSync(program, ["print"], { input, timeout: 60000, maxBuffer: 2 ** 28 });
-  if (error && error.code !== "EPIPE") throw error;
+  if (error && !["EPIPE", "ETIMEDOUT"].includes(error.code)) throw error;
   return { status: status ?? signal, out: stdout, line: stderr.toString("utf8") };
 }
 
@@ -75,5 +93,6 @@ function agrees(fault, { status, out, line }) {
 
 function difference(number, names, bytes, fault, { status, line }) {
   const wanted = fault === null ? "no fault" : `3, not a job: ${fault}`;
-  return `job ${number} (${names.join(", ")})\n  wanted: ${wanted}\n  told:   ${status}, ${line.trimEnd()}\n  ${JSON.stringify(bytes.toString("latin1"))}\n`;
+  const shown = JSON.stringify(bytes.toString("latin1")); // a byte a character
+  return `job ${number} (${names.join(", ")})\n  wanted: ${wanted}\n  told:   ${status}, ${line.trimEnd()}\n  ${shown}\n`;
 }

@@ -26,6 +26,7 @@ function madeOptions(options, draw) {
 function heldBy({ kind, words }, draw) {
   if (kind === "flag") return draw.once(2);
   if (kind === "word") return draw.of(words);
+  if (draw.below(8) > 0) return draw.of([0, 1, 2, 7]);
   return draw.of(kind === "number" ? WHOLE.slice(0, -1) : [...WHOLE, new Raw("18446744073709551615")]);
 }
 

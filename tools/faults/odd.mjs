@@ -11,7 +11,8 @@ export const NUMBERS = [
 ];
 
 export const NO_JSON = [
-  ..."1.7976931348623159e308 1e309 -1e400000 01 -01 1. .5 +1 - 1e 1e+ 0x1F 1_0 NaN Infinity -Infinity undefined True NULL nulll tru 'a' a".split(" "),
+  ..."1.7976931348623159e308 1e309 -1e400000 01 -01 1. .5 +1 - 1e 1e+ 0x1F 1_0".split(" "),
+  ..."NaN Infinity -Infinity undefined True NULL nulll tru 'a' a".split(" "),
   `-1${"0".repeat(309)}`,
   ...['"', '"\\', '"\\x41"', '"\\u00g0"', '"\\u{41}"', '"\\U0041"', '"\\u004"', '"\\\'"', '"\t"', '"\n"', '"\u0000"', '"\u001f"'],
   ...["[,]", "[1,]", "[1 2]", "[1", "{]", "{,}", '{"a"}', '{"a":}', '{"a":1,}', '{"a":1 "b":2}', "{a:1}", "{1:1}", '{"a":1', "{null:1}"],

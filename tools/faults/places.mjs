@@ -97,8 +97,8 @@ export function fieldsOf(job, row) {
 }
 
 function spots(job, accepts) {
-  const ofRow = (row, number) => (row instanceof Members ? fieldsOf(job, row).filter(accepts).map((field) => new Spot(number, row, field)) : []);
-  return rowsOf(job).flatMap(ofRow);
+  const fields = (row) => (row instanceof Members ? fieldsOf(job, row).filter(accepts) : []);
+  return rowsOf(job).flatMap((row, number) => fields(row).map((field) => new Spot(number, row, field)));
 }
 
 // ---- rows

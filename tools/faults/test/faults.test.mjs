@@ -57,7 +57,8 @@ test("the documented jobs have the fault that is told of them", () => {
 test("the fields of a type are in order, with their sets and words", () => {
   const fields = format.types.get("NumericLiteral");
   assert.deepEqual(fields.map(({ name, number }) => [name, number]), [["kind", 2], ["negative", 3], ["digits", 4], ["text", 5]]);
-  assert.deepEqual(fields.map(({ onlyFor, isNeeded }) => [onlyFor, isNeeded]), [[null, true], ["whole", false], ["whole", true], ["raw", true]]);
+  const asked = [[null, true], ["whole", false], ["whole", true], ["raw", true]];
+  assert.deepEqual(fields.map(({ onlyFor, isNeeded }) => [onlyFor, isNeeded]), asked);
   const [elements] = format.types.get("ArrayExpression");
   assert.ok(elements.isList && elements.hasHoles && elements.types.has("SpreadElement") && elements.types.has("Super"));
   assert.ok(format.types.get("BinaryExpression")[0].words.includes("|"));
@@ -93,7 +94,7 @@ test("texts have no surrogate without its partner", () => {
 
 test("a job that isn't damaged has no fault, and each type comes", () => {
   const types = new Set();
-  for (let number = 0; number < 300; number++) {
+  for (let number = 0; number < 1000; number++) {
     const draw = new Draw(number);
     const job = madeJob(format, draw);
     const text = written(job, draw);
@@ -112,7 +113,8 @@ test("each damage comes, and each kind of fault in each place", () => {
     faults.add(firstFault(format, bytes)?.replace(/row \d+ field [2-9]/, "field").replace(/row \d+/, "row"));
   }
   assert.deepEqual([...damages].sort(), [...Object.keys(DAMAGES), ...Object.keys(SPOILINGS)].sort());
-  const head = ["Float head field 0", "Float head field 4", "Missing head field 4", ...[0, 1, 2, 3, 4].map((field) => `Wrong head field ${field}`)];
+  const wrong = [0, 1, 2, 3, 4].map((at) => `Wrong head field ${at}`);
+  const head = ["Float head field 0", "Float head field 4", "Missing head field 4", ...wrong];
   const rows = ["Missing", "Float", "Wrong", "Child"].map((kind) => `${kind} field`);
   const fronts = ["Missing row field 0", "Float row field 0", "Wrong row field 0", "Float row field 1", "Wrong row field 1"];
   for (const wanted of [undefined, "Json", "Shared row", ...head, ...rows, ...fronts]) assert.ok(faults.has(wanted), wanted);
@@ -171,5 +173,8 @@ test("the program tells the first fault", { skip }, () => {
 });
 
 test("the program says the documented lines", { skip }, () => {
-  for (const [line, job] of documentedCases()) assert.equal(spawnSync(program, ["print"], { input: job }).stderr.toString(), `${line}\n`, job);
+  for (const [line, job] of documentedCases()) {
+    const { stderr } = spawnSync(program, ["print"], { input: job });
+    assert.equal(stderr.toString(), `${line}\n`, job);
+  }
 });
