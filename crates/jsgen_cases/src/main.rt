@@ -10,6 +10,7 @@ mod line;
 mod meaning;
 mod print_checks;
 mod printed;
+mod quote_checks;
 mod raw;
 mod run_checks;
 mod runs;

@@ -1,0 +1,164 @@
+// Checks of the calls that keep the strings of a CommonJS module out of backticks.
+use jsgen::{CodegenOptions, Job, read_job};
+use jsgen_nodes::{
+    try_print_define_property_call, try_print_equality_string, try_print_exports_computed_target,
+    try_print_require_call,
+};
+use jsgen_place::Context;
+use jsgen_printer::Printer;
+use jsgen_syntax::{BinaryOperator, Memory};
+use jsgen_tree::{AssignmentExpression, CallExpression, Expression, Node, Program, Statement};
+use std::alloc::Global;
+
+// `require("x");`, `Object.defineProperty(a, "b");`, `exports["k"] = "default";` and `f("x");`.
+const JOB: &str = "{\"rows\":[\
+    {\"type\":\"IdentifierReference\",\"name\":\"require\"},\
+    {\"type\":\"StringLiteral\",\"value\":\"x\"},\
+    {\"type\":\"CallExpression\",\"callee\":0,\"arguments\":[1]},\
+    {\"type\":\"ExpressionStatement\",\"expression\":2},\
+    {\"type\":\"IdentifierReference\",\"name\":\"Object\"},\
+    {\"type\":\"IdentifierName\",\"name\":\"defineProperty\"},\
+    {\"type\":\"StaticMemberExpression\",\"object\":4,\"property\":5},\
+    {\"type\":\"IdentifierReference\",\"name\":\"a\"},\
+    {\"type\":\"StringLiteral\",\"value\":\"b\"},\
+    {\"type\":\"CallExpression\",\"callee\":6,\"arguments\":[7,8]},\
+    {\"type\":\"ExpressionStatement\",\"expression\":9},\
+    {\"type\":\"IdentifierReference\",\"name\":\"exports\"},\
+    {\"type\":\"StringLiteral\",\"value\":\"k\"},\
+    {\"type\":\"ComputedMemberExpression\",\"object\":11,\"expression\":12},\
+    {\"type\":\"StringLiteral\",\"value\":\"default\"},\
+    {\"type\":\"AssignmentExpression\",\"operator\":\"=\",\"left\":13,\"right\":14},\
+    {\"type\":\"ExpressionStatement\",\"expression\":15},\
+    {\"type\":\"IdentifierReference\",\"name\":\"f\"},\
+    {\"type\":\"StringLiteral\",\"value\":\"x\"},\
+    {\"type\":\"CallExpression\",\"callee\":17,\"arguments\":[18]},\
+    {\"type\":\"ExpressionStatement\",\"expression\":19},\
+    {\"type\":\"Program\",\"kind\":\"module\",\"body\":[3,10,16,20]}]}";
+
+fn expression_of(program: &Program, at: usize) -> Option<&Expression> {
+    let Node::Statement(Statement::ExpressionStatement(node)) = program
+        .body
+        .as_slice()
+        .get(at)?
+        .get()
+    else {
+        return None;
+    };
+    match node.expression.get() {
+        Node::Expression(expression) => Some(expression),
+        _ => None,
+    }
+}
+
+fn call_of(program: &Program, at: usize) -> Option<&CallExpression> {
+    match expression_of(program, at)? {
+        Expression::CallExpression(call) => Some(call),
+        _ => None,
+    }
+}
+
+fn assignment_of(program: &Program) -> Option<&AssignmentExpression> {
+    match expression_of(program, 2)? {
+        Expression::AssignmentExpression(assignment) => Some(assignment),
+        _ => None,
+    }
+}
+
+fn printer(alloc: Global, minify: bool) -> Printer {
+    Printer::new(
+        alloc,
+        &CodegenOptions {
+            minify,
+            ..CodegenOptions::default()
+        },
+    )
+}
+
+fn tells(outcome: Result<bool, Memory>, p: Printer, wanted: Option<&str>) -> bool {
+    match outcome {
+        Ok(applies) => {
+            applies == wanted.is_some() && p.into_string().as_str() == wanted.unwrap_or("")
+        }
+        Err(_) => false,
+    }
+}
+
+fn is_required(alloc: Global, minify: bool, call: &CallExpression, wanted: Option<&str>) -> bool {
+    let mut p = printer(alloc, minify);
+    let outcome = try_print_require_call(&mut p, call);
+    tells(outcome, p, wanted)
+}
+
+fn is_defined(alloc: Global, minify: bool, call: &CallExpression, wanted: Option<&str>) -> bool {
+    let mut p = printer(alloc, minify);
+    let outcome = try_print_define_property_call(&mut p, call, Context::FREE);
+    tells(outcome, p, wanted)
+}
+
+fn is_exported(
+    alloc: Global,
+    minify: bool,
+    node: &AssignmentExpression,
+    wanted: Option<&str>,
+) -> bool {
+    let mut p = printer(alloc, minify);
+    let outcome = try_print_exports_computed_target(&mut p, &node.left, Context::FREE);
+    tells(outcome, p, wanted)
+}
+
+fn is_compared(
+    alloc: Global,
+    operator: BinaryOperator,
+    operand: &Expression,
+    wanted: Option<&str>,
+) -> bool {
+    let mut p = printer(alloc, true);
+    let outcome = try_print_equality_string(&mut p, operator, operand);
+    tells(outcome, p, wanted)
+}
+
+fn calls(alloc: Global, program: &Program) -> bool {
+    let (Some(required), Some(defined), Some(other)) = (
+        call_of(program, 0),
+        call_of(program, 1),
+        call_of(program, 3),
+    ) else {
+        return false;
+    };
+    is_required(alloc, true, required, Some("(\"x\")"))
+        && is_required(alloc, false, required, None)
+        && is_required(alloc, true, other, None)
+        && is_defined(alloc, true, defined, Some("(a,\"b\")"))
+        && is_defined(alloc, false, defined, None)
+        && is_defined(alloc, true, other, None)
+}
+
+fn targets_and_operands(alloc: Global, program: &Program) -> bool {
+    let Some(assignment) = assignment_of(program) else {
+        return false;
+    };
+    let Node::Expression(operand) = assignment.right.get() else {
+        return false;
+    };
+    is_exported(alloc, true, assignment, Some("exports[\"k\"]"))
+        && is_exported(alloc, false, assignment, None)
+        && is_compared(
+            alloc,
+            BinaryOperator::StrictEquality,
+            operand,
+            Some("\"default\""),
+        )
+        && is_compared(alloc, BinaryOperator::LessThan, operand, None)
+}
+
+fn of_job(alloc: Global, job: Job) -> bool {
+    calls(alloc, &job.program) && targets_and_operands(alloc, &job.program)
+}
+
+/// The four calls, where each applies and where it doesn't.
+pub fn plain_quotes_are_tried(alloc: Global) -> bool {
+    match read_job(alloc, JOB.as_bytes()) {
+        Ok(job) => of_job(alloc, job),
+        Err(_) => false,
+    }
+}
