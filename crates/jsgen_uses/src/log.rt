@@ -1,5 +1,5 @@
 // A statement that logs a value.
-ghost use Rattle.std.specs.Prelude.{◌≡◌, true, false, codes, IfOk, OnOk, IsErrOf, string_bytes};
+ghost use Rattle.std.specs.Prelude.{◌≡◌, true, false, IfOk, OnOk, IsErrOf, string_bytes};
 ghost use Rattle.std.specs.Str.{chars};
 ghost use Rattle.jsgen_syntax.specs.Name.{is_free_name};
 ghost use Rattle.jsgen_tree.specs.Plain.{node_plain, program_plain};
