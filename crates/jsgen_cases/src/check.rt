@@ -60,7 +60,7 @@ fn holds_of_nodes(alloc: Global, name: &str) -> Option<bool> {
         "levels and contexts are asked" => gen_checks::levels_and_contexts_are_asked(alloc),
         "expressions print by themselves" => gen_checks::expressions_print_by_themselves(alloc),
         "functions print by themselves" => gen_checks::functions_print_by_themselves(alloc),
-        "plain quotes are tried" => quote_checks::plain_quotes_are_tried(alloc),
+        "plain quotes are tried" => gen_checks::plain_quotes_are_tried(alloc),
         "nodes go on with pieces" => gen_checks::nodes_go_on_with_pieces(alloc),
         _ => return None,
     })

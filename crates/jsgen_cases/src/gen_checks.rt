@@ -2,6 +2,7 @@
 ghost use Rattle.std.specs.Prelude.{◌≡◌, false};
 ghost use Rattle.jsgen.specs.Codegen.{has_failed};
 
+use crate::quote_checks::plain_quotes;
 use bitflags::Flags;
 use jsgen::{
     Codegen, CodegenError, CodegenOptions, Context, Gen, GenExpr, Job, Operator, TreeFault,
@@ -11,7 +12,8 @@ use jsgen_syntax::{BinaryOperator, Precedence, UnaryOperator, UpdateOperator};
 use jsgen_tree::{Declaration, Expression, Node, ObjectPropertyKind, Program, Statement};
 use std::alloc::Global;
 
-// `{};`, `1;`, `{ if: b };`, `a in b;`, `f(b);`, `const c = 1;`, `super;`, `-1;` and `(a, b = 1, ...c) => a in b;`.
+// `{};`, `1;`, `{ if: b };`, `a in b;`, `f(b);`, `const c = 1;`, `super;`, `-1;`, `(a, b = 1, ...c) => a in b;`,
+// `require("x");`, `Object.defineProperty(a, "b");`, `exports["k"] = "default";` and `f("x");`.
 const JOB: &str = "{\"rows\":[\
     {\"type\":\"ObjectExpression\"},\
     {\"type\":\"ExpressionStatement\",\"expression\":0},\
@@ -51,7 +53,28 @@ const JOB: &str = "{\"rows\":[\
     {\"type\":\"BinaryExpression\",\"operator\":\"in\",\"left\":33,\"right\":34},\
     {\"type\":\"ArrowFunctionExpression\",\"params\":32,\"body\":35},\
     {\"type\":\"ExpressionStatement\",\"expression\":36},\
-    {\"type\":\"Program\",\"kind\":\"module\",\"body\":[1,3,8,12,16,20,22,24,37]}]}";
+    {\"type\":\"IdentifierReference\",\"name\":\"require\"},\
+    {\"type\":\"StringLiteral\",\"value\":\"x\"},\
+    {\"type\":\"CallExpression\",\"callee\":38,\"arguments\":[39]},\
+    {\"type\":\"ExpressionStatement\",\"expression\":40},\
+    {\"type\":\"IdentifierReference\",\"name\":\"Object\"},\
+    {\"type\":\"IdentifierName\",\"name\":\"defineProperty\"},\
+    {\"type\":\"StaticMemberExpression\",\"object\":42,\"property\":43},\
+    {\"type\":\"IdentifierReference\",\"name\":\"a\"},\
+    {\"type\":\"StringLiteral\",\"value\":\"b\"},\
+    {\"type\":\"CallExpression\",\"callee\":44,\"arguments\":[45,46]},\
+    {\"type\":\"ExpressionStatement\",\"expression\":47},\
+    {\"type\":\"IdentifierReference\",\"name\":\"exports\"},\
+    {\"type\":\"StringLiteral\",\"value\":\"k\"},\
+    {\"type\":\"ComputedMemberExpression\",\"object\":49,\"expression\":50},\
+    {\"type\":\"StringLiteral\",\"value\":\"default\"},\
+    {\"type\":\"AssignmentExpression\",\"operator\":\"=\",\"left\":51,\"right\":52},\
+    {\"type\":\"ExpressionStatement\",\"expression\":53},\
+    {\"type\":\"IdentifierReference\",\"name\":\"f\"},\
+    {\"type\":\"StringLiteral\",\"value\":\"x\"},\
+    {\"type\":\"CallExpression\",\"callee\":55,\"arguments\":[56]},\
+    {\"type\":\"ExpressionStatement\",\"expression\":57},\
+    {\"type\":\"Program\",\"kind\":\"module\",\"body\":[1,3,8,12,16,20,22,24,37,41,48,54,58]}]}";
 
 // Whether a check of the program of the job holds. Here alone the tree is let go of, so that this is proved once.
 fn of_program(alloc: Global, check: &str) -> bool {
@@ -67,6 +90,7 @@ fn of_job(alloc: Global, job: Job, check: &str) -> bool {
         "alone" => alone(alloc, program),
         "levels" => levels(alloc, program) && negative_levels(alloc, program),
         "expressions" => expressions(alloc, program),
+        "quotes" => plain_quotes(alloc, program),
         "functions" => parameters(alloc, program) && functions(alloc, program),
         "pieces" => pieces(alloc, program),
         _ => false,
@@ -80,7 +104,7 @@ fn statement_of(program: &Program, at: usize) -> Option<&Statement> {
     }
 }
 
-fn expression_of(program: &Program, at: usize) -> Option<&Expression> {
+pub fn expression_of(program: &Program, at: usize) -> Option<&Expression> {
     match statement_of(program, at)? {
         Statement::ExpressionStatement(node) => match node.expression.get() {
             Node::Expression(expression) => Some(expression),
@@ -303,6 +327,11 @@ pub fn expressions_print_by_themselves(alloc: Global) -> bool {
 /// Functions and their parameters by themselves.
 pub fn functions_print_by_themselves(alloc: Global) -> bool {
     of_program(alloc, "functions")
+}
+
+/// The calls that keep the strings of a CommonJS module out of backticks.
+pub fn plain_quotes_are_tried(alloc: Global) -> bool {
+    of_program(alloc, "quotes")
 }
 
 /// Nodes behind other pieces.

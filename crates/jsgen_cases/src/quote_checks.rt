@@ -1,5 +1,6 @@
 // Checks of the calls that keep the strings of a CommonJS module out of backticks.
-use jsgen::{CodegenOptions, Job, read_job};
+use crate::gen_checks::expression_of;
+use jsgen::CodegenOptions;
 use jsgen_nodes::{
     try_print_define_property_call, try_print_equality_string, try_print_exports_computed_target,
     try_print_require_call,
@@ -7,48 +8,8 @@ use jsgen_nodes::{
 use jsgen_place::Context;
 use jsgen_printer::Printer;
 use jsgen_syntax::{BinaryOperator, Memory};
-use jsgen_tree::{AssignmentExpression, CallExpression, Expression, Node, Program, Statement};
+use jsgen_tree::{AssignmentExpression, CallExpression, Expression, Node, Program};
 use std::alloc::Global;
-
-// `require("x");`, `Object.defineProperty(a, "b");`, `exports["k"] = "default";` and `f("x");`.
-const JOB: &str = "{\"rows\":[\
-    {\"type\":\"IdentifierReference\",\"name\":\"require\"},\
-    {\"type\":\"StringLiteral\",\"value\":\"x\"},\
-    {\"type\":\"CallExpression\",\"callee\":0,\"arguments\":[1]},\
-    {\"type\":\"ExpressionStatement\",\"expression\":2},\
-    {\"type\":\"IdentifierReference\",\"name\":\"Object\"},\
-    {\"type\":\"IdentifierName\",\"name\":\"defineProperty\"},\
-    {\"type\":\"StaticMemberExpression\",\"object\":4,\"property\":5},\
-    {\"type\":\"IdentifierReference\",\"name\":\"a\"},\
-    {\"type\":\"StringLiteral\",\"value\":\"b\"},\
-    {\"type\":\"CallExpression\",\"callee\":6,\"arguments\":[7,8]},\
-    {\"type\":\"ExpressionStatement\",\"expression\":9},\
-    {\"type\":\"IdentifierReference\",\"name\":\"exports\"},\
-    {\"type\":\"StringLiteral\",\"value\":\"k\"},\
-    {\"type\":\"ComputedMemberExpression\",\"object\":11,\"expression\":12},\
-    {\"type\":\"StringLiteral\",\"value\":\"default\"},\
-    {\"type\":\"AssignmentExpression\",\"operator\":\"=\",\"left\":13,\"right\":14},\
-    {\"type\":\"ExpressionStatement\",\"expression\":15},\
-    {\"type\":\"IdentifierReference\",\"name\":\"f\"},\
-    {\"type\":\"StringLiteral\",\"value\":\"x\"},\
-    {\"type\":\"CallExpression\",\"callee\":17,\"arguments\":[18]},\
-    {\"type\":\"ExpressionStatement\",\"expression\":19},\
-    {\"type\":\"Program\",\"kind\":\"module\",\"body\":[3,10,16,20]}]}";
-
-fn expression_of(program: &Program, at: usize) -> Option<&Expression> {
-    let Node::Statement(Statement::ExpressionStatement(node)) = program
-        .body
-        .as_slice()
-        .get(at)?
-        .get()
-    else {
-        return None;
-    };
-    match node.expression.get() {
-        Node::Expression(expression) => Some(expression),
-        _ => None,
-    }
-}
 
 fn call_of(program: &Program, at: usize) -> Option<&CallExpression> {
     match expression_of(program, at)? {
@@ -58,7 +19,7 @@ fn call_of(program: &Program, at: usize) -> Option<&CallExpression> {
 }
 
 fn assignment_of(program: &Program) -> Option<&AssignmentExpression> {
-    match expression_of(program, 2)? {
+    match expression_of(program, 11)? {
         Expression::AssignmentExpression(assignment) => Some(assignment),
         _ => None,
     }
@@ -119,9 +80,9 @@ fn is_compared(
 
 fn calls(alloc: Global, program: &Program) -> bool {
     let (Some(required), Some(defined), Some(other)) = (
-        call_of(program, 0),
-        call_of(program, 1),
-        call_of(program, 3),
+        call_of(program, 9),
+        call_of(program, 10),
+        call_of(program, 12),
     ) else {
         return false;
     };
@@ -151,14 +112,7 @@ fn targets_and_operands(alloc: Global, program: &Program) -> bool {
         && is_compared(alloc, BinaryOperator::LessThan, operand, None)
 }
 
-fn of_job(alloc: Global, job: Job) -> bool {
-    calls(alloc, &job.program) && targets_and_operands(alloc, &job.program)
-}
-
 /// The four calls, where each applies and where it doesn't.
-pub fn plain_quotes_are_tried(alloc: Global) -> bool {
-    match read_job(alloc, JOB.as_bytes()) {
-        Ok(job) => of_job(alloc, job),
-        Err(_) => false,
-    }
+pub fn plain_quotes(alloc: Global, program: &Program) -> bool {
+    calls(alloc, program) && targets_and_operands(alloc, program)
 }
