@@ -16,6 +16,7 @@ const SETS = {
   "pretty with parentheses": { parentheses: true },
   "negative numbers": { negative: true },
   single_quote: { options: { single_quote: true } },
+  "indented by spaces": { options: { indent_char: "space", indent_width: 2, initial_indent: 3 } },
   ascii_only: { options: { ascii_only: true } },
   minified: { options: { minify: true } },
   "minified with parentheses": { options: { minify: true }, parentheses: true },
