@@ -1,0 +1,41 @@
+// Node's own lexer for the exports of CommonJS modules finds the names in minified text that it finds in the source. It stands
+// in node itself; where this node hides it, or the program isn't built, the test is skipped.
+import assert from "node:assert/strict";
+import { spawnSync } from "node:child_process";
+import { existsSync } from "node:fs";
+import { fileURLToPath } from "node:url";
+import { test } from "node:test";
+import { jobOf } from "../convert.mjs";
+import { parsed } from "../parser.mjs";
+
+const PROGRAM = process.env.JSGEN ?? fileURLToPath(new URL("../../../crates/jsgen_cli/out/jsgen_cli", import.meta.url));
+const SOURCES = [
+  'exports["a"] = 1; module.exports["b"] = 2;',
+  'Object.defineProperty(exports, "__esModule", { value: true }); Object.defineProperty(exports, "c", { enumerable: true, value: 1 });',
+  'module.exports = require("d");',
+];
+
+function lexerOfNode() {
+  try {
+    const natives = process.binding("natives");
+    const module = { exports: {} };
+    new Function("module", "exports", natives["internal/deps/cjs-module-lexer/lexer"])(module, module.exports);
+    module.exports.initSync?.();
+    return module.exports;
+  } catch {
+    return null;
+  }
+}
+
+const lexer = lexerOfNode();
+const skip = lexer && existsSync(PROGRAM) ? false : "node's lexer isn't there, or the program isn't built";
+
+test("node's lexer finds the exports of minified text", { skip }, () => {
+  for (const source of SOURCES) {
+    const job = jobOf(parsed(source), { source, options: { minify: true } });
+    const text = spawnSync(PROGRAM, ["print"], { input: JSON.stringify(job) }).stdout.toString();
+    const found = (code) => [...lexer.parse(code).exports, ...lexer.parse(code).reexports];
+    assert.deepEqual(found(text), found(source), text);
+    assert.notDeepEqual(found(text.replaceAll('"', "`")), found(source), "backticks hide the names");
+  }
+});
