@@ -51,6 +51,7 @@ class Node:
     fields: list = field(default_factory=list)
     ghosts: list = field(default_factory=list)
     rules: bool = False  # whether it has rules of its own, which are checked by hand
+    is_copy: bool = False   # whether its struct holds nothing that is owned, and is copied
 
     @property
     def row(self):
@@ -135,6 +136,8 @@ class Table:
                     at.members += line.split()
                 elif line == "rules":
                     at.rules = True
+                elif line == "copied":
+                    at.is_copy = True
                 elif line.startswith("ghost "):
                     at.ghosts.append(line)
                 elif indent > 4:
@@ -160,8 +163,8 @@ class Table:
                     raise SystemExit(f"{n.name}.{f.name}: a child for rows of one kind has no form yet")
                 if f.place and self.places.get(f.place) != f.kind:
                     raise SystemExit(f"{n.name}.{f.name}: no place {f.place} for {f.kind}")
-                if not f.unread and f.many and not self.is_child(f):
-                    raise SystemExit(f"{n.name}.{f.name}: an optional value has no form yet")
+                if not f.unread and f.many and not self.is_child(f) and f.kind + f.many != "number?":
+                    raise SystemExit(f"{n.name}.{f.name}: a value {f.kind}{f.many} has no form yet")
         for w in self.words.values():
             once(w.name, [word for word, _ in w.words])
             once(w.name, [variant for _, variant in w.words])

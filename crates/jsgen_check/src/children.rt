@@ -2,7 +2,7 @@
 // Lists, children that may be absent, and sets that don't nest.
 ghost use Rattle.std.specs.Prelude.{◌≡◌, map, option_map};
 ghost use Rattle.jsgen_tree.specs.Tree.{optional, trees, holed};
-ghost use Rattle.jsgen_tree.specs.Rows.{in_expression, in_argument, in_array_expression_element, in_chain_element, in_simple_assignment_target, in_assignment_target, in_arrow_function_body, in_object_property_kind, in_property_key, in_statement, directive_row, variable_declarator_row, formal_parameter_row, formal_parameter_rest_row};
+ghost use Rattle.jsgen_tree.specs.Rows.{in_expression, in_argument, in_array_expression_element, in_chain_element, in_simple_assignment_target, in_assignment_target, in_arrow_function_body, in_object_property_kind, in_property_key, in_statement, comment_row, directive_row, variable_declarator_row, formal_parameter_row, formal_parameter_rest_row};
 ghost use Rattle.jsgen_check.specs.Verdict.{child_verdict, maybe_verdict, children_verdict};
 ghost use Rattle.jsgen_tree.specs.declared.types.NodeSet.TheVariants as sets;
 
@@ -13,14 +13,25 @@ use crate::expressions::{
 };
 use crate::functions::{check_formal_parameter, check_formal_parameter_rest};
 use crate::heights::higher;
-use crate::statements::{check_directive, check_variable_declarator};
+use crate::statements::{check_comment, check_directive, check_variable_declarator};
 use crate::{CheckNode, Surroundings, check_child};
 use jsgen_model::TreeFault;
 use jsgen_tree::{
-    Argument, ArrayExpressionElement, ArrowFunctionBody, AssignmentTarget, ChainElement, Directive,
-    ExpressionNode, FormalParameter, FormalParameterRest, NodeSet, ObjectPropertyKind, PropertyKey,
-    SimpleAssignmentTarget, StatementNode, VariableDeclarator,
+    Argument, ArrayExpressionElement, ArrowFunctionBody, AssignmentTarget, ChainElement, Comment,
+    Directive, ExpressionNode, FormalParameter, FormalParameterRest, NodeSet, ObjectPropertyKind,
+    PropertyKey, SimpleAssignmentTarget, StatementNode, VariableDeclarator,
 };
+
+pub fn check_comments(nodes: &[Comment], around: Surroundings<'_>) -> Result<u64, TreeFault>
+    ensures { result ≡ children_verdict around.entry sets.Comment (trees (map comment_row nodes.now)) }
+{
+    let mut below = Ok(0);
+    for node in nodes {
+        let found = check_comment(node, around);
+        below = higher(below, found);
+    }
+    below
+}
 
 pub fn check_directives(nodes: &[Directive], around: Surroundings<'_>) -> Result<u64, TreeFault>
     ensures { result ≡ children_verdict around.entry sets.Directive (trees (map directive_row nodes.now)) }

@@ -1,7 +1,7 @@
 // Generated from tools/nodes/table.txt; edit that and run tools/nodes/generate.
 // Programs, statements and declarations (ECMA-262, clauses 14 and 16).
 ghost use Rattle.std.specs.Prelude.{◌≡◌};
-ghost use Rattle.jsgen_tree.specs.Rows.{directive_row, variable_declaration_row, variable_declarator_row, binding_identifier_row, expression_statement_row, block_statement_row, if_statement_row, empty_statement_row};
+ghost use Rattle.jsgen_tree.specs.Rows.{comment_row, directive_row, variable_declaration_row, variable_declarator_row, binding_identifier_row, expression_statement_row, block_statement_row, if_statement_row, empty_statement_row};
 ghost use Rattle.jsgen_check.specs.Verdict.{tree_verdict};
 
 use crate::children::{
@@ -10,15 +10,22 @@ use crate::children::{
 };
 use crate::heights::{check_node, higher};
 use crate::rules::{
-    check_binding_identifier_rules, check_directive_rules, check_if_statement_rules,
-    check_variable_declaration_rules,
+    check_binding_identifier_rules, check_comment_rules, check_directive_rules,
+    check_if_statement_rules, check_variable_declaration_rules,
 };
 use crate::{CheckNode, Surroundings, check_child};
 use jsgen_model::TreeFault;
 use jsgen_tree::{
-    BindingIdentifier, BlockStatement, Directive, EmptyStatement, ExpressionStatement, IfStatement,
-    NodeSet, VariableDeclaration, VariableDeclarator,
+    BindingIdentifier, BlockStatement, Comment, Directive, EmptyStatement, ExpressionStatement,
+    IfStatement, NodeSet, VariableDeclaration, VariableDeclarator,
 };
+
+pub fn check_comment(node: &Comment, around: Surroundings<'_>) -> Result<u64, TreeFault>
+    ensures { result ≡ tree_verdict around.entry (comment_row node.now) }
+{
+    let rules = check_comment_rules(node, around);
+    check_node(node.span, rules, Ok(0))
+}
 
 pub fn check_directive(node: &Directive, around: Surroundings<'_>) -> Result<u64, TreeFault>
     ensures { result ≡ tree_verdict around.entry (directive_row node.now) }

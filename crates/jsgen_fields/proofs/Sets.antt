@@ -3,7 +3,7 @@
 use Rattle.std.proofs.Common.{◌≡◌, Bool, true, false, refl}
 use Rattle.jsgen_tree.specs.Tree.{Tree, type_of}
 use Rattle.jsgen_tree.specs.declared.types.NodeType.{NodeType}
-use Rattle.jsgen_tree.specs.Sets.{is_directive, is_statement, is_variable_declarator, is_binding_pattern, is_expression, is_identifier_name, is_argument, is_chain_element, is_array_expression_element, is_property_key, is_object_property_kind, is_simple_assignment_target, is_assignment_target, is_formal_parameter, is_formal_parameter_rest, is_formal_parameters}
+use Rattle.jsgen_tree.specs.Sets.{is_comment, is_directive, is_statement, is_variable_declarator, is_binding_pattern, is_expression, is_identifier_name, is_argument, is_chain_element, is_array_expression_element, is_property_key, is_object_property_kind, is_simple_assignment_target, is_assignment_target, is_formal_parameter, is_formal_parameter_rest, is_formal_parameters}
 use Rattle.jsgen_tree.specs.Rows.{expression_plain, declaration_plain, statement_plain, binding_pattern_plain}
 use Rattle.jsgen_fields.specs.Meaning.{is_program}
 use Rattle.jsgen_tree.specs.declared.sets.Expression.{Expression}
@@ -73,6 +73,18 @@ no_statement_is_a_program plain r = of_statement plain is_program false refl ref
 
 pub no_expression_is_a_program : {N : Type 0} (plain : N → Tree) (r : Expression N) → is_program (type_of (expression_plain plain r)) ≡ false
 no_expression_is_a_program plain r = of_expression plain is_program false refl refl refl refl refl refl refl refl refl refl refl refl refl refl refl refl refl refl refl refl refl refl refl refl refl r
+
+pub no_declaration_is_a_comment : {N : Type 0} (plain : N → Tree) (r : Declaration N) → is_comment (type_of (declaration_plain plain r)) ≡ false
+no_declaration_is_a_comment plain r = of_declaration plain is_comment false refl r
+
+pub no_binding_pattern_is_a_comment : (r : BindingPattern) → is_comment (type_of (binding_pattern_plain r)) ≡ false
+no_binding_pattern_is_a_comment r = of_binding_pattern is_comment false refl r
+
+pub no_statement_is_a_comment : {N : Type 0} (plain : N → Tree) (r : OtherStatement N) → is_comment (type_of (statement_plain plain r.statement)) ≡ false
+no_statement_is_a_comment plain r = of_statement plain is_comment false refl refl refl refl r.statement r.other
+
+pub no_expression_is_a_comment : {N : Type 0} (plain : N → Tree) (r : Expression N) → is_comment (type_of (expression_plain plain r)) ≡ false
+no_expression_is_a_comment plain r = of_expression plain is_comment false refl refl refl refl refl refl refl refl refl refl refl refl refl refl refl refl refl refl refl refl refl refl refl refl refl r
 
 pub no_declaration_is_a_directive : {N : Type 0} (plain : N → Tree) (r : Declaration N) → is_directive (type_of (declaration_plain plain r)) ≡ false
 no_declaration_is_a_directive plain r = of_declaration plain is_directive false refl r
@@ -259,6 +271,7 @@ no_expression_is_a_formal_parameters plain r = of_expression plain is_formal_par
 
 pub program_type : (t : NodeType) → is_program t ≡ true → t ≡ types.Program
 program_type types.Program h = refl
+program_type types.Comment h = cc
 program_type types.Directive h = cc
 program_type types.VariableDeclaration h = cc
 program_type types.VariableDeclarator h = cc
@@ -302,6 +315,8 @@ program_type types.ArrowFunctionExpression h = cc
 -- ---- which rows a place takes
 
 pub ruleset takes_programs = (no_declaration_is_a_program, no_binding_pattern_is_a_program, no_statement_is_a_program, no_expression_is_a_program)
+
+pub ruleset takes_comments = (no_declaration_is_a_comment, no_binding_pattern_is_a_comment, no_statement_is_a_comment, no_expression_is_a_comment)
 
 pub ruleset takes_directives = (no_declaration_is_a_directive, no_binding_pattern_is_a_directive, no_statement_is_a_directive, no_expression_is_a_directive)
 

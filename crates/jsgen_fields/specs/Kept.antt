@@ -2,7 +2,7 @@
 -- The plain data of what the reader keeps.
 use Rattle.std.specs.Prelude.{List}
 use Rattle.jsgen_tree.specs.Tree.{Tree}
-use Rattle.jsgen_tree.specs.Rows.{program_row, directive_row, variable_declarator_row, identifier_name_row, spread_element_row, object_property_row, formal_parameter_row, formal_parameter_rest_row, formal_parameters_row, expression_plain, declaration_plain, statement_plain, binding_pattern_plain}
+use Rattle.jsgen_tree.specs.Rows.{program_row, comment_row, directive_row, variable_declarator_row, identifier_name_row, spread_element_row, object_property_row, formal_parameter_row, formal_parameter_rest_row, formal_parameters_row, expression_plain, declaration_plain, statement_plain, binding_pattern_plain}
 use Rattle.jsgen_pool.specs.Pool.{Entry}
 use Rattle.jsgen_pool.specs.declared.Kept.{Kept}
 use Rattle.jsgen_fields.specs.declared.kept.Row.{Row}
@@ -11,6 +11,7 @@ use Rattle.jsgen_fields.specs.declared.kept.Row.TheVariants as rows
 
 abbrev pub row_plain : {N : Type 0} → (N → Tree) → Row N → Tree
 row_plain plain (rows.Program b) = program_row plain b.value
+row_plain plain (rows.Comment b) = comment_row b.value
 row_plain plain (rows.Directive b) = directive_row b.value
 row_plain plain (rows.Declaration b) = declaration_plain plain b.value
 row_plain plain (rows.VariableDeclarator b) = variable_declarator_row plain b.value

@@ -6,6 +6,7 @@ use Rattle.jsgen_tree.specs.declared.types.NodeType.TheVariants as types
 
 abbrev pub is_in_statements : NodeType → Bool
 is_in_statements types.Program = true
+is_in_statements types.Comment = true
 is_in_statements types.Directive = true
 is_in_statements types.VariableDeclaration = true
 is_in_statements types.VariableDeclarator = true

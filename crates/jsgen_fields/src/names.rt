@@ -5,8 +5,9 @@ ghost use Rattle.jsgen_fields.specs.Names.{first_named, type_named};
 
 use jsgen_tree::NodeType;
 
-const TYPE_NAMES: [(&str, NodeType); 40] = [
+const TYPE_NAMES: [(&str, NodeType); 41] = [
     ("Program", NodeType::Program),
+    ("Comment", NodeType::Comment),
     ("Directive", NodeType::Directive),
     ("VariableDeclaration", NodeType::VariableDeclaration),
     ("VariableDeclarator", NodeType::VariableDeclarator),
@@ -27,10 +28,7 @@ const TYPE_NAMES: [(&str, NodeType); 40] = [
     ("LogicalExpression", NodeType::LogicalExpression),
     ("IdentifierName", NodeType::IdentifierName),
     ("StaticMemberExpression", NodeType::StaticMemberExpression),
-    (
-        "ComputedMemberExpression",
-        NodeType::ComputedMemberExpression,
-    ),
+    ("ComputedMemberExpression", NodeType::ComputedMemberExpression),
     ("CallExpression", NodeType::CallExpression),
     ("ChainExpression", NodeType::ChainExpression),
     ("SpreadElement", NodeType::SpreadElement),

@@ -4,7 +4,7 @@ ghost use Rattle.std.specs.Prelude.{true, false, map, option_map};
 ghost use Rattle.serde_json.specs.View.{view};
 ghost use Rattle.jsgen_tree.specs.Tree.{optional, trees, holed};
 ghost use Rattle.jsgen_tree.specs.Table.{needed, may_be_absent, child, children as many, children_or_holes as many_or_holes};
-ghost use Rattle.jsgen_tree.specs.Rows.{in_expression, in_argument, in_array_expression_element, in_chain_element, in_simple_assignment_target, in_assignment_target, in_arrow_function_body, in_object_property_kind, in_property_key, in_statement, in_binding_pattern, directive_row, variable_declarator_row, identifier_name_row, formal_parameter_row, formal_parameter_rest_row, formal_parameters_row};
+ghost use Rattle.jsgen_tree.specs.Rows.{in_expression, in_argument, in_array_expression_element, in_chain_element, in_simple_assignment_target, in_assignment_target, in_arrow_function_body, in_object_property_kind, in_property_key, in_statement, in_binding_pattern, comment_row, directive_row, variable_declarator_row, identifier_name_row, formal_parameter_row, formal_parameter_rest_row, formal_parameters_row};
 ghost use Rattle.jsgen_fields.specs.Values.{at, field as value_under};
 ghost use Rattle.jsgen_fields.specs.Meaning.{a_child, a_maybe, a_list};
 ghost use Rattle.jsgen_fields.specs.Reads.{Gives, read_children};
@@ -15,14 +15,23 @@ use crate::InputFault;
 use crate::fields::{children, children_or_holes, needed_child, optional_child};
 use crate::kept::{ReadNode, Row};
 use jsgen_pool::Kept;
-use jsgen_tree::{
-    Argument, ArrayExpressionElement, ArrowFunctionBody, AssignmentTarget, BindingPatternNode,
-    ChainElement, Directive, ExpressionNode, FormalParameter, FormalParameterRest,
-    FormalParameters, IdentifierName, ObjectPropertyKind, PropertyKey, SimpleAssignmentTarget,
-    StatementNode, VariableDeclarator,
-};
+use jsgen_tree::{Argument, ArrayExpressionElement, ArrowFunctionBody, AssignmentTarget, BindingPatternNode, ChainElement, Comment, Directive, ExpressionNode, FormalParameter, FormalParameterRest, FormalParameters, IdentifierName, ObjectPropertyKind, PropertyKey, SimpleAssignmentTarget, StatementNode, VariableDeclarator};
 use serde_json::Value;
 use std::alloc::Global;
+
+pub fn comment_list<N: ReadNode + Drop>(
+    alloc: Global,
+    kept: &mut Vec<Kept<Row<N>>>,
+    number: usize,
+    field: usize,
+    row: &Value,
+    name: &str,
+) -> Result<Vec<Comment>, InputFault>
+    ensures { Gives (λ v. a_list (trees (map comment_row v.items))) result (entries N.plain kept.new.items)
+        (read_children (at number field) false may_be_absent (many sets.Comment) (value_under name.now (view row.now)) (entries N.plain kept.old.items)) }
+{
+    children(alloc, kept, number, field, row, name)
+}
 
 pub fn directive_list<N: ReadNode + Drop>(
     alloc: Global,

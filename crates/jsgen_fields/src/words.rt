@@ -2,27 +2,150 @@
 // Fields that hold a word.
 ghost use Rattle.std.specs.Prelude.{◌≡◌, true, option_map};
 ghost use Rattle.serde_json.specs.View.{view};
-ghost use Rattle.jsgen_tree.specs.Atom.{no_value, source_kind, declaration_kind, binary_operator, logical_operator, property_kind, unary_operator, update_operator, assignment_operator};
+ghost use Rattle.jsgen_tree.specs.Atom.{no_value, kind_of_comment, content_of_comment, source_kind, declaration_kind, binary_operator, logical_operator, property_kind, unary_operator, update_operator, assignment_operator};
 ghost use Rattle.jsgen_tree.specs.Table.{word};
-ghost use Rattle.jsgen_tree.specs.Fields.{source_kind_words, declaration_kind_words, binary_operator_words, logical_operator_words, property_kind_words, unary_operator_words, update_operator_words, assignment_operator_words};
+ghost use Rattle.jsgen_tree.specs.Fields.{kind_of_comment_words, content_of_comment_words, source_kind_words, declaration_kind_words, binary_operator_words, logical_operator_words, property_kind_words, unary_operator_words, update_operator_words, assignment_operator_words};
 ghost use Rattle.jsgen_fields.specs.Reads.{read_value};
 ghost use Rattle.jsgen_fields.specs.Values.{Same, at, field as value_under, word_meaning, words_of_length};
 
 use crate::values::{needed_value, text_in};
 use crate::{At, InputFault};
-use jsgen_syntax::{
-    AssignmentOperator, BinaryOperator, LogicalOperator, SourceKind, UnaryOperator, UpdateOperator,
-};
-use jsgen_tree::{PropertyKind, VariableDeclarationKind};
+use jsgen_syntax::{AssignmentOperator, BinaryOperator, LogicalOperator, SourceKind, UnaryOperator, UpdateOperator};
+use jsgen_tree::{CommentContent, CommentKind, PropertyKind, VariableDeclarationKind};
 use serde_json::Value;
 
 #[tactic(auto, unfolding(crate::specs::Reads::read_value))]
-pub fn needed_source_kind(
-    number: usize,
-    field: usize,
-    row: &Value,
-    name: &str,
-) -> Result<SourceKind, InputFault>
+pub fn needed_kind_of_comment(number: usize, field: usize, row: &Value, name: &str) -> Result<CommentKind, InputFault>
+    ensures { Same (λ o. kind_of_comment o) result
+        (read_value (at number field) true no_value (word kind_of_comment_words) (value_under name.now (view row.now))) }
+{
+    let at = At::of_row(number, field);
+    let value = needed_value(at, row, name)?;
+    match text_in(at, value)? {
+        "line" => Ok(CommentKind::Line),
+        "block" => Ok(CommentKind::SingleLineBlock),
+        "multiline" => Ok(CommentKind::MultiLineBlock),
+        "htmlopen" => Ok(CommentKind::HtmlOpen),
+        "htmlclose" => Ok(CommentKind::HtmlClose),
+        _ => Err(InputFault::Wrong(at)),
+    }
+}
+
+fn content_of_comment_of_length_4(word: &str) -> Option<CommentContent>
+    ensures { option_map content_of_comment result ≡ word_meaning (words_of_length 4 content_of_comment_words) word.now }
+{
+    match word {
+        "pure" => Some(CommentContent::Pure),
+        "vite" => Some(CommentContent::Vite),
+        _ => None,
+    }
+}
+
+fn content_of_comment_of_length_5(word: &str) -> Option<CommentContent>
+    ensures { option_map content_of_comment result ≡ word_meaning (words_of_length 5 content_of_comment_words) word.now }
+{
+    match word {
+        "legal" => Some(CommentContent::Legal),
+        "jsdoc" => Some(CommentContent::Jsdoc),
+        _ => None,
+    }
+}
+
+fn content_of_comment_of_length_6(word: &str) -> Option<CommentContent>
+    ensures { option_map content_of_comment result ≡ word_meaning (words_of_length 6 content_of_comment_words) word.now }
+{
+    match word {
+        "normal" => Some(CommentContent::Normal),
+        _ => None,
+    }
+}
+
+fn content_of_comment_of_length_7(word: &str) -> Option<CommentContent>
+    ensures { option_map content_of_comment result ≡ word_meaning (words_of_length 7 content_of_comment_words) word.now }
+{
+    match word {
+        "webpack" => Some(CommentContent::Webpack),
+        _ => None,
+    }
+}
+
+fn content_of_comment_of_length_8(word: &str) -> Option<CommentContent>
+    ensures { option_map content_of_comment result ≡ word_meaning (words_of_length 8 content_of_comment_words) word.now }
+{
+    match word {
+        "coverage" => Some(CommentContent::CoverageIgnore),
+        _ => None,
+    }
+}
+
+fn content_of_comment_of_length_10(word: &str) -> Option<CommentContent>
+    ensures { option_map content_of_comment result ≡ word_meaning (words_of_length 10 content_of_comment_words) word.now }
+{
+    match word {
+        "jsdoclegal" => Some(CommentContent::JsdocLegal),
+        _ => None,
+    }
+}
+
+fn content_of_comment_of_length_11(word: &str) -> Option<CommentContent>
+    ensures { option_map content_of_comment result ≡ word_meaning (words_of_length 11 content_of_comment_words) word.now }
+{
+    match word {
+        "propertykey" => Some(CommentContent::PropertyKey),
+        _ => None,
+    }
+}
+
+fn content_of_comment_of_length_12(word: &str) -> Option<CommentContent>
+    ensures { option_map content_of_comment result ≡ word_meaning (words_of_length 12 content_of_comment_words) word.now }
+{
+    match word {
+        "coveragefile" => Some(CommentContent::CoverageIgnoreFile),
+        _ => None,
+    }
+}
+
+fn content_of_comment_of_length_13(word: &str) -> Option<CommentContent>
+    ensures { option_map content_of_comment result ≡ word_meaning (words_of_length 13 content_of_comment_words) word.now }
+{
+    match word {
+        "nosideeffects" => Some(CommentContent::NoSideEffects),
+        _ => None,
+    }
+}
+
+fn content_of_comment_by_word(word: &str) -> Option<CommentContent>
+    ensures { option_map content_of_comment result ≡ word_meaning content_of_comment_words word.now }
+{
+    match word.len() {
+        4 => content_of_comment_of_length_4(word),
+        5 => content_of_comment_of_length_5(word),
+        6 => content_of_comment_of_length_6(word),
+        7 => content_of_comment_of_length_7(word),
+        8 => content_of_comment_of_length_8(word),
+        10 => content_of_comment_of_length_10(word),
+        11 => content_of_comment_of_length_11(word),
+        12 => content_of_comment_of_length_12(word),
+        13 => content_of_comment_of_length_13(word),
+        _ => None,
+    }
+}
+
+#[tactic(auto, unfolding(crate::specs::Reads::read_value))]
+pub fn needed_content_of_comment(number: usize, field: usize, row: &Value, name: &str) -> Result<CommentContent, InputFault>
+    ensures { Same (λ o. content_of_comment o) result
+        (read_value (at number field) true no_value (word content_of_comment_words) (value_under name.now (view row.now))) }
+{
+    let at = At::of_row(number, field);
+    let value = needed_value(at, row, name)?;
+    match content_of_comment_by_word(text_in(at, value)?) {
+        Some(found) => Ok(found),
+        None => Err(InputFault::Wrong(at)),
+    }
+}
+
+#[tactic(auto, unfolding(crate::specs::Reads::read_value))]
+pub fn needed_source_kind(number: usize, field: usize, row: &Value, name: &str) -> Result<SourceKind, InputFault>
     ensures { Same (λ o. source_kind o) result
         (read_value (at number field) true no_value (word source_kind_words) (value_under name.now (view row.now))) }
 {
@@ -35,12 +158,7 @@ pub fn needed_source_kind(
 }
 
 #[tactic(auto, unfolding(crate::specs::Reads::read_value))]
-pub fn needed_declaration_kind(
-    number: usize,
-    field: usize,
-    row: &Value,
-    name: &str,
-) -> Result<VariableDeclarationKind, InputFault>
+pub fn needed_declaration_kind(number: usize, field: usize, row: &Value, name: &str) -> Result<VariableDeclarationKind, InputFault>
     ensures { Same (λ o. declaration_kind o) result
         (read_value (at number field) true no_value (word declaration_kind_words) (value_under name.now (view row.now))) }
 {
@@ -119,12 +237,7 @@ fn binary_operator_by_word(word: &str) -> Option<BinaryOperator>
 }
 
 #[tactic(auto, unfolding(crate::specs::Reads::read_value))]
-pub fn needed_binary_operator(
-    number: usize,
-    field: usize,
-    row: &Value,
-    name: &str,
-) -> Result<BinaryOperator, InputFault>
+pub fn needed_binary_operator(number: usize, field: usize, row: &Value, name: &str) -> Result<BinaryOperator, InputFault>
     ensures { Same (λ o. binary_operator o) result
         (read_value (at number field) true no_value (word binary_operator_words) (value_under name.now (view row.now))) }
 {
@@ -137,12 +250,7 @@ pub fn needed_binary_operator(
 }
 
 #[tactic(auto, unfolding(crate::specs::Reads::read_value))]
-pub fn needed_logical_operator(
-    number: usize,
-    field: usize,
-    row: &Value,
-    name: &str,
-) -> Result<LogicalOperator, InputFault>
+pub fn needed_logical_operator(number: usize, field: usize, row: &Value, name: &str) -> Result<LogicalOperator, InputFault>
     ensures { Same (λ o. logical_operator o) result
         (read_value (at number field) true no_value (word logical_operator_words) (value_under name.now (view row.now))) }
 {
@@ -157,12 +265,7 @@ pub fn needed_logical_operator(
 }
 
 #[tactic(auto, unfolding(crate::specs::Reads::read_value))]
-pub fn needed_property_kind(
-    number: usize,
-    field: usize,
-    row: &Value,
-    name: &str,
-) -> Result<PropertyKind, InputFault>
+pub fn needed_property_kind(number: usize, field: usize, row: &Value, name: &str) -> Result<PropertyKind, InputFault>
     ensures { Same (λ o. property_kind o) result
         (read_value (at number field) true no_value (word property_kind_words) (value_under name.now (view row.now))) }
 {
@@ -217,12 +320,7 @@ fn unary_operator_by_word(word: &str) -> Option<UnaryOperator>
 }
 
 #[tactic(auto, unfolding(crate::specs::Reads::read_value))]
-pub fn needed_unary_operator(
-    number: usize,
-    field: usize,
-    row: &Value,
-    name: &str,
-) -> Result<UnaryOperator, InputFault>
+pub fn needed_unary_operator(number: usize, field: usize, row: &Value, name: &str) -> Result<UnaryOperator, InputFault>
     ensures { Same (λ o. unary_operator o) result
         (read_value (at number field) true no_value (word unary_operator_words) (value_under name.now (view row.now))) }
 {
@@ -235,12 +333,7 @@ pub fn needed_unary_operator(
 }
 
 #[tactic(auto, unfolding(crate::specs::Reads::read_value))]
-pub fn needed_update_operator(
-    number: usize,
-    field: usize,
-    row: &Value,
-    name: &str,
-) -> Result<UpdateOperator, InputFault>
+pub fn needed_update_operator(number: usize, field: usize, row: &Value, name: &str) -> Result<UpdateOperator, InputFault>
     ensures { Same (λ o. update_operator o) result
         (read_value (at number field) true no_value (word update_operator_words) (value_under name.now (view row.now))) }
 {
@@ -314,12 +407,7 @@ fn assignment_operator_by_word(word: &str) -> Option<AssignmentOperator>
 }
 
 #[tactic(auto, unfolding(crate::specs::Reads::read_value))]
-pub fn needed_assignment_operator(
-    number: usize,
-    field: usize,
-    row: &Value,
-    name: &str,
-) -> Result<AssignmentOperator, InputFault>
+pub fn needed_assignment_operator(number: usize, field: usize, row: &Value, name: &str) -> Result<AssignmentOperator, InputFault>
     ensures { Same (λ o. assignment_operator o) result
         (read_value (at number field) true no_value (word assignment_operator_words) (value_under name.now (view row.now))) }
 {

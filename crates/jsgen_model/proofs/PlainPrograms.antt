@@ -16,4 +16,4 @@ unfolding node_plain
 node_is_plain = ind-Node (λ n. IsPlain (node_plain n)) (λ x y is. subst IsPlain (sym (fold-roll-Node Tree layer x)) (subst (λ z. IsPlain (layer (map-Node Node Tree node_plain z))) is (layer_is_plain (λ e. e.0) (λ e. e.1) y)))
 
 pub program_is_plain : (p : Program Node) → IsPlain (program_row node_plain p)
-program_is_plain p = (and_from _ _ (and_from _ _ (module_kind p.kind) (no_hole _ p.directives.items)) (no_hole _ p.body.items), (all_plain _ (λ d. (refl, tt)) p.directives.items, (all_plain _ (λ s. node_is_plain s.node) p.body.items, tt)))
+program_is_plain p = (and_from _ _ (and_from _ _ (module_kind p.kind) (no_hole _ p.directives.items)) (no_hole _ p.body.items), (all_plain _ (λ c. (refl, tt)) p.comments.items, (all_plain _ (λ d. (refl, tt)) p.directives.items, (all_plain _ (λ s. node_is_plain s.node) p.body.items, tt))))

@@ -1,5 +1,6 @@
 -- What a row of the printer prints: items, joined as a tree. Texts are lists of characters.
 use Rattle.std.specs.Prelude.{ℕ, List, Bool}
+use Rattle.jsgen_tree.specs.Named.{Named}
 use Rattle.jsgen_model.specs.Punctuator.{Punctuator, Bracket}
 
 infixr 60 ◌⊕◌
@@ -8,8 +9,8 @@ pub data Items : Type 0 where
   ◌⊕◌ : Items → Items → Items
   -- a keyword, apart from a word before it
   word : List ℕ → Items
-  -- a name, apart from a word before it
-  name : List ℕ → Items
+  -- a name as it is printed, apart from a word before it
+  name : Named → Items
   -- a number, apart from a word before it; the test holds where a dot behind it would be its own
   number : Bool → List ℕ → Items
   -- a literal that begins and ends with a mark of its own, as a regular expression
@@ -37,6 +38,8 @@ pub data Items : Type 0 where
   brackets : Bracket → Items → Items
   -- in parentheses where the test holds
   wrapped : Bool → Items → Items
+  -- the first items where two names are printed the same, else the second
+  where_same : Named → Named → Items → Items → Items
   -- the end of a statement; the semicolon that it may leave to what follows, printed or dropped
   statement_end : Items
   due_semicolon : Items

@@ -9,17 +9,21 @@ use Rattle.jsgen_syntax.specs.Strings.{quote_char, quoted, cheapest}
 use Rattle.jsgen_syntax.specs.Raw.{directive_text, directive_quote}
 use Rattle.jsgen_syntax.specs.declared.quote.Quote.{Quote}
 use Rattle.jsgen_syntax.specs.declared.quote.Quote.TheVariants.{Single, Double, Backtick}
+use Rattle.std.specs.Str.{bytes_eq}
 use Rattle.jsgen_tree.specs.Options.{Options}
+use Rattle.jsgen_tree.specs.Job.{Tables}
+use Rattle.jsgen_tree.specs.Named.{Named, printed_name}
 use Rattle.jsgen_model.specs.Punctuator.{Punctuator, plus, plus_plus, minus, minus_minus, bang, equal_equal, equal_equal_equal, punctuator_text, Round, opening, closing}
-use Rattle.jsgen_model.specs.Items.{Items, nothing, ◌⊕◌, word, name, number, literal, string, first_string, directive, punctuator, operator, member_dot, soft_space, soft_line, hard_space, indentation, body_space, deeper, brackets, wrapped, statement_end, due_semicolon, drop_semicolon, statement_begins, arrow_body_begins, default_export_begins}
+use Rattle.jsgen_model.specs.Items.{Items, nothing, ◌⊕◌, word, name, number, literal, string, first_string, directive, punctuator, operator, member_dot, soft_space, soft_line, hard_space, indentation, body_space, deeper, brackets, wrapped, where_same, statement_end, due_semicolon, drop_semicolon, statement_begins, arrow_body_begins, default_export_begins}
 
--- what never changes: whether the text is minified and whether it is ASCII, the quote of pretty text and of directives, and what a level of indentation is made of
+-- what never changes: whether the text is minified and whether it is ASCII, the quote of pretty text and of directives, what a level of indentation is made of, and the tables by which names are printed
 pub record Style : Type 0 where
   pub minified : Bool
   pub ascii : Bool
   pub quote : Quote
   pub indent : ℕ
   pub width : ℕ
+  pub tables : Tables
 
 -- what the code so far ends in, as far as it matters to what follows
 pub data Ending : Type 0 where
@@ -154,6 +158,16 @@ abbrev pub deeper_level : Bool → ℕ → ℕ
 deeper_level true depth = depth
 deeper_level false depth = suc depth
 
+-- ---- names
+
+-- a name, apart from a word that the code ends in
+abbrev pub with_name : List ℕ → Pen → Pen
+with_name w pen = written (space_if (is_apart pen.ending pen.code) ++ name_text pen.style.ascii w) (name_ending (has_escapes pen.style.ascii w)) pen
+
+-- two names are printed the same
+abbrev pub are_same : Tables → Named → Named → Bool
+are_same tables m n = bytes_eq (printed_name tables m) (printed_name tables n)
+
 -- ---- strings
 
 -- where no backticks may stand, double quotes stand in their place
@@ -180,7 +194,7 @@ abbrev pub layout : Items → Pen → Pen
 layout nothing pen = pen
 layout (a ⊕ b) pen = layout b (layout a pen)
 layout (word w) pen = written (space_if (is_apart pen.ending pen.code) ++ w) other_end pen
-layout (name w) pen = written (space_if (is_apart pen.ending pen.code) ++ name_text pen.style.ascii w) (name_ending (has_escapes pen.style.ascii w)) pen
+layout (name n) pen = with_name (printed_name pen.style.tables n) pen
 layout (number dot_is_its_own w) pen = written (space_if (is_apart pen.ending pen.code) ++ w) (number_ending dot_is_its_own) pen
 layout (literal w) pen = written w other_end pen
 layout (string backticks units) pen = written (quoted (chosen_quote pen.style backticks units) pen.style.ascii units) other_end pen
@@ -197,6 +211,7 @@ layout body_space pen = record pen { pending_space = true }
 layout (deeper items) pen = record (layout items (record pen { depth = deeper_level pen.style.minified pen.depth })) { depth = pen.depth }
 layout (brackets b items) pen = written (closing b) other_end (layout items (written (opening b) other_end pen))
 layout (wrapped test items) pen = written_if test (closing Round) (layout items (written_if test (opening Round) pen))
+layout (where_same m n a b) pen = if are_same pen.style.tables m n then layout a pen else layout b pen
 layout statement_end pen = end_statement pen.style.minified pen
 layout due_semicolon pen = print_due pen
 layout drop_semicolon pen = with_semicolon false pen
@@ -208,12 +223,13 @@ layout default_export_begins pen = record pen { start = default_export }
 abbrev pub empty_pen : Style → ℕ → Pen
 empty_pen style depth = record { style = style; code = []; depth = depth; pending_space = false; pending_semicolon = false; ending = other_end; start = statement }
 
--- the style of these options
-abbrev pub style_of : Options → Style
-style_of options = record {
+-- the style of these options and tables
+abbrev pub style_of : Options → Tables → Style
+style_of options tables = record {
   minified = options.minify;
   ascii = options.ascii_only;
   quote = if options.single_quote then Single else Double;
   indent = indent_code options.indent_char;
   width = options.indent_width;
+  tables = tables;
 }

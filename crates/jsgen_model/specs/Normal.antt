@@ -120,7 +120,7 @@ is_computed computed key = computed || is_negative_number key
 -- that ends in an `if` without `else` are away; a property that its value alone says is written out, but for `__proto__`.
 abbrev mutual
   pub normal : Tree → Tree
-  normal (tree.program a directives body) = tree.program (nothing_of 4) (normal_trees directives) (normal_trees body)
+  normal (tree.program a comments directives body) = tree.program (nothing_of 4) no_trees (normal_trees directives) (normal_trees body)
   normal (tree.directive a) = tree.directive (bare (units (directive_units (directive_directive a)) ∷ []))
   normal (tree.expression_statement a expression) = tree.expression_statement (nothing_of 0) (normal expression)
   normal (tree.variable_declaration a declarations) = tree.variable_declaration (bare (declaration_kind (variable_declaration_kind a) ∷ variable_declaration_declare a ∷ [])) (normal_trees declarations)

@@ -39,7 +39,8 @@ has_no_hole (hole ts) = false
 
 -- The node is of one of these types, with the children that its type has; a program is a module, a whole number is of 128 bits, a string is of units of 16 bits, a directive has its raw text, and a field that isn't read yet holds nothing where the normal form keeps it.
 abbrev pub is_plain_row : Tree → Bool
-is_plain_row (tree.program a directives body) = is_module (program_kind a) && has_no_hole directives && has_no_hole body
+is_plain_row (tree.program a comments directives body) = is_module (program_kind a) && has_no_hole directives && has_no_hole body
+is_plain_row (tree.comment a) = true
 is_plain_row (tree.directive a) = is_raw (directive_directive a)
 is_plain_row (tree.expression_statement a expression) = true
 is_plain_row (tree.variable_declaration a declarations) = is_absent (variable_declaration_declare a) && has_no_hole declarations
@@ -86,8 +87,9 @@ IsPlain t = Everywhere is_plain_row t
 
 -- ---- quiet
 
--- the node is no comment and has no `pure` mark; comments aren't read yet
+-- the node is no comment and has no `pure` mark
 abbrev pub is_quiet_row : Tree → Bool
+is_quiet_row (tree.comment a) = false
 is_quiet_row (node type a slots) = not (as_flag (value_named (codes "pure") (fields type) a.values))
 
 -- no comment is printed, whatever the program holds

@@ -1,7 +1,39 @@
 -- A program in which each reference and each binding has the name that is printed for it.
-use Rattle.jsgen_tree.specs.Tree.{Tree}
-use Rattle.jsgen_tree.specs.Job.{Tables, no_tables}
+use Rattle.std.specs.Prelude.{List, ◌∷◌, ℕ}
+use Rattle.jsgen_tree.specs.Atom.{text}
+use Rattle.jsgen_tree.specs.Places.{other_values}
+use Rattle.jsgen_tree.specs.Tree.{Tree, node, Slots, no_slots, one, maybe, many, maybe_many, Maybe, absent, given, Trees, no_trees, more, hole, MaybeTrees, no_list, listed, Atoms}
+use Rattle.jsgen_tree.specs.Nodes as tree
+use Rattle.jsgen_tree.specs.Inside.{reference_named, binding_named}
+use Rattle.jsgen_tree.specs.Job.{Tables}
+use Rattle.jsgen_tree.specs.Named.{printed_name}
 
--- so far no table of names is read, and each has its own
-abbrev pub renamed : Tables → Tree → Tree
-renamed no_tables t = t
+-- a name, which is the first value of its node, and its number as it was
+abbrev pub with_name : List ℕ → Atoms → Atoms
+with_name w a = record a { values = text w ∷ other_values a.values }
+
+abbrev mutual
+  pub renamed : Tables → Tree → Tree
+  renamed tables (tree.identifier_reference a) = tree.identifier_reference (with_name (printed_name tables (reference_named a)) a)
+  renamed tables (tree.binding_identifier a) = tree.binding_identifier (with_name (printed_name tables (binding_named a)) a)
+  renamed tables (node type a slots) = node type a (renamed_slots tables slots)
+
+  pub renamed_slots : Tables → Slots → Slots
+  renamed_slots tables no_slots = no_slots
+  renamed_slots tables (one t slots) = one (renamed tables t) (renamed_slots tables slots)
+  renamed_slots tables (maybe m slots) = maybe (renamed_maybe tables m) (renamed_slots tables slots)
+  renamed_slots tables (many ts slots) = many (renamed_trees tables ts) (renamed_slots tables slots)
+  renamed_slots tables (maybe_many ts slots) = maybe_many (renamed_maybe_trees tables ts) (renamed_slots tables slots)
+
+  pub renamed_maybe : Tables → Maybe → Maybe
+  renamed_maybe tables absent = absent
+  renamed_maybe tables (given t) = given (renamed tables t)
+
+  pub renamed_trees : Tables → Trees → Trees
+  renamed_trees tables no_trees = no_trees
+  renamed_trees tables (more t ts) = more (renamed tables t) (renamed_trees tables ts)
+  renamed_trees tables (hole ts) = hole (renamed_trees tables ts)
+
+  pub renamed_maybe_trees : Tables → MaybeTrees → MaybeTrees
+  renamed_maybe_trees tables no_list = no_list
+  renamed_maybe_trees tables (listed ts) = listed (renamed_trees tables ts)

@@ -1,7 +1,6 @@
 -- How each node is spelled: one row, one clause.
 use Rattle.std.specs.Prelude.{ℕ, suc, List, ◌++◌, Bool, true, false, not, ◌&&◌, ◌||◌, ◌==◌, nat_le, nat_lt, codes, decimal, Option, Some, None, if◌then◌else◌}
-use Rattle.std.specs.Option.{option_map_or}
-use Rattle.std.specs.Str.{encode_utf8_all, bytes_eq}
+use Rattle.std.specs.Str.{encode_utf8_all}
 use Rattle.jsgen_syntax.specs.Precedence.{rank}
 use Rattle.jsgen_syntax.specs.Operator.{binary_level, lower_level, logical_level, logical_lower_level}
 use Rattle.jsgen_syntax.specs.declared.precedence.Precedence.{Precedence}
@@ -18,17 +17,18 @@ use Rattle.jsgen_syntax.specs.declared.operator.AssignmentOperator.{AssignmentOp
 use Rattle.jsgen_syntax.specs.declared.operator.AssignmentOperator.TheVariants as assignment_operators
 use Rattle.jsgen_tree.specs.declared.types.NodeType.{NodeType}
 use Rattle.jsgen_tree.specs.declared.types.NodeType.TheVariants as types
-use Rattle.jsgen_tree.specs.Inside.{without_parentheses, ends_open, reference_in, written_name_in, is_proto, behind_minus, is_negative_number}
+use Rattle.jsgen_tree.specs.Named.{Named, as_written}
+use Rattle.jsgen_tree.specs.Inside.{without_parentheses, ends_open, reference_named, binding_named, looked_up_in, written_name_in, is_proto, behind_minus, is_negative_number}
 use Rattle.jsgen_tree.specs.Words.{declaration_word}
 use Rattle.jsgen_tree.specs.Number.{NumericKind, Whole, Raw}
 use Rattle.jsgen_tree.specs.Tree.{Tree, Maybe, absent, given, Trees, no_trees, more, hole, Atoms, type_of}
-use Rattle.jsgen_tree.specs.Values.{as_text, directive_directive, variable_declaration_kind, binding_identifier_name, identifier_reference_name, identifier_name_name, boolean_literal_value, numeric_literal_kind, numeric_literal_negative, numeric_literal_digits, numeric_literal_text, big_int_literal_value, string_literal_value, binary_expression_operator, logical_expression_operator, unary_expression_operator, update_expression_operator, update_expression_prefix, object_property_shorthand, object_property_computed, assignment_expression_operator, static_member_expression_optional, computed_member_expression_optional, call_expression_optional, arrow_function_expression_pife}
-use Rattle.jsgen_tree.specs.Job.{Tables, JobData}
+use Rattle.jsgen_tree.specs.Values.{as_text, directive_directive, variable_declaration_kind, identifier_name_name, boolean_literal_value, numeric_literal_kind, numeric_literal_negative, numeric_literal_digits, numeric_literal_text, big_int_literal_value, string_literal_value, binary_expression_operator, logical_expression_operator, unary_expression_operator, update_expression_operator, update_expression_prefix, object_property_shorthand, object_property_computed, assignment_expression_operator, static_member_expression_optional, computed_member_expression_optional, call_expression_optional, arrow_function_expression_pife}
+use Rattle.jsgen_tree.specs.Job.{JobData}
 use Rattle.jsgen_tree.specs.Nodes as tree
 use Rattle.jsgen_model.specs.Numbers.{takes_no_dot}
 use Rattle.jsgen_model.specs.Punctuator.{ellipsis, comma, semicolon, equal, plus, minus, star, slash, percent, star_star, equal_equal, not_equal, equal_equal_equal, not_equal_equal, less, less_equal, greater, greater_equal, shift_left, shift_right, shift_right_zero, bit_and, bit_or, bit_xor, and_and, or_or, nullish, Round, Square, Brace, bang, tilde, plus_plus, minus_minus, colon, question, plus_equal, minus_equal, star_equal, slash_equal, percent_equal, star_star_equal, shift_left_equal, shift_right_equal, shift_right_zero_equal, bit_or_equal, bit_xor_equal, bit_and_equal, or_or_equal, and_and_equal, nullish_equal, question_dot, arrow}
 use Rattle.jsgen_model.specs.Quotes.{is_require_call, is_definition_call, is_export_target, is_export_mark}
-use Rattle.jsgen_model.specs.Items.{Items, nothing, ◌⊕◌, word, name, number, string, first_string, directive, punctuator, operator, member_dot, brackets, soft_space, soft_line, hard_space, body_space, deeper, indentation, wrapped, statement_end, due_semicolon, drop_semicolon, statement_begins, arrow_body_begins}
+use Rattle.jsgen_model.specs.Items.{Items, nothing, ◌⊕◌, word, name, number, string, first_string, directive, punctuator, operator, member_dot, brackets, soft_space, soft_line, hard_space, body_space, deeper, indentation, wrapped, where_same, statement_end, due_semicolon, drop_semicolon, statement_begins, arrow_body_begins}
 use Rattle.jsgen_model.specs.Layout.{Start, nowhere, statement, arrow_body, unless_printed, layout, empty_pen, style_of}
 
 -- what an expression's surroundings forbid
@@ -36,13 +36,12 @@ pub record Context : Type 0 where
   pub forbids_in : Bool
   pub forbids_call : Bool
 
--- what a spelling depends on beside the tree: whether the text is minified, and the tables of names
+-- what a spelling depends on beside the tree: whether the text is minified
 pub record Settings : Type 0 where
   pub minified : Bool
-  pub tables : Tables
 
 abbrev pub settings_of : JobData → Settings
-settings_of job = record { minified = job.options.minify; tables = job.tables }
+settings_of job = record { minified = job.options.minify }
 
 -- where a node stands
 pub record Place : Type 0 where
@@ -447,18 +446,29 @@ abbrev pub key_items : Bool → Tree → Items → Items → Items
 key_items true key inside alone = brackets Square (key_text key inside)
 key_items false key inside alone = key_text key alone
 
--- Whether the value of a property, which may be a reference, says the key, which is this name. `{ __proto__ }` is a property of
--- that name, and `{ __proto__: __proto__ }` sets the prototype (ECMA-262, 13.2.5.5), so there the property tells.
-abbrev pub says_name : Bool → List ℕ → Option (List ℕ) → Bool
-says_name shorthand w reference = if is_proto w then shorthand else option_map_or (λ v. bytes_eq v w) reference false
+-- a property's key and its value behind it
+abbrev pub with_key : Items → Items → Items
+with_key key value = key ⊕ (punctuator colon ⊕ (soft_space ⊕ value))
 
-abbrev pub is_short : Bool → Tree → Tree → Bool
-is_short shorthand key value = option_map_or (λ w. says_name shorthand w (reference_in (without_parentheses value))) (written_name_in key) false
+-- its value alone, where the test holds
+abbrev pub alone_if : Bool → Items → Items → Items
+alone_if true alone whole = alone
+alone_if false alone whole = whole
 
--- a property: its value alone, or its key and the value behind it
-abbrev pub property_items : Bool → Items → Items → Items → Items
-property_items true key alone behind_key = alone
-property_items false key alone behind_key = key ⊕ (punctuator colon ⊕ (soft_space ⊕ behind_key))
+-- its value alone, where that is printed as the key is written
+abbrev pub alone_where_said : List ℕ → Option Named → Items → Items → Items
+alone_where_said w None alone whole = whole
+alone_where_said w (Some value) alone whole = where_same value (as_written w) alone whole
+
+-- A property whose key is this name. `{ __proto__ }` is a property of that name, and `{ __proto__: __proto__ }` sets the prototype
+-- (ECMA-262, 13.2.5.5), so there the property tells which it is.
+abbrev pub by_key : Bool → List ℕ → Option Named → Items → Items → Items
+by_key shorthand w value alone whole = if is_proto w then alone_if shorthand alone whole else alone_where_said w value alone whole
+
+-- a property: its value alone, or its key, which may be a name, and the value behind it
+abbrev pub property_items : Bool → Option (List ℕ) → Option Named → Items → Items → Items
+property_items shorthand None value alone whole = whole
+property_items shorthand (Some w) value alone whole = by_key shorthand w value alone whole
 
 -- ECMA-262, 12.9.2
 abbrev pub truth_word : Bool → List ℕ
@@ -524,13 +534,13 @@ comma_between items (given rest) = punctuator comma ⊕ soft_space
 
 abbrev mutual
   pub spell : Tree → Place → Items
-  spell (tree.program a directives body) place = spell_directives directives place.settings ⊕ (spell_body body place.settings ⊕ due_semicolon)
+  spell (tree.program a comments directives body) place = spell_directives directives place.settings ⊕ (spell_body body place.settings ⊕ due_semicolon)
   spell (tree.directive a) place = indentation ⊕ (directive (as_text (directive_directive a)) ⊕ (punctuator semicolon ⊕ soft_line))
   spell (tree.expression_statement a expression) place = indentation ⊕ (statement_begins ⊕ (spell expression (whole_statement place.settings) ⊕ statement_end))
   spell (tree.variable_declaration a declarations) place = as_statement place.in_list (word (declaration_word (variable_declaration_kind a)) ⊕ (soft_space ⊕ spell_list declarations (behind Lowest place)))
   spell (tree.variable_declarator a id init) place = spell id (in_front Lowest place) ⊕ spell_value init (behind Comma place)
-  spell (tree.binding_identifier a) place = name (binding_identifier_name a)
-  spell (tree.identifier_reference a) place = name (identifier_reference_name a)
+  spell (tree.binding_identifier a) place = name (binding_named a)
+  spell (tree.identifier_reference a) place = name (reference_named a)
   spell (tree.this_expression a) place = word (codes "this")
   spell (tree.null_literal a) place = word (codes "null")
   spell (tree.boolean_literal a) place = word (truth_word (boolean_literal_value a))
@@ -552,7 +562,7 @@ abbrev mutual
       ⊕ (consequent_items (shape consequent) (ends_open consequent) (spell consequent (within_statement place.settings)) (spell consequent (among_statements place.settings)) (is_given alternate)
       ⊕ spell_alternate alternate place.settings))))
   spell (tree.empty_statement a) place = indentation ⊕ (punctuator semicolon ⊕ soft_line)
-  spell (tree.identifier_name a) place = name (identifier_name_name a)
+  spell (tree.identifier_name a) place = name (as_written (identifier_name_name a))
   spell (tree.static_member a object property) place = spell object (linked place) ⊕ (name_link (static_member_expression_optional a) ⊕ spell property (behind Lowest place))
   spell (tree.computed_member a object expression) place = spell object (linked place) ⊕ (bracket_link (computed_member_expression_optional a) ⊕ brackets Square (spell expression (quoted_plainly place.plain_quotes (in_brackets Lowest place))))
   spell (tree.call a callee arguments) place =
@@ -575,8 +585,8 @@ abbrev mutual
   -- up to one property stands on one line; as in an array, a comma would stand behind a last one that is left out, but none is
   spell (tree.object_expression a properties) place = wrapped (bars_brace place.start) (brackets Brace (object_inside properties (spell_elements (are_more 1 properties) properties (in_brackets Comma place) ⊕ comma_if (ends_in_hole properties))))
   spell (tree.object_property a key value) place =
-      property_items (is_short (object_property_shorthand a) key value) (key_items (needs_brackets (object_property_computed a) key) key (spell key (in_brackets Comma place)) (spell key (in_front Comma place)))
-      (spell value (in_front Comma place)) (spell value (in_brackets Comma place))
+      property_items (object_property_shorthand a) (written_name_in key) (looked_up_in (without_parentheses value)) (spell value (in_front Comma place))
+      (with_key (key_items (needs_brackets (object_property_computed a) key) key (spell key (in_brackets Comma place)) (spell key (in_front Comma place))) (spell value (in_brackets Comma place)))
   -- a choice binds to the right: what follows `?` and `:` may be an assignment
   spell (tree.conditional a test consequent alternate) place =
       wrapped (wraps Conditional place) (choice
@@ -669,7 +679,7 @@ abbrev mutual
 
 -- the characters of the text of a job's program, whose first line is at the level that the options ask for
 abbrev pub printed : JobData → List ℕ
-printed job = (layout (spell job.program (among_statements (settings_of job))) (empty_pen (style_of job.options) job.options.initial_indent)).code
+printed job = (layout (spell job.program (among_statements (settings_of job))) (empty_pen (style_of job.options job.tables) job.options.initial_indent)).code
 
 -- and its bytes in UTF-8
 abbrev pub text_bytes : JobData → List ℕ

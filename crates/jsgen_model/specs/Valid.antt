@@ -1,7 +1,7 @@
 -- Validity: the rules that a tree breaks, each with the start of the node at which it is broken.
-use Rattle.std.specs.Prelude.{◌≡◌, ℕ, suc, ◌+◌, ◌*◌, max, List, [], ◌∷◌, ◌++◌, map, length, Bool, true, false, not, ◌&&◌, ◌||◌, nat_lt, Contains, is_some, Result, Ok, Err, if◌then◌else◌, Option, Some, None}
+use Rattle.std.specs.Prelude.{◌≡◌, ◌==◌, ℕ, suc, ◌+◌, ◌-◌, ◌*◌, max, List, [], ◌∷◌, ◌++◌, map, length, take, drop, slice_get, codes, Bool, true, false, not, ◌&&◌, ◌||◌, nat_lt, nat_le, Contains, is_some, Result, Ok, Err, if◌then◌else◌, Option, Some, None}
 use Rattle.std.specs.Option.{option_map_or}
-use Rattle.std.specs.Str.{encode_utf8_all}
+use Rattle.std.specs.Str.{chars, encode_utf8_all}
 use Rattle.jsgen_syntax.specs.Name.{spells_name, is_free_name}
 use Rattle.jsgen_syntax.specs.Raw.{directive_value}
 use Rattle.jsgen_syntax.specs.declared.span.Span.{Span}
@@ -9,25 +9,30 @@ use Rattle.jsgen_tree.specs.declared.types.NodeSet.{NodeSet}
 use Rattle.jsgen_tree.specs.declared.types.NodeSet.TheVariants as sets
 use Rattle.jsgen_tree.specs.declared.types.NodeType.{NodeType}
 use Rattle.jsgen_tree.specs.declared.types.NodeType.TheVariants as types
+use Rattle.jsgen_tree.specs.declared.statements.CommentKind.{CommentKind}
+use Rattle.jsgen_tree.specs.declared.statements.CommentKind.TheVariants as comments
 use Rattle.jsgen_tree.specs.Options.{Options}
-use Rattle.jsgen_tree.specs.Job.{Tables, JobData}
+use Rattle.jsgen_tree.specs.Job.{Scoping, Tables, JobData}
+use Rattle.jsgen_tree.specs.Named.{Named, looked_up, bound, printed_name}
 use Rattle.jsgen_tree.specs.Table.{child_sets}
 use Rattle.jsgen_tree.specs.Fields.{fields}
 use Rattle.jsgen_tree.specs.Sets.{in_set, is_expression}
 use Rattle.jsgen_tree.specs.Number.{NumericKind, Whole, Raw}
-use Rattle.jsgen_tree.specs.Inside.{without_parentheses, reference_in, written_name_in, is_proto, is_negative_big_integer, has_optional_link}
+use Rattle.jsgen_tree.specs.Inside.{without_parentheses, looked_up_in, reference_named, binding_named, written_name_in, is_proto, is_negative_big_integer, has_optional_link}
 use Rattle.jsgen_tree.specs.Tree.{Tree, node, Slots, no_slots, one, maybe, many, maybe_many, Maybe, absent, given, Trees, no_trees, more, hole, MaybeTrees, no_list, listed, type_of, span_of}
 use Rattle.jsgen_tree.specs.Nodes as tree
-use Rattle.jsgen_tree.specs.Values.{as_text, program_source, directive_directive, binding_identifier_name, identifier_reference_name, identifier_name_name, numeric_literal_kind, numeric_literal_text, big_int_literal_value, object_property_shorthand, object_property_computed, static_member_expression_optional, computed_member_expression_optional, call_expression_optional}
+use Rattle.jsgen_tree.specs.Values.{as_text, program_source, comment_kind, directive_directive, identifier_name_name, numeric_literal_kind, numeric_literal_text, big_int_literal_value, object_property_shorthand, object_property_computed, static_member_expression_optional, computed_member_expression_optional, call_expression_optional}
 use Rattle.jsgen_model.specs.Numbers.{is_raw_number, is_big_integer}
+use Rattle.jsgen_model.specs.Tokens.{has_line_end}
 use Rattle.jsgen_model.specs.declared.fault.TreeFault.{TreeFault}
 use Rattle.jsgen_model.specs.declared.fault.TreeFault.TheVariants as faults
 
--- what surrounds a node: the options, the tables and the program's source
+-- what surrounds a node: the options, the tables, the program's source, and whether spans have to be of that source
 pub record Surroundings : Type 0 where
   pub options : Options
   pub tables : Tables
   pub source : List ℕ
+  pub is_mapped : Bool
 
 -- a child's place: the set that its field asks for, and what surrounds it
 pub record ChildPlace : Type 0 where
@@ -56,13 +61,41 @@ fault_if false f = []
 
 -- ---- what each rule asks
 
--- a start isn't after its end
-abbrev pub span_faults : Span → List TreeFault
-span_faults s = fault_if (nat_lt s.end s.start) (faults.Span s.start)
+-- no byte within a character of UTF-8 (RFC 3629)
+abbrev pub begins_character : ℕ → Bool
+begins_character b = nat_lt b 128 || nat_le 192 b
 
--- a name that is an identifier in strict code (ECMA-262, 13.1); that `eval` and `arguments` may not be bound is no rule yet
-abbrev pub name_faults : Span → List ℕ → List TreeFault
-name_faults s name = fault_if (not (is_free_name name)) (faults.Name s.start)
+-- an offset in these bytes: their end, or where a character begins
+abbrev pub is_offset : List ℕ → ℕ → Bool
+is_offset bytes i = (i == length bytes) || option_map_or begins_character (slice_get bytes i) false
+
+-- the span begins and ends at offsets in these bytes
+abbrev pub spans_characters : List ℕ → Span → Bool
+spans_characters bytes s = is_offset bytes s.start && is_offset bytes s.end
+
+-- where it has to be, a span that isn't empty is one of the source
+abbrev pub is_off_source : Bool → List ℕ → Span → Bool
+is_off_source is_mapped source s = is_mapped && nat_lt s.start s.end && not (spans_characters (encode_utf8_all source) s)
+
+-- a start isn't after its end
+abbrev pub span_faults : Surroundings → Span → List TreeFault
+span_faults around s = fault_if (nat_lt s.end s.start || is_off_source around.is_mapped around.source s) (faults.Span s.start)
+
+-- the table has the symbol that this entry names, if it names one; there is no entry where the reference is in no table
+abbrev pub names_a_symbol : List (List ℕ) → Option (Option ℕ) → Bool
+names_a_symbol symbols None = false
+names_a_symbol symbols (Some None) = true
+names_a_symbol symbols (Some (Some symbol)) = nat_lt symbol (length symbols)
+
+-- the number of a name is in its table, and leads to a symbol or to none
+abbrev pub is_in_tables : Scoping → Named → Bool
+is_in_tables scoping (looked_up (Some reference) w) = names_a_symbol scoping.symbols (slice_get scoping.references reference)
+is_in_tables scoping (bound (Some symbol) w) = nat_lt symbol (length scoping.symbols)
+is_in_tables scoping name = true
+
+-- what is printed for a name is an identifier in strict code (ECMA-262, 13.1); that `eval` and `arguments` may not be bound is no rule yet
+abbrev pub name_faults : Tables → Span → Named → List TreeFault
+name_faults tables s name = fault_if (not (option_map_or (λ scoping. is_in_tables scoping name) tables.scoping true && is_free_name (printed_name tables name))) (faults.Name s.start)
 
 -- a directive's raw text spells a string (ECMA-262, 12.9.4)
 abbrev pub directive_faults : Span → List ℕ → List TreeFault
@@ -125,13 +158,13 @@ may_be_key false key = is_literal_key (type_of key) && not (is_negative_big_inte
 abbrev pub key_faults : Bool → Tree → List TreeFault
 key_faults computed key = fault_if (not (may_be_key computed key)) (faults.Place (span_of key).start)
 
--- the value of a property `__proto__` that it alone says is a reference of that name
-abbrev pub named_faults : Span → Option (List ℕ) → List TreeFault
-named_faults s None = faults.Place s.start ∷ []
-named_faults s (Some name) = fault_if (not (is_proto name)) (faults.Name s.start)
+-- the value of a property `__proto__` that it alone says is a reference that is printed so
+abbrev pub named_faults : Tables → Span → Option Named → List TreeFault
+named_faults tables s None = faults.Place s.start ∷ []
+named_faults tables s (Some name) = fault_if (not (is_proto (printed_name tables name))) (faults.Name s.start)
 
-abbrev pub shorthand_faults : Bool → Tree → Tree → List TreeFault
-shorthand_faults shorthand key value = if shorthand && option_map_or is_proto (written_name_in key) false then named_faults (span_of value) (reference_in (without_parentheses value)) else []
+abbrev pub shorthand_faults : Tables → Bool → Tree → Tree → List TreeFault
+shorthand_faults tables shorthand key value = if shorthand && option_map_or is_proto (written_name_in key) false then named_faults tables (span_of value) (looked_up_in (without_parentheses value)) else []
 
 -- `super` is an expression that a link follows (ECMA-262, 13.3.7)
 abbrev pub is_super : NodeType → Bool
@@ -149,6 +182,39 @@ chain_faults s element = fault_if (not (has_optional_link element)) (faults.Plac
 -- what is changed has none (ECMA-262, 13.3.1.1)
 abbrev pub target_faults : Tree → List TreeFault
 target_faults target = fault_if (has_optional_link target) (faults.Place (span_of target).start)
+
+-- ---- comments (ECMA-262, 12.4 and B.1.1)
+
+-- the text begins so, and what follows holds
+abbrev pub begins_with : List ℕ → (List ℕ → Bool) → List ℕ → Bool
+begins_with [] holds cs = holds cs
+begins_with (m ∷ mark) holds [] = false
+begins_with (m ∷ mark) holds (c ∷ cs) = (m == c) && begins_with mark holds cs
+
+-- the first `*/` is the end of the text
+abbrev pub ends_at_close : List ℕ → Bool
+ends_at_close [] = false
+ends_at_close (c ∷ []) = false
+ends_at_close (c ∷ d ∷ []) = (c == 42) && (d == 47)
+ends_at_close (c ∷ d ∷ e ∷ cs) = not ((c == 42) && (d == 47)) && ends_at_close (d ∷ e ∷ cs)
+
+-- the text is a comment of this kind
+abbrev pub is_comment : CommentKind → List ℕ → Bool
+is_comment comments.Line cs = begins_with (codes "//") (λ rest. not (has_line_end rest)) cs
+is_comment comments.HtmlOpen cs = begins_with (codes "<!--") (λ rest. not (has_line_end rest)) cs
+is_comment comments.HtmlClose cs = begins_with (codes "-->") (λ rest. not (has_line_end rest)) cs
+is_comment comments.SingleLineBlock cs = begins_with (codes "/*") (λ rest. not (has_line_end rest) && ends_at_close rest) cs
+is_comment comments.MultiLineBlock cs = begins_with (codes "/*") (λ rest. has_line_end rest && ends_at_close rest) cs
+
+-- the characters that a span has in these bytes
+abbrev pub text_at : List ℕ → Span → List ℕ
+text_at bytes s = chars (take (s.end - s.start) (drop s.start bytes))
+
+-- a comment is one of its kind in the source
+abbrev pub comment_faults : List ℕ → Span → CommentKind → List TreeFault
+comment_faults source s kind = fault_if (not (spans_characters (encode_utf8_all source) s && is_comment kind (text_at (encode_utf8_all source) s))) (faults.Comment s.start)
+
+-- ---- sources
 
 -- offsets of the source don't fit 32 bits
 abbrev pub is_too_long : List ℕ → Bool
@@ -192,11 +258,12 @@ indent_faults options t = fault_if (if options.minify then false else passes_lev
 
 -- a row's rules of its own
 abbrev pub own_faults : Surroundings → Tree → List TreeFault
-own_faults around (tree.program a directives body) = source_faults a.span around.source ++ indent_faults around.options (tree.program a directives body)
+own_faults around (tree.program a comments directives body) = source_faults a.span around.source ++ indent_faults around.options (tree.program a comments directives body)
+own_faults around (tree.comment a) = comment_faults around.source a.span (comment_kind a)
 own_faults around (tree.directive a) = directive_faults a.span (as_text (directive_directive a))
 own_faults around (tree.variable_declaration a declarations) = declaration_faults a.span declarations
-own_faults around (tree.binding_identifier a) = name_faults a.span (binding_identifier_name a)
-own_faults around (tree.identifier_reference a) = name_faults a.span (identifier_reference_name a)
+own_faults around (tree.binding_identifier a) = name_faults around.tables a.span (binding_named a)
+own_faults around (tree.identifier_reference a) = name_faults around.tables a.span (reference_named a)
 own_faults around (tree.numeric_literal a) = number_faults a.span (numeric_literal_kind a) (numeric_literal_text a)
 own_faults around (tree.big_int_literal a) = big_integer_faults a.span (big_int_literal_value a)
 own_faults around (tree.if_statement a test consequent alternate) = body_faults consequent ++ alternate_faults alternate
@@ -207,7 +274,7 @@ own_faults around (tree.call a callee arguments) = super_faults (call_expression
 own_faults around (tree.chain a element) = chain_faults a.span element
 own_faults around (tree.update a argument) = target_faults argument
 own_faults around (tree.assignment a left right) = target_faults left
-own_faults around (tree.object_property a key value) = key_faults (object_property_computed a) key ++ shorthand_faults (object_property_shorthand a) key value
+own_faults around (tree.object_property a key value) = key_faults (object_property_computed a) key ++ shorthand_faults around.tables (object_property_shorthand a) key value
 own_faults around (tree.sequence a expressions) = sequence_faults a.span expressions
 own_faults around t = []
 
@@ -252,7 +319,7 @@ other_places (p ∷ ps) = ps
 abbrev mutual
   -- what is asked of a tree: its span, its own rules, and its children, each at its place
   pub breaches : Surroundings → Tree → List TreeFault
-  breaches around (node type a slots) = span_faults a.span ++ own_faults around (node type a slots) ++ in_slots around (child_places around (node type a slots)) slots
+  breaches around (node type a slots) = span_faults around a.span ++ own_faults around (node type a slots) ++ in_slots around (child_places around (node type a slots)) slots
 
   pub in_slots : Surroundings → List ChildPlace → Slots → List TreeFault
   in_slots around places no_slots = []
@@ -277,11 +344,11 @@ abbrev mutual
 -- ---- jobs
 
 abbrev pub source_of : Tree → List ℕ
-source_of (tree.program a directives body) = program_source a
+source_of (tree.program a comments directives body) = program_source a
 source_of t = []
 
 abbrev pub surroundings_of : JobData → Surroundings
-surroundings_of job = record { options = job.options; tables = job.tables; source = source_of job.program }
+surroundings_of job = record { options = job.options; tables = job.tables; source = source_of job.program; is_mapped = is_some job.options.source_map_path }
 
 abbrev pub job_breaches : JobData → List TreeFault
 job_breaches job = breaches (surroundings_of job) job.program
@@ -295,7 +362,7 @@ IsValid job = job_breaches job ≡ []
 -- An expression by itself is checked as that of the one statement of a module, where `super` has no place. It has no source, and
 -- its own height counts
 abbrev pub expression_breaches : Options → Tables → Tree → List TreeFault
-expression_breaches options tables t = set_faults sets.Expression t ++ breaches (record { options = options; tables = tables; source = [] }) t ++ indent_faults options t
+expression_breaches options tables t = set_faults sets.Expression t ++ breaches (record { options = options; tables = tables; source = []; is_mapped = false }) t ++ indent_faults options t
 
 -- no rule is broken by the expression, under these options and tables
 abbrev pub IsValidExpression : Options → Tables → Tree → Type 0

@@ -26,6 +26,7 @@ fn is_in_statements(node_type: NodeType) -> bool
     matches!(
         &node_type,
         NodeType::Program
+            | NodeType::Comment
             | NodeType::Directive
             | NodeType::VariableDeclaration
             | NodeType::VariableDeclarator

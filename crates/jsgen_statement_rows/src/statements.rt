@@ -2,7 +2,7 @@
 // Rows of a job: programs, statements and declarations (ECMA-262, clauses 14 and 16).
 ghost use Rattle.std.specs.Prelude.{◌≡◌, true};
 ghost use Rattle.serde_json.specs.View.{view};
-ghost use Rattle.jsgen_tree.specs.Fields.{program_fields, directive_fields, variable_declaration_fields, variable_declarator_fields, binding_identifier_fields, expression_statement_fields, block_statement_fields, if_statement_fields, empty_statement_fields};
+ghost use Rattle.jsgen_tree.specs.Fields.{program_fields, comment_fields, directive_fields, variable_declaration_fields, variable_declarator_fields, binding_identifier_fields, expression_statement_fields, block_statement_fields, if_statement_fields, empty_statement_fields};
 ghost use Rattle.jsgen_fields.specs.Reads.{Gives, read_node, read_typed};
 ghost use Rattle.jsgen_fields.specs.Kept.{entries, row_plain};
 ghost use Rattle.jsgen_fields.specs.Parts.{is_in_statements};
@@ -12,19 +12,12 @@ use jsgen_fields::InputFault;
 use jsgen_fields::fields::boxed;
 use jsgen_fields::kept::{ReadNode, Row, binding_pattern_row, declaration_row, statement_row};
 use jsgen_fields::others::OtherStatement;
-use jsgen_fields::set_fields::{
-    directive_list, needed_binding_pattern, needed_expression, needed_statement,
-    optional_expression, optional_statement, statement_list, variable_declarator_list,
-};
-use jsgen_fields::values::{field_not_given, needed_text, neither_given, optional_text};
-use jsgen_fields::words::{needed_declaration_kind, needed_source_kind};
+use jsgen_fields::set_fields::{comment_list, directive_list, needed_binding_pattern, needed_expression, needed_statement, optional_expression, optional_statement, statement_list, variable_declarator_list};
+use jsgen_fields::values::{field_not_given, needed_number, needed_text, neither_given, optional_flag, optional_number, optional_text};
+use jsgen_fields::words::{needed_content_of_comment, needed_declaration_kind, needed_kind_of_comment, needed_source_kind};
 use jsgen_pool::Kept;
 use jsgen_syntax::Span;
-use jsgen_tree::{
-    BindingIdentifier, BindingPattern, BlockStatement, Declaration, Directive, EmptyStatement,
-    ExpressionStatement, IfStatement, NodeType, Program, Statement, VariableDeclaration,
-    VariableDeclarator,
-};
+use jsgen_tree::{BindingIdentifier, BindingPattern, BlockStatement, Comment, Declaration, Directive, EmptyStatement, ExpressionStatement, IfStatement, NodeType, Program, Statement, VariableDeclaration, VariableDeclarator};
 use serde_json::Value;
 use std::alloc::Global;
 
@@ -51,7 +44,11 @@ fn read_program<N: ReadNode + Drop>(
         Ok(()) => {}
         Err(fault) => return Err(fault),
     }
-    match neither_given(number, 6, row, "comments", "hashbang") {
+    let comments = match comment_list(alloc, kept, number, 6, row, "comments") {
+        Ok(comments) => comments,
+        Err(fault) => return Err(fault),
+    };
+    match field_not_given(number, 7, row, "hashbang") {
         Ok(()) => {}
         Err(fault) => return Err(fault),
     }
@@ -63,15 +60,52 @@ fn read_program<N: ReadNode + Drop>(
         Ok(body) => body,
         Err(fault) => return Err(fault),
     };
-    let node = Program {
-        span,
-        source,
-        kind,
-        directives,
-        body,
-    };
+    let node = Program { span, source, kind, comments, directives, body };
     match boxed(alloc, node) {
         Ok(node) => Ok(Row::Program(node)),
+        Err(fault) => Err(fault),
+    }
+}
+
+#[tactic(auto, unfolding(jsgen_fields::specs::Reads::read_node))]
+fn read_comment<N: ReadNode + Drop>(
+    alloc: Global,
+    kept: &mut Vec<Kept<Row<N>>>,
+    number: usize,
+    span: Span,
+    row: &Value,
+) -> Result<Row<N>, InputFault>
+    ensures { Gives (row_plain N.plain) result (entries N.plain kept.new.items)
+        (read_node number types.Comment comment_fields span (view row.now) (entries N.plain kept.old.items)) }
+{
+    let _ = kept;
+    let kind = match needed_kind_of_comment(number, 2, row, "kind") {
+        Ok(kind) => kind,
+        Err(fault) => return Err(fault),
+    };
+    let content = match needed_content_of_comment(number, 3, row, "content") {
+        Ok(content) => content,
+        Err(fault) => return Err(fault),
+    };
+    let leading = match optional_flag(number, 4, row, "leading") {
+        Ok(leading) => leading,
+        Err(fault) => return Err(fault),
+    };
+    let attached_to = match needed_number(number, 5, row, "attached_to") {
+        Ok(attached_to) => attached_to,
+        Err(fault) => return Err(fault),
+    };
+    let preceded_by_newline = match optional_flag(number, 6, row, "preceded_by_newline") {
+        Ok(preceded_by_newline) => preceded_by_newline,
+        Err(fault) => return Err(fault),
+    };
+    let followed_by_newline = match optional_flag(number, 7, row, "followed_by_newline") {
+        Ok(followed_by_newline) => followed_by_newline,
+        Err(fault) => return Err(fault),
+    };
+    let node = Comment { span, kind, content, leading, attached_to, preceded_by_newline, followed_by_newline };
+    match boxed(alloc, node) {
+        Ok(node) => Ok(Row::Comment(node)),
         Err(fault) => Err(fault),
     }
 }
@@ -122,11 +156,7 @@ fn read_variable_declaration<N: ReadNode + Drop>(
         Ok(declarations) => declarations,
         Err(fault) => return Err(fault),
     };
-    let node = VariableDeclaration {
-        span,
-        kind,
-        declarations,
-    };
+    let node = VariableDeclaration { span, kind, declarations };
     match boxed(alloc, node) {
         Ok(node) => declaration_row(alloc, Declaration::VariableDeclaration(node)),
         Err(fault) => Err(fault),
@@ -179,11 +209,11 @@ fn read_binding_identifier<N: ReadNode + Drop>(
         Ok(name) => name,
         Err(fault) => return Err(fault),
     };
-    match field_not_given(number, 3, row, "symbol") {
-        Ok(()) => {}
+    let symbol = match optional_number(number, 3, row, "symbol") {
+        Ok(symbol) => symbol,
         Err(fault) => return Err(fault),
-    }
-    let node = BindingIdentifier { span, name };
+    };
+    let node = BindingIdentifier { span, name, symbol };
     match boxed(alloc, node) {
         Ok(node) => binding_pattern_row(alloc, BindingPattern::BindingIdentifier(node)),
         Err(fault) => Err(fault),
@@ -207,12 +237,7 @@ fn read_expression_statement<N: ReadNode + Drop>(
     };
     let node = ExpressionStatement { span, expression };
     match boxed(alloc, node) {
-        Ok(node) => statement_row(
-            alloc,
-            OtherStatement {
-                statement: Statement::ExpressionStatement(node),
-            },
-        ),
+        Ok(node) => statement_row(alloc, OtherStatement { statement: Statement::ExpressionStatement(node) }),
         Err(fault) => Err(fault),
     }
 }
@@ -234,12 +259,7 @@ fn read_block_statement<N: ReadNode + Drop>(
     };
     let node = BlockStatement { span, body };
     match boxed(alloc, node) {
-        Ok(node) => statement_row(
-            alloc,
-            OtherStatement {
-                statement: Statement::BlockStatement(node),
-            },
-        ),
+        Ok(node) => statement_row(alloc, OtherStatement { statement: Statement::BlockStatement(node) }),
         Err(fault) => Err(fault),
     }
 }
@@ -267,19 +287,9 @@ fn read_if_statement<N: ReadNode + Drop>(
         Ok(alternate) => alternate,
         Err(fault) => return Err(fault),
     };
-    let node = IfStatement {
-        span,
-        test,
-        consequent,
-        alternate,
-    };
+    let node = IfStatement { span, test, consequent, alternate };
     match boxed(alloc, node) {
-        Ok(node) => statement_row(
-            alloc,
-            OtherStatement {
-                statement: Statement::IfStatement(node),
-            },
-        ),
+        Ok(node) => statement_row(alloc, OtherStatement { statement: Statement::IfStatement(node) }),
         Err(fault) => Err(fault),
     }
 }
@@ -300,12 +310,7 @@ fn read_empty_statement<N: ReadNode + Drop>(
     let _ = row;
     let node = EmptyStatement { span };
     match boxed(alloc, node) {
-        Ok(node) => statement_row(
-            alloc,
-            OtherStatement {
-                statement: Statement::EmptyStatement(node),
-            },
-        ),
+        Ok(node) => statement_row(alloc, OtherStatement { statement: Statement::EmptyStatement(node) }),
         Err(fault) => Err(fault),
     }
 }
@@ -325,6 +330,7 @@ pub fn read_in_statements<N: ReadNode + Drop>(
 {
     match node_type {
         NodeType::Program => read_program(alloc, kept, number, span, row),
+        NodeType::Comment => read_comment(alloc, kept, number, span, row),
         NodeType::Directive => read_directive(alloc, kept, number, span, row),
         NodeType::VariableDeclaration => read_variable_declaration(alloc, kept, number, span, row),
         NodeType::VariableDeclarator => read_variable_declarator(alloc, kept, number, span, row),

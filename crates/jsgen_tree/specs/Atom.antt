@@ -1,6 +1,8 @@
 -- Generated from tools/nodes/table.txt; edit that and run tools/nodes/generate.
 -- A value that a node holds itself.
 use Rattle.std.specs.Prelude.{ℕ, List, Bool}
+use Rattle.jsgen_tree.specs.declared.statements.CommentKind.{CommentKind}
+use Rattle.jsgen_tree.specs.declared.statements.CommentContent.{CommentContent}
 use Rattle.jsgen_syntax.specs.declared.span.SourceKind.{SourceKind}
 use Rattle.jsgen_tree.specs.declared.statements.VariableDeclarationKind.{VariableDeclarationKind}
 use Rattle.jsgen_tree.specs.Number.{NumericKind}
@@ -20,6 +22,8 @@ pub data Atom : Type 0 where
   digits : ℕ → Atom
   number : ℕ → Atom
   flag : Bool → Atom
+  kind_of_comment : CommentKind → Atom
+  content_of_comment : CommentContent → Atom
   source_kind : SourceKind → Atom
   declaration_kind : VariableDeclarationKind → Atom
   numeric_kind : NumericKind → Atom

@@ -7,6 +7,8 @@ use Rattle.jsgen_tree.specs.declared.types.NodeType.TheVariants as types
 use Rattle.jsgen_tree.specs.declared.types.NodeSet.TheVariants as sets
 use Rattle.jsgen_tree.specs.Table as sorts
 use Rattle.jsgen_tree.specs.Atom as atoms
+use Rattle.jsgen_tree.specs.declared.statements.CommentKind.TheVariants as kind_of_comments
+use Rattle.jsgen_tree.specs.declared.statements.CommentContent.TheVariants as content_of_comments
 use Rattle.jsgen_syntax.specs.declared.span.SourceKind.TheVariants as source_kinds
 use Rattle.jsgen_tree.specs.declared.statements.VariableDeclarationKind.TheVariants as declaration_kinds
 use Rattle.jsgen_tree.specs.Number as numeric_kinds
@@ -18,6 +20,12 @@ use Rattle.jsgen_syntax.specs.declared.operator.UpdateOperator.TheVariants as up
 use Rattle.jsgen_syntax.specs.declared.operator.AssignmentOperator.TheVariants as assignment_operators
 
 -- ---- words
+
+abbrev pub kind_of_comment_words : List Word
+kind_of_comment_words = means (codes "line") (atoms.kind_of_comment kind_of_comments.Line) ∷ means (codes "block") (atoms.kind_of_comment kind_of_comments.SingleLineBlock) ∷ means (codes "multiline") (atoms.kind_of_comment kind_of_comments.MultiLineBlock) ∷ means (codes "htmlopen") (atoms.kind_of_comment kind_of_comments.HtmlOpen) ∷ means (codes "htmlclose") (atoms.kind_of_comment kind_of_comments.HtmlClose) ∷ []
+
+abbrev pub content_of_comment_words : List Word
+content_of_comment_words = means (codes "normal") (atoms.content_of_comment content_of_comments.Normal) ∷ means (codes "legal") (atoms.content_of_comment content_of_comments.Legal) ∷ means (codes "jsdoc") (atoms.content_of_comment content_of_comments.Jsdoc) ∷ means (codes "jsdoclegal") (atoms.content_of_comment content_of_comments.JsdocLegal) ∷ means (codes "pure") (atoms.content_of_comment content_of_comments.Pure) ∷ means (codes "nosideeffects") (atoms.content_of_comment content_of_comments.NoSideEffects) ∷ means (codes "webpack") (atoms.content_of_comment content_of_comments.Webpack) ∷ means (codes "vite") (atoms.content_of_comment content_of_comments.Vite) ∷ means (codes "propertykey") (atoms.content_of_comment content_of_comments.PropertyKey) ∷ means (codes "coverage") (atoms.content_of_comment content_of_comments.CoverageIgnore) ∷ means (codes "coveragefile") (atoms.content_of_comment content_of_comments.CoverageIgnoreFile) ∷ []
 
 abbrev pub source_kind_words : List Word
 source_kind_words = means (codes "module") (atoms.source_kind source_kinds.Module) ∷ []
@@ -49,7 +57,10 @@ assignment_operator_words = means (codes "=") (atoms.assignment_operator assignm
 -- ---- fields: one list for each type, in the order of their numbers, from 2 on
 
 abbrev pub program_fields : List Field
-program_fields = has_by_default (atoms.text []) (codes "source") sorts.text ∷ needs (codes "kind") (sorts.word source_kind_words) ∷ not_yet (codes "jsx") sorts.flag ∷ not_yet (codes "typescript") sorts.flag ∷ not_yet (codes "comments") sorts.unread_child ∷ not_yet (codes "hashbang") sorts.unread_child ∷ may_have (codes "directives") (sorts.children sets.Directive) ∷ may_have (codes "body") (sorts.children sets.Statement) ∷ []
+program_fields = has_by_default (atoms.text []) (codes "source") sorts.text ∷ needs (codes "kind") (sorts.word source_kind_words) ∷ not_yet (codes "jsx") sorts.flag ∷ not_yet (codes "typescript") sorts.flag ∷ may_have (codes "comments") (sorts.children sets.Comment) ∷ not_yet (codes "hashbang") sorts.unread_child ∷ may_have (codes "directives") (sorts.children sets.Directive) ∷ may_have (codes "body") (sorts.children sets.Statement) ∷ []
+
+abbrev pub comment_fields : List Field
+comment_fields = needs (codes "kind") (sorts.word kind_of_comment_words) ∷ needs (codes "content") (sorts.word content_of_comment_words) ∷ has_by_default (atoms.flag false) (codes "leading") sorts.flag ∷ needs (codes "attached_to") sorts.number ∷ has_by_default (atoms.flag false) (codes "preceded_by_newline") sorts.flag ∷ has_by_default (atoms.flag false) (codes "followed_by_newline") sorts.flag ∷ []
 
 abbrev pub directive_fields : List Field
 directive_fields = needs (codes "directive") sorts.text ∷ []
@@ -61,7 +72,7 @@ abbrev pub variable_declarator_fields : List Field
 variable_declarator_fields = needs (codes "id") (sorts.child sets.BindingPattern) ∷ not_yet (codes "definite") sorts.flag ∷ not_yet (codes "type_annotation") sorts.unread_child ∷ may_have (codes "init") (sorts.child sets.Expression) ∷ []
 
 abbrev pub binding_identifier_fields : List Field
-binding_identifier_fields = needs (codes "name") sorts.text ∷ not_yet (codes "symbol") sorts.number ∷ []
+binding_identifier_fields = needs (codes "name") sorts.text ∷ may_have (codes "symbol") sorts.number ∷ []
 
 abbrev pub expression_statement_fields : List Field
 expression_statement_fields = needs (codes "expression") (sorts.child sets.Expression) ∷ []
@@ -76,7 +87,7 @@ abbrev pub empty_statement_fields : List Field
 empty_statement_fields = []
 
 abbrev pub identifier_reference_fields : List Field
-identifier_reference_fields = needs (codes "name") sorts.text ∷ not_yet (codes "reference") sorts.number ∷ []
+identifier_reference_fields = needs (codes "name") sorts.text ∷ may_have (codes "reference") sorts.number ∷ []
 
 abbrev pub this_expression_fields : List Field
 this_expression_fields = []
@@ -170,6 +181,7 @@ arrow_function_expression_fields = not_yet (codes "is_async") sorts.flag ∷ has
 
 abbrev pub fields : NodeType → List Field
 fields types.Program = program_fields
+fields types.Comment = comment_fields
 fields types.Directive = directive_fields
 fields types.VariableDeclaration = variable_declaration_fields
 fields types.VariableDeclarator = variable_declarator_fields

@@ -1,9 +1,10 @@
 -- What a statement ends in, what stands within the parentheses of an expression, what a link goes on from, which name a node is, and whether a number is negative.
 use Rattle.std.specs.Prelude.{◌≡◌, ◌==◌, ℕ, List, [], ◌∷◌, Bool, true, false, Option, Some, None, is_some, option_and_then, codes, if◌then◌else◌, ◌||◌}
 use Rattle.std.specs.Str.{bytes_eq}
-use Rattle.jsgen_tree.specs.Tree.{Tree, absent, given, type_of}
+use Rattle.jsgen_tree.specs.Tree.{Tree, Atoms, absent, given, type_of}
 use Rattle.jsgen_tree.specs.Nodes.{parenthesized, if_statement, identifier_reference, identifier_name, numeric_literal, big_int_literal, static_member, computed_member, call}
-use Rattle.jsgen_tree.specs.Values.{identifier_reference_name, identifier_name_name, numeric_literal_negative, big_int_literal_value, static_member_expression_optional, computed_member_expression_optional, call_expression_optional}
+use Rattle.jsgen_tree.specs.Named.{Named, looked_up, bound}
+use Rattle.jsgen_tree.specs.Values.{identifier_reference_name, identifier_reference_reference, binding_identifier_name, binding_identifier_symbol, identifier_name_name, numeric_literal_negative, big_int_literal_value, static_member_expression_optional, computed_member_expression_optional, call_expression_optional}
 use Rattle.jsgen_tree.specs.Sets.{is_expression}
 
 -- a statement ends in an `if` without `else`
@@ -34,6 +35,17 @@ has_optional_link t = false
 abbrev pub reference_in : Tree → Option (List ℕ)
 reference_in (identifier_reference a) = Some (identifier_reference_name a)
 reference_in t = None
+
+-- the same name, as it is looked up
+abbrev pub reference_named : Atoms → Named
+reference_named a = looked_up (identifier_reference_reference a) (identifier_reference_name a)
+
+abbrev pub binding_named : Atoms → Named
+binding_named a = bound (binding_identifier_symbol a) (binding_identifier_name a)
+
+abbrev pub looked_up_in : Tree → Option Named
+looked_up_in (identifier_reference a) = Some (reference_named a)
+looked_up_in t = None
 
 -- the name that stands there as it is written
 abbrev pub written_name_in : Tree → Option (List ℕ)

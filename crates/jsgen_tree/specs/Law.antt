@@ -1,20 +1,21 @@
 -- Generated from tools/nodes/table.txt; edit that and run tools/nodes/generate.
 -- What is promised of the names of fields.
 use Rattle.std.specs.Prelude.{◌≡◌, codes}
-use Rattle.jsgen_tree.specs.Tree.{Atoms, optional}
+use Rattle.jsgen_tree.specs.Tree.{Atoms}
 use Rattle.jsgen_tree.specs.Table.{value_named}
 use Rattle.jsgen_tree.specs.Fields.{fields}
-use Rattle.jsgen_tree.specs.Values.{as_text, as_units, as_digits, as_flag, as_source_kind, as_declaration_kind, as_numeric_kind, as_binary_operator, as_logical_operator, as_property_kind, as_unary_operator, as_update_operator, as_assignment_operator, program_source, program_kind, program_jsx, program_typescript, directive_directive, variable_declaration_kind, variable_declaration_declare, variable_declarator_definite, binding_identifier_name, binding_identifier_symbol, identifier_reference_name, identifier_reference_reference, boolean_literal_value, numeric_literal_kind, numeric_literal_negative, numeric_literal_digits, numeric_literal_text, big_int_literal_value, string_literal_value, binary_expression_operator, logical_expression_operator, identifier_name_name, static_member_expression_optional, computed_member_expression_optional, call_expression_optional, call_expression_pure, object_property_kind, object_property_method, object_property_shorthand, object_property_computed, unary_expression_operator, update_expression_operator, update_expression_prefix, new_expression_pure, assignment_expression_operator, formal_parameter_is_override, formal_parameter_readonly, formal_parameter_optional, arrow_function_expression_is_async, arrow_function_expression_pure, arrow_function_expression_pife}
+use Rattle.jsgen_tree.specs.Values.{as_text, as_units, as_digits, as_number, as_flag, as_kind_of_comment, as_content_of_comment, as_source_kind, as_declaration_kind, as_numeric_kind, as_binary_operator, as_logical_operator, as_property_kind, as_unary_operator, as_update_operator, as_assignment_operator, as_number_if_given, program_source, program_kind, program_jsx, program_typescript, comment_kind, comment_content, comment_leading, comment_attached_to, comment_preceded_by_newline, comment_followed_by_newline, directive_directive, variable_declaration_kind, variable_declaration_declare, variable_declarator_definite, binding_identifier_name, binding_identifier_symbol, identifier_reference_name, identifier_reference_reference, boolean_literal_value, numeric_literal_kind, numeric_literal_negative, numeric_literal_digits, numeric_literal_text, big_int_literal_value, string_literal_value, binary_expression_operator, logical_expression_operator, identifier_name_name, static_member_expression_optional, computed_member_expression_optional, call_expression_optional, call_expression_pure, object_property_kind, object_property_method, object_property_shorthand, object_property_computed, unary_expression_operator, update_expression_operator, update_expression_prefix, new_expression_pure, assignment_expression_operator, formal_parameter_is_override, formal_parameter_readonly, formal_parameter_optional, arrow_function_expression_is_async, arrow_function_expression_pure, arrow_function_expression_pife}
 use Rattle.jsgen_tree.specs.declared.types.NodeType.TheVariants as types
 
 -- each value is that of the field of its name
 pub record FieldsAreNamed : Type 0 where
   pub program : (a : Atoms) → (program_source a ≡ as_text (value_named (codes "source") (fields types.Program) a.values)) × (program_kind a ≡ as_source_kind (value_named (codes "kind") (fields types.Program) a.values)) × (program_jsx a ≡ value_named (codes "jsx") (fields types.Program) a.values) × (program_typescript a ≡ value_named (codes "typescript") (fields types.Program) a.values)
+  pub comment : (a : Atoms) → (comment_kind a ≡ as_kind_of_comment (value_named (codes "kind") (fields types.Comment) a.values)) × (comment_content a ≡ as_content_of_comment (value_named (codes "content") (fields types.Comment) a.values)) × (comment_leading a ≡ as_flag (value_named (codes "leading") (fields types.Comment) a.values)) × (comment_attached_to a ≡ as_number (value_named (codes "attached_to") (fields types.Comment) a.values)) × (comment_preceded_by_newline a ≡ as_flag (value_named (codes "preceded_by_newline") (fields types.Comment) a.values)) × (comment_followed_by_newline a ≡ as_flag (value_named (codes "followed_by_newline") (fields types.Comment) a.values))
   pub directive : (a : Atoms) → directive_directive a ≡ value_named (codes "directive") (fields types.Directive) a.values
   pub variable_declaration : (a : Atoms) → (variable_declaration_kind a ≡ as_declaration_kind (value_named (codes "kind") (fields types.VariableDeclaration) a.values)) × (variable_declaration_declare a ≡ value_named (codes "declare") (fields types.VariableDeclaration) a.values)
   pub variable_declarator : (a : Atoms) → variable_declarator_definite a ≡ value_named (codes "definite") (fields types.VariableDeclarator) a.values
-  pub binding_identifier : (a : Atoms) → (binding_identifier_name a ≡ as_text (value_named (codes "name") (fields types.BindingIdentifier) a.values)) × (binding_identifier_symbol a ≡ value_named (codes "symbol") (fields types.BindingIdentifier) a.values)
-  pub identifier_reference : (a : Atoms) → (identifier_reference_name a ≡ as_text (value_named (codes "name") (fields types.IdentifierReference) a.values)) × (identifier_reference_reference a ≡ value_named (codes "reference") (fields types.IdentifierReference) a.values)
+  pub binding_identifier : (a : Atoms) → (binding_identifier_name a ≡ as_text (value_named (codes "name") (fields types.BindingIdentifier) a.values)) × (binding_identifier_symbol a ≡ as_number_if_given (value_named (codes "symbol") (fields types.BindingIdentifier) a.values))
+  pub identifier_reference : (a : Atoms) → (identifier_reference_name a ≡ as_text (value_named (codes "name") (fields types.IdentifierReference) a.values)) × (identifier_reference_reference a ≡ as_number_if_given (value_named (codes "reference") (fields types.IdentifierReference) a.values))
   pub boolean_literal : (a : Atoms) → boolean_literal_value a ≡ as_flag (value_named (codes "value") (fields types.BooleanLiteral) a.values)
   pub numeric_literal : (a : Atoms) → (numeric_literal_kind a ≡ as_numeric_kind (value_named (codes "kind") (fields types.NumericLiteral) a.values)) × (numeric_literal_negative a ≡ as_flag (value_named (codes "negative") (fields types.NumericLiteral) a.values)) × (numeric_literal_digits a ≡ as_digits (value_named (codes "digits") (fields types.NumericLiteral) a.values)) × (numeric_literal_text a ≡ as_text (value_named (codes "text") (fields types.NumericLiteral) a.values))
   pub big_int_literal : (a : Atoms) → big_int_literal_value a ≡ as_text (value_named (codes "value") (fields types.BigIntLiteral) a.values)

@@ -9,13 +9,15 @@ pub mod Width
 pub mod Table
 pub mod Fields
 pub mod Sets
+pub mod Job
+pub mod Named
 pub mod Inside
 pub mod Characters
 pub mod Rows
 pub mod Plain
 pub mod Spans
 pub mod Options
-pub mod Job
+pub mod Scoping
 pub mod Everywhere
 pub mod Law
 pub mod Signs

@@ -3,8 +3,11 @@
 use Rattle.jsgen_tree.specs.Tree.{Tree, Trees, Maybe, Atoms, node, no_slots, one, maybe, many}
 use Rattle.jsgen_tree.specs.declared.types.NodeType.TheVariants as types
 
-pattern abbrev pub program : Atoms → Trees → Trees → Tree
-program a directives body = node types.Program a (many directives (many body no_slots))
+pattern abbrev pub program : Atoms → Trees → Trees → Trees → Tree
+program a comments directives body = node types.Program a (many comments (many directives (many body no_slots)))
+
+pattern abbrev pub comment : Atoms → Tree
+comment a = node types.Comment a no_slots
 
 pattern abbrev pub directive : Atoms → Tree
 directive a = node types.Directive a no_slots

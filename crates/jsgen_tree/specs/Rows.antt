@@ -2,15 +2,16 @@
 -- The plain data of each struct and set, from that of what nests.
 use Rattle.std.specs.Prelude.{[], ◌∷◌, map, option_map}
 use Rattle.jsgen_syntax.specs.Units.{js_units}
-use Rattle.jsgen_tree.specs.Characters.{characters, numeric_values}
+use Rattle.jsgen_tree.specs.Characters.{characters, number_if_given, numeric_values}
 use Rattle.jsgen_tree.specs.Tree.{Tree, optional, trees, holed}
-use Rattle.jsgen_tree.specs.Atom.{no_value, text, units, flag, source_kind, declaration_kind, binary_operator, logical_operator, property_kind, unary_operator, update_operator, assignment_operator}
-use Rattle.jsgen_tree.specs.Nodes.{program, directive, variable_declaration, variable_declarator, binding_identifier, expression_statement, block, if_statement, empty_statement, identifier_reference, this_expression, null_literal, boolean_literal, numeric_literal, big_int_literal, string_literal, parenthesized, binary, logical, identifier_name, static_member, computed_member, call, chain, spread, array, object_property, object_expression, unary, new_target, update, new_expression, super, conditional, sequence, assignment, formal_parameter, formal_parameter_rest, formal_parameters, arrow_function}
+use Rattle.jsgen_tree.specs.Atom.{no_value, text, units, number, flag, kind_of_comment, content_of_comment, source_kind, declaration_kind, binary_operator, logical_operator, property_kind, unary_operator, update_operator, assignment_operator}
+use Rattle.jsgen_tree.specs.Nodes.{program, comment, directive, variable_declaration, variable_declarator, binding_identifier, expression_statement, block, if_statement, empty_statement, identifier_reference, this_expression, null_literal, boolean_literal, numeric_literal, big_int_literal, string_literal, parenthesized, binary, logical, identifier_name, static_member, computed_member, call, chain, spread, array, object_property, object_expression, unary, new_target, update, new_expression, super, conditional, sequence, assignment, formal_parameter, formal_parameter_rest, formal_parameters, arrow_function}
 use Rattle.jsgen_tree.specs.declared.nodes.ExpressionNode.{ExpressionNode}
 use Rattle.jsgen_tree.specs.declared.nodes.DeclarationNode.{DeclarationNode}
 use Rattle.jsgen_tree.specs.declared.nodes.StatementNode.{StatementNode}
 use Rattle.jsgen_tree.specs.declared.nodes.BindingPatternNode.{BindingPatternNode}
 use Rattle.jsgen_tree.specs.declared.statements.Program.{Program}
+use Rattle.jsgen_tree.specs.declared.statements.Comment.{Comment}
 use Rattle.jsgen_tree.specs.declared.statements.Directive.{Directive}
 use Rattle.jsgen_tree.specs.declared.statements.VariableDeclaration.{VariableDeclaration}
 use Rattle.jsgen_tree.specs.declared.statements.VariableDeclarator.{VariableDeclarator}
@@ -91,11 +92,14 @@ in_binding_pattern plain n = plain n.node
 
 -- ---- structs, and sets that don't nest
 
+abbrev pub comment_row : Comment → Tree
+comment_row n = comment (record { span = n.span; values = kind_of_comment n.kind ∷ content_of_comment n.content ∷ flag n.leading ∷ number n.attached_to ∷ flag n.preceded_by_newline ∷ flag n.followed_by_newline ∷ [] })
+
 abbrev pub directive_row : Directive → Tree
 directive_row n = directive (record { span = n.span; values = text (characters n.directive) ∷ [] })
 
 abbrev pub program_row : {N : Type 0} → (N → Tree) → Program N → Tree
-program_row plain n = program (record { span = n.span; values = text (characters n.source) ∷ source_kind n.kind ∷ no_value ∷ no_value ∷ [] }) (trees (map directive_row n.directives.items)) (trees (map (in_statement plain) n.body.items))
+program_row plain n = program (record { span = n.span; values = text (characters n.source) ∷ source_kind n.kind ∷ no_value ∷ no_value ∷ [] }) (trees (map comment_row n.comments.items)) (trees (map directive_row n.directives.items)) (trees (map (in_statement plain) n.body.items))
 
 abbrev pub variable_declarator_row : {N : Type 0} → (N → Tree) → VariableDeclarator N → Tree
 variable_declarator_row plain n = variable_declarator (record { span = n.span; values = no_value ∷ [] }) (in_binding_pattern plain n.id) (optional (option_map (in_expression plain) n.init))
@@ -104,7 +108,7 @@ abbrev pub variable_declaration_row : {N : Type 0} → (N → Tree) → Variable
 variable_declaration_row plain n = variable_declaration (record { span = n.span; values = declaration_kind n.kind ∷ no_value ∷ [] }) (trees (map (variable_declarator_row plain) n.declarations.items))
 
 abbrev pub binding_identifier_row : BindingIdentifier → Tree
-binding_identifier_row n = binding_identifier (record { span = n.span; values = text (characters n.name) ∷ no_value ∷ [] })
+binding_identifier_row n = binding_identifier (record { span = n.span; values = text (characters n.name) ∷ number_if_given n.symbol ∷ [] })
 
 abbrev pub expression_statement_row : {N : Type 0} → (N → Tree) → ExpressionStatement N → Tree
 expression_statement_row plain n = expression_statement (record { span = n.span; values = [] }) (in_expression plain n.expression)
@@ -119,7 +123,7 @@ abbrev pub empty_statement_row : EmptyStatement → Tree
 empty_statement_row n = empty_statement (record { span = n.span; values = [] })
 
 abbrev pub identifier_reference_row : IdentifierReference → Tree
-identifier_reference_row n = identifier_reference (record { span = n.span; values = text (characters n.name) ∷ no_value ∷ [] })
+identifier_reference_row n = identifier_reference (record { span = n.span; values = text (characters n.name) ∷ number_if_given n.reference ∷ [] })
 
 abbrev pub this_expression_row : ThisExpression → Tree
 this_expression_row n = this_expression (record { span = n.span; values = [] })

@@ -160,6 +160,10 @@ abbrev pub is_binding_pattern : NodeType → Bool
 is_binding_pattern types.BindingIdentifier = true
 is_binding_pattern other = false
 
+abbrev pub is_comment : NodeType → Bool
+is_comment types.Comment = true
+is_comment other = false
+
 abbrev pub is_directive : NodeType → Bool
 is_directive types.Directive = true
 is_directive other = false
@@ -185,6 +189,7 @@ is_formal_parameters types.FormalParameters = true
 is_formal_parameters other = false
 
 abbrev pub in_set : NodeSet → NodeType → Bool
+in_set sets.Comment t = is_comment t
 in_set sets.Directive t = is_directive t
 in_set sets.Statement t = is_statement t
 in_set sets.VariableDeclarator t = is_variable_declarator t

@@ -1,6 +1,8 @@
 -- Generated from tools/nodes/table.txt; edit that and run tools/nodes/generate.
 -- The values of a node, by the field that holds them. Each reads the place that its field has in the table of fields (specs/Fields.antt): `FieldsAreNamed` says so.
-use Rattle.std.specs.Prelude.{ℕ, List, [], Bool, false}
+use Rattle.std.specs.Prelude.{ℕ, List, [], Bool, false, Option, Some, None}
+use Rattle.jsgen_tree.specs.declared.statements.CommentKind.{CommentKind}
+use Rattle.jsgen_tree.specs.declared.statements.CommentContent.{CommentContent}
 use Rattle.jsgen_syntax.specs.declared.span.SourceKind.{SourceKind}
 use Rattle.jsgen_tree.specs.declared.statements.VariableDeclarationKind.{VariableDeclarationKind}
 use Rattle.jsgen_tree.specs.Number.{NumericKind}
@@ -10,9 +12,11 @@ use Rattle.jsgen_tree.specs.declared.collections.PropertyKind.{PropertyKind}
 use Rattle.jsgen_syntax.specs.declared.operator.UnaryOperator.{UnaryOperator}
 use Rattle.jsgen_syntax.specs.declared.operator.UpdateOperator.{UpdateOperator}
 use Rattle.jsgen_syntax.specs.declared.operator.AssignmentOperator.{AssignmentOperator}
-use Rattle.jsgen_tree.specs.Atom.{Atom, text, units, digits, flag, source_kind, declaration_kind, numeric_kind, binary_operator, logical_operator, property_kind, unary_operator, update_operator, assignment_operator}
+use Rattle.jsgen_tree.specs.Atom.{Atom, text, units, digits, number, flag, kind_of_comment, content_of_comment, source_kind, declaration_kind, numeric_kind, binary_operator, logical_operator, property_kind, unary_operator, update_operator, assignment_operator}
 use Rattle.jsgen_tree.specs.Tree.{Atoms}
 use Rattle.jsgen_tree.specs.Places.{value_at}
+use Rattle.jsgen_tree.specs.declared.statements.CommentKind.TheVariants as kind_of_comments
+use Rattle.jsgen_tree.specs.declared.statements.CommentContent.TheVariants as content_of_comments
 use Rattle.jsgen_syntax.specs.declared.span.SourceKind.TheVariants as source_kinds
 use Rattle.jsgen_tree.specs.declared.statements.VariableDeclarationKind.TheVariants as declaration_kinds
 use Rattle.jsgen_tree.specs.Number as numeric_kinds
@@ -37,9 +41,21 @@ abbrev pub as_digits : Atom → ℕ
 as_digits (digits x) = x
 as_digits v = 0
 
+abbrev pub as_number : Atom → ℕ
+as_number (number x) = x
+as_number v = 0
+
 abbrev pub as_flag : Atom → Bool
 as_flag (flag x) = x
 as_flag v = false
+
+abbrev pub as_kind_of_comment : Atom → CommentKind
+as_kind_of_comment (kind_of_comment x) = x
+as_kind_of_comment v = kind_of_comments.Line
+
+abbrev pub as_content_of_comment : Atom → CommentContent
+as_content_of_comment (content_of_comment x) = x
+as_content_of_comment v = content_of_comments.Normal
 
 abbrev pub as_source_kind : Atom → SourceKind
 as_source_kind (source_kind x) = x
@@ -77,6 +93,10 @@ abbrev pub as_assignment_operator : Atom → AssignmentOperator
 as_assignment_operator (assignment_operator x) = x
 as_assignment_operator v = assignment_operators.Assign
 
+abbrev pub as_number_if_given : Atom → Option ℕ
+as_number_if_given (number x) = Some x
+as_number_if_given v = None
+
 -- ---- fields, by the type of the node and the field's name
 
 abbrev pub program_source : Atoms → List ℕ
@@ -92,6 +112,24 @@ program_jsx a = value_at 2 a.values
 -- not read yet
 abbrev pub program_typescript : Atoms → Atom
 program_typescript a = value_at 3 a.values
+
+abbrev pub comment_kind : Atoms → CommentKind
+comment_kind a = as_kind_of_comment (value_at 0 a.values)
+
+abbrev pub comment_content : Atoms → CommentContent
+comment_content a = as_content_of_comment (value_at 1 a.values)
+
+abbrev pub comment_leading : Atoms → Bool
+comment_leading a = as_flag (value_at 2 a.values)
+
+abbrev pub comment_attached_to : Atoms → ℕ
+comment_attached_to a = as_number (value_at 3 a.values)
+
+abbrev pub comment_preceded_by_newline : Atoms → Bool
+comment_preceded_by_newline a = as_flag (value_at 4 a.values)
+
+abbrev pub comment_followed_by_newline : Atoms → Bool
+comment_followed_by_newline a = as_flag (value_at 5 a.values)
 
 -- the field's text, or the units that it was read as
 abbrev pub directive_directive : Atoms → Atom
@@ -111,16 +149,14 @@ variable_declarator_definite a = value_at 0 a.values
 abbrev pub binding_identifier_name : Atoms → List ℕ
 binding_identifier_name a = as_text (value_at 0 a.values)
 
--- not read yet
-abbrev pub binding_identifier_symbol : Atoms → Atom
-binding_identifier_symbol a = value_at 1 a.values
+abbrev pub binding_identifier_symbol : Atoms → Option ℕ
+binding_identifier_symbol a = as_number_if_given (value_at 1 a.values)
 
 abbrev pub identifier_reference_name : Atoms → List ℕ
 identifier_reference_name a = as_text (value_at 0 a.values)
 
--- not read yet
-abbrev pub identifier_reference_reference : Atoms → Atom
-identifier_reference_reference a = value_at 1 a.values
+abbrev pub identifier_reference_reference : Atoms → Option ℕ
+identifier_reference_reference a = as_number_if_given (value_at 1 a.values)
 
 abbrev pub boolean_literal_value : Atoms → Bool
 boolean_literal_value a = as_flag (value_at 0 a.values)

@@ -1,10 +1,34 @@
 -- Generated from tools/nodes/table.txt; edit that and run tools/nodes/generate.
 -- The spelling of the words that nodes hold.
 use Rattle.std.specs.Prelude.{ℕ, List, codes}
+use Rattle.jsgen_tree.specs.declared.statements.CommentKind.{CommentKind}
+use Rattle.jsgen_tree.specs.declared.statements.CommentContent.{CommentContent}
 use Rattle.jsgen_tree.specs.declared.statements.VariableDeclarationKind.{VariableDeclarationKind}
 use Rattle.jsgen_tree.specs.declared.collections.PropertyKind.{PropertyKind}
+use Rattle.jsgen_tree.specs.declared.statements.CommentKind.TheVariants as kind_of_comments
+use Rattle.jsgen_tree.specs.declared.statements.CommentContent.TheVariants as content_of_comments
 use Rattle.jsgen_tree.specs.declared.statements.VariableDeclarationKind.TheVariants as declaration_kinds
 use Rattle.jsgen_tree.specs.declared.collections.PropertyKind.TheVariants as property_kinds
+
+abbrev pub kind_of_comment_word : CommentKind → List ℕ
+kind_of_comment_word kind_of_comments.Line = codes "line"
+kind_of_comment_word kind_of_comments.SingleLineBlock = codes "block"
+kind_of_comment_word kind_of_comments.MultiLineBlock = codes "multiline"
+kind_of_comment_word kind_of_comments.HtmlOpen = codes "htmlopen"
+kind_of_comment_word kind_of_comments.HtmlClose = codes "htmlclose"
+
+abbrev pub content_of_comment_word : CommentContent → List ℕ
+content_of_comment_word content_of_comments.Normal = codes "normal"
+content_of_comment_word content_of_comments.Legal = codes "legal"
+content_of_comment_word content_of_comments.Jsdoc = codes "jsdoc"
+content_of_comment_word content_of_comments.JsdocLegal = codes "jsdoclegal"
+content_of_comment_word content_of_comments.Pure = codes "pure"
+content_of_comment_word content_of_comments.NoSideEffects = codes "nosideeffects"
+content_of_comment_word content_of_comments.Webpack = codes "webpack"
+content_of_comment_word content_of_comments.Vite = codes "vite"
+content_of_comment_word content_of_comments.PropertyKey = codes "propertykey"
+content_of_comment_word content_of_comments.CoverageIgnore = codes "coverage"
+content_of_comment_word content_of_comments.CoverageIgnoreFile = codes "coveragefile"
 
 abbrev pub declaration_word : VariableDeclarationKind → List ℕ
 declaration_word declaration_kinds.Const = codes "const"

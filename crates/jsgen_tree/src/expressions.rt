@@ -13,6 +13,8 @@ use jsgen_syntax::{BinaryOperator, JsStr, LogicalOperator, Span};
 pub struct IdentifierReference {
     pub span: Span,
     pub name: String,
+    /// Its number in the table of references.
+    pub reference: Option<u32>,
 }
 
 /// The keyword `this` (ECMA-262, 13.2.1).

@@ -1,6 +1,6 @@
 // Generated from tools/nodes/table.txt; edit that and run tools/nodes/generate.
-//! The tree of a program, owned by boxes and lists, and the options of printing it. A field bears the name that
-//! a job gives it, but `value` of a number, which stands for several.
+//! The tree of a program, owned by boxes and lists, the options of printing it and the tables of its names. A field
+//! bears the name that a job gives it, but `value` of a number, which stands for several.
 //!
 //! `Node` is the one type that leads back to itself. A child that nests stands in a wrapper that says its
 //! set, as `ExpressionNode`, and is made by `into()` from a member of that set.
@@ -18,6 +18,7 @@ mod nodes;
 mod numbers;
 mod operations;
 mod options;
+mod scoping;
 mod sets;
 mod span;
 mod statements;
@@ -41,6 +42,7 @@ pub use nodes::{BindingPatternNode, DeclarationNode, ExpressionNode, Node, State
 pub use numbers::{NumericValue, behind_minus};
 pub use operations::{NewExpression, NewTarget, Super, UnaryExpression, UpdateExpression};
 pub use options::{CodegenOptions, CommentOptions, LegalComment};
+pub use scoping::{PrivateMappings, Scoping, Tables};
 pub use sets::{
     Argument, ArrayExpressionElement, ArrowFunctionBody, AssignmentTarget, BindingPattern,
     ChainElement, Declaration, Expression, ObjectPropertyKind, PropertyKey, SimpleAssignmentTarget,
@@ -48,7 +50,8 @@ pub use sets::{
 };
 pub use span::GetSpan;
 pub use statements::{
-    BindingIdentifier, BlockStatement, Directive, EmptyStatement, ExpressionStatement, IfStatement,
-    Program, VariableDeclaration, VariableDeclarationKind, VariableDeclarator,
+    BindingIdentifier, BlockStatement, Comment, CommentContent, CommentKind, Directive,
+    EmptyStatement, ExpressionStatement, IfStatement, Program, VariableDeclaration,
+    VariableDeclarationKind, VariableDeclarator,
 };
 pub use types::{NodeSet, NodeType};

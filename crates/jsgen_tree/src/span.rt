@@ -23,8 +23,8 @@ use crate::sets::{
     Statement,
 };
 use crate::statements::{
-    BindingIdentifier, BlockStatement, Directive, EmptyStatement, ExpressionStatement, IfStatement,
-    Program, VariableDeclaration, VariableDeclarator,
+    BindingIdentifier, BlockStatement, Comment, Directive, EmptyStatement, ExpressionStatement,
+    IfStatement, Program, VariableDeclaration, VariableDeclarator,
 };
 use jsgen_syntax::Span;
 
@@ -39,6 +39,14 @@ pub trait GetSpan {
 }
 
 impl<N> GetSpan for Program<N> {
+    ghost own_span = { λ n. n.span };
+
+    fn span(&self) -> Span {
+        self.span
+    }
+}
+
+impl GetSpan for Comment {
     ghost own_span = { λ n. n.span };
 
     fn span(&self) -> Span {

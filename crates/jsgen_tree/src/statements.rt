@@ -1,10 +1,73 @@
 // Generated from tools/nodes/table.txt; edit that and run tools/nodes/generate.
 // Programs, statements and declarations (ECMA-262, clauses 14 and 16).
 ghost use Rattle.std.specs.Prelude.{◌≡◌};
-ghost use Rattle.jsgen_tree.specs.Words.{declaration_word};
+ghost use Rattle.jsgen_tree.specs.Words.{kind_of_comment_word, content_of_comment_word, declaration_word};
 
 use crate::nodes::{BindingPatternNode, ExpressionNode, Node, StatementNode};
+use crate::sets::PropertyKey;
 use jsgen_syntax::{SourceKind, Span};
+
+/// How a comment is written: to the end of its line, as a block without a line end or with one, or by one of the two marks of HTML.
+#[derive(Clone, Copy, Debug, PartialEq, Eq)]
+pub enum CommentKind {
+    Line,
+    SingleLineBlock,
+    MultiLineBlock,
+    HtmlOpen,
+    HtmlClose,
+}
+
+impl CommentKind {
+    /// The spelling.
+    pub fn as_str(self) -> &'static str
+        ensures { result.now ≡ kind_of_comment_word self }
+    {
+        match self {
+            CommentKind::Line => "line",
+            CommentKind::SingleLineBlock => "block",
+            CommentKind::MultiLineBlock => "multiline",
+            CommentKind::HtmlOpen => "htmlopen",
+            CommentKind::HtmlClose => "htmlclose",
+        }
+    }
+}
+
+/// What a comment says, as far as it matters to whether and where it is printed.
+#[derive(Clone, Copy, Debug, PartialEq, Eq)]
+pub enum CommentContent {
+    Normal,
+    Legal,
+    Jsdoc,
+    JsdocLegal,
+    Pure,
+    NoSideEffects,
+    Webpack,
+    Vite,
+    PropertyKey,
+    CoverageIgnore,
+    CoverageIgnoreFile,
+}
+
+impl CommentContent {
+    /// The spelling.
+    pub fn as_str(self) -> &'static str
+        ensures { result.now ≡ content_of_comment_word self }
+    {
+        match self {
+            CommentContent::Normal => "normal",
+            CommentContent::Legal => "legal",
+            CommentContent::Jsdoc => "jsdoc",
+            CommentContent::JsdocLegal => "jsdoclegal",
+            CommentContent::Pure => "pure",
+            CommentContent::NoSideEffects => "nosideeffects",
+            CommentContent::Webpack => "webpack",
+            CommentContent::Vite => "vite",
+            CommentContent::PropertyKey => "propertykey",
+            CommentContent::CoverageIgnore => "coverage",
+            CommentContent::CoverageIgnoreFile => "coveragefile",
+        }
+    }
+}
 
 /// The word that begins a declaration of variables.
 #[derive(Clone, Copy, Debug, PartialEq, Eq)]
@@ -30,8 +93,24 @@ pub struct Program<N = Node> {
     /// The text that spans speak of.
     pub source: String,
     pub kind: SourceKind,
+    /// The comments of the source. None is printed yet.
+    pub comments: Vec<Comment>,
     pub directives: Vec<Directive>,
     pub body: Vec<StatementNode<N>>,
+}
+
+/// A comment, by where it stands in the source (ECMA-262, 12.4).
+#[derive(Clone, Copy, Debug, PartialEq, Eq)]
+pub struct Comment {
+    pub span: Span,
+    pub kind: CommentKind,
+    pub content: CommentContent,
+    /// It belongs to what follows it.
+    pub leading: bool,
+    /// The offset of what it belongs to.
+    pub attached_to: u32,
+    pub preceded_by_newline: bool,
+    pub followed_by_newline: bool,
 }
 
 /// A string at the front of a body that a program says something by (ECMA-262, 11.2.1).
@@ -63,6 +142,8 @@ pub struct VariableDeclarator<N = Node> {
 pub struct BindingIdentifier {
     pub span: Span,
     pub name: String,
+    /// The symbol that it binds, by its number in the table of symbols.
+    pub symbol: Option<u32>,
 }
 
 /// An expression for what it does (ECMA-262, 14.5).

@@ -7,6 +7,7 @@ ghost use Rattle.jsgen_tree.specs.Sets.{in_set, is_expression, is_argument, is_a
 #[derive(Clone, Copy, Debug, PartialEq, Eq)]
 pub enum NodeType {
     Program,
+    Comment,
     Directive,
     VariableDeclaration,
     VariableDeclarator,
@@ -51,6 +52,7 @@ pub enum NodeType {
 /// What the child of a field may be: a member of a set, or a node of one type.
 #[derive(Clone, Copy, Debug, PartialEq, Eq)]
 pub enum NodeSet {
+    Comment,
     Directive,
     Statement,
     VariableDeclarator,
@@ -77,6 +79,7 @@ impl NodeType {
         ensures { result ≡ in_set set self }
     {
         match set {
+            NodeSet::Comment => matches!(&self, NodeType::Comment),
             NodeSet::Directive => matches!(&self, NodeType::Directive),
             NodeSet::Statement => self.is_statement(),
             NodeSet::VariableDeclarator => matches!(&self, NodeType::VariableDeclarator),

@@ -72,7 +72,7 @@ def ghosts_of(nodes):
 def one_file(table, name, text, every):
     nodes = [n for n in every if not by_hand(n)]
     sets = list({s.name: s for n in nodes if (s := set_of(table, n.name))}.values())
-    values = ["needed_text", "optional_text", "needed_digits", "needed_flag", "optional_flag", "field_not_given", "neither_given"]
+    values = ["needed_text", "optional_text", "needed_digits", "needed_number", "optional_number", "needed_flag", "optional_flag", "field_not_given", "neither_given"]
     homes = [("crate::literals", [f"read_{snake(n.name)}" for n in every if by_hand(n)]),
              ("jsgen_fields::set_fields", [reader_of(f) for n in nodes for f in table.children(n)]),
              ("jsgen_fields::fields", ["boxed"]), ("jsgen_fields::strings", ["needed_units"]), ("jsgen_fields::values", values),
@@ -155,6 +155,7 @@ def call(table, n, f, number):
         return f"needed_{table.words[f.kind].short}({field})"
     form = {("text", None): f"needed_text(alloc, {field})", ("text", '""'): f"optional_text(alloc, {field})",
             ("units", None): f"needed_units(alloc, {field})", ("digits", None): f"needed_digits({field})",
+            ("number", None): f"{'optional' if f.many else 'needed'}_number({field})",
             ("flag", None): f"{'needed' if f.needed else 'optional'}_flag({field})"}.get((f.kind, f.default))
     if not form:
         raise SystemExit(f"{n.name}.{f.name}: a value {f.kind} with this default has no form in the reader yet")

@@ -5,6 +5,7 @@ from names import SPECS, TREE, TYPES, atoms, variants_of_words, words_in_antt
 from table import VALUES, snake
 
 HELD = {"text": ("List ℕ", "[]"), "units": ("List ℕ", "[]"), "digits": ("ℕ", "0"), "number": ("ℕ", "0"), "flag": ("Bool", "false")}
+IF_GIVEN = "as_number_if_given"
 
 
 def write(table):
@@ -41,15 +42,17 @@ def values(table):
     held = {k: h for k, h, _ in kinds(table)}
     parts = ["-- ---- kinds of values; where the value is of another kind, any"]
     parts += [f"abbrev pub as_{k} : Atom → {h}\nas_{k} ({k} x) = x\nas_{k} v = {other}" for k, h, other in kinds(table)]
+    parts += [f"abbrev pub {IF_GIVEN} : Atom → Option ℕ\n{IF_GIVEN} (number x) = Some x\n{IF_GIVEN} v = None"]
     parts += ["-- ---- fields, by the type of the node and the field's name"]
     for n in table.nodes.values():
         for f in table.values(n):
             k, at = kind_of(table, f), f"value_at {table.values(n).index(f)} a.values"
             result, body = ("Atom", at) if is_whole(n, f) else (held[k], f"as_{k} ({at})")
+            result, body = ("Option ℕ", f"{IF_GIVEN} ({at})") if f.many and is_read(n, f) else (result, body)
             doc = f"-- the field's {f.kind}, or the {f.other} that it was read as\n" if f.other else ""
             doc = doc if is_read(n, f) else "-- not read yet\n"
             parts.append(f"{doc}abbrev pub {reader(n, f)} : Atoms → {result}\n{reader(n, f)} a = {body}")
-    homes = [("Rattle.std.specs.Prelude", ["ℕ", "List", "[]", "Bool", "false"])] + words_in_antt(table) + atoms(table) + TREE
+    homes = [("Rattle.std.specs.Prelude", ["ℕ", "List", "[]", "Bool", "false", "Option", "Some", "None"])] + words_in_antt(table) + atoms(table) + TREE
     homes += [(f"{SPECS}.Places", ["value_at"])]
     about = "The values of a node, by the field that holds them. Each reads the place that its field has in the table of " \
             "fields (specs/Fields.antt): `FieldsAreNamed` says so."
@@ -62,7 +65,8 @@ def law(table):
         facts = []
         for f in table.values(n):
             value = f'value_named (codes "{f.name}") (fields types.{n.name}) a.values'
-            facts.append(f"{reader(n, f)} a ≡ {value if is_whole(n, f) else f'as_{kind_of(table, f)} ({value})'}")
+            taken = IF_GIVEN if f.many else f"as_{kind_of(table, f)}"
+            facts.append(f"{reader(n, f)} a ≡ {value if is_whole(n, f) else f'{taken} ({value})'}")
         if facts:
             said = facts[0] if len(facts) == 1 else " × ".join(f"({fact})" for fact in facts)
             lines += f"  pub {snake(n.name)} : (a : Atoms) → {said}\n"
@@ -70,7 +74,7 @@ def law(table):
     readers = [reader(n, f) for n in table.nodes.values() for f in table.values(n)]
     homes = [("Rattle.std.specs.Prelude", ["◌≡◌", "codes"])] + TREE
     homes += [(f"{SPECS}.Table", ["value_named"]), (f"{SPECS}.Fields", ["fields"]),
-              (f"{SPECS}.Values", [f"as_{k}" for k, _, _ in kinds(table)] + readers)]
+              (f"{SPECS}.Values", [f"as_{k}" for k, _, _ in kinds(table)] + [IF_GIVEN] + readers)]
     return layout.antt("What is promised of the names of fields.", homes, TYPES, body)
 
 

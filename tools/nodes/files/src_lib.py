@@ -5,8 +5,8 @@ import re
 import layout
 from names import nodes_in_rust
 
-HEAD = """//! The tree of a program, owned by boxes and lists, and the options of printing it. A field bears the name that
-//! a job gives it, but `value` of a number, which stands for several.
+HEAD = """//! The tree of a program, owned by boxes and lists, the options of printing it and the tables of its names. A field
+//! bears the name that a job gives it, but `value` of a number, which stands for several.
 //!
 //! `Node` is the one type that leads back to itself. A child that nests stands in a wrapper that says its
 //! set, as `ExpressionNode`, and is made by `into()` from a member of that set.
@@ -14,7 +14,8 @@ HEAD = """//! The tree of a program, owned by boxes and lists, and the options o
 """
 
 # What stands in files that are written by hand.
-BY_HAND = {"inside": [], "laws": ["fields_are_named"], "names": ["is_proto"], "numbers": ["NumericValue", "behind_minus"], "options": ["CodegenOptions", "CommentOptions", "LegalComment"]}
+BY_HAND = {"inside": [], "laws": ["fields_are_named"], "names": ["is_proto"], "numbers": ["NumericValue", "behind_minus"], "options": ["CodegenOptions", "CommentOptions", "LegalComment"],
+           "scoping": ["PrivateMappings", "Scoping", "Tables"]}
 
 
 def write(table):

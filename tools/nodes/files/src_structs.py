@@ -50,12 +50,14 @@ def struct(table, n):
         fields += f"    /// {f.doc}\n" if f.doc else ""
         fields += f"    pub {f.rust}: {rust_type(table, f)},\n"
     fields += "".join(f"    {ghost},\n" for ghost in n.ghosts)
-    return f"/// {doc}\n#[derive(Drop)]\npub struct {n.name}{generic} {{\n{fields}}}"
+    derived = "Clone, Copy, Debug, PartialEq, Eq" if n.is_copy else "Drop"
+    return f"/// {doc}\n#[derive({derived})]\npub struct {n.name}{generic} {{\n{fields}}}"
 
 
 def rust_type(table, f):
     if not table.is_child(f):
-        return VALUES.get(f.kind, f.kind)
+        one = VALUES.get(f.kind, f.kind)
+        return f"Option<{one}>" if f.many else one
     parameter = "<N>" if table.generic(f.kind) else ""
     if f.kind in table.sets:
         one = f"{f.kind}Node<N>" if table.sets[f.kind].nests else f.kind + parameter

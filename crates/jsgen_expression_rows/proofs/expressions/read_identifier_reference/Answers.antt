@@ -9,10 +9,10 @@ pub returns-in-Err : goal.returns-in-Err
 unfolding read_node
 returns-in-Err g c = λ told. rw (c.in-Err.ensures told)
 
-pub returns-in-Err-field_not_given : goal.returns-in-Err-field_not_given
+pub returns-in-Err-optional_number : goal.returns-in-Err-optional_number
 unfolding read_node
-returns-in-Err-field_not_given g c = λ told. rw (c.in-Ok.ensures, c.in-Err-field_not_given.ensures told)
+returns-in-Err-optional_number g c = λ told. rw (c.in-Ok.ensures, c.in-Err-optional_number.ensures told)
 
 pub returns-in-Ok-boxed : goal.returns-in-Ok-boxed
 unfolding read_node
-returns-in-Ok-boxed g c = rw (c.in-Ok.ensures, c.in-Ok-field_not_given.ensures) (gives_row _ _ _ identifier_reference_row _ _ c.in-Ok-boxed.ensures c.expression_row.ensures)
+returns-in-Ok-boxed g c = rw (c.in-Ok.ensures, c.in-Ok-optional_number.ensures) (gives_row _ _ _ identifier_reference_row _ _ c.in-Ok-boxed.ensures c.expression_row.ensures)

@@ -6,6 +6,7 @@ use Rattle.jsgen_tree.proofs.laws.fields_are_named.Goals as goal
 pub returns : goal.returns
 returns c = record {
   program = λ a. (refl, refl, refl, refl);
+  comment = λ a. (refl, refl, refl, refl, refl, refl);
   directive = λ a. refl;
   variable_declaration = λ a. (refl, refl);
   variable_declarator = λ a. refl;

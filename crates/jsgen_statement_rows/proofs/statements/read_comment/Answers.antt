@@ -1,0 +1,34 @@
+-- Generated from tools/nodes/table.txt; edit that and run tools/nodes/generate.
+-- What each call ensures, one after another.
+use Rattle.jsgen_fields.specs.Reads.{read_node}
+use Rattle.jsgen_fields.proofs.Gives.{gives_held}
+use Rattle.jsgen_tree.specs.Rows.{comment_row}
+use Rattle.jsgen_statement_rows.proofs.statements.read_comment.Goals as goal
+
+pub returns-in-Err : goal.returns-in-Err
+unfolding read_node
+returns-in-Err g c = λ told. rw (c.in-Err.ensures told)
+
+pub returns-in-Err-needed_content_of_comment : goal.returns-in-Err-needed_content_of_comment
+unfolding read_node
+returns-in-Err-needed_content_of_comment g c = λ told. rw (c.in-Ok.ensures, c.in-Err-needed_content_of_comment.ensures told)
+
+pub returns-in-Err-optional_flag : goal.returns-in-Err-optional_flag
+unfolding read_node
+returns-in-Err-optional_flag g c = λ told. rw (c.in-Ok.ensures, c.in-Ok-needed_content_of_comment.ensures, c.in-Err-optional_flag.ensures told)
+
+pub returns-in-Err-needed_number : goal.returns-in-Err-needed_number
+unfolding read_node
+returns-in-Err-needed_number g c = λ told. rw (c.in-Ok.ensures, c.in-Ok-needed_content_of_comment.ensures, c.in-Ok-optional_flag.ensures, c.in-Err-needed_number.ensures told)
+
+pub returns-in-Err-optional_flag-2 : goal.returns-in-Err-optional_flag-2
+unfolding read_node
+returns-in-Err-optional_flag-2 g c = λ told. rw (c.in-Ok.ensures, c.in-Ok-needed_content_of_comment.ensures, c.in-Ok-optional_flag.ensures, c.in-Ok-needed_number.ensures, c.in-Err-optional_flag-2.ensures told)
+
+pub returns-in-Err-optional_flag-3 : goal.returns-in-Err-optional_flag-3
+unfolding read_node
+returns-in-Err-optional_flag-3 g c = λ told. rw (c.in-Ok.ensures, c.in-Ok-needed_content_of_comment.ensures, c.in-Ok-optional_flag.ensures, c.in-Ok-needed_number.ensures, c.in-Ok-optional_flag-2.ensures, c.in-Err-optional_flag-3.ensures told)
+
+pub returns-in-Ok-boxed : goal.returns-in-Ok-boxed
+unfolding read_node
+returns-in-Ok-boxed g c = rw (c.in-Ok.ensures, c.in-Ok-needed_content_of_comment.ensures, c.in-Ok-optional_flag.ensures, c.in-Ok-needed_number.ensures, c.in-Ok-optional_flag-2.ensures, c.in-Ok-optional_flag-3.ensures) (gives_held _ comment_row _ _ c.in-Ok-boxed.ensures)
