@@ -28,6 +28,7 @@ export const DAMAGES = {
   "last row": inRows((rows, draw) => (draw.once(2) ? rows.pop() : rows.push(new Members([["type", draw.of(["Super", "Directive"])]])))),
   rows: (job, draw) => draw.once(3) && inHead(job, "rows", oddRows(draw)),
   "field of the head": (job, draw) => inHead(job, draw.of(["symbols", "references", "private", "Rows", ""]), oddValue(draw)),
+  "table of names": (job, draw) => inHead(job, draw.of(["symbols", "references", "private"]), oddTable(job, draw)),
   options: (job, draw) => inHead(job, "options", oddOptions(job, draw)),
   "member twice": inObject(twice),
   "deep nesting": inRow(deepNesting),
@@ -64,11 +65,18 @@ function oddRows(draw) {
   return draw.of([...lists, undefined, null, new Members([]), new Members([["a", [float]]]), 7, float, "rows", true]);
 }
 
+// Entries of which some may be of another table.
+function oddTable({ head }, draw) {
+  const entries = ["symbols", "references", "private"].map((name) => head.get(name)).filter(Array.isArray);
+  const inObject = () => new Members([["a", "b"], ["c", draw.once(2) ? oddValue(draw) : holdingFloat(draw, "d")]]);
+  return [...(draw.of(entries) ?? []), ...draw.several(1, 2, () => draw.of([oddValue(draw), new Raw(draw.of(NUMBERS)), inObject()]))];
+}
+
 function oddOptions({ head, format }, draw) {
   if (draw.once(6)) return oddValue(draw);
   const members = head.get("options") instanceof Members ? head.get("options") : new Members([]);
-  const name = draw.of(draw.of([[...format.options.keys()], format.unread, ["Minify", "", "target"]]));
-  members.set(name, draw.once(4) ? draw.of([true, false, null]) : oddValue(draw));
+  const name = draw.of(draw.of([[...format.options.keys()], ["legal", "legal_path"], ["Minify", "", "target"]]));
+  members.set(name, draw.once(4) ? draw.of([true, false, null, "linked"]) : oddValue(draw));
   return members;
 }
 

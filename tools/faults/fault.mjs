@@ -2,7 +2,13 @@
 // what each may hold by the table of types (./format.mjs).
 import { NotJson, parseJson } from "./json.mjs";
 
-const UNREAD_HEAD = ["symbols", "references", "private"];
+// The fields of the head before the rows, by their numbers, each with whether it may hold a value.
+const HEAD = [
+  ["options", areOptions],
+  ["symbols", (value) => isListOf(value, isText)],
+  ["references", (value) => isListOf(value, (entry) => entry.is === "null" || isBelow(entry, LIMIT.number))],
+  ["private", (value) => isListOf(value, (names) => names.is === "object" && [...names.members.values()].every(isText))],
+];
 const ROWS = 4;
 const LIMIT = { span: 2n ** 32n, number: 2n ** 32n, whole: 2n ** 64n, unit: 2n ** 16n, digits: 2n ** 128n };
 
@@ -38,11 +44,10 @@ function holdsFloat(value) {
 
 function judgeHead(format, members) {
   const fault = (kind, number) => new Fault(`${kind} head field ${number}`);
-  const options = given(members, "options");
-  if (options && holdsFloat(options)) throw fault("Float", 0);
-  if (options && !areOptions(format, options)) throw fault("Wrong", 0);
-  UNREAD_HEAD.forEach((name, index) => {
-    if (given(members, name)) throw fault("Wrong", index + 1);
+  HEAD.forEach(([name, mayBe], number) => {
+    const value = given(members, name);
+    if (value && holdsFloat(value)) throw fault("Float", number);
+    if (value && !mayBe(value, format)) throw fault("Wrong", number);
   });
   const rows = given(members, "rows");
   if (!rows) throw fault("Missing", ROWS);
@@ -50,10 +55,20 @@ function judgeHead(format, members) {
   if (rows.items.length === 0) throw fault("Wrong", ROWS);
 }
 
-function areOptions({ options, unread }, value) {
+// Comments that are linked stand at a path.
+function areOptions(value, { options }) {
   if (value.is !== "object") return false;
-  const mayBe = ([name, option]) => given(value.members, name) === null || mayHold(option, given(value.members, name));
-  return [...options].every(mayBe) && unread.every((name) => given(value.members, name) === null);
+  const option = (name) => given(value.members, name);
+  const isWhole = option("legal")?.value !== "linked" || option("legal_path") !== null;
+  return isWhole && [...options].every(([name, held]) => option(name) === null || mayHold(held, option(name)));
+}
+
+function isListOf(value, isEntry) {
+  return value.is === "list" && value.items.every(isEntry);
+}
+
+function isText(value) {
+  return value.is === "text";
 }
 
 class Rows {
@@ -126,7 +141,7 @@ function isSpan(value) {
 function mayHold(field, value) {
   switch (field.kind) {
     case "text":
-      return value.is === "text";
+      return isText(value);
     case "flag":
       return value.is === "flag";
     case "word":

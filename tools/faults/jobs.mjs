@@ -7,25 +7,37 @@ const WHOLE = [0, 1, 7, 42, 65535, 4294967295, Number.MAX_SAFE_INTEGER];
 const DIGITS = ["0", "7", "18446744073709551616", "340282366920938463463374607431768211455"];
 const DEPTH = 5;
 
+// What stands for one symbol, one reference or one class in the tables of names.
+const ENTRIES = {
+  symbols: (draw) => draw.of(TEXTS),
+  references: (draw) => draw.of([null, ...WHOLE.slice(0, -1)]),
+  private: (draw) => new Members(draw.several(0, 3, () => [draw.of(NAMES), draw.of(TEXTS)])),
+};
+
 /** A job's head, whose member `rows` is a list of rows. */
 export function madeJob({ types, options }, draw) {
   const rows = inOrder(new Maker(types, draw).nodes(), draw);
   const head = [["rows", rows]];
   if (draw.once(2)) head.push(["options", madeOptions(options, draw)]);
-  for (const name of ["symbols", "references", "private"]) if (draw.once(10)) head.push([name, null]);
+  for (const [name, entry] of Object.entries(ENTRIES)) {
+    if (draw.once(5)) head.push([name, draw.once(4) ? null : draw.several(0, 4, () => entry(draw))]);
+  }
   if (draw.once(8)) head.push(["version", draw.of([1, 0.5, "1", null])]);
   return new Members(draw.mixed(head));
 }
 
 function madeOptions(options, draw) {
   const members = [...options].filter(() => draw.once(2)).map(([name, option]) => [name, draw.once(4) ? null : heldBy(option, draw)]);
-  return draw.once(8) ? null : new Members(draw.once(8) ? [...members, ["legal", null]] : members);
+  const isLinked = members.some(([name, value]) => name === "legal" && value === "linked");
+  const path = isLinked ? [["legal_path", draw.of(TEXTS)]] : [];
+  return draw.once(8) ? null : new Members([...members.filter(([name]) => !isLinked || name !== "legal_path"), ...path]);
 }
 
 // A value that the option may hold.
 function heldBy({ kind, words }, draw) {
   if (kind === "flag") return draw.once(2);
   if (kind === "word") return draw.of(words);
+  if (kind === "text") return draw.of(TEXTS);
   if (draw.below(8) > 0) return draw.of([0, 1, 2, 7]);
   return draw.of(kind === "number" ? WHOLE.slice(0, -1) : [...WHOLE, new Raw("18446744073709551615")]);
 }

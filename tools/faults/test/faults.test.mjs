@@ -63,8 +63,8 @@ test("the fields of a type are in order, with their sets and words", () => {
   assert.ok(elements.isList && elements.hasHoles && elements.types.has("SpreadElement") && elements.types.has("Super"));
   assert.ok(format.types.get("BinaryExpression")[0].words.includes("|"));
   assert.ok(format.types.get("Program").find(({ name }) => name === "hashbang").isUnread);
-  assert.ok(format.options.get("minify").kind === "flag" && format.unread.includes("legal"));
-  assert.deepEqual(["indent_char", "indent_width", "initial_indent"].map((name) => format.options.get(name).kind), ["word", "whole", "number"]);
+  assert.ok(format.options.get("minify").kind === "flag" && format.options.get("legal").words.includes("linked"));
+  assert.deepEqual(["indent_char", "indent_width", "initial_indent", "legal_path"].map((name) => format.options.get(name).kind), ["word", "whole", "number", "text"]);
 });
 
 test("numbers are whole or floats as serde_json has them", () => {
