@@ -12,13 +12,22 @@ use crate::literals::read_numeric_literal;
 use jsgen_fields::InputFault;
 use jsgen_fields::fields::boxed;
 use jsgen_fields::kept::{ReadNode, Row, expression_row};
-use jsgen_fields::set_fields::{argument_list, needed_chain_element, needed_expression, needed_identifier_name};
+use jsgen_fields::set_fields::{
+    argument_list, needed_chain_element, needed_expression, needed_identifier_name,
+};
 use jsgen_fields::strings::needed_units;
-use jsgen_fields::values::{field_not_given, needed_flag, needed_text, optional_flag, optional_number};
+use jsgen_fields::values::{
+    field_not_given, needed_flag, needed_text, optional_flag, optional_number,
+};
 use jsgen_fields::words::{needed_binary_operator, needed_logical_operator};
 use jsgen_pool::Kept;
 use jsgen_syntax::Span;
-use jsgen_tree::{BigIntLiteral, BinaryExpression, BooleanLiteral, CallExpression, ChainExpression, ComputedMemberExpression, Expression, IdentifierName, IdentifierReference, LogicalExpression, NodeType, NullLiteral, ParenthesizedExpression, StaticMemberExpression, StringLiteral, ThisExpression};
+use jsgen_tree::{
+    BigIntLiteral, BinaryExpression, BooleanLiteral, CallExpression, ChainExpression,
+    ComputedMemberExpression, Expression, IdentifierName, IdentifierReference, LogicalExpression,
+    NodeType, NullLiteral, ParenthesizedExpression, StaticMemberExpression, StringLiteral,
+    ThisExpression,
+};
 use serde_json::Value;
 use std::alloc::Global;
 
@@ -42,7 +51,11 @@ fn read_identifier_reference<N: ReadNode + Drop>(
         Ok(reference) => reference,
         Err(fault) => return Err(fault),
     };
-    let node = IdentifierReference { span, name, reference };
+    let node = IdentifierReference {
+        span,
+        name,
+        reference,
+    };
     match boxed(alloc, node) {
         Ok(node) => expression_row(alloc, Expression::IdentifierReference(node)),
         Err(fault) => Err(fault),
@@ -205,7 +218,12 @@ fn read_binary_expression<N: ReadNode + Drop>(
         Ok(right) => right,
         Err(fault) => return Err(fault),
     };
-    let node = BinaryExpression { span, operator, left, right };
+    let node = BinaryExpression {
+        span,
+        operator,
+        left,
+        right,
+    };
     match boxed(alloc, node) {
         Ok(node) => expression_row(alloc, Expression::BinaryExpression(node)),
         Err(fault) => Err(fault),
@@ -235,7 +253,12 @@ fn read_logical_expression<N: ReadNode + Drop>(
         Ok(right) => right,
         Err(fault) => return Err(fault),
     };
-    let node = LogicalExpression { span, operator, left, right };
+    let node = LogicalExpression {
+        span,
+        operator,
+        left,
+        right,
+    };
     match boxed(alloc, node) {
         Ok(node) => expression_row(alloc, Expression::LogicalExpression(node)),
         Err(fault) => Err(fault),
@@ -288,7 +311,12 @@ fn read_static_member_expression<N: ReadNode + Drop>(
         Ok(property) => property,
         Err(fault) => return Err(fault),
     };
-    let node = StaticMemberExpression { span, object, optional, property };
+    let node = StaticMemberExpression {
+        span,
+        object,
+        optional,
+        property,
+    };
     match boxed(alloc, node) {
         Ok(node) => expression_row(alloc, Expression::StaticMemberExpression(node)),
         Err(fault) => Err(fault),
@@ -318,7 +346,12 @@ fn read_computed_member_expression<N: ReadNode + Drop>(
         Ok(expression) => expression,
         Err(fault) => return Err(fault),
     };
-    let node = ComputedMemberExpression { span, object, optional, expression };
+    let node = ComputedMemberExpression {
+        span,
+        object,
+        optional,
+        expression,
+    };
     match boxed(alloc, node) {
         Ok(node) => expression_row(alloc, Expression::ComputedMemberExpression(node)),
         Err(fault) => Err(fault),
@@ -356,7 +389,13 @@ fn read_call_expression<N: ReadNode + Drop>(
         Ok(pure) => pure,
         Err(fault) => return Err(fault),
     };
-    let node = CallExpression { span, callee, arguments, optional, pure };
+    let node = CallExpression {
+        span,
+        callee,
+        arguments,
+        optional,
+        pure,
+    };
     match boxed(alloc, node) {
         Ok(node) => expression_row(alloc, Expression::CallExpression(node)),
         Err(fault) => Err(fault),
@@ -406,12 +445,18 @@ pub fn read_in_expressions<N: ReadNode + Drop>(
         NodeType::NumericLiteral => read_numeric_literal(alloc, kept, number, span, row),
         NodeType::BigIntLiteral => read_big_int_literal(alloc, kept, number, span, row),
         NodeType::StringLiteral => read_string_literal(alloc, kept, number, span, row),
-        NodeType::ParenthesizedExpression => read_parenthesized_expression(alloc, kept, number, span, row),
+        NodeType::ParenthesizedExpression => read_parenthesized_expression(
+            alloc, kept, number, span, row,
+        ),
         NodeType::BinaryExpression => read_binary_expression(alloc, kept, number, span, row),
         NodeType::LogicalExpression => read_logical_expression(alloc, kept, number, span, row),
         NodeType::IdentifierName => read_identifier_name(alloc, kept, number, span, row),
-        NodeType::StaticMemberExpression => read_static_member_expression(alloc, kept, number, span, row),
-        NodeType::ComputedMemberExpression => read_computed_member_expression(alloc, kept, number, span, row),
+        NodeType::StaticMemberExpression => read_static_member_expression(
+            alloc, kept, number, span, row,
+        ),
+        NodeType::ComputedMemberExpression => read_computed_member_expression(
+            alloc, kept, number, span, row,
+        ),
         NodeType::CallExpression => read_call_expression(alloc, kept, number, span, row),
         NodeType::ChainExpression => read_chain_expression(alloc, kept, number, span, row),
         _ => unreachable!(),

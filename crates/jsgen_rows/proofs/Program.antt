@@ -1,7 +1,7 @@
 -- The tree of a job is a program.
 use Rattle.std.proofs.Common.{◌≡◌, ℕ, List, [], ◌∷◌, ◌++◌, length, Bool, true, false, Option, Some, None, unwrap_or, Result, Ok, Err, if◌then◌else◌, refl, sym, ap, ◌∙◌}
 use Rattle.serde_json.specs.Data.{Data}
-use Rattle.jsgen_tree.specs.Job.{JobData, no_tables}
+use Rattle.jsgen_tree.specs.Job.{JobData, Tables}
 use Rattle.jsgen_tree.specs.Options.{Options}
 use Rattle.jsgen_tree.specs.Tree.{Tree}
 use Rattle.jsgen_tree.specs.Tree as tree
@@ -9,7 +9,7 @@ use Rattle.jsgen_tree.specs.declared.types.NodeType.TheVariants as types
 use Rattle.jsgen_fields.specs.declared.At.{At}
 use Rattle.jsgen_fields.specs.declared.InputFault.{InputFault}
 use Rattle.jsgen_fields.specs.declared.InputFault.TheVariants.{Wrong}
-use Rattle.jsgen_fields.specs.Values.{after, options_in, rows_in}
+use Rattle.jsgen_fields.specs.Values.{after, options_in, tables_in, rows_in}
 use Rattle.jsgen_fields.specs.Meaning.{is_program, root_tree, root_faults, no_tree, trees_after, faults_after, faults_in, row_marks, row_tree, with_marks, unless, rows_meaning, program_meaning, value_meaning}
 use Rattle.jsgen_rows.specs.Job.{json_of, job_of}
 use Rattle.jsgen_fields.proofs.Sets.{program_type}
@@ -42,13 +42,15 @@ abbrev program_or : Result JobData InputFault → Tree
 program_or (Ok job) = job.program
 program_or (Err e) = no_tree
 
-of_both : (o : Result Options InputFault) (r : Result Tree InputFault) (job : JobData) → ((t : Tree) → r ≡ Ok t → tree.type_of t ≡ types.Program) → after o (λ options. after r (λ program. Ok (record { options = options; tables = no_tables; program = program }))) ≡ Ok job → tree.type_of job.program ≡ types.Program
-of_both (Ok o) (Ok t) job f h = let same : t ≡ job.program = ap program_or h in sym (ap tree.type_of same) ∙ f t refl
-of_both (Ok o) (Err e) job f h = cc
-of_both (Err e) r job f h = cc
+of_parts : (o : Result Options InputFault) (s : Result Tables InputFault) (r : Result Tree InputFault) (job : JobData) → ((t : Tree) → r ≡ Ok t → tree.type_of t ≡ types.Program)
+    → after o (λ options. after s (λ tables. after r (λ program. Ok (record { options = options; tables = tables; program = program })))) ≡ Ok job → tree.type_of job.program ≡ types.Program
+of_parts (Ok o) (Ok s) (Ok t) job f h = let same : t ≡ job.program = ap program_or h in sym (ap tree.type_of same) ∙ f t refl
+of_parts (Ok o) (Ok s) (Err e) job f h = cc
+of_parts (Ok o) (Err e) r job f h = cc
+of_parts (Err e) s r job f h = cc
 
 of_json : (r : Result Data InputFault) (job : JobData) → after r value_meaning ≡ Ok job → tree.type_of job.program ≡ types.Program
-of_json (Ok d) job h = of_both (options_in d) (program_meaning d) job (of_rows (rows_in d)) h
+of_json (Ok d) job h = of_parts (options_in d) (tables_in d) (program_meaning d) job (of_rows (rows_in d)) h
 of_json (Err e) job h = cc
 
 pub job_is_program : (bytes : List ℕ) (job : JobData) → job_of bytes ≡ Ok job → tree.type_of job.program ≡ types.Program

@@ -2,7 +2,7 @@
 use Rattle.std.proofs.Common.{◌≡◌, ℕ, suc, List, [], ◌∷◌, ◌++◌, length, Bool, true, false, Option, Some, None, Result, Ok, Err, slice_get, if◌then◌else◌}
 use Rattle.std.specs.Prelude.{⊤, codes}
 use Rattle.std.specs.Str.{is_utf8}
-use Rattle.serde_json.specs.Data.{Data, null, Num, unsigned, negative, float}
+use Rattle.serde_json.specs.Data.{Data, null, Members, no_members, member, Num, unsigned, negative, float}
 use Rattle.serde_json.specs.Find.{as_bool, as_number, as_object, as_str}
 use Rattle.serde_json.specs.Read.{read}
 use Rattle.serde_json.specs.Written.{has_float}
@@ -10,16 +10,17 @@ use Rattle.jsgen_syntax.specs.declared.span.Span.{Span}
 use Rattle.jsgen_tree.specs.declared.types.NodeSet.{NodeSet}
 use Rattle.jsgen_tree.specs.declared.types.NodeType.{NodeType}
 use Rattle.jsgen_tree.specs.Tree.{Tree, type_of as tree_type}
-use Rattle.jsgen_tree.specs.Atom.{Atom, flag}
+use Rattle.jsgen_tree.specs.Atom.{flag}
 use Rattle.jsgen_tree.specs.Table.{Sort, Field}
 use Rattle.jsgen_tree.specs.Fields.{fields}
+use Rattle.jsgen_tree.specs.Options.{default_options, default_comments}
 use Rattle.jsgen_tree.specs.Sets.{in_set}
 use Rattle.jsgen_tree.specs.Table as sorts
 use Rattle.jsgen_fields.specs.declared.At.{At}
 use Rattle.jsgen_fields.specs.declared.InputFault.{InputFault}
 use Rattle.jsgen_fields.specs.declared.InputFault.TheVariants.{Json, Float, Wrong, Child, Shared, Memory}
 use Rattle.jsgen_fields.specs.Names.{type_named}
-use Rattle.jsgen_fields.specs.Values.{after, or_fault, at, head, field, field_in, not_given, text_in, items_in, digits_in, in_row, is_needed, given_in, whole_number, number_of_bits, unit_in, units_listed, text_or_listed, units_in, value_in, type_given, type_of, offsets, span_given, span_of, none_given, text_options, comment_options, unread_options, choice_given, char_named, char_given, width_given, level_given, options_given, options_in, unread_head, some_rows, rows_listed, rows_given, rows_in}
+use Rattle.jsgen_fields.specs.Values.{after, or_fault, at, head, field, field_in, not_given, text_in, items_in, digits_in, in_row, is_needed, given_in, whole_number, number_of_bits, unit_in, units_listed, text_or_listed, units_in, value_in, type_given, type_of, offsets, span_given, span_of, choice_given, path_given, legal_named, legal_given, comments_read, char_named, char_given, width_given, level_given, options_given, options_in, texts_in, symbols_given, symbols_in, entry_in, entries_in, references_given, references_in, names_in, class_in, classes_in, private_given, private_in, tables_in, some_rows, rows_listed, rows_given, rows_in}
 use Rattle.jsgen_fields.specs.Meaning.{Mark, fault, use_of, number_marks, child_marks, hole_marks, each, marks_of, sort_marks, given_marks, field_marks, fields_marks, typed_marks, row_marks, row_tree, is_used, is_program, found_faults, mark_faults, with_mark, with_marks, faults_in, root_tree, root_faults, faults_after, unless, rows_meaning, program_meaning, value_meaning}
 use Rattle.jsgen_rows.specs.Job.{json_of, job_of}
 
@@ -208,15 +209,27 @@ unless_told : {A : Type 0} (fs : List InputFault) (x : A) → FaultsTold fs → 
 unless_told [] x h = tt
 unless_told (f ∷ fs) x h = h.0
 
--- ---- the whole
+-- ---- the options
 
-none_given_told : (a : At) (names : List (List ℕ)) (d : Data) → ResultTold (none_given a names d)
-none_given_told a [] d = tt
-none_given_told a (name ∷ names) d = after_told (not_given a (field name d)) _ (not_given_told a _) (λ u. none_given_told a names d)
+choice_given_told : (absent : Bool) (o : Option Data) → ResultTold (choice_given absent o)
+choice_given_told absent None = tt
+choice_given_told absent (Some d) = or_told (Wrong (head 0)) (as_bool d) (wrong_told _)
 
-choice_given_told : (o : Option Data) → ResultTold (choice_given o)
-choice_given_told None = tt
-choice_given_told (Some d) = or_told (Wrong (head 0)) (as_bool d) (wrong_told _)
+path_given_told : (o : Option Data) → ResultTold (path_given o)
+path_given_told None = tt
+path_given_told (Some d) = after_told (text_in (head 0) d) _ (text_told (head 0) d) (λ s. tt)
+
+legal_given_told : (o : Option Data) (path : Option (List ℕ)) → ResultTold (legal_given o path)
+legal_given_told None path = tt
+legal_given_told (Some d) path = after_told (text_in (head 0) d) _ (text_told (head 0) d) (λ s. or_told (Wrong (head 0)) (legal_named s path) (wrong_told _))
+
+comments_told : (d : Data) → ResultTold (comments_read d)
+comments_told d =
+    after_told (choice_given default_comments.normal (field (codes "normal") d)) _ (choice_given_told _ (field (codes "normal") d))
+    (λ normal. after_told (choice_given default_comments.jsdoc (field (codes "jsdoc") d)) _ (choice_given_told _ (field (codes "jsdoc") d))
+    (λ jsdoc. after_told (choice_given default_comments.annotation (field (codes "annotation") d)) _ (choice_given_told _ (field (codes "annotation") d))
+    (λ annotation. after_told (path_given (field (codes "legal_path") d)) _ (path_given_told (field (codes "legal_path") d))
+    (λ path. after_told (legal_given (field (codes "legal") d) path) _ (legal_given_told (field (codes "legal") d) path) (λ legal. tt)))))
 
 char_given_told : (o : Option Data) → ResultTold (char_given o)
 char_given_told None = tt
@@ -230,31 +243,81 @@ level_given_told : (o : Option Data) → ResultTold (level_given o)
 level_given_told None = tt
 level_given_told (Some d) = or_told (Wrong (head 0)) (number_of_bits 32 d) (wrong_told _)
 
-unread_options_told : (d : Data) → ResultTold (unread_options d)
-unread_options_told d = after_told (none_given (head 0) text_options d) _ (none_given_told _ text_options d) (λ u. none_given_told (head 0) comment_options d)
-
 options_given_told : (o : Option Data) → ResultTold (options_given o)
 options_given_told None = tt
 options_given_told (Some d) =
     after_told (or_fault (Wrong (head 0)) (as_object d)) _ (or_told (Wrong (head 0)) (as_object d) (wrong_told _))
-    (λ members. after_told (unread_options d) _ (unread_options_told d)
-    (λ u. after_told (choice_given (field (codes "single_quote") d)) _ (choice_given_told _)
-    (λ single_quote. after_told (choice_given (field (codes "minify") d)) _ (choice_given_told _)
-    (λ minify. after_told (choice_given (field (codes "ascii_only") d)) _ (choice_given_told _)
-    (λ ascii_only. after_told (char_given (field (codes "indent_char") d)) _ (char_given_told (field (codes "indent_char") d))
+    (λ members. after_told (choice_given default_options.single_quote (field (codes "single_quote") d)) _ (choice_given_told _ (field (codes "single_quote") d))
+    (λ single_quote. after_told (choice_given default_options.minify (field (codes "minify") d)) _ (choice_given_told _ (field (codes "minify") d))
+    (λ minify. after_told (choice_given default_options.ascii_only (field (codes "ascii_only") d)) _ (choice_given_told _ (field (codes "ascii_only") d))
+    (λ ascii_only. after_told (comments_read d) _ (comments_told d)
+    (λ comments. after_told (path_given (field (codes "source_map_path") d)) _ (path_given_told (field (codes "source_map_path") d))
+    (λ source_map_path. after_told (char_given (field (codes "indent_char") d)) _ (char_given_told (field (codes "indent_char") d))
     (λ indent_char. after_told (width_given (field (codes "indent_width") d)) _ (width_given_told (field (codes "indent_width") d))
-    (λ indent_width. after_told (level_given (field (codes "initial_indent") d)) _ (level_given_told (field (codes "initial_indent") d)) (λ initial_indent. tt))))))))
+    (λ indent_width. after_told (level_given (field (codes "initial_indent") d)) _ (level_given_told (field (codes "initial_indent") d)) (λ initial_indent. tt)))))))))
 
 options_told : (d : Data) → ResultTold (options_in d)
 options_told d =
     after_told (or_fault Json (as_object d)) _ (or_told Json (as_object d) (λ e. cc))
     (λ members. after_told (field_in (head 0) false (field (codes "options") d)) options_given (field_told (head 0) false (field (codes "options") d)) options_given_told)
 
-head_told : (d : Data) → ResultTold (unread_head d)
-head_told d =
-    after_told (not_given (head 1) (field (codes "symbols") d)) _ (not_given_told _ _)
-    (λ v. after_told (not_given (head 2) (field (codes "references") d)) _ (not_given_told _ _)
-    (λ w. not_given_told (head 3) (field (codes "private") d)))
+-- ---- the tables
+
+texts_told : (a : At) (ds : List Data) → ResultTold (texts_in a ds)
+texts_told a [] = tt
+texts_told a (d ∷ ds) = after_told (text_in a d) _ (text_told a d) (λ s. after_told (texts_in a ds) _ (texts_told a ds) (λ ss. tt))
+
+symbols_given_told : (o : Option Data) → ResultTold (symbols_given o)
+symbols_given_told None = tt
+symbols_given_told (Some d) = after_told (items_in (head 1) d) _ (items_told (head 1) d) (λ ds. after_told (texts_in (head 1) ds) _ (texts_told (head 1) ds) (λ ss. tt))
+
+symbols_told : (d : Data) → ResultTold (symbols_in d)
+symbols_told d = after_told (field_in (head 1) false (field (codes "symbols") d)) symbols_given (field_told (head 1) false (field (codes "symbols") d)) symbols_given_told
+
+number_given_told : (a : At) (o : Option ℕ) → ResultTold (after (or_fault (Wrong a) o) (λ n. Ok (Some n)))
+number_given_told a None = wrong_told a
+number_given_told a (Some n) = tt
+
+entry_told : (a : At) (d : Data) → ResultTold (entry_in a d)
+entry_told a null = tt
+entry_told a d = number_given_told a (number_of_bits 32 d)
+
+entries_told : (a : At) (ds : List Data) → ResultTold (entries_in a ds)
+entries_told a [] = tt
+entries_told a (d ∷ ds) = after_told (entry_in a d) _ (entry_told a d) (λ e. after_told (entries_in a ds) _ (entries_told a ds) (λ es. tt))
+
+references_given_told : (o : Option Data) → ResultTold (references_given o)
+references_given_told None = tt
+references_given_told (Some d) = after_told (items_in (head 2) d) _ (items_told (head 2) d) (λ ds. after_told (entries_in (head 2) ds) _ (entries_told (head 2) ds) (λ es. tt))
+
+references_told : (d : Data) → ResultTold (references_in d)
+references_told d = after_told (field_in (head 2) false (field (codes "references") d)) references_given (field_told (head 2) false (field (codes "references") d)) references_given_told
+
+names_told : (a : At) (ms : Members) → ResultTold (names_in a ms)
+names_told a no_members = tt
+names_told a (member name d ms) = after_told (text_in a d) _ (text_told a d) (λ s. after_told (names_in a ms) _ (names_told a ms) (λ names. tt))
+
+class_told : (a : At) (d : Data) → ResultTold (class_in a d)
+class_told a d = after_told (or_fault (Wrong a) (as_object d)) (names_in a) (or_told (Wrong a) (as_object d) (wrong_told a)) (names_told a)
+
+classes_told : (a : At) (ds : List Data) → ResultTold (classes_in a ds)
+classes_told a [] = tt
+classes_told a (d ∷ ds) = after_told (class_in a d) _ (class_told a d) (λ c. after_told (classes_in a ds) _ (classes_told a ds) (λ cs. tt))
+
+private_given_told : (o : Option Data) → ResultTold (private_given o)
+private_given_told None = tt
+private_given_told (Some d) = after_told (items_in (head 3) d) _ (items_told (head 3) d) (λ ds. after_told (classes_in (head 3) ds) _ (classes_told (head 3) ds) (λ cs. tt))
+
+private_told : (d : Data) → ResultTold (private_in d)
+private_told d = after_told (field_in (head 3) false (field (codes "private") d)) private_given (field_told (head 3) false (field (codes "private") d)) private_given_told
+
+tables_told : (d : Data) → ResultTold (tables_in d)
+tables_told d =
+    after_told (symbols_in d) _ (symbols_told d)
+    (λ symbols. after_told (references_in d) _ (references_told d)
+    (λ references. after_told (private_in d) _ (private_told d) (λ private. tt)))
+
+-- ---- the rows, and the whole
 
 float_or_wrong_told : (b : Bool) (a : At) → Told (if b then Float a else Wrong a)
 float_or_wrong_told true a = λ e. cc
@@ -269,13 +332,13 @@ rows_given_told None = λ e. cc
 rows_given_told (Some d) = after_told (rows_listed (head 4) d) some_rows (or_told _ _ (float_or_wrong_told (has_float d) (head 4))) some_told
 
 rows_in_told : (d : Data) → ResultTold (rows_in d)
-rows_in_told d = after_told (unread_head d) _ (head_told d) (λ u. rows_given_told (field (codes "rows") d))
+rows_in_told d = rows_given_told (field (codes "rows") d)
 
 program_told : (d : Data) → ResultTold (program_meaning d)
 program_told d = after_told (rows_in d) rows_meaning (rows_in_told d) (λ ds. unless_told (faults_after [] [] ds) _ (rows_told [] [] ds))
 
 value_meaning_told : (d : Data) → ResultTold (value_meaning d)
-value_meaning_told d = after_told (options_in d) _ (options_told d) (λ options. after_told (program_meaning d) _ (program_told d) (λ program. tt))
+value_meaning_told d = after_told (options_in d) _ (options_told d) (λ options. after_told (tables_in d) _ (tables_told d) (λ tables. after_told (program_meaning d) _ (program_told d) (λ program. tt)))
 
 json_told : (bytes : List ℕ) → ResultTold (json_of bytes)
 json_told bytes = choice_told (is_utf8 bytes) (or_fault Json (read bytes)) (Err Json) (or_told Json (read bytes) (λ e. cc)) (λ e. cc)

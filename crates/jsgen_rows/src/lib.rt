@@ -12,11 +12,13 @@ ghost use Rattle.jsgen_fields.specs.Reads.{read_program};
 mod options;
 mod rows;
 mod steps;
+mod tables;
 
 use crate::options::options_in;
 use crate::steps::{read_rows, root_of, rows_in};
+use crate::tables::{private_in, references_in, scoping_of, symbols_in};
 use jsgen_fields::InputFault;
-use jsgen_tree::{CodegenOptions, Program};
+use jsgen_tree::{CodegenOptions, PrivateMappings, Program, Scoping};
 use serde_json::Value;
 use std::alloc::Global;
 
@@ -24,6 +26,10 @@ use std::alloc::Global;
 #[derive(Drop)]
 pub struct Job {
     pub options: CodegenOptions,
+    /// The tables by which names are printed.
+    pub scoping: Option<Scoping>,
+    /// The new names of private names.
+    pub private: Option<PrivateMappings>,
     pub program: Program,
 }
 
@@ -55,9 +61,17 @@ fn read_json(alloc: Global, bytes: &[u8]) -> Result<Value, InputFault>
 fn read_value(alloc: Global, value: &Value) -> Result<Job, InputFault>
     ensures { Same job_plain result (value_meaning (view value.now)) }
 {
-    let options = options_in(value)?;
+    let options = options_in(alloc, value)?;
+    let symbols = symbols_in(alloc, value)?;
+    let references = references_in(alloc, value)?;
+    let private = private_in(alloc, value)?;
     let program = read_program(alloc, value)?;
-    Ok(Job { options, program })
+    Ok(Job {
+        options,
+        scoping: scoping_of(alloc, symbols, references),
+        private,
+        program,
+    })
 }
 
 fn read_program(alloc: Global, value: &Value) -> Result<Program, InputFault>

@@ -1,49 +1,90 @@
 // The options of a job, field 0 of its head.
-ghost use Rattle.std.specs.Prelude.{◌≡◌, codes};
+ghost use Rattle.std.specs.Prelude.{◌≡◌, codes, option_map};
 ghost use Rattle.serde_json.specs.View.{view};
-ghost use Rattle.jsgen_tree.specs.Options.{options_plain};
-ghost use Rattle.jsgen_fields.specs.Values.{Same, head, field, none_given, text_options, comment_options, choice_given, char_named, char_given, width_given, level_given, options_read, options_in};
+ghost use Rattle.jsgen_tree.specs.Characters.{characters};
+ghost use Rattle.jsgen_tree.specs.Options.{legal_plain, comments_plain, options_plain};
+ghost use Rattle.jsgen_fields.specs.Values.{Same, field, choice_given, path_given, legal_named, legal_given, comments_read, char_named, char_given, width_given, level_given, options_read, options_in};
 
-use jsgen_fields::values::{not_given, optional_value, present, text_in};
+use jsgen_fields::values::{number_in, optional_value, present, text_in};
 use jsgen_fields::{At, InputFault};
 use jsgen_syntax::IndentChar;
-use jsgen_tree::CodegenOptions;
+use jsgen_tree::{CodegenOptions, CommentOptions, LegalComment};
 use serde_json::Value;
+use std::alloc::Global;
 
-/// Options of the text that aren't read yet.
-fn text_options(options: &Value) -> Result<(), InputFault>
-    ensures { Same (λ u. u) result (none_given (head 0) text_options (view options.now)) }
-{
-    let at = At::of_head(0);
-    not_given(at, options, "source_map_path")?;
-    Ok(())
-}
-
-/// Options of the comments that aren't read yet.
-fn comment_options(options: &Value) -> Result<(), InputFault>
-    ensures { Same (λ u. u) result (none_given (head 0) comment_options (view options.now)) }
-{
-    let at = At::of_head(0);
-    not_given(at, options, "normal")?;
-    not_given(at, options, "jsdoc")?;
-    not_given(at, options, "annotation")?;
-    not_given(at, options, "legal")?;
-    not_given(at, options, "legal_path")?;
-    Ok(())
-}
-
-/// An option that is true or false, which stands for an absent one too.
-fn choice_in(options: &Value, name: &str) -> Result<bool, InputFault>
-    ensures { Same (λ b. b) result (choice_given (field name.now (view options.now))) }
+/// An option that is true or false, or what stands for an absent one.
+fn choice_in(options: &Value, name: &str, absent: bool) -> Result<bool, InputFault>
+    ensures { Same (λ b. b) result (choice_given absent (field name.now (view options.now))) }
 {
     let Some(value) = present(options, name) else {
-        return Ok(false);
+        return Ok(absent);
     };
     match value.as_bool() {
         Some(given) => Ok(given),
         None => Err(InputFault::Wrong(At::of_head(0))),
     }
 }
+
+/// An option that is a text.
+fn path_in(alloc: Global, options: &Value, name: &str) -> Result<Option<String>, InputFault>
+    ensures { Same (option_map characters) result (path_given (field name.now (view options.now))) }
+{
+    let Some(value) = present(options, name) else {
+        return Ok(None);
+    };
+    let path = text_in(At::of_head(0), value)?;
+    Ok(Some(String::from_str(alloc, path)?))
+}
+
+// ---- which comments are printed
+
+fn legal_named(word: &str, path: Option<String>) -> Option<LegalComment>
+    ensures { option_map legal_plain result ≡ legal_named word.now (option_map characters path) }
+{
+    match word {
+        "none" => Some(LegalComment::None),
+        "inline" => Some(LegalComment::Inline),
+        "eof" => Some(LegalComment::Eof),
+        "linked" => match path {
+            Some(path) => Some(LegalComment::Linked(path)),
+            None => None,
+        },
+        "external" => Some(LegalComment::External),
+        _ => None,
+    }
+}
+
+/// What becomes of the comments that hold a licence; those that are linked stand at the path.
+fn legal_in(options: &Value, path: Option<String>) -> Result<LegalComment, InputFault>
+    ensures { Same legal_plain result (legal_given (field (codes "legal") (view options.now)) (option_map characters path)) }
+{
+    let at = At::of_head(0);
+    let Some(value) = present(options, "legal") else {
+        return Ok(LegalComment::Inline);
+    };
+    match legal_named(text_in(at, value)?, path) {
+        Some(legal) => Ok(legal),
+        None => Err(InputFault::Wrong(at)),
+    }
+}
+
+fn comments_read(alloc: Global, options: &Value) -> Result<CommentOptions, InputFault>
+    ensures { Same comments_plain result (comments_read (view options.now)) }
+{
+    let normal = choice_in(options, "normal", true)?;
+    let jsdoc = choice_in(options, "jsdoc", true)?;
+    let annotation = choice_in(options, "annotation", true)?;
+    let path = path_in(alloc, options, "legal_path")?;
+    let legal = legal_in(options, path)?;
+    Ok(CommentOptions {
+        normal,
+        jsdoc,
+        annotation,
+        legal,
+    })
+}
+
+// ---- indentation
 
 fn char_named(word: &str) -> Option<IndentChar>
     ensures { result ≡ char_named word.now }
@@ -86,26 +127,25 @@ fn width_in(options: &Value) -> Result<usize, InputFault>
 fn level_in(options: &Value) -> Result<u32, InputFault>
     ensures { Same (λ n. n) result (level_given (field (codes "initial_indent") (view options.now))) }
 {
-    let Some(value) = present(options, "initial_indent") else {
-        return Ok(0);
-    };
-    match value.as_u64() {
-        Some(level) if level < 4_294_967_296 => Ok(level as u32),
-        _ => Err(InputFault::Wrong(At::of_head(0))),
+    match present(options, "initial_indent") {
+        Some(value) => number_in(At::of_head(0), value),
+        None => Ok(0),
     }
 }
 
-fn options_read(options: &Value) -> Result<CodegenOptions, InputFault>
+// ---- the whole
+
+fn options_read(alloc: Global, options: &Value) -> Result<CodegenOptions, InputFault>
     ensures { Same options_plain result (options_read (view options.now)) }
 {
     if options.as_object().is_none() {
         return Err(InputFault::Wrong(At::of_head(0)));
     }
-    text_options(options)?;
-    comment_options(options)?;
-    let single_quote = choice_in(options, "single_quote")?;
-    let minify = choice_in(options, "minify")?;
-    let ascii_only = choice_in(options, "ascii_only")?;
+    let single_quote = choice_in(options, "single_quote", false)?;
+    let minify = choice_in(options, "minify", false)?;
+    let ascii_only = choice_in(options, "ascii_only", false)?;
+    let comments = comments_read(alloc, options)?;
+    let source_map_path = path_in(alloc, options, "source_map_path")?;
     let indent_char = char_in(options)?;
     let indent_width = width_in(options)?;
     let initial_indent = level_in(options)?;
@@ -113,14 +153,15 @@ fn options_read(options: &Value) -> Result<CodegenOptions, InputFault>
         single_quote,
         minify,
         ascii_only,
+        comments,
+        source_map_path,
         indent_char,
         indent_width,
         initial_indent,
-        ..CodegenOptions::default()
     })
 }
 
-pub fn options_in(job: &Value) -> Result<CodegenOptions, InputFault>
+pub fn options_in(alloc: Global, job: &Value) -> Result<CodegenOptions, InputFault>
     ensures { Same options_plain result (options_in (view job.now)) }
 {
     if job.as_object().is_none() {
@@ -129,5 +170,5 @@ pub fn options_in(job: &Value) -> Result<CodegenOptions, InputFault>
     let Some(options) = optional_value(At::of_head(0), job, "options")? else {
         return Ok(CodegenOptions::default());
     };
-    options_read(options)
+    options_read(alloc, options)
 }

@@ -1,15 +1,15 @@
-// The program: the head behind its options, a row after the other, and the last row is the program.
-ghost use Rattle.std.specs.Prelude.{◌≡◌, [], Some, None, MatchOption, map, ⊤};
+// The program: the rows, field 4 of the head, one after the other, and the last row is the program.
+ghost use Rattle.std.specs.Prelude.{◌≡◌, [], Some, None, MatchOption, map};
 ghost use Rattle.serde_json.specs.View.{view};
 ghost use Rattle.jsgen_tree.specs.Plain.{node_plain, program_plain};
-ghost use Rattle.jsgen_fields.specs.Values.{Same, at, unread_head, rows_listed, rows_in};
+ghost use Rattle.jsgen_fields.specs.Values.{Same, at, rows_listed, rows_in};
 ghost use Rattle.jsgen_fields.specs.Reads.{Gives, root_found, read_row, read_rows, root_of};
 ghost use Rattle.jsgen_fields.specs.Kept.{entry, entries, row_plain};
 
 use crate::rows::read_typed;
 use jsgen_fields::floats::holds_float;
 use jsgen_fields::kept::{ReadNode, Row};
-use jsgen_fields::values::{not_given, present, span_of, type_of};
+use jsgen_fields::values::{present, span_of, type_of};
 use jsgen_fields::{At, InputFault};
 use jsgen_pool::Kept;
 use jsgen_tree::Program;
@@ -73,15 +73,7 @@ pub fn root_of(mut kept: Vec<Kept<Row>>) -> Result<Program, InputFault>
     }
 }
 
-// ---- the head
-
-fn unread_head(value: &Value) -> Result<(), InputFault>
-    ensures { Same (λ u. u) result (unread_head (view value.now)) }
-{
-    not_given(At::of_head(1), value, "symbols")?;
-    not_given(At::of_head(2), value, "references")?;
-    not_given(At::of_head(3), value, "private")
-}
+// ---- the list of rows
 
 #[tactic(auto, using(jsgen_fields::proofs::Listed::lists))]
 fn rows_listed(at: At, given: &Value) -> Result<&Vec<Value>, InputFault>
@@ -102,7 +94,6 @@ fn rows_listed(at: At, given: &Value) -> Result<&Vec<Value>, InputFault>
 pub fn rows_in(value: &Value) -> Result<&Vec<Value>, InputFault>
     ensures { Same (λ v. map view v.now.items) result (rows_in (view value.now)) }
 {
-    unread_head(value)?;
     let Some(given) = present(value, "rows") else {
         return Err(InputFault::Missing(At::of_head(4)));
     };

@@ -12,12 +12,24 @@ use jsgen_fields::InputFault;
 use jsgen_fields::fields::boxed;
 use jsgen_fields::kept::{ReadNode, Row, binding_pattern_row, declaration_row, statement_row};
 use jsgen_fields::others::OtherStatement;
-use jsgen_fields::set_fields::{comment_list, directive_list, needed_binding_pattern, needed_expression, needed_statement, optional_expression, optional_statement, statement_list, variable_declarator_list};
-use jsgen_fields::values::{field_not_given, needed_number, needed_text, neither_given, optional_flag, optional_number, optional_text};
-use jsgen_fields::words::{needed_content_of_comment, needed_declaration_kind, needed_kind_of_comment, needed_source_kind};
+use jsgen_fields::set_fields::{
+    comment_list, directive_list, needed_binding_pattern, needed_expression, needed_statement,
+    optional_expression, optional_statement, statement_list, variable_declarator_list,
+};
+use jsgen_fields::values::{
+    field_not_given, needed_number, needed_text, neither_given, optional_flag, optional_number,
+    optional_text,
+};
+use jsgen_fields::words::{
+    needed_content_of_comment, needed_declaration_kind, needed_kind_of_comment, needed_source_kind,
+};
 use jsgen_pool::Kept;
 use jsgen_syntax::Span;
-use jsgen_tree::{BindingIdentifier, BindingPattern, BlockStatement, Comment, Declaration, Directive, EmptyStatement, ExpressionStatement, IfStatement, NodeType, Program, Statement, VariableDeclaration, VariableDeclarator};
+use jsgen_tree::{
+    BindingIdentifier, BindingPattern, BlockStatement, Comment, Declaration, Directive,
+    EmptyStatement, ExpressionStatement, IfStatement, NodeType, Program, Statement,
+    VariableDeclaration, VariableDeclarator,
+};
 use serde_json::Value;
 use std::alloc::Global;
 
@@ -60,7 +72,14 @@ fn read_program<N: ReadNode + Drop>(
         Ok(body) => body,
         Err(fault) => return Err(fault),
     };
-    let node = Program { span, source, kind, comments, directives, body };
+    let node = Program {
+        span,
+        source,
+        kind,
+        comments,
+        directives,
+        body,
+    };
     match boxed(alloc, node) {
         Ok(node) => Ok(Row::Program(node)),
         Err(fault) => Err(fault),
@@ -103,7 +122,15 @@ fn read_comment<N: ReadNode + Drop>(
         Ok(followed_by_newline) => followed_by_newline,
         Err(fault) => return Err(fault),
     };
-    let node = Comment { span, kind, content, leading, attached_to, preceded_by_newline, followed_by_newline };
+    let node = Comment {
+        span,
+        kind,
+        content,
+        leading,
+        attached_to,
+        preceded_by_newline,
+        followed_by_newline,
+    };
     match boxed(alloc, node) {
         Ok(node) => Ok(Row::Comment(node)),
         Err(fault) => Err(fault),
@@ -156,7 +183,11 @@ fn read_variable_declaration<N: ReadNode + Drop>(
         Ok(declarations) => declarations,
         Err(fault) => return Err(fault),
     };
-    let node = VariableDeclaration { span, kind, declarations };
+    let node = VariableDeclaration {
+        span,
+        kind,
+        declarations,
+    };
     match boxed(alloc, node) {
         Ok(node) => declaration_row(alloc, Declaration::VariableDeclaration(node)),
         Err(fault) => Err(fault),
@@ -237,7 +268,12 @@ fn read_expression_statement<N: ReadNode + Drop>(
     };
     let node = ExpressionStatement { span, expression };
     match boxed(alloc, node) {
-        Ok(node) => statement_row(alloc, OtherStatement { statement: Statement::ExpressionStatement(node) }),
+        Ok(node) => statement_row(
+            alloc,
+            OtherStatement {
+                statement: Statement::ExpressionStatement(node),
+            },
+        ),
         Err(fault) => Err(fault),
     }
 }
@@ -259,7 +295,12 @@ fn read_block_statement<N: ReadNode + Drop>(
     };
     let node = BlockStatement { span, body };
     match boxed(alloc, node) {
-        Ok(node) => statement_row(alloc, OtherStatement { statement: Statement::BlockStatement(node) }),
+        Ok(node) => statement_row(
+            alloc,
+            OtherStatement {
+                statement: Statement::BlockStatement(node),
+            },
+        ),
         Err(fault) => Err(fault),
     }
 }
@@ -287,9 +328,19 @@ fn read_if_statement<N: ReadNode + Drop>(
         Ok(alternate) => alternate,
         Err(fault) => return Err(fault),
     };
-    let node = IfStatement { span, test, consequent, alternate };
+    let node = IfStatement {
+        span,
+        test,
+        consequent,
+        alternate,
+    };
     match boxed(alloc, node) {
-        Ok(node) => statement_row(alloc, OtherStatement { statement: Statement::IfStatement(node) }),
+        Ok(node) => statement_row(
+            alloc,
+            OtherStatement {
+                statement: Statement::IfStatement(node),
+            },
+        ),
         Err(fault) => Err(fault),
     }
 }
@@ -310,7 +361,12 @@ fn read_empty_statement<N: ReadNode + Drop>(
     let _ = row;
     let node = EmptyStatement { span };
     match boxed(alloc, node) {
-        Ok(node) => statement_row(alloc, OtherStatement { statement: Statement::EmptyStatement(node) }),
+        Ok(node) => statement_row(
+            alloc,
+            OtherStatement {
+                statement: Statement::EmptyStatement(node),
+            },
+        ),
         Err(fault) => Err(fault),
     }
 }
