@@ -1,5 +1,5 @@
 -- What stands behind a mark.
-use Rattle.std.proofs.Common.{◌≡◌, ℕ, Bool, true, false, cond, ◌&&◌, ◌==◌, List, [], ◌∷◌, ◌++◌, length, take, drop, Option, Some, None, Bor, refl, sym, ap, subst, ◌∙◌, arith}
+use Rattle.std.proofs.Common.{◌≡◌, ℕ, Bool, true, false, ◌&&◌, ◌==◌, List, [], ◌∷◌, ◌++◌, Option, Some, None, Bor, refl, sym, ap, ◌∙◌, arith}
 use Rattle.std.specs.Option.{option_map_or, MatchOption}
 use Rattle.std.specs.Str.{chars, encode_utf8_all, IsUtf8}
 use Rattle.std.specs.Str.Pattern.{FindsTextPrefix, StripsPrefix}
@@ -40,7 +40,7 @@ no_mark mark text holds marked utf8 lacks = by (begins_with (chars mark) holds (
 
 pub behind : (mark text : List ℕ) (r : Option (Bor (List ℕ))) → IsUtf8 mark → IsUtf8 text → MatchOption r (FindsTextPrefix mark text None) (λ x. StripsPrefix (FindsTextPrefix mark) text x.now) → (holds : List ℕ → Bool) → begins_with (chars mark) holds (chars text) ≡ option_map_or (λ rest. holds (chars rest.now)) r false
 behind mark text None marked utf8 lacks holds = no_mark mark text holds marked utf8 lacks
-behind mark text (Some x) marked utf8 found holds = behind_mark mark text x.now holds marked (found.1.0.1.0 ∙ ap (λ r. mark ++ r) (sym found.1.1.0))
+behind mark text (Some x) marked utf8 found holds = behind_mark mark text x.now holds marked (found.1.1 ∙ ap (λ r. mark ++ r) (sym found.2))
 
 -- ---- marks of ASCII are their own characters
 

@@ -31,13 +31,7 @@ impl Close {
     {
         match self {
             Close::Star if c == '/' => Close::Closed,
-            Close::Open | Close::Star => {
-                if c == '*' {
-                    Close::Star
-                } else {
-                    Close::Open
-                }
-            }
+            Close::Open | Close::Star => { if c == '*' { Close::Star } else { Close::Open } }
             Close::Closed | Close::Passed => Close::Passed,
         }
     }

@@ -12,14 +12,13 @@ mod names;
 mod spans;
 
 pub use comments::check_comment;
-pub use names::{check_binding, check_reference, check_written_name};
-pub use spans::{check_source, check_span};
-
 use jsgen_model::TreeFault;
 use jsgen_numbers::{is_big_integer, is_raw_number};
 use jsgen_syntax::{Quote, Span};
 use jsgen_text::spells_string;
 use jsgen_tree::{NodeSet, NodeType};
+pub use names::{check_binding, check_reference, check_written_name};
+pub use spans::{check_source, check_span};
 
 /// A directive's raw text spells a string, in the one quote or the other.
 pub fn check_raw(raw: &str, span: Span) -> Result<(), TreeFault>
