@@ -1,5 +1,5 @@
 -- What each item of a layout writes.
-use Rattle.std.proofs.Common.{◌≡◌, ℕ, zero, suc, ◌*◌, Bool, true, false, not, ◌||◌, ◌==◌, ◌⊎◌, inl, inr, Some, is_some, List, [], ◌∷◌, ◌++◌, codes, replicate, refl, sym, ap, ◌∙◌, subst, subst₂, append_assoc, append-nil, None}
+use Rattle.std.proofs.Common.{◌≡◌, ℕ, zero, suc, ◌*◌, Bool, true, false, not, ◌||◌, ◌==◌, ◌⊎◌, inl, inr, Option, Some, is_some, unwrap_or, option_and_then, List, [], ◌∷◌, ◌++◌, codes, replicate, refl, sym, ap, ◌∙◌, subst, subst₂, append_assoc, append-nil, None}
 use Rattle.std.specs.Char.{is_ascii_digit}
 use Rattle.std.specs.List.{list_all, last_or}
 use Rattle.std.proofs.lemmas.Bool.{both_ways, and_parts, and_from, or_from, or_cases, or_left, or_right, eqb-true, not-false}
@@ -8,8 +8,8 @@ use Rattle.jsgen_syntax.specs.Strings.{quote_char, string_value}
 use Rattle.jsgen_syntax.specs.Escapes.{name_text, has_escapes, begins}
 use Rattle.jsgen_syntax.specs.declared.quote.Quote.{Quote}
 use Rattle.std.specs.Option.{option_map_or}
-use Rattle.jsgen_tree.specs.Job.{Tables}
-use Rattle.jsgen_tree.specs.Named.{Named, printed_name}
+use Rattle.jsgen_tree.specs.Job.{Scoping, Tables}
+use Rattle.jsgen_tree.specs.Named.{Named, as_written, name_by, printed_name}
 use Rattle.jsgen_model.proofs.NumberRuns.{BarsDot, whole_number, big_number, big_bars_dot, marked_bars_dot, number_last}
 use Rattle.jsgen_model.proofs.NumberStates.{start}
 use Rattle.jsgen_model.proofs.NumberMachine.{number_runs}
@@ -68,6 +68,19 @@ pub wrote_name : {names : Tables} (n : Named) (p : Pen) (l : Last) → spells_na
 wrote_name {names} n p l h k =
     let w : List ℕ = name_text p.style.ascii (printed_name names n) in
     subst (λ tables. Writes names p l (with_name (printed_name tables n) p) (After (Word w)) (piece (line_of l) (Word w) done)) (sym k.tables) (wrote_with_name (printed_name names n) p l h k)
+
+-- one that stands as it is written is printed so
+pub printed_as_written : (names : Tables) (w : List ℕ) → printed_name names (as_written w) ≡ w
+printed_as_written names w = go names.scoping
+  where
+    go : (o : Option Scoping) → unwrap_or (option_and_then (λ scoping. name_by scoping (as_written w)) o) w ≡ w
+    go None = refl
+    go (Some scoping) = refl
+
+pub wrote_written_name : {names : Tables} (w : List ℕ) (p : Pen) (l : Last) → spells_name w ≡ true → Knows names p l → Writes names p l (layout (name (as_written w)) p) (After (Word (name_text p.style.ascii w))) (piece (line_of l) (Word (name_text p.style.ascii w)) done)
+wrote_written_name {names} w p l h k =
+    let e : printed_name names (as_written w) ≡ w = printed_as_written names w in
+    subst (λ x. Writes names p l (layout (name (as_written w)) p) (After (Word (name_text p.style.ascii x))) (piece (line_of l) (Word (name_text p.style.ascii x)) done)) e (wrote_name (as_written w) p l (subst (λ x. spells_name x ≡ true) (sym e) h) k)
 
 -- a number that doesn't end in a dot ends in a character of words
 ends_apart_number : (e : Ending) (code gap : List ℕ) (c : ℕ) (w : List ℕ) → spells_number (c ∷ w) ≡ true → ends_in (codes ".") (c ∷ w) ≡ false → is_apart e (code ++ (gap ++ (c ∷ w))) ≡ true
