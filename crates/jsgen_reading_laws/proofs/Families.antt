@@ -1,4 +1,4 @@
--- The trees over which the induction goes. They follow from the rules, one lemma a row.
+-- The trees over which the induction goes, where names are printed by these tables. They follow from the rules, one lemma a row.
 use Rattle.std.proofs.Common.{◌≡◌, ◌^◌, nat_lt, ℕ, Bool, true, false, not, ◌&&◌, ◌||◌, ◌++◌, List, [], ◌∷◌, Option, Some, None, is_some, refl, ap}
 use Rattle.std.specs.Option.{option_map_or}
 use Rattle.jsgen_syntax.specs.declared.span.Span.{Span}
@@ -237,7 +237,7 @@ is_spread t = false
 
 none_other : (t : Tree) → is_plain_row t ≡ true → is_argument (type_of t) ≡ true → is_spread t ≡ false → is_expression (type_of t) ≡ false → ⊥
 none_other (tree.spread a t) p s n e = no_falsehood n
-none_other t p s n e = search (no_truth, no_falsehood)
+none_other t p s n e = search no_truth
 
 expression_type : (t : Tree) → is_plain_row t ≡ true → is_argument (type_of t) ≡ true → is_spread t ≡ false → is_expression (type_of t) ≡ true
 expression_type t p s n = by (is_expression (type_of t)) refl

@@ -34,7 +34,7 @@ may_begin statement ts = starts_statement ts
 may_begin arrow_body ts = no_brace ts
 may_begin default_export ts = no_declaration ts
 
--- Between two pens stands an expression that is read so as a tree of the same normal form. No semicolon was due before, and none is after.
+-- Between two pens stands an expression that is read so, as a tree of the normal form that it has with its names as they are printed. No semicolon was due before, and none is after.
 -- What it may begin it begins with whatever follows, but the word `function`.
 pub record GoodAs (names : Tables) (Reads : Tokens → Tree → Type 0) (p : Pen) (l : Last) (q : Pen) (start : Start) (t : Tree) : Type 0 where
   pub last : Last

@@ -20,7 +20,7 @@ use Rattle.jsgen_tree.specs.Tree.{Tree, Atoms, span_of}
 use Rattle.jsgen_tree.specs.Nodes as tree
 use Rattle.jsgen_tree.specs.Places.{bare}
 use Rattle.jsgen_tree.specs.Named.{Named, as_written, printed_name}
-use Rattle.jsgen_tree.specs.Inside.{without_parentheses, looked_up_in, reference_named, written_name_in, is_negative_number, is_proto, behind_minus, is_negative_big_integer}
+use Rattle.jsgen_tree.specs.Inside.{without_parentheses, looked_up_in, reference_named, written_name_in, is_proto, behind_minus, is_negative_big_integer}
 use Rattle.jsgen_tree.specs.Values.{identifier_name_name, numeric_literal_kind, numeric_literal_negative, numeric_literal_digits, numeric_literal_text, big_int_literal_value, string_literal_value, object_property_kind, object_property_method, object_property_shorthand, object_property_computed}
 use Rattle.jsgen_tree.specs.declared.collections.PropertyKind.{PropertyKind}
 use Rattle.jsgen_tree.specs.declared.collections.PropertyKind.TheVariants as kinds
@@ -47,6 +47,7 @@ use Rattle.jsgen_reading_laws.proofs.Levels.{from_primary}
 use Rattle.jsgen_reading_laws.proofs.Good.{Good, Printed}
 use Rattle.jsgen_reading_laws.proofs.Lists.{Element, ElementAt}
 use Rattle.jsgen_reading_laws.proofs.Asked.{asked}
+use Rattle.jsgen_reading_laws.proofs.Unrenamed.{written_as_it_was, signed_as_it_was}
 
 -- ---- keys
 
@@ -353,19 +354,6 @@ short_property c a (family.a_big_integer_key h n) m d f s value = absurd (both_w
 short_property {names} c a {v = v} (family.a_computed_key w) m d f s value = absurd (both_ways false refl (ap (λ o. option_map_or (λ n. says_name (object_property_shorthand a) n (printed_in names v)) o false) (sym (no_written_name w)) ∙ s))
 
 -- ---- a key and its value
-
--- no key gets another name, or another sign
-written_as_it_was : (names : Tables) (t : Tree) → written_name_in (renamed names t) ≡ written_name_in t
-written_as_it_was names (tree.identifier_reference a) = refl
-written_as_it_was names (tree.binding_identifier a) = refl
-written_as_it_was names (tree.identifier_name a) = refl
-written_as_it_was names t = refl
-
-signed_as_it_was : (names : Tables) (t : Tree) → is_negative_number (renamed names t) ≡ is_negative_number t
-signed_as_it_was names (tree.identifier_reference a) = refl
-signed_as_it_was names (tree.binding_identifier a) = refl
-signed_as_it_was names (tree.numeric_literal a) = refl
-signed_as_it_was names t = refl
 
 and_false : (b : Bool) → (b && false) ≡ false
 and_false true = refl

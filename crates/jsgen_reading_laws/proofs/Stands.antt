@@ -46,7 +46,7 @@ StandsAt names R Same items = (p : Pen) (l : Last) → p.pending_semicolon ≡ f
 abbrev pub UnendedAt : Tables → {X : Type 0} → (Bool → Tokens → X → Type 0) → (X → Type 0) → Items → Type 0
 UnendedAt names R Same items = (p : Pen) (l : Last) → p.pending_semicolon ≡ false → Ready l → Knows names p l → Unended names R Same p l (layout items p)
 
--- the normal form is that of the tree, or of the trees
+-- the normal form is that of the tree, or of the trees, with the names as they are printed
 abbrev pub SameTree : Tables → Tree → Tree → Type 0
 SameTree names t u = normal u ≡ normal (renamed names t)
 
