@@ -6,7 +6,7 @@ use Rattle.jsgen_syntax.specs.declared.span.Span.{Span}
 use Rattle.jsgen_tree.specs.declared.types.NodeType.{NodeType}
 use Rattle.jsgen_tree.specs.declared.types.NodeType.TheVariants as types
 use Rattle.jsgen_tree.specs.declared.types.NodeSet.{NodeSet}
-use Rattle.jsgen_tree.specs.Job.{JobData, no_tables}
+use Rattle.jsgen_tree.specs.Job.{JobData}
 use Rattle.jsgen_tree.specs.Atom.{Atom, no_value}
 use Rattle.jsgen_tree.specs.Tree.{Tree, Slots, Maybe, Trees, MaybeTrees, node, no_slots, one, maybe, many, maybe_many, absent, given, no_trees, trees, holed, no_list, listed}
 use Rattle.jsgen_tree.specs.Tree as tree
@@ -17,7 +17,7 @@ use Rattle.jsgen_tree.specs.Table as sorts
 use Rattle.jsgen_fields.specs.declared.At.{At}
 use Rattle.jsgen_fields.specs.declared.InputFault.{InputFault}
 use Rattle.jsgen_fields.specs.declared.InputFault.TheVariants.{Wrong, Child, Shared}
-use Rattle.jsgen_fields.specs.Values.{after, at, field, not_given, in_row, given_in, items_in, value_in, type_of, span_of, options_in, rows_in}
+use Rattle.jsgen_fields.specs.Values.{after, at, field, not_given, in_row, given_in, items_in, value_in, type_of, span_of, options_in, tables_in, rows_in}
 
 -- ---- the marks of a row, which it has by itself: a fault, or the number of a row that is to be a child
 
@@ -230,4 +230,4 @@ program_meaning d = after (rows_in d) rows_meaning
 
 -- the job that was read as JSON, or its first fault
 abbrev pub value_meaning : Data → Result JobData InputFault
-value_meaning d = after (options_in d) (λ options. after (program_meaning d) (λ program. Ok (record { options = options; tables = no_tables; program = program })))
+value_meaning d = after (options_in d) (λ options. after (tables_in d) (λ tables. after (program_meaning d) (λ program. Ok (record { options = options; tables = tables; program = program }))))

@@ -3,14 +3,15 @@ use Rattle.std.specs.Prelude.{◌≡◌, ℕ, ◌^◌, ◌==◌, ◌&&◌, List,
 use Rattle.std.specs.Char.Escape.{encode_utf16}
 use Rattle.std.specs.Str.{bytes_eq, chars, all_ascii_digits}
 use Rattle.std.specs.Str.Parse.{digits_value}
-use Rattle.serde_json.specs.Data.{Data, null, Items, no_items, item}
+use Rattle.serde_json.specs.Data.{Data, null, Items, no_items, item, Members, no_members, member}
 use Rattle.serde_json.specs.Find.{get, as_bool, as_str, as_array, as_number, as_object, as_u64}
 use Rattle.serde_json.specs.Written.{has_float}
 use Rattle.jsgen_syntax.specs.declared.buffer.IndentChar.{IndentChar}
 use Rattle.jsgen_syntax.specs.declared.buffer.IndentChar.TheVariants.{Tab, Space}
 use Rattle.jsgen_syntax.specs.declared.span.Span.{Span}
 use Rattle.jsgen_tree.specs.declared.types.NodeType.{NodeType}
-use Rattle.jsgen_tree.specs.Options.{Options, default_options}
+use Rattle.jsgen_tree.specs.Options.{Options, Comments, Legal, left_out, inline, at_end, linked, external, default_options, default_comments}
+use Rattle.jsgen_tree.specs.Job.{Scoping, Tables}
 use Rattle.jsgen_tree.specs.Atom.{Atom}
 use Rattle.jsgen_tree.specs.Atom as atoms
 use Rattle.jsgen_tree.specs.Table.{Field, Presence, Sort, Word, needed, needed_for, settable_for, may_be_absent, by_default}
@@ -200,25 +201,38 @@ span_of k d = after (field_in (at k 1) false (field (codes "span") d)) (span_giv
 
 -- ---- the head: its options, field 0
 
--- none of these names is given
-abbrev pub none_given : At → List (List ℕ) → Data → Result ⊤ InputFault
-none_given a [] d = Ok tt
-none_given a (name ∷ names) d = after (not_given a (field name d)) (λ _. none_given a names d)
+-- an option that is true or false, or what stands for an absent one
+abbrev pub choice_given : Bool → Option Data → Result Bool InputFault
+choice_given absent None = Ok absent
+choice_given absent (Some d) = or_fault (Wrong (head 0)) (as_bool d)
 
--- the options that aren't read yet
-abbrev pub text_options : List (List ℕ)
-text_options = codes "source_map_path" ∷ []
+-- an option that is a text, or absent
+abbrev pub path_given : Option Data → Result (Option (List ℕ)) InputFault
+path_given None = Ok None
+path_given (Some d) = after (text_in (head 0) d) (λ s. Ok (Some (chars s)))
 
-abbrev pub comment_options : List (List ℕ)
-comment_options = codes "normal" ∷ codes "jsdoc" ∷ codes "annotation" ∷ codes "legal" ∷ codes "legal_path" ∷ []
+-- what becomes of the comments that hold a licence, by the word for it; those that are linked stand at a path
+abbrev pub legal_named : List ℕ → Option (List ℕ) → Option Legal
+legal_named s path =
+    if bytes_eq s (codes "none") then Some left_out
+    else if bytes_eq s (codes "inline") then Some inline
+    else if bytes_eq s (codes "eof") then Some at_end
+    else if bytes_eq s (codes "linked") then option_map linked path
+    else if bytes_eq s (codes "external") then Some external else None
 
-abbrev pub unread_options : Data → Result ⊤ InputFault
-unread_options d = after (none_given (head 0) text_options d) (λ _. none_given (head 0) comment_options d)
+abbrev pub legal_given : Option Data → Option (List ℕ) → Result Legal InputFault
+legal_given None path = Ok default_comments.legal
+legal_given (Some d) path = after (text_in (head 0) d) (λ s. or_fault (Wrong (head 0)) (legal_named s path))
 
--- an option that is true or false, which stands for an absent one too
-abbrev pub choice_given : Option Data → Result Bool InputFault
-choice_given None = Ok false
-choice_given (Some d) = or_fault (Wrong (head 0)) (as_bool d)
+-- which comments are printed
+abbrev pub comments_read : Data → Result Comments InputFault
+comments_read d =
+    after (choice_given default_comments.normal (field (codes "normal") d))
+    (λ normal. after (choice_given default_comments.jsdoc (field (codes "jsdoc") d))
+    (λ jsdoc. after (choice_given default_comments.annotation (field (codes "annotation") d))
+    (λ annotation. after (path_given (field (codes "legal_path") d))
+    (λ path. after (legal_given (field (codes "legal") d) path)
+    (λ legal. Ok (record { normal = normal; jsdoc = jsdoc; annotation = annotation; legal = legal }))))))
 
 -- what a level of indentation is made of
 abbrev pub char_named : List ℕ → Option IndentChar
@@ -242,21 +256,24 @@ level_given (Some d) = or_fault (Wrong (head 0)) (number_of_bits 32 d)
 abbrev pub options_read : Data → Result Options InputFault
 options_read d =
     after (or_fault (Wrong (head 0)) (as_object d))
-    (λ members. after (unread_options d)
-    (λ _. after (choice_given (field (codes "single_quote") d))
-    (λ single_quote. after (choice_given (field (codes "minify") d))
-    (λ minify. after (choice_given (field (codes "ascii_only") d))
-    (λ ascii_only. after (char_given (field (codes "indent_char") d))
+    (λ members. after (choice_given default_options.single_quote (field (codes "single_quote") d))
+    (λ single_quote. after (choice_given default_options.minify (field (codes "minify") d))
+    (λ minify. after (choice_given default_options.ascii_only (field (codes "ascii_only") d))
+    (λ ascii_only. after (comments_read d)
+    (λ comments. after (path_given (field (codes "source_map_path") d))
+    (λ source_map_path. after (char_given (field (codes "indent_char") d))
     (λ indent_char. after (width_given (field (codes "indent_width") d))
     (λ indent_width. after (level_given (field (codes "initial_indent") d))
-    (λ initial_indent. Ok (record default_options {
+    (λ initial_indent. Ok (record {
       single_quote = single_quote;
       minify = minify;
       ascii_only = ascii_only;
+      comments = comments;
+      source_map_path = source_map_path;
       indent_char = indent_char;
       indent_width = indent_width;
       initial_indent = initial_indent;
-    })))))))))
+    }))))))))))
 
 abbrev pub options_given : Option Data → Result Options InputFault
 options_given None = Ok default_options
@@ -266,14 +283,68 @@ options_given (Some d) = options_read d
 abbrev pub options_in : Data → Result Options InputFault
 options_in d = after (or_fault Json (as_object d)) (λ members. after (field_in (head 0) false (field (codes "options") d)) options_given)
 
--- ---- the rows, field 4, behind three fields
+-- ---- the tables of names, fields 1 to 3
 
--- the fields 1 to 3, which aren't read yet
-abbrev pub unread_head : Data → Result ⊤ InputFault
-unread_head d =
-    after (not_given (head 1) (field (codes "symbols") d))
-    (λ _. after (not_given (head 2) (field (codes "references") d))
-    (λ _. not_given (head 3) (field (codes "private") d)))
+-- the texts of a list
+abbrev pub texts_in : At → List Data → Result (List (List ℕ)) InputFault
+texts_in a [] = Ok []
+texts_in a (d ∷ ds) = after (text_in a d) (λ s. after (texts_in a ds) (λ ss. Ok (chars s ∷ ss)))
+
+abbrev pub symbols_given : Option Data → Result (Option (List (List ℕ))) InputFault
+symbols_given None = Ok None
+symbols_given (Some d) = after (items_in (head 1) d) (λ ds. after (texts_in (head 1) ds) (λ ss. Ok (Some ss)))
+
+abbrev pub symbols_in : Data → Result (Option (List (List ℕ))) InputFault
+symbols_in d = after (field_in (head 1) false (field (codes "symbols") d)) symbols_given
+
+-- the number of the symbol that a reference names, in 32 bits, or null where it names none
+abbrev pub entry_in : At → Data → Result (Option ℕ) InputFault
+entry_in a null = Ok None
+entry_in a d = after (or_fault (Wrong a) (number_of_bits 32 d)) (λ n. Ok (Some n))
+
+abbrev pub entries_in : At → List Data → Result (List (Option ℕ)) InputFault
+entries_in a [] = Ok []
+entries_in a (d ∷ ds) = after (entry_in a d) (λ e. after (entries_in a ds) (λ es. Ok (e ∷ es)))
+
+abbrev pub references_given : Option Data → Result (Option (List (Option ℕ))) InputFault
+references_given None = Ok None
+references_given (Some d) = after (items_in (head 2) d) (λ ds. after (entries_in (head 2) ds) (λ es. Ok (Some es)))
+
+abbrev pub references_in : Data → Result (Option (List (Option ℕ))) InputFault
+references_in d = after (field_in (head 2) false (field (codes "references") d)) references_given
+
+-- there are no tables where both are absent; one that is absent beside the other is empty
+abbrev pub scoping_of : Option (List (List ℕ)) → Option (List (Option ℕ)) → Option Scoping
+scoping_of None None = None
+scoping_of symbols references = Some (record { symbols = unwrap_or symbols []; references = unwrap_or references [] })
+
+-- the names of an object, each with its new name
+abbrev pub names_in : At → Members → Result (List (List ℕ × List ℕ)) InputFault
+names_in a no_members = Ok []
+names_in a (member name d ms) = after (text_in a d) (λ s. after (names_in a ms) (λ names. Ok ((chars name, chars s) ∷ names)))
+
+abbrev pub class_in : At → Data → Result (List (List ℕ × List ℕ)) InputFault
+class_in a d = after (or_fault (Wrong a) (as_object d)) (names_in a)
+
+abbrev pub classes_in : At → List Data → Result (List (List (List ℕ × List ℕ))) InputFault
+classes_in a [] = Ok []
+classes_in a (d ∷ ds) = after (class_in a d) (λ c. after (classes_in a ds) (λ cs. Ok (c ∷ cs)))
+
+abbrev pub private_given : Option Data → Result (Option (List (List (List ℕ × List ℕ)))) InputFault
+private_given None = Ok None
+private_given (Some d) = after (items_in (head 3) d) (λ ds. after (classes_in (head 3) ds) (λ cs. Ok (Some cs)))
+
+abbrev pub private_in : Data → Result (Option (List (List (List ℕ × List ℕ)))) InputFault
+private_in d = after (field_in (head 3) false (field (codes "private") d)) private_given
+
+abbrev pub tables_in : Data → Result Tables InputFault
+tables_in d =
+    after (symbols_in d)
+    (λ symbols. after (references_in d)
+    (λ references. after (private_in d)
+    (λ private. Ok (record { scoping = scoping_of symbols references; private = private }))))
+
+-- ---- the rows, field 4
 
 abbrev pub some_rows : List Data → Result (List Data) InputFault
 some_rows [] = Err (Wrong (head 4))
@@ -289,4 +360,4 @@ rows_given None = Err (Missing (head 4))
 rows_given (Some d) = after (rows_listed (head 4) d) some_rows
 
 abbrev pub rows_in : Data → Result (List Data) InputFault
-rows_in d = after (unread_head d) (λ _. rows_given (field (codes "rows") d))
+rows_in d = rows_given (field (codes "rows") d)

@@ -1,9 +1,10 @@
 -- What the bytes of a job mean.
-use Rattle.std.specs.Prelude.{◌≡◌, ℕ, List, Result, Err, if◌then◌else◌}
+use Rattle.std.specs.Prelude.{◌≡◌, ℕ, List, option_map, Result, Err, if◌then◌else◌}
 use Rattle.std.specs.Str.{is_utf8}
 use Rattle.serde_json.specs.Data.{Data}
 use Rattle.serde_json.specs.Read.{read}
-use Rattle.jsgen_tree.specs.Job.{JobData, no_tables}
+use Rattle.jsgen_tree.specs.Job.{JobData}
+use Rattle.jsgen_tree.specs.Scoping.{scoping_plain, private_plain}
 use Rattle.jsgen_tree.specs.Options.{options_plain}
 use Rattle.jsgen_tree.specs.Plain.{program_plain}
 use Rattle.jsgen_fields.specs.declared.InputFault.{InputFault}
@@ -14,7 +15,7 @@ use Rattle.jsgen_fields.specs.Meaning.{value_meaning}
 
 -- the plain data of a job
 abbrev pub job_plain : Job → JobData
-job_plain job = record { options = options_plain job.options; tables = no_tables; program = program_plain job.program }
+job_plain job = record { options = options_plain job.options; tables = record { scoping = option_map scoping_plain job.scoping; private = option_map private_plain job.private }; program = program_plain job.program }
 
 -- The bytes are a text in UTF-8 that is one value of JSON (RFC 8259), read as `serde_json` reads it.
 abbrev pub json_of : List ℕ → Result Data InputFault
