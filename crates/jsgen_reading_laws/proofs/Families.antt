@@ -237,7 +237,7 @@ is_spread t = false
 
 none_other : (t : Tree) → is_plain_row t ≡ true → is_argument (type_of t) ≡ true → is_spread t ≡ false → is_expression (type_of t) ≡ false → ⊥
 none_other (tree.spread a t) p s n e = no_falsehood n
-none_other t p s n e = search no_truth
+none_other t p s n e = search (no_truth, no_falsehood)
 
 expression_type : (t : Tree) → is_plain_row t ≡ true → is_argument (type_of t) ≡ true → is_spread t ≡ false → is_expression (type_of t) ≡ true
 expression_type t p s n = by (is_expression (type_of t)) refl
