@@ -69,19 +69,22 @@ fn nothing(alloc: Global) -> Result<Vec<Value>, Memory>
     ]?)
 }
 
+#[tactic(auto, using(crate::proofs::Forms::forms))]
 pub fn program_form<N: NormalNode>(alloc: Global, node: &Program<N>) -> Result<Form, Memory>
     ensures { IfOk result (λ f. form_plain f ≡ normal (program_row N.plain node.now)) }
 {
     let values = nothing(alloc)?;
     let directives = directive_forms(alloc, &node.directives)?;
     let body = statement_forms(alloc, &node.body)?;
-    row_of_two(
-        alloc,
-        NodeType::Program,
+    Ok(Form {
+        node_type: NodeType::Program,
         values,
-        Slot::Many(directives),
-        Slot::Many(body),
-    )
+        slots: vec![in alloc;
+            Slot::Many(Vec::new(alloc)),
+            Slot::Many(directives),
+            Slot::Many(body),
+        ]?,
+    })
 }
 
 fn directive_forms(alloc: Global, directives: &[Directive]) -> Result<Vec<Form>, Memory>
