@@ -30,7 +30,7 @@ use jsgen_tree::{
 #[tactic(auto, unfolding(crate::specs::Place::pen_after))]
 pub fn print_spread_element<N: PrintNode>(
     node: &SpreadElement<N>,
-    p: &mut Printer,
+    p: &mut Printer<'_>,
     place: Place,
 ) -> Result<(), Memory>
     ensures { Reaches result (pen_of p.old) (pen_of p.new) (pen_after (spread_element_row N.plain node.now) place p.old) }
@@ -44,7 +44,7 @@ pub fn print_spread_element<N: PrintNode>(
 #[tactic(auto, unfolding(crate::specs::Place::pen_after))]
 pub fn print_array_expression<N: PrintNode>(
     node: &ArrayExpression<N>,
-    p: &mut Printer,
+    p: &mut Printer<'_>,
     place: Place,
 ) -> Result<(), Memory>
     ensures { Reaches result (pen_of p.old) (pen_of p.new) (pen_after (array_expression_row N.plain node.now) place p.old) }
@@ -66,7 +66,7 @@ impl<N: PrintNode> PrintElement<Option<ArrayExpressionElement<N>>> for Elements 
 
     fn print_element(
         element: &Option<ArrayExpressionElement<N>>,
-        p: &mut Printer,
+        p: &mut Printer<'_>,
         place: Place,
     ) -> Result<(), Memory> {
         match element {
@@ -79,7 +79,7 @@ impl<N: PrintNode> PrintElement<Option<ArrayExpressionElement<N>>> for Elements 
 #[tactic(auto, unfolding(crate::specs::Place::pen_after))]
 fn print_array_element<N: PrintNode>(
     element: &ArrayExpressionElement<N>,
-    p: &mut Printer,
+    p: &mut Printer<'_>,
     place: Place,
 ) -> Result<(), Memory>
     ensures { Reaches result (pen_of p.old) (pen_of p.new) (layout (spell (in_array_expression_element N.plain element.now) (place_of place (pen_of p.old))) (pen_of p.old)) }
@@ -93,7 +93,7 @@ fn print_array_element<N: PrintNode>(
 #[tactic(auto, unfolding(crate::specs::Place::pen_after))]
 pub fn print_object_expression<N: PrintNode>(
     node: &ObjectExpression<N>,
-    p: &mut Printer,
+    p: &mut Printer<'_>,
     place: Place,
 ) -> Result<(), Memory>
     ensures { Reaches result (pen_of p.old) (pen_of p.new) (pen_after (object_expression_row N.plain node.now) place p.old) }
@@ -108,7 +108,7 @@ pub fn print_object_expression<N: PrintNode>(
 #[tactic(auto, unfolding(crate::specs::Place::pen_after))]
 fn print_properties<N: PrintNode>(
     properties: &[ObjectPropertyKind<N>],
-    p: &mut Printer,
+    p: &mut Printer<'_>,
     place: Place,
 ) -> Result<(), Memory>
     ensures { Reaches result (pen_of p.old) (pen_of p.new) (layout (brackets Brace (object_inside (trees (map (in_object_property_kind N.plain) properties.now))
@@ -133,7 +133,7 @@ impl<N: PrintNode> PrintElement<ObjectPropertyKind<N>> for Properties {
 
     fn print_element(
         element: &ObjectPropertyKind<N>,
-        p: &mut Printer,
+        p: &mut Printer<'_>,
         place: Place,
     ) -> Result<(), Memory> {
         match element {
@@ -146,7 +146,7 @@ impl<N: PrintNode> PrintElement<ObjectPropertyKind<N>> for Properties {
 #[tactic(auto, unfolding(crate::specs::Place::pen_after))]
 pub fn print_object_property<N: PrintNode>(
     node: &ObjectProperty<N>,
-    p: &mut Printer,
+    p: &mut Printer<'_>,
     place: Place,
 ) -> Result<(), Memory>
     ensures { Reaches result (pen_of p.old) (pen_of p.new) (pen_after (object_property_row N.plain node.now) place p.old) }
@@ -162,7 +162,7 @@ pub fn print_object_property<N: PrintNode>(
 #[tactic(auto, unfolding(crate::specs::Place::pen_after))]
 fn print_whole_property<N: PrintNode>(
     node: &ObjectProperty<N>,
-    p: &mut Printer,
+    p: &mut Printer<'_>,
     place: Place,
 ) -> Result<(), Memory>
     ensures { Reaches result (pen_of p.old) (pen_of p.new) (layout (key_items (needs_brackets node.now.computed (in_property_key N.plain node.now.key)) (in_property_key N.plain node.now.key) (spell (in_property_key N.plain node.now.key) (in_brackets Comma (place_of place (pen_of p.old))))
@@ -196,7 +196,7 @@ fn key_name<N: PrintNode>(key: &PropertyKey<N>) -> Option<&str>
 fn print_key<N: PrintNode>(
     key: &PropertyKey<N>,
     computed: bool,
-    p: &mut Printer,
+    p: &mut Printer<'_>,
     place: Place,
 ) -> Result<(), Memory>
     ensures { Reaches result (pen_of p.old) (pen_of p.new) (layout (key_items (needs_brackets computed (in_property_key N.plain key.now)) (in_property_key N.plain key.now) (spell (in_property_key N.plain key.now) (in_brackets Comma (place_of place (pen_of p.old))))
@@ -238,7 +238,7 @@ fn is_number(node_type: NodeType) -> bool
 #[tactic(auto, unfolding(crate::specs::Place::pen_after))]
 fn print_computed_key<N: PrintNode>(
     key: &PropertyKey<N>,
-    p: &mut Printer,
+    p: &mut Printer<'_>,
     place: Place,
 ) -> Result<(), Memory>
     ensures { Reaches result (pen_of p.old) (pen_of p.new) (layout (brackets Square (key_text (in_property_key N.plain key.now) (spell (in_property_key N.plain key.now) (in_brackets Comma (place_of place (pen_of p.old)))))) (pen_of p.old)) }
@@ -252,7 +252,7 @@ fn print_computed_key<N: PrintNode>(
 #[tactic(auto, unfolding(crate::specs::Place::pen_after))]
 pub fn print_key_text<N: PrintNode>(
     key: &PropertyKey<N>,
-    p: &mut Printer,
+    p: &mut Printer<'_>,
     place: Place,
 ) -> Result<(), Memory>
     ensures { Reaches result (pen_of p.old) (pen_of p.new) (layout (key_text (in_property_key N.plain key.now) (spell (in_property_key N.plain key.now) (place_of place (pen_of p.old)))) (pen_of p.old)) }
@@ -267,7 +267,7 @@ pub fn print_key_text<N: PrintNode>(
 #[tactic(auto, unfolding(crate::specs::Place::pen_after))]
 fn print_key_expression<N: PrintNode>(
     key: &ExpressionNode<N>,
-    p: &mut Printer,
+    p: &mut Printer<'_>,
     place: Place,
 ) -> Result<(), Memory>
     ensures { Reaches result (pen_of p.old) (pen_of p.new) (layout (key_text (in_expression N.plain key.now) (spell (in_expression N.plain key.now) (place_of place (pen_of p.old)))) (pen_of p.old)) }
@@ -299,7 +299,7 @@ fn is_string(node_type: NodeType) -> bool
 #[tactic(auto, unfolding(crate::specs::Place::pen_after))]
 fn print_property_value<N: PrintNode>(
     value: &ExpressionNode<N>,
-    p: &mut Printer,
+    p: &mut Printer<'_>,
     place: Place,
 ) -> Result<(), Memory>
     ensures { Reaches result (pen_of p.old) (pen_of p.new) (layout (punctuator colon ⊕ (soft_space ⊕ spell (in_expression N.plain value.now) (in_brackets Comma (place_of place (pen_of p.old))))) (pen_of p.old)) }

@@ -66,7 +66,7 @@ pub trait PrintNode {
     fn node_type(&self) -> NodeType
         ensures { result ≡ type_of (plain self.now) };
 
-    fn print(&self, p: &mut Printer, place: Place) -> Result<(), Memory>
+    fn print(&self, p: &mut Printer<'_>, place: Place) -> Result<(), Memory>
         ensures { Reaches result (pen_of p.old) (pen_of p.new) (pen_after (plain self.now) place p.old) };
 
     /// What matters of it as an operand.
@@ -118,7 +118,7 @@ pub trait PrintAlone {
 
     fn print_alone(
         &self,
-        p: &mut Printer,
+        p: &mut Printer<'_>,
         settings: Settings,
         context: Context,
     ) -> Result<(), Memory>
@@ -131,7 +131,7 @@ pub trait PrintAtLevel {
 
     ghost plain: { Self → Tree };
 
-    fn print_at(&self, p: &mut Printer, place: Place) -> Result<(), Memory>
+    fn print_at(&self, p: &mut Printer<'_>, place: Place) -> Result<(), Memory>
         ensures { Reaches result (pen_of p.old) (pen_of p.new) (pen_after (plain self.now) place p.old) };
 }
 
@@ -144,7 +144,7 @@ impl PrintNode for Node {
     }
 
     #[cycle(node)]
-    fn print(&self, p: &mut Printer, place: Place) -> Result<(), Memory> {
+    fn print(&self, p: &mut Printer<'_>, place: Place) -> Result<(), Memory> {
         match self {
             Node::Expression(node) => print_expression(node, p, place),
             Node::Statement(node) => print_statement(node, p, place),
