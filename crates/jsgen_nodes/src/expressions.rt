@@ -31,7 +31,7 @@ pub fn print_identifier_reference(
     ensures { Reaches result (pen_of p.old) (pen_of p.new) (pen_after (identifier_reference_row node.now) place p.old) }
 {
     let _ = place;
-    p.print_name(node.name.as_str())
+    p.print_reference(node.name.as_str(), node.reference)
 }
 
 #[tactic(auto, unfolding(crate::specs::Place::pen_after))]
@@ -48,7 +48,11 @@ pub fn print_this_expression(
 }
 
 #[tactic(auto, unfolding(crate::specs::Place::pen_after))]
-pub fn print_null_literal(node: &NullLiteral, p: &mut Printer<'_>, place: Place) -> Result<(), Memory>
+pub fn print_null_literal(
+    node: &NullLiteral,
+    p: &mut Printer<'_>,
+    place: Place,
+) -> Result<(), Memory>
     ensures { Reaches result (pen_of p.old) (pen_of p.new) (pen_after (null_literal_row node.now) place p.old) }
 {
     let _ = node;
@@ -83,7 +87,12 @@ pub fn print_numeric_literal(
 }
 
 #[tactic(auto)]
-fn print_whole(negative: bool, digits: u128, p: &mut Printer<'_>, place: Place) -> Result<(), Memory>
+fn print_whole(
+    negative: bool,
+    digits: u128,
+    p: &mut Printer<'_>,
+    place: Place,
+) -> Result<(), Memory>
     ensures { Reaches result (pen_of p.old) (pen_of p.new) (layout (signed true negative (decimal digits) (place_of place (pen_of p.old))) (pen_of p.old)) }
 {
     if negative {

@@ -196,7 +196,11 @@ pub struct Arguments;
 impl<N: PrintNode> PrintMember<Argument<N>> for Arguments {
     ghost plain = { in_argument N.plain };
 
-    fn print_member(argument: &Argument<N>, p: &mut Printer<'_>, place: Place) -> Result<(), Memory> {
+    fn print_member(
+        argument: &Argument<N>,
+        p: &mut Printer<'_>,
+        place: Place,
+    ) -> Result<(), Memory> {
         match argument {
             Argument::SpreadElement(node) => print_spread_element(node, p, place),
             Argument::Expression(expression) => expression.get().print(p, place),

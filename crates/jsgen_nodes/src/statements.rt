@@ -195,5 +195,5 @@ pub fn print_binding_identifier(
     ensures { Reaches result (pen_of p.old) (pen_of p.new) (pen_after (binding_identifier_row node.now) place p.old) }
 {
     let _ = place;
-    p.print_name(node.name.as_str())
+    p.print_binding(node.name.as_str(), node.symbol)
 }
