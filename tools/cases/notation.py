@@ -229,13 +229,14 @@ class Reader:
 
     def field(self, fields, in_order):
         """A field's name and what it holds: the field that is named, or else the next one. The span is always named."""
-        if self.value == "span":
+        by_name = {field.name: field for field in fields}
+        is_named = self.text[self.at:].lstrip().startswith("=")
+        if is_named and self.value == "span":
             self.take()
-            self.expect("=")
+            self.take()
             self.expect("[")
             return "span", self.several("]", lambda: int(self.take()))
-        by_name = {field.name: field for field in fields}
-        if self.value in by_name and self.text[self.at:].lstrip().startswith("="):
+        if is_named and self.value in by_name:
             field = by_name[self.take()]
             self.take()
         else:
