@@ -3,6 +3,7 @@ ghost use Rattle.std.specs.Prelude.{◌≡◌, map};
 ghost use Rattle.jsgen_syntax.specs.declared.precedence.Precedence.TheVariants.{Lowest, Comma};
 ghost use Rattle.jsgen_tree.specs.Tree.{trees};
 ghost use Rattle.jsgen_tree.specs.Characters.{characters};
+ghost use Rattle.jsgen_tree.specs.Named.{as_written};
 ghost use Rattle.jsgen_tree.specs.Rows.{identifier_name_row, static_member_expression_row, computed_member_expression_row, call_expression_row, chain_expression_row, spread_element_row, in_argument, in_chain_element, in_expression};
 ghost use Rattle.jsgen_model.specs.Punctuator.{Round, Square};
 ghost use Rattle.jsgen_model.specs.Items.{◌⊕◌, brackets, name};
@@ -68,7 +69,7 @@ fn print_member_name(
     p: &mut Printer<'_>,
     place: Place,
 ) -> Result<(), Memory>
-    ensures { Reaches result (pen_of p.old) (pen_of p.new) (layout (name_link optional ⊕ name (characters node.now.name)) (pen_of p.old)) }
+    ensures { Reaches result (pen_of p.old) (pen_of p.new) (layout (name_link optional ⊕ name (as_written (characters node.now.name))) (pen_of p.old)) }
 {
     print_name_link(optional, p)?;
     print_identifier_name(node, p, place)
