@@ -114,7 +114,7 @@ FIELDS = ("last", "tokens", "writes", "operand", "semicolon", "begins", "line", 
 def into_expressions(copy, old, new, children, kinds):
     """The laws of reading of an expression: that what is printed is read follows from that of the type that is copied."""
     copy.copy_clause(LAWS + "Families.antt", f"a_{old} :", (f"a_{old} :", f"a_{new} :"), (f"tree.{old} ", f"tree.{new} "))
-    copy.copy_clause(LAWS + "Families.antt", f"expression_valid c around (tree.{old} ", (f"tree.{old} ", f"tree.{new} "), (f"a_{old} (", f"a_{new} ("))
+    copy.copy_clause(LAWS + "Families.antt", f"expression_valid c around (tree.{old} ", (f"tree.{old} ", f"tree.{new} "), (f"a_{old} ", f"a_{new} "))
     copy.copy_clause(LAWS + "Asked.antt", f"asked (family.a_{old} ", (f"a_{old} ", f"a_{new} "))
     fields = " ".join(f"{it} = g.{it};" for it in FIELDS)
     lemma = f"""good_{new} : {{names : Tables}} (c : Allowed) (a : Atoms) {kinds} → Printed names c (tree.{old} a {children}) → Printed names c (tree.{new} a {children})
@@ -129,7 +129,7 @@ good_{new} c a {children} f place p l z y k = let g = f place p l z y k in recor
         arguments = " ".join(right.split(" ")[1:5])
         return f"{left.replace(f'a_{old} ', f'a_{new} ')} = good_{new} {arguments} ({right})\n"
 
-    copy.behind_clause(LAWS + "Expressions.antt", f"printed_expression {{c}} (family.a_{old} ", line)
+    copy.behind_clause(LAWS + "Expressions.antt", f"printed_expression {{names}} {{c}} (family.a_{old} ", line)
 
 
 def pair(copy, k):
@@ -169,7 +169,7 @@ def group(copy, k):
       let k = none_both (in_trees around (place_of sets.Statement around ∷ []) ss) [] h.1 in
       a_statement (a_{new} (items_valid c around ss p.0 p.1.1.0 k.0))
 """)
-    for start in ("normal_open (family.a_block ", "stated {c} (family.a_block "):
+    for start in ("normal_open (family.a_block ", "stated {names} {c} (family.a_block "):
         copy.copy_clause(LAWS + "Statements.antt", start, ("a_block ", f"a_{new} "))
     copy.copy_function(NODES + "blocks.rt", "print_block_statement", ("print_block_statement", f"print_{row}"), ("block_statement_row", f"{row}_row"), ("BlockStatement", name))
     copy.import_type(NODES + "blocks.rt", row, name)

@@ -2,7 +2,6 @@
 // what each may hold by the table of types (./format.mjs).
 import { NotJson, parseJson } from "./json.mjs";
 
-const UNREAD_HEAD = ["symbols", "references", "private"];
 const ROWS = 4;
 const LIMIT = { span: 2n ** 32n, number: 2n ** 32n, whole: 2n ** 64n, unit: 2n ** 16n, digits: 2n ** 128n };
 
@@ -36,13 +35,20 @@ function holdsFloat(value) {
   return value.is === "float";
 }
 
+// The head's fields before the rows, by their numbers, each with the test of its value.
+const HEAD = [
+  ["options", areOptions],
+  ["symbols", (format, value) => isListOf(value, isText)],
+  ["references", (format, value) => isListOf(value, (entry) => entry.is === "null" || isBelow(entry, LIMIT.number))],
+  ["private", (format, value) => isListOf(value, areNewNames)],
+];
+
 function judgeHead(format, members) {
   const fault = (kind, number) => new Fault(`${kind} head field ${number}`);
-  const options = given(members, "options");
-  if (options && holdsFloat(options)) throw fault("Float", 0);
-  if (options && !areOptions(format, options)) throw fault("Wrong", 0);
-  UNREAD_HEAD.forEach((name, index) => {
-    if (given(members, name)) throw fault("Wrong", index + 1);
+  HEAD.forEach(([name, mayBe], number) => {
+    const value = given(members, name);
+    if (value && holdsFloat(value)) throw fault("Float", number);
+    if (value && !mayBe(format, value)) throw fault("Wrong", number);
   });
   const rows = given(members, "rows");
   if (!rows) throw fault("Missing", ROWS);
@@ -50,10 +56,25 @@ function judgeHead(format, members) {
   if (rows.items.length === 0) throw fault("Wrong", ROWS);
 }
 
-function areOptions({ options, unread }, value) {
+function areOptions({ options }, value) {
   if (value.is !== "object") return false;
-  const mayBe = ([name, option]) => given(value.members, name) === null || mayHold(option, given(value.members, name));
-  return [...options].every(mayBe) && unread.every((name) => given(value.members, name) === null);
+  const option = (name) => given(value.members, name);
+  const mayBe = ([name, kind]) => option(name) === null || mayHold(kind, option(name));
+  const isLinkedNowhere = option("legal")?.value === "linked" && option("legal_path") === null;
+  return [...options].every(mayBe) && !isLinkedNowhere;
+}
+
+// The names of an object with their new names. A null in the place of one is no text: no name is a member of the format.
+function areNewNames(value) {
+  return value.is === "object" && [...value.members.values()].every(isText);
+}
+
+function isListOf(value, isMember) {
+  return value.is === "list" && value.items.every(isMember);
+}
+
+function isText(value) {
+  return value.is === "text";
 }
 
 class Rows {

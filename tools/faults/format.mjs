@@ -8,20 +8,19 @@ const SCHEMA = new URL("../../docs/job.schema.json", import.meta.url);
 const VALUES = new Set(["text", "units", "digits", "number", "flag"]);
 const FIELD = /^(\w+)(?: as \w+)? (unread )?(\S+?)(!?)(\?\*|\?|\*|)(?: at \w+)?(?: for (\S+))?( = .*)?$/;
 
-/** The types, each with its fields from number 2 on, the options that are read, each with what it may hold, and those that aren't read. */
+/** The types, each with its fields from number 2 on, and the options, each with what it may hold. */
 export function readFormat() {
   const options = JSON.parse(readFileSync(SCHEMA, "utf8")).properties.options.anyOf.find((kind) => kind.properties).properties;
-  const unread = Object.keys(options).filter((name) => options[name].type === "null");
-  const read = Object.keys(options).filter((name) => !unread.includes(name));
-  const held = new Map(read.map((name) => [name, optionOf(name, options[name].anyOf)]));
-  return { types: typesOfTable(readFileSync(TABLE, "utf8")), options: held, unread };
+  const held = new Map(Object.keys(options).map((name) => [name, optionOf(name, options[name].anyOf)]));
+  return { types: typesOfTable(readFileSync(TABLE, "utf8")), options: held };
 }
 
-// What an option may hold: a flag, one of some words, or a whole number of 32 or of 64 bits.
+// What an option may hold: a text, a flag, one of some words, or a whole number of 32 or of 64 bits.
 function optionOf(name, schemas) {
   const words = schemas.find((schema) => schema.enum)?.enum;
   if (words) return { kind: "word", words };
-  const schema = schemas.find(({ type }) => type === "boolean" || type === "integer");
+  const schema = schemas.find(({ type }) => type !== "null");
+  if (schema?.type === "string") return { kind: "text" };
   if (schema?.type === "boolean") return { kind: "flag" };
   if (schema?.maximum === 2 ** 32 - 1) return { kind: "number" };
   if (schema?.maximum === 2 ** 64) return { kind: "whole" }; // 2^64 - 1, as node reads it
@@ -70,7 +69,7 @@ function section(found, [head, name]) {
 
 // A field that is made by hand of those below it isn't one of the format.
 function isField(line) {
-  return !line.startsWith("| ") && line !== "rules" && !line.startsWith("ghost ") && !/^\w+ by /.test(line);
+  return !line.startsWith("| ") && !["rules", "copied"].includes(line) && !line.startsWith("ghost ") && !/^\w+ by /.test(line);
 }
 
 function fieldOf(line, number, { words, typesOf }) {

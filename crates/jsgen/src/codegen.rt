@@ -73,7 +73,7 @@ pub struct Codegen<'a> {
     has_printed: bool,
     has_failed: bool,
     ghost fresh: { has_printed ≡ false → pen_of printer ≡ empty_pen (style_of (options_plain options) (tables_plain tables)) 0 },
-    ghost tables: { (pen_of printer).style.tables ≡ tables_plain tables },
+    ghost named: { (pen_of printer).style.tables ≡ tables_plain tables },
 }
 
 impl<'a> Codegen<'a> {
@@ -110,9 +110,12 @@ impl<'a> Codegen<'a> {
     {
         let printer = Printer::new(self.alloc, &options).with_tables(self.tables);
         Codegen {
+            alloc: self.alloc,
             options,
+            tables: self.tables,
             printer,
-            ..self
+            has_printed: self.has_printed,
+            has_failed: self.has_failed,
         }
     }
 
@@ -132,10 +135,7 @@ impl<'a> Codegen<'a> {
     }
 
     /// The same printer by these new names of private names, from here on; `None` for none. No name is printed by them yet.
-    pub fn with_private_member_mappings(
-        self,
-        mappings: Option<&'a PrivateMappings>,
-    ) -> Codegen<'a>
+    pub fn with_private_member_mappings(self, mappings: Option<&'a PrivateMappings>) -> Codegen<'a>
         ensures options { options_of result ≡ options_of self.entry }
         ensures tables { tables_of result ≡ record (tables_of self.entry) { private = option_map (λ p. private_plain p.now) mappings.entry } }
         ensures printed { has_printed result ≡ has_printed self.entry }
@@ -158,9 +158,12 @@ impl<'a> Codegen<'a> {
         ensures pen { pen_at result ≡ with_tables (tables_of result) (pen_at self.entry) }
     {
         Codegen {
+            alloc: self.alloc,
+            options: self.options,
             tables,
             printer: self.printer.with_tables(tables),
-            ..self
+            has_printed: self.has_printed,
+            has_failed: self.has_failed,
         }
     }
 

@@ -3,7 +3,6 @@ child may name, and that the last row is the program."""
 
 import json
 
-NOT_READ = ["normal", "jsdoc", "annotation", "legal", "legal_path", "source_map_path"]
 VALUES = {
     "text": {"type": "string"},
     "units": {"anyOf": [{"type": "string"}, {"type": "array", "items": {"type": "integer", "minimum": 0, "maximum": 65535}}]},
@@ -18,12 +17,23 @@ OPTIONS = {
     "indent_char": {"enum": ["tab", "space"]},
     "indent_width": {"type": "integer", "minimum": 0, "maximum": 2**64 - 1},
     "initial_indent": VALUES["number"],
+    "normal": VALUES["flag"],
+    "jsdoc": VALUES["flag"],
+    "annotation": VALUES["flag"],
+    "legal": {"enum": ["none", "inline", "eof", "linked", "external"]},
+    "legal_path": VALUES["text"],
+    "source_map_path": VALUES["text"],
+}
+# Legal comments that are linked stand at a path.
+LINKED = {
+    "if": {"required": ["legal"], "properties": {"legal": {"const": "linked"}}},
+    "then": {"required": ["legal_path"], "properties": {"legal_path": VALUES["text"]}},
 }
 ROW = {"$ref": "#/$defs/row number"}
 
 
 def write(table):
-    options = {name: or_null(value) for name, value in OPTIONS.items()} | {name: {"type": "null"} for name in NOT_READ}
+    options = {name: or_null(value) for name, value in OPTIONS.items()}
     schema = {
         "$schema": "https://json-schema.org/draft/2020-12/schema",
         "$comment": "Generated from tools/nodes/table.txt; edit that and run tools/nodes/generate.",
@@ -31,14 +41,20 @@ def write(table):
         "type": "object",
         "required": ["rows"],
         "properties": {
-            "options": or_null({"type": "object", "properties": options}),
-            "symbols": {"type": "null"}, "references": {"type": "null"}, "private": {"type": "null"},
+            "options": or_null({"type": "object", "properties": options} | LINKED),
+            "symbols": or_null(listed(VALUES["text"])),
+            "references": or_null(listed(or_null(VALUES["number"]))),
+            "private": or_null(listed({"type": "object", "additionalProperties": VALUES["text"]})),
             "rows": {"type": "array", "minItems": 1, "items": {"$ref": "#/$defs/row"}},
         },
         "$defs": {"row number": {"type": "integer", "minimum": 0}, "row": any_row(table)}
         | {n.name: row(table, n) for n in table.nodes.values()},
     }
     return {"docs/job.schema.json": json.dumps(schema, indent=1, ensure_ascii=False) + "\n"}
+
+
+def listed(schema):
+    return {"type": "array", "items": schema}
 
 
 def or_null(schema):
