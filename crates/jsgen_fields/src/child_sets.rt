@@ -9,7 +9,12 @@ ghost use Rattle.jsgen_tree.specs.declared.types.NodeSet.TheVariants as sets;
 
 use crate::children::Child;
 use crate::kept::{ReadNode, Row};
-use jsgen_tree::{Argument, ArrayExpressionElement, ArrowFunctionBody, AssignmentTarget, BindingPatternNode, ChainElement, Comment, DeclarationNode, Directive, Expression, ExpressionNode, FormalParameter, FormalParameterRest, FormalParameters, IdentifierName, NodeSet, ObjectPropertyKind, PropertyKey, SimpleAssignmentTarget, Statement, StatementNode, VariableDeclarator};
+use jsgen_tree::{
+    Argument, ArrayExpressionElement, ArrowFunctionBody, AssignmentTarget, BindingPatternNode,
+    ChainElement, Comment, DeclarationNode, Directive, Expression, ExpressionNode, FormalParameter,
+    FormalParameterRest, FormalParameters, IdentifierName, NodeSet, ObjectPropertyKind,
+    PropertyKey, SimpleAssignmentTarget, Statement, StatementNode, VariableDeclarator,
+};
 use std::alloc::{AllocError, Global};
 
 impl<N: ReadNode + Drop> Child<N> for Comment {
@@ -71,7 +76,10 @@ impl<N: ReadNode + Drop> Child<N> for StatementNode<N> {
             ≡ (if in_set sets.Statement (type_of (row_plain N.plain row)) then Some (row_plain N.plain row) else None)) }
     {
         match row {
-            Row::Declaration(row) => statement_of_declaration(alloc, N::declaration_node(Box::into_inner(row))),
+            Row::Declaration(row) => statement_of_declaration(
+                alloc,
+                N::declaration_node(Box::into_inner(row)),
+            ),
             Row::Statement(row) => Ok(Some(N::statement_node(Box::into_inner(row).statement))),
             _ => Ok(None),
         }
@@ -181,7 +189,10 @@ impl<N: ReadNode + Drop> Child<N> for Argument<N> {
             ≡ (if in_set sets.Argument (type_of (row_plain N.plain row)) then Some (row_plain N.plain row) else None)) }
     {
         match row {
-            Row::Expression(row) => argument_of_expression(alloc, N::expression_node(Box::into_inner(row))),
+            Row::Expression(row) => argument_of_expression(
+                alloc,
+                N::expression_node(Box::into_inner(row)),
+            ),
             Row::SpreadElement(row) => Ok(Some(Argument::SpreadElement(row))),
             _ => Ok(None),
         }
@@ -225,7 +236,10 @@ impl<N: ReadNode + Drop> Child<N> for ArrayExpressionElement<N> {
             ≡ (if in_set sets.ArrayExpressionElement (type_of (row_plain N.plain row)) then Some (row_plain N.plain row) else None)) }
     {
         match row {
-            Row::Expression(row) => array_expression_element_of_expression(alloc, N::expression_node(Box::into_inner(row))),
+            Row::Expression(row) => array_expression_element_of_expression(
+                alloc,
+                N::expression_node(Box::into_inner(row)),
+            ),
             Row::SpreadElement(row) => Ok(Some(ArrayExpressionElement::SpreadElement(row))),
             _ => Ok(None),
         }
@@ -247,7 +261,10 @@ impl<N: ReadNode + Drop> Child<N> for PropertyKey<N> {
             ≡ (if in_set sets.PropertyKey (type_of (row_plain N.plain row)) then Some (row_plain N.plain row) else None)) }
     {
         match row {
-            Row::Expression(row) => property_key_of_expression(alloc, N::expression_node(Box::into_inner(row))),
+            Row::Expression(row) => property_key_of_expression(
+                alloc,
+                N::expression_node(Box::into_inner(row)),
+            ),
             Row::IdentifierName(row) => Ok(Some(PropertyKey::IdentifierName(row))),
             _ => Ok(None),
         }
@@ -293,7 +310,9 @@ impl<N: ReadNode + Drop> Child<N> for SimpleAssignmentTarget<N> {
     {
         let _ = alloc;
         match row {
-            Row::Expression(row) => Ok(simple_assignment_target_of_expression(Box::into_inner(row))),
+            Row::Expression(row) => Ok(simple_assignment_target_of_expression(Box::into_inner(
+                row,
+            ))),
             _ => Ok(None),
         }
     }
@@ -353,7 +372,10 @@ impl<N: ReadNode + Drop> Child<N> for Box<FormalParameterRest<N>> {
     }
 
     #[tactic(auto, using(crate::proofs::Sets::takes_formal_parameter_rests))]
-    fn from_row(alloc: Global, row: Row<N>) -> Result<Option<Box<FormalParameterRest<N>>>, AllocError>
+    fn from_row(
+        alloc: Global,
+        row: Row<N>,
+    ) -> Result<Option<Box<FormalParameterRest<N>>>, AllocError>
         ensures { IfOk result (λ child. option_map (λ b. formal_parameter_rest_row N.plain b.value) child
             ≡ (if in_set sets.FormalParameterRest (type_of (row_plain N.plain row)) then Some (row_plain N.plain row) else None)) }
     {
@@ -402,7 +424,10 @@ impl<N: ReadNode + Drop> Child<N> for ArrowFunctionBody<N> {
             ≡ (if in_set sets.ArrowFunctionBody (type_of (row_plain N.plain row)) then Some (row_plain N.plain row) else None)) }
     {
         match row {
-            Row::Expression(row) => arrow_function_body_of_expression(alloc, N::expression_node(Box::into_inner(row))),
+            Row::Expression(row) => arrow_function_body_of_expression(
+                alloc,
+                N::expression_node(Box::into_inner(row)),
+            ),
             _ => Ok(None),
         }
     }
@@ -468,32 +493,48 @@ fn chain_element_of_expression<N: ReadNode + Drop>(row: Expression<N>) -> Option
 {
     match row {
         Expression::StaticMemberExpression(row) => Some(ChainElement::StaticMemberExpression(row)),
-        Expression::ComputedMemberExpression(row) => Some(ChainElement::ComputedMemberExpression(row)),
+        Expression::ComputedMemberExpression(row) => Some(ChainElement::ComputedMemberExpression(
+            row,
+        )),
         Expression::CallExpression(row) => Some(ChainElement::CallExpression(row)),
         _ => None,
     }
 }
 
-fn simple_assignment_target_of_expression<N: ReadNode + Drop>(row: Expression<N>) -> Option<SimpleAssignmentTarget<N>>
+fn simple_assignment_target_of_expression<N: ReadNode + Drop>(
+    row: Expression<N>,
+) -> Option<SimpleAssignmentTarget<N>>
     ensures { option_map (in_simple_assignment_target N.plain) result
         ≡ (if in_set sets.SimpleAssignmentTarget (type_of (expression_plain N.plain row)) then Some (expression_plain N.plain row) else None) }
 {
     match row {
-        Expression::IdentifierReference(row) => Some(SimpleAssignmentTarget::IdentifierReference(row)),
-        Expression::StaticMemberExpression(row) => Some(SimpleAssignmentTarget::StaticMemberExpression(row)),
-        Expression::ComputedMemberExpression(row) => Some(SimpleAssignmentTarget::ComputedMemberExpression(row)),
+        Expression::IdentifierReference(row) => Some(SimpleAssignmentTarget::IdentifierReference(
+            row,
+        )),
+        Expression::StaticMemberExpression(row) => Some(
+            SimpleAssignmentTarget::StaticMemberExpression(row),
+        ),
+        Expression::ComputedMemberExpression(row) => Some(
+            SimpleAssignmentTarget::ComputedMemberExpression(row),
+        ),
         _ => None,
     }
 }
 
-fn assignment_target_of_expression<N: ReadNode + Drop>(row: Expression<N>) -> Option<AssignmentTarget<N>>
+fn assignment_target_of_expression<N: ReadNode + Drop>(
+    row: Expression<N>,
+) -> Option<AssignmentTarget<N>>
     ensures { option_map (in_assignment_target N.plain) result
         ≡ (if in_set sets.AssignmentTarget (type_of (expression_plain N.plain row)) then Some (expression_plain N.plain row) else None) }
 {
     match row {
         Expression::IdentifierReference(row) => Some(AssignmentTarget::IdentifierReference(row)),
-        Expression::StaticMemberExpression(row) => Some(AssignmentTarget::StaticMemberExpression(row)),
-        Expression::ComputedMemberExpression(row) => Some(AssignmentTarget::ComputedMemberExpression(row)),
+        Expression::StaticMemberExpression(row) => Some(AssignmentTarget::StaticMemberExpression(
+            row,
+        )),
+        Expression::ComputedMemberExpression(row) => Some(
+            AssignmentTarget::ComputedMemberExpression(row),
+        ),
         _ => None,
     }
 }

@@ -11,7 +11,12 @@ ghost use Rattle.jsgen_fields.specs.Kept.{row_plain};
 use crate::InputFault;
 use crate::others::OtherStatement;
 use jsgen_pool::Typed;
-use jsgen_tree::{BindingPattern, BindingPatternNode, Comment, Declaration, DeclarationNode, Directive, Expression, ExpressionNode, FormalParameter, FormalParameterRest, FormalParameters, IdentifierName, Node, NodeType, ObjectProperty, Program, SpreadElement, Statement, StatementNode, VariableDeclarator};
+use jsgen_tree::{
+    BindingPattern, BindingPatternNode, Comment, Declaration, DeclarationNode, Directive,
+    Expression, ExpressionNode, FormalParameter, FormalParameterRest, FormalParameters,
+    IdentifierName, Node, NodeType, ObjectProperty, Program, SpreadElement, Statement,
+    StatementNode, VariableDeclarator,
+};
 use std::alloc::Global;
 
 /// A row that was read, by the set that it is a child of. Sets are in boxes, so that a row is small whatever
@@ -151,28 +156,40 @@ impl<N: ReadNode + Drop> Row<N> {
 }
 
 /// A declaration as a row.
-pub fn declaration_row<N: ReadNode + Drop>(alloc: Global, declaration: Declaration<N>) -> Result<Row<N>, InputFault>
+pub fn declaration_row<N: ReadNode + Drop>(
+    alloc: Global,
+    declaration: Declaration<N>,
+) -> Result<Row<N>, InputFault>
     ensures { Same (row_plain N.plain) result (Ok (declaration_plain N.plain declaration)) }
 {
     Ok(Row::Declaration(Box::new(alloc, declaration)?))
 }
 
 /// A binding pattern as a row.
-pub fn binding_pattern_row<N: ReadNode + Drop>(alloc: Global, binding_pattern: BindingPattern) -> Result<Row<N>, InputFault>
+pub fn binding_pattern_row<N: ReadNode + Drop>(
+    alloc: Global,
+    binding_pattern: BindingPattern,
+) -> Result<Row<N>, InputFault>
     ensures { Same (row_plain N.plain) result (Ok (binding_pattern_plain binding_pattern)) }
 {
     Ok(Row::BindingPattern(Box::new(alloc, binding_pattern)?))
 }
 
 /// A statement as a row.
-pub fn statement_row<N: ReadNode + Drop>(alloc: Global, other: OtherStatement<N>) -> Result<Row<N>, InputFault>
+pub fn statement_row<N: ReadNode + Drop>(
+    alloc: Global,
+    other: OtherStatement<N>,
+) -> Result<Row<N>, InputFault>
     ensures { Same (row_plain N.plain) result (Ok (statement_plain N.plain other.statement)) }
 {
     Ok(Row::Statement(Box::new(alloc, other)?))
 }
 
 /// An expression as a row.
-pub fn expression_row<N: ReadNode + Drop>(alloc: Global, expression: Expression<N>) -> Result<Row<N>, InputFault>
+pub fn expression_row<N: ReadNode + Drop>(
+    alloc: Global,
+    expression: Expression<N>,
+) -> Result<Row<N>, InputFault>
     ensures { Same (row_plain N.plain) result (Ok (expression_plain N.plain expression)) }
 {
     Ok(Row::Expression(Box::new(alloc, expression)?))

@@ -15,7 +15,12 @@ use crate::InputFault;
 use crate::fields::{children, children_or_holes, needed_child, optional_child};
 use crate::kept::{ReadNode, Row};
 use jsgen_pool::Kept;
-use jsgen_tree::{Argument, ArrayExpressionElement, ArrowFunctionBody, AssignmentTarget, BindingPatternNode, ChainElement, Comment, Directive, ExpressionNode, FormalParameter, FormalParameterRest, FormalParameters, IdentifierName, ObjectPropertyKind, PropertyKey, SimpleAssignmentTarget, StatementNode, VariableDeclarator};
+use jsgen_tree::{
+    Argument, ArrayExpressionElement, ArrowFunctionBody, AssignmentTarget, BindingPatternNode,
+    ChainElement, Comment, Directive, ExpressionNode, FormalParameter, FormalParameterRest,
+    FormalParameters, IdentifierName, ObjectPropertyKind, PropertyKey, SimpleAssignmentTarget,
+    StatementNode, VariableDeclarator,
+};
 use serde_json::Value;
 use std::alloc::Global;
 

@@ -2,13 +2,13 @@
 ghost use Rattle.std.specs.Prelude.{◌≡◌, [], suc, Some, true, false, map, option_map};
 ghost use Rattle.std.specs.Str.{bytes_eq};
 ghost use Rattle.serde_json.specs.View.{view};
-ghost use Rattle.jsgen_tree.specs.Characters.{characters};
-ghost use Rattle.jsgen_tree.specs.Atom.{no_value, text as text_atom, digits as digits_atom, flag as flag_atom};
-ghost use Rattle.jsgen_tree.specs.Table.{text, digits, flag, unset_flag, passed_over};
+ghost use Rattle.jsgen_tree.specs.Characters.{characters, number_if_given};
+ghost use Rattle.jsgen_tree.specs.Atom.{no_value, text as text_atom, digits as digits_atom, number as number_atom, flag as flag_atom};
+ghost use Rattle.jsgen_tree.specs.Table.{text, digits, number as number_sort, flag, unset_flag, passed_over};
 ghost use Rattle.serde_json.specs.Find.{as_bool};
 ghost use Rattle.jsgen_fields.specs.declared.InputFault.TheVariants.{Wrong};
 ghost use Rattle.jsgen_fields.specs.Reads.{read_value};
-ghost use Rattle.jsgen_fields.specs.Values.{Same, after, or_fault, at, field, field as value_under, field_in, not_given, text_in, items_in, starts_plainly, decimal_number, digits_in, value_in, type_of, span_of, offset_in, offsets};
+ghost use Rattle.jsgen_fields.specs.Values.{Same, after, or_fault, at, field, field as value_under, field_in, not_given, text_in, items_in, starts_plainly, decimal_number, digits_in, number_of_bits, value_in, type_of, span_of, offsets};
 
 use crate::floats::holds_float;
 use crate::names::type_by_name;
@@ -151,6 +151,28 @@ fn digits_in(at: At, value: &Value) -> Result<u128, InputFault>
     }
 }
 
+// ---- whole numbers of 32 bits
+
+fn short_number(value: &Value) -> Option<u32>
+    ensures { result ≡ number_of_bits 32 (view value.now) }
+{
+    let number = value.as_u64()?;
+    if number < 4294967296 {
+        Some(number as u32)
+    } else {
+        None
+    }
+}
+
+pub fn number_in(at: At, value: &Value) -> Result<u32, InputFault>
+    ensures { Same (λ n. n) result (or_fault (Wrong at) (number_of_bits 32 (view value.now))) }
+{
+    match short_number(value) {
+        Some(number) => Ok(number),
+        None => Err(InputFault::Wrong(at)),
+    }
+}
+
 // ---- fields with no children
 
 fn text_value(alloc: Global, at: At, value: &Value) -> Result<String, InputFault>
@@ -214,6 +236,40 @@ pub fn needed_digits(
     let at = At::of_row(number, field);
     let value = needed_value(at, row, name)?;
     digits_in(at, value)
+}
+
+/// A number that is required.
+#[tactic(auto, unfolding(crate::specs::Reads::read_value))]
+pub fn needed_number(
+    number: usize,
+    field: usize,
+    row: &Value,
+    name: &str,
+) -> Result<u32, InputFault>
+    ensures { Same (λ n. number_atom n) result
+        (read_value (at number field) true no_value number_sort (value_under name.now (view row.now))) }
+{
+    let at = At::of_row(number, field);
+    let value = needed_value(at, row, name)?;
+    number_in(at, value)
+}
+
+/// A number that may be absent.
+#[tactic(auto, unfolding(crate::specs::Reads::read_value))]
+pub fn optional_number(
+    number: usize,
+    field: usize,
+    row: &Value,
+    name: &str,
+) -> Result<Option<u32>, InputFault>
+    ensures { Same number_if_given result
+        (read_value (at number field) false no_value number_sort (value_under name.now (view row.now))) }
+{
+    let at = At::of_row(number, field);
+    match optional_value(at, row, name)? {
+        Some(value) => Ok(Some(number_in(at, value)?)),
+        None => Ok(None),
+    }
 }
 
 /// A text in a row of another kind than those that it is for: it isn't kept.
@@ -348,25 +404,14 @@ pub fn type_of(number: usize, row: &Value) -> Result<NodeType, InputFault>
     }
 }
 
-fn offset_in(value: &Value) -> Option<u32>
-    ensures { result ≡ offset_in (view value.now) }
-{
-    let number = value.as_u64()?;
-    if number < 4294967296 {
-        Some(number as u32)
-    } else {
-        None
-    }
-}
-
 fn offsets(items: &[Value]) -> Option<Span>
     ensures { result ≡ offsets (map view items.now) }
 {
     let [start, end] = items else {
         return None;
     };
-    let start = offset_in(start)?;
-    let end = offset_in(end)?;
+    let start = short_number(start)?;
+    let end = short_number(end)?;
     Some(Span { start, end })
 }
 

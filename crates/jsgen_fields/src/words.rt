@@ -10,12 +10,19 @@ ghost use Rattle.jsgen_fields.specs.Values.{Same, at, field as value_under, word
 
 use crate::values::{needed_value, text_in};
 use crate::{At, InputFault};
-use jsgen_syntax::{AssignmentOperator, BinaryOperator, LogicalOperator, SourceKind, UnaryOperator, UpdateOperator};
+use jsgen_syntax::{
+    AssignmentOperator, BinaryOperator, LogicalOperator, SourceKind, UnaryOperator, UpdateOperator,
+};
 use jsgen_tree::{CommentContent, CommentKind, PropertyKind, VariableDeclarationKind};
 use serde_json::Value;
 
 #[tactic(auto, unfolding(crate::specs::Reads::read_value))]
-pub fn needed_kind_of_comment(number: usize, field: usize, row: &Value, name: &str) -> Result<CommentKind, InputFault>
+pub fn needed_kind_of_comment(
+    number: usize,
+    field: usize,
+    row: &Value,
+    name: &str,
+) -> Result<CommentKind, InputFault>
     ensures { Same (λ o. kind_of_comment o) result
         (read_value (at number field) true no_value (word kind_of_comment_words) (value_under name.now (view row.now))) }
 {
@@ -132,7 +139,12 @@ fn content_of_comment_by_word(word: &str) -> Option<CommentContent>
 }
 
 #[tactic(auto, unfolding(crate::specs::Reads::read_value))]
-pub fn needed_content_of_comment(number: usize, field: usize, row: &Value, name: &str) -> Result<CommentContent, InputFault>
+pub fn needed_content_of_comment(
+    number: usize,
+    field: usize,
+    row: &Value,
+    name: &str,
+) -> Result<CommentContent, InputFault>
     ensures { Same (λ o. content_of_comment o) result
         (read_value (at number field) true no_value (word content_of_comment_words) (value_under name.now (view row.now))) }
 {
@@ -145,7 +157,12 @@ pub fn needed_content_of_comment(number: usize, field: usize, row: &Value, name:
 }
 
 #[tactic(auto, unfolding(crate::specs::Reads::read_value))]
-pub fn needed_source_kind(number: usize, field: usize, row: &Value, name: &str) -> Result<SourceKind, InputFault>
+pub fn needed_source_kind(
+    number: usize,
+    field: usize,
+    row: &Value,
+    name: &str,
+) -> Result<SourceKind, InputFault>
     ensures { Same (λ o. source_kind o) result
         (read_value (at number field) true no_value (word source_kind_words) (value_under name.now (view row.now))) }
 {
@@ -158,7 +175,12 @@ pub fn needed_source_kind(number: usize, field: usize, row: &Value, name: &str) 
 }
 
 #[tactic(auto, unfolding(crate::specs::Reads::read_value))]
-pub fn needed_declaration_kind(number: usize, field: usize, row: &Value, name: &str) -> Result<VariableDeclarationKind, InputFault>
+pub fn needed_declaration_kind(
+    number: usize,
+    field: usize,
+    row: &Value,
+    name: &str,
+) -> Result<VariableDeclarationKind, InputFault>
     ensures { Same (λ o. declaration_kind o) result
         (read_value (at number field) true no_value (word declaration_kind_words) (value_under name.now (view row.now))) }
 {
@@ -237,7 +259,12 @@ fn binary_operator_by_word(word: &str) -> Option<BinaryOperator>
 }
 
 #[tactic(auto, unfolding(crate::specs::Reads::read_value))]
-pub fn needed_binary_operator(number: usize, field: usize, row: &Value, name: &str) -> Result<BinaryOperator, InputFault>
+pub fn needed_binary_operator(
+    number: usize,
+    field: usize,
+    row: &Value,
+    name: &str,
+) -> Result<BinaryOperator, InputFault>
     ensures { Same (λ o. binary_operator o) result
         (read_value (at number field) true no_value (word binary_operator_words) (value_under name.now (view row.now))) }
 {
@@ -250,7 +277,12 @@ pub fn needed_binary_operator(number: usize, field: usize, row: &Value, name: &s
 }
 
 #[tactic(auto, unfolding(crate::specs::Reads::read_value))]
-pub fn needed_logical_operator(number: usize, field: usize, row: &Value, name: &str) -> Result<LogicalOperator, InputFault>
+pub fn needed_logical_operator(
+    number: usize,
+    field: usize,
+    row: &Value,
+    name: &str,
+) -> Result<LogicalOperator, InputFault>
     ensures { Same (λ o. logical_operator o) result
         (read_value (at number field) true no_value (word logical_operator_words) (value_under name.now (view row.now))) }
 {
@@ -265,7 +297,12 @@ pub fn needed_logical_operator(number: usize, field: usize, row: &Value, name: &
 }
 
 #[tactic(auto, unfolding(crate::specs::Reads::read_value))]
-pub fn needed_property_kind(number: usize, field: usize, row: &Value, name: &str) -> Result<PropertyKind, InputFault>
+pub fn needed_property_kind(
+    number: usize,
+    field: usize,
+    row: &Value,
+    name: &str,
+) -> Result<PropertyKind, InputFault>
     ensures { Same (λ o. property_kind o) result
         (read_value (at number field) true no_value (word property_kind_words) (value_under name.now (view row.now))) }
 {
@@ -320,7 +357,12 @@ fn unary_operator_by_word(word: &str) -> Option<UnaryOperator>
 }
 
 #[tactic(auto, unfolding(crate::specs::Reads::read_value))]
-pub fn needed_unary_operator(number: usize, field: usize, row: &Value, name: &str) -> Result<UnaryOperator, InputFault>
+pub fn needed_unary_operator(
+    number: usize,
+    field: usize,
+    row: &Value,
+    name: &str,
+) -> Result<UnaryOperator, InputFault>
     ensures { Same (λ o. unary_operator o) result
         (read_value (at number field) true no_value (word unary_operator_words) (value_under name.now (view row.now))) }
 {
@@ -333,7 +375,12 @@ pub fn needed_unary_operator(number: usize, field: usize, row: &Value, name: &st
 }
 
 #[tactic(auto, unfolding(crate::specs::Reads::read_value))]
-pub fn needed_update_operator(number: usize, field: usize, row: &Value, name: &str) -> Result<UpdateOperator, InputFault>
+pub fn needed_update_operator(
+    number: usize,
+    field: usize,
+    row: &Value,
+    name: &str,
+) -> Result<UpdateOperator, InputFault>
     ensures { Same (λ o. update_operator o) result
         (read_value (at number field) true no_value (word update_operator_words) (value_under name.now (view row.now))) }
 {
@@ -407,7 +454,12 @@ fn assignment_operator_by_word(word: &str) -> Option<AssignmentOperator>
 }
 
 #[tactic(auto, unfolding(crate::specs::Reads::read_value))]
-pub fn needed_assignment_operator(number: usize, field: usize, row: &Value, name: &str) -> Result<AssignmentOperator, InputFault>
+pub fn needed_assignment_operator(
+    number: usize,
+    field: usize,
+    row: &Value,
+    name: &str,
+) -> Result<AssignmentOperator, InputFault>
     ensures { Same (λ o. assignment_operator o) result
         (read_value (at number field) true no_value (word assignment_operator_words) (value_under name.now (view row.now))) }
 {

@@ -46,7 +46,7 @@ def value(table, f):
     if f.needed:
         return "`true` or `false`"
     if f.kind in VALUES:
-        return VALUES[f.kind] + (", empty where it is absent" if f.default == '""' else "") \
+        return VALUES[f.kind] + (", or absent" if f.many == "?" else "") + (", empty where it is absent" if f.default == '""' else "") \
             + (f", {'true only' if f.kind == 'flag' else 'needed'} where `kind` is `{f.only_for}`" if f.only_for else "")
     if f.is_list:
         holes = ", with `null` in the place of one that is left out" if f.many == "?*" else ""
