@@ -1,8 +1,13 @@
 #!/usr/bin/env bash
-# Refuses each allocation of a run in turn: the status has to be 6 with nothing written, or, past the last allocation, 0.
+# Refuses each allocation of a run in turn: the status has to be 6 with nothing written, or, past the last allocation, 0. Without
+# words it does so for two jobs, of which the second has tables of names, comments and paths.
 set -u
 top=$(cd "$(dirname "$0")/.." && pwd)
-job=${1:-$top/examples/first.json}
+if [ $# -eq 0 ]; then
+  "$0" "$top/examples/first.json" && "$0" "$top/examples/renamed.json"
+  exit
+fi
+job=$(realpath "$1")
 cd "$top/crates/jsgen_cli"
 for number in $(seq 1 "${2:-1000}"); do
   out=$(rt try --fail-alloc "$number" -- print <"$job" 2>/tmp/fail_alloc.err)
@@ -14,3 +19,5 @@ for number in $(seq 1 "${2:-1000}"); do
     *) echo "allocation $number: status $status"; exit 1 ;;
   esac
 done
+echo "more than ${2:-1000} allocations"
+exit 1

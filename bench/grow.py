@@ -102,9 +102,9 @@ def into_table(copy, of_set, name, lines):
 
 
 def into_definitions(copy, old, new):
-    """Spelling, normal form, what is plain, and that a normal form is its own, by the row of the type that is copied."""
+    """Spelling, normal form, what is plain, that a normal form is its own, and that without tables no name is another, by the row of the type that is copied."""
     for name, start in ((MODEL + "Spell.antt", "spell"), (MODEL + "Normal.antt", "normal"), (MODEL + "Plain.antt", "is_plain_row"),
-                        (LAWS + "Normals.antt", "normal_again")):
+                        (LAWS + "Normals.antt", "normal_again"), (LAWS + "Unrenamed.antt", "unrenamed")):
         copy.copy_clause(name, f"{start} (tree.{old})", (f"(tree.{old})", f"(tree.{new})"))
 
 
@@ -114,10 +114,10 @@ FIELDS = ("last", "tokens", "writes", "operand", "semicolon", "begins", "line", 
 def into_expressions(copy, old, new, children, kinds):
     """The laws of reading of an expression: that what is printed is read follows from that of the type that is copied."""
     copy.copy_clause(LAWS + "Families.antt", f"a_{old} :", (f"a_{old} :", f"a_{new} :"), (f"tree.{old} ", f"tree.{new} "))
-    copy.copy_clause(LAWS + "Families.antt", f"expression_valid c around (tree.{old} ", (f"tree.{old} ", f"tree.{new} "), (f"a_{old} (", f"a_{new} ("))
+    copy.copy_clause(LAWS + "Families.antt", f"expression_valid c around (tree.{old} ", (f"tree.{old} ", f"tree.{new} "), (f"a_{old} ", f"a_{new} "))
     copy.copy_clause(LAWS + "Asked.antt", f"asked (family.a_{old} ", (f"a_{old} ", f"a_{new} "))
     fields = " ".join(f"{it} = g.{it};" for it in FIELDS)
-    lemma = f"""good_{new} : (c : Allowed) (a : Atoms) {kinds} → Printed c (tree.{old} a {children}) → Printed c (tree.{new} a {children})
+    lemma = f"""good_{new} : {{names : Tables}} (c : Allowed) (a : Atoms) {kinds} → Printed names c (tree.{old} a {children}) → Printed names c (tree.{new} a {children})
 good_{new} c a {children} f place p l z y k = let g = f place p l z y k in record {{ {fields} }}
 
 -- ---- the whole
@@ -129,7 +129,7 @@ good_{new} c a {children} f place p l z y k = let g = f place p l z y k in recor
         arguments = " ".join(right.split(" ")[1:5])
         return f"{left.replace(f'a_{old} ', f'a_{new} ')} = good_{new} {arguments} ({right})\n"
 
-    copy.behind_clause(LAWS + "Expressions.antt", f"printed_expression {{c}} (family.a_{old} ", line)
+    copy.behind_clause(LAWS + "Expressions.antt", f"printed_expression {{names}} {{c}} (family.a_{old} ", line)
 
 
 def pair(copy, k):
@@ -165,11 +165,11 @@ def group(copy, k):
     into_definitions(copy, "block a body", f"{new} a extra body")
     copy.copy_clause(LAWS + "Families.antt", "a_block :", ("a_block :", f"a_{new} :"), ("{ss : Trees}", "{m : Maybe} {ss : Trees}"), ("tree.block a ss", f"tree.{new} a m ss"))
     copy.behind_clause(LAWS + "Families.antt", "item_valid c around (tree.block a ss) p s e =", f"""  item_valid c around (tree.{new} a m ss) p s e =
-      let h = none_both (in_maybe around (place_of sets.Expression around ∷ place_of sets.Statement around ∷ []) m) _ (parts (span_faults a.span) [] _ e).1 in
+      let h = none_both (in_maybe around (place_of sets.Expression around ∷ place_of sets.Statement around ∷ []) m) _ (parts (span_faults around a.span) [] _ e).1 in
       let k = none_both (in_trees around (place_of sets.Statement around ∷ []) ss) [] h.1 in
       a_statement (a_{new} (items_valid c around ss p.0 p.1.1.0 k.0))
 """)
-    for start in ("normal_open (family.a_block ", "stated {c} (family.a_block "):
+    for start in ("normal_open (family.a_block ", "stated {names} {c} (family.a_block "):
         copy.copy_clause(LAWS + "Statements.antt", start, ("a_block ", f"a_{new} "))
     copy.copy_function(NODES + "blocks.rt", "print_block_statement", ("print_block_statement", f"print_{row}"), ("block_statement_row", f"{row}_row"), ("BlockStatement", name))
     copy.import_type(NODES + "blocks.rt", row, name)

@@ -1,11 +1,12 @@
-"""Writes a job: `make_job.py SIZE [nested|sum|logical|choices|list|ascii|wide|escapes] [minify]`.
+"""Writes a job: `make_job.py SIZE [renamed|nested|sum|logical|choices|list|ascii|wide|escapes] [minify]`.
 
 SIZE is in megabytes. By itself the job holds declarations and statements, blocks and `if` of mixed expressions, a third of
 which are literals, unary operations, updates, `new`, and arrays and objects up to six deep, and a fifth of the others
-conditionals, sequences, assignments, optional chains and arrow functions; with `nested`, blocks and `if` a thousand deep and
-sums nested a thousand to the left and to the right, as often as fill it. With `sum` it holds 20,000 `+` nested to the left, with
-`logical` 20,000 `&&` nested to the right, and with `choices` 20,000 conditionals, each the alternate of the one before, as often
-as fill it; with `list`, one array of 12,500 numbers a megabyte.
+conditionals, sequences, assignments, optional chains and arrow functions. With `renamed` it is the same, with another name for
+every reference and every binding by the tables of the job: each binding is a symbol of its own, and each reference has an entry.
+With `nested` it holds blocks and `if` a thousand deep and sums nested a thousand to the left and to the right, as often as fill
+it. With `sum` it holds 20,000 `+` nested to the left, with `logical` 20,000 `&&` nested to the right, and with `choices` 20,000
+conditionals, each the alternate of the one before, as often as fill it; with `list`, one array of 12,500 numbers a megabyte.
 With `ascii`, `wide` and `escapes` it is one string as long as the job: of ASCII, of characters of one to four bytes, and
 with a quote or another character that needs an escape at every tenth place.
 """
@@ -29,10 +30,44 @@ STRINGS = {
 }
 
 
-class Rows:
+class Names:
+    """The tables by which names are printed."""
+
     def __init__(self):
+        self.symbols = ["renamed%d" % at for at in range(len(NAMES))]
+        self.references = []
+
+    def reference(self, name):
+        self.references.append(NAMES.index(name))
+        return ',"reference":%d' % (len(self.references) - 1)
+
+    def symbol(self):
+        self.symbols.append("s%d" % len(self.symbols))
+        return ',"symbol":%d' % (len(self.symbols) - 1)
+
+    def head(self):
+        symbols = ",".join('"%s"' % name for name in self.symbols)
+        return '"symbols":[%s],"references":[%s],' % (symbols, ",".join(map(str, self.references)))
+
+
+class OwnNames:
+    """No tables: names are printed as they are."""
+
+    def reference(self, name):
+        return ""
+
+    def symbol(self):
+        return ""
+
+    def head(self):
+        return ""
+
+
+class Rows:
+    def __init__(self, names):
         self.rows = []
         self.size = 0
+        self.names = names
 
     def add(self, text):
         self.rows.append(text)
@@ -41,7 +76,11 @@ class Rows:
 
     def name(self, name):
         start = len(self.rows)
-        return self.add('{"type":"IdentifierReference","span":[%d,%d],"name":"%s"}' % (start, start + 3, name))
+        words = start, start + 3, name, self.names.reference(name)
+        return self.add('{"type":"IdentifierReference","span":[%d,%d],"name":"%s"%s}' % words)
+
+    def binding(self, name):
+        return self.add('{"type":"BindingIdentifier","name":"%s"%s}' % (name, self.names.symbol()))
 
     def short_name(self):
         return self.add('{"type":"IdentifierReference","name":"a"}')
@@ -129,7 +168,7 @@ def leaf(rows, draw):
 
 def parameter(rows, draw):
     """A name, and a value in one of four."""
-    name = rows.add('{"type":"BindingIdentifier","name":"given%d"}' % len(rows.rows))
+    name = rows.binding("given%d" % len(rows.rows))
     value = ',"initializer":%d' % leaf(rows, draw) if draw.random() < 0.25 else ""
     return rows.add('{"type":"FormalParameter","pattern":%d%s}' % (name, value))
 
@@ -138,7 +177,7 @@ def arrow(rows, depth, draw):
     items = [parameter(rows, draw) for _ in range(draw.randrange(4))]
     rest = ""
     if draw.random() < 0.25:
-        name = rows.add('{"type":"BindingIdentifier","name":"others%d"}' % len(rows.rows))
+        name = rows.binding("others%d" % len(rows.rows))
         rest = ',"rest":%d' % rows.add('{"type":"FormalParameterRest","argument":%d}' % name)
     params = rows.add('{"type":"FormalParameters","items":[%s]%s}' % (",".join(map(str, items)), rest))
     body = expression(rows, depth - 1, draw)
@@ -196,7 +235,7 @@ def simple(rows, draw):
 
 def declaration(rows, draw):
     value = expression(rows, 4, draw)
-    name = rows.add('{"type":"BindingIdentifier","name":"value%d"}' % len(rows.rows))
+    name = rows.binding("value%d" % len(rows.rows))
     declarator = rows.add('{"type":"VariableDeclarator","id":%d,"init":%d}' % (name, value))
     return rows.add('{"type":"VariableDeclaration","kind":"const","declarations":[%d]}' % declarator)
 
@@ -297,12 +336,12 @@ def body_of(rows, kind, megabytes, draw):
 
 def main():
     words = sys.argv[2:]
-    kind = next((it for it in words if it in ("nested", *CHAINS, "list", *STRINGS)), "mixed")
-    rows = Rows()
+    kind = next((it for it in words if it in ("renamed", "nested", *CHAINS, "list", *STRINGS)), "mixed")
+    rows = Rows(Names() if kind == "renamed" else OwnNames())
     body = body_of(rows, kind, int(sys.argv[1]), random.Random(1))
     rows.add('{"type":"Program","kind":"module","body":[%s]}' % ",".join(map(str, body)))
     options = '"options":{"minify":true},' if "minify" in words else ""
-    sys.stdout.write("{%s\"rows\":[" % options + ",\n".join(rows.rows) + "]}\n")
+    sys.stdout.write("{%s%s\"rows\":[" % (options, rows.names.head()) + ",\n".join(rows.rows) + "]}\n")
 
 
 main()

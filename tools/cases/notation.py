@@ -19,7 +19,7 @@ SIGN = re.compile(
   | (?P<word>[^\W\d]\w*)
   | (?P<arrow>=>|\.\.\.)
   | (?P<operator>>>>=|>>>|===|!==|\*\*=|<<=|>>=|&&=|\|\|=|\?\?=|[-+*/%|^&]=|\*\*|<<|>>|<=|>=|==|!=|&&|\|\||\?\?|[-+*/%|^&<>])
-  | (?P<sign>[(){}\[\].,;=?:])
+  | (?P<sign>[(){}\[\].,;=?:@])
   | (?P<end>$)
 )""",
     re.X,
@@ -103,13 +103,24 @@ class Reader:
         return node
 
     def declaration(self, kind):
-        name = Child("BindingIdentifier", name=self.take())
-        declarator = {"id": name}
+        declarator = {"id": self.binding()}
         if self.is_here("="):
             self.take()
             declarator["init"] = self.expression()
         self.expect(";")
         return Child("VariableDeclaration", kind=kind, declarations=[Child("VariableDeclarator", **declarator)])
+
+    # ---- names
+
+    def binding(self):
+        return Child("BindingIdentifier", name=self.take(), **self.number("symbol"))
+
+    def number(self, field):
+        """The number of a name, which may stand behind it, as the field that it is."""
+        if not self.is_here("@"):
+            return {}
+        self.take()
+        return {field: int(self.take())}
 
     # ---- expressions
 
@@ -142,7 +153,7 @@ class Reader:
             raise NotProgram(f"no expression begins with {value!r}")
         if value[0].isupper() and self.is_here("("):
             return self.by_type(value)
-        return Child("IdentifierReference", name=value)
+        return Child("IdentifierReference", name=value, **self.number("reference"))
 
     def operation(self):
         self.take()
@@ -198,7 +209,7 @@ class Reader:
         is_rest = self.is_here("...")
         if is_rest:
             self.take()
-        name = Child("BindingIdentifier", name=self.take())
+        name = self.binding()
         if is_rest:
             return Child("FormalParameterRest", argument=name)
         if not self.is_here("="):
@@ -217,9 +228,15 @@ class Reader:
         return Child(node_type, **dict(self.several(")", lambda: self.field(fields, in_order))))
 
     def field(self, fields, in_order):
-        """A field's name and what it holds: the field that is named, or else the next one."""
+        """A field's name and what it holds: the field that is named, or else the next one. The span is always named."""
         by_name = {field.name: field for field in fields}
-        if self.value in by_name and self.text[self.at:].lstrip().startswith("="):
+        is_named = self.text[self.at:].lstrip().startswith("=")
+        if is_named and self.value == "span":
+            self.take()
+            self.take()
+            self.expect("[")
+            return "span", self.several("]", lambda: int(self.take()))
+        if is_named and self.value in by_name:
             field = by_name[self.take()]
             self.take()
         else:
@@ -241,6 +258,8 @@ class Reader:
         kind, value = self.kind, self.take()
         if kind == "string":
             return json.loads(value)
+        if field.kind == "number":
+            return int(value)
         return {"true": True, "false": False}.get(value, value)
 
     def statement_or_hole(self):
@@ -269,9 +288,8 @@ def rows_of(child, rows):
     return len(rows) - 1
 
 
-def job_of(program, options):
-    """The job that prints the program under these options, each with its value."""
+def job_of(program, head):
+    """The job that prints the program under this head: its options and its tables."""
     rows = []
     rows_of(Reader(program).program(), rows)
-    job = {"options": options, "rows": rows}
-    return json.dumps(job, ensure_ascii=False, separators=(",", ":"))
+    return json.dumps({**head, "rows": rows}, ensure_ascii=False, separators=(",", ":"))

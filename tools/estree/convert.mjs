@@ -1,4 +1,5 @@
 // From an ESTree tree (acorn, espree, meriyah; Babel's with its plugin `estree`) to a job of jsgen (docs/FORMAT.md).
+import { commentsOf } from "./comments.mjs";
 import { isField, isOption, isType, wordsOf } from "./reads.mjs";
 import { bytesAt, isWholeNumber, numberText, unitsOf, withoutParentheses } from "./texts.mjs";
 
@@ -14,17 +15,21 @@ export class NotRead extends Error {
 /**
  * The job that prints a program. `program` is the ESTree node of a module. Of the members of the second argument, all of
  * which may be left out, `source` is the text that the program was parsed from, by which spans are counted in bytes;
- * `options` are the options of the job; `spans: false` leaves spans out; and `negative: true` takes `-1` for a negative
- * number in place of an operation on 1. Comments aren't read yet, and none is put into the job. Throws `NotRead` where the
- * program has what jsgen doesn't read yet.
+ * `options` are the options of the job; `spans: false` leaves spans out; `negative: true` takes `-1` for a negative
+ * number in place of an operation on 1; `comments` are the comments of the source in order, as acorn's `onComment` lists them,
+ * and are left out where they aren't given; and `names` are the tables by which names are printed, as `renaming`
+ * (./scopes.mjs) makes them of this tree. The source is put into the job where something asks for it: comments, or the option
+ * `source_map_path`. Throws `NotRead` where the program has what jsgen doesn't read yet.
  */
-export function jobOf(program, { source, options = {}, spans = true, negative = false } = {}) {
+export function jobOf(program, { source, options = {}, spans = true, negative = false, comments = [], names = null } = {}) {
   for (const name of Object.keys(options)) {
     if (!isOption(name)) throw new NotRead(`the option ${name}`);
   }
-  const rows = new Rows(source, spans, negative);
-  rows.program(program);
-  return Object.keys(options).length > 0 ? { options, rows: rows.rows } : { rows: rows.rows };
+  if (comments.length > 0 && source === undefined) throw new TypeError("comments are given without the source that they stand in");
+  const rows = new Rows(source, spans, negative, names);
+  rows.program(program, comments, comments.length > 0 || (options.source_map_path ?? null) !== null);
+  const tables = names ? { symbols: names.symbols, references: names.references } : {};
+  return { ...(Object.keys(options).length > 0 ? { options } : {}), ...tables, rows: rows.rows };
 }
 
 function startOf(node) {
@@ -44,10 +49,11 @@ function placeOf(node, source) {
 }
 
 class Rows {
-  constructor(source, spans, negative) {
+  constructor(source, spans, negative, names) {
     this.rows = [];
     this.source = source;
     this.negative = negative;
+    this.names = names;
     this.byteAt = spans && source !== undefined ? bytesAt(source) : null;
   }
 
@@ -83,10 +89,24 @@ class Rows {
 
   // ---- statements
 
-  program(node) {
+  program(node, comments, hasSource) {
+    const rows = this.comments(comments);
     const fields = this.body(node.body);
     if (node.sourceType === "script") this.refuse("a script", node);
-    this.add("Program", node, { kind: "module", ...fields });
+    this.add("Program", node, { source: hasSource ? this.source : null, kind: "module", comments: rows, ...fields });
+  }
+
+  // Comments have their spans in any case.
+  comments(nodes) {
+    if (nodes.length === 0) return [];
+    const byteAt = bytesAt(this.source);
+    const places = nodes.map((node) => ({ start: startOf(node), end: endOf(node) }));
+    return commentsOf(this.source, places).map((fields, at) => {
+      const attached = byteAt(fields.attached_to);
+      const row = this.add("Comment", null, { ...fields, attached_to: attached }, "attached_to");
+      this.rows[row].span = [byteAt(places[at].start), byteAt(places[at].end)];
+      return row;
+    });
   }
 
   // The directives at the front of a body, and its statements.
@@ -127,7 +147,7 @@ class Rows {
 
   binding(node) {
     if (node.type !== "Identifier") this.refuse(node.type, node);
-    return this.add("BindingIdentifier", node, { name: node.name });
+    return this.add("BindingIdentifier", node, { name: node.name, symbol: this.names?.symbolOf.get(node) });
   }
 
   // ---- expressions
@@ -135,7 +155,7 @@ class Rows {
   expression(node) {
     switch (node.type) {
       case "Identifier":
-        return this.add("IdentifierReference", node, { name: node.name });
+        return this.add("IdentifierReference", node, { name: node.name, reference: this.names?.referenceOf.get(node) });
       case "Literal":
         return this.literal(node);
       case "ThisExpression":

@@ -20,11 +20,17 @@ function found() {
 
 let acorn = null;
 
-/** The ESTree tree of a module's text. `parentheses: true` keeps parentheses as nodes. Throws a SyntaxError of acorn's. */
-export function parsed(text, { parentheses = false } = {}) {
+/**
+ * The ESTree tree of a module's text. `parentheses: true` keeps parentheses as nodes, and `comments: true` puts the comments
+ * into the program's member `comments`; a hashbang is none. Throws a SyntaxError of acorn's.
+ */
+export function parsed(text, { parentheses = false, comments = false } = {}) {
   acorn ??= found();
-  const options = { ecmaVersion: "latest", sourceType: "module", allowHashBang: true, preserveParens: parentheses };
-  return acorn.parse(text, options);
+  const seen = [];
+  const options = { ecmaVersion: "latest", sourceType: "module", allowHashBang: true, preserveParens: parentheses, onComment: comments ? seen : null };
+  const program = acorn.parse(text, options);
+  if (comments) program.comments = seen.filter(({ start }) => start > 0 || !text.startsWith("#!"));
+  return program;
 }
 
 /** The version of the parser. */

@@ -99,8 +99,13 @@ class Draw {
     ];
   }
 
+  // A name of any kind, or that of a constant, which may be one of another block.
+  name() {
+    return this.declared > 0 && this.below(3) === 0 ? `n${this.below(this.declared)}` : this.of(NAMES);
+  }
+
   leaf() {
-    const kinds = [() => this.of(NAMES), () => this.of(NAMES), () => this.of(STRINGS), () => this.of(WHOLE)];
+    const kinds = [() => this.name(), () => this.name(), () => this.of(STRINGS), () => this.of(WHOLE)];
     if (wordsOf("NumericLiteral", "kind").includes("raw")) kinds.push(() => this.of(RAW));
     if (isType("BigIntLiteral")) kinds.push(() => `${this.of(WHOLE)}n`, () => "0xFn");
     for (const [type, word] of [["ThisExpression", "this"], ["NullLiteral", "null"], ["BooleanLiteral", this.of(["true", "false"])]]) {
@@ -172,7 +177,7 @@ class Draw {
   property(depth) {
     switch (this.below(6)) {
       case 0:
-        return this.of(NAMES);
+        return this.name();
       case 1:
         return `[${this.assigned(depth)}]: ${this.assigned(depth)}`;
       case 2:

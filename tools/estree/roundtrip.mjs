@@ -1,5 +1,6 @@
 // `node tools/estree/roundtrip.mjs [--random COUNT [--seed NUMBER]] [DIRECTORY ..]`: every JavaScript file below the directories
-// is parsed, cut down to what jsgen reads by now, printed under each set of options, parsed again, and compared by normal form.
+// is parsed, cut down to what jsgen reads by now, printed under each set of options, parsed again, and compared by normal form;
+// where its names are printed by tables, with that of the source in which these names alone are renamed.
 // With --random, so many programs that are made up are printed so too.
 import { readFileSync, readdirSync, statSync } from "node:fs";
 import { join } from "node:path";
@@ -10,6 +11,7 @@ import { difference, normal } from "./normal.mjs";
 import { parsed } from "./parser.mjs";
 import { randomProgram } from "./random.mjs";
 import { isField } from "./reads.mjs";
+import { LETTERS, SIGNS, renamedSource, renaming } from "./scopes.mjs";
 
 const SETS = {
   pretty: {},
@@ -22,6 +24,12 @@ const SETS = {
   "minified with parentheses": { options: { minify: true }, parentheses: true },
   "minified with negative numbers": { options: { minify: true }, negative: true },
   "minified, ascii_only": { options: { minify: true, ascii_only: true } },
+  renamed: { letters: LETTERS },
+  "renamed, with parentheses": { letters: LETTERS, parentheses: true },
+  "renamed, minified": { options: { minify: true }, letters: LETTERS },
+  "renamed, ascii_only": { options: { ascii_only: true }, letters: SIGNS },
+  "renamed, minified, ascii_only": { options: { minify: true, ascii_only: true }, letters: SIGNS },
+  "with comments and a map's path": { options: { source_map_path: "printed.js.map" }, comments: true },
 };
 const HAS_NEGATIVE = isField("NumericLiteral", "negative");
 const READ_SETS = Object.entries(SETS).filter(([, set]) => HAS_NEGATIVE || !set.negative);
@@ -50,24 +58,37 @@ class Tally {
   }
 }
 
+// The job of a set, and the source whose tree is to come back.
+function jobAndSource(source, { options = {}, parentheses = false, negative = false, letters = null, comments = false }) {
+  const program = parsed(source, { parentheses, comments });
+  const names = letters && renaming(program, letters);
+  const job = jobOf(program, { source, options, negative, names, comments: program.comments });
+  return [job, names ? renamedSource(source, names) : source];
+}
+
 // Prints the program under each set, and looks at what comes.
 function tryProgram(tally, name, source) {
-  const wanted = normal(parsed(source));
+  const wanted = new Map();
   const lengths = {};
   tally.programs++;
-  for (const [set, { options = {}, parentheses = false, negative = false }] of READ_SETS) {
+  for (const [set, asked] of READ_SETS) {
     tally.runs++;
-    const { status, code, line } = printed(jobOf(parsed(source, { parentheses }), { source, options, negative }));
+    const options = asked.options ?? {};
+    const [job, other] = jobAndSource(source, asked);
+    if (!wanted.has(other)) wanted.set(other, normal(parsed(other)));
+    const { status, code, line } = printed(job);
     lengths[set] = code.length;
     if (status !== 0) {
       tally.fail(name, set, `status ${status}: ${line}`);
       continue;
     }
-    const found = differenceOf(wanted, code);
+    const found = differenceOf(wanted.get(other), code);
     if (found) tally.fail(name, set, found);
     if (options.ascii_only && /[^\x00-\x7f]/.test(code)) tally.fail(name, set, "the text is not ASCII");
   }
-  if (lengths.minified > lengths.pretty) tally.fail(name, "minified", "the text is longer than the pretty one");
+  for (const [set, pretty] of [["minified", "pretty"], ["renamed, minified", "renamed"]]) {
+    if (lengths[set] > lengths[pretty]) tally.fail(name, set, "the text is longer than the pretty one");
+  }
 }
 
 function differenceOf(wanted, code) {

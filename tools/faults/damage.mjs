@@ -1,5 +1,6 @@
 // Damages of a job before it is written, each kind by its name. Not every damage is a fault.
-import { DIGITS, NO_JSON, NUMBERS, SPANS, SURROGATES, TYPES, UNITS, WORDS, holdingFloat, nested, oddValue } from "./odd.mjs";
+import { TABLES } from "./jobs.mjs";
+import { DIGITS, LEGAL, NO_JSON, NUMBERS, SPANS, SURROGATES, TYPES, UNITS, WORDS, holdingFloat, nested, oddValue } from "./odd.mjs";
 import { anyField, at, atChild, earlier, fieldsOf, inObject, inRow, inRows, isUnread, ofKind, rowsOf, usedRows } from "./places.mjs";
 import { Members, Raw } from "./text.mjs";
 
@@ -27,8 +28,9 @@ export const DAMAGES = {
   "odd row": inRows((rows, draw) => rows.splice(draw.below(rows.length), draw.below(2), oddRow(draw, rows))),
   "last row": inRows((rows, draw) => (draw.once(2) ? rows.pop() : rows.push(new Members([["type", draw.of(["Super", "Directive"])]])))),
   rows: (job, draw) => draw.once(3) && inHead(job, "rows", oddRows(draw)),
-  "field of the head": (job, draw) => inHead(job, draw.of(["symbols", "references", "private", "Rows", ""]), oddValue(draw)),
-  "table of names": (job, draw) => inHead(job, draw.of(["symbols", "references", "private"]), oddTable(job, draw)),
+  "field of the head": (job, draw) => inHead(job, draw.of([...Object.keys(TABLES), "Rows", ""]), oddValue(draw)),
+  "member of a table": (job, draw) => inTable(job, draw.of(Object.keys(TABLES)), draw),
+  "float in a table": (job, draw) => inTable(job, draw.of(Object.keys(TABLES)), draw, holdingFloat(draw, null)),
   options: (job, draw) => inHead(job, "options", oddOptions(job, draw)),
   "member twice": inObject(twice),
   "deep nesting": inRow(deepNesting),
@@ -38,6 +40,19 @@ function inHead(job, name, value) {
   if (value === undefined) job.head.remove(name);
   else job.head.set(name, value);
   return true;
+}
+
+// An odd member of a table, or this one, in the place of another or between two.
+function inTable({ head }, name, draw, member = oddMember(name, draw)) {
+  const table = Array.isArray(head.get(name)) ? [...head.get(name)] : TABLES[name](draw);
+  table.splice(draw.below(table.length + 1), draw.below(2), member);
+  head.set(name, table);
+  return true;
+}
+
+function oddMember(name, draw) {
+  const odd = draw.of([null, oddValue(draw), raw(draw, NUMBERS), raw(draw, SURROGATES)]);
+  return name === "private" && draw.below(3) > 0 ? new Members([["a", "b"], ["é", odd]]) : odd;
 }
 
 function raw(draw, texts) {
@@ -65,18 +80,11 @@ function oddRows(draw) {
   return draw.of([...lists, undefined, null, new Members([]), new Members([["a", [float]]]), 7, float, "rows", true]);
 }
 
-// Entries of which some may be of another table.
-function oddTable({ head }, draw) {
-  const entries = ["symbols", "references", "private"].map((name) => head.get(name)).filter(Array.isArray);
-  const inObject = () => new Members([["a", "b"], ["c", draw.once(2) ? oddValue(draw) : holdingFloat(draw, "d")]]);
-  return [...(draw.of(entries) ?? []), ...draw.several(1, 2, () => draw.of([oddValue(draw), new Raw(draw.of(NUMBERS)), inObject()]))];
-}
-
 function oddOptions({ head, format }, draw) {
   if (draw.once(6)) return oddValue(draw);
   const members = head.get("options") instanceof Members ? head.get("options") : new Members([]);
-  const name = draw.of(draw.of([[...format.options.keys()], ["legal", "legal_path"], ["Minify", "", "target"]]));
-  members.set(name, draw.once(4) ? draw.of([true, false, null, "linked"]) : oddValue(draw));
+  const name = draw.of(draw.of([[...format.options.keys()], [...format.options.keys()], ["Minify", "", "target"]]));
+  members.set(name, draw.of([draw.of([true, false, null]), draw.of(LEGAL), oddValue(draw), oddValue(draw)]));
   return members;
 }
 
@@ -90,6 +98,6 @@ function twice(members, draw) {
 // A value that is nested so deeply that the last container is one of 126 to 129.
 function deepNesting(row, draw, job) {
   const depth = 126 + draw.below(4);
-  if (draw.once(3)) job.head.set(draw.of(["extra", "symbols", "options"]), new Raw(nested(draw, depth - 1)));
+  if (draw.once(3)) job.head.set(draw.of(["extra", ...Object.keys(TABLES), "options"]), new Raw(nested(draw, depth - 1)));
   else row.set(draw.of(["extra", ...fieldsOf(job, row).map((field) => field.name)]), new Raw(nested(draw, depth - 3)));
 }

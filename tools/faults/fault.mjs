@@ -2,13 +2,6 @@
 // what each may hold by the table of types (./format.mjs).
 import { NotJson, parseJson } from "./json.mjs";
 
-// The fields of the head before the rows, by their numbers, each with whether it may hold a value.
-const HEAD = [
-  ["options", areOptions],
-  ["symbols", (value) => isListOf(value, isText)],
-  ["references", (value) => isListOf(value, (entry) => entry.is === "null" || isBelow(entry, LIMIT.number))],
-  ["private", (value) => isListOf(value, (names) => names.is === "object" && [...names.members.values()].every(isText))],
-];
 const ROWS = 4;
 const LIMIT = { span: 2n ** 32n, number: 2n ** 32n, whole: 2n ** 64n, unit: 2n ** 16n, digits: 2n ** 128n };
 
@@ -42,12 +35,20 @@ function holdsFloat(value) {
   return value.is === "float";
 }
 
+// The head's fields before the rows, by their numbers, each with the test of its value.
+const HEAD = [
+  ["options", areOptions],
+  ["symbols", (format, value) => isListOf(value, isText)],
+  ["references", (format, value) => isListOf(value, (entry) => entry.is === "null" || isBelow(entry, LIMIT.number))],
+  ["private", (format, value) => isListOf(value, areNewNames)],
+];
+
 function judgeHead(format, members) {
   const fault = (kind, number) => new Fault(`${kind} head field ${number}`);
   HEAD.forEach(([name, mayBe], number) => {
     const value = given(members, name);
     if (value && holdsFloat(value)) throw fault("Float", number);
-    if (value && !mayBe(value, format)) throw fault("Wrong", number);
+    if (value && !mayBe(format, value)) throw fault("Wrong", number);
   });
   const rows = given(members, "rows");
   if (!rows) throw fault("Missing", ROWS);
@@ -55,16 +56,21 @@ function judgeHead(format, members) {
   if (rows.items.length === 0) throw fault("Wrong", ROWS);
 }
 
-// Comments that are linked stand at a path.
-function areOptions(value, { options }) {
+function areOptions({ options }, value) {
   if (value.is !== "object") return false;
   const option = (name) => given(value.members, name);
-  const isWhole = option("legal")?.value !== "linked" || option("legal_path") !== null;
-  return isWhole && [...options].every(([name, held]) => option(name) === null || mayHold(held, option(name)));
+  const mayBe = ([name, kind]) => option(name) === null || mayHold(kind, option(name));
+  const isLinkedNowhere = option("legal")?.value === "linked" && option("legal_path") === null;
+  return [...options].every(mayBe) && !isLinkedNowhere;
 }
 
-function isListOf(value, isEntry) {
-  return value.is === "list" && value.items.every(isEntry);
+// The names of an object with their new names. A null in the place of one is no text: no name is a member of the format.
+function areNewNames(value) {
+  return value.is === "object" && [...value.members.values()].every(isText);
+}
+
+function isListOf(value, isMember) {
+  return value.is === "list" && value.items.every(isMember);
 }
 
 function isText(value) {
@@ -141,7 +147,7 @@ function isSpan(value) {
 function mayHold(field, value) {
   switch (field.kind) {
     case "text":
-      return isText(value);
+      return value.is === "text";
     case "flag":
       return value.is === "flag";
     case "word":

@@ -15,13 +15,13 @@ export function readFormat() {
   return { types: typesOfTable(readFileSync(TABLE, "utf8")), options: held };
 }
 
-// What an option may hold: a flag, a text, one of some words, or a whole number of 32 or of 64 bits.
+// What an option may hold: a text, a flag, one of some words, or a whole number of 32 or of 64 bits.
 function optionOf(name, schemas) {
   const words = schemas.find((schema) => schema.enum)?.enum;
   if (words) return { kind: "word", words };
-  const schema = schemas.find(({ type }) => ["boolean", "string", "integer"].includes(type));
-  if (schema?.type === "boolean") return { kind: "flag" };
+  const schema = schemas.find(({ type }) => type !== "null");
   if (schema?.type === "string") return { kind: "text" };
+  if (schema?.type === "boolean") return { kind: "flag" };
   if (schema?.maximum === 2 ** 32 - 1) return { kind: "number" };
   if (schema?.maximum === 2 ** 64) return { kind: "whole" }; // 2^64 - 1, as node reads it
   throw new Error(`no such kind of option: ${name}`);
@@ -69,7 +69,7 @@ function section(found, [head, name]) {
 
 // A field that is made by hand of those below it isn't one of the format.
 function isField(line) {
-  return !line.startsWith("| ") && line !== "rules" && line !== "copied" && !line.startsWith("ghost ") && !/^\w+ by /.test(line);
+  return !line.startsWith("| ") && !["rules", "copied"].includes(line) && !line.startsWith("ghost ") && !/^\w+ by /.test(line);
 }
 
 function fieldOf(line, number, { words, typesOf }) {

@@ -4,14 +4,15 @@ import { Members, Raw } from "./text.mjs";
 const NAMES = ["a", "b", "total", "$", "_x", "größe", "日本", "if", "__proto__"];
 const TEXTS = [...NAMES, "use strict", "1.5", "0x1F", "42", "-7", "", "it's", '"', "a\nb", "\u0000", "\u{1F600}", "</script>"];
 const WHOLE = [0, 1, 7, 42, 65535, 4294967295, Number.MAX_SAFE_INTEGER];
+const REFERENCES = [0, 1, 7, 4294967295];
 const DIGITS = ["0", "7", "18446744073709551616", "340282366920938463463374607431768211455"];
 const DEPTH = 5;
 
-// What stands for one symbol, one reference or one class in the tables of names.
-const ENTRIES = {
-  symbols: (draw) => draw.of(TEXTS),
-  references: (draw) => draw.of([null, ...WHOLE.slice(0, -1)]),
-  private: (draw) => new Members(draw.several(0, 3, () => [draw.of(NAMES), draw.of(TEXTS)])),
+/** The tables of the head, each with what makes one. */
+export const TABLES = {
+  symbols: (draw) => draw.several(0, 4, () => draw.of(TEXTS)),
+  references: (draw) => draw.several(0, 4, () => draw.of([...REFERENCES, null])),
+  private: (draw) => draw.several(0, 3, () => new Members(draw.several(0, 3, () => [draw.of(TEXTS), draw.of(TEXTS)]))),
 };
 
 /** A job's head, whose member `rows` is a list of rows. */
@@ -19,18 +20,17 @@ export function madeJob({ types, options }, draw) {
   const rows = inOrder(new Maker(types, draw).nodes(), draw);
   const head = [["rows", rows]];
   if (draw.once(2)) head.push(["options", madeOptions(options, draw)]);
-  for (const [name, entry] of Object.entries(ENTRIES)) {
-    if (draw.once(5)) head.push([name, draw.once(4) ? null : draw.several(0, 4, () => entry(draw))]);
-  }
+  for (const [name, make] of Object.entries(TABLES)) if (draw.once(3)) head.push([name, draw.once(4) ? null : make(draw)]);
   if (draw.once(8)) head.push(["version", draw.of([1, 0.5, "1", null])]);
   return new Members(draw.mixed(head));
 }
 
+// Legal comments that are linked need a path.
 function madeOptions(options, draw) {
-  const members = [...options].filter(() => draw.once(2)).map(([name, option]) => [name, draw.once(4) ? null : heldBy(option, draw)]);
-  const isLinked = members.some(([name, value]) => name === "legal" && value === "linked");
-  const path = isLinked ? [["legal_path", draw.of(TEXTS)]] : [];
-  return draw.once(8) ? null : new Members([...members.filter(([name]) => !isLinked || name !== "legal_path"), ...path]);
+  const given = [...options].filter(() => draw.once(2)).map(([name, option]) => [name, draw.once(4) ? null : heldBy(option, draw)]);
+  const members = new Members(given);
+  if (members.get("legal") === "linked") members.set("legal_path", draw.of(TEXTS));
+  return draw.once(8) ? null : members;
 }
 
 // A value that the option may hold.

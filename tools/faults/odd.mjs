@@ -51,6 +51,8 @@ export const WORDS = [
   ...["=>", "?.", "++", "+", "=", "typeof", "&&", "+ ", "whole", "raw"],
 ];
 
+export const LEGAL = ["linked", "linked", "none", "inline", "eof", "external", "Inline", "link", ""];
+
 /** A value of any kind. */
 export function oddValue(draw, depth = 2) {
   const inner = () => draw.several(0, 2, () => oddValue(draw, depth - 1));

@@ -2,7 +2,8 @@
 use Rattle.std.specs.Prelude.{◌≡◌, ℕ, List, Bool, true, Result, is_err}
 use Rattle.std.specs.Str.{encode_utf8_all}
 use Rattle.jsgen_tree.specs.Options.{Options, options_plain}
-use Rattle.jsgen_tree.specs.Job.{JobData, no_tables}
+use Rattle.jsgen_tree.specs.Job.{Tables, JobData}
+use Rattle.jsgen_tree.specs.Scoping.{tables_plain}
 use Rattle.jsgen_tree.specs.Tree.{Tree}
 use Rattle.jsgen_model.specs.Layout.{Pen}
 use Rattle.jsgen_model.specs.Spell.{Settings}
@@ -14,9 +15,13 @@ use Rattle.jsgen.specs.declared.codegen.Codegen.{Codegen}
 abbrev pub options_of : Codegen → Options
 options_of c = options_plain c.options
 
--- what it is asked for with a program: it has no tables yet
+-- by which names
+abbrev pub tables_of : Codegen → Tables
+tables_of c = tables_plain c.tables
+
+-- what it is asked for with a program
 abbrev pub job_for : Codegen → Tree → JobData
-job_for c program = record { options = options_of c; tables = no_tables; program = program }
+job_for c program = record { options = options_of c; tables = tables_of c; program = program }
 
 -- the text so far, and what matters of its end
 abbrev pub pen_at : Codegen → Pen
@@ -24,7 +29,7 @@ pen_at c = pen_of c.printer
 
 -- what a spelling depends on beside the tree
 abbrev pub settings_at : Codegen → Settings
-settings_at c = record { minified = (options_of c).minify; tables = no_tables }
+settings_at c = record { minified = (options_of c).minify }
 
 -- the text so far, in bytes
 abbrev pub printed_so_far : Codegen → List ℕ
@@ -43,3 +48,8 @@ pub record Prints {T E : Type 0} (old new : Codegen) (pen : Pen) (result : Resul
   pub failed : has_failed new ≡ is_err result
   pub printed : has_printed new ≡ true
   pub options : options_of new ≡ options_of old
+  pub tables : tables_of new ≡ tables_of old
+
+-- the same pen, by which names are printed from these tables
+abbrev pub with_tables : Tables → Pen → Pen
+with_tables tables pen = record pen { style = record pen.style { tables = tables } }

@@ -1,10 +1,11 @@
 // The printer's public calls.
-ghost use Rattle.std.specs.Prelude.{◌≡◌, ◌<◌, [], ◌∷◌, true, false, flat_map, Some, IfOk, string_bytes, codes};
+ghost use Rattle.std.specs.Prelude.{◌≡◌, ◌<◌, [], ◌∷◌, true, false, flat_map, Some, IfOk, option_map, string_bytes, codes};
 ghost use Rattle.std.specs.Char.Escape.{encode_utf16};
 ghost use Rattle.jsgen_tree.specs.Options.{options_plain, default_options};
 ghost use Rattle.jsgen_tree.specs.Plain.{program_plain, node_plain};
 ghost use Rattle.jsgen_tree.specs.Rows.{expression_plain};
 ghost use Rattle.jsgen_tree.specs.Job.{no_tables};
+ghost use Rattle.jsgen_tree.specs.Scoping.{scoping_plain, private_plain, tables_plain};
 ghost use Rattle.jsgen_syntax.specs.Raw.{tag_free};
 ghost use Rattle.jsgen_model.specs.Items.{string};
 ghost use Rattle.jsgen_model.specs.Layout.{style_of, empty_pen, written, other_end, layout};
@@ -25,11 +26,10 @@ use jsgen_nodes::{PrintAlone, PrintAtLevel, print_program};
 use jsgen_place::{Place, Settings};
 use jsgen_printer::{Context, Printer};
 use jsgen_syntax::{JsStr, Memory, Precedence};
-use jsgen_tree::{CodegenOptions, Expression, Program};
+use jsgen_tree::{CodegenOptions, Expression, PrivateMappings, Program, Scoping, Tables};
 use std::alloc::Global;
 use std::error::Error;
 use std::fmt;
-use std::marker::PhantomData;
 
 /// Why a call didn't print the whole text.
 #[derive(Clone, Copy, Debug, PartialEq, Eq)]
@@ -68,32 +68,34 @@ pub struct CodegenReturn {
 pub struct Codegen<'a> {
     alloc: Global,
     options: CodegenOptions,
-    printer: Printer,
+    tables: Tables<'a>,
+    printer: Printer<'a>,
     has_printed: bool,
     has_failed: bool,
-    lent: PhantomData<&'a ()>,
-    ghost fresh: { has_printed ≡ false → pen_of printer ≡ empty_pen (style_of (options_plain options)) 0 },
+    ghost fresh: { has_printed ≡ false → pen_of printer ≡ empty_pen (style_of (options_plain options) (tables_plain tables)) 0 },
+    ghost named: { (pen_of printer).style.tables ≡ tables_plain tables },
 }
 
 impl<'a> Codegen<'a> {
-    ghost use Rattle.jsgen.specs.Codegen.{options_of, job_for, has_printed, has_failed, pen_at, settings_at, printed_so_far, Prints};
+    ghost use Rattle.jsgen.specs.Codegen.{options_of, tables_of, job_for, has_printed, has_failed, pen_at, settings_at, printed_so_far, Prints};
 
-    /// A printer by the default options: of pretty text.
+    /// A printer by the default options, of pretty text, that prints each name as it is.
     pub fn new(alloc: Global) -> Codegen<'a>
         ensures options { options_of result ≡ default_options }
+        ensures tables { tables_of result ≡ no_tables }
         ensures printed { has_printed result ≡ false }
         ensures failed { has_failed result ≡ false }
-        ensures empty { pen_at result ≡ empty_pen (style_of default_options) 0 }
+        ensures empty { pen_at result ≡ empty_pen (style_of default_options no_tables) 0 }
     {
         let defaults = CodegenOptions::default();
         let printer = Printer::new(alloc, &defaults);
         Codegen {
             alloc,
             options: defaults,
+            tables: Tables::none(),
             printer,
             has_printed: false,
             has_failed: false,
-            lent: PhantomData,
         }
     }
 
@@ -101,18 +103,67 @@ impl<'a> Codegen<'a> {
     pub fn with_options(self, options: CodegenOptions) -> Codegen<'a>
         requires unprinted { has_printed self ≡ false }
         ensures options { options_of result ≡ options_plain options }
+        ensures tables { tables_of result ≡ tables_of self.entry }
         ensures printed { has_printed result ≡ false }
         ensures failed { has_failed result ≡ has_failed self.entry }
-        ensures empty { pen_at result ≡ empty_pen (style_of (options_plain options)) 0 }
+        ensures empty { pen_at result ≡ empty_pen (style_of (options_plain options) (tables_of self.entry)) 0 }
     {
-        let printer = Printer::new(self.alloc, &options);
+        let printer = Printer::new(self.alloc, &options).with_tables(self.tables);
         Codegen {
             alloc: self.alloc,
             options,
+            tables: self.tables,
             printer,
             has_printed: self.has_printed,
             has_failed: self.has_failed,
-            lent: PhantomData,
+        }
+    }
+
+    /// The same printer by these names of symbols, from here on; `None` for none.
+    pub fn with_scoping(self, scoping: Option<&'a Scoping>) -> Codegen<'a>
+        ensures options { options_of result ≡ options_of self.entry }
+        ensures tables { tables_of result ≡ record (tables_of self.entry) { scoping = option_map (λ s. scoping_plain s.now) scoping.entry } }
+        ensures printed { has_printed result ≡ has_printed self.entry }
+        ensures failed { has_failed result ≡ has_failed self.entry }
+        ensures pen { pen_at result ≡ with_tables (tables_of result) (pen_at self.entry) }
+    {
+        let tables = Tables {
+            scoping,
+            ..self.tables
+        };
+        self.with_tables(tables)
+    }
+
+    /// The same printer by these new names of private names, from here on; `None` for none. No name is printed by them yet.
+    pub fn with_private_member_mappings(self, mappings: Option<&'a PrivateMappings>) -> Codegen<'a>
+        ensures options { options_of result ≡ options_of self.entry }
+        ensures tables { tables_of result ≡ record (tables_of self.entry) { private = option_map (λ p. private_plain p.now) mappings.entry } }
+        ensures printed { has_printed result ≡ has_printed self.entry }
+        ensures failed { has_failed result ≡ has_failed self.entry }
+        ensures pen { pen_at result ≡ with_tables (tables_of result) (pen_at self.entry) }
+    {
+        let tables = Tables {
+            private: mappings,
+            ..self.tables
+        };
+        self.with_tables(tables)
+    }
+
+    // The same printer by these tables.
+    fn with_tables(self, tables: Tables<'a>) -> Codegen<'a>
+        ensures options { options_of result ≡ options_of self.entry }
+        ensures tables { tables_of result ≡ tables_plain tables.entry }
+        ensures printed { has_printed result ≡ has_printed self.entry }
+        ensures failed { has_failed result ≡ has_failed self.entry }
+        ensures pen { pen_at result ≡ with_tables (tables_of result) (pen_at self.entry) }
+    {
+        Codegen {
+            alloc: self.alloc,
+            options: self.options,
+            tables,
+            printer: self.printer.with_tables(tables),
+            has_printed: self.has_printed,
+            has_failed: self.has_failed,
         }
     }
 
@@ -135,6 +186,7 @@ impl<'a> Codegen<'a> {
         ensures printed { has_printed self.new ≡ true }
         ensures failed { has_failed self.new ≡ true }
         ensures options { options_of self.new ≡ options_of self.old }
+        ensures tables { tables_of self.new ≡ tables_of self.old }
         ensures pen { pen_at self.new ≡ pen_at self.old }
     {
         self.has_printed = true;
@@ -204,7 +256,7 @@ impl<'a> Codegen<'a> {
     /// Prints an expression by itself, which `check_expression` has to accept: at the lowest level, where nothing is forbidden. As
     /// the first that is printed it begins a statement, so that an object stands in parentheses.
     pub fn print_expression(&mut self, expression: &Expression) -> Result<(), CodegenError>
-        requires valid { IsValidExpression (options_of self.old) no_tables (expression_plain node_plain expression.now) }
+        requires valid { IsValidExpression (options_of self.old) (tables_of self.old) (expression_plain node_plain expression.now) }
         requires unfailed { has_failed self.old ≡ false }
         ensures { Prints self.old self.new (layout (spell (expression_plain node_plain expression.now) (at_level Lowest (settings_at self.old) free (pen_at self.old).start)) (pen_at self.old)) result }
     {
@@ -275,15 +327,17 @@ impl<'a> Codegen<'a> {
     pub fn check(&self, program: &Program) -> Result<(), TreeFault>
         ensures { Judges (job_breaches (job_for self.now (program_plain program.now))) result }
     {
-        check_program(&self.options, program)
+        let Tables { scoping, private } = self.tables;
+        check_program(&self.options, scoping, private, program)
     }
 
     /// Says Ok exactly where the expression by itself keeps each rule, and otherwise a rule that it breaks: it is checked as the
     /// one statement of a module, without a source. It takes no memory.
     pub fn check_expression(&self, expression: &Expression) -> Result<(), TreeFault>
-        ensures { Judges (expression_breaches (options_of self.now) no_tables (expression_plain node_plain expression.now)) result }
+        ensures { Judges (expression_breaches (options_of self.now) (tables_of self.now) (expression_plain node_plain expression.now)) result }
     {
-        check_expression(&self.options, expression)
+        let Tables { scoping, private } = self.tables;
+        check_expression(&self.options, scoping, private, expression)
     }
 
     /// Prints a program, which `check` has to accept, before anything else is printed: its first line stands at the level

@@ -18,5 +18,5 @@ pub use jsgen_syntax::{
     SourceKind, Span, UnaryOperator, UpdateOperator, is_name, is_reserved, is_strict_reserved,
 };
 pub use jsgen_tree as tree;
-pub use jsgen_tree::{CodegenOptions, CommentOptions, LegalComment};
+pub use jsgen_tree::{CodegenOptions, CommentOptions, LegalComment, PrivateMappings, Scoping};
 pub use laws::jobs_are_plain;

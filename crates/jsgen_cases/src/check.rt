@@ -1,6 +1,6 @@
 // Checks of what no job or text by itself tells, by their names.
 use crate::{
-    gen_checks, print_checks, quote_checks, run_checks, syntax_checks, text_checks, tree_checks,
+    caller_checks, gen_checks, print_checks, run_checks, syntax_checks, text_checks, tree_checks,
 };
 use jsgen_syntax::Memory;
 use std::alloc::Global;
@@ -61,6 +61,7 @@ fn holds_of_nodes(alloc: Global, name: &str) -> Option<bool> {
         "expressions print by themselves" => gen_checks::expressions_print_by_themselves(alloc),
         "functions print by themselves" => gen_checks::functions_print_by_themselves(alloc),
         "plain quotes are tried" => gen_checks::plain_quotes_are_tried(alloc),
+        "a caller logs" => caller_checks::a_caller_logs(alloc),
         "nodes go on with pieces" => gen_checks::nodes_go_on_with_pieces(alloc),
         _ => return None,
     })

@@ -4,6 +4,7 @@
 // tools/cases/generate writes both files.
 #![tactic(auto)]
 
+mod caller_checks;
 mod check;
 mod gen_checks;
 mod line;

@@ -2,6 +2,7 @@
 use jsgen::{Job, read_job};
 use jsgen_oracle::{Form, normal_form};
 use jsgen_syntax::Memory;
+use jsgen_tree::Tables;
 use std::alloc::Global;
 
 /// `same` where the jobs, with a tab between, have one normal form, and `other` where they have two.
@@ -22,7 +23,7 @@ fn comparison(alloc: Global, left: &str, right: &str) -> Result<&'static str, Me
     })
 }
 
-// The normal form of a job's program.
+// The normal form of a job's program, by the names that its tables give.
 fn form_of(alloc: Global, job: &str) -> Result<Option<Form>, Memory> {
     match read_job(alloc, job.as_bytes()) {
         Ok(job) => Ok(Some(form_of_job(alloc, job)?)),
@@ -32,5 +33,9 @@ fn form_of(alloc: Global, job: &str) -> Result<Option<Form>, Memory> {
 
 // Here alone the tree is let go of, so that this is proved once.
 fn form_of_job(alloc: Global, job: Job) -> Result<Form, Memory> {
-    normal_form(alloc, &job.program)
+    let tables = Tables {
+        scoping: job.scoping.as_ref(),
+        private: job.private.as_ref(),
+    };
+    normal_form(alloc, tables, &job.program)
 }

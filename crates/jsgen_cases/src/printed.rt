@@ -47,8 +47,17 @@ fn library_text(alloc: Global, job: &str) -> Result<String, Memory> {
 
 // Here alone the tree is let go of, so that this is proved once.
 fn text_of_job(alloc: Global, job: Job) -> Result<String, Memory> {
-    let Job { options, program } = job;
-    text_by(alloc, Codegen::new(alloc).with_options(options), &program)
+    let Job {
+        options,
+        scoping,
+        private,
+        program,
+    } = job;
+    let printer = Codegen::new(alloc)
+        .with_options(options)
+        .with_scoping(scoping.as_ref())
+        .with_private_member_mappings(private.as_ref());
+    text_by(alloc, printer, &program)
 }
 
 fn text_by<'a>(alloc: Global, printer: Codegen<'a>, program: &'a Program) -> Result<String, Memory>

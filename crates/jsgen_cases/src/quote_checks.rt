@@ -25,7 +25,7 @@ fn assignment_of(program: &Program) -> Option<&AssignmentExpression> {
     }
 }
 
-fn printer(alloc: Global, minify: bool) -> Printer {
+fn printer(alloc: Global, minify: bool) -> Printer<'static> {
     Printer::new(
         alloc,
         &CodegenOptions {
@@ -35,7 +35,7 @@ fn printer(alloc: Global, minify: bool) -> Printer {
     )
 }
 
-fn tells(outcome: Result<bool, Memory>, p: Printer, wanted: Option<&str>) -> bool {
+fn tells(outcome: Result<bool, Memory>, p: Printer<'_>, wanted: Option<&str>) -> bool {
     match outcome {
         Ok(applies) => {
             applies == wanted.is_some() && p.into_string().as_str() == wanted.unwrap_or("")

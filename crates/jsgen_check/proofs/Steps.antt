@@ -2,7 +2,7 @@
 use Rattle.std.proofs.Common.{◌≡◌, ℕ, ◌+◌, ◌<◌, ◌≤◌, List, [], ◌∷◌, ◌++◌, map, drop, length, Option, Some, None, option_map, Result, Ok, Err, sym, ap, refl, ◌∙◌, arith}
 use Rattle.std.specs.Result.{IsErrAnd}
 use Rattle.std.proofs.Math.ListN.{get_or}
-use Rattle.std.proofs.lemmas.List.{at_drop_all, at_drop_more}
+use Rattle.std.proofs.lemmas.List.{at_drop_all, at_drop_more, get_or_default}
 use Rattle.std.proofs.lemmas.Result.{err_from_is_err_and}
 use Rattle.jsgen_tree.specs.declared.types.NodeSet.{NodeSet}
 use Rattle.jsgen_tree.specs.declared.types.NodeType.{NodeType}
@@ -54,9 +54,9 @@ pub last_child : {r a : Result ℕ TreeFault} → r ≡ a → r ≡ higher a (Ok
 last_child {r} {a} h = h ∙ none_behind a
 
 -- a row: its span, its own rules, and its children
-pub of_row : {r q : Result ℕ TreeFault} {p : Result (Unit {0}) TreeFault} (around : Surroundings) (type : NodeType) (a : Atoms) (slots : Slots) → r ≡ both (verdict (span_faults a.span)) (both p (raised q)) → p ≡ verdict (own_faults (surroundings_plain around) (node type a slots)) → q ≡ slots_verdict around (asked_sets type) slots → r ≡ tree_verdict around (node type a slots)
+pub of_row : {r q : Result ℕ TreeFault} {p : Result (Unit {0}) TreeFault} (around : Surroundings) (type : NodeType) (a : Atoms) (slots : Slots) → r ≡ both (verdict (span_faults (surroundings_plain around) a.span)) (both p (raised q)) → p ≡ verdict (own_faults (surroundings_plain around) (node type a slots)) → q ≡ slots_verdict around (asked_sets type) slots → r ≡ tree_verdict around (node type a slots)
 of_row {r} {q} around type a slots h own below =
-    let span = verdict (span_faults a.span) in
+    let span = verdict (span_faults (surroundings_plain around) a.span) in
     let rules = verdict (own_faults (surroundings_plain around) (node type a slots)) in
     h ∙ (ap (λ x. both span (both x (raised q))) own ∙ ap (λ x. both span (both rules (raised x))) below) ∙ sym (of_node around type a slots)
 
@@ -85,6 +85,10 @@ next {A} so_far around set f xs i x inside is left =
 
 pub turn : {A : Type 0} {whole r found : Result ℕ TreeFault} (so_far : Result ℕ TreeFault) (around : Surroundings) (set : NodeSet) (f : A → Tree) (xs : List A) (i : ℕ) (x : A) → i < length xs → x ≡ get_or xs i x → higher so_far (children_verdict around set (trees (map f (drop i xs)))) ≡ whole → r ≡ higher so_far found → found ≡ child_verdict around set (f x) → higher r (children_verdict around set (trees (map f (drop (i + 1) xs)))) ≡ whole
 turn so_far around set f xs i x inside is left both_of this = ap (λ r. higher r (children_verdict around set (trees (map f (drop (i + 1) xs))))) (two_children both_of refl this) ∙ next so_far around set f xs i x inside is left
+
+-- the same of nodes that are copied, where another stands in for the one that there may not be
+pub turn_copied : {A : Type 0} {whole r found : Result ℕ TreeFault} (so_far : Result ℕ TreeFault) (around : Surroundings) (set : NodeSet) (f : A → Tree) (xs : List A) (i : ℕ) (other : A) → i < length xs → higher so_far (children_verdict around set (trees (map f (drop i xs)))) ≡ whole → r ≡ higher so_far found → found ≡ child_verdict around set (f (get_or xs i other)) → higher r (children_verdict around set (trees (map f (drop (i + 1) xs)))) ≡ whole
+turn_copied so_far around set f xs i other inside left both_of this = turn so_far around set f xs i (get_or xs i other) inside (get_or_default xs i other (get_or xs i other) inside) left both_of this
 
 pub turns_end : {A : Type 0} {whole : Result ℕ TreeFault} (r : Result ℕ TreeFault) (around : Surroundings) (set : NodeSet) (f : A → Tree) (xs : List A) (i : ℕ) → length xs ≤ i → higher r (children_verdict around set (trees (map f (drop i xs)))) ≡ whole → r ≡ whole
 turns_end {A} r around set f xs i outside left =

@@ -96,10 +96,10 @@ of_slots around [] slots = refl
 
 -- ---- nodes
 
-pub of_node : (around : Surroundings) (type : NodeType) (a : Atoms) (slots : Slots) → tree_verdict around (node type a slots) ≡ both (verdict (span_faults a.span)) (both (verdict (own_faults (surroundings_plain around) (node type a slots))) (raised (slots_verdict around (asked_sets type) slots)))
+pub of_node : (around : Surroundings) (type : NodeType) (a : Atoms) (slots : Slots) → tree_verdict around (node type a slots) ≡ both (verdict (span_faults (surroundings_plain around) a.span)) (both (verdict (own_faults (surroundings_plain around) (node type a slots))) (raised (slots_verdict around (asked_sets type) slots)))
 unfolding tree_verdict
 of_node around type a slots =
-    let span = span_faults a.span in
+    let span = span_faults (surroundings_plain around) a.span in
     let own = own_faults (surroundings_plain around) (node type a slots) in
     let below = in_slots (surroundings_plain around) (map (place around) (asked_sets type)) slots in
     let height = height_of_slots slots in

@@ -1,11 +1,15 @@
 -- What the checker answers about a tree: Ok with its height where it keeps each rule, else the first rule that it breaks.
-use Rattle.std.specs.Prelude.{ℕ, suc, min, max, false, List, [], ◌∷◌, ◌++◌, Result, Ok, Err, if◌then◌else◌}
+use Rattle.std.specs.Prelude.{ℕ, suc, min, max, false, List, [], ◌∷◌, ◌++◌, Option, Result, Ok, Err, if◌then◌else◌}
 use Rattle.std.specs.Str.{chars}
+use Rattle.std.specs.Borrow.{Bor}
 use Rattle.jsgen_syntax.specs.declared.span.Span.{Span}
 use Rattle.jsgen_tree.specs.declared.types.NodeSet.{NodeSet}
 use Rattle.jsgen_tree.specs.Tree.{Tree, Maybe, absent, given, Trees}
 use Rattle.jsgen_tree.specs.Options.{Options, options_plain}
-use Rattle.jsgen_tree.specs.Job.{no_tables}
+use Rattle.jsgen_tree.specs.Job.{Tables}
+use Rattle.jsgen_tree.specs.Scoping.{tables_plain}
+use Rattle.jsgen_tree.specs.declared.scoping.Scoping.{Scoping}
+use Rattle.jsgen_tree.specs.declared.scoping.PrivateMappings.{PrivateMappings}
 use Rattle.jsgen_model.specs.Valid as valid
 use Rattle.jsgen_model.specs.Valid.{breaches, set_faults, in_trees, height, greatest_height, fault_if, passes_levels}
 use Rattle.jsgen_model.specs.declared.fault.TreeFault.{TreeFault}
@@ -13,8 +17,12 @@ use Rattle.jsgen_model.specs.declared.fault.TreeFault.TheVariants as faults
 use Rattle.jsgen_rules.specs.Verdict.{verdict}
 use Rattle.jsgen_check.specs.declared.surroundings.Surroundings.{Surroundings}
 
+-- the tables that a caller hands, each or none
+abbrev pub tables_of : Option (Bor Scoping) → Option (Bor PrivateMappings) → Tables
+tables_of scoping private = tables_plain (record { scoping = scoping; private = private })
+
 unfoldable pub surroundings_plain : Surroundings → valid.Surroundings
-surroundings_plain around = record { options = options_plain around.options.now; tables = no_tables; source = chars around.source.now }
+surroundings_plain around = record { options = options_plain around.options.now; tables = tables_plain around.tables; source = chars around.source.now; is_mapped = around.is_mapped }
 
 -- a height, counted up to what 64 bits hold
 abbrev pub capped : ℕ → ℕ

@@ -21,6 +21,7 @@ pub fn check_conditional_expression<N: CheckNode>(
     let consequent = check_child(node.consequent.get(), NodeSet::Expression, around);
     let alternate = check_child(node.alternate.get(), NodeSet::Expression, around);
     check_node(
+        around,
         node.span,
         Ok(()),
         higher(test, higher(consequent, alternate)),
@@ -35,7 +36,7 @@ pub fn check_sequence_expression<N: CheckNode>(
 {
     let rules = check_sequence_expression_rules(node, around);
     let expressions = check_expressions(&node.expressions, around);
-    check_node(node.span, rules, expressions)
+    check_node(around, node.span, rules, expressions)
 }
 
 pub fn check_assignment_expression<N: CheckNode>(
@@ -47,5 +48,5 @@ pub fn check_assignment_expression<N: CheckNode>(
     let rules = check_assignment_expression_rules(node, around);
     let left = check_assignment_target(&node.left, around);
     let right = check_child(node.right.get(), NodeSet::Expression, around);
-    check_node(node.span, rules, higher(left, right))
+    check_node(around, node.span, rules, higher(left, right))
 }

@@ -20,7 +20,7 @@ pub fn check_spread_element<N: CheckNode>(
     ensures { result ≡ tree_verdict around.entry (spread_element_row N.plain node.now) }
 {
     let argument = check_child(node.argument.get(), NodeSet::Expression, around);
-    check_node(node.span, Ok(()), argument)
+    check_node(around, node.span, Ok(()), argument)
 }
 
 pub fn check_array_expression<N: CheckNode>(
@@ -30,7 +30,7 @@ pub fn check_array_expression<N: CheckNode>(
     ensures { result ≡ tree_verdict around.entry (array_expression_row N.plain node.now) }
 {
     let elements = check_array_expression_elements_or_holes(&node.elements, around);
-    check_node(node.span, Ok(()), elements)
+    check_node(around, node.span, Ok(()), elements)
 }
 
 pub fn check_object_property<N: CheckNode>(
@@ -42,7 +42,7 @@ pub fn check_object_property<N: CheckNode>(
     let rules = check_object_property_rules(node, around);
     let key = check_property_key(&node.key, around);
     let value = check_child(node.value.get(), NodeSet::Expression, around);
-    check_node(node.span, rules, higher(key, value))
+    check_node(around, node.span, rules, higher(key, value))
 }
 
 pub fn check_object_expression<N: CheckNode>(
@@ -52,5 +52,5 @@ pub fn check_object_expression<N: CheckNode>(
     ensures { result ≡ tree_verdict around.entry (object_expression_row N.plain node.now) }
 {
     let properties = check_object_property_kinds(&node.properties, around);
-    check_node(node.span, Ok(()), properties)
+    check_node(around, node.span, Ok(()), properties)
 }

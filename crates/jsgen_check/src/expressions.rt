@@ -28,7 +28,7 @@ pub fn check_identifier_reference(
     ensures { result ≡ tree_verdict around.entry (identifier_reference_row node.now) }
 {
     let rules = check_identifier_reference_rules(node, around);
-    check_node(node.span, rules, Ok(0))
+    check_node(around, node.span, rules, Ok(0))
 }
 
 pub fn check_this_expression(
@@ -37,15 +37,13 @@ pub fn check_this_expression(
 ) -> Result<u64, TreeFault>
     ensures { result ≡ tree_verdict around.entry (this_expression_row node.now) }
 {
-    let _ = around;
-    check_node(node.span, Ok(()), Ok(0))
+    check_node(around, node.span, Ok(()), Ok(0))
 }
 
 pub fn check_null_literal(node: &NullLiteral, around: Surroundings<'_>) -> Result<u64, TreeFault>
     ensures { result ≡ tree_verdict around.entry (null_literal_row node.now) }
 {
-    let _ = around;
-    check_node(node.span, Ok(()), Ok(0))
+    check_node(around, node.span, Ok(()), Ok(0))
 }
 
 pub fn check_boolean_literal(
@@ -54,8 +52,7 @@ pub fn check_boolean_literal(
 ) -> Result<u64, TreeFault>
     ensures { result ≡ tree_verdict around.entry (boolean_literal_row node.now) }
 {
-    let _ = around;
-    check_node(node.span, Ok(()), Ok(0))
+    check_node(around, node.span, Ok(()), Ok(0))
 }
 
 pub fn check_numeric_literal(
@@ -65,7 +62,7 @@ pub fn check_numeric_literal(
     ensures { result ≡ tree_verdict around.entry (numeric_literal_row node.now) }
 {
     let rules = check_numeric_literal_rules(node, around);
-    check_node(node.span, rules, Ok(0))
+    check_node(around, node.span, rules, Ok(0))
 }
 
 pub fn check_big_int_literal(
@@ -75,7 +72,7 @@ pub fn check_big_int_literal(
     ensures { result ≡ tree_verdict around.entry (big_int_literal_row node.now) }
 {
     let rules = check_big_int_literal_rules(node, around);
-    check_node(node.span, rules, Ok(0))
+    check_node(around, node.span, rules, Ok(0))
 }
 
 pub fn check_string_literal(
@@ -84,8 +81,7 @@ pub fn check_string_literal(
 ) -> Result<u64, TreeFault>
     ensures { result ≡ tree_verdict around.entry (string_literal_row node.now) }
 {
-    let _ = around;
-    check_node(node.span, Ok(()), Ok(0))
+    check_node(around, node.span, Ok(()), Ok(0))
 }
 
 pub fn check_parenthesized_expression<N: CheckNode>(
@@ -95,7 +91,7 @@ pub fn check_parenthesized_expression<N: CheckNode>(
     ensures { result ≡ tree_verdict around.entry (parenthesized_expression_row N.plain node.now) }
 {
     let expression = check_child(node.expression.get(), NodeSet::Expression, around);
-    check_node(node.span, Ok(()), expression)
+    check_node(around, node.span, Ok(()), expression)
 }
 
 pub fn check_binary_expression<N: CheckNode>(
@@ -106,7 +102,7 @@ pub fn check_binary_expression<N: CheckNode>(
 {
     let left = check_child(node.left.get(), NodeSet::Expression, around);
     let right = check_child(node.right.get(), NodeSet::Expression, around);
-    check_node(node.span, Ok(()), higher(left, right))
+    check_node(around, node.span, Ok(()), higher(left, right))
 }
 
 pub fn check_logical_expression<N: CheckNode>(
@@ -117,7 +113,7 @@ pub fn check_logical_expression<N: CheckNode>(
 {
     let left = check_child(node.left.get(), NodeSet::Expression, around);
     let right = check_child(node.right.get(), NodeSet::Expression, around);
-    check_node(node.span, Ok(()), higher(left, right))
+    check_node(around, node.span, Ok(()), higher(left, right))
 }
 
 pub fn check_identifier_name(
@@ -127,7 +123,7 @@ pub fn check_identifier_name(
     ensures { result ≡ tree_verdict around.entry (identifier_name_row node.now) }
 {
     let rules = check_identifier_name_rules(node, around);
-    check_node(node.span, rules, Ok(0))
+    check_node(around, node.span, rules, Ok(0))
 }
 
 pub fn check_static_member_expression<N: CheckNode>(
@@ -139,7 +135,7 @@ pub fn check_static_member_expression<N: CheckNode>(
     let rules = check_static_member_expression_rules(node, around);
     let object = check_child(node.object.get(), NodeSet::Link, around);
     let property = check_identifier_name(&node.property, around);
-    check_node(node.span, rules, higher(object, property))
+    check_node(around, node.span, rules, higher(object, property))
 }
 
 pub fn check_computed_member_expression<N: CheckNode>(
@@ -151,7 +147,7 @@ pub fn check_computed_member_expression<N: CheckNode>(
     let rules = check_computed_member_expression_rules(node, around);
     let object = check_child(node.object.get(), NodeSet::Link, around);
     let expression = check_child(node.expression.get(), NodeSet::Expression, around);
-    check_node(node.span, rules, higher(object, expression))
+    check_node(around, node.span, rules, higher(object, expression))
 }
 
 pub fn check_call_expression<N: CheckNode>(
@@ -163,7 +159,7 @@ pub fn check_call_expression<N: CheckNode>(
     let rules = check_call_expression_rules(node, around);
     let callee = check_child(node.callee.get(), NodeSet::Link, around);
     let arguments = check_arguments(&node.arguments, around);
-    check_node(node.span, rules, higher(callee, arguments))
+    check_node(around, node.span, rules, higher(callee, arguments))
 }
 
 pub fn check_chain_expression<N: CheckNode>(
@@ -174,5 +170,5 @@ pub fn check_chain_expression<N: CheckNode>(
 {
     let rules = check_chain_expression_rules(node, around);
     let expression = check_chain_element(&node.expression, around);
-    check_node(node.span, rules, expression)
+    check_node(around, node.span, rules, expression)
 }

@@ -23,7 +23,7 @@ pub fn check_formal_parameter<N: CheckNode>(
 {
     let pattern = check_child(node.pattern.get(), NodeSet::BindingPattern, around);
     let initializer = check_optional_expression(&node.initializer, around);
-    check_node(node.span, Ok(()), higher(pattern, initializer))
+    check_node(around, node.span, Ok(()), higher(pattern, initializer))
 }
 
 pub fn check_formal_parameter_rest<N: CheckNode>(
@@ -33,7 +33,7 @@ pub fn check_formal_parameter_rest<N: CheckNode>(
     ensures { result ≡ tree_verdict around.entry (formal_parameter_rest_row N.plain node.now) }
 {
     let argument = check_child(node.argument.get(), NodeSet::BindingPattern, around);
-    check_node(node.span, Ok(()), argument)
+    check_node(around, node.span, Ok(()), argument)
 }
 
 pub fn check_formal_parameters<N: CheckNode>(
@@ -44,7 +44,7 @@ pub fn check_formal_parameters<N: CheckNode>(
 {
     let items = check_each_formal_parameter(&node.items, around);
     let rest = check_optional_formal_parameter_rest(&node.rest, around);
-    check_node(node.span, Ok(()), higher(items, rest))
+    check_node(around, node.span, Ok(()), higher(items, rest))
 }
 
 pub fn check_arrow_function_expression<N: CheckNode>(
@@ -55,5 +55,5 @@ pub fn check_arrow_function_expression<N: CheckNode>(
 {
     let params = check_formal_parameters(&node.params, around);
     let body = check_arrow_function_body(&node.body, around);
-    check_node(node.span, Ok(()), higher(params, body))
+    check_node(around, node.span, Ok(()), higher(params, body))
 }

@@ -4,8 +4,9 @@ ghost use Rattle.std.specs.Prelude.{◌≡◌};
 ghost use Rattle.jsgen_tree.specs.Options.{options_plain};
 ghost use Rattle.jsgen_model.specs.Valid.{span_faults, passes_levels};
 ghost use Rattle.jsgen_rules.specs.Verdict.{verdict};
-ghost use Rattle.jsgen_check.specs.Verdict.{both, higher, raised, height_faults, ended, topped};
+ghost use Rattle.jsgen_check.specs.Verdict.{surroundings_plain, both, higher, raised, height_faults, ended, topped};
 
+use crate::Surroundings;
 use jsgen_model::TreeFault;
 use jsgen_rules::check_span;
 use jsgen_syntax::Span;
@@ -25,15 +26,16 @@ pub fn higher(
 }
 
 /// The first fault of a node's span, of its own rules and of its children, else its height.
-#[tactic(auto, unfolding(crate::specs::Verdict::both, crate::specs::Verdict::raised, jsgen_rules::specs::Verdict::verdict))]
+#[tactic(auto, unfolding(crate::specs::Verdict::surroundings_plain, crate::specs::Verdict::both, crate::specs::Verdict::raised, jsgen_rules::specs::Verdict::verdict))]
 pub fn check_node(
+    around: Surroundings<'_>,
     span: Span,
     rules: Result<(), TreeFault>,
     below: Result<u64, TreeFault>,
 ) -> Result<u64, TreeFault>
-    ensures { result ≡ both (verdict (span_faults span)) (both rules (raised below)) }
+    ensures { result ≡ both (verdict (span_faults (surroundings_plain around.entry) span)) (both rules (raised below)) }
 {
-    check_span(span)?;
+    check_span(around.is_mapped, around.source, span)?;
     rules?;
     let below = below?;
     Ok(below.saturating_add(1))
@@ -59,19 +61,19 @@ fn check_height(options: &CodegenOptions, span: Span, height: u64) -> Result<(),
 }
 
 /// The first fault of a program's span, of its source and of its children, else of its height.
-#[tactic(auto, unfolding(crate::specs::Verdict::both, crate::specs::Verdict::ended, jsgen_rules::specs::Verdict::verdict))]
+#[tactic(auto, unfolding(crate::specs::Verdict::surroundings_plain, crate::specs::Verdict::both, crate::specs::Verdict::ended, jsgen_rules::specs::Verdict::verdict))]
 pub fn check_program_parts(
-    options: &CodegenOptions,
+    around: Surroundings<'_>,
     span: Span,
     source: Result<(), TreeFault>,
     below: Result<u64, TreeFault>,
 ) -> Result<(), TreeFault>
-    ensures { result ≡ both (verdict (span_faults span)) (both source (ended (options_plain options.now) span below)) }
+    ensures { result ≡ both (verdict (span_faults (surroundings_plain around.entry) span)) (both source (ended (options_plain around.entry.options.now) span below)) }
 {
-    check_span(span)?;
+    check_span(around.is_mapped, around.source, span)?;
     source?;
     let below = below?;
-    check_height(options, span, below.saturating_add(1))
+    check_height(around.options, span, below.saturating_add(1))
 }
 
 /// The first fault of an expression by itself, else of its height.

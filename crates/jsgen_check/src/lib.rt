@@ -6,12 +6,11 @@ ghost use Rattle.std.specs.Prelude.{◌≡◌};
 ghost use Rattle.jsgen_tree.specs.Tree.{Tree, type_of, span_of};
 ghost use Rattle.jsgen_tree.specs.Plain.{node_plain, program_plain};
 ghost use Rattle.jsgen_tree.specs.Options.{options_plain};
-ghost use Rattle.jsgen_tree.specs.Job.{no_tables};
 ghost use Rattle.jsgen_tree.specs.Rows.{expression_plain};
 ghost use Rattle.jsgen_tree.specs.declared.types.NodeSet.TheVariants as sets;
 ghost use Rattle.jsgen_model.specs.Valid.{job_breaches, expression_breaches, set_faults, link_faults, Judges};
 ghost use Rattle.jsgen_rules.specs.Verdict.{verdict};
-ghost use Rattle.jsgen_check.specs.Verdict.{tree_verdict, child_verdict};
+ghost use Rattle.jsgen_check.specs.Verdict.{tables_of, tree_verdict, child_verdict};
 
 mod assignments;
 mod children;
@@ -39,14 +38,17 @@ use crate::sets::{
 pub use crate::surroundings::Surroundings;
 use jsgen_model::TreeFault;
 use jsgen_rules::{check_no_optional_link, check_set, takes_optional_link};
-use jsgen_tree::{CodegenOptions, Expression, GetSpan, Node, NodeSet, NodeType, Program};
+use jsgen_tree::{
+    CodegenOptions, Expression, GetSpan, IdentifierReference, Node, NodeSet, NodeType,
+    PrivateMappings, Program, Scoping, Tables,
+};
 
 /// What the checks ask of a child. Only `Node` implements it.
 pub trait CheckNode {
     ghost use Rattle.std.specs.Prelude.{option_map};
     ghost use Rattle.std.specs.Str.{chars};
     ghost use Rattle.jsgen_tree.specs.Tree.{Tree};
-    ghost use Rattle.jsgen_tree.specs.Inside.{without_parentheses, has_optional_link, reference_in, written_name_in, is_negative};
+    ghost use Rattle.jsgen_tree.specs.Inside.{without_parentheses, has_optional_link, looked_up_in, named_by, written_name_in, is_negative};
 
     ghost plain: { Self → Tree };
 
@@ -56,9 +58,9 @@ pub trait CheckNode {
     fn start(&self) -> u32
         ensures { result ≡ (span_of (plain self.now)).start };
 
-    /// The name that it looks up, without the parentheses that it may have round it.
-    fn reference(&self) -> Option<&str>
-        ensures { option_map (λ s. chars s.now) result ≡ reference_in (without_parentheses (plain self.now)) };
+    /// The reference itself, where it is one, without the parentheses that it may have round it.
+    fn looked_up(&self) -> Option<&IdentifierReference>
+        ensures { option_map (λ n. named_by n.now) result ≡ looked_up_in (without_parentheses (plain self.now)) };
 
     /// The name that stands there as it is written.
     fn written_name(&self) -> Option<&str>
@@ -77,22 +79,40 @@ pub trait CheckNode {
         ensures { result ≡ tree_verdict around.entry (plain self.now) };
 }
 
-/// Says Ok exactly where a program that is printed under these options keeps each rule, and otherwise a rule that it breaks.
-pub fn check_program(options: &CodegenOptions, program: &Program) -> Result<(), TreeFault>
-    ensures { Judges (job_breaches (record { options = options_plain options.now; tables = no_tables; program = program_plain program.now })) result }
-{
-    let source = program.source.as_str();
-    check_program_row(program, Surroundings { options, source })
-}
-
-/// Says Ok exactly where an expression by itself, which is printed under these options, keeps each rule, and otherwise a rule
-/// that it breaks: it is checked as the one statement of a module.
-pub fn check_expression(options: &CodegenOptions, expression: &Expression) -> Result<(), TreeFault>
-    ensures { Judges (expression_breaches (options_plain options.now) no_tables (expression_plain node_plain expression.now)) result }
+/// Says Ok exactly where a program that is printed under these options and by these tables keeps each rule, and otherwise a rule
+/// that it breaks.
+pub fn check_program(
+    options: &CodegenOptions,
+    scoping: Option<&Scoping>,
+    private: Option<&PrivateMappings>,
+    program: &Program,
+) -> Result<(), TreeFault>
+    ensures { Judges (job_breaches (record { options = options_plain options.now; tables = tables_of scoping.entry private.entry; program = program_plain program.now })) result }
 {
     let around = Surroundings {
         options,
+        tables: Tables { scoping, private },
+        source: program.source.as_str(),
+        is_mapped: options.source_map_path.is_some(),
+    };
+    check_program_row(program, around)
+}
+
+/// Says Ok exactly where an expression by itself, which is printed under these options and by these tables, keeps each rule, and
+/// otherwise a rule that it breaks: it is checked as the one statement of a module.
+pub fn check_expression(
+    options: &CodegenOptions,
+    scoping: Option<&Scoping>,
+    private: Option<&PrivateMappings>,
+    expression: &Expression,
+) -> Result<(), TreeFault>
+    ensures { Judges (expression_breaches (options_plain options.now) (tables_of scoping.entry private.entry) (expression_plain node_plain expression.now)) result }
+{
+    let around = Surroundings {
+        options,
+        tables: Tables { scoping, private },
         source: "",
+        is_mapped: false,
     };
     let found = check_alone(expression, around);
     check_top(options, expression.span(), found)
@@ -156,8 +176,8 @@ impl CheckNode for Node {
         self.span().start
     }
 
-    fn reference(&self) -> Option<&str> {
-        self.reference()
+    fn looked_up(&self) -> Option<&IdentifierReference> {
+        self.looked_up()
     }
 
     fn written_name(&self) -> Option<&str> {

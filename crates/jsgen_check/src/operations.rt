@@ -18,14 +18,13 @@ pub fn check_unary_expression<N: CheckNode>(
     ensures { result ≡ tree_verdict around.entry (unary_expression_row N.plain node.now) }
 {
     let argument = check_child(node.argument.get(), NodeSet::Expression, around);
-    check_node(node.span, Ok(()), argument)
+    check_node(around, node.span, Ok(()), argument)
 }
 
 pub fn check_new_target(node: &NewTarget, around: Surroundings<'_>) -> Result<u64, TreeFault>
     ensures { result ≡ tree_verdict around.entry (new_target_row node.now) }
 {
-    let _ = around;
-    check_node(node.span, Ok(()), Ok(0))
+    check_node(around, node.span, Ok(()), Ok(0))
 }
 
 pub fn check_update_expression<N: CheckNode>(
@@ -36,7 +35,7 @@ pub fn check_update_expression<N: CheckNode>(
 {
     let rules = check_update_expression_rules(node, around);
     let argument = check_simple_assignment_target(&node.argument, around);
-    check_node(node.span, rules, argument)
+    check_node(around, node.span, rules, argument)
 }
 
 pub fn check_new_expression<N: CheckNode>(
@@ -47,12 +46,11 @@ pub fn check_new_expression<N: CheckNode>(
 {
     let callee = check_child(node.callee.get(), NodeSet::Expression, around);
     let arguments = check_arguments(&node.arguments, around);
-    check_node(node.span, Ok(()), higher(callee, arguments))
+    check_node(around, node.span, Ok(()), higher(callee, arguments))
 }
 
 pub fn check_super(node: &Super, around: Surroundings<'_>) -> Result<u64, TreeFault>
     ensures { result ≡ tree_verdict around.entry (super_row node.now) }
 {
-    let _ = around;
-    check_node(node.span, Ok(()), Ok(0))
+    check_node(around, node.span, Ok(()), Ok(0))
 }

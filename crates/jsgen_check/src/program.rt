@@ -3,7 +3,7 @@ ghost use Rattle.jsgen_tree.specs.Rows.{program_row};
 ghost use Rattle.jsgen_model.specs.Valid.{breaches, Judges};
 ghost use Rattle.jsgen_check.specs.Verdict.{surroundings_plain};
 
-use crate::children::{check_directives, check_statements};
+use crate::children::{check_comments, check_directives, check_statements};
 use crate::heights::{check_program_parts, higher};
 use crate::{CheckNode, Surroundings};
 use jsgen_model::TreeFault;
@@ -17,8 +17,9 @@ pub fn check_program_row<N: CheckNode>(
     ensures { Judges (breaches (surroundings_plain around.entry) (program_row N.plain node.now)) result }
 {
     let source = check_source(around.source, node.span);
+    let comments = check_comments(&node.comments, around);
     let directives = check_directives(&node.directives, around);
     let body = check_statements(&node.body, around);
-    let below = higher(directives, body);
-    check_program_parts(around.options, node.span, source, below)
+    let below = higher(comments, higher(directives, body));
+    check_program_parts(around, node.span, source, below)
 }

@@ -5,9 +5,10 @@ ghost use Rattle.std.specs.Prelude.{◌≡◌, map, not, false, option_map};
 ghost use Rattle.std.specs.Option.{option_map_or};
 ghost use Rattle.std.specs.Str.{chars};
 ghost use Rattle.jsgen_tree.specs.Tree.{optional, trees, type_of, span_of};
-ghost use Rattle.jsgen_tree.specs.Inside.{without_parentheses, reference_in, written_name_in, is_proto, is_negative_big_integer};
-ghost use Rattle.jsgen_tree.specs.Rows.{directive_row, variable_declaration_row, variable_declarator_row, binding_identifier_row, if_statement_row, identifier_reference_row, numeric_literal_row, big_int_literal_row, identifier_name_row, object_property_row, in_statement, in_property_key, in_expression, sequence_expression_row, static_member_expression_row, computed_member_expression_row, call_expression_row, chain_expression_row, update_expression_row, assignment_expression_row, in_assignment_target, in_simple_assignment_target};
+ghost use Rattle.jsgen_tree.specs.Inside.{without_parentheses, looked_up_in, written_name_in, is_proto, is_negative_big_integer};
+ghost use Rattle.jsgen_tree.specs.Rows.{comment_row, directive_row, variable_declaration_row, variable_declarator_row, binding_identifier_row, if_statement_row, identifier_reference_row, numeric_literal_row, big_int_literal_row, identifier_name_row, object_property_row, in_statement, in_property_key, in_expression, sequence_expression_row, static_member_expression_row, computed_member_expression_row, call_expression_row, chain_expression_row, update_expression_row, assignment_expression_row, in_assignment_target, in_simple_assignment_target};
 ghost use Rattle.jsgen_model.specs.Valid.{own_faults, fault_if, body_faults, alternate_faults, declaration_faults, may_be_key, key_faults, named_faults, shorthand_faults, is_literal_key, is_lexical_type, sequence_faults, super_faults, target_faults};
+ghost use Rattle.jsgen_tree.specs.Scoping.{tables_plain};
 ghost use Rattle.jsgen_tree.specs.Sets.{is_expression};
 ghost use Rattle.jsgen_model.specs.declared.fault.TreeFault.TheVariants.{Name};
 ghost use Rattle.jsgen_rules.specs.Verdict.{verdict};
@@ -20,17 +21,24 @@ use crate::links::{
 use crate::{CheckNode, Surroundings};
 use jsgen_model::TreeFault;
 use jsgen_rules::{
-    check_big_integer, check_name, check_no_optional_link, check_raw, check_raw_number,
-    check_written_name, is_super,
+    check_big_integer, check_binding, check_comment, check_no_optional_link, check_raw,
+    check_raw_number, check_reference, check_written_name, is_super,
 };
 use jsgen_syntax::Span;
 use jsgen_tree::{
     AssignmentExpression, AssignmentTarget, BigIntLiteral, BindingIdentifier, CallExpression,
-    ChainExpression, ComputedMemberExpression, Directive, ExpressionNode, IdentifierName,
+    ChainExpression, Comment, ComputedMemberExpression, Directive, ExpressionNode, IdentifierName,
     IdentifierReference, IfStatement, NodeType, NumericLiteral, NumericValue, ObjectProperty,
     PropertyKey, SequenceExpression, SimpleAssignmentTarget, StatementNode, StaticMemberExpression,
-    UpdateExpression, VariableDeclaration, VariableDeclarator, is_proto,
+    Tables, UpdateExpression, VariableDeclaration, VariableDeclarator, is_proto,
 };
+
+#[tactic(auto, unfolding(crate::specs::Verdict::surroundings_plain))]
+pub fn check_comment_rules(node: &Comment, around: Surroundings<'_>) -> Result<(), TreeFault>
+    ensures { result ≡ verdict (own_faults (surroundings_plain around.entry) (comment_row node.now)) }
+{
+    check_comment(around.source, node.span, node.kind)
+}
 
 #[tactic(auto)]
 pub fn check_directive_rules(node: &Directive, around: Surroundings<'_>) -> Result<(), TreeFault>
@@ -92,8 +100,7 @@ pub fn check_binding_identifier_rules(
 ) -> Result<(), TreeFault>
     ensures { result ≡ verdict (own_faults (surroundings_plain around.entry) (binding_identifier_row node.now)) }
 {
-    let _ = around;
-    check_name(&node.name, node.span)
+    check_binding(around.tables, node.symbol, &node.name, node.span)
 }
 
 #[tactic(auto)]
@@ -103,8 +110,7 @@ pub fn check_identifier_reference_rules(
 ) -> Result<(), TreeFault>
     ensures { result ≡ verdict (own_faults (surroundings_plain around.entry) (identifier_reference_row node.now)) }
 {
-    let _ = around;
-    check_name(&node.name, node.span)
+    check_reference(around.tables, node.reference, &node.name, node.span)
 }
 
 #[tactic(auto)]
@@ -396,13 +402,13 @@ fn is_proto_key<N: CheckNode>(key: &PropertyKey<N>) -> bool
     }
 }
 
-/// That a reference is of `__proto__`.
-fn check_named<N: CheckNode>(value: &ExpressionNode<N>) -> Result<(), TreeFault>
-    ensures { result ≡ verdict (named_faults (span_of (in_expression N.plain value.now)) (reference_in (without_parentheses (in_expression N.plain value.now)))) }
+/// That it is a reference which is printed as `__proto__`.
+fn check_named<N: CheckNode>(tables: Tables<'_>, value: &ExpressionNode<N>) -> Result<(), TreeFault>
+    ensures { result ≡ verdict (named_faults (tables_plain tables.entry) (span_of (in_expression N.plain value.now)) (looked_up_in (without_parentheses (in_expression N.plain value.now)))) }
 {
     let start = value.get().start();
-    match value.get().reference() {
-        Some(name) => check_proto(name, start),
+    match value.get().looked_up() {
+        Some(node) => check_proto(tables.reference_name(node.reference, &node.name), start),
         None => Err(TreeFault::Place { start }),
     }
 }
@@ -418,14 +424,15 @@ fn check_proto(name: &str, start: u32) -> Result<(), TreeFault>
 }
 
 fn check_shorthand<N: CheckNode>(
+    tables: Tables<'_>,
     shorthand: bool,
     key: &PropertyKey<N>,
     value: &ExpressionNode<N>,
 ) -> Result<(), TreeFault>
-    ensures { result ≡ verdict (shorthand_faults shorthand (in_property_key N.plain key.now) (in_expression N.plain value.now)) }
+    ensures { result ≡ verdict (shorthand_faults (tables_plain tables.entry) shorthand (in_property_key N.plain key.now) (in_expression N.plain value.now)) }
 {
     if shorthand && is_proto_key(key) {
-        check_named(value)
+        check_named(tables, value)
     } else {
         Ok(())
     }
@@ -438,7 +445,6 @@ pub fn check_object_property_rules<N: CheckNode>(
 ) -> Result<(), TreeFault>
     ensures { result ≡ verdict (own_faults (surroundings_plain around.entry) (object_property_row N.plain node.now)) }
 {
-    let _ = around;
     check_key(node.computed, &node.key)?;
-    check_shorthand(node.shorthand, &node.key, &node.value)
+    check_shorthand(around.tables, node.shorthand, &node.key, &node.value)
 }

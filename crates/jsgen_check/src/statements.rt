@@ -24,14 +24,14 @@ pub fn check_comment(node: &Comment, around: Surroundings<'_>) -> Result<u64, Tr
     ensures { result ≡ tree_verdict around.entry (comment_row node.now) }
 {
     let rules = check_comment_rules(node, around);
-    check_node(node.span, rules, Ok(0))
+    check_node(around, node.span, rules, Ok(0))
 }
 
 pub fn check_directive(node: &Directive, around: Surroundings<'_>) -> Result<u64, TreeFault>
     ensures { result ≡ tree_verdict around.entry (directive_row node.now) }
 {
     let rules = check_directive_rules(node, around);
-    check_node(node.span, rules, Ok(0))
+    check_node(around, node.span, rules, Ok(0))
 }
 
 pub fn check_variable_declaration<N: CheckNode>(
@@ -42,7 +42,7 @@ pub fn check_variable_declaration<N: CheckNode>(
 {
     let rules = check_variable_declaration_rules(node, around);
     let declarations = check_variable_declarators(&node.declarations, around);
-    check_node(node.span, rules, declarations)
+    check_node(around, node.span, rules, declarations)
 }
 
 pub fn check_variable_declarator<N: CheckNode>(
@@ -53,7 +53,7 @@ pub fn check_variable_declarator<N: CheckNode>(
 {
     let id = check_child(node.id.get(), NodeSet::BindingPattern, around);
     let init = check_optional_expression(&node.init, around);
-    check_node(node.span, Ok(()), higher(id, init))
+    check_node(around, node.span, Ok(()), higher(id, init))
 }
 
 pub fn check_binding_identifier(
@@ -63,7 +63,7 @@ pub fn check_binding_identifier(
     ensures { result ≡ tree_verdict around.entry (binding_identifier_row node.now) }
 {
     let rules = check_binding_identifier_rules(node, around);
-    check_node(node.span, rules, Ok(0))
+    check_node(around, node.span, rules, Ok(0))
 }
 
 pub fn check_expression_statement<N: CheckNode>(
@@ -73,7 +73,7 @@ pub fn check_expression_statement<N: CheckNode>(
     ensures { result ≡ tree_verdict around.entry (expression_statement_row N.plain node.now) }
 {
     let expression = check_child(node.expression.get(), NodeSet::Expression, around);
-    check_node(node.span, Ok(()), expression)
+    check_node(around, node.span, Ok(()), expression)
 }
 
 pub fn check_block_statement<N: CheckNode>(
@@ -83,7 +83,7 @@ pub fn check_block_statement<N: CheckNode>(
     ensures { result ≡ tree_verdict around.entry (block_statement_row N.plain node.now) }
 {
     let body = check_statements(&node.body, around);
-    check_node(node.span, Ok(()), body)
+    check_node(around, node.span, Ok(()), body)
 }
 
 pub fn check_if_statement<N: CheckNode>(
@@ -97,6 +97,7 @@ pub fn check_if_statement<N: CheckNode>(
     let consequent = check_child(node.consequent.get(), NodeSet::Statement, around);
     let alternate = check_optional_statement(&node.alternate, around);
     check_node(
+        around,
         node.span,
         rules,
         higher(test, higher(consequent, alternate)),
@@ -109,6 +110,5 @@ pub fn check_empty_statement(
 ) -> Result<u64, TreeFault>
     ensures { result ≡ tree_verdict around.entry (empty_statement_row node.now) }
 {
-    let _ = around;
-    check_node(node.span, Ok(()), Ok(0))
+    check_node(around, node.span, Ok(()), Ok(0))
 }

@@ -37,7 +37,7 @@ impl PlainQuotes {
 pub fn print_arguments<E, L: PrintMember<E>>(
     quotes: PlainQuotes,
     arguments: &[E],
-    p: &mut Printer,
+    p: &mut Printer<'_>,
     place: Place,
 ) -> Result<(), Memory>
     ensures { Reaches result (pen_of p.old) (pen_of p.new) (layout (brackets Round (spell_arguments quotes.first quotes.second (trees (map L.plain arguments.now)) (listed place))) (pen_of p.old)) }
@@ -50,7 +50,7 @@ pub fn print_arguments<E, L: PrintMember<E>>(
 fn print_first<E, L: PrintMember<E>>(
     quotes: PlainQuotes,
     arguments: &[E],
-    p: &mut Printer,
+    p: &mut Printer<'_>,
     place: Place,
 ) -> Result<(), Memory>
     requires { (pen_of p.old).start ≡ nowhere }
@@ -69,7 +69,7 @@ fn print_first<E, L: PrintMember<E>>(
 fn print_behind_first<E, L: PrintMember<E>>(
     plain_second: bool,
     arguments: &[E],
-    p: &mut Printer,
+    p: &mut Printer<'_>,
     place: Place,
 ) -> Result<(), Memory>
     ensures { Reaches result (pen_of p.old) (pen_of p.new) (layout (spell_behind_first plain_second (trees (map L.plain arguments.now)) (listed place)) (pen_of p.old)) }

@@ -23,14 +23,14 @@ pub trait PrintElement<E> {
         ensures { result ≡ not (is_some (plain element.now)) };
 
     /// Nothing is printed for one that is left out.
-    fn print_element(element: &E, p: &mut Printer, place: Place) -> Result<(), Memory>
+    fn print_element(element: &E, p: &mut Printer<'_>, place: Place) -> Result<(), Memory>
         ensures { Reaches result (pen_of p.old) (pen_of p.new) (layout (element_items (plain element.now) (place_of place (pen_of p.old))) (pen_of p.old)) };
 }
 
 /// An array: its elements in brackets, up to two on one line, and more on lines of their own.
 pub fn print_array<E, L: PrintElement<E>>(
     elements: &[E],
-    p: &mut Printer,
+    p: &mut Printer<'_>,
     place: Place,
 ) -> Result<(), Memory>
     ensures { Reaches result (pen_of p.old) (pen_of p.new) (layout (brackets Square (on_lines (are_more 2 (holed (map L.plain elements.now)))
@@ -45,7 +45,7 @@ pub fn print_array<E, L: PrintElement<E>>(
 /// An object: its properties in braces, a single one between spaces, and more on lines of their own.
 pub fn print_object<E, L: PrintElement<E>>(
     properties: &[E],
-    p: &mut Printer,
+    p: &mut Printer<'_>,
     place: Place,
 ) -> Result<(), Memory>
     ensures { Reaches result (pen_of p.old) (pen_of p.new) (layout (brackets Brace (object_inside (holed (map L.plain properties.now))
@@ -58,7 +58,7 @@ pub fn print_object<E, L: PrintElement<E>>(
 
 fn print_inside<E, L: PrintElement<E>>(
     properties: &[E],
-    p: &mut Printer,
+    p: &mut Printer<'_>,
     place: Place,
 ) -> Result<(), Memory>
     requires { (pen_of p.old).start ≡ nowhere }
@@ -76,7 +76,7 @@ fn print_inside<E, L: PrintElement<E>>(
 
 fn print_single<E, L: PrintElement<E>>(
     properties: &[E],
-    p: &mut Printer,
+    p: &mut Printer<'_>,
     place: Place,
 ) -> Result<(), Memory>
     requires { (pen_of p.old).start ≡ nowhere }
@@ -97,7 +97,7 @@ fn are_more<E, L: PrintElement<E>>(count: usize, elements: &[E]) -> bool
 fn print_lines<E, L: PrintElement<E>>(
     lines: bool,
     elements: &[E],
-    p: &mut Printer,
+    p: &mut Printer<'_>,
     place: Place,
 ) -> Result<(), Memory>
     requires { (pen_of p.old).start ≡ nowhere }
@@ -112,7 +112,7 @@ fn print_lines<E, L: PrintElement<E>>(
 
 fn print_on_lines<E, L: PrintElement<E>>(
     elements: &[E],
-    p: &mut Printer,
+    p: &mut Printer<'_>,
     place: Place,
 ) -> Result<(), Memory>
     requires { (pen_of p.old).start ≡ nowhere }
@@ -125,14 +125,14 @@ fn print_on_lines<E, L: PrintElement<E>>(
     print_next_line(p)
 }
 
-fn print_next_line(p: &mut Printer) -> Result<(), Memory>
+fn print_next_line(p: &mut Printer<'_>) -> Result<(), Memory>
     ensures { Reaches result (pen_of p.old) (pen_of p.new) (layout next_line (pen_of p.old)) }
 {
     p.print_soft_line()?;
     p.print_indentation()
 }
 
-fn print_between(lines: bool, p: &mut Printer) -> Result<(), Memory>
+fn print_between(lines: bool, p: &mut Printer<'_>) -> Result<(), Memory>
     ensures { Reaches result (pen_of p.old) (pen_of p.new) (layout (line_or_space lines) (pen_of p.old)) }
 {
     if lines {
@@ -146,7 +146,7 @@ fn print_between(lines: bool, p: &mut Printer) -> Result<(), Memory>
 fn print_all<E, L: PrintElement<E>>(
     lines: bool,
     elements: &[E],
-    p: &mut Printer,
+    p: &mut Printer<'_>,
     place: Place,
 ) -> Result<(), Memory>
     requires { (pen_of p.old).start ≡ nowhere }
@@ -156,7 +156,10 @@ fn print_all<E, L: PrintElement<E>>(
     print_last_comma::<E, L>(elements, p)
 }
 
-fn print_last_comma<E, L: PrintElement<E>>(elements: &[E], p: &mut Printer) -> Result<(), Memory>
+fn print_last_comma<E, L: PrintElement<E>>(
+    elements: &[E],
+    p: &mut Printer<'_>,
+) -> Result<(), Memory>
     ensures { Reaches result (pen_of p.old) (pen_of p.new) (layout (comma_if (ends_in_hole (holed (map L.plain elements.now)))) (pen_of p.old)) }
 {
     if ends_in_hole::<E, L>(elements) {
@@ -178,7 +181,7 @@ fn ends_in_hole<E, L: PrintElement<E>>(elements: &[E]) -> bool
 fn print_elements<E, L: PrintElement<E>>(
     lines: bool,
     elements: &[E],
-    p: &mut Printer,
+    p: &mut Printer<'_>,
     place: Place,
 ) -> Result<(), Memory>
     requires { (pen_of p.old).start ≡ nowhere }
@@ -197,7 +200,7 @@ fn print_elements<E, L: PrintElement<E>>(
 fn print_more_elements<E, L: PrintElement<E>>(
     lines: bool,
     elements: &[E],
-    p: &mut Printer,
+    p: &mut Printer<'_>,
     place: Place,
 ) -> Result<(), Memory>
     ensures { Reaches result (pen_of p.old) (pen_of p.new) (layout (spell_more_elements lines (holed (map L.plain elements.now)) (listed place)) (pen_of p.old)) }

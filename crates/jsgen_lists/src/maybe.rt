@@ -18,7 +18,7 @@ use jsgen_syntax::Memory;
 /// The value of what is declared, behind `=`.
 pub fn print_value<E, L: PrintMember<E>>(
     value: &Option<E>,
-    p: &mut Printer,
+    p: &mut Printer<'_>,
     place: Place,
 ) -> Result<(), Memory>
     ensures { Reaches result (pen_of p.old) (pen_of p.new) (layout (spell_value (optional (option_map L.plain value.now)) (listed place)) (pen_of p.old)) }
@@ -31,7 +31,7 @@ pub fn print_value<E, L: PrintMember<E>>(
 
 fn print_behind_equal<E, L: PrintMember<E>>(
     value: &E,
-    p: &mut Printer,
+    p: &mut Printer<'_>,
     place: Place,
 ) -> Result<(), Memory>
     ensures { Reaches result (pen_of p.old) (pen_of p.new) (layout (soft_space ⊕ (punctuator equal ⊕ (soft_space ⊕ spell (L.plain value.now) (listed place)))) (pen_of p.old)) }
@@ -46,7 +46,7 @@ fn print_behind_equal<E, L: PrintMember<E>>(
 pub fn print_comma_between<E, R, L: PrintMember<E>, M: PrintMember<R>>(
     members: &[E],
     rest: &Option<R>,
-    p: &mut Printer,
+    p: &mut Printer<'_>,
 ) -> Result<(), Memory>
     ensures { Reaches result (pen_of p.old) (pen_of p.new) (layout (comma_between (trees (map L.plain members.now)) (optional (option_map M.plain rest.now))) (pen_of p.old)) }
 {
@@ -56,7 +56,10 @@ pub fn print_comma_between<E, R, L: PrintMember<E>, M: PrintMember<R>>(
     }
 }
 
-fn print_comma_behind<E, L: PrintMember<E>>(members: &[E], p: &mut Printer) -> Result<(), Memory>
+fn print_comma_behind<E, L: PrintMember<E>>(
+    members: &[E],
+    p: &mut Printer<'_>,
+) -> Result<(), Memory>
     ensures { (rest : Tree) → Reaches result (pen_of p.old) (pen_of p.new) (layout (comma_between (trees (map L.plain members.now)) (given rest)) (pen_of p.old)) }
 {
     if members.is_empty() {
@@ -66,7 +69,7 @@ fn print_comma_behind<E, L: PrintMember<E>>(members: &[E], p: &mut Printer) -> R
     }
 }
 
-fn print_comma_and_space(p: &mut Printer) -> Result<(), Memory>
+fn print_comma_and_space(p: &mut Printer<'_>) -> Result<(), Memory>
     ensures { Reaches result (pen_of p.old) (pen_of p.new) (layout (punctuator comma ⊕ soft_space) (pen_of p.old)) }
 {
     p.print_comma()?;
@@ -76,7 +79,7 @@ fn print_comma_and_space(p: &mut Printer) -> Result<(), Memory>
 /// A member, if there is one.
 pub fn print_if_given<E, L: PrintMember<E>>(
     member: &Option<E>,
-    p: &mut Printer,
+    p: &mut Printer<'_>,
     place: Place,
 ) -> Result<(), Memory>
     ensures { Reaches result (pen_of p.old) (pen_of p.new) (layout (spell_if_given (optional (option_map L.plain member.now)) (place_of place (pen_of p.old))) (pen_of p.old)) }

@@ -18,7 +18,7 @@ pub trait PrintMember<E> {
     // What a member stands for.
     ghost plain: { E → Tree };
 
-    fn print_member(member: &E, p: &mut Printer, place: Place) -> Result<(), Memory>
+    fn print_member(member: &E, p: &mut Printer<'_>, place: Place) -> Result<(), Memory>
         ensures { Reaches result (pen_of p.old) (pen_of p.new) (layout (spell (plain member.now) (place_of place (pen_of p.old))) (pen_of p.old)) };
 }
 
@@ -26,7 +26,7 @@ pub trait PrintMember<E> {
 pub fn print_in_brackets<E, L: PrintMember<E>>(
     bracket: Bracket,
     members: &[E],
-    p: &mut Printer,
+    p: &mut Printer<'_>,
     place: Place,
 ) -> Result<(), Memory>
     ensures { Reaches result (pen_of p.old) (pen_of p.new) (layout (brackets (bracket_of bracket) (spell_list (trees (map L.plain members.now)) (listed place))) (pen_of p.old)) }
@@ -38,7 +38,7 @@ pub fn print_in_brackets<E, L: PrintMember<E>>(
 
 fn print_list<E, L: PrintMember<E>>(
     members: &[E],
-    p: &mut Printer,
+    p: &mut Printer<'_>,
     place: Place,
 ) -> Result<(), Memory>
     requires { (pen_of p.old).start ≡ nowhere }
@@ -56,7 +56,7 @@ fn print_list<E, L: PrintMember<E>>(
 /// The members, with commas between them, of which the first begins where the list does.
 pub fn print_parts<E, L: PrintMember<E>>(
     parts: &[E],
-    p: &mut Printer,
+    p: &mut Printer<'_>,
     place: Place,
 ) -> Result<(), Memory>
     ensures { Reaches result (pen_of p.old) (pen_of p.new) (layout (spell_parts (trees (map L.plain parts.now)) (place_of place (pen_of p.old))) (pen_of p.old)) }
@@ -73,7 +73,7 @@ pub fn print_parts<E, L: PrintMember<E>>(
 /// The members, each with a comma before it.
 pub fn print_more<E, L: PrintMember<E>>(
     members: &[E],
-    p: &mut Printer,
+    p: &mut Printer<'_>,
     place: Place,
 ) -> Result<(), Memory>
     ensures { Reaches result (pen_of p.old) (pen_of p.new) (layout (spell_more (trees (map L.plain members.now)) (listed place)) (pen_of p.old)) }

@@ -17,18 +17,18 @@ pub trait PrintStatement<E> {
     // What a statement stands for.
     ghost plain: { E → Tree };
 
-    fn print_statement(statement: &E, p: &mut Printer, place: Place) -> Result<(), Memory>
+    fn print_statement(statement: &E, p: &mut Printer<'_>, place: Place) -> Result<(), Memory>
         ensures { Reaches result (pen_of p.old) (pen_of p.new) (layout (spell (plain statement.now) (place_of place (pen_of p.old))) (pen_of p.old)) };
 
     /// As the first of a body, where it may not become a directive.
-    fn print_first_statement(statement: &E, p: &mut Printer, place: Place) -> Result<(), Memory>
+    fn print_first_statement(statement: &E, p: &mut Printer<'_>, place: Place) -> Result<(), Memory>
         ensures { Reaches result (pen_of p.old) (pen_of p.new) (layout (first_statement (plain statement.now) (spell (plain statement.now) (place_of place (pen_of p.old)))) (pen_of p.old)) };
 }
 
 /// A program's statements, and the semicolon that is due behind the last.
 pub fn print_whole_body<E, S: PrintStatement<E>>(
     statements: &[E],
-    p: &mut Printer,
+    p: &mut Printer<'_>,
     settings: Settings,
 ) -> Result<(), Memory>
     ensures { Reaches result (pen_of p.old) (pen_of p.new) (layout (spell_body (trees (map S.plain statements.now)) (settings_of settings) ⊕ due_semicolon) (pen_of p.old)) }
@@ -40,7 +40,7 @@ pub fn print_whole_body<E, S: PrintStatement<E>>(
 // The statements of a body, of which the first may not become a directive.
 fn print_body<E, S: PrintStatement<E>>(
     statements: &[E],
-    p: &mut Printer,
+    p: &mut Printer<'_>,
     settings: Settings,
 ) -> Result<(), Memory>
     ensures { Reaches result (pen_of p.old) (pen_of p.new) (layout (spell_body (trees (map S.plain statements.now)) (settings_of settings)) (pen_of p.old)) }
@@ -58,7 +58,7 @@ fn print_body<E, S: PrintStatement<E>>(
 /// Each after the semicolon that the one before may have left.
 pub fn print_statements<E, S: PrintStatement<E>>(
     statements: &[E],
-    p: &mut Printer,
+    p: &mut Printer<'_>,
     settings: Settings,
 ) -> Result<(), Memory>
     ensures { Reaches result (pen_of p.old) (pen_of p.new) (layout (spell_statements (trees (map S.plain statements.now)) (settings_of settings)) (pen_of p.old)) }

@@ -18,7 +18,7 @@ pub fn print_update<E, L: PrintMember<E>>(
     prefix: bool,
     operator: UpdateOperator,
     operand: &E,
-    p: &mut Printer,
+    p: &mut Printer<'_>,
     place: Place,
 ) -> Result<(), Memory>
     ensures { Reaches result (pen_of p.old) (pen_of p.new) (layout (update_items prefix (update_item operator)
@@ -35,7 +35,7 @@ pub fn print_update<E, L: PrintMember<E>>(
 fn print_before<E, L: PrintMember<E>>(
     operator: UpdateOperator,
     operand: &E,
-    p: &mut Printer,
+    p: &mut Printer<'_>,
     place: Place,
 ) -> Result<(), Memory>
     ensures { Reaches result (pen_of p.old) (pen_of p.new) (layout (update_item operator
@@ -48,7 +48,7 @@ fn print_before<E, L: PrintMember<E>>(
 fn print_behind<E, L: PrintMember<E>>(
     operator: UpdateOperator,
     operand: &E,
-    p: &mut Printer,
+    p: &mut Printer<'_>,
     place: Place,
 ) -> Result<(), Memory>
     ensures { Reaches result (pen_of p.old) (pen_of p.new) (layout (spell (L.plain operand.now)

@@ -1,11 +1,14 @@
 -- Keys of properties, and properties of which none is left out.
-use Rattle.std.proofs.Common.{◌≡◌, true, false, Some, None, List, [], ◌∷◌, map, refl, ap}
+use Rattle.std.proofs.Common.{◌≡◌, ℕ, Bool, true, false, Option, Some, None, List, [], ◌∷◌, map, refl, sym, ap, ◌∙◌, if◌then◌else◌}
 use Rattle.std.proofs.lemmas.Bool.{both_ways}
 use Rattle.jsgen_tree.specs.Tree.{Tree, more, holed, trees, type_of}
 use Rattle.jsgen_tree.specs.Nodes as tree
-use Rattle.jsgen_tree.specs.Inside.{without_parentheses, is_negative, is_negative_number}
-use Rattle.jsgen_model.specs.Spell.{string_in}
-use Rattle.jsgen_nodes.specs.Keys.{is_string, is_number}
+use Rattle.jsgen_tree.specs.Named.{Named}
+use Rattle.jsgen_tree.specs.Inside.{without_parentheses, is_proto, is_negative, is_negative_number}
+use Rattle.jsgen_model.specs.Items.{Items}
+use Rattle.jsgen_model.specs.Layout.{Pen, layout}
+use Rattle.jsgen_model.specs.Spell.{string_in, alone_if, alone_where_said, by_key, property_items}
+use Rattle.jsgen_nodes.specs.Keys.{is_string, is_number, is_said, is_value_alone}
 
 pub bare_string : (t : Tree) → is_string (type_of t) ≡ true → string_in (without_parentheses t) ≡ string_in t
 bare_string (tree.parenthesized a t) h = absurd (both_ways false refl h)
@@ -27,3 +30,30 @@ bare_number t h = refl
 pub no_number : (t : Tree) → is_number (type_of t) ≡ false → false ≡ is_negative_number t
 no_number (tree.numeric_literal a) h = absurd (both_ways true h refl)
 no_number t h = refl
+
+-- ---- properties that are their value alone
+
+told_laid : (test : Bool) (alone whole : Items) (pen : Pen) → layout (alone_if test alone whole) pen ≡ (if test then layout alone pen else layout whole pen)
+told_laid true alone whole pen = refl
+told_laid false alone whole pen = refl
+
+said_laid : (w : List ℕ) (value : Option Named) (alone whole : Items) (pen : Pen) → layout (alone_where_said w value alone whole) pen ≡ (if is_said pen.style.tables value w then layout alone pen else layout whole pen)
+said_laid w None alone whole pen = refl
+said_laid w (Some value) alone whole pen = refl
+
+keyed_laid : (shorthand : Bool) (w : List ℕ) (value : Option Named) (alone whole : Items) (pen : Pen) → layout (by_key shorthand w value alone whole) pen ≡ (if (if is_proto w then shorthand else is_said pen.style.tables value w) then layout alone pen else layout whole pen)
+keyed_laid shorthand w value alone whole pen = go (is_proto w)
+  where
+    go : (proto : Bool) → layout (if proto then alone_if shorthand alone whole else alone_where_said w value alone whole) pen ≡ (if (if proto then shorthand else is_said pen.style.tables value w) then layout alone pen else layout whole pen)
+    go true = told_laid shorthand alone whole pen
+    go false = said_laid w value alone whole pen
+
+property_laid : (shorthand : Bool) (key : Option (List ℕ)) (value : Option Named) (alone whole : Items) (pen : Pen) → layout (property_items shorthand key value alone whole) pen ≡ (if is_value_alone pen.style.tables shorthand key value then layout alone pen else layout whole pen)
+property_laid shorthand None value alone whole pen = refl
+property_laid shorthand (Some w) value alone whole pen = keyed_laid shorthand w value alone whole pen
+
+pub alone_laid : (shorthand : Bool) (key : Option (List ℕ)) (value : Option Named) (alone whole : Items) (pen : Pen) → is_value_alone pen.style.tables shorthand key value ≡ true → layout alone pen ≡ layout (property_items shorthand key value alone whole) pen
+alone_laid shorthand key value alone whole pen h = sym (property_laid shorthand key value alone whole pen ∙ ap (λ test. if test then layout alone pen else layout whole pen) h)
+
+pub whole_laid : (shorthand : Bool) (key : Option (List ℕ)) (value : Option Named) (alone whole : Items) (pen : Pen) → is_value_alone pen.style.tables shorthand key value ≡ false → layout whole pen ≡ layout (property_items shorthand key value alone whole) pen
+whole_laid shorthand key value alone whole pen h = sym (property_laid shorthand key value alone whole pen ∙ ap (λ test. if test then layout alone pen else layout whole pen) h)

@@ -1,5 +1,9 @@
--- Keys of properties.
-use Rattle.std.specs.Prelude.{Bool, true, false}
+-- Keys of properties, and which properties are their value alone.
+use Rattle.std.specs.Prelude.{ℕ, List, Bool, true, false, Option, Some, None, if◌then◌else◌}
+use Rattle.jsgen_tree.specs.Job.{Tables}
+use Rattle.jsgen_tree.specs.Named.{Named, as_written}
+use Rattle.jsgen_tree.specs.Inside.{is_proto}
+use Rattle.jsgen_model.specs.Layout.{are_same}
 use Rattle.jsgen_tree.specs.declared.types.NodeType.{NodeType}
 use Rattle.jsgen_tree.specs.declared.types.NodeType.TheVariants as types
 
@@ -10,3 +14,13 @@ is_string type = false
 abbrev pub is_number : NodeType → Bool
 is_number types.NumericLiteral = true
 is_number type = false
+
+-- by the tables a value, which may be a reference, is printed as this name is written
+abbrev pub is_said : Tables → Option Named → List ℕ → Bool
+is_said tables None w = false
+is_said tables (Some value) w = are_same tables value (as_written w)
+
+-- by the tables a property is its value alone, where its key may be a name, and its value a reference
+abbrev pub is_value_alone : Tables → Bool → Option (List ℕ) → Option Named → Bool
+is_value_alone tables shorthand None value = false
+is_value_alone tables shorthand (Some w) value = if is_proto w then shorthand else is_said tables value w

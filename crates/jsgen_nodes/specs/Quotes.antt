@@ -2,7 +2,6 @@
 use Rattle.std.specs.Prelude.{ℕ, List, Bool, true, false, Option, Some, None}
 use Rattle.jsgen_syntax.specs.declared.precedence.Precedence.TheVariants.{Comma}
 use Rattle.jsgen_tree.specs.Tree.{Tree, Trees}
-use Rattle.jsgen_tree.specs.Job.{no_tables}
 use Rattle.jsgen_model.specs.Punctuator.{Round}
 use Rattle.jsgen_model.specs.Items.{Items, nothing, string, brackets}
 use Rattle.jsgen_model.specs.Layout.{Start, nowhere}
@@ -10,7 +9,7 @@ use Rattle.jsgen_model.specs.Spell.{Settings, Context, free, spell, spell_argume
 use Rattle.jsgen_nodes.specs.Alone.{at_level}
 
 abbrev pub minified : Settings
-minified = record { minified = true; tables = no_tables }
+minified = record { minified = true }
 
 -- where the test doesn't hold, nothing is printed
 abbrev pub where_it_holds : Bool → Items → Items

@@ -23,7 +23,7 @@ use jsgen_tree::{AssignmentExpression, AssignmentTarget, ExpressionNode};
 #[tactic(auto, unfolding(crate::specs::Place::pen_after))]
 pub fn print_assignment_expression<N: PrintNode>(
     node: &AssignmentExpression<N>,
-    p: &mut Printer,
+    p: &mut Printer<'_>,
     place: Place,
 ) -> Result<(), Memory>
     ensures { Reaches result (pen_of p.old) (pen_of p.new) (pen_after (assignment_expression_row N.plain node.now) place p.old) }
@@ -38,7 +38,7 @@ pub fn print_assignment_expression<N: PrintNode>(
 #[tactic(auto, unfolding(crate::specs::Place::pen_after))]
 fn print_assignment<N: PrintNode>(
     node: &AssignmentExpression<N>,
-    p: &mut Printer,
+    p: &mut Printer<'_>,
     place: Place,
 ) -> Result<(), Memory>
     ensures { Reaches result (pen_of p.old) (pen_of p.new) (layout (spell (in_assignment_target N.plain node.now.left)
@@ -57,7 +57,7 @@ fn print_assignment<N: PrintNode>(
 fn print_value<N: PrintNode>(
     operator: AssignmentOperator,
     value: &ExpressionNode<N>,
-    p: &mut Printer,
+    p: &mut Printer<'_>,
     place: Place,
 ) -> Result<(), Memory>
     ensures { Reaches result (pen_of p.old) (pen_of p.new) (layout (soft_space ⊕ (assignment_item operator ⊕ (soft_space
@@ -71,7 +71,7 @@ fn print_value<N: PrintNode>(
 
 pub fn print_assignment_target<N: PrintNode>(
     node: &AssignmentTarget<N>,
-    p: &mut Printer,
+    p: &mut Printer<'_>,
     place: Place,
 ) -> Result<(), Memory>
     ensures { Reaches result (pen_of p.old) (pen_of p.new) (pen_after (in_assignment_target N.plain node.now) place p.old) }

@@ -26,7 +26,7 @@ use jsgen_tree::{BlockStatement, EmptyStatement, ExpressionNode, IfStatement, St
 #[tactic(auto, unfolding(crate::specs::Place::pen_after))]
 pub fn print_block_statement<N: PrintNode>(
     node: &BlockStatement<N>,
-    p: &mut Printer,
+    p: &mut Printer<'_>,
     place: Place,
 ) -> Result<(), Memory>
     ensures { Reaches result (pen_of p.old) (pen_of p.new) (pen_after (block_statement_row N.plain node.now) place p.old) }
@@ -44,7 +44,7 @@ pub fn print_block_statement<N: PrintNode>(
 #[tactic(auto, unfolding(crate::specs::Place::pen_after))]
 fn print_braces<N: PrintNode>(
     statements: &[StatementNode<N>],
-    p: &mut Printer,
+    p: &mut Printer<'_>,
     settings: Settings,
 ) -> Result<(), Memory>
     ensures { Reaches result (pen_of p.old) (pen_of p.new) (layout (braces (trees (map (in_statement N.plain) statements.now))
@@ -58,7 +58,7 @@ fn print_braces<N: PrintNode>(
 }
 
 #[tactic(auto, unfolding(crate::specs::Place::pen_after))]
-fn print_empty_braces(p: &mut Printer) -> Result<(), Memory>
+fn print_empty_braces(p: &mut Printer<'_>) -> Result<(), Memory>
     ensures { Reaches result (pen_of p.old) (pen_of p.new) (layout (brackets Brace nothing ⊕ drop_semicolon) (pen_of p.old)) }
 {
     p.print_opening(Bracket::Brace)?;
@@ -70,7 +70,7 @@ fn print_empty_braces(p: &mut Printer) -> Result<(), Memory>
 #[tactic(auto, unfolding(crate::specs::Place::pen_after))]
 fn print_filled_braces<N: PrintNode>(
     statements: &[StatementNode<N>],
-    p: &mut Printer,
+    p: &mut Printer<'_>,
     settings: Settings,
 ) -> Result<(), Memory>
     ensures { Reaches result (pen_of p.old) (pen_of p.new) (layout (filled_braces (spell_statements (trees (map (in_statement N.plain) statements.now)) (settings_of settings))) (pen_of p.old)) }
@@ -81,7 +81,7 @@ fn print_filled_braces<N: PrintNode>(
 }
 
 // The opening brace, behind which the code is one level deeper; gives the level before.
-fn open_braces(p: &mut Printer) -> Result<u32, Memory>
+fn open_braces(p: &mut Printer<'_>) -> Result<u32, Memory>
     ensures level { IfOk result (λ depth. depth ≡ (pen_of p.old).depth) }
     ensures pen { Reaches result (pen_of p.old) (pen_of p.new) (braces_opened (pen_of p.old)) }
 {
@@ -91,7 +91,7 @@ fn open_braces(p: &mut Printer) -> Result<u32, Memory>
 }
 
 // The closing brace, at the level before.
-fn close_braces(p: &mut Printer, depth: u32) -> Result<(), Memory>
+fn close_braces(p: &mut Printer<'_>, depth: u32) -> Result<(), Memory>
     ensures { Reaches result (pen_of p.old) (pen_of p.new) (braces_closed depth (pen_of p.old)) }
 {
     p.set_depth(depth);
@@ -104,7 +104,7 @@ fn close_braces(p: &mut Printer, depth: u32) -> Result<(), Memory>
 #[tactic(auto, unfolding(crate::specs::Place::pen_after))]
 pub fn print_if_statement<N: PrintNode>(
     node: &IfStatement<N>,
-    p: &mut Printer,
+    p: &mut Printer<'_>,
     place: Place,
 ) -> Result<(), Memory>
     ensures { Reaches result (pen_of p.old) (pen_of p.new) (pen_after (if_statement_row N.plain node.now) place p.old) }
@@ -121,7 +121,7 @@ pub fn print_if_statement<N: PrintNode>(
 #[tactic(auto, unfolding(crate::specs::Place::pen_after))]
 fn print_if<N: PrintNode>(
     node: &IfStatement<N>,
-    p: &mut Printer,
+    p: &mut Printer<'_>,
     settings: Settings,
 ) -> Result<(), Memory>
     ensures { Reaches result (pen_of p.old) (pen_of p.new) (layout (word (codes "if") ⊕ (soft_space ⊕ (brackets Round (spell (in_expression N.plain node.now.test) (in_brackets Lowest (among_statements (settings_of settings))))
@@ -143,7 +143,7 @@ fn has_alternate<N: PrintNode>(node: &IfStatement<N>) -> bool
 #[tactic(auto, unfolding(crate::specs::Place::pen_after))]
 fn print_test<N: PrintNode>(
     test: &ExpressionNode<N>,
-    p: &mut Printer,
+    p: &mut Printer<'_>,
     settings: Settings,
 ) -> Result<(), Memory>
     ensures { Reaches result (pen_of p.old) (pen_of p.new) (layout (spell (in_expression N.plain test.now) (in_brackets Lowest (among_statements (settings_of settings))))
@@ -160,7 +160,7 @@ fn print_test<N: PrintNode>(
 #[tactic(auto, unfolding(crate::specs::Place::pen_after))]
 fn print_consequent<N: PrintNode>(
     consequent: &N,
-    p: &mut Printer,
+    p: &mut Printer<'_>,
     settings: Settings,
     else_follows: bool,
 ) -> Result<(), Memory>
@@ -189,7 +189,7 @@ fn print_consequent<N: PrintNode>(
 #[tactic(auto, unfolding(crate::specs::Place::pen_after))]
 fn print_braced<N: PrintNode>(
     consequent: &N,
-    p: &mut Printer,
+    p: &mut Printer<'_>,
     settings: Settings,
     else_follows: bool,
 ) -> Result<(), Memory>
@@ -204,7 +204,7 @@ fn print_braced<N: PrintNode>(
 }
 
 #[tactic(auto, unfolding(crate::specs::Place::pen_after))]
-fn print_empty_body(p: &mut Printer, else_follows: bool) -> Result<(), Memory>
+fn print_empty_body(p: &mut Printer<'_>, else_follows: bool) -> Result<(), Memory>
     ensures { Reaches result (pen_of p.old) (pen_of p.new) (layout (punctuator semicolon ⊕ (soft_line ⊕ body_end else_follows)) (pen_of p.old)) }
 {
     p.print_semicolon()?;
@@ -212,7 +212,7 @@ fn print_empty_body(p: &mut Printer, else_follows: bool) -> Result<(), Memory>
     print_body_end(p, else_follows)
 }
 
-fn print_braces_end(p: &mut Printer, else_follows: bool) -> Result<(), Memory>
+fn print_braces_end(p: &mut Printer<'_>, else_follows: bool) -> Result<(), Memory>
     ensures { Reaches result (pen_of p.old) (pen_of p.new) (layout (braces_end else_follows) (pen_of p.old)) }
 {
     if else_follows {
@@ -222,7 +222,7 @@ fn print_braces_end(p: &mut Printer, else_follows: bool) -> Result<(), Memory>
     }
 }
 
-fn print_body_end(p: &mut Printer, else_follows: bool) -> Result<(), Memory>
+fn print_body_end(p: &mut Printer<'_>, else_follows: bool) -> Result<(), Memory>
     ensures { Reaches result (pen_of p.old) (pen_of p.new) (layout (body_end else_follows) (pen_of p.old)) }
 {
     if else_follows {
@@ -235,7 +235,7 @@ fn print_body_end(p: &mut Printer, else_follows: bool) -> Result<(), Memory>
 #[tactic(auto, unfolding(crate::specs::Place::pen_after))]
 fn print_alternate<N: PrintNode>(
     alternate: &Option<StatementNode<N>>,
-    p: &mut Printer,
+    p: &mut Printer<'_>,
     settings: Settings,
 ) -> Result<(), Memory>
     ensures { Reaches result (pen_of p.old) (pen_of p.new) (layout (spell_alternate (optional (option_map (in_statement N.plain) alternate.now)) (settings_of settings)) (pen_of p.old)) }
@@ -252,7 +252,7 @@ fn print_alternate<N: PrintNode>(
 #[tactic(auto, unfolding(crate::specs::Place::pen_after))]
 fn print_else<N: PrintNode>(
     alternate: &N,
-    p: &mut Printer,
+    p: &mut Printer<'_>,
     settings: Settings,
 ) -> Result<(), Memory>
     ensures { Reaches result (pen_of p.old) (pen_of p.new) (layout (word (codes "else") ⊕ alternate_of (N.plain alternate.now) (settings_of settings)) (pen_of p.old)) }
@@ -282,7 +282,7 @@ fn print_else<N: PrintNode>(
 #[tactic(auto, unfolding(crate::specs::Place::pen_after))]
 pub fn print_empty_statement(
     node: &EmptyStatement,
-    p: &mut Printer,
+    p: &mut Printer<'_>,
     place: Place,
 ) -> Result<(), Memory>
     ensures { Reaches result (pen_of p.old) (pen_of p.new) (pen_after (empty_statement_row node.now) place p.old) }

@@ -20,7 +20,7 @@ use jsgen_tree::{ConditionalExpression, ExpressionNode};
 #[tactic(auto, unfolding(crate::specs::Place::pen_after))]
 pub fn print_conditional_expression<N: PrintNode>(
     node: &ConditionalExpression<N>,
-    p: &mut Printer,
+    p: &mut Printer<'_>,
     place: Place,
 ) -> Result<(), Memory>
     ensures { Reaches result (pen_of p.old) (pen_of p.new) (pen_after (conditional_expression_row N.plain node.now) place p.old) }
@@ -35,7 +35,7 @@ pub fn print_conditional_expression<N: PrintNode>(
 #[tactic(auto, unfolding(crate::specs::Place::pen_after))]
 fn print_choice<N: PrintNode>(
     node: &ConditionalExpression<N>,
-    p: &mut Printer,
+    p: &mut Printer<'_>,
     place: Place,
 ) -> Result<(), Memory>
     ensures { Reaches result (pen_of p.old) (pen_of p.new) (layout (choice
@@ -54,7 +54,7 @@ fn print_choice<N: PrintNode>(
 #[tactic(auto, unfolding(crate::specs::Place::pen_after))]
 fn print_consequent<N: PrintNode>(
     node: &ExpressionNode<N>,
-    p: &mut Printer,
+    p: &mut Printer<'_>,
     place: Place,
 ) -> Result<(), Memory>
     ensures { Reaches result (pen_of p.old) (pen_of p.new) (layout (soft_space ⊕ (punctuator question ⊕ (soft_space
@@ -71,7 +71,7 @@ fn print_consequent<N: PrintNode>(
 #[tactic(auto, unfolding(crate::specs::Place::pen_after))]
 fn print_alternate<N: PrintNode>(
     node: &ExpressionNode<N>,
-    p: &mut Printer,
+    p: &mut Printer<'_>,
     place: Place,
 ) -> Result<(), Memory>
     ensures { Reaches result (pen_of p.old) (pen_of p.new) (layout (soft_space ⊕ (punctuator colon ⊕ (soft_space

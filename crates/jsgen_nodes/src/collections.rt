@@ -4,22 +4,22 @@ ghost use Rattle.std.specs.Str.{chars};
 ghost use Rattle.jsgen_syntax.specs.Units.{js_units};
 ghost use Rattle.jsgen_syntax.specs.declared.precedence.Precedence.TheVariants.{Comma};
 ghost use Rattle.jsgen_tree.specs.Tree.{trees};
-ghost use Rattle.jsgen_tree.specs.Inside.{written_name_in, is_negative_number};
+ghost use Rattle.jsgen_tree.specs.Inside.{without_parentheses, looked_up_in, written_name_in, is_negative_number};
 ghost use Rattle.jsgen_tree.specs.Rows.{spread_element_row, array_expression_row, in_array_expression_element, object_property_row, object_expression_row, in_object_property_kind, in_property_key, in_expression};
 ghost use Rattle.jsgen_model.specs.Punctuator.{Square, Brace, colon};
 ghost use Rattle.jsgen_model.specs.Items.{◌⊕◌, brackets, punctuator, soft_space};
 ghost use Rattle.jsgen_model.specs.Layout.{layout};
-ghost use Rattle.jsgen_model.specs.Spell.{spell, in_brackets, in_front, are_more, object_inside, spell_elements, ends_in_hole, comma_if, is_short, needs_brackets, key_items, key_text, string_in};
+ghost use Rattle.jsgen_model.specs.Spell.{spell, in_brackets, in_front, are_more, object_inside, spell_elements, ends_in_hole, comma_if, needs_brackets, key_items, key_text, string_in};
 ghost use Rattle.jsgen_model.specs.Printing.{Reaches};
 ghost use Rattle.jsgen_printer.specs.Printer.{pen_of};
 ghost use Rattle.jsgen_place.specs.Place.{place_of};
-ghost use Rattle.jsgen_nodes.specs.Keys.{is_string, is_number};
+ghost use Rattle.jsgen_nodes.specs.Keys.{is_string, is_number, is_said, is_value_alone};
 ghost use Rattle.jsgen_nodes.specs.Place.{pen_after};
 
 use crate::PrintNode;
 use crate::links::print_identifier_name;
 use jsgen_lists::{PrintElement, print_array, print_object};
-use jsgen_place::{Place, needs_brackets, says_name};
+use jsgen_place::{Place, is_alone, needs_brackets};
 use jsgen_printer::{Bracket, Printer};
 use jsgen_syntax::{JsStr, Memory, Precedence};
 use jsgen_tree::{
@@ -30,7 +30,7 @@ use jsgen_tree::{
 #[tactic(auto, unfolding(crate::specs::Place::pen_after))]
 pub fn print_spread_element<N: PrintNode>(
     node: &SpreadElement<N>,
-    p: &mut Printer,
+    p: &mut Printer<'_>,
     place: Place,
 ) -> Result<(), Memory>
     ensures { Reaches result (pen_of p.old) (pen_of p.new) (pen_after (spread_element_row N.plain node.now) place p.old) }
@@ -44,7 +44,7 @@ pub fn print_spread_element<N: PrintNode>(
 #[tactic(auto, unfolding(crate::specs::Place::pen_after))]
 pub fn print_array_expression<N: PrintNode>(
     node: &ArrayExpression<N>,
-    p: &mut Printer,
+    p: &mut Printer<'_>,
     place: Place,
 ) -> Result<(), Memory>
     ensures { Reaches result (pen_of p.old) (pen_of p.new) (pen_after (array_expression_row N.plain node.now) place p.old) }
@@ -66,7 +66,7 @@ impl<N: PrintNode> PrintElement<Option<ArrayExpressionElement<N>>> for Elements 
 
     fn print_element(
         element: &Option<ArrayExpressionElement<N>>,
-        p: &mut Printer,
+        p: &mut Printer<'_>,
         place: Place,
     ) -> Result<(), Memory> {
         match element {
@@ -79,7 +79,7 @@ impl<N: PrintNode> PrintElement<Option<ArrayExpressionElement<N>>> for Elements 
 #[tactic(auto, unfolding(crate::specs::Place::pen_after))]
 fn print_array_element<N: PrintNode>(
     element: &ArrayExpressionElement<N>,
-    p: &mut Printer,
+    p: &mut Printer<'_>,
     place: Place,
 ) -> Result<(), Memory>
     ensures { Reaches result (pen_of p.old) (pen_of p.new) (layout (spell (in_array_expression_element N.plain element.now) (place_of place (pen_of p.old))) (pen_of p.old)) }
@@ -93,7 +93,7 @@ fn print_array_element<N: PrintNode>(
 #[tactic(auto, unfolding(crate::specs::Place::pen_after))]
 pub fn print_object_expression<N: PrintNode>(
     node: &ObjectExpression<N>,
-    p: &mut Printer,
+    p: &mut Printer<'_>,
     place: Place,
 ) -> Result<(), Memory>
     ensures { Reaches result (pen_of p.old) (pen_of p.new) (pen_after (object_expression_row N.plain node.now) place p.old) }
@@ -108,7 +108,7 @@ pub fn print_object_expression<N: PrintNode>(
 #[tactic(auto, unfolding(crate::specs::Place::pen_after))]
 fn print_properties<N: PrintNode>(
     properties: &[ObjectPropertyKind<N>],
-    p: &mut Printer,
+    p: &mut Printer<'_>,
     place: Place,
 ) -> Result<(), Memory>
     ensures { Reaches result (pen_of p.old) (pen_of p.new) (layout (brackets Brace (object_inside (trees (map (in_object_property_kind N.plain) properties.now))
@@ -133,7 +133,7 @@ impl<N: PrintNode> PrintElement<ObjectPropertyKind<N>> for Properties {
 
     fn print_element(
         element: &ObjectPropertyKind<N>,
-        p: &mut Printer,
+        p: &mut Printer<'_>,
         place: Place,
     ) -> Result<(), Memory> {
         match element {
@@ -146,12 +146,12 @@ impl<N: PrintNode> PrintElement<ObjectPropertyKind<N>> for Properties {
 #[tactic(auto, unfolding(crate::specs::Place::pen_after))]
 pub fn print_object_property<N: PrintNode>(
     node: &ObjectProperty<N>,
-    p: &mut Printer,
+    p: &mut Printer<'_>,
     place: Place,
 ) -> Result<(), Memory>
     ensures { Reaches result (pen_of p.old) (pen_of p.new) (pen_after (object_property_row N.plain node.now) place p.old) }
 {
-    if is_short(node) {
+    if is_value_alone(node, p) {
         node.value.get().print(p, place.child(Precedence::Comma))
     } else {
         print_whole_property(node, p, place)
@@ -162,7 +162,7 @@ pub fn print_object_property<N: PrintNode>(
 #[tactic(auto, unfolding(crate::specs::Place::pen_after))]
 fn print_whole_property<N: PrintNode>(
     node: &ObjectProperty<N>,
-    p: &mut Printer,
+    p: &mut Printer<'_>,
     place: Place,
 ) -> Result<(), Memory>
     ensures { Reaches result (pen_of p.old) (pen_of p.new) (layout (key_items (needs_brackets node.now.computed (in_property_key N.plain node.now.key)) (in_property_key N.plain node.now.key) (spell (in_property_key N.plain node.now.key) (in_brackets Comma (place_of place (pen_of p.old))))
@@ -173,11 +173,22 @@ fn print_whole_property<N: PrintNode>(
     print_property_value(&node.value, p, place)
 }
 
-fn is_short<N: PrintNode>(node: &ObjectProperty<N>) -> bool
-    ensures { result ≡ is_short node.now.shorthand (in_property_key N.plain node.now.key) (in_expression N.plain node.now.value) }
+// Whether the property is its value alone.
+fn is_value_alone<N: PrintNode>(node: &ObjectProperty<N>, p: &Printer<'_>) -> bool
+    ensures { result ≡ is_value_alone (pen_of p.now).style.tables node.now.shorthand (written_name_in (in_property_key N.plain node.now.key)) (looked_up_in (without_parentheses (in_expression N.plain node.now.value))) }
 {
     match key_name(&node.key) {
-        Some(name) => says_name(node.shorthand, name, node.value.get().reference()),
+        Some(name) => is_alone(node.shorthand, name, is_said(node.value.get(), name, p)),
+        None => false,
+    }
+}
+
+// Whether the value is a reference, and printed as this name is written.
+fn is_said<N: PrintNode>(value: &N, name: &str, p: &Printer<'_>) -> bool
+    ensures { result ≡ is_said (pen_of p.now).style.tables (looked_up_in (without_parentheses (N.plain value.now))) (chars name.now) }
+{
+    match value.looked_up() {
+        Some(node) => p.prints_as(node.name.as_str(), node.reference, name),
         None => false,
     }
 }
@@ -196,7 +207,7 @@ fn key_name<N: PrintNode>(key: &PropertyKey<N>) -> Option<&str>
 fn print_key<N: PrintNode>(
     key: &PropertyKey<N>,
     computed: bool,
-    p: &mut Printer,
+    p: &mut Printer<'_>,
     place: Place,
 ) -> Result<(), Memory>
     ensures { Reaches result (pen_of p.old) (pen_of p.new) (layout (key_items (needs_brackets computed (in_property_key N.plain key.now)) (in_property_key N.plain key.now) (spell (in_property_key N.plain key.now) (in_brackets Comma (place_of place (pen_of p.old))))
@@ -238,7 +249,7 @@ fn is_number(node_type: NodeType) -> bool
 #[tactic(auto, unfolding(crate::specs::Place::pen_after))]
 fn print_computed_key<N: PrintNode>(
     key: &PropertyKey<N>,
-    p: &mut Printer,
+    p: &mut Printer<'_>,
     place: Place,
 ) -> Result<(), Memory>
     ensures { Reaches result (pen_of p.old) (pen_of p.new) (layout (brackets Square (key_text (in_property_key N.plain key.now) (spell (in_property_key N.plain key.now) (in_brackets Comma (place_of place (pen_of p.old)))))) (pen_of p.old)) }
@@ -252,7 +263,7 @@ fn print_computed_key<N: PrintNode>(
 #[tactic(auto, unfolding(crate::specs::Place::pen_after))]
 pub fn print_key_text<N: PrintNode>(
     key: &PropertyKey<N>,
-    p: &mut Printer,
+    p: &mut Printer<'_>,
     place: Place,
 ) -> Result<(), Memory>
     ensures { Reaches result (pen_of p.old) (pen_of p.new) (layout (key_text (in_property_key N.plain key.now) (spell (in_property_key N.plain key.now) (place_of place (pen_of p.old)))) (pen_of p.old)) }
@@ -267,7 +278,7 @@ pub fn print_key_text<N: PrintNode>(
 #[tactic(auto, unfolding(crate::specs::Place::pen_after))]
 fn print_key_expression<N: PrintNode>(
     key: &ExpressionNode<N>,
-    p: &mut Printer,
+    p: &mut Printer<'_>,
     place: Place,
 ) -> Result<(), Memory>
     ensures { Reaches result (pen_of p.old) (pen_of p.new) (layout (key_text (in_expression N.plain key.now) (spell (in_expression N.plain key.now) (place_of place (pen_of p.old)))) (pen_of p.old)) }
@@ -299,7 +310,7 @@ fn is_string(node_type: NodeType) -> bool
 #[tactic(auto, unfolding(crate::specs::Place::pen_after))]
 fn print_property_value<N: PrintNode>(
     value: &ExpressionNode<N>,
-    p: &mut Printer,
+    p: &mut Printer<'_>,
     place: Place,
 ) -> Result<(), Memory>
     ensures { Reaches result (pen_of p.old) (pen_of p.new) (layout (punctuator colon ⊕ (soft_space ⊕ spell (in_expression N.plain value.now) (in_brackets Comma (place_of place (pen_of p.old))))) (pen_of p.old)) }

@@ -25,19 +25,19 @@ use jsgen_tree::{
 #[tactic(auto, unfolding(crate::specs::Place::pen_after))]
 pub fn print_identifier_reference(
     node: &IdentifierReference,
-    p: &mut Printer,
+    p: &mut Printer<'_>,
     place: Place,
 ) -> Result<(), Memory>
     ensures { Reaches result (pen_of p.old) (pen_of p.new) (pen_after (identifier_reference_row node.now) place p.old) }
 {
     let _ = place;
-    p.print_name(node.name.as_str())
+    p.print_reference(node.name.as_str(), node.reference)
 }
 
 #[tactic(auto, unfolding(crate::specs::Place::pen_after))]
 pub fn print_this_expression(
     node: &ThisExpression,
-    p: &mut Printer,
+    p: &mut Printer<'_>,
     place: Place,
 ) -> Result<(), Memory>
     ensures { Reaches result (pen_of p.old) (pen_of p.new) (pen_after (this_expression_row node.now) place p.old) }
@@ -48,7 +48,11 @@ pub fn print_this_expression(
 }
 
 #[tactic(auto, unfolding(crate::specs::Place::pen_after))]
-pub fn print_null_literal(node: &NullLiteral, p: &mut Printer, place: Place) -> Result<(), Memory>
+pub fn print_null_literal(
+    node: &NullLiteral,
+    p: &mut Printer<'_>,
+    place: Place,
+) -> Result<(), Memory>
     ensures { Reaches result (pen_of p.old) (pen_of p.new) (pen_after (null_literal_row node.now) place p.old) }
 {
     let _ = node;
@@ -59,7 +63,7 @@ pub fn print_null_literal(node: &NullLiteral, p: &mut Printer, place: Place) -> 
 #[tactic(auto, unfolding(crate::specs::Place::pen_after))]
 pub fn print_boolean_literal(
     node: &BooleanLiteral,
-    p: &mut Printer,
+    p: &mut Printer<'_>,
     place: Place,
 ) -> Result<(), Memory>
     ensures { Reaches result (pen_of p.old) (pen_of p.new) (pen_after (boolean_literal_row node.now) place p.old) }
@@ -71,7 +75,7 @@ pub fn print_boolean_literal(
 #[tactic(auto, unfolding(crate::specs::Place::pen_after))]
 pub fn print_numeric_literal(
     node: &NumericLiteral,
-    p: &mut Printer,
+    p: &mut Printer<'_>,
     place: Place,
 ) -> Result<(), Memory>
     ensures { Reaches result (pen_of p.old) (pen_of p.new) (pen_after (numeric_literal_row node.now) place p.old) }
@@ -83,7 +87,12 @@ pub fn print_numeric_literal(
 }
 
 #[tactic(auto)]
-fn print_whole(negative: bool, digits: u128, p: &mut Printer, place: Place) -> Result<(), Memory>
+fn print_whole(
+    negative: bool,
+    digits: u128,
+    p: &mut Printer<'_>,
+    place: Place,
+) -> Result<(), Memory>
     ensures { Reaches result (pen_of p.old) (pen_of p.new) (layout (signed true negative (decimal digits) (place_of place (pen_of p.old))) (pen_of p.old)) }
 {
     if negative {
@@ -96,7 +105,7 @@ fn print_whole(negative: bool, digits: u128, p: &mut Printer, place: Place) -> R
 #[tactic(auto, unfolding(crate::specs::Place::pen_after))]
 pub fn print_big_int_literal(
     node: &BigIntLiteral,
-    p: &mut Printer,
+    p: &mut Printer<'_>,
     place: Place,
 ) -> Result<(), Memory>
     ensures { Reaches result (pen_of p.old) (pen_of p.new) (pen_after (big_int_literal_row node.now) place p.old) }
@@ -111,7 +120,7 @@ pub fn print_big_int_literal(
 #[tactic(auto, unfolding(crate::specs::Place::pen_after))]
 pub fn print_string_literal(
     node: &StringLiteral,
-    p: &mut Printer,
+    p: &mut Printer<'_>,
     place: Place,
 ) -> Result<(), Memory>
     ensures { Reaches result (pen_of p.old) (pen_of p.new) (pen_after (string_literal_row node.now) place p.old) }
@@ -123,7 +132,7 @@ pub fn print_string_literal(
 #[tactic(auto, unfolding(crate::specs::Place::pen_after))]
 pub fn print_parenthesized_expression<N: PrintNode>(
     node: &ParenthesizedExpression<N>,
-    p: &mut Printer,
+    p: &mut Printer<'_>,
     place: Place,
 ) -> Result<(), Memory>
     ensures { Reaches result (pen_of p.old) (pen_of p.new) (pen_after (parenthesized_expression_row N.plain node.now) place p.old) }
@@ -134,7 +143,7 @@ pub fn print_parenthesized_expression<N: PrintNode>(
 #[tactic(auto, unfolding(crate::specs::Place::pen_after))]
 pub fn print_binary_expression<N: PrintNode>(
     node: &BinaryExpression<N>,
-    p: &mut Printer,
+    p: &mut Printer<'_>,
     place: Place,
 ) -> Result<(), Memory>
     ensures { Reaches result (pen_of p.old) (pen_of p.new) (pen_after (binary_expression_row N.plain node.now) place p.old) }
@@ -149,7 +158,7 @@ pub fn print_binary_expression<N: PrintNode>(
 #[tactic(auto, unfolding(crate::specs::Place::pen_after))]
 fn print_binary_operation<N: PrintNode>(
     node: &BinaryExpression<N>,
-    p: &mut Printer,
+    p: &mut Printer<'_>,
     place: Place,
 ) -> Result<(), Memory>
     ensures { Reaches result (pen_of p.old) (pen_of p.new) (layout (spell (in_expression N.plain node.now.left)
@@ -176,7 +185,7 @@ fn print_binary_operation<N: PrintNode>(
 #[tactic(auto, unfolding(crate::specs::Place::pen_after))]
 pub fn print_logical_expression<N: PrintNode>(
     node: &LogicalExpression<N>,
-    p: &mut Printer,
+    p: &mut Printer<'_>,
     place: Place,
 ) -> Result<(), Memory>
     ensures { Reaches result (pen_of p.old) (pen_of p.new) (pen_after (logical_expression_row N.plain node.now) place p.old) }
@@ -191,7 +200,7 @@ pub fn print_logical_expression<N: PrintNode>(
 #[tactic(auto, unfolding(crate::specs::Place::pen_after))]
 fn print_logical_operation<N: PrintNode>(
     node: &LogicalExpression<N>,
-    p: &mut Printer,
+    p: &mut Printer<'_>,
     place: Place,
 ) -> Result<(), Memory>
     ensures { Reaches result (pen_of p.old) (pen_of p.new) (layout (spell (in_expression N.plain node.now.left)

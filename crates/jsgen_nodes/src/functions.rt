@@ -28,7 +28,7 @@ use jsgen_tree::{
 #[tactic(auto, unfolding(crate::specs::Place::pen_after))]
 pub fn print_formal_parameter<N: PrintNode>(
     node: &FormalParameter<N>,
-    p: &mut Printer,
+    p: &mut Printer<'_>,
     place: Place,
 ) -> Result<(), Memory>
     ensures { Reaches result (pen_of p.old) (pen_of p.new) (pen_after (formal_parameter_row N.plain node.now) place p.old) }
@@ -42,7 +42,7 @@ pub fn print_formal_parameter<N: PrintNode>(
 #[tactic(auto, unfolding(crate::specs::Place::pen_after))]
 pub fn print_formal_parameter_rest<N: PrintNode>(
     node: &FormalParameterRest<N>,
-    p: &mut Printer,
+    p: &mut Printer<'_>,
     place: Place,
 ) -> Result<(), Memory>
     ensures { Reaches result (pen_of p.old) (pen_of p.new) (pen_after (formal_parameter_rest_row N.plain node.now) place p.old) }
@@ -57,7 +57,7 @@ pub fn print_formal_parameter_rest<N: PrintNode>(
 #[tactic(auto, unfolding(crate::specs::Place::pen_after))]
 pub fn print_formal_parameters<N: PrintNode>(
     node: &FormalParameters<N>,
-    p: &mut Printer,
+    p: &mut Printer<'_>,
     place: Place,
 ) -> Result<(), Memory>
     ensures { Reaches result (pen_of p.old) (pen_of p.new) (layout (parameter_parts (formal_parameters_row N.plain node.now) (place_of place (pen_of p.old))) (pen_of p.old)) }
@@ -76,7 +76,7 @@ impl<N: PrintNode> PrintMember<FormalParameter<N>> for Parameters {
 
     fn print_member(
         parameter: &FormalParameter<N>,
-        p: &mut Printer,
+        p: &mut Printer<'_>,
         place: Place,
     ) -> Result<(), Memory> {
         print_formal_parameter(parameter, p, place)
@@ -92,7 +92,7 @@ impl<N: PrintNode> PrintMember<Box<FormalParameterRest<N>>> for Rest {
 
     fn print_member(
         rest: &Box<FormalParameterRest<N>>,
-        p: &mut Printer,
+        p: &mut Printer<'_>,
         place: Place,
     ) -> Result<(), Memory> {
         print_formal_parameter_rest(rest, p, place)
@@ -104,7 +104,7 @@ impl<N: PrintNode> PrintMember<Box<FormalParameterRest<N>>> for Rest {
 #[tactic(auto, unfolding(crate::specs::Place::pen_after))]
 pub fn print_arrow_function_expression<N: PrintNode>(
     node: &ArrowFunctionExpression<N>,
-    p: &mut Printer,
+    p: &mut Printer<'_>,
     place: Place,
 ) -> Result<(), Memory>
     ensures { Reaches result (pen_of p.old) (pen_of p.new) (pen_after (arrow_function_expression_row N.plain node.now) place p.old) }
@@ -119,7 +119,7 @@ pub fn print_arrow_function_expression<N: PrintNode>(
 #[tactic(auto, unfolding(crate::specs::Place::pen_after))]
 fn print_arrow<N: PrintNode>(
     node: &ArrowFunctionExpression<N>,
-    p: &mut Printer,
+    p: &mut Printer<'_>,
     place: Place,
 ) -> Result<(), Memory>
     ensures { Reaches result (pen_of p.old) (pen_of p.new) (layout (parameter_items (is_bare (settings_of place.settings) (formal_parameters_row N.plain node.now.params.value))
@@ -135,7 +135,7 @@ fn print_arrow<N: PrintNode>(
 #[tactic(auto, unfolding(crate::specs::Place::pen_after))]
 fn print_arrow_parameters<N: PrintNode>(
     parameters: &FormalParameters<N>,
-    p: &mut Printer,
+    p: &mut Printer<'_>,
     place: Place,
 ) -> Result<(), Memory>
     ensures { Reaches result (pen_of p.old) (pen_of p.new) (layout (parameter_items (is_bare (settings_of place.settings) (formal_parameters_row N.plain parameters.now))
@@ -151,7 +151,7 @@ fn print_arrow_parameters<N: PrintNode>(
 #[tactic(auto, unfolding(crate::specs::Place::pen_after))]
 fn print_parameters_in_brackets<N: PrintNode>(
     parameters: &FormalParameters<N>,
-    p: &mut Printer,
+    p: &mut Printer<'_>,
     place: Place,
 ) -> Result<(), Memory>
     ensures { Reaches result (pen_of p.old) (pen_of p.new) (layout (parameter_items false
@@ -181,7 +181,7 @@ fn is_name<N: PrintNode>(parameter: &FormalParameter<N>) -> bool
 #[tactic(auto, unfolding(crate::specs::Place::pen_after))]
 fn print_behind_parameters<N: PrintNode>(
     body: &ArrowFunctionBody<N>,
-    p: &mut Printer,
+    p: &mut Printer<'_>,
     place: Place,
 ) -> Result<(), Memory>
     ensures { Reaches result (pen_of p.old) (pen_of p.new) (layout (soft_space ⊕ (punctuator arrow ⊕ (soft_space ⊕ (arrow_body_begins
@@ -196,7 +196,7 @@ fn print_behind_parameters<N: PrintNode>(
 
 fn print_arrow_function_body<N: PrintNode>(
     body: &ArrowFunctionBody<N>,
-    p: &mut Printer,
+    p: &mut Printer<'_>,
     place: Place,
 ) -> Result<(), Memory>
     ensures { Reaches result (pen_of p.old) (pen_of p.new) (pen_after (in_arrow_function_body N.plain body.now) place p.old) }

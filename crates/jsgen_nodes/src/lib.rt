@@ -23,7 +23,7 @@ ghost use Rattle.std.specs.Prelude.{◌≡◌, option_map};
 ghost use Rattle.jsgen_syntax.specs.Units.{js_units};
 ghost use Rattle.jsgen_tree.specs.Tree.{Tree, type_of};
 ghost use Rattle.std.specs.Str.{chars};
-ghost use Rattle.jsgen_tree.specs.Inside.{without_parentheses, ends_open, reference_in, written_name_in, is_negative};
+ghost use Rattle.jsgen_tree.specs.Inside.{without_parentheses, ends_open, reference_in, looked_up_in, named_by, written_name_in, is_negative};
 ghost use Rattle.jsgen_tree.specs.Plain.{node_plain};
 ghost use Rattle.jsgen_model.specs.Spell.{string_in, string_statement};
 ghost use Rattle.jsgen_model.specs.Quotes.{is_member_of};
@@ -36,7 +36,7 @@ ghost use Rattle.jsgen_nodes.specs.Place.{pen_after};
 use jsgen_place::{Context, Operand, Place, Settings};
 use jsgen_printer::Printer;
 use jsgen_syntax::{JsStr, Memory};
-use jsgen_tree::{Node, NodeType};
+use jsgen_tree::{IdentifierReference, Node, NodeType};
 use names::{
     binding_pattern_is_member, binding_pattern_is_name, declaration_is_member, declaration_is_name,
     expression_is_member, expression_is_name, statement_is_member, statement_is_name,
@@ -66,7 +66,7 @@ pub trait PrintNode {
     fn node_type(&self) -> NodeType
         ensures { result ≡ type_of (plain self.now) };
 
-    fn print(&self, p: &mut Printer, place: Place) -> Result<(), Memory>
+    fn print(&self, p: &mut Printer<'_>, place: Place) -> Result<(), Memory>
         ensures { Reaches result (pen_of p.old) (pen_of p.new) (pen_after (plain self.now) place p.old) };
 
     /// What matters of it as an operand.
@@ -88,6 +88,10 @@ pub trait PrintNode {
     /// The name that it looks up, without the parentheses that it may have round it.
     fn reference(&self) -> Option<&str>
         ensures { option_map (λ s. chars s.now) result ≡ reference_in (without_parentheses (plain self.now)) };
+
+    /// The reference itself, with its number, without the parentheses that it may have round it.
+    fn looked_up(&self) -> Option<&IdentifierReference>
+        ensures { option_map (λ n. named_by n.now) result ≡ looked_up_in (without_parentheses (plain self.now)) };
 
     /// The name that stands there as it is written.
     fn written_name(&self) -> Option<&str>
@@ -118,7 +122,7 @@ pub trait PrintAlone {
 
     fn print_alone(
         &self,
-        p: &mut Printer,
+        p: &mut Printer<'_>,
         settings: Settings,
         context: Context,
     ) -> Result<(), Memory>
@@ -131,7 +135,7 @@ pub trait PrintAtLevel {
 
     ghost plain: { Self → Tree };
 
-    fn print_at(&self, p: &mut Printer, place: Place) -> Result<(), Memory>
+    fn print_at(&self, p: &mut Printer<'_>, place: Place) -> Result<(), Memory>
         ensures { Reaches result (pen_of p.old) (pen_of p.new) (pen_after (plain self.now) place p.old) };
 }
 
@@ -144,7 +148,7 @@ impl PrintNode for Node {
     }
 
     #[cycle(node)]
-    fn print(&self, p: &mut Printer, place: Place) -> Result<(), Memory> {
+    fn print(&self, p: &mut Printer<'_>, place: Place) -> Result<(), Memory> {
         match self {
             Node::Expression(node) => print_expression(node, p, place),
             Node::Statement(node) => print_statement(node, p, place),
@@ -215,6 +219,10 @@ impl PrintNode for Node {
 
     fn reference(&self) -> Option<&str> {
         self.reference()
+    }
+
+    fn looked_up(&self) -> Option<&IdentifierReference> {
+        self.looked_up()
     }
 
     fn written_name(&self) -> Option<&str> {

@@ -3,6 +3,7 @@ ghost use Rattle.std.specs.Prelude.{◌≡◌, map};
 ghost use Rattle.jsgen_syntax.specs.declared.precedence.Precedence.TheVariants.{Lowest, Comma};
 ghost use Rattle.jsgen_tree.specs.Tree.{trees};
 ghost use Rattle.jsgen_tree.specs.Characters.{characters};
+ghost use Rattle.jsgen_tree.specs.Named.{as_written};
 ghost use Rattle.jsgen_tree.specs.Rows.{identifier_name_row, static_member_expression_row, computed_member_expression_row, call_expression_row, chain_expression_row, spread_element_row, in_argument, in_chain_element, in_expression};
 ghost use Rattle.jsgen_model.specs.Punctuator.{Round, Square};
 ghost use Rattle.jsgen_model.specs.Items.{◌⊕◌, brackets, name};
@@ -29,7 +30,7 @@ use jsgen_tree::{
 #[tactic(auto, unfolding(crate::specs::Place::pen_after))]
 pub fn print_identifier_name(
     node: &IdentifierName,
-    p: &mut Printer,
+    p: &mut Printer<'_>,
     place: Place,
 ) -> Result<(), Memory>
     ensures { Reaches result (pen_of p.old) (pen_of p.new) (pen_after (identifier_name_row node.now) place p.old) }
@@ -39,7 +40,7 @@ pub fn print_identifier_name(
 }
 
 // What stands before a member's name.
-fn print_name_link(optional: bool, p: &mut Printer) -> Result<(), Memory>
+fn print_name_link(optional: bool, p: &mut Printer<'_>) -> Result<(), Memory>
     ensures { Reaches result (pen_of p.old) (pen_of p.new) (layout (name_link optional) (pen_of p.old)) }
 {
     if optional {
@@ -50,7 +51,7 @@ fn print_name_link(optional: bool, p: &mut Printer) -> Result<(), Memory>
 }
 
 // What stands before the brackets of a link.
-fn print_bracket_link(optional: bool, p: &mut Printer) -> Result<(), Memory>
+fn print_bracket_link(optional: bool, p: &mut Printer<'_>) -> Result<(), Memory>
     ensures { Reaches result (pen_of p.old) (pen_of p.new) (layout (bracket_link optional) (pen_of p.old)) }
 {
     if optional {
@@ -65,10 +66,10 @@ fn print_bracket_link(optional: bool, p: &mut Printer) -> Result<(), Memory>
 fn print_member_name(
     optional: bool,
     node: &IdentifierName,
-    p: &mut Printer,
+    p: &mut Printer<'_>,
     place: Place,
 ) -> Result<(), Memory>
-    ensures { Reaches result (pen_of p.old) (pen_of p.new) (layout (name_link optional ⊕ name (characters node.now.name)) (pen_of p.old)) }
+    ensures { Reaches result (pen_of p.old) (pen_of p.new) (layout (name_link optional ⊕ name (as_written (characters node.now.name))) (pen_of p.old)) }
 {
     print_name_link(optional, p)?;
     print_identifier_name(node, p, place)
@@ -77,7 +78,7 @@ fn print_member_name(
 #[tactic(auto, unfolding(crate::specs::Place::pen_after))]
 pub fn print_static_member_expression<N: PrintNode>(
     node: &StaticMemberExpression<N>,
-    p: &mut Printer,
+    p: &mut Printer<'_>,
     place: Place,
 ) -> Result<(), Memory>
     ensures { Reaches result (pen_of p.old) (pen_of p.new) (pen_after (static_member_expression_row N.plain node.now) place p.old) }
@@ -92,7 +93,7 @@ pub fn print_static_member_expression<N: PrintNode>(
 #[tactic(auto, unfolding(crate::specs::Place::pen_after))]
 pub fn print_computed_member_expression<N: PrintNode>(
     node: &ComputedMemberExpression<N>,
-    p: &mut Printer,
+    p: &mut Printer<'_>,
     place: Place,
 ) -> Result<(), Memory>
     ensures { Reaches result (pen_of p.old) (pen_of p.new) (pen_after (computed_member_expression_row N.plain node.now) place p.old) }
@@ -107,7 +108,7 @@ pub fn print_computed_member_expression<N: PrintNode>(
 #[tactic(auto, unfolding(crate::specs::Place::pen_after))]
 fn print_computed_name<N: PrintNode>(
     node: &ComputedMemberExpression<N>,
-    p: &mut Printer,
+    p: &mut Printer<'_>,
     place: Place,
 ) -> Result<(), Memory>
     ensures { Reaches result (pen_of p.old) (pen_of p.new) (layout (bracket_link node.now.optional
@@ -125,7 +126,7 @@ fn print_computed_name<N: PrintNode>(
 #[tactic(auto, unfolding(crate::specs::Place::pen_after))]
 pub fn print_call_expression<N: PrintNode>(
     node: &CallExpression<N>,
-    p: &mut Printer,
+    p: &mut Printer<'_>,
     place: Place,
 ) -> Result<(), Memory>
     ensures { Reaches result (pen_of p.old) (pen_of p.new) (pen_after (call_expression_row N.plain node.now) place p.old) }
@@ -140,7 +141,7 @@ pub fn print_call_expression<N: PrintNode>(
 #[tactic(auto, unfolding(crate::specs::Place::pen_after))]
 fn print_call<N: PrintNode>(
     node: &CallExpression<N>,
-    p: &mut Printer,
+    p: &mut Printer<'_>,
     place: Place,
 ) -> Result<(), Memory>
     ensures { Reaches result (pen_of p.old) (pen_of p.new) (layout (spell (in_expression N.plain node.now.callee) (called (place_of place (pen_of p.old)))
@@ -160,7 +161,7 @@ fn print_call<N: PrintNode>(
 #[tactic(auto, unfolding(crate::specs::Place::pen_after))]
 pub fn print_chain_expression<N: PrintNode>(
     node: &ChainExpression<N>,
-    p: &mut Printer,
+    p: &mut Printer<'_>,
     place: Place,
 ) -> Result<(), Memory>
     ensures { Reaches result (pen_of p.old) (pen_of p.new) (pen_after (chain_expression_row N.plain node.now) place p.old) }
@@ -173,7 +174,7 @@ pub fn print_chain_expression<N: PrintNode>(
 
 fn print_chain_element<N: PrintNode>(
     node: &ChainElement<N>,
-    p: &mut Printer,
+    p: &mut Printer<'_>,
     place: Place,
 ) -> Result<(), Memory>
     ensures { Reaches result (pen_of p.old) (pen_of p.new) (pen_after (in_chain_element N.plain node.now) place p.old) }
@@ -196,7 +197,11 @@ pub struct Arguments;
 impl<N: PrintNode> PrintMember<Argument<N>> for Arguments {
     ghost plain = { in_argument N.plain };
 
-    fn print_member(argument: &Argument<N>, p: &mut Printer, place: Place) -> Result<(), Memory> {
+    fn print_member(
+        argument: &Argument<N>,
+        p: &mut Printer<'_>,
+        place: Place,
+    ) -> Result<(), Memory> {
         match argument {
             Argument::SpreadElement(node) => print_spread_element(node, p, place),
             Argument::Expression(expression) => expression.get().print(p, place),

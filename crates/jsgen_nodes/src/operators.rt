@@ -26,7 +26,7 @@ use jsgen_tree::{
 #[tactic(auto, unfolding(crate::specs::Place::pen_after))]
 pub fn print_unary_expression<N: PrintNode>(
     node: &UnaryExpression<N>,
-    p: &mut Printer,
+    p: &mut Printer<'_>,
     place: Place,
 ) -> Result<(), Memory>
     ensures { Reaches result (pen_of p.old) (pen_of p.new) (pen_after (unary_expression_row N.plain node.now) place p.old) }
@@ -41,7 +41,7 @@ pub fn print_unary_expression<N: PrintNode>(
 #[tactic(auto, unfolding(crate::specs::Place::pen_after))]
 fn print_unary_operation<N: PrintNode>(
     node: &UnaryExpression<N>,
-    p: &mut Printer,
+    p: &mut Printer<'_>,
     place: Place,
 ) -> Result<(), Memory>
     ensures { Reaches result (pen_of p.old) (pen_of p.new) (layout (unary_sign node.now.operator ⊕ (behind_unary node.now.operator
@@ -57,7 +57,7 @@ fn print_unary_operation<N: PrintNode>(
 #[tactic(auto, unfolding(crate::specs::Place::pen_after))]
 pub fn print_update_expression<N: PrintNode>(
     node: &UpdateExpression<N>,
-    p: &mut Printer,
+    p: &mut Printer<'_>,
     place: Place,
 ) -> Result<(), Memory>
     ensures { Reaches result (pen_of p.old) (pen_of p.new) (pen_after (update_expression_row N.plain node.now) place p.old) }
@@ -84,7 +84,7 @@ impl<N: PrintNode> PrintMember<SimpleAssignmentTarget<N>> for Targets {
 
     fn print_member(
         member: &SimpleAssignmentTarget<N>,
-        p: &mut Printer,
+        p: &mut Printer<'_>,
         place: Place,
     ) -> Result<(), Memory> {
         print_simple_assignment_target(member, p, place)
@@ -93,7 +93,7 @@ impl<N: PrintNode> PrintMember<SimpleAssignmentTarget<N>> for Targets {
 
 fn print_simple_assignment_target<N: PrintNode>(
     node: &SimpleAssignmentTarget<N>,
-    p: &mut Printer,
+    p: &mut Printer<'_>,
     place: Place,
 ) -> Result<(), Memory>
     ensures { Reaches result (pen_of p.old) (pen_of p.new) (pen_after (in_simple_assignment_target N.plain node.now) place p.old) }
@@ -114,7 +114,7 @@ fn print_simple_assignment_target<N: PrintNode>(
 #[tactic(auto, unfolding(crate::specs::Place::pen_after))]
 pub fn print_new_expression<N: PrintNode>(
     node: &NewExpression<N>,
-    p: &mut Printer,
+    p: &mut Printer<'_>,
     place: Place,
 ) -> Result<(), Memory>
     ensures { Reaches result (pen_of p.old) (pen_of p.new) (pen_after (new_expression_row N.plain node.now) place p.old) }
@@ -129,7 +129,7 @@ pub fn print_new_expression<N: PrintNode>(
 #[tactic(auto, unfolding(crate::specs::Place::pen_after))]
 fn print_construction<N: PrintNode>(
     node: &NewExpression<N>,
-    p: &mut Printer,
+    p: &mut Printer<'_>,
     place: Place,
 ) -> Result<(), Memory>
     ensures { Reaches result (pen_of p.old) (pen_of p.new) (layout (word (codes "new") ⊕ (soft_space
@@ -147,7 +147,7 @@ fn print_construction<N: PrintNode>(
 #[tactic(auto, unfolding(crate::specs::Place::pen_after))]
 fn print_new_arguments<N: PrintNode>(
     arguments: &[Argument<N>],
-    p: &mut Printer,
+    p: &mut Printer<'_>,
     place: Place,
 ) -> Result<(), Memory>
     ensures { Reaches result (pen_of p.old) (pen_of p.new) (layout (new_arguments (needs_arguments (place_of place (pen_of p.old)) (any_given (trees (map (in_argument N.plain) arguments.now))))
@@ -168,7 +168,7 @@ fn is_given<N: PrintNode>(arguments: &[Argument<N>]) -> bool
 }
 
 #[tactic(auto, unfolding(crate::specs::Place::pen_after))]
-pub fn print_super(node: &Super, p: &mut Printer, place: Place) -> Result<(), Memory>
+pub fn print_super(node: &Super, p: &mut Printer<'_>, place: Place) -> Result<(), Memory>
     ensures { Reaches result (pen_of p.old) (pen_of p.new) (pen_after (super_row node.now) place p.old) }
 {
     let _ = node;
@@ -177,7 +177,7 @@ pub fn print_super(node: &Super, p: &mut Printer, place: Place) -> Result<(), Me
 }
 
 #[tactic(auto, unfolding(crate::specs::Place::pen_after))]
-pub fn print_new_target(node: &NewTarget, p: &mut Printer, place: Place) -> Result<(), Memory>
+pub fn print_new_target(node: &NewTarget, p: &mut Printer<'_>, place: Place) -> Result<(), Memory>
     ensures { Reaches result (pen_of p.old) (pen_of p.new) (pen_after (new_target_row node.now) place p.old) }
 {
     let _ = node;

@@ -141,7 +141,7 @@ pub fn is_mark<N: PrintNode>(minified: bool, operator: BinaryOperator, operand: 
 
 /// Prints the arguments of `require("x")`, if the call is that and the text minified; otherwise prints nothing.
 pub fn try_print_require_call<N: PrintNode>(
-    p: &mut Printer,
+    p: &mut Printer<'_>,
     call: &CallExpression<N>,
 ) -> Result<bool, Memory>
     ensures applies { IfOk result (λ applies. applies ≡ is_require_call (pen_of p.old).style.minified (in_expression N.plain call.now.callee) (trees (map (in_argument N.plain) call.now.arguments.items))) }
@@ -160,7 +160,7 @@ pub fn try_print_require_call<N: PrintNode>(
 /// Prints the arguments of `Object.defineProperty(x, "y", ..)` or `Reflect.defineProperty(x, "y", ..)`, if the call is one of
 /// these and the text minified; otherwise prints nothing. In arguments nothing is forbidden, whatever the context.
 pub fn try_print_define_property_call<N: PrintNode>(
-    p: &mut Printer,
+    p: &mut Printer<'_>,
     call: &CallExpression<N>,
     context: Context,
 ) -> Result<bool, Memory>
@@ -180,7 +180,7 @@ pub fn try_print_define_property_call<N: PrintNode>(
 
 fn print_plain_arguments<N: PrintNode>(
     quotes: PlainQuotes,
-    p: &mut Printer,
+    p: &mut Printer<'_>,
     call: &CallExpression<N>,
 ) -> Result<(), Memory>
     ensures { Reaches result (pen_of p.old) (pen_of p.new) (layout (plain_arguments quotes.first quotes.second (trees (map (in_argument N.plain) call.now.arguments.items))) (pen_of p.old)) }
@@ -192,7 +192,7 @@ fn print_plain_arguments<N: PrintNode>(
 /// Prints `exports["x"]` or `module.exports["x"]`, if the target is one of these and the text minified; otherwise prints nothing.
 #[tactic(auto, unfolding(crate::specs::Place::pen_after))]
 pub fn try_print_exports_computed_target<N: PrintNode>(
-    p: &mut Printer,
+    p: &mut Printer<'_>,
     target: &AssignmentTarget<N>,
     context: Context,
 ) -> Result<bool, Memory>
@@ -213,7 +213,7 @@ pub fn try_print_exports_computed_target<N: PrintNode>(
 /// Prints the operand, if it is `"default"` or `"__esModule"`, the operator compares by equality and the text is minified;
 /// otherwise prints nothing.
 pub fn try_print_equality_string<N: PrintNode>(
-    p: &mut Printer,
+    p: &mut Printer<'_>,
     operator: BinaryOperator,
     operand: &Expression<N>,
 ) -> Result<bool, Memory>
@@ -231,7 +231,7 @@ pub fn try_print_equality_string<N: PrintNode>(
     }
 }
 
-fn print_plain_string(string: Option<&JsStr>, p: &mut Printer) -> Result<(), Memory>
+fn print_plain_string(string: Option<&JsStr>, p: &mut Printer<'_>) -> Result<(), Memory>
     ensures { Reaches result (pen_of p.old) (pen_of p.new) (layout (plain_string (option_map (λ v. js_units v.now) string.entry)) (pen_of p.old)) }
 {
     match string {

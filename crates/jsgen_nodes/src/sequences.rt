@@ -14,7 +14,7 @@ use jsgen_tree::{ExpressionNode, SequenceExpression};
 #[tactic(auto, unfolding(crate::specs::Place::pen_after))]
 pub fn print_sequence_expression<N: PrintNode>(
     node: &SequenceExpression<N>,
-    p: &mut Printer,
+    p: &mut Printer<'_>,
     place: Place,
 ) -> Result<(), Memory>
     ensures { Reaches result (pen_of p.old) (pen_of p.new) (pen_after (sequence_expression_row N.plain node.now) place p.old) }
@@ -35,7 +35,7 @@ impl<N: PrintNode> PrintMember<ExpressionNode<N>> for Expressions {
 
     fn print_member(
         expression: &ExpressionNode<N>,
-        p: &mut Printer,
+        p: &mut Printer<'_>,
         place: Place,
     ) -> Result<(), Memory> {
         expression.get().print(p, place)

@@ -38,7 +38,7 @@ use jsgen_tree::{BindingPattern, Declaration, Expression, Statement};
 
 pub fn print_expression<N: PrintNode>(
     node: &Expression<N>,
-    p: &mut Printer,
+    p: &mut Printer<'_>,
     place: Place,
 ) -> Result<(), Memory>
     ensures { Reaches result (pen_of p.old) (pen_of p.new) (pen_after (expression_plain N.plain node.now) place p.old) }
@@ -66,7 +66,7 @@ pub fn print_expression<N: PrintNode>(
 
 fn print_expression_in_collections<N: PrintNode>(
     node: &Expression<N>,
-    p: &mut Printer,
+    p: &mut Printer<'_>,
     place: Place,
 ) -> Result<(), Memory>
     requires { nat_le 1 (expression_part node.now) ≡ true }
@@ -81,7 +81,7 @@ fn print_expression_in_collections<N: PrintNode>(
 
 fn print_expression_in_operations<N: PrintNode>(
     node: &Expression<N>,
-    p: &mut Printer,
+    p: &mut Printer<'_>,
     place: Place,
 ) -> Result<(), Memory>
     requires { nat_le 2 (expression_part node.now) ≡ true }
@@ -99,7 +99,7 @@ fn print_expression_in_operations<N: PrintNode>(
 
 fn print_expression_in_assignments<N: PrintNode>(
     node: &Expression<N>,
-    p: &mut Printer,
+    p: &mut Printer<'_>,
     place: Place,
 ) -> Result<(), Memory>
     requires { nat_le 3 (expression_part node.now) ≡ true }
@@ -115,7 +115,7 @@ fn print_expression_in_assignments<N: PrintNode>(
 
 fn print_expression_in_functions<N: PrintNode>(
     node: &Expression<N>,
-    p: &mut Printer,
+    p: &mut Printer<'_>,
     place: Place,
 ) -> Result<(), Memory>
     requires { nat_le 4 (expression_part node.now) ≡ true }
@@ -131,7 +131,7 @@ fn print_expression_in_functions<N: PrintNode>(
 
 pub fn print_declaration<N: PrintNode>(
     node: &Declaration<N>,
-    p: &mut Printer,
+    p: &mut Printer<'_>,
     place: Place,
 ) -> Result<(), Memory>
     ensures { Reaches result (pen_of p.old) (pen_of p.new) (pen_after (declaration_plain N.plain node.now) place p.old) }
@@ -143,7 +143,7 @@ pub fn print_declaration<N: PrintNode>(
 
 pub fn print_statement<N: PrintNode>(
     node: &Statement<N>,
-    p: &mut Printer,
+    p: &mut Printer<'_>,
     place: Place,
 ) -> Result<(), Memory>
     ensures { Reaches result (pen_of p.old) (pen_of p.new) (pen_after (statement_plain N.plain node.now) place p.old) }
@@ -156,7 +156,7 @@ pub fn print_statement<N: PrintNode>(
 
 fn print_statement_in_statements<N: PrintNode>(
     node: &Statement<N>,
-    p: &mut Printer,
+    p: &mut Printer<'_>,
     place: Place,
 ) -> Result<(), Memory>
     requires { nat_le 1 (statement_part node.now) ≡ true }
@@ -173,7 +173,7 @@ fn print_statement_in_statements<N: PrintNode>(
 
 pub fn print_binding_pattern(
     node: &BindingPattern,
-    p: &mut Printer,
+    p: &mut Printer<'_>,
     place: Place,
 ) -> Result<(), Memory>
     ensures { Reaches result (pen_of p.old) (pen_of p.new) (pen_after (binding_pattern_plain node.now) place p.old) }

@@ -26,7 +26,7 @@ use jsgen_tree::{
 #[tactic(auto, unfolding(crate::specs::Place::pen_after))]
 pub fn print_program<N: PrintNode>(
     node: &Program<N>,
-    p: &mut Printer,
+    p: &mut Printer<'_>,
     settings: Settings,
 ) -> Result<(), Memory>
     ensures { Reaches result (pen_of p.old) (pen_of p.new) (layout (spell (program_row N.plain node.now) (among_statements (settings_of settings))) (pen_of p.old)) }
@@ -38,7 +38,7 @@ pub fn print_program<N: PrintNode>(
 #[tactic(auto, unfolding(crate::specs::Place::pen_after))]
 fn print_directives(
     directives: &[Directive],
-    p: &mut Printer,
+    p: &mut Printer<'_>,
     settings: Settings,
 ) -> Result<(), Memory>
     ensures { Reaches result (pen_of p.old) (pen_of p.new) (layout (spell_directives (trees (map directive_row directives.now)) (settings_of settings)) (pen_of p.old)) }
@@ -50,7 +50,7 @@ fn print_directives(
 }
 
 #[tactic(auto, unfolding(crate::specs::Place::pen_after))]
-pub fn print_directive(node: &Directive, p: &mut Printer, place: Place) -> Result<(), Memory>
+pub fn print_directive(node: &Directive, p: &mut Printer<'_>, place: Place) -> Result<(), Memory>
     ensures { Reaches result (pen_of p.old) (pen_of p.new) (pen_after (directive_row node.now) place p.old) }
 {
     let _ = place;
@@ -63,7 +63,7 @@ pub fn print_directive(node: &Directive, p: &mut Printer, place: Place) -> Resul
 #[tactic(auto, unfolding(crate::specs::Place::pen_after))]
 fn print_first_statement<N: PrintNode>(
     statement: &N,
-    p: &mut Printer,
+    p: &mut Printer<'_>,
     place: Place,
 ) -> Result<(), Memory>
     ensures { Reaches result (pen_of p.old) (pen_of p.new) (layout (first_statement (N.plain statement.now) (spell (N.plain statement.now) (place_of place (pen_of p.old))))
@@ -88,7 +88,7 @@ impl<N: PrintNode> PrintStatement<StatementNode<N>> for Statements {
 
     fn print_statement(
         statement: &StatementNode<N>,
-        p: &mut Printer,
+        p: &mut Printer<'_>,
         place: Place,
     ) -> Result<(), Memory> {
         statement.get().print(p, place)
@@ -96,7 +96,7 @@ impl<N: PrintNode> PrintStatement<StatementNode<N>> for Statements {
 
     fn print_first_statement(
         statement: &StatementNode<N>,
-        p: &mut Printer,
+        p: &mut Printer<'_>,
         place: Place,
     ) -> Result<(), Memory> {
         print_first_statement(statement.get(), p, place)
@@ -106,7 +106,7 @@ impl<N: PrintNode> PrintStatement<StatementNode<N>> for Statements {
 #[tactic(auto, unfolding(crate::specs::Place::pen_after))]
 pub fn print_expression_statement<N: PrintNode>(
     node: &ExpressionStatement<N>,
-    p: &mut Printer,
+    p: &mut Printer<'_>,
     place: Place,
 ) -> Result<(), Memory>
     ensures { Reaches result (pen_of p.old) (pen_of p.new) (pen_after (expression_statement_row N.plain node.now) place p.old) }
@@ -122,7 +122,7 @@ pub fn print_expression_statement<N: PrintNode>(
 #[tactic(auto, unfolding(crate::specs::Place::pen_after))]
 pub fn print_variable_declaration<N: PrintNode>(
     node: &VariableDeclaration<N>,
-    p: &mut Printer,
+    p: &mut Printer<'_>,
     place: Place,
 ) -> Result<(), Memory>
     ensures { Reaches result (pen_of p.old) (pen_of p.new) (pen_after (variable_declaration_row N.plain node.now) place p.old) }
@@ -140,7 +140,7 @@ pub fn print_variable_declaration<N: PrintNode>(
 #[tactic(auto, unfolding(crate::specs::Place::pen_after))]
 fn print_declarators<N: PrintNode>(
     node: &VariableDeclaration<N>,
-    p: &mut Printer,
+    p: &mut Printer<'_>,
     place: Place,
 ) -> Result<(), Memory>
     ensures { Reaches result (pen_of p.old) (pen_of p.new) (layout (word (declaration_word node.now.kind)
@@ -167,7 +167,7 @@ impl<N: PrintNode> PrintMember<VariableDeclarator<N>> for Declarators {
 
     fn print_member(
         declarator: &VariableDeclarator<N>,
-        p: &mut Printer,
+        p: &mut Printer<'_>,
         place: Place,
     ) -> Result<(), Memory> {
         print_variable_declarator(declarator, p, place)
@@ -177,7 +177,7 @@ impl<N: PrintNode> PrintMember<VariableDeclarator<N>> for Declarators {
 #[tactic(auto, unfolding(crate::specs::Place::pen_after))]
 pub fn print_variable_declarator<N: PrintNode>(
     node: &VariableDeclarator<N>,
-    p: &mut Printer,
+    p: &mut Printer<'_>,
     place: Place,
 ) -> Result<(), Memory>
     ensures { Reaches result (pen_of p.old) (pen_of p.new) (pen_after (variable_declarator_row N.plain node.now) place p.old) }
@@ -189,11 +189,11 @@ pub fn print_variable_declarator<N: PrintNode>(
 #[tactic(auto, unfolding(crate::specs::Place::pen_after))]
 pub fn print_binding_identifier(
     node: &BindingIdentifier,
-    p: &mut Printer,
+    p: &mut Printer<'_>,
     place: Place,
 ) -> Result<(), Memory>
     ensures { Reaches result (pen_of p.old) (pen_of p.new) (pen_after (binding_identifier_row node.now) place p.old) }
 {
     let _ = place;
-    p.print_name(node.name.as_str())
+    p.print_binding(node.name.as_str(), node.symbol)
 }

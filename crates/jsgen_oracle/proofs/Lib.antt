@@ -14,3 +14,4 @@ pub mod Refused
 pub mod Joined
 pub mod Negative
 pub mod Forms
+pub mod Renamed

@@ -2,6 +2,8 @@
 ghost use Rattle.std.specs.Prelude.{◌≡◌, ◌∷◌, [], map, option_map, IfOk};
 ghost use Rattle.jsgen_tree.specs.Tree.{trees, optional};
 ghost use Rattle.jsgen_tree.specs.Rows.{formal_parameter_row, formal_parameter_rest_row, formal_parameters_row, arrow_function_expression_row, in_arrow_function_body};
+ghost use Rattle.jsgen_tree.specs.Scoping.{tables_plain};
+ghost use Rattle.jsgen_model.specs.Renamed.{renamed, renamed_maybe, renamed_trees};
 ghost use Rattle.jsgen_model.specs.Normal.{normal, normal_maybe, normal_trees};
 ghost use Rattle.jsgen_oracle.specs.Form.{form_plain, forms_plain, optional_plain};
 ghost use Rattle.jsgen_oracle.specs.declared.form.Value.TheVariants.{Nothing};
@@ -12,19 +14,20 @@ use crate::shape::{row_of_two, single};
 use jsgen_syntax::Memory;
 use jsgen_tree::{
     ArrowFunctionBody, ArrowFunctionExpression, FormalParameter, FormalParameterRest,
-    FormalParameters, NodeType,
+    FormalParameters, NodeType, Tables,
 };
 use std::alloc::Global;
 
 pub(crate) fn arrow_function_form<N: NormalNode>(
     alloc: Global,
+    tables: Tables<'_>,
     node: &ArrowFunctionExpression<N>,
 ) -> Result<Form, Memory>
-    ensures { IfOk result (λ f. form_plain f ≡ normal (arrow_function_expression_row N.plain node.now)) }
+    ensures { IfOk result (λ f. form_plain f ≡ normal (renamed (tables_plain tables.entry) (arrow_function_expression_row N.plain node.now))) }
 {
     let values = three_of_nothing(alloc)?;
-    let params = parameters_form(alloc, &node.params)?;
-    let body = body_form(alloc, &node.body)?;
+    let params = parameters_form(alloc, tables, &node.params)?;
+    let body = body_form(alloc, tables, &node.body)?;
     row_of_two(
         alloc,
         NodeType::ArrowFunctionExpression,
@@ -41,19 +44,27 @@ fn three_of_nothing(alloc: Global) -> Result<Vec<Value>, Memory>
     Ok(vec![in alloc; Value::Nothing, Value::Nothing, Value::Nothing]?)
 }
 
-fn body_form<N: NormalNode>(alloc: Global, body: &ArrowFunctionBody<N>) -> Result<Form, Memory>
-    ensures { IfOk result (λ f. form_plain f ≡ normal (in_arrow_function_body N.plain body.now)) }
+fn body_form<N: NormalNode>(
+    alloc: Global,
+    tables: Tables<'_>,
+    body: &ArrowFunctionBody<N>,
+) -> Result<Form, Memory>
+    ensures { IfOk result (λ f. form_plain f ≡ normal (renamed (tables_plain tables.entry) (in_arrow_function_body N.plain body.now))) }
 {
     match body {
-        ArrowFunctionBody::Expression(expression) => expression.get().normal_form(alloc),
+        ArrowFunctionBody::Expression(expression) => expression.get().normal_form(alloc, tables),
     }
 }
 
-fn parameters_form<N: NormalNode>(alloc: Global, node: &FormalParameters<N>) -> Result<Form, Memory>
-    ensures { IfOk result (λ f. form_plain f ≡ normal (formal_parameters_row N.plain node.now)) }
+fn parameters_form<N: NormalNode>(
+    alloc: Global,
+    tables: Tables<'_>,
+    node: &FormalParameters<N>,
+) -> Result<Form, Memory>
+    ensures { IfOk result (λ f. form_plain f ≡ normal (renamed (tables_plain tables.entry) (formal_parameters_row N.plain node.now))) }
 {
-    let items = parameter_forms(alloc, &node.items)?;
-    let rest = optional_rest_form(alloc, &node.rest)?;
+    let items = parameter_forms(alloc, tables, &node.items)?;
+    let rest = optional_rest_form(alloc, tables, &node.rest)?;
     row_of_two(
         alloc,
         NodeType::FormalParameters,
@@ -65,23 +76,28 @@ fn parameters_form<N: NormalNode>(alloc: Global, node: &FormalParameters<N>) -> 
 
 fn parameter_forms<N: NormalNode>(
     alloc: Global,
+    tables: Tables<'_>,
     parameters: &[FormalParameter<N>],
 ) -> Result<Vec<Form>, Memory>
-    ensures { IfOk result (λ fs. forms_plain fs.items ≡ normal_trees (trees (map (formal_parameter_row N.plain) parameters.now))) }
+    ensures { IfOk result (λ fs. forms_plain fs.items ≡ normal_trees (renamed_trees (tables_plain tables.entry) (trees (map (formal_parameter_row N.plain) parameters.now)))) }
 {
     let mut forms = Vec::new(alloc);
     for parameter in parameters {
-        forms.push(parameter_form(alloc, parameter)?)?;
+        forms.push(parameter_form(alloc, tables, parameter)?)?;
     }
     Ok(forms)
 }
 
-fn parameter_form<N: NormalNode>(alloc: Global, node: &FormalParameter<N>) -> Result<Form, Memory>
-    ensures { IfOk result (λ f. form_plain f ≡ normal (formal_parameter_row N.plain node.now)) }
+fn parameter_form<N: NormalNode>(
+    alloc: Global,
+    tables: Tables<'_>,
+    node: &FormalParameter<N>,
+) -> Result<Form, Memory>
+    ensures { IfOk result (λ f. form_plain f ≡ normal (renamed (tables_plain tables.entry) (formal_parameter_row N.plain node.now))) }
 {
     let values = three_of_nothing(alloc)?;
-    let pattern = node.pattern.get().normal_form(alloc)?;
-    let initializer = init_form(alloc, &node.initializer)?;
+    let pattern = node.pattern.get().normal_form(alloc, tables)?;
+    let initializer = init_form(alloc, tables, &node.initializer)?;
     row_of_two(
         alloc,
         NodeType::FormalParameter,
@@ -93,18 +109,28 @@ fn parameter_form<N: NormalNode>(alloc: Global, node: &FormalParameter<N>) -> Re
 
 fn optional_rest_form<N: NormalNode>(
     alloc: Global,
+    tables: Tables<'_>,
     rest: &Option<Box<FormalParameterRest<N>>>,
 ) -> Result<Option<Form>, Memory>
-    ensures { IfOk result (λ o. optional_plain o ≡ normal_maybe (optional (option_map (λ b. formal_parameter_rest_row N.plain b.value) rest.now))) }
+    ensures { IfOk result (λ o. optional_plain o ≡ normal_maybe (renamed_maybe (tables_plain tables.entry) (optional (option_map (λ b. formal_parameter_rest_row N.plain b.value) rest.now)))) }
 {
     match rest {
-        Some(rest) => Ok(Some(rest_form(alloc, rest)?)),
+        Some(rest) => Ok(Some(rest_form(alloc, tables, rest)?)),
         None => Ok(None),
     }
 }
 
-fn rest_form<N: NormalNode>(alloc: Global, node: &FormalParameterRest<N>) -> Result<Form, Memory>
-    ensures { IfOk result (λ f. form_plain f ≡ normal (formal_parameter_rest_row N.plain node.now)) }
+fn rest_form<N: NormalNode>(
+    alloc: Global,
+    tables: Tables<'_>,
+    node: &FormalParameterRest<N>,
+) -> Result<Form, Memory>
+    ensures { IfOk result (λ f. form_plain f ≡ normal (renamed (tables_plain tables.entry) (formal_parameter_rest_row N.plain node.now))) }
 {
-    single(alloc, NodeType::FormalParameterRest, node.argument.get())
+    single(
+        alloc,
+        tables,
+        NodeType::FormalParameterRest,
+        node.argument.get(),
+    )
 }

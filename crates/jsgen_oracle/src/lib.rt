@@ -4,6 +4,8 @@
 ghost use Rattle.std.specs.Prelude.{◌≡◌, IfOk, MatchOption};
 ghost use Rattle.std.specs.Str.{chars};
 ghost use Rattle.jsgen_tree.specs.Plain.{program_plain};
+ghost use Rattle.jsgen_tree.specs.Scoping.{tables_plain};
+ghost use Rattle.jsgen_model.specs.Renamed.{renamed};
 ghost use Rattle.jsgen_model.specs.Tokens.{AreTokensOf};
 ghost use Rattle.jsgen_model.specs.Normal.{normal};
 ghost use Rattle.jsgen_oracle.specs.Plain.{tokens_plain};
@@ -18,9 +20,11 @@ mod characters;
 mod directive;
 mod form;
 mod functions;
+mod names;
 mod normal;
 mod number;
 mod number_forms;
+mod objects;
 mod punctuator;
 mod row;
 mod shape;
@@ -32,7 +36,7 @@ use characters::characters_of;
 pub use directive::directive_value_of;
 pub use form::{Form, Slot, Value};
 use jsgen_syntax::Memory;
-use jsgen_tree::Program;
+use jsgen_tree::{Program, Tables};
 use normal::program_form;
 pub use punctuator::Punctuator;
 use row::take_row;
@@ -58,12 +62,12 @@ pub fn tokens_of(alloc: Global, text: &str) -> Result<Option<Vec<Token>>, Memory
     }
 }
 
-/// The normal form of a program (docs/DEFINITIONS.md): what it has in common with each program of the same meaning.
-/// Goes over the tree node by node, and copies each name.
-pub fn normal_form(alloc: Global, program: &Program) -> Result<Form, Memory>
-    ensures { IfOk result (λ f. form_plain f ≡ normal (program_plain program.now)) }
+/// The normal form of a program whose names are those that are printed for them by these tables (docs/DEFINITIONS.md): what it has
+/// in common with each program of the same meaning. Goes over the tree node by node, and copies each name.
+pub fn normal_form(alloc: Global, tables: Tables<'_>, program: &Program) -> Result<Form, Memory>
+    ensures { IfOk result (λ f. form_plain f ≡ normal (renamed (tables_plain tables.entry) (program_plain program.now))) }
 {
-    program_form(alloc, program)
+    program_form(alloc, tables, program)
 }
 
 /// A few texts spell a number by the model, and a few don't, as ECMA-262 has it.

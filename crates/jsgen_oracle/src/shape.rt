@@ -1,9 +1,9 @@
 // Nodes by the shape of their rows, and nodes taken apart.
 ghost use Rattle.std.specs.Prelude.{◌≡◌, [], ◌∷◌, map, IfOk};
-ghost use Rattle.jsgen_tree.specs.Atom.{no_value, text};
-ghost use Rattle.jsgen_tree.specs.Characters.{characters};
 ghost use Rattle.jsgen_tree.specs.Tree.{node, no_slots, one, many};
 ghost use Rattle.jsgen_tree.specs.Places.{bare};
+ghost use Rattle.jsgen_tree.specs.Scoping.{tables_plain};
+ghost use Rattle.jsgen_model.specs.Renamed.{renamed};
 ghost use Rattle.jsgen_model.specs.Normal.{normal};
 ghost use Rattle.jsgen_oracle.specs.Form.{form_plain, forms_plain, holed_plain, value_plain, before, is_list};
 ghost use Rattle.jsgen_oracle.specs.Only.{slots_again, is_told_list};
@@ -11,7 +11,7 @@ ghost use Rattle.jsgen_oracle.specs.Only.{slots_again, is_told_list};
 use crate::form::{Form, Slot, Value};
 use crate::normal::NormalNode;
 use jsgen_syntax::Memory;
-use jsgen_tree::NodeType;
+use jsgen_tree::{NodeType, Tables};
 use std::alloc::Global;
 
 /// The values of a row that has one.
@@ -45,15 +45,6 @@ pub(crate) fn literal(alloc: Global, node_type: NodeType, value: Value) -> Resul
     ensures { IfOk result (λ f. form_plain f ≡ node node_type (bare (value_plain value ∷ [])) no_slots) }
 {
     let values = one_value(alloc, value)?;
-    Ok(leaf(alloc, node_type, values))
-}
-
-/// A row of one name, without the number by which a table knows it.
-pub(crate) fn identifier(alloc: Global, node_type: NodeType, name: &String) -> Result<Form, Memory>
-    ensures { IfOk result (λ f. form_plain f ≡ node node_type (bare (text (characters name.now) ∷ no_value ∷ [])) no_slots) }
-{
-    let name = name.clone()?;
-    let values = two_values(alloc, Value::Text(name), Value::Nothing)?;
     Ok(leaf(alloc, node_type, values))
 }
 
@@ -97,42 +88,45 @@ pub(crate) fn row_of_two(
 /// A row of one child.
 pub(crate) fn single<N: NormalNode>(
     alloc: Global,
+    tables: Tables<'_>,
     node_type: NodeType,
     child: &N,
 ) -> Result<Form, Memory>
-    ensures { IfOk result (λ f. form_plain f ≡ node node_type (bare []) (one (normal (N.plain child.now)) no_slots)) }
+    ensures { IfOk result (λ f. form_plain f ≡ node node_type (bare []) (one (normal (renamed (tables_plain tables.entry) (N.plain child.now))) no_slots)) }
 {
-    let child = child.normal_form(alloc)?;
+    let child = child.normal_form(alloc, tables)?;
     row(alloc, node_type, Vec::new(alloc), Slot::One(child))
 }
 
 /// A row of one value and one child.
 pub(crate) fn single_by<N: NormalNode>(
     alloc: Global,
+    tables: Tables<'_>,
     node_type: NodeType,
     value: Value,
     child: &N,
 ) -> Result<Form, Memory>
-    ensures { IfOk result (λ f. form_plain f ≡ node node_type (bare (value_plain value ∷ [])) (one (normal (N.plain child.now)) no_slots)) }
+    ensures { IfOk result (λ f. form_plain f ≡ node node_type (bare (value_plain value ∷ [])) (one (normal (renamed (tables_plain tables.entry) (N.plain child.now))) no_slots)) }
 {
     let values = one_value(alloc, value)?;
-    let child = child.normal_form(alloc)?;
+    let child = child.normal_form(alloc, tables)?;
     row(alloc, node_type, values, Slot::One(child))
 }
 
 /// A row of one value and two children.
 pub(crate) fn pair<N: NormalNode>(
     alloc: Global,
+    tables: Tables<'_>,
     node_type: NodeType,
     value: Value,
     first: &N,
     second: &N,
 ) -> Result<Form, Memory>
-    ensures { IfOk result (λ f. form_plain f ≡ node node_type (bare (value_plain value ∷ [])) (one (normal (N.plain first.now)) (one (normal (N.plain second.now)) no_slots))) }
+    ensures { IfOk result (λ f. form_plain f ≡ node node_type (bare (value_plain value ∷ [])) (one (normal (renamed (tables_plain tables.entry) (N.plain first.now))) (one (normal (renamed (tables_plain tables.entry) (N.plain second.now))) no_slots))) }
 {
     let values = one_value(alloc, value)?;
-    let first = first.normal_form(alloc)?;
-    let second = second.normal_form(alloc)?;
+    let first = first.normal_form(alloc, tables)?;
+    let second = second.normal_form(alloc, tables)?;
     row_of_two(
         alloc,
         node_type,

@@ -2,7 +2,6 @@
 use Rattle.std.specs.Prelude.{Bool, true, false}
 use Rattle.jsgen_syntax.specs.declared.precedence.Precedence.TheVariants.{Lowest}
 use Rattle.jsgen_tree.specs.Tree.{Tree}
-use Rattle.jsgen_tree.specs.Job.{no_tables}
 use Rattle.jsgen_model.specs.Layout.{Pen}
 use Rattle.jsgen_model.specs.Spell as spells
 use Rattle.jsgen_model.specs.Spell.{is_prefixed, mixes}
@@ -15,7 +14,7 @@ abbrev pub context_of : Context → spells.Context
 context_of context = record { forbids_in = context.forbids_in; forbids_call = context.forbids_call }
 
 abbrev pub settings_of : Settings → spells.Settings
-settings_of settings = record { minified = settings.minified; tables = no_tables }
+settings_of settings = record { minified = settings.minified }
 
 -- what begins with a node is what begins at the pen
 abbrev pub place_of : Place → Pen → spells.Place

@@ -1,9 +1,9 @@
 -- Where memory runs out among steps in a row: what a step left is what the whole left, since the steps behind it only append.
-use Rattle.std.proofs.Common.{◌≡◌, ℕ, codes, Bool, true, false, List, [], ◌∷◌, ◌++◌, Result, Ok, Err, IsErr, subst, ◌∙◌, append_assoc}
+use Rattle.std.proofs.Common.{◌≡◌, ℕ, codes, Bool, true, false, List, [], ◌∷◌, ◌++◌, Result, Ok, Err, IsErr, subst, ◌∙◌, append_assoc, if◌then◌else◌}
 use Rattle.std.specs.Str.{chars}
 use Rattle.jsgen_model.specs.Punctuator.{Bracket, Round, opening, closing}
-use Rattle.jsgen_model.specs.Items.{Items, ◌⊕◌, indentation, deeper, brackets, wrapped, statement_end}
-use Rattle.jsgen_model.specs.Layout.{Pen, Ending, space_if, layout, written, written_if, text_if, other_end, indented, indent_or_space, at_indentation, end_statement, deeper_level}
+use Rattle.jsgen_model.specs.Items.{Items, ◌⊕◌, indentation, deeper, brackets, wrapped, where_same, statement_end}
+use Rattle.jsgen_model.specs.Layout.{Pen, Ending, space_if, layout, written, written_if, text_if, other_end, indented, indent_or_space, at_indentation, end_statement, deeper_level, are_same}
 use Rattle.jsgen_model.specs.Printing.{IsPrefix, Stops, Reaches}
 use Rattle.jsgen_printer.proofs.Prefixes.{whole_prefix, prefix_append, more_prefix, prefix_of_prefix, prefix_behind}
 use Rattle.jsgen_printer.proofs.Texts.{written_apart}
@@ -26,11 +26,16 @@ end_appends : (minified : Bool) (pen : Pen) → IsPrefix pen.code (end_statement
 end_appends true pen = whole_prefix pen.code
 end_appends false pen = prefix_append pen.code _
 
+either_appends : (test : Bool) (code : List ℕ) (a b : Pen) → IsPrefix code a.code → IsPrefix code b.code → IsPrefix code (if test then a else b).code
+either_appends true code a b p q = p
+either_appends false code a b p q = q
+
 pub layout_appends : (items : Items) (pen : Pen) → IsPrefix pen.code (layout items pen).code
 layout_appends (a ⊕ b) pen = prefix_of_prefix (layout_appends a pen) (layout_appends b (layout a pen))
 layout_appends (deeper a) pen = layout_appends a (record pen { depth = deeper_level pen.style.minified pen.depth })
 layout_appends (brackets b a) pen = more_prefix (closing b) (prefix_of_prefix (prefix_append pen.code (opening b)) (layout_appends a (written (opening b) other_end pen)))
 layout_appends (wrapped test a) pen = more_prefix (text_if test (closing Round)) (prefix_of_prefix (prefix_append pen.code (text_if test (opening Round))) (layout_appends a (written_if test (opening Round) pen)))
+layout_appends (where_same m n a b) pen = either_appends (are_same pen.style.tables m n) pen.code (layout a pen) (layout b pen) (layout_appends a pen) (layout_appends b pen)
 layout_appends indentation pen = indentation_appends pen.style.minified pen
 layout_appends statement_end pen = end_appends pen.style.minified pen
 layout_appends item pen = search (whole_prefix, prefix_append)

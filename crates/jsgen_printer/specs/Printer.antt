@@ -4,6 +4,8 @@ use Rattle.std.specs.List.{list_all}
 use Rattle.std.specs.Str.{chars}
 use Rattle.jsgen_syntax.specs.Buffer.{buffer_bytes, indent_byte, indent_width}
 use Rattle.jsgen_syntax.specs.Escapes.{name_text, has_escapes}
+use Rattle.jsgen_tree.specs.Job.{Tables}
+use Rattle.jsgen_tree.specs.Scoping.{tables_plain}
 use Rattle.jsgen_model.specs.Punctuator as punctuators
 use Rattle.jsgen_model.specs.Layout as layouts
 use Rattle.jsgen_model.specs.Layout.{Pen, written, is_apart, joins, name_ending, deeper_level}
@@ -55,7 +57,7 @@ start_of starts.ArrowBody = layouts.arrow_body
 -- the pen, whose code is the characters of the buffer's bytes
 unfoldable pub pen_of : Printer → Pen
 pen_of p = record {
-  style = record { minified = p.minify; ascii = p.ascii_only; quote = p.quote; indent = indent_byte p.code; width = indent_width p.code };
+  style = record { minified = p.minify; ascii = p.ascii_only; quote = p.quote; indent = indent_byte p.code; width = indent_width p.code; tables = tables_plain p.tables };
   code = chars (buffer_bytes p.code);
   depth = p.depth;
   pending_space = p.pending_space;
@@ -63,6 +65,10 @@ pen_of p = record {
   ending = ending_of p.ending;
   start = start_of p.start;
 }
+
+-- the same pen, by whose tables names are printed from here on
+abbrev pub by_tables : Tables → Pen → Pen
+by_tables tables pen = record pen { style = record pen.style { tables = tables } }
 
 -- the pen behind a name that no space stands before
 abbrev pub name_written : List ℕ → Pen → Pen

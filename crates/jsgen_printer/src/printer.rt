@@ -8,6 +8,7 @@ ghost use Rattle.jsgen_model.specs.Layout.{but_backticks};
 use crate::operator::Operator;
 
 mod handed;
+mod names;
 mod numbers;
 
 use jsgen_syntax::{
@@ -17,7 +18,7 @@ use jsgen_syntax::{
 use jsgen_text::{
     cheapest_quote, directive_quote, print_directive_raw, print_name_text, print_string_text,
 };
-use jsgen_tree::CodegenOptions;
+use jsgen_tree::{CodegenOptions, Tables};
 use std::alloc::Global;
 
 /// What the code so far ends in, as far as it matters to what follows.
@@ -50,8 +51,9 @@ pub enum Bracket {
 
 /// A text that is being printed.
 #[derive(Drop)]
-pub struct Printer {
+pub struct Printer<'a> {
     code: CodeBuffer,
+    tables: Tables<'a>,
     width: usize,
     minify: bool,
     ascii_only: bool,
@@ -65,27 +67,30 @@ pub struct Printer {
 }
 
 #[tactic(auto, using(crate::proofs::Texts::ascii_chars), unfolding(crate::specs::Printer::pen_of))]
-impl Printer {
+impl<'a> Printer<'a> {
     ghost use Rattle.std.specs.Prelude.{IfOk, [], ◌∷◌, ◌++◌, replicate, string_bytes, true, IsTrue};
     ghost use Rattle.std.specs.Str.{chars, encode_utf8_all};
     ghost use Rattle.jsgen_model.specs.Punctuator.{Round, opening, closing, ellipsis, comma, semicolon, equal, plus, minus, equal_equal, equal_equal_equal, plus_plus, minus_minus, colon, question, question_dot, arrow};
-    ghost use Rattle.jsgen_model.specs.Items.{word, name, string, first_string, directive, member_dot, punctuator, soft_space, soft_line, hard_space, indentation, body_space, statement_end, due_semicolon, drop_semicolon, statement_begins, arrow_body_begins};
+    ghost use Rattle.jsgen_model.specs.Items.{word, string, first_string, directive, member_dot, punctuator, soft_space, soft_line, hard_space, indentation, body_space, statement_end, due_semicolon, drop_semicolon, statement_begins, arrow_body_begins};
     ghost use Rattle.jsgen_model.specs.Printing.{Reaches};
     ghost use Rattle.jsgen_model.specs.Layout.{layout, written, written_if, other_end, space_if, ends_in_word, ends_in_escapes, is_apart, name_ending, joins, dot_joins, indented, ends_in_less_bang, chosen_quote, deeper_level, empty_pen, style_of};
     ghost use Rattle.jsgen_syntax.specs.Buffer.{indent_byte};
     ghost use Rattle.jsgen_tree.specs.Options.{options_plain};
+    ghost use Rattle.jsgen_tree.specs.Job.{no_tables};
+    ghost use Rattle.jsgen_tree.specs.Scoping.{tables_plain};
     ghost use Rattle.jsgen_syntax.specs.Units.{js_units};
     ghost use Rattle.jsgen_syntax.specs.Strings.{quote_char, quoted};
     ghost use Rattle.jsgen_syntax.specs.Raw.{directive_text};
     ghost use Rattle.jsgen_model.specs.Spell.{operator_item, unary_sign, behind_unary, update_item, logical_item, assignment_item, bars_brace};
-    ghost use Rattle.jsgen_printer.specs.Printer.{bracket_of, pen_of, ending_of, stands_apart, name_written, is_ascii, deepened, at_depth};
+    ghost use Rattle.jsgen_printer.specs.Printer.{bracket_of, pen_of, ending_of, stands_apart, name_written, by_tables, is_ascii, deepened, at_depth};
 
     /// A printer that has printed nothing.
-    pub fn new(alloc: Global, options: &CodegenOptions) -> Printer
-        ensures { pen_of result ≡ empty_pen (style_of (options_plain options.now)) 0 }
+    pub fn new(alloc: Global, options: &CodegenOptions) -> Printer<'a>
+        ensures { pen_of result ≡ empty_pen (style_of (options_plain options.now) no_tables) 0 }
     {
         Printer {
             code: CodeBuffer::with_indent(alloc, options.indent_char, options.indent_width),
+            tables: Tables::none(),
             width: options.indent_width,
             minify: options.minify,
             ascii_only: options.ascii_only,
@@ -96,6 +101,15 @@ impl Printer {
             ending: Ending::Other,
             start: Start::Statement,
         }
+    }
+
+    /// From here on names are printed by these tables.
+    pub fn with_tables(self, tables: Tables<'a>) -> Printer<'a>
+        ensures { pen_of result ≡ by_tables (tables_plain tables.entry) (pen_of self.entry) }
+    {
+        let mut printer = self;
+        printer.tables = tables;
+        printer
     }
 
     /// Whether the text is minified.
@@ -246,15 +260,6 @@ impl Printer {
     {
         let apart = self.is_apart();
         self.print_apart(apart, text, Ending::Other)
-    }
-
-    pub fn print_name(&mut self, text: &str) -> Result<(), Memory>
-        ensures { Reaches result (pen_of self.old) (pen_of self.new)
-            (layout (name (chars text.now)) (pen_of self.old)) }
-    {
-        let apart = self.is_apart();
-        self.print_if(apart, " ")?;
-        self.print_bare_name(text)
     }
 
     // The code goes on with a name, which needs no space before it.
@@ -647,7 +652,7 @@ impl Printer {
 
     /// The text, and nothing is copied.
     pub fn into_string(self) -> String
-        ensures { string_bytes result ≡ encode_utf8_all (pen_of self).code }
+        ensures { string_bytes result ≡ encode_utf8_all (pen_of self.entry).code }
     {
         self.code.into_string()
     }

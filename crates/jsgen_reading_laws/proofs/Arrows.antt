@@ -2,6 +2,7 @@
 use Rattle.std.proofs.Common.{◌≡◌, Bool, true, false, [], ◌∷◌, refl, sym, ap, ◌∙◌, subst}
 use Rattle.std.proofs.lemmas.Bool.{both_ways, or_parts}
 use Rattle.jsgen_syntax.specs.declared.precedence.Precedence.TheVariants as levels
+use Rattle.jsgen_tree.specs.Job.{Tables}
 use Rattle.jsgen_tree.specs.Atom.{no_value}
 use Rattle.jsgen_tree.specs.Tree.{Tree, Atoms}
 use Rattle.jsgen_tree.specs.Places.{bare}
@@ -14,6 +15,7 @@ use Rattle.jsgen_model.specs.Layout.{Pen, Start, arrow_body, layout, unless_prin
 use Rattle.jsgen_model.specs.Grammar.{Allowed, ReadsArrowParameters, in_arrow_body, starts_in_brace}
 use Rattle.jsgen_model.specs.Grammar as grammar
 use Rattle.jsgen_model.specs.Normal.{normal, nothing_of}
+use Rattle.jsgen_model.specs.Renamed.{renamed}
 use Rattle.jsgen_model.specs.Spell.{Place, spell, within, wraps, is_bare, parameter_items, arrow_wraps, parameters_place, arrow_body_place}
 use Rattle.jsgen_token_laws.proofs.Last.{Last, After, line_of, Ready, Knows}
 use Rattle.jsgen_token_laws.proofs.Writes.{Writes, wrote_both, then_done}
@@ -31,9 +33,9 @@ brace_barred (group mark Brace inside ts) h = absurd (both_ways false refl h)
 brace_barred ts h = refl
 
 -- from the parameters, a blank, the arrow, a blank, what begins there and the body
-arrow_parts : (c : Allowed) (a : Atoms) (t e : Tree) (start : Start) (p p1 p2 p3 p4 p5 q : Pen) (l : Last) → arrow_function_expression_is_async a ≡ no_value → (g : GoodAs (ReadsArrowParameters c) p l p1 start t) → line_of g.last ≡ false → (s : Soft p1 g.last p2) → Writes p2 s.last p3 (After (Sign arrow)) (piece (line_of s.last) (Sign arrow) done) → (n : Soft p3 (After (Sign arrow)) p4) (m : Soft p4 n.last p5)
-    → Good p5 m.last q (in_arrow_body c) grammar.Assignment arrow_body e → Good p l q c grammar.Assignment start (tree.arrow_function a t e)
-arrow_parts c a t e start p p1 p2 p3 p4 p5 q l h g one_line s w n m i =
+arrow_parts : {names : Tables} (c : Allowed) (a : Atoms) (t e : Tree) (start : Start) (p p1 p2 p3 p4 p5 q : Pen) (l : Last) → arrow_function_expression_is_async a ≡ no_value → (g : GoodAs names (ReadsArrowParameters c) p l p1 start t) → line_of g.last ≡ false → (s : Soft names p1 g.last p2) → Writes names p2 s.last p3 (After (Sign arrow)) (piece (line_of s.last) (Sign arrow) done) → (n : Soft names p3 (After (Sign arrow)) p4) (m : Soft names p4 n.last p5)
+    → Good names p5 m.last q (in_arrow_body c) grammar.Assignment arrow_body e → Good names p l q c grammar.Assignment start (tree.arrow_function a t e)
+arrow_parts {names} c a t e start p p1 p2 p3 p4 p5 q l h g one_line s w n m i =
     let others : Tokens = piece (line_of s.last) (Sign arrow) i.tokens in
     record {
       last = i.last;
@@ -45,21 +47,21 @@ arrow_parts c a t e start p p1 p2 p3 p4 p5 q l h g one_line s w n m i =
       line = λ b. line_then g.tokens others (g.line b);
       tree = tree.arrow_function (nothing_of 3) g.tree i.tree;
       reads = grammar.an_arrow_function (ap (λ b. g.tokens ⧺ piece b (Sign arrow) i.tokens) (s.line one_line)) g.reads (brace_barred i.tokens (subst (λ ts. no_brace ts ≡ true) (then_done i.tokens) (i.begins done refl))) i.reads;
-      same = same_arrow a g.tree i.tree t e h g.same i.same;
+      same = same_arrow a g.tree i.tree (renamed names t) (renamed names e) h g.same i.same;
     }
 
 abbrev items_of : Atoms → Tree → Tree → Place → Bool → Items
 items_of a t e place w = parameter_items (is_bare place.settings t) (spell t (parameters_place place)) ⊕ (soft_space ⊕ (punctuator arrow ⊕ (soft_space ⊕ (arrow_body_begins ⊕ spell e (arrow_body_place (within w place))))))
 
-pub good_arrow_function : (c : Allowed) (a : Atoms) (t e : Tree) → arrow_function_expression_is_async a ≡ no_value → ArrowParametersOf c t → Printed (in_arrow_body c) e → Printed c (tree.arrow_function a t e)
-good_arrow_function c a t e h f body place =
+pub good_arrow_function : {names : Tables} (c : Allowed) (a : Atoms) (t e : Tree) → arrow_function_expression_is_async a ≡ no_value → ArrowParametersOf names c t → Printed names (in_arrow_body c) e → Printed names c (tree.arrow_function a t e)
+good_arrow_function {names} c a t e h f body place =
     good_wrapped c place grammar.Assignment (arrow_wraps pife place) (items_of a t e place) (tree.arrow_function a t e)
     (λ d ts u r. grammar.an_assignment r) (λ n ts u r. unwrapped levels.Assign place (or_parts pife (wraps levels.Assign place) n).1 r) inner
   where
     pife : Bool
     pife = arrow_function_expression_pife a
 
-    inner : (v : Bool) → arrow_wraps pife place ≡ v → (p : Pen) (l : Last) → p.pending_semicolon ≡ false → Ready l → Knows p l → Good p l (layout (items_of a t e place v) p) (under (within v place) c) grammar.Assignment (unless_printed v place.start) (tree.arrow_function a t e)
+    inner : (v : Bool) → arrow_wraps pife place ≡ v → (p : Pen) (l : Last) → p.pending_semicolon ≡ false → Ready l → Knows names p l → Good names p l (layout (items_of a t e place v) p) (under (within v place) c) grammar.Assignment (unless_printed v place.start) (tree.arrow_function a t e)
     inner v n p l z y k =
         let at : Place = within v place in
         let p1 : Pen = layout (parameter_items (is_bare place.settings t) (spell t (parameters_place place))) p in

@@ -3,6 +3,7 @@ use Rattle.std.proofs.Common.{◌≡◌, ℕ, Bool, true, false, cond, Option, S
 use Rattle.std.proofs.lemmas.Bool.{both_ways}
 use Rattle.std.proofs.lemmas.Option.{same_Some}
 use Rattle.jsgen_syntax.specs.Wtf8.{are_units}
+use Rattle.jsgen_tree.specs.Job.{Tables}
 use Rattle.jsgen_tree.specs.Atom.{units}
 use Rattle.jsgen_tree.specs.Tree.{Tree, Atoms, type_of}
 use Rattle.jsgen_tree.specs.Nodes as tree
@@ -12,6 +13,7 @@ use Rattle.jsgen_tree.specs.Sets.{is_expression}
 use Rattle.jsgen_tree.specs.Inside.{without_parentheses, behind_minus}
 use Rattle.jsgen_model.specs.Grammar.{Allowed}
 use Rattle.jsgen_model.specs.Normal.{normal, chain, by_text, number_text, minus_before, big_integer}
+use Rattle.jsgen_model.specs.Renamed.{renamed}
 use Rattle.jsgen_model.specs.Spell.{mixes, is_or_or_and, string_in}
 use Rattle.jsgen_reading_laws.proofs.Families.{IsExpression}
 use Rattle.jsgen_reading_laws.proofs.Families as family
@@ -36,28 +38,28 @@ is_signed (tree.numeric_literal a) = numeric_literal_negative a
 is_signed (tree.big_int_literal a) = is_some (behind_minus (big_int_literal_value a))
 is_signed t = false
 
-abbrev pub IsStringOf : Tree → List ℕ → Type 0
-IsStringOf t us = (are_units us ≡ true) × (normal t ≡ tree.string_literal (bare (units us ∷ [])))
+abbrev pub IsStringOf : Tables → Tree → List ℕ → Type 0
+IsStringOf names t us = (are_units us ≡ true) × (normal (renamed names t) ≡ tree.string_literal (bare (units us ∷ [])))
 
-pub record Asked (t : Tree) : Type 0 where
+pub record Asked (names : Tables) (t : Tree) : Type 0 where
   pub expression : is_expression (type_of t) ≡ true
   -- the normal form tells which operands mix, which are a string, and which are unary operations
-  pub mixed : is_mixed (normal t) ≡ mixes (without_parentheses t)
-  pub string : is_string (normal t) ≡ is_some (string_in (without_parentheses t))
-  pub inside : (us : List ℕ) → string_in (without_parentheses t) ≡ Some us → IsStringOf t us
-  pub unary : is_unary (normal t) ≡ is_signed (without_parentheses t)
+  pub mixed : is_mixed (normal (renamed names t)) ≡ mixes (without_parentheses t)
+  pub string : is_string (normal (renamed names t)) ≡ is_some (string_in (without_parentheses t))
+  pub inside : (us : List ℕ) → string_in (without_parentheses t) ≡ Some us → IsStringOf names t us
+  pub unary : is_unary (normal (renamed names t)) ≡ is_signed (without_parentheses t)
 
 none_is_some : (us : List ℕ) → None ≡ Some us → ⊥
 none_is_some us e = both_ways false refl (ap is_some e)
 
 -- an expression that is no string, and has no parentheses round it
-no_string : {t : Tree} → is_expression (type_of t) ≡ true → is_mixed (normal t) ≡ mixes (without_parentheses t) → is_string (normal t) ≡ false → string_in (without_parentheses t) ≡ None → is_unary (normal t) ≡ is_signed (without_parentheses t) → Asked t
+no_string : {names : Tables} {t : Tree} → is_expression (type_of t) ≡ true → is_mixed (normal (renamed names t)) ≡ mixes (without_parentheses t) → is_string (normal (renamed names t)) ≡ false → string_in (without_parentheses t) ≡ None → is_unary (normal (renamed names t)) ≡ is_signed (without_parentheses t) → Asked names t
 no_string e m s n u = record { expression = e; mixed = m; string = s ∙ sym (ap is_some n); inside = λ us h. absurd (none_is_some us (sym n ∙ h)); unary = u }
 
 abbrev number_form : Atoms → Tree
 number_form a = tree.numeric_literal (by_text (number_text (numeric_literal_kind a) a))
 
-asked_number : (a : Atoms) (b : Bool) → numeric_literal_negative a ≡ b → Asked (tree.numeric_literal a)
+asked_number : {names : Tables} (a : Atoms) (b : Bool) → numeric_literal_negative a ≡ b → Asked names (tree.numeric_literal a)
 asked_number a b e = no_string refl (ap is_mixed (form b e) ∙ plain b) (ap is_string (form b e) ∙ plain_string b) refl (ap is_unary (form b e) ∙ told b ∙ sym e)
   where
     form : (b : Bool) → numeric_literal_negative a ≡ b → normal (tree.numeric_literal a) ≡ minus_before b (number_form a)
@@ -75,7 +77,7 @@ asked_number a b e = no_string refl (ap is_mixed (form b e) ∙ plain b) (ap is_
     told true = refl
     told false = refl
 
-asked_big_integer : (a : Atoms) (o : Option (List ℕ)) → behind_minus (big_int_literal_value a) ≡ o → Asked (tree.big_int_literal a)
+asked_big_integer : {names : Tables} (a : Atoms) (o : Option (List ℕ)) → behind_minus (big_int_literal_value a) ≡ o → Asked names (tree.big_int_literal a)
 asked_big_integer a o e = no_string refl (ap is_mixed form ∙ plain o) (ap is_string form ∙ plain_string o) refl (ap is_unary form ∙ told o ∙ sym (ap is_some e))
   where
     form : normal (tree.big_int_literal a) ≡ big_integer (big_int_literal_value a) o
@@ -93,7 +95,7 @@ asked_big_integer a o e = no_string refl (ap is_mixed form ∙ plain o) (ap is_s
     told (Some w) = refl
     told None = refl
 
-pub asked : {c : Allowed} {t : Tree} → IsExpression c t → Asked t
+pub asked : {names : Tables} {c : Allowed} {t : Tree} → IsExpression names c t → Asked names t
 asked (family.a_reference h) = no_string refl refl refl refl refl
 asked family.a_this = no_string refl refl refl refl refl
 asked family.a_null = no_string refl refl refl refl refl
@@ -107,13 +109,13 @@ asked (family.a_string {a} h) = record {
   inside = λ us s. let e = same_Some (string_literal_value a) us s in (subst (λ x. are_units x ≡ true) e h, ap (λ x. tree.string_literal (bare (units x ∷ []))) e);
   unary = refl;
 }
-asked (family.in_parentheses {a} {t} v) =
+asked {names} (family.in_parentheses {a} {t} v) =
     let k = asked v in
     record {
       expression = refl;
       mixed = k.mixed ∙ ap (λ b. mixes (cond b (without_parentheses t) (tree.parenthesized a t))) (sym k.expression);
       string = k.string ∙ ap (λ b. is_some (string_in (cond b (without_parentheses t) (tree.parenthesized a t)))) (sym k.expression);
-      inside = λ us s. subst (λ b. string_in (cond b (without_parentheses t) (tree.parenthesized a t)) ≡ Some us → IsStringOf t us) (sym k.expression) (k.inside us) s;
+      inside = λ us s. subst (λ b. string_in (cond b (without_parentheses t) (tree.parenthesized a t)) ≡ Some us → IsStringOf names t us) (sym k.expression) (k.inside us) s;
       unary = k.unary ∙ ap (λ b. is_signed (cond b (without_parentheses t) (tree.parenthesized a t))) (sym k.expression);
     }
 asked (family.a_named_member m v h) = no_string refl refl refl refl refl

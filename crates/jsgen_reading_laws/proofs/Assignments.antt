@@ -3,6 +3,7 @@ use Rattle.std.proofs.Common.{◌≡◌, Bool, false, Some, [], ◌∷◌, refl,
 use Rattle.jsgen_syntax.specs.declared.operator.AssignmentOperator.{AssignmentOperator}
 use Rattle.jsgen_syntax.specs.declared.operator.AssignmentOperator.TheVariants as operators
 use Rattle.jsgen_syntax.specs.declared.precedence.Precedence.TheVariants as levels
+use Rattle.jsgen_tree.specs.Job.{Tables}
 use Rattle.jsgen_tree.specs.Atom.{assignment_operator}
 use Rattle.jsgen_tree.specs.Tree.{Tree, Atoms}
 use Rattle.jsgen_tree.specs.Places.{bare}
@@ -14,6 +15,7 @@ use Rattle.jsgen_model.specs.Layout.{Pen, Start, nowhere, layout, unless_printed
 use Rattle.jsgen_model.specs.Grammar.{Allowed, Level, ReadsExpression, with_in, assignment_sign, simple_target}
 use Rattle.jsgen_model.specs.Grammar as grammar
 use Rattle.jsgen_model.specs.Normal.{normal}
+use Rattle.jsgen_model.specs.Renamed.{renamed}
 use Rattle.jsgen_model.specs.Quotes.{is_export_target}
 use Rattle.jsgen_model.specs.Spell.{Place, spell, enclosed, assigned, quoted_plainly, behind, wraps, assignment_item}
 use Rattle.jsgen_token_laws.proofs.Last.{Last, After, line_of, Ready, Knows}
@@ -25,7 +27,7 @@ use Rattle.jsgen_reading_laws.proofs.Chains.{punctuator_between}
 
 -- ---- the sign
 
-assignment_between : (o : AssignmentOperator) → Between (assignment_item o) (Sign (assignment_sign o))
+assignment_between : {names : Tables} (o : AssignmentOperator) → Between names (assignment_item o) (Sign (assignment_sign o))
 assignment_between operators.Assign = punctuator_between _ tt tt tt
 assignment_between o = punctuator_between _ tt tt tt
 
@@ -35,9 +37,9 @@ same_assignment : (o : AssignmentOperator) (u v x y : Tree) → normal u ≡ nor
 same_assignment o u v x y e f = λ i. tree.assignment (bare (assignment_operator o ∷ [])) (e i) (f i)
 
 -- from the target, a blank, the sign, a blank and what the target is given
-assignment_parts : (c : Allowed) (a : Atoms) (t u : Tree) (start : Start) (level : Level) (p p1 p2 p3 p4 q : Pen) (l : Last) → let s = Sign (assignment_sign (assignment_expression_operator a)) in (g : Good p l p1 (with_in c) level start t) → simple_target g.tree ≡ Some g.tree → ReadsExpression (with_in c) grammar.LeftHandSide g.tokens g.tree
-    → (b : Soft p1 g.last p2) → Writes p2 b.last p3 (After s) (piece (line_of b.last) s done) → (n : Soft p3 (After s) p4) → Good p4 n.last q c grammar.Assignment nowhere u → Good p l q c grammar.Assignment start (tree.assignment a t u)
-assignment_parts c a t u start level p p1 p2 p3 p4 q l g simple left b w n h =
+assignment_parts : {names : Tables} (c : Allowed) (a : Atoms) (t u : Tree) (start : Start) (level : Level) (p p1 p2 p3 p4 q : Pen) (l : Last) → let s = Sign (assignment_sign (assignment_expression_operator a)) in (g : Good names p l p1 (with_in c) level start t) → simple_target g.tree ≡ Some g.tree → ReadsExpression (with_in c) grammar.LeftHandSide g.tokens g.tree
+    → (b : Soft names p1 g.last p2) → Writes names p2 b.last p3 (After s) (piece (line_of b.last) s done) → (n : Soft names p3 (After s) p4) → Good names p4 n.last q c grammar.Assignment nowhere u → Good names p l q c grammar.Assignment start (tree.assignment a t u)
+assignment_parts {names} c a t u start level p p1 p2 p3 p4 q l g simple left b w n h =
     let o : AssignmentOperator = assignment_expression_operator a in
     let others : Tokens = piece (line_of b.last) (Sign (assignment_sign o)) h.tokens in
     record {
@@ -50,7 +52,7 @@ assignment_parts c a t u start level p p1 p2 p3 p4 q l g simple left b w n h =
       line = λ e. line_then g.tokens others (g.line e);
       tree = tree.assignment (bare (assignment_operator o ∷ [])) g.tree h.tree;
       reads = grammar.an_assignment_to o (line_of b.last) refl left simple h.reads;
-      same = same_assignment o g.tree h.tree t u g.same h.same;
+      same = same_assignment o g.tree h.tree (renamed names t) (renamed names u) g.same h.same;
     }
 
 -- where the target stands
@@ -60,12 +62,12 @@ target_place t place w = quoted_plainly (is_export_target place.settings.minifie
 abbrev items_of : Atoms → Tree → Tree → Place → Bool → Items
 items_of a t u place w = spell t (target_place t place w) ⊕ (soft_space ⊕ (assignment_item (assignment_expression_operator a) ⊕ (soft_space ⊕ spell u (behind levels.Comma place))))
 
-pub good_assignment : (c : Allowed) (a : Atoms) (t u : Tree) → TargetPrinted c t → Printed c u → Printed c (tree.assignment a t u)
-good_assignment c a t u f h place =
+pub good_assignment : {names : Tables} (c : Allowed) (a : Atoms) (t u : Tree) → TargetPrinted names c t → Printed names c u → Printed names c (tree.assignment a t u)
+good_assignment {names} c a t u f h place =
     good_enclosed c place grammar.Assignment (wraps levels.Assign place) (items_of a t u place) (tree.assignment a t u)
     (λ d ts v r. grammar.an_assignment r) (λ e ts v r. unwrapped levels.Assign place e r) inner
   where
-    inner : (v : Bool) (p : Pen) (l : Last) → p.pending_semicolon ≡ false → Ready l → Knows p l → Good p l (layout (items_of a t u place v) p) (under place c) grammar.Assignment (unless_printed v place.start) (tree.assignment a t u)
+    inner : (v : Bool) (p : Pen) (l : Last) → p.pending_semicolon ≡ false → Ready l → Knows names p l → Good names p l (layout (items_of a t u place v) p) (under place c) grammar.Assignment (unless_printed v place.start) (tree.assignment a t u)
     inner v p l z y k =
         let o : AssignmentOperator = assignment_expression_operator a in
         let at : Place = target_place t place v in

@@ -4,8 +4,10 @@ use Rattle.jsgen_syntax.specs.declared.precedence.Precedence.TheVariants as leve
 use Rattle.jsgen_syntax.specs.Escapes.{name_text}
 use Rattle.jsgen_syntax.specs.Name.{is_free_name}
 use Rattle.jsgen_syntax.proofs.Escapes.{word_text_value}
+use Rattle.jsgen_tree.specs.Job.{Tables}
 use Rattle.jsgen_tree.specs.Tree.{Tree, Maybe, absent, given, Atoms}
-use Rattle.jsgen_tree.specs.Values.{binding_identifier_name}
+use Rattle.jsgen_tree.specs.Inside.{binding_named}
+use Rattle.jsgen_tree.specs.Named.{printed_name}
 use Rattle.jsgen_tree.specs.Nodes as tree
 use Rattle.jsgen_model.specs.Punctuator.{equal}
 use Rattle.jsgen_model.specs.Tokens.{Tokens, done, piece, ◌⧺◌, Word, Sign}
@@ -14,6 +16,7 @@ use Rattle.jsgen_model.specs.Layout.{Pen, Start, layout}
 use Rattle.jsgen_model.specs.Grammar.{Allowed, ReadsBinding, ReadsExpression}
 use Rattle.jsgen_model.specs.Grammar as grammar
 use Rattle.jsgen_model.specs.Normal.{normal, normal_maybe, unnumbered}
+use Rattle.jsgen_model.specs.Renamed.{renamed, renamed_maybe}
 use Rattle.jsgen_model.specs.Spell.{Place, spell, spell_value, in_front, behind}
 use Rattle.jsgen_token_laws.proofs.Last.{Last, After, line_of, Operand, Ready, begun_ready, Knows}
 use Rattle.jsgen_token_laws.proofs.Writes.{Writes, wrote_both}
@@ -26,26 +29,26 @@ use Rattle.jsgen_reading_laws.proofs.Good.{Good, Printed}
 use Rattle.jsgen_reading_laws.proofs.Lists.{Element, GivesElement}
 
 -- between two pens stands a binding
-pub record GoodBinding (p : Pen) (l : Last) (q : Pen) (c : Allowed) (t : Tree) : Type 0 where
+pub record GoodBinding (names : Tables) (p : Pen) (l : Last) (q : Pen) (c : Allowed) (t : Tree) : Type 0 where
   pub last : Last
   pub tokens : Tokens
-  pub writes : Writes p l q last tokens
+  pub writes : Writes names p l q last tokens
   pub operand : Operand last
   pub semicolon : q.pending_semicolon ≡ false
   pub tree : Tree
   pub reads : ReadsBinding c tokens tree
-  pub same : normal tree ≡ normal t
+  pub same : normal tree ≡ normal (renamed names t)
 
-abbrev pub Bound : Allowed → Tree → Type 0
-Bound c t = (place : Place) (p : Pen) (l : Last) → p.pending_semicolon ≡ false → Ready l → Knows p l → GoodBinding p l (layout (spell t place) p) (under place c) t
+abbrev pub Bound : Tables → Allowed → Tree → Type 0
+Bound names c t = (place : Place) (p : Pen) (l : Last) → p.pending_semicolon ≡ false → Ready l → Knows names p l → GoodBinding names p l (layout (spell t place) p) (under place c) t
 
-good_bound_name : (c : Allowed) (a : Atoms) → is_free_name (binding_identifier_name a) ≡ true → Bound c (tree.binding_identifier a)
-good_bound_name c a h place p l z y k =
-    let v : List ℕ = binding_identifier_name a in
+good_bound_name : {names : Tables} (c : Allowed) (a : Atoms) → is_free_name (printed_name names (binding_named a)) ≡ true → Bound names c (tree.binding_identifier a)
+good_bound_name {names} c a h place p l z y k =
+    let v : List ℕ = printed_name names (binding_named a) in
     record {
       last = _;
       tokens = piece (line_of l) (Word (name_text p.style.ascii v)) done;
-      writes = wrote_name v p l (free_spelled v h) k;
+      writes = wrote_name (binding_named a) p l (free_spelled v h) k;
       operand = tt;
       semicolon = z;
       tree = tree.binding_identifier (unnumbered v);
@@ -53,24 +56,24 @@ good_bound_name c a h place p l z y k =
       same = refl;
     }
 
-pub bound : {c : Allowed} {t : Tree} → IsBinding c t → Bound c t
-bound {c} (family.a_bound_name {a} h) = good_bound_name c a h
+pub bound : {names : Tables} {c : Allowed} {t : Tree} → IsBinding names c t → Bound names c t
+bound {names} {c} (family.a_bound_name {a} h) = good_bound_name c a h
 
 -- ---- with a value, or without one
 
 -- the value is printed, where there is one
-abbrev pub PrintedIfGiven : Allowed → Maybe → Type 0
-PrintedIfGiven c absent = Unit {0}
-PrintedIfGiven c (given t) = Printed c t
+abbrev pub PrintedIfGiven : Tables → Allowed → Maybe → Type 0
+PrintedIfGiven names c absent = Unit {0}
+PrintedIfGiven names c (given t) = Printed names c t
 
 -- what is made of a binding and its value is read so, as a tree of the same normal form
-pub record Holds (c : Allowed) (R : Tokens → Tree → Type 0) (made : Tree → Maybe → Tree) : Type 0 where
+pub record Holds (names : Tables) (c : Allowed) (R : Tokens → Tree → Type 0) (made : Tree → Maybe → Tree) : Type 0 where
   pub reading : Tree → Maybe → Tree
   pub alone : (ts : Tokens) (b : Tree) → ReadsBinding c ts b → R ts (reading b absent)
   pub with_value : (mark : Bool) (a v : Tokens) (b e : Tree) → ReadsBinding c a b → ReadsExpression c grammar.Assignment v e → R (a ⧺ piece mark (Sign equal) v) (reading b (given e))
-  pub same : (b u : Tree) (m n : Maybe) → normal b ≡ normal u → normal_maybe m ≡ normal_maybe n → normal (reading b m) ≡ normal (made u n)
+  pub same : (b u : Tree) (m n : Maybe) → normal b ≡ normal (renamed names u) → normal_maybe m ≡ normal_maybe (renamed_maybe names n) → normal (reading b m) ≡ normal (renamed names (made u n))
 
-alone_parts : {p q : Pen} {l : Last} {c : Allowed} (R : Tokens → Tree → Type 0) (made : Tree → Maybe → Tree) (b : Tree) → Holds c R made → GoodBinding p l q c b → Element R p l q (made b absent)
+alone_parts : {names : Tables} {p q : Pen} {l : Last} {c : Allowed} (R : Tokens → Tree → Type 0) (made : Tree → Maybe → Tree) (b : Tree) → Holds names c R made → GoodBinding names p l q c b → Element names R p l q (made b absent)
 alone_parts R made b h g = record {
   last = g.last;
   tokens = g.tokens;
@@ -83,7 +86,7 @@ alone_parts R made b h g = record {
 }
 
 -- from the binding, a blank, the sign, a blank and the value
-value_parts : (c : Allowed) (R : Tokens → Tree → Type 0) (made : Tree → Maybe → Tree) (b v : Tree) (start : Start) (p p1 p2 p3 p4 q : Pen) (l : Last) → Holds c R made → (g : GoodBinding p l p1 c b) (x : Soft p1 g.last p2) → Writes p2 x.last p3 (After (Sign equal)) (piece (line_of x.last) (Sign equal) done) → (n : Soft p3 (After (Sign equal)) p4) → Good p4 n.last q c grammar.Assignment start v → Element R p l q (made b (given v))
+value_parts : {names : Tables} (c : Allowed) (R : Tokens → Tree → Type 0) (made : Tree → Maybe → Tree) (b v : Tree) (start : Start) (p p1 p2 p3 p4 q : Pen) (l : Last) → Holds names c R made → (g : GoodBinding names p l p1 c b) (x : Soft names p1 g.last p2) → Writes names p2 x.last p3 (After (Sign equal)) (piece (line_of x.last) (Sign equal) done) → (n : Soft names p3 (After (Sign equal)) p4) → Good names p4 n.last q c grammar.Assignment start v → Element names R p l q (made b (given v))
 value_parts c R made b v start p p1 p2 p3 p4 q l h g x o n e = record {
   last = e.last;
   tokens = g.tokens ⧺ piece (line_of x.last) (Sign equal) e.tokens;
@@ -95,7 +98,7 @@ value_parts c R made b v start p p1 p2 p3 p4 q l h g x o n e = record {
   same = h.same g.tree b (given e.tree) (given v) g.same (ap (λ t. given t) e.same);
 }
 
-pub good_held : (c : Allowed) (R : Tokens → Tree → Type 0) (made : Tree → Maybe → Tree) (b : Tree) (m : Maybe) (place : Place) → Holds (under place c) R made → Bound c b → PrintedIfGiven c m → GivesElement R (spell b (in_front levels.Lowest place) ⊕ spell_value m (behind levels.Comma place)) (made b m)
+pub good_held : {names : Tables} (c : Allowed) (R : Tokens → Tree → Type 0) (made : Tree → Maybe → Tree) (b : Tree) (m : Maybe) (place : Place) → Holds names (under place c) R made → Bound names c b → PrintedIfGiven names c m → GivesElement names R (spell b (in_front levels.Lowest place) ⊕ spell_value m (behind levels.Comma place)) (made b m)
 good_held c R made b absent place h f v p l z y k = alone_parts R made b h (f (in_front levels.Lowest place) p l z (begun_ready l y) k)
 good_held c R made b (given t) place h f v p l z y k =
     let p1 : Pen = layout (spell b (in_front levels.Lowest place)) p in

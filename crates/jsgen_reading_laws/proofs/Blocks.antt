@@ -1,5 +1,6 @@
 -- Braces round rows of statements, and blocks.
 use Rattle.std.proofs.Common.{◌≡◌, ℕ, Bool, true, false, refl, ap, ◌∙◌}
+use Rattle.jsgen_tree.specs.Job.{Tables}
 use Rattle.jsgen_tree.specs.Tree.{Tree, Trees, no_trees, more, hole, Atoms}
 use Rattle.jsgen_tree.specs.Nodes as tree
 use Rattle.jsgen_model.specs.Punctuator.{Brace, opening, closing}
@@ -18,24 +19,24 @@ use Rattle.jsgen_reading_laws.proofs.Stands.{Stands, StandsAt, ReadsClosed, Stat
 use Rattle.jsgen_reading_laws.proofs.Rows.{RowAt}
 
 -- between two pens stands a brace group, and what is in it is read so
-pub record GoodBraces {X : Type 0} (R : Bool → Tokens → X → Type 0) (Same : X → Type 0) (p : Pen) (l : Last) (q : Pen) : Type 0 where
+pub record GoodBraces (names : Tables) {X : Type 0} (R : Bool → Tokens → X → Type 0) (Same : X → Type 0) (p : Pen) (l : Last) (q : Pen) : Type 0 where
   pub tokens : Tokens
-  pub writes : Writes p l q (Open false) (group (line_of l) Brace tokens done)
+  pub writes : Writes names p l q (Open false) (group (line_of l) Brace tokens done)
   pub semicolon : q.pending_semicolon ≡ false
   pub reading : X
   pub reads : R true tokens reading
   pub same : Same reading
 
 -- the depth doesn't matter
-at_depth : {p : Pen} {l : Last} (depth : ℕ) → Knows p l → Knows (record p { depth = depth }) l
-at_depth depth k = record { indent = k.indent; ending = k.ending }
+at_depth : {names : Tables} {p : Pen} {l : Last} (depth : ℕ) → Knows names p l → Knows names (record p { depth = depth }) l
+at_depth depth k = record { indent = k.indent; tables = k.tables; ending = k.ending }
 
 -- the semicolon that is left is dropped
-dropped : {p q : Pen} {l m : Last} {ts : Tokens} → Writes p l q m ts → Writes p l (layout drop_semicolon q) m ts
-dropped {q = q} {m = m} w = wrote_and_none w (wrote_none q (layout drop_semicolon q) m refl (record { indent = w.knows.indent; ending = w.knows.ending }))
+dropped : {names : Tables} {p q : Pen} {l m : Last} {ts : Tokens} → Writes names p l q m ts → Writes names p l (layout drop_semicolon q) m ts
+dropped {q = q} {m = m} w = wrote_and_none w (wrote_none q (layout drop_semicolon q) m refl (record { indent = w.knows.indent; tables = w.knows.tables; ending = w.knows.ending }))
 
 -- from the line end behind the opening brace, what stands within, and the indentation before the closing one
-filled_parts : {X : Type 0} {R : Bool → Tokens → X → Type 0} {Same : X → Type 0} {p p2 p3 p4 p6 : Pen} {l : Last} (depth : ℕ) → (n : Gap (written (opening Brace) other_end p) (Open false) p2) → p3.code ≡ p2.code → (g : Stands R Same p3 n.last p4) → Gap (record p4 { depth = depth }) g.last p6 → GoodBraces R Same p l (layout drop_semicolon (written (closing Brace) other_end p6))
+filled_parts : {names : Tables} {X : Type 0} {R : Bool → Tokens → X → Type 0} {Same : X → Type 0} {p p2 p3 p4 p6 : Pen} {l : Last} (depth : ℕ) → (n : Gap names (written (opening Brace) other_end p) (Open false) p2) → p3.code ≡ p2.code → (g : Stands names R Same p3 n.last p4) → Gap names (record p4 { depth = depth }) g.last p6 → GoodBraces names R Same p l (layout drop_semicolon (written (closing Brace) other_end p6))
 filled_parts {p = p} {p2} {p3} {p4} {p6} {l} depth n e g i = record {
   tokens = g.tokens;
   writes = dropped (brackets_written Brace p p6 l i.last g.tokens (wrote_both n.writes (wrote_and_none (same_writes p2 (record p4 { depth = depth }) e refl (at_depth depth g.writes.knows) g.writes) i.writes)));
@@ -46,7 +47,7 @@ filled_parts {p = p} {p2} {p3} {p4} {p6} {l} depth n e g i = record {
 }
 
 -- round any items
-pub filled_written : {X : Type 0} {R : Bool → Tokens → X → Type 0} {Same : X → Type 0} (items : Items) → StandsAt R Same items → (p : Pen) (l : Last) → p.pending_semicolon ≡ false → Knows p l → GoodBraces R Same p l (layout (filled_braces items) p)
+pub filled_written : {names : Tables} {X : Type 0} {R : Bool → Tokens → X → Type 0} {Same : X → Type 0} (items : Items) → StandsAt names R Same items → (p : Pen) (l : Last) → p.pending_semicolon ≡ false → Knows names p l → GoodBraces names R Same p l (layout (filled_braces items) p)
 filled_written items f p l z k =
     let p1 : Pen = written (opening Brace) other_end p in
     let p2 : Pen = layout soft_line p1 in
@@ -57,7 +58,7 @@ filled_written items f p l z k =
     filled_parts p2.depth n refl g (gap (indentation_written (record p4 { depth = p2.depth }) g.last (at_depth p2.depth g.writes.knows)))
 
 -- round nothing
-empty_written : (c : Allowed) (p : Pen) (l : Last) → Knows p l → GoodBraces (ReadsStatements c) (SameTrees no_trees) p l (layout (brackets Brace nothing ⊕ drop_semicolon) p)
+empty_written : {names : Tables} (c : Allowed) (p : Pen) (l : Last) → Knows names p l → GoodBraces names (ReadsStatements c) (SameTrees names no_trees) p l (layout (brackets Brace nothing ⊕ drop_semicolon) p)
 empty_written c p l k =
     let p1 : Pen = written (opening Brace) other_end p in
     record {
@@ -69,7 +70,7 @@ empty_written c p l k =
       same = refl;
     }
 
-braces_written : (c : Allowed) (ss : Trees) (settings : Settings) → RowAt c (spell_statements ss settings) ss → (p : Pen) (l : Last) → p.pending_semicolon ≡ false → Knows p l → GoodBraces (ReadsStatements c) (SameTrees ss) p l (layout (braces ss (spell_statements ss settings)) p)
+braces_written : {names : Tables} (c : Allowed) (ss : Trees) (settings : Settings) → RowAt names c (spell_statements ss settings) ss → (p : Pen) (l : Last) → p.pending_semicolon ≡ false → Knows names p l → GoodBraces names (ReadsStatements c) (SameTrees names ss) p l (layout (braces ss (spell_statements ss settings)) p)
 braces_written c no_trees settings row p l z k = empty_written c p l k
 braces_written c (more s ss) settings row p l z k = filled_written (spell_statements (more s ss) settings) row p l z k
 braces_written c (hole ss) settings row p l z k = filled_written (spell_statements (hole ss) settings) row p l z k
@@ -77,7 +78,7 @@ braces_written c (hole ss) settings row p l z k = filled_written (spell_statemen
 -- ---- blocks
 
 -- the block is read whatever follows it
-pub block_of : {p q : Pen} {l : Last} {c : Allowed} {Same : Trees → Type 0} {Other : Tree → Type 0} (is_open : Bool) → ((ss : Trees) → Same ss → Other (tree.block (nothing_of 0) ss)) → GoodBraces (ReadsStatements c) Same p l q → Stands (ReadsClosed c is_open) Other p l q
+pub block_of : {names : Tables} {p q : Pen} {l : Last} {c : Allowed} {Same : Trees → Type 0} {Other : Tree → Type 0} (is_open : Bool) → ((ss : Trees) → Same ss → Other (tree.block (nothing_of 0) ss)) → GoodBraces names (ReadsStatements c) Same p l q → Stands names (ReadsClosed c is_open) Other p l q
 block_of {l = l} is_open h g = record {
   last = Open false;
   tokens = group (line_of l) Brace g.tokens done;
@@ -88,15 +89,15 @@ block_of {l = l} is_open h g = record {
   same = h g.reading g.same;
 }
 
-pub good_block : (c : Allowed) (a : Atoms) (ss : Trees) → ((settings : Settings) → RowAt c (spell_statements ss settings) ss) → Stated c (tree.block a ss)
-good_block c a ss row place = by place.in_list
+pub good_block : {names : Tables} (c : Allowed) (a : Atoms) (ss : Trees) → ((settings : Settings) → RowAt names c (spell_statements ss settings) ss) → Stated names c (tree.block a ss)
+good_block {names} c a ss row place = by place.in_list
   where
     items : Items
     items = braces ss (spell_statements ss place.settings)
 
-    alone : StandsAt (ReadsClosed c false) (SameTree (tree.block a ss)) items
+    alone : StandsAt names (ReadsClosed c false) (SameTree names (tree.block a ss)) items
     alone p l z y k = block_of false (λ us e. ap (λ ts. tree.block (nothing_of 0) ts) e) (braces_written c ss place.settings (row place.settings) p l z k)
 
-    by : (in_list : Bool) → StandsAt (ReadsClosed c false) (SameTree (tree.block a ss)) (block_items in_list items)
+    by : (in_list : Bool) → StandsAt names (ReadsClosed c false) (SameTree names (tree.block a ss)) (block_items in_list items)
     by false = alone
     by true = indented_line (items ⊕ soft_line) (before_blank items soft_line alone soft_line_written)

@@ -3,6 +3,7 @@ use Rattle.std.proofs.Common.{◌≡◌, ℕ, Bool, true, false, cond, codes, Li
 use Rattle.std.proofs.lemmas.Bool.{both_ways}
 use Rattle.jsgen_syntax.specs.declared.precedence.Precedence.TheVariants as levels
 use Rattle.jsgen_syntax.specs.Name.{spells_name}
+use Rattle.jsgen_tree.specs.Job.{Tables}
 use Rattle.jsgen_tree.specs.Inside.{ends_open}
 use Rattle.jsgen_tree.specs.Tree.{Tree, absent, given, Trees, no_trees, more, Atoms}
 use Rattle.jsgen_tree.specs.Nodes as tree
@@ -13,6 +14,7 @@ use Rattle.jsgen_model.specs.Layout.{Pen, other_end, layout, written}
 use Rattle.jsgen_model.specs.Grammar.{Allowed, ReadsExpression, ReadsStatement, with_in}
 use Rattle.jsgen_model.specs.Grammar as grammar
 use Rattle.jsgen_model.specs.Normal.{normal, normal_trees, unbraced, nothing_of}
+use Rattle.jsgen_model.specs.Renamed.{renamed}
 use Rattle.jsgen_model.specs.Spell.{Settings, Place, spell, among_statements, within_statement, in_brackets, filled_braces, Shape, a_block, an_if, an_empty, other, shape, braces_end, body_end, consequent_items, alternate_items, among_or_within, spell_alternate}
 use Rattle.jsgen_token_laws.proofs.Characters.{letters_spelled}
 use Rattle.jsgen_token_laws.proofs.Last.{Last, Open, After, line_of, Knows}
@@ -27,7 +29,7 @@ use Rattle.jsgen_reading_laws.proofs.Blocks.{block_of, filled_written}
 -- ---- empty statements
 
 -- the semicolon of an empty statement, which is printed at once
-good_semicolon : {Same : Tree → Type 0} (c : Allowed) (is_open : Bool) → Same (tree.empty_statement (nothing_of 0)) → StandsAt (ReadsClosed c is_open) Same (punctuator semicolon)
+good_semicolon : {names : Tables} {Same : Tree → Type 0} (c : Allowed) (is_open : Bool) → Same (tree.empty_statement (nothing_of 0)) → StandsAt names (ReadsClosed c is_open) Same (punctuator semicolon)
 good_semicolon c is_open h p l z y k = record {
   last = After (Sign semicolon);
   tokens = piece (line_of l) (Sign semicolon) done;
@@ -38,41 +40,41 @@ good_semicolon c is_open h p l z y k = record {
   same = h;
 }
 
-pub good_empty : (c : Allowed) (a : Atoms) → Stated c (tree.empty_statement a)
+pub good_empty : {names : Tables} (c : Allowed) (a : Atoms) → Stated names c (tree.empty_statement a)
 good_empty c a place = indented_line (punctuator semicolon ⊕ soft_line) (before_blank (punctuator semicolon) soft_line (good_semicolon c false refl) soft_line_written)
 
 -- what is spelled as an empty statement is one
-abbrev pub EmptyAlone : Tree → Type 0
-EmptyAlone t = shape t ≡ an_empty → normal t ≡ tree.empty_statement (nothing_of 0)
+abbrev pub EmptyAlone : Tables → Tree → Type 0
+EmptyAlone names t = shape t ≡ an_empty → normal (renamed names t) ≡ tree.empty_statement (nothing_of 0)
 
 -- ---- blanks round a body
 
-soft_blank : BlankAt soft_space
+soft_blank : {names : Tables} → BlankAt names soft_space
 soft_blank p l k = gap (soft_space_written p l k)
 
-hard_blank : BlankAt hard_space
+hard_blank : {names : Tables} → BlankAt names hard_space
 hard_blank p l k = gap (hard_space_written p l k)
 
-body_blank : BlankAt body_space
+body_blank : {names : Tables} → BlankAt names body_space
 body_blank p l k = gap (body_space_written p l k)
 
-braces_end_blank : (else_follows : Bool) → BlankAt (braces_end else_follows)
+braces_end_blank : {names : Tables} (else_follows : Bool) → BlankAt names (braces_end else_follows)
 braces_end_blank true = soft_blank
 braces_end_blank false = soft_line_written
 
-body_end_blank : (else_follows : Bool) → BlankAt (body_end else_follows)
+body_end_blank : {names : Tables} (else_follows : Bool) → BlankAt names (body_end else_follows)
 body_end_blank true p l k = gap (indentation_written p l k)
 body_end_blank false p l k = no_gap p p l refl refl refl refl k
 
 -- ---- consequents
 
 -- the normal form is that of the tree, but for braces
-abbrev SameUnbraced : Tree → Tree → Type 0
-SameUnbraced t u = unbraced (normal u) ≡ unbraced (normal t)
+abbrev SameUnbraced : Tables → Tree → Tree → Type 0
+SameUnbraced names t u = unbraced (normal u) ≡ unbraced (normal (renamed names t))
 
 -- read before `else` where it follows
-abbrev ConsequentAt : Allowed → Bool → Tree → Items → Type 0
-ConsequentAt c else_follows t items = StandsAt (λ e ts u. ReadsStatement c e else_follows ts u) (SameUnbraced t) items
+abbrev ConsequentAt : Tables → Allowed → Bool → Tree → Items → Type 0
+ConsequentAt names c else_follows t items = StandsAt names (λ e ts u. ReadsStatement c e else_follows ts u) (SameUnbraced names t) items
 
 unbraced_open : (t : Tree) → ends_open t ≡ true → unbraced t ≡ t
 unbraced_open (tree.block a (more s no_trees)) h = absurd (both_ways false refl h)
@@ -83,16 +85,16 @@ same_unbraced : (t : Tree) (us : Trees) → ends_open (normal t) ≡ true → no
 same_unbraced t us o e =
     ap (λ ts. unbraced (tree.block (nothing_of 0) ts)) e ∙ (ap (λ b. cond b (normal t) (tree.block (nothing_of 0) (more (normal t) no_trees))) o ∙ sym (unbraced_open (normal t) o))
 
-added_braces : (c : Allowed) (t : Tree) (else_follows : Bool) (whole : Items) → ends_open (normal t) ≡ true → RowAt c whole (more t no_trees) → ConsequentAt c else_follows t (filled_braces whole)
-added_braces c t e whole o row p l z y k =
-    stands_since (λ last ts u s r. r e (λ h. refl)) (λ u s. s) (block_of false (λ us s. same_unbraced t us o s) (filled_written whole row p l z k))
+added_braces : {names : Tables} (c : Allowed) (t : Tree) (else_follows : Bool) (whole : Items) → ends_open (normal (renamed names t)) ≡ true → RowAt names c whole (more t no_trees) → ConsequentAt names c else_follows t (filled_braces whole)
+added_braces {names} c t e whole o row p l z y k =
+    stands_since (λ last ts u s r. r e (λ h. refl)) (λ u s. s) (block_of false (λ us s. same_unbraced (renamed names t) us o s) (filled_written whole row p l z k))
 
 braced : (s : Shape) (inner whole : Items) (else_follows : Bool) → consequent_items s true inner whole else_follows ≡ soft_space ⊕ (filled_braces whole ⊕ braces_end else_follows)
 braced a_block inner whole e = refl
 braced s inner whole e = refl
 
-good_consequent : (c : Allowed) (t : Tree) (settings : Settings) (else_follows : Bool) → ends_open (normal t) ≡ ends_open t → EmptyAlone t → Stated c t → ConsequentAt c else_follows t (consequent_items (shape t) (ends_open t) (spell t (within_statement settings)) (spell t (among_statements settings)) else_follows)
-good_consequent c t settings e n m f = by (ends_open t) refl
+good_consequent : {names : Tables} (c : Allowed) (t : Tree) (settings : Settings) (else_follows : Bool) → ends_open (normal (renamed names t)) ≡ ends_open t → EmptyAlone names t → Stated names c t → ConsequentAt names c else_follows t (consequent_items (shape t) (ends_open t) (spell t (within_statement settings)) (spell t (among_statements settings)) else_follows)
+good_consequent {names} c t settings e n m f = by (ends_open t) refl
   where
     inner : Items
     inner = spell t (within_statement settings)
@@ -100,26 +102,26 @@ good_consequent c t settings e n m f = by (ends_open t) refl
     whole : Items
     whole = spell t (among_statements settings)
 
-    as_it_is : (items : Items) → ends_open t ≡ false → StandsAt (ReadsClosed c (ends_open t)) (SameTree t) items → ConsequentAt c e t items
+    as_it_is : (items : Items) → ends_open t ≡ false → StandsAt names (ReadsClosed c (ends_open t)) (SameTree names t) items → ConsequentAt names c e t items
     as_it_is items o g p l z y k = stands_since (λ last ts u s r. r e (λ h. o)) (λ u s. ap unbraced s) (g p l z y k)
 
-    by_shape : (s : Shape) → shape t ≡ s → ends_open t ≡ false → ConsequentAt c e t (consequent_items s false inner whole e)
+    by_shape : (s : Shape) → shape t ≡ s → ends_open t ≡ false → ConsequentAt names c e t (consequent_items s false inner whole e)
     by_shape a_block i o = behind_blank soft_space (inner ⊕ braces_end e) soft_blank (before_blank inner (braces_end e) (as_it_is inner o (f (within_statement settings))) (braces_end_blank e))
     by_shape an_empty i o =
         let g = before_blank (punctuator semicolon) soft_line (good_semicolon c (ends_open t) (sym (m i))) soft_line_written in
         before_blank (punctuator semicolon ⊕ soft_line) (body_end e) (as_it_is (punctuator semicolon ⊕ soft_line) o g) (body_end_blank e)
     by_shape s i o = behind_blank body_space (whole ⊕ body_end e) body_blank (before_blank whole (body_end e) (as_it_is whole o (f (among_statements settings))) (body_end_blank e))
 
-    by : (is_open : Bool) → ends_open t ≡ is_open → ConsequentAt c e t (consequent_items (shape t) is_open inner whole e)
+    by : (is_open : Bool) → ends_open t ≡ is_open → ConsequentAt names c e t (consequent_items (shape t) is_open inner whole e)
     by false o = by_shape (shape t) refl o
     by true o =
-        subst (λ items. ConsequentAt c e t items) (sym (braced (shape t) inner whole e))
+        subst (λ items. ConsequentAt names c e t items) (sym (braced (shape t) inner whole e))
         (behind_blank soft_space (filled_braces whole ⊕ braces_end e) soft_blank (before_blank (filled_braces whole) (braces_end e) (added_braces c t e whole (n ∙ o) (row_alone c t whole (listed_statement t f settings))) (braces_end_blank e)))
 
 -- ---- alternates
 
-good_alternate : (c : Allowed) (t : Tree) (settings : Settings) → EmptyAlone t → Stated c t → StandsAt (ReadsClosed c (ends_open t)) (SameTree t) (alternate_items (shape t) (spell t (within_statement settings)) (spell t (among_statements settings)))
-good_alternate c t settings m f = by_shape (shape t) refl
+good_alternate : {names : Tables} (c : Allowed) (t : Tree) (settings : Settings) → EmptyAlone names t → Stated names c t → StandsAt names (ReadsClosed c (ends_open t)) (SameTree names t) (alternate_items (shape t) (spell t (within_statement settings)) (spell t (among_statements settings)))
+good_alternate {names} c t settings m f = by_shape (shape t) refl
   where
     inner : Items
     inner = spell t (within_statement settings)
@@ -127,7 +129,7 @@ good_alternate c t settings m f = by_shape (shape t) refl
     whole : Items
     whole = spell t (among_statements settings)
 
-    by_shape : (s : Shape) → shape t ≡ s → StandsAt (ReadsClosed c (ends_open t)) (SameTree t) (alternate_items s inner whole)
+    by_shape : (s : Shape) → shape t ≡ s → StandsAt names (ReadsClosed c (ends_open t)) (SameTree names t) (alternate_items s inner whole)
     by_shape a_block i = behind_blank soft_space (inner ⊕ soft_line) soft_blank (before_blank inner soft_line (f (within_statement settings)) soft_line_written)
     by_shape an_if i = behind_blank hard_space inner hard_blank (f (within_statement settings))
     by_shape an_empty i = before_blank (punctuator semicolon) soft_line (good_semicolon c (ends_open t) (sym (m i))) soft_line_written
@@ -135,19 +137,19 @@ good_alternate c t settings m f = by_shape (shape t) refl
 
 -- ---- a keyword, and an expression in parentheses
 
-record GoodHead (w : List ℕ) (p : Pen) (l : Last) (q : Pen) (c : Allowed) (t : Tree) : Type 0 where
+record GoodHead (names : Tables) (w : List ℕ) (p : Pen) (l : Last) (q : Pen) (c : Allowed) (t : Tree) : Type 0 where
   next : Bool
   tokens : Tokens
-  writes : Writes p l q (Open false) (piece (line_of l) (Word w) (group next Round tokens done))
+  writes : Writes names p l q (Open false) (piece (line_of l) (Word w) (group next Round tokens done))
   semicolon : q.pending_semicolon ≡ false
   tree : Tree
   reads : ReadsExpression (with_in c) grammar.Expression tokens tree
-  same : normal tree ≡ normal t
+  same : normal tree ≡ normal (renamed names t)
 
 abbrev head_items : List ℕ → Tree → Place → Items
 head_items w t place = word w ⊕ (soft_space ⊕ brackets Round (spell t (in_brackets levels.Lowest place)))
 
-good_head : (w : List ℕ) → spells_name w ≡ true → (c : Allowed) (t : Tree) → Printed c t → (place : Place) (p : Pen) (l : Last) → p.pending_semicolon ≡ false → Knows p l → GoodHead w p l (layout (head_items w t place) p) c t
+good_head : {names : Tables} (w : List ℕ) → spells_name w ≡ true → (c : Allowed) (t : Tree) → Printed names c t → (place : Place) (p : Pen) (l : Last) → p.pending_semicolon ≡ false → Knows names p l → GoodHead names w p l (layout (head_items w t place) p) c t
 good_head w n c t f place p l z k =
     let p1 : Pen = layout (word w) p in
     let p2 : Pen = layout soft_space p1 in
@@ -168,7 +170,7 @@ good_head w n c t f place p l z k =
 -- ---- `if`
 
 -- among statements it has indentation
-among_or_not : {X : Type 0} {R : Bool → Tokens → X → Type 0} {Same : X → Type 0} (in_list : Bool) (items : Items) → StandsAt R Same items → StandsAt R Same (among_or_within in_list items)
+among_or_not : {names : Tables} {X : Type 0} {R : Bool → Tokens → X → Type 0} {Same : X → Type 0} (in_list : Bool) (items : Items) → StandsAt names R Same items → StandsAt names R Same (among_or_within in_list items)
 among_or_not true items f = indented_line items f
 among_or_not false items f = f
 
@@ -180,13 +182,13 @@ if_reads r s true n = absurd (both_ways true (n refl) refl)
 abbrev if_items : Tree → Tree → Bool → Place → Items → Items
 if_items t s else_follows place others = word (codes "if") ⊕ (soft_space ⊕ (brackets Round (spell t (in_brackets levels.Lowest place)) ⊕ (consequent_items (shape s) (ends_open s) (spell s (within_statement place.settings)) (spell s (among_statements place.settings)) else_follows ⊕ others)))
 
-if_head : (c : Allowed) (t : Tree) → Printed c t → (place : Place) (p : Pen) (l : Last) → p.pending_semicolon ≡ false → Knows p l → GoodHead (codes "if") p l (layout (head_items (codes "if") t place) p) c t
+if_head : {names : Tables} (c : Allowed) (t : Tree) → Printed names c t → (place : Place) (p : Pen) (l : Last) → p.pending_semicolon ≡ false → Knows names p l → GoodHead names (codes "if") p l (layout (head_items (codes "if") t place) p) c t
 if_head = good_head (codes "if") (letters_spelled 105 (codes "f") refl)
 
-pub good_if : (c : Allowed) (a : Atoms) (t s : Tree) → Printed c t → ends_open (normal s) ≡ ends_open s → EmptyAlone s → Stated c s → Stated c (tree.if_statement a t s absent)
-good_if c a t s f n o g place = among_or_not place.in_list (if_items t s false place nothing) inside
+pub good_if : {names : Tables} (c : Allowed) (a : Atoms) (t s : Tree) → Printed names c t → ends_open (normal (renamed names s)) ≡ ends_open s → EmptyAlone names s → Stated names c s → Stated names c (tree.if_statement a t s absent)
+good_if {names} c a t s f n o g place = among_or_not place.in_list (if_items t s false place nothing) inside
   where
-    inside : StandsAt (ReadsClosed c true) (SameTree (tree.if_statement a t s absent)) (if_items t s false place nothing)
+    inside : StandsAt names (ReadsClosed c true) (SameTree names (tree.if_statement a t s absent)) (if_items t s false place nothing)
     inside p l z y k =
         let h = if_head c t f place p l z k in
         behind_tokens (piece (line_of l) (Word (codes "if")) (group h.next Round h.tokens done)) (λ u. tree.if_statement (nothing_of 0) h.tree u absent) h.writes (λ e ts u r. if_reads h.reads r) (λ u m i. tree.if_statement (nothing_of 0) (h.same i) (m i) absent)
@@ -195,16 +197,16 @@ good_if c a t s f n o g place = among_or_not place.in_list (if_items t s false p
 -- ---- `else`
 
 -- the head, the consequent with its end, and `else`
-else_parts : {p p1 p2 p3 p4 q : Pen} {l : Last} (c : Allowed) (a : Atoms) (t s u : Tree) → (h : GoodHead (codes "if") p l p1 c t) (b : Stands (λ e ts v. ReadsStatement c e true ts v) (SameUnbraced s) p1 (Open false) p2) (d : Due p2 b.last p3) → Writes p3 d.last p4 (After (Word (codes "else"))) (piece (line_of d.last) (Word (codes "else")) done) → Stands (ReadsClosed c (ends_open u)) (SameTree u) p4 (After (Word (codes "else"))) q
-    → Stands (ReadsClosed c (ends_open u)) (SameTree (tree.if_statement a t s (given u))) p l q
+else_parts : {names : Tables} {p p1 p2 p3 p4 q : Pen} {l : Last} (c : Allowed) (a : Atoms) (t s u : Tree) → (h : GoodHead names (codes "if") p l p1 c t) (b : Stands names (λ e ts v. ReadsStatement c e true ts v) (SameUnbraced names s) p1 (Open false) p2) (d : Due names p2 b.last p3) → Writes names p3 d.last p4 (After (Word (codes "else"))) (piece (line_of d.last) (Word (codes "else")) done) → Stands names (ReadsClosed c (ends_open u)) (SameTree names u) p4 (After (Word (codes "else"))) q
+    → Stands names (ReadsClosed c (ends_open u)) (SameTree names (tree.if_statement a t s (given u))) p l q
 else_parts {l = l} c a t s u h b d o r =
     behind_tokens (piece (line_of l) (Word (codes "if")) (group h.next Round h.tokens ((b.tokens ⧺ d.tokens) ⧺ piece (line_of d.last) (Word (codes "else")) done))) (λ v. tree.if_statement (nothing_of 0) h.tree b.reading (given v)) (wrote_both h.writes (wrote_both (wrote_both b.writes d.writes) o))
     (λ e ts v x before_else n. grammar.an_if_with_else (line_of d.last) (then_assoc (b.tokens ⧺ d.tokens) (piece (line_of d.last) (Word (codes "else")) done) ts) h.reads (b.reads.read false (b.tokens ⧺ d.tokens) (d.ends b.tokens)) (x before_else n)) (λ v m i. tree.if_statement (nothing_of 0) (h.same i) (b.same i) (given (m i))) r
 
-pub good_if_with_else : (c : Allowed) (a : Atoms) (t s u : Tree) → Printed c t → ends_open (normal s) ≡ ends_open s → EmptyAlone s → Stated c s → EmptyAlone u → Stated c u → Stated c (tree.if_statement a t s (given u))
-good_if_with_else c a t s u f n m g w v place = among_or_not place.in_list (if_items t s true place (spell_alternate (given u) place.settings)) inside
+pub good_if_with_else : {names : Tables} (c : Allowed) (a : Atoms) (t s u : Tree) → Printed names c t → ends_open (normal (renamed names s)) ≡ ends_open s → EmptyAlone names s → Stated names c s → EmptyAlone names u → Stated names c u → Stated names c (tree.if_statement a t s (given u))
+good_if_with_else {names} c a t s u f n m g w v place = among_or_not place.in_list (if_items t s true place (spell_alternate (given u) place.settings)) inside
   where
-    inside : StandsAt (ReadsClosed c (ends_open u)) (SameTree (tree.if_statement a t s (given u))) (if_items t s true place (spell_alternate (given u) place.settings))
+    inside : StandsAt names (ReadsClosed c (ends_open u)) (SameTree names (tree.if_statement a t s (given u))) (if_items t s true place (spell_alternate (given u) place.settings))
     inside p l z y k =
         let p1 : Pen = layout (if_items t s true place nothing) p in
         let p2 : Pen = layout due_semicolon p1 in

@@ -7,6 +7,7 @@ use Rattle.jsgen_syntax.specs.declared.operator.LogicalOperator.{LogicalOperator
 use Rattle.jsgen_syntax.specs.declared.operator.LogicalOperator.TheVariants.{Or, And, Coalesce}
 use Rattle.jsgen_syntax.specs.declared.precedence.Precedence.{Precedence}
 use Rattle.jsgen_syntax.specs.declared.precedence.Precedence.TheVariants as levels
+use Rattle.jsgen_tree.specs.Job.{Tables}
 use Rattle.jsgen_tree.specs.Inside.{without_parentheses}
 use Rattle.jsgen_tree.specs.Atom.{logical_operator}
 use Rattle.jsgen_tree.specs.Tree.{Tree, Atoms}
@@ -20,6 +21,7 @@ use Rattle.jsgen_model.specs.Layout.{Pen, Start, nowhere, other_end, layout, unl
 use Rattle.jsgen_model.specs.Grammar.{Allowed, Level, ReadsExpression}
 use Rattle.jsgen_model.specs.Grammar as grammar
 use Rattle.jsgen_model.specs.Normal.{normal, chain, links, joined}
+use Rattle.jsgen_model.specs.Renamed.{renamed}
 use Rattle.jsgen_model.specs.Spell.{Place, spell, within, left_of, behind, wraps, logical_item, goes_on, logical_wraps, unmixed, mixes}
 use Rattle.jsgen_token_laws.proofs.Last.{Last, After, Ready, Remembers, Knows, NoDot}
 use Rattle.jsgen_token_laws.proofs.Writes.{then_assoc}
@@ -36,10 +38,10 @@ logical_sign Or = or_or
 logical_sign And = and_and
 logical_sign Coalesce = nullish
 
-pub punctuator_between : (s : Punctuator) → NoDot s → Remembers s other_end → Ready (After (Sign s)) → Between (punctuator s) (Sign s)
+pub punctuator_between : {names : Tables} (s : Punctuator) → NoDot s → Remembers s other_end → Ready (After (Sign s)) → Between names (punctuator s) (Sign s)
 punctuator_between s n m y = record { writes = λ p l o k. wrote_punctuator s p l n m o k; semicolon = λ p. refl; ready = y; no_function = λ line ts. refl }
 
-logical_between : (o : LogicalOperator) → Between (logical_item o) (Sign (logical_sign o))
+logical_between : {names : Tables} (o : LogicalOperator) → Between names (logical_item o) (Sign (logical_sign o))
 logical_between Or = punctuator_between or_or tt tt tt
 logical_between And = punctuator_between and_and tt tt tt
 logical_between Coalesce = punctuator_between nullish tt tt tt
@@ -158,20 +160,20 @@ head_at_short d h (grammar.an_operation o m p k q s t) = absurd (omega (arith, o
 head_at_short d h r = absurd (omega (arith, ap number_of d))
 
 -- in parentheses where it mixes
-head_there : (c : Allowed) (t : Tree) (at : Precedence → Place) (start : Start) (level : Precedence) → is_mixed (normal t) ≡ mixes (without_parentheses t) → ((p : Pen) (l : Last) → p.pending_semicolon ≡ false → Ready l → Knows p l → Good p l (layout (spell t (at levels.Prefix)) p) c grammar.Update start t)
-    → ((p : Pen) (l : Last) → p.pending_semicolon ≡ false → Ready l → Knows p l → Good p l (layout (spell t (at level)) p) c grammar.ShortCircuit start t) → (p : Pen) (l : Last) → p.pending_semicolon ≡ false → Ready l → Knows p l → Good p l (layout (spell t (at (unmixed Coalesce t level))) p) c grammar.CoalesceHead start t
-head_there c t at start level e f g p l z y k = go (mixes (without_parentheses t)) e
+head_there : {names : Tables} (c : Allowed) (t : Tree) (at : Precedence → Place) (start : Start) (level : Precedence) → is_mixed (normal (renamed names t)) ≡ mixes (without_parentheses t) → ((p : Pen) (l : Last) → p.pending_semicolon ≡ false → Ready l → Knows names p l → Good names p l (layout (spell t (at levels.Prefix)) p) c grammar.Update start t)
+    → ((p : Pen) (l : Last) → p.pending_semicolon ≡ false → Ready l → Knows names p l → Good names p l (layout (spell t (at level)) p) c grammar.ShortCircuit start t) → (p : Pen) (l : Last) → p.pending_semicolon ≡ false → Ready l → Knows names p l → Good names p l (layout (spell t (at (unmixed Coalesce t level))) p) c grammar.CoalesceHead start t
+head_there {names} c t at start level e f g p l z y k = go (mixes (without_parentheses t)) e
   where
-    go : (b : Bool) → is_mixed (normal t) ≡ b → Good p l (layout (spell t (at (cond b levels.Prefix level))) p) c grammar.CoalesceHead start t
+    go : (b : Bool) → is_mixed (normal (renamed names t)) ≡ b → Good names p l (layout (spell t (at (cond b levels.Prefix level))) p) c grammar.CoalesceHead start t
     go true m = good_at (λ ts u r. grammar.a_bit_or_head (lifted false levels.Prefix levels.LogicalAnd (omega arith) r)) (f p l z y k)
     go false m = good_since (λ ts u s r. head_at_short refl (ap is_mixed s ∙ m) r) (g p l z y k)
 
-left_operand : (o : LogicalOperator) (c : Allowed) (t : Tree) → Printed c t → is_mixed (normal t) ≡ mixes (without_parentheses t) → (place : Place) (p : Pen) (l : Last) → p.pending_semicolon ≡ false → Ready l → Knows p l → Good p l (layout (spell t (left_of (unmixed o t (logical_lower_level o)) place)) p) (under place c) (operand_goal o) place.start t
+left_operand : {names : Tables} (o : LogicalOperator) (c : Allowed) (t : Tree) → Printed names c t → is_mixed (normal (renamed names t)) ≡ mixes (without_parentheses t) → (place : Place) (p : Pen) (l : Last) → p.pending_semicolon ≡ false → Ready l → Knows names p l → Good names p l (layout (spell t (left_of (unmixed o t (logical_lower_level o)) place)) p) (under place c) (operand_goal o) place.start t
 left_operand Or c t f m place = f (left_of levels.NullishCoalescing place)
 left_operand And c t f m place = f (left_of levels.LogicalOr place)
 left_operand Coalesce c t f m place = head_there (under place c) t (λ level. left_of level place) place.start levels.Conditional m (f (left_of levels.Prefix place)) (f (left_of levels.Conditional place))
 
-right_operand : (o : LogicalOperator) (c : Allowed) (t : Tree) → Printed c t → is_mixed (normal t) ≡ mixes (without_parentheses t) → (place : Place) (p : Pen) (l : Last) → p.pending_semicolon ≡ false → Ready l → Knows p l → Good p l (layout (spell t (behind (unmixed o t (logical_level o)) place)) p) (under place c) (operand_goal o) nowhere t
+right_operand : {names : Tables} (o : LogicalOperator) (c : Allowed) (t : Tree) → Printed names c t → is_mixed (normal (renamed names t)) ≡ mixes (without_parentheses t) → (place : Place) (p : Pen) (l : Last) → p.pending_semicolon ≡ false → Ready l → Knows names p l → Good names p l (layout (spell t (behind (unmixed o t (logical_level o)) place)) p) (under place c) (operand_goal o) nowhere t
 right_operand Or c t f m place = f (behind levels.LogicalOr place)
 right_operand And c t f m place = f (behind levels.LogicalAnd place)
 right_operand Coalesce c t f m place = head_there (under place c) t (λ level. behind level place) nowhere levels.NullishCoalescing m (f (behind levels.Prefix place)) (f (behind levels.NullishCoalescing place))
@@ -181,10 +183,10 @@ right_operand Coalesce c t f m place = head_there (under place c) t (λ level. b
 same_chain : (o : LogicalOperator) (u v x y : Tree) → normal u ≡ normal x → normal v ≡ normal y → chain (bare (logical_operator o ∷ [])) (joined (links o (normal u)) (links o (normal v))) ≡ chain (bare (logical_operator o ∷ [])) (joined (links o (normal x)) (links o (normal y)))
 same_chain o u v x y e f = λ i. chain (bare (logical_operator o ∷ [])) (joined (links o (e i)) (links o (f i)))
 
-pub good_logical_operation : (c : Allowed) (a : Atoms) (x y : Tree) → Printed c x → Printed c y → is_mixed (normal x) ≡ mixes (without_parentheses x) → is_mixed (normal y) ≡ mixes (without_parentheses y) → Printed c (tree.logical a x y)
-good_logical_operation c a x y f g mx my place =
+pub good_logical_operation : {names : Tables} (c : Allowed) (a : Atoms) (x y : Tree) → Printed names c x → Printed names c y → is_mixed (normal (renamed names x)) ≡ mixes (without_parentheses x) → is_mixed (normal (renamed names y)) ≡ mixes (without_parentheses y) → Printed names c (tree.logical a x y)
+good_logical_operation {names} c a x y f g mx my place =
     let o : LogicalOperator = logical_expression_operator a in
     good_wrapped c place (own_goal o) (logical_wraps o place) (λ w. spell x (left_of (unmixed o x (logical_lower_level o)) (within w place)) ⊕ (soft_space ⊕ (logical_item o ⊕ (soft_space ⊕ spell y (behind (unmixed o y (logical_level o)) (within w place)))))) (tree.logical a x y)
     (λ d ts u r. lifted false (looser (logical_level o)) levels.Lowest (omega arith) (own_level false o r)) (λ e ts u r. unwrapped_chain o place e r)
     (λ v e. good_infix (logical_item o) (Sign (logical_sign o)) (spell x (left_of (unmixed o x (logical_lower_level o)) (within v place))) (spell y (behind (unmixed o y (logical_level o)) (within v place))) x y (tree.logical a x y) (under (within v place) c) (unless_printed v place.start) (operand_goal o) (operand_goal o) (own_goal o) (logical_between o)
-    (λ ts us line u w ru rw eu ew. let h = join o ts u line ru rw in (h.0, h.1, h.2 ∙ same_chain o u w x y eu ew)) (left_operand o c x f mx (within v place)) (right_operand o c y g my (within v place)))
+    (λ ts us line u w ru rw eu ew. let h = join o ts u line ru rw in (h.0, h.1, h.2 ∙ same_chain o u w (renamed names x) (renamed names y) eu ew)) (left_operand o c x f mx (within v place)) (right_operand o c y g my (within v place)))

@@ -1,6 +1,7 @@
 -- Choices between two values, by `?` and `:`.
 use Rattle.std.proofs.Common.{◌≡◌, Bool, false, refl, ◌∙◌, arith}
 use Rattle.jsgen_syntax.specs.declared.precedence.Precedence.TheVariants as levels
+use Rattle.jsgen_tree.specs.Job.{Tables}
 use Rattle.jsgen_tree.specs.Tree.{Tree, Atoms}
 use Rattle.jsgen_tree.specs.Nodes as tree
 use Rattle.jsgen_model.specs.Punctuator.{question, colon}
@@ -10,6 +11,7 @@ use Rattle.jsgen_model.specs.Layout.{Pen, Start, nowhere, layout, unless_printed
 use Rattle.jsgen_model.specs.Grammar.{Allowed, with_in}
 use Rattle.jsgen_model.specs.Grammar as grammar
 use Rattle.jsgen_model.specs.Normal.{normal, nothing_of}
+use Rattle.jsgen_model.specs.Renamed.{renamed}
 use Rattle.jsgen_model.specs.Spell.{Place, spell, within, in_front, behind, in_brackets, with_calls, wraps, choice}
 use Rattle.jsgen_token_laws.proofs.Last.{Last, After, line_of, Ready, Knows}
 use Rattle.jsgen_token_laws.proofs.Writes.{Writes, wrote_both}
@@ -21,9 +23,9 @@ same_choice : (u v w x y z : Tree) → normal u ≡ normal x → normal v ≡ no
 same_choice u v w x y z e f g = λ i. tree.conditional (nothing_of 0) (e i) (f i) (g i)
 
 -- from the test, `?`, what is chosen, `:` and what is chosen otherwise, with blanks round both signs
-choice_parts : (c : Allowed) (a : Atoms) (x y z : Tree) (start : Start) (p p1 p2 p3 p4 p5 p6 p7 p8 q : Pen) (l : Last) → (g : Good p l p1 c grammar.ShortCircuit start x) (s : Soft p1 g.last p2) → Writes p2 s.last p3 (After (Sign question)) (piece (line_of s.last) (Sign question) done) → (n : Soft p3 (After (Sign question)) p4) (h : Good p4 n.last p5 (with_in c) grammar.Assignment nowhere y)
-    → (m : Soft p5 h.last p6) → Writes p6 m.last p7 (After (Sign colon)) (piece (line_of m.last) (Sign colon) done) → (r : Soft p7 (After (Sign colon)) p8) → Good p8 r.last q c grammar.Assignment nowhere z → Good p l q c grammar.Conditional start (tree.conditional a x y z)
-choice_parts c a x y z start p p1 p2 p3 p4 p5 p6 p7 p8 q l g s o n h m u r i =
+choice_parts : {names : Tables} (c : Allowed) (a : Atoms) (x y z : Tree) (start : Start) (p p1 p2 p3 p4 p5 p6 p7 p8 q : Pen) (l : Last) → (g : Good names p l p1 c grammar.ShortCircuit start x) (s : Soft names p1 g.last p2) → Writes names p2 s.last p3 (After (Sign question)) (piece (line_of s.last) (Sign question) done) → (n : Soft names p3 (After (Sign question)) p4) (h : Good names p4 n.last p5 (with_in c) grammar.Assignment nowhere y)
+    → (m : Soft names p5 h.last p6) → Writes names p6 m.last p7 (After (Sign colon)) (piece (line_of m.last) (Sign colon) done) → (r : Soft names p7 (After (Sign colon)) p8) → Good names p8 r.last q c grammar.Assignment nowhere z → Good names p l q c grammar.Conditional start (tree.conditional a x y z)
+choice_parts {names} c a x y z start p p1 p2 p3 p4 p5 p6 p7 p8 q l g s o n h m u r i =
     let behind_it : Tokens = piece (line_of s.last) (Sign question) (h.tokens ⧺ piece (line_of m.last) (Sign colon) i.tokens) in
     record {
       last = i.last;
@@ -35,18 +37,18 @@ choice_parts c a x y z start p p1 p2 p3 p4 p5 p6 p7 p8 q l g s o n h m u r i =
       line = λ e. line_then g.tokens behind_it (g.line e);
       tree = tree.conditional (nothing_of 0) g.tree h.tree i.tree;
       reads = grammar.a_choice (line_of s.last) (line_of m.last) refl g.reads h.reads i.reads;
-      same = same_choice g.tree h.tree i.tree x y z g.same h.same i.same;
+      same = same_choice g.tree h.tree i.tree (renamed names x) (renamed names y) (renamed names z) g.same h.same i.same;
     }
 
 abbrev items_of : Tree → Tree → Tree → Place → Bool → Items
 items_of x y z place w = choice (spell x (with_calls (in_front levels.Conditional (within w place)))) (spell y (in_brackets levels.Yield place)) (spell z (with_calls (behind levels.Yield (within w place))))
 
-pub good_choice : (c : Allowed) (a : Atoms) (x y z : Tree) → Printed c x → Printed c y → Printed c z → Printed c (tree.conditional a x y z)
-good_choice c a x y z f g h place =
+pub good_choice : {names : Tables} (c : Allowed) (a : Atoms) (x y z : Tree) → Printed names c x → Printed names c y → Printed names c z → Printed names c (tree.conditional a x y z)
+good_choice {names} c a x y z f g h place =
     good_wrapped c place grammar.Conditional (wraps levels.Conditional place) (items_of x y z place) (tree.conditional a x y z)
     (λ d ts u r. lifted false levels.Assign levels.Lowest (omega arith) r) (λ e ts u r. unwrapped levels.Conditional place e r) inner
   where
-    inner : (v : Bool) → wraps levels.Conditional place ≡ v → (p : Pen) (l : Last) → p.pending_semicolon ≡ false → Ready l → Knows p l → Good p l (layout (items_of x y z place v) p) (under (within v place) c) grammar.Conditional (unless_printed v place.start) (tree.conditional a x y z)
+    inner : (v : Bool) → wraps levels.Conditional place ≡ v → (p : Pen) (l : Last) → p.pending_semicolon ≡ false → Ready l → Knows names p l → Good names p l (layout (items_of x y z place v) p) (under (within v place) c) grammar.Conditional (unless_printed v place.start) (tree.conditional a x y z)
     inner v e p l pending ready knows =
         let test : Place = with_calls (in_front levels.Conditional (within v place)) in
         let chosen : Place = in_brackets levels.Yield place in

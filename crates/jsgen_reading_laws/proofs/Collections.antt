@@ -2,6 +2,7 @@
 use Rattle.std.proofs.Common.{◌≡◌, Bool, true, false, not, refl, ap, arith}
 use Rattle.std.proofs.lemmas.Bool.{both_ways}
 use Rattle.jsgen_syntax.specs.declared.precedence.Precedence.TheVariants as levels
+use Rattle.jsgen_tree.specs.Job.{Tables}
 use Rattle.jsgen_tree.specs.Tree.{Tree, Trees, no_trees, more, hole, Atoms}
 use Rattle.jsgen_tree.specs.Nodes as tree
 use Rattle.jsgen_model.specs.Punctuator.{Square, Brace, opening}
@@ -22,16 +23,16 @@ use Rattle.jsgen_reading_laws.proofs.Elements.{InsideAt, nothing_inside, first_i
 
 -- ---- elements, in brackets
 
-abbrev pub ElementsOf : Allowed → Trees → Type 0
-ElementsOf c es = (lines : Bool) (place : Place) → InsideAt (ReadsElements (with_in c)) lines (in_brackets levels.Comma place) es
+abbrev pub ElementsOf : Tables → Allowed → Trees → Type 0
+ElementsOf names c es = (lines : Bool) (place : Place) → InsideAt names (ReadsElements (with_in c)) lines (in_brackets levels.Comma place) es
 
-pub no_elements : (c : Allowed) → ElementsOf c no_trees
+pub no_elements : {names : Tables} (c : Allowed) → ElementsOf names c no_trees
 no_elements c lines place = nothing_inside (ReadsElements (with_in c)) grammar.no_element lines (in_brackets levels.Comma place)
 
-pub first_of_elements : (c : Allowed) (e : Tree) (es : Trees) → ElementOf c e → ElementsOf c es → ElementsOf c (more e es)
+pub first_of_elements : {names : Tables} (c : Allowed) (e : Tree) (es : Trees) → ElementOf names c e → ElementsOf names c es → ElementsOf names c (more e es)
 first_of_elements c e es f h lines place = first_inside (ReadsElement (with_in c)) (ReadsElements (with_in c)) (λ ts t r. grammar.last_element r) (λ mark a b t us r s. grammar.first_element mark refl r s) lines (in_brackets levels.Comma place) e es (f false place) (h lines place)
 
-pub left_out_of_elements : (c : Allowed) (es : Trees) → ElementsOf c es → ElementsOf c (hole es)
+pub left_out_of_elements : {names : Tables} (c : Allowed) (es : Trees) → ElementsOf names c es → ElementsOf names c (hole es)
 left_out_of_elements c es h lines place = hole_inside (ReadsElements (with_in c)) grammar.no_element (λ mark b us r. grammar.an_elision r) lines (in_brackets levels.Comma place) es (h lines place)
 
 -- ---- arrays
@@ -42,7 +43,7 @@ square_begins statement line ts b = refl
 square_begins arrow_body line ts b = refl
 square_begins default_export line ts b = refl
 
-pub good_array : (c : Allowed) (a : Atoms) (es : Trees) → ElementsOf c es → Printed c (tree.array a es)
+pub good_array : {names : Tables} (c : Allowed) (a : Atoms) (es : Trees) → ElementsOf names c es → Printed names c (tree.array a es)
 good_array c a es f place p l z y k =
     let lines : Bool = are_more 2 es in
     let items : Items = spell_elements lines es (in_brackets levels.Comma place) ⊕ comma_if (ends_in_hole es) in
@@ -64,13 +65,13 @@ good_array c a es f place p l z y k =
 
 -- ---- properties, in braces
 
-abbrev pub PropertiesOf : Allowed → Trees → Type 0
-PropertiesOf c ps = (lines : Bool) (place : Place) → InsideAt (ReadsProperties (with_in c)) lines (in_brackets levels.Comma place) ps
+abbrev pub PropertiesOf : Tables → Allowed → Trees → Type 0
+PropertiesOf names c ps = (lines : Bool) (place : Place) → InsideAt names (ReadsProperties (with_in c)) lines (in_brackets levels.Comma place) ps
 
-pub no_properties : (c : Allowed) → PropertiesOf c no_trees
+pub no_properties : {names : Tables} (c : Allowed) → PropertiesOf names c no_trees
 no_properties c lines place = nothing_inside (ReadsProperties (with_in c)) grammar.no_property lines (in_brackets levels.Comma place)
 
-pub first_of_properties : (c : Allowed) (t : Tree) (ts : Trees) → PropertyOf c t → PropertiesOf c ts → PropertiesOf c (more t ts)
+pub first_of_properties : {names : Tables} (c : Allowed) (t : Tree) (ts : Trees) → PropertyOf names c t → PropertiesOf names c ts → PropertiesOf names c (more t ts)
 first_of_properties c t ts f h lines place = first_inside (ReadsProperty (with_in c)) (ReadsProperties (with_in c)) (λ us u r. grammar.last_property r) (λ mark a b u us r s. grammar.first_property mark refl r s) lines (in_brackets levels.Comma place) t ts (f place) (h lines place)
 
 -- ---- objects
@@ -85,15 +86,15 @@ brace_begins arrow_body false line ts b e = absurd (both_ways true e refl)
 brace_begins default_export true line ts b e = refl
 brace_begins default_export false line ts b e = refl
 
-pub good_object : (c : Allowed) (a : Atoms) (ps : Trees) → PropertiesOf c ps → Printed c (tree.object_expression a ps)
-good_object c a ps f place =
+pub good_object : {names : Tables} (c : Allowed) (a : Atoms) (ps : Trees) → PropertiesOf names c ps → Printed names c (tree.object_expression a ps)
+good_object {names} c a ps f place =
     good_wrapped c place grammar.Primary (bars_brace place.start) (λ w. brackets Brace (object_inside ps items)) (tree.object_expression a ps)
     (λ d ts u r. lifted false levels.Member levels.Lowest (omega arith) (weaken_member false (grammar.a_primary r))) (λ e ts u r. from_primary place r) inner
   where
     items : Items
     items = spell_elements (are_more 1 ps) ps (in_brackets levels.Comma place) ⊕ comma_if (ends_in_hole ps)
 
-    inner : (v : Bool) → bars_brace place.start ≡ v → (p : Pen) (l : Last) → p.pending_semicolon ≡ false → Ready l → Knows p l → Good p l (layout (brackets Brace (object_inside ps items)) p) (under (within v place) c) grammar.Primary (unless_printed v place.start) (tree.object_expression a ps)
+    inner : (v : Bool) → bars_brace place.start ≡ v → (p : Pen) (l : Last) → p.pending_semicolon ≡ false → Ready l → Knows names p l → Good names p l (layout (brackets Brace (object_inside ps items)) p) (under (within v place) c) grammar.Primary (unless_printed v place.start) (tree.object_expression a ps)
     inner v e p l z y k =
         let p1 : Pen = written (opening Brace) other_end p in
         let q : Pen = layout (object_inside ps items) p1 in

@@ -14,6 +14,7 @@ use Rattle.jsgen_syntax.specs.declared.operator.UpdateOperator.TheVariants as up
 use Rattle.jsgen_syntax.specs.declared.operator.AssignmentOperator.{AssignmentOperator}
 use Rattle.jsgen_syntax.specs.declared.operator.AssignmentOperator.TheVariants as assignment_operators
 use Rattle.jsgen_syntax.proofs.Strings.{escaped_value}
+use Rattle.jsgen_tree.specs.Job.{Tables}
 use Rattle.jsgen_tree.specs.Inside.{without_parentheses}
 use Rattle.jsgen_tree.specs.Atom.{units}
 use Rattle.jsgen_tree.specs.Tree.{Tree, Trees, no_trees, more, Atoms}
@@ -26,6 +27,7 @@ use Rattle.jsgen_model.specs.Layout.{Pen, layout, written, other_end}
 use Rattle.jsgen_model.specs.Grammar.{Allowed, Level, EndsBy, ReadsExpression, ReadsArrowParameters, ReadsChain, ReadsChainBase, ReadsStatement, ReadsItem, ReadsBody, operator_piece, unary_piece, update_sign, assignment_sign, starts_with_directive}
 use Rattle.jsgen_model.specs.Grammar as grammar
 use Rattle.jsgen_model.specs.Normal.{normal, nothing_of}
+use Rattle.jsgen_model.specs.Renamed.{renamed, renamed_trees}
 use Rattle.jsgen_model.specs.Spell.{Settings, spell, spell_body, string_in, unless_string, first_statement, among_statements, whole_statement}
 use Rattle.jsgen_token_laws.proofs.Last.{Last, Open, After, line_of}
 use Rattle.jsgen_token_laws.proofs.Writes.{wrote_none, wrote_both, wrote_brackets, then_assoc}
@@ -202,14 +204,14 @@ item_apart (grammar.a_declaration h (grammar.a_const r)) n = end_apart h (λ x. 
 abbrev pub First : Allowed → Bool → Tokens → Tree → Type 0
 First c last ts t = ReadsItem c last ts t × Apart ts
 
-no_string_first : {c : Allowed} (t : Tree) → Listed c t → is_string_statement (normal t) ≡ false → (settings : Settings) → StandsAt (First c) (SameTree t) (spell t (among_statements settings))
+no_string_first : {names : Tables} {c : Allowed} (t : Tree) → Listed names c t → is_string_statement (normal (renamed names t)) ≡ false → (settings : Settings) → StandsAt names (First c) (SameTree names t) (spell t (among_statements settings))
 no_string_first t f n settings p l z y k = stands_since (λ e ts u s r. (r, item_apart r (ap is_string_statement s ∙ n))) (λ u s. s) (f settings p l z y k)
 
 -- ---- a string alone
 
 -- its tokens: a string in parentheses, or one in backticks
-string_written : (c : Allowed) (a : Atoms) (e : Tree) (us : List ℕ) (settings : Settings) → are_units us ≡ true → normal e ≡ tree.string_literal (bare (units us ∷ [])) → UnendedAt (First c) (SameTree (tree.expression_statement a e)) (first_string us)
-string_written c a e us settings h s p l z y k = go p.style.minified
+string_written : {names : Tables} (c : Allowed) (a : Atoms) (e : Tree) (us : List ℕ) (settings : Settings) → are_units us ≡ true → normal (renamed names e) ≡ tree.string_literal (bare (units us ∷ [])) → UnendedAt names (First c) (SameTree names (tree.expression_statement a e)) (first_string us)
+string_written {names} c a e us settings h s p l z y k = go p.style.minified
   where
     text_of : Quote → List ℕ
     text_of q = escaped q p.style.ascii us
@@ -220,7 +222,7 @@ string_written c a e us settings h s p l z y k = go p.style.minified
     of_text : Quote → List ℕ
     of_text q = quoted q p.style.ascii us
 
-    go : (b : Bool) → Unended (First c) (SameTree (tree.expression_statement a e)) p l (written (cond b (of_text Backtick) (opening Round ++ (of_text p.style.quote ++ closing Round))) other_end p)
+    go : (b : Bool) → Unended names (First c) (SameTree names (tree.expression_statement a e)) p l (written (cond b (of_text Backtick) (opening Round ++ (of_text p.style.quote ++ closing Round))) other_end p)
     go true = record {
       last = After (Quoted Backtick (text_of Backtick));
       tokens = piece (line_of l) (Quoted Backtick (text_of Backtick)) done;
@@ -245,7 +247,7 @@ string_written c a e us settings h s p l z y k = go p.style.minified
         record {
           last = Open false;
           tokens = group (line_of l) Round (piece false (Quoted q (text_of q)) done) done;
-          writes = wrote_brackets Round p p1 p2 r l (After (Quoted q (text_of q))) (piece false (Quoted q (text_of q)) done) refl (in_order p.code (opening Round) (of_text q) (closing Round)) (record { indent = k.indent; ending = tt }) w;
+          writes = wrote_brackets Round p p1 p2 r l (After (Quoted q (text_of q))) (piece false (Quoted q (text_of q)) done) refl (in_order p.code (opening Round) (of_text q) (closing Round)) (record { indent = k.indent; tables = k.tables; ending = tt }) w;
           ready = tt;
           semicolon = z;
           reading = tree.expression_statement (nothing_of 0) (tree.parenthesized (nothing_of 0) (tree.string_literal (bare (units us ∷ []))));
@@ -258,10 +260,10 @@ string_written c a e us settings h s p l z y k = go p.style.minified
 
 -- ---- the first item of a body
 
-first_stated : {c : Allowed} {t : Tree} → IsItem c t → (settings : Settings) → StandsAt (First c) (SameTree t) (first_statement t (spell t (among_statements settings)))
-first_stated {c} (family.a_statement (family.an_expression_statement {a} {e} v)) settings = go (string_in (without_parentheses e)) refl
+first_stated : {names : Tables} {c : Allowed} {t : Tree} → IsItem names c t → (settings : Settings) → StandsAt names (First c) (SameTree names t) (first_statement t (spell t (among_statements settings)))
+first_stated {names} {c} (family.a_statement (family.an_expression_statement {a} {e} v)) settings = go (string_in (without_parentheses e)) refl
   where
-    go : (o : Option (List ℕ)) → string_in (without_parentheses e) ≡ o → StandsAt (First c) (SameTree (tree.expression_statement a e)) (unless_string o (spell (tree.expression_statement a e) (among_statements settings)))
+    go : (o : Option (List ℕ)) → string_in (without_parentheses e) ≡ o → StandsAt names (First c) (SameTree names (tree.expression_statement a e)) (unless_string o (spell (tree.expression_statement a e) (among_statements settings)))
     go (Some us) s = let k = (asked v).inside us s in whole_line (first_string us) (string_written c a e us settings k.0 k.1)
     go None s = no_string_first (tree.expression_statement a e) (listed (family.a_statement (family.an_expression_statement {a = a} v))) ((asked v).string ∙ ap is_some s) settings
 first_stated {t = t} (family.a_statement v) settings = no_string_first t (listed (family.a_statement v)) refl settings
@@ -270,18 +272,18 @@ first_stated {t = t} (family.a_declaration {a} m v) settings = no_string_first t
 -- ---- the statements of a body
 
 -- between two pens stand the statements of a body, which are read as no directives
-abbrev pub BodyAt : Allowed → Items → Trees → Type 0
-BodyAt c items ss = StandsAt (λ e ts us. ReadsBody c e ts no_trees us) (SameTrees ss) items
+abbrev pub BodyAt : Tables → Allowed → Items → Trees → Type 0
+BodyAt names c items ss = StandsAt names (λ e ts us. ReadsBody c e ts no_trees us) (SameTrees names ss) items
 
-first_row : {p q r : Pen} {l : Last} {c : Allowed} (t : Tree) (ss : Trees) → (g : Stands (First c) (SameTree t) p l q) → GoodRest q g.last r c ss → Stands (λ e ts us. ReadsBody c e ts no_trees us) (SameTrees (more t ss)) p l r
-first_row {q = q} {r = r} t ss g h = record {
+first_row : {names : Tables} {p q r : Pen} {l : Last} {c : Allowed} (t : Tree) (ss : Trees) → (g : Stands names (First c) (SameTree names t) p l q) → GoodRest names q g.last r c ss → Stands names (λ e ts us. ReadsBody c e ts no_trees us) (SameTrees names (more t ss)) p l r
+first_row {names} {q = q} {r = r} t ss g h = record {
   last = h.last;
   tokens = g.tokens ⧺ h.tokens;
   writes = wrote_both g.writes h.writes;
   ready = h.ready;
   reading = more g.reading h.trees;
   reads = record { read = λ e ts x. grammar.statements (apart e ts x) ((h.reads g.tokens g.reading (ends_since (λ f us i. i.0) g.reads)).read e ts x) };
-  same = same_more g.reading t h.trees ss g.same h.same;
+  same = same_more g.reading (renamed names t) h.trees (renamed_trees names ss) g.same h.same;
 }
   where
     apart : (e : Bool) (ts : Tokens) → Ended r.pending_semicolon e ts (g.tokens ⧺ h.tokens) → starts_with_directive ts ≡ false
@@ -289,7 +291,7 @@ first_row {q = q} {r = r} t ss g h = record {
         let k = ended_more r.pending_semicolon e ts (g.tokens ⧺ h.tokens) x in
         subst (λ us. starts_with_directive us ≡ false) (sym (k.1 ∙ then_assoc g.tokens h.tokens k.0)) ((g.reads.read true g.tokens (at_brace q.pending_semicolon g.tokens)).1 (h.tokens ⧺ k.0))
 
-pub body_stated : {c : Allowed} {ss : Trees} → AreStatements c ss → (settings : Settings) → BodyAt c (spell_body ss settings) ss
+pub body_stated : {names : Tables} {c : Allowed} {ss : Trees} → AreStatements names c ss → (settings : Settings) → BodyAt names c (spell_body ss settings) ss
 body_stated family.no_statement settings p l z y k = record {
   last = l;
   tokens = done;

@@ -1,11 +1,13 @@
 -- Lists in which members may be left out, on one line or each on a line of its own, whatever the members are.
 use Rattle.std.proofs.Common.{◌≡◌, ℕ, Bool, true, false, refl, ap, ◌∙◌}
+use Rattle.jsgen_tree.specs.Job.{Tables}
 use Rattle.jsgen_tree.specs.Tree.{Tree, Trees, no_trees, more, hole}
 use Rattle.jsgen_model.specs.Punctuator.{comma}
 use Rattle.jsgen_model.specs.Tokens.{Tokens, done, piece, ◌⧺◌, Sign}
 use Rattle.jsgen_model.specs.Items.{Items, ◌⊕◌, punctuator, soft_space, soft_line}
 use Rattle.jsgen_model.specs.Layout.{Pen, layout, deeper_level}
 use Rattle.jsgen_model.specs.Normal.{normal_trees}
+use Rattle.jsgen_model.specs.Renamed.{renamed, renamed_trees}
 use Rattle.jsgen_model.specs.Spell.{Place, spell, spell_elements, next_line, line_or_space, on_lines, ends_in_hole, comma_if, object_inside}
 use Rattle.jsgen_token_laws.proofs.Last.{Last, After, line_of, Begun, Knows}
 use Rattle.jsgen_token_laws.proofs.Writes.{Writes, wrote_none, wrote_both, wrote_and_none}
@@ -13,52 +15,52 @@ use Rattle.jsgen_token_laws.proofs.Steps.{Gap, gap, wrote_comma, soft_space_writ
 use Rattle.jsgen_reading_laws.proofs.Lists.{ElementAt, same_more}
 
 -- between two pens stands a list, and a bracket behind it
-pub record Inside (L : Tokens → Trees → Type 0) (p : Pen) (l : Last) (q : Pen) (ts : Trees) : Type 0 where
+pub record Inside (names : Tables) (L : Tokens → Trees → Type 0) (p : Pen) (l : Last) (q : Pen) (ts : Trees) : Type 0 where
   pub last : Last
   pub tokens : Tokens
-  pub writes : Writes p l q last tokens
+  pub writes : Writes names p l q last tokens
   pub semicolon : q.pending_semicolon ≡ false
   pub trees : Trees
   pub reads : L tokens trees
-  pub same : normal_trees trees ≡ normal_trees ts
+  pub same : normal_trees trees ≡ normal_trees (renamed_trees names ts)
 
 -- items that give the list, from any pen at which a member may begin
-abbrev pub InsideOf : (Tokens → Trees → Type 0) → Items → Trees → Type 0
-InsideOf L items ts = (p : Pen) (l : Last) → p.pending_semicolon ≡ false → Begun l → Knows p l → Inside L p l (layout items p) ts
+abbrev pub InsideOf : Tables → (Tokens → Trees → Type 0) → Items → Trees → Type 0
+InsideOf names L items ts = (p : Pen) (l : Last) → p.pending_semicolon ≡ false → Begun l → Knows names p l → Inside names L p l (layout items p) ts
 
 -- a list at one place
-abbrev pub InsideAt : (Tokens → Trees → Type 0) → Bool → Place → Trees → Type 0
-InsideAt L lines place ts = InsideOf L (spell_elements lines ts place ⊕ comma_if (ends_in_hole ts)) ts
+abbrev pub InsideAt : Tables → (Tokens → Trees → Type 0) → Bool → Place → Trees → Type 0
+InsideAt names L lines place ts = InsideOf names L (spell_elements lines ts place ⊕ comma_if (ends_in_hole ts)) ts
 
 -- ---- blanks between members
 
 -- one blank behind another
-both_gaps : {p q r : Pen} {l : Last} → (a : Gap p l q) → Gap q a.last r → Gap p l r
+both_gaps : {names : Tables} {p q r : Pen} {l : Last} → (a : Gap names p l q) → Gap names q a.last r → Gap names p l r
 both_gaps a b = record { last = b.last; writes = wrote_both a.writes b.writes; ready = λ y. b.ready (a.ready y); begun = λ y. b.begun (a.begun y); semicolon = b.semicolon ∙ a.semicolon }
 
-next_line_written : (p : Pen) (l : Last) → Knows p l → Gap p l (layout next_line p)
+next_line_written : {names : Tables} (p : Pen) (l : Last) → Knows names p l → Gap names p l (layout next_line p)
 next_line_written p l k =
     let a = soft_line_written p l k in
     both_gaps a (gap (indentation_written (layout soft_line p) a.last a.writes.knows))
 
-between_written : (lines : Bool) (p : Pen) (l : Last) → Knows p l → Gap p l (layout (line_or_space lines) p)
+between_written : {names : Tables} (lines : Bool) (p : Pen) (l : Last) → Knows names p l → Gap names p l (layout (line_or_space lines) p)
 between_written true p l k = next_line_written p l k
 between_written false p l k = gap (soft_space_written p l k)
 
 -- ---- members
 
-pub nothing_inside : (L : Tokens → Trees → Type 0) → L done no_trees → (lines : Bool) (place : Place) → InsideAt L lines place no_trees
+pub nothing_inside : {names : Tables} (L : Tokens → Trees → Type 0) → L done no_trees → (lines : Bool) (place : Place) → InsideAt names L lines place no_trees
 nothing_inside L r lines place p l z b k = record { last = l; tokens = done; writes = wrote_none p p l refl k; semicolon = z; trees = no_trees; reads = r; same = refl }
 
-pub last_inside : (R : Tokens → Tree → Type 0) (L : Tokens → Trees → Type 0) → ((ts : Tokens) (t : Tree) → R ts t → L ts (more t no_trees)) → (lines : Bool) (place : Place) (t : Tree) → ElementAt R place t → InsideAt L lines place (more t no_trees)
+pub last_inside : {names : Tables} (R : Tokens → Tree → Type 0) (L : Tokens → Trees → Type 0) → ((ts : Tokens) (t : Tree) → R ts t → L ts (more t no_trees)) → (lines : Bool) (place : Place) (t : Tree) → ElementAt names R place t → InsideAt names L lines place (more t no_trees)
 last_inside R L one lines place t f p l z b k =
     let g = f p l z b k in
     record { last = g.last; tokens = g.tokens; writes = g.writes; semicolon = g.semicolon; trees = more g.tree no_trees; reads = one g.tokens g.tree g.reads; same = ap (λ u. more u no_trees) g.same }
 
 -- a member, its comma, a blank and the others
-first_parts : (R : Tokens → Tree → Type 0) (L : Tokens → Trees → Type 0) → ((mark : Bool) (a b : Tokens) (t : Tree) (us : Trees) → R a t → L b us → L (a ⧺ piece mark (Sign comma) b) (more t us)) → (lines : Bool) (place : Place) (t : Tree) (ts : Trees) (items : Items) → ElementAt R place t → InsideOf L items ts
-    → (p : Pen) (l : Last) → p.pending_semicolon ≡ false → Begun l → Knows p l → Inside L p l (layout items (layout (line_or_space lines) (layout (punctuator comma) (layout (spell t place) p)))) (more t ts)
-first_parts R L join lines place t ts items f h p l z b k =
+first_parts : {names : Tables} (R : Tokens → Tree → Type 0) (L : Tokens → Trees → Type 0) → ((mark : Bool) (a b : Tokens) (t : Tree) (us : Trees) → R a t → L b us → L (a ⧺ piece mark (Sign comma) b) (more t us)) → (lines : Bool) (place : Place) (t : Tree) (ts : Trees) (items : Items) → ElementAt names R place t → InsideOf names L items ts
+    → (p : Pen) (l : Last) → p.pending_semicolon ≡ false → Begun l → Knows names p l → Inside names L p l (layout items (layout (line_or_space lines) (layout (punctuator comma) (layout (spell t place) p)))) (more t ts)
+first_parts {names} R L join lines place t ts items f h p l z b k =
     let p1 : Pen = layout (spell t place) p in
     let p2 : Pen = layout (punctuator comma) p1 in
     let p3 : Pen = layout (line_or_space lines) p2 in
@@ -73,18 +75,18 @@ first_parts R L join lines place t ts items f h p l z b k =
       semicolon = r.semicolon;
       trees = more g.tree r.trees;
       reads = join (line_of g.last) g.tokens r.tokens g.tree r.trees g.reads r.reads;
-      same = same_more g.tree t r.trees ts g.same r.same;
+      same = same_more g.tree (renamed names t) r.trees (renamed_trees names ts) g.same r.same;
     }
 
 -- before others
-pub first_inside : (R : Tokens → Tree → Type 0) (L : Tokens → Trees → Type 0) → ((ts : Tokens) (t : Tree) → R ts t → L ts (more t no_trees)) → ((mark : Bool) (a b : Tokens) (t : Tree) (us : Trees) → R a t → L b us → L (a ⧺ piece mark (Sign comma) b) (more t us)) → (lines : Bool) (place : Place) (t : Tree) (ts : Trees) → ElementAt R place t → InsideAt L lines place ts → InsideAt L lines place (more t ts)
+pub first_inside : {names : Tables} (R : Tokens → Tree → Type 0) (L : Tokens → Trees → Type 0) → ((ts : Tokens) (t : Tree) → R ts t → L ts (more t no_trees)) → ((mark : Bool) (a b : Tokens) (t : Tree) (us : Trees) → R a t → L b us → L (a ⧺ piece mark (Sign comma) b) (more t us)) → (lines : Bool) (place : Place) (t : Tree) (ts : Trees) → ElementAt names R place t → InsideAt names L lines place ts → InsideAt names L lines place (more t ts)
 first_inside R L one join lines place t no_trees f h = last_inside R L one lines place t f
 first_inside R L one join lines place t (more u us) f h = first_parts R L join lines place t (more u us) (spell_elements lines (more u us) place ⊕ comma_if (ends_in_hole (more u us))) f h
 first_inside R L one join lines place t (hole us) f h = first_parts R L join lines place t (hole us) (spell_elements lines (hole us) place ⊕ comma_if (ends_in_hole (hole us))) f h
 
 -- one that is left out: its comma, a blank and the others
-hole_parts : (L : Tokens → Trees → Type 0) → ((mark : Bool) (b : Tokens) (us : Trees) → L b us → L (piece mark (Sign comma) b) (hole us)) → (lines : Bool) (ts : Trees) (items : Items) → InsideOf L items ts
-    → (p : Pen) (l : Last) → p.pending_semicolon ≡ false → Begun l → Knows p l → Inside L p l (layout items (layout (line_or_space lines) (layout (punctuator comma) p))) (hole ts)
+hole_parts : {names : Tables} (L : Tokens → Trees → Type 0) → ((mark : Bool) (b : Tokens) (us : Trees) → L b us → L (piece mark (Sign comma) b) (hole us)) → (lines : Bool) (ts : Trees) (items : Items) → InsideOf names L items ts
+    → (p : Pen) (l : Last) → p.pending_semicolon ≡ false → Begun l → Knows names p l → Inside names L p l (layout items (layout (line_or_space lines) (layout (punctuator comma) p))) (hole ts)
 hole_parts L skip lines ts items h p l z b k =
     let p2 : Pen = layout (punctuator comma) p in
     let p3 : Pen = layout (line_or_space lines) p2 in
@@ -101,7 +103,7 @@ hole_parts L skip lines ts items h p l z b k =
       same = ap (λ us. hole us) r.same;
     }
 
-pub hole_inside : (L : Tokens → Trees → Type 0) → L done no_trees → ((mark : Bool) (b : Tokens) (us : Trees) → L b us → L (piece mark (Sign comma) b) (hole us)) → (lines : Bool) (place : Place) (ts : Trees) → InsideAt L lines place ts → InsideAt L lines place (hole ts)
+pub hole_inside : {names : Tables} (L : Tokens → Trees → Type 0) → L done no_trees → ((mark : Bool) (b : Tokens) (us : Trees) → L b us → L (piece mark (Sign comma) b) (hole us)) → (lines : Bool) (place : Place) (ts : Trees) → InsideAt names L lines place ts → InsideAt names L lines place (hole ts)
 hole_inside L r skip lines place no_trees h p l z b k =
     let w = wrote_comma p l k in
     record { last = After (Sign comma); tokens = piece (line_of l) (Sign comma) done; writes = w; semicolon = z; trees = hole no_trees; reads = skip (line_of l) done no_trees r; same = refl }
@@ -111,10 +113,10 @@ hole_inside L r skip lines place (hole us) h p l z b k = hole_parts L skip lines
 -- ---- on lines of their own
 
 -- the depth doesn't matter
-at_depth : {p : Pen} {l : Last} (depth : ℕ) → Knows p l → Knows (record p { depth = depth }) l
-at_depth depth k = record { indent = k.indent; ending = k.ending }
+at_depth : {names : Tables} {p : Pen} {l : Last} (depth : ℕ) → Knows names p l → Knows names (record p { depth = depth }) l
+at_depth depth k = record { indent = k.indent; tables = k.tables; ending = k.ending }
 
-lined : (L : Tokens → Trees → Type 0) (items : Items) (ts : Trees) → InsideOf L items ts → InsideOf L (on_lines true items) ts
+lined : {names : Tables} (L : Tokens → Trees → Type 0) (items : Items) (ts : Trees) → InsideOf names L items ts → InsideOf names L (on_lines true items) ts
 lined L items ts f p l z b k =
     let p1 : Pen = record p { depth = deeper_level p.style.minified p.depth } in
     let p2 : Pen = layout next_line p1 in
@@ -136,14 +138,14 @@ lined L items ts f p l z b k =
     }
 
 -- or not
-pub inside_lines : (L : Tokens → Trees → Type 0) (lines : Bool) (items : Items) (ts : Trees) → InsideOf L items ts → InsideOf L (on_lines lines items) ts
+pub inside_lines : {names : Tables} (L : Tokens → Trees → Type 0) (lines : Bool) (items : Items) (ts : Trees) → InsideOf names L items ts → InsideOf names L (on_lines lines items) ts
 inside_lines L true items ts f = lined L items ts f
 inside_lines L false items ts f = f
 
 -- ---- in the braces of an object
 
 -- with a space on each side
-padded : (L : Tokens → Trees → Type 0) (items : Items) (ts : Trees) → InsideOf L items ts → InsideOf L (soft_space ⊕ (items ⊕ soft_space)) ts
+padded : {names : Tables} (L : Tokens → Trees → Type 0) (items : Items) (ts : Trees) → InsideOf names L items ts → InsideOf names L (soft_space ⊕ (items ⊕ soft_space)) ts
 padded L items ts f p l z b k =
     let p1 : Pen = layout soft_space p in
     let p2 : Pen = layout items p1 in
@@ -160,7 +162,7 @@ padded L items ts f p l z b k =
       same = g.same;
     }
 
-pub inside_braces : (L : Tokens → Trees → Type 0) (items : Items) (ts : Trees) → InsideOf L items ts → InsideOf L (object_inside ts items) ts
+pub inside_braces : {names : Tables} (L : Tokens → Trees → Type 0) (items : Items) (ts : Trees) → InsideOf names L items ts → InsideOf names L (object_inside ts items) ts
 inside_braces L items no_trees f = f
 inside_braces L items (more t no_trees) f = padded L items (more t no_trees) f
 inside_braces L items (more t (more u us)) f = lined L items (more t (more u us)) f

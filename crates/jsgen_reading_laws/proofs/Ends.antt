@@ -1,5 +1,6 @@
 -- What ends a statement: a semicolon that is left to what follows, or nothing more.
 use Rattle.std.proofs.Common.{◌≡◌, Bool, true, false, refl, sym, ap, ◌∙◌, subst}
+use Rattle.jsgen_tree.specs.Job.{Tables}
 use Rattle.jsgen_model.specs.Punctuator.{semicolon}
 use Rattle.jsgen_model.specs.Tokens.{Tokens, done, piece, ◌⧺◌, Sign}
 use Rattle.jsgen_model.specs.Items.{due_semicolon}
@@ -58,18 +59,18 @@ ended_more left last ts a e = let k = ended_behind left last ts a done (subst (�
 -- ---- the semicolon that is due
 
 -- it ends what stands before it
-pub record Due (p : Pen) (l : Last) (q : Pen) : Type 0 where
+pub record Due (names : Tables) (p : Pen) (l : Last) (q : Pen) : Type 0 where
   pub last : Last
   pub tokens : Tokens
-  pub writes : Writes p l q last tokens
+  pub writes : Writes names p l q last tokens
   pub ready : Ready last
   pub semicolon : q.pending_semicolon ≡ false
   pub ends : (a : Tokens) → Ended p.pending_semicolon false (a ⧺ tokens) a
 
-pub due_ends : (p : Pen) (l : Last) → Ready l → Knows p l → Due p l (layout due_semicolon p)
-due_ends p l y k = by p.pending_semicolon refl
+pub due_ends : {names : Tables} (p : Pen) (l : Last) → Ready l → Knows names p l → Due names p l (layout due_semicolon p)
+due_ends {names} p l y k = by p.pending_semicolon refl
   where
-    by : (left : Bool) → p.pending_semicolon ≡ left → Due p l (layout due_semicolon p)
+    by : (left : Bool) → p.pending_semicolon ≡ left → Due names p l (layout due_semicolon p)
     by true e = record {
       last = After (Sign semicolon);
       tokens = piece (line_of l) (Sign semicolon) done;

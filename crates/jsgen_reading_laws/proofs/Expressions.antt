@@ -8,13 +8,16 @@ use Rattle.jsgen_syntax.specs.Wtf8.{are_units}
 use Rattle.jsgen_syntax.specs.declared.quote.Quote.{Quote}
 use Rattle.jsgen_syntax.proofs.Escapes.{word_text_value}
 use Rattle.jsgen_syntax.proofs.Strings.{escaped_value}
+use Rattle.jsgen_tree.specs.Job.{Tables}
 use Rattle.jsgen_model.specs.Punctuator.{dot}
 use Rattle.jsgen_model.specs.Items.{string, word, member_dot}
 use Rattle.jsgen_tree.specs.Atom.{units, flag}
 use Rattle.jsgen_tree.specs.Tree.{Tree, Maybe, Trees, Atoms, type_of}
 use Rattle.jsgen_tree.specs.Sets.{is_simple_assignment_target}
+use Rattle.jsgen_tree.specs.Inside.{reference_named}
+use Rattle.jsgen_tree.specs.Named.{printed_name}
 use Rattle.jsgen_tree.specs.Places.{bare}
-use Rattle.jsgen_tree.specs.Values.{identifier_reference_name, boolean_literal_value, string_literal_value}
+use Rattle.jsgen_tree.specs.Values.{boolean_literal_value, string_literal_value}
 use Rattle.jsgen_tree.specs.Nodes as tree
 use Rattle.jsgen_model.specs.Tokens.{Tokens, done, piece, Word, Quoted, Sign}
 use Rattle.jsgen_model.specs.Layout.{Pen, layout, chosen_quote, Start, nowhere, statement, arrow_body, default_export}
@@ -51,15 +54,15 @@ use Rattle.jsgen_reading_laws.proofs.Sequences.{MorePartsAt, good_sequence, no_m
 
 -- ---- names and numbers
 
-pub reference_target : (c : Allowed) (a : Atoms) → is_free_name (identifier_reference_name a) ≡ true → TargetPrinted c (tree.identifier_reference a)
-reference_target c a h place p l z y k =
-    let v : List ℕ = identifier_reference_name a in
+pub reference_target : {names : Tables} (c : Allowed) (a : Atoms) → is_free_name (printed_name names (reference_named a)) ≡ true → TargetPrinted names c (tree.identifier_reference a)
+reference_target {names} c a h place p l z y k =
+    let v : List ℕ = printed_name names (reference_named a) in
     let w : List ℕ = name_text p.style.ascii v in
     let e : word_value w ≡ Some v = word_text_value p.style.ascii v (free_spelled v h) in (
       record {
         last = After (Word w);
         tokens = piece (line_of l) (Word w) done;
-        writes = wrote_name v p l (free_spelled v h) k;
+        writes = wrote_name (reference_named a) p l (free_spelled v h) k;
         operand = tt;
         semicolon = z;
         begins = λ b n. name_begins place.start (line_of l) w v b e h n;
@@ -73,7 +76,7 @@ reference_target c a h place p l z y k =
       grammar.a_new (grammar.a_member (grammar.a_primary (grammar.a_reference e h))),
     )
 
-pub good_reference : (c : Allowed) (a : Atoms) → is_free_name (identifier_reference_name a) ≡ true → Printed c (tree.identifier_reference a)
+pub good_reference : {names : Tables} (c : Allowed) (a : Atoms) → is_free_name (printed_name names (reference_named a)) ≡ true → Printed names c (tree.identifier_reference a)
 good_reference c a h place p l z y k = (reference_target c a h place p l z y k).0
 
 this_begins : (start : Start) (line : Bool) (b : Tokens) → may_begin start (piece line (Word (codes "this")) b) ≡ true
@@ -82,7 +85,7 @@ this_begins statement line b = refl
 this_begins arrow_body line b = refl
 this_begins default_export line b = refl
 
-pub good_this : (c : Allowed) (a : Atoms) → Printed c (tree.this_expression a)
+pub good_this : {names : Tables} (c : Allowed) (a : Atoms) → Printed names c (tree.this_expression a)
 good_this c a place p l z y k = record {
   last = _;
   tokens = piece (line_of l) (Word (codes "this")) done;
@@ -102,7 +105,7 @@ null_begins statement line b = refl
 null_begins arrow_body line b = refl
 null_begins default_export line b = refl
 
-pub good_null : (c : Allowed) (a : Atoms) → Printed c (tree.null_literal a)
+pub good_null : {names : Tables} (c : Allowed) (a : Atoms) → Printed names c (tree.null_literal a)
 good_null c a place p l z y k = record {
   last = _;
   tokens = piece (line_of l) (Word (codes "null")) done;
@@ -132,7 +135,7 @@ truth_read : {c : Allowed} {mark : Bool} (v : Bool) → grammar.ReadsExpression 
 truth_read true = grammar.a_true
 truth_read false = grammar.a_false
 
-pub good_boolean : (c : Allowed) (a : Atoms) → Printed c (tree.boolean_literal a)
+pub good_boolean : {names : Tables} (c : Allowed) (a : Atoms) → Printed names c (tree.boolean_literal a)
 good_boolean c a place p l z y k = let v : Bool = boolean_literal_value a in record {
   last = _;
   tokens = piece (line_of l) (Word (truth_word v)) done;
@@ -147,7 +150,7 @@ good_boolean c a place p l z y k = let v : Bool = boolean_literal_value a in rec
 }
 
 -- the meta property, three tokens
-pub good_new_target : (c : Allowed) (a : Atoms) → Printed c (tree.new_target a)
+pub good_new_target : {names : Tables} (c : Allowed) (a : Atoms) → Printed names c (tree.new_target a)
 good_new_target c a place p l z y k =
     let p1 : Pen = layout (word (codes "new")) p in
     let p2 : Pen = layout member_dot p1 in
@@ -175,7 +178,7 @@ quoted_begins statement line q w b = refl
 quoted_begins arrow_body line q w b = refl
 quoted_begins default_export line q w b = refl
 
-pub good_string : (c : Allowed) (a : Atoms) → are_units (string_literal_value a) ≡ true → Printed c (tree.string_literal a)
+pub good_string : {names : Tables} (c : Allowed) (a : Atoms) → are_units (string_literal_value a) ≡ true → Printed names c (tree.string_literal a)
 good_string c a h place p l z y k =
     let us : List ℕ = string_literal_value a in
     let backticks : Bool = not place.plain_quotes in
@@ -197,7 +200,7 @@ good_string c a h place p l z y k =
 
 -- ---- parentheses, which aren't printed
 
-pub good_parenthesized : (c : Allowed) (a : Atoms) (t : Tree) → Printed c t → Printed c (tree.parenthesized a t)
+pub good_parenthesized : {names : Tables} (c : Allowed) (a : Atoms) (t : Tree) → Printed names c t → Printed names c (tree.parenthesized a t)
 good_parenthesized c a t f place p l z y k =
     let g = f place p l z y k in
     record { last = g.last; tokens = g.tokens; writes = g.writes; operand = g.operand; semicolon = g.semicolon; begins = g.begins; line = g.line; tree = g.tree; reads = g.reads; same = g.same }
@@ -205,112 +208,112 @@ good_parenthesized c a t f place p l z y k =
 -- ---- the whole
 
 mutual
-  pub printed_expression : {c : Allowed} {t : Tree} → IsExpression c t → Printed c t
-  printed_expression {c} (family.a_reference {a} h) = good_reference c a h
-  printed_expression {c} (family.a_this {a}) = good_this c a
-  printed_expression {c} (family.a_null {a}) = good_null c a
-  printed_expression {c} (family.a_boolean {a}) = good_boolean c a
-  printed_expression {c} (family.a_number {a} h) = good_number c a h
-  printed_expression {c} (family.a_big_integer {a} h) = good_big_integer c a h
-  printed_expression {c} (family.a_string {a} h) = good_string c a h
-  printed_expression {c} (family.in_parentheses {a} {t} v) = good_parenthesized c a t (printed_expression v)
-  printed_expression {c} (family.an_operation {a} {l} {r} v w) = good_operation c a l r (asked v).unary (printed_expression v) (printed_expression w)
-  printed_expression {c} (family.a_logical_operation {a} {l} {r} v w) = good_logical_operation c a l r (printed_expression v) (printed_expression w) (asked v).mixed (asked w).mixed
-  printed_expression {c} (family.a_unary_operation {a} {t} v) = good_unary_operation c a t (printed_expression v)
-  printed_expression {c} (family.an_update {a} {t} s v) = good_update c a t (printed_target v s)
-  printed_expression {c} (family.a_construction {a} {f} {es} v w) = good_construction c a f es (printed_expression v) (printed_arguments w)
-  printed_expression {c} (family.a_new_target {a}) = good_new_target c a
-  printed_expression {c} (family.a_named_member {a} {b} {o} m v h) = good_named_member c a b o m h (printed_link v)
-  printed_expression {c} (family.a_computed_member {a} {o} {e} m v w) = good_computed_member c a o e m (printed_link v) (printed_expression w)
-  printed_expression {c} (family.a_call {a} {f} {es} m v w) = good_call c a f es m (printed_link v) (printed_arguments w)
-  printed_expression {c} (family.a_choice {a} {x} {y} {z} u v w) = good_choice c a x y z (printed_expression u) (printed_expression v) (printed_expression w)
-  printed_expression {c} (family.a_sequence {a} {t} {u} {ts} v w x) = good_sequence c a t u ts (printed_expression v) (printed_expression w) (printed_parts x)
-  printed_expression {c} (family.an_assignment {a} {t} {u} s v w) = good_assignment c a t u (printed_target v s) (printed_expression w)
-  printed_expression {c} (family.a_chain {a} {t} v) = good_chain c a t (printed_chain v)
-  printed_expression {c} (family.an_array {a} {es} v) = good_array c a es (printed_elements v)
-  printed_expression {c} (family.an_object {a} {ps} v) = good_object c a ps (printed_properties v)
-  printed_expression {c} (family.an_arrow_function {a} {ps} {e} h v w) = good_arrow_function c a ps e h (printed_parameters v) (printed_expression w)
+  pub printed_expression : {names : Tables} {c : Allowed} {t : Tree} → IsExpression names c t → Printed names c t
+  printed_expression {names} {c} (family.a_reference {a} h) = good_reference c a h
+  printed_expression {names} {c} (family.a_this {a}) = good_this c a
+  printed_expression {names} {c} (family.a_null {a}) = good_null c a
+  printed_expression {names} {c} (family.a_boolean {a}) = good_boolean c a
+  printed_expression {names} {c} (family.a_number {a} h) = good_number c a h
+  printed_expression {names} {c} (family.a_big_integer {a} h) = good_big_integer c a h
+  printed_expression {names} {c} (family.a_string {a} h) = good_string c a h
+  printed_expression {names} {c} (family.in_parentheses {a} {t} v) = good_parenthesized c a t (printed_expression v)
+  printed_expression {names} {c} (family.an_operation {a} {l} {r} v w) = good_operation c a l r (asked v).unary (printed_expression v) (printed_expression w)
+  printed_expression {names} {c} (family.a_logical_operation {a} {l} {r} v w) = good_logical_operation c a l r (printed_expression v) (printed_expression w) (asked v).mixed (asked w).mixed
+  printed_expression {names} {c} (family.a_unary_operation {a} {t} v) = good_unary_operation c a t (printed_expression v)
+  printed_expression {names} {c} (family.an_update {a} {t} s v) = good_update c a t (printed_target v s)
+  printed_expression {names} {c} (family.a_construction {a} {f} {es} v w) = good_construction c a f es (printed_expression v) (printed_arguments w)
+  printed_expression {names} {c} (family.a_new_target {a}) = good_new_target c a
+  printed_expression {names} {c} (family.a_named_member {a} {b} {o} m v h) = good_named_member c a b o m h (printed_link v)
+  printed_expression {names} {c} (family.a_computed_member {a} {o} {e} m v w) = good_computed_member c a o e m (printed_link v) (printed_expression w)
+  printed_expression {names} {c} (family.a_call {a} {f} {es} m v w) = good_call c a f es m (printed_link v) (printed_arguments w)
+  printed_expression {names} {c} (family.a_choice {a} {x} {y} {z} u v w) = good_choice c a x y z (printed_expression u) (printed_expression v) (printed_expression w)
+  printed_expression {names} {c} (family.a_sequence {a} {t} {u} {ts} v w x) = good_sequence c a t u ts (printed_expression v) (printed_expression w) (printed_parts x)
+  printed_expression {names} {c} (family.an_assignment {a} {t} {u} s v w) = good_assignment c a t u (printed_target v s) (printed_expression w)
+  printed_expression {names} {c} (family.a_chain {a} {t} v) = good_chain c a t (printed_chain v)
+  printed_expression {names} {c} (family.an_array {a} {es} v) = good_array c a es (printed_elements v)
+  printed_expression {names} {c} (family.an_object {a} {ps} v) = good_object c a ps (printed_properties v)
+  printed_expression {names} {c} (family.an_arrow_function {a} {ps} {e} h v w) = good_arrow_function c a ps e h (printed_parameters v) (printed_expression w)
 
-  printed_parameters : {c : Allowed} {t : Tree} → IsParameters c t → ArrowParametersOf c t
-  printed_parameters {c} (family.all_parameters {a} {ps} {rest} v w) = good_arrow_parameters c a ps rest (name_alone (family.all_parameters v w)) (parameters_of v rest (printed_rest w))
+  printed_parameters : {names : Tables} {c : Allowed} {t : Tree} → IsParameters names c t → ArrowParametersOf names c t
+  printed_parameters {names} {c} (family.all_parameters {a} {ps} {rest} v w) = good_arrow_parameters c a ps rest (name_alone (family.all_parameters v w)) (parameters_of v rest (printed_rest w))
 
-  parameters_of : {c : Allowed} {ps : Trees} → AreParameters c ps → (rest : Maybe) → RestOf c rest → ParametersOf c ps rest
-  parameters_of {c} family.no_parameter rest f = no_parameters c rest f
-  parameters_of {c} (family.first_parameter {t} {ts} v w) rest f = some_parameters c t ts rest (printed_parameter v) (more_parameters w) f
+  parameters_of : {names : Tables} {c : Allowed} {ps : Trees} → AreParameters names c ps → (rest : Maybe) → RestOf names c rest → ParametersOf names c ps rest
+  parameters_of {names} {c} family.no_parameter rest f = no_parameters c rest f
+  parameters_of {names} {c} (family.first_parameter {t} {ts} v w) rest f = some_parameters c t ts rest (printed_parameter v) (more_parameters w) f
 
-  more_parameters : {c : Allowed} {ps : Trees} → AreParameters c ps → MoreParametersOf c ps
-  more_parameters {c} family.no_parameter = no_more_parameters c
-  more_parameters {c} (family.first_parameter {t} {ts} v w) = one_more_parameter c t ts (printed_parameter v) (more_parameters w)
+  more_parameters : {names : Tables} {c : Allowed} {ps : Trees} → AreParameters names c ps → MoreParametersOf names c ps
+  more_parameters {names} {c} family.no_parameter = no_more_parameters c
+  more_parameters {names} {c} (family.first_parameter {t} {ts} v w) = one_more_parameter c t ts (printed_parameter v) (more_parameters w)
 
-  printed_parameter : {c : Allowed} {t : Tree} → IsParameter c t → ParameterOf c t
-  printed_parameter {c} (family.a_parameter {a} {b} {m} h i j v w) = good_parameter c a b m h i j (bound v) (printed_value w)
+  printed_parameter : {names : Tables} {c : Allowed} {t : Tree} → IsParameter names c t → ParameterOf names c t
+  printed_parameter {names} {c} (family.a_parameter {a} {b} {m} h i j v w) = good_parameter c a b m h i j (bound v) (printed_value w)
 
-  printed_rest : {c : Allowed} {rest : Maybe} → IsRest c rest → RestOf c rest
-  printed_rest {c} family.no_rest = tt
-  printed_rest {c} (family.a_rest {a} {b} v) = good_rest c a b (bound v)
+  printed_rest : {names : Tables} {c : Allowed} {rest : Maybe} → IsRest names c rest → RestOf names c rest
+  printed_rest {names} {c} family.no_rest = tt
+  printed_rest {names} {c} (family.a_rest {a} {b} v) = good_rest c a b (bound v)
 
-  pub printed_value : {c : Allowed} {m : Maybe} → IsValue c m → PrintedIfGiven c m
-  printed_value {c} family.no_value = tt
-  printed_value {c} (family.a_value v) = printed_expression v
+  pub printed_value : {names : Tables} {c : Allowed} {m : Maybe} → IsValue names c m → PrintedIfGiven names c m
+  printed_value {names} {c} family.no_value = tt
+  printed_value {names} {c} (family.a_value v) = printed_expression v
 
-  printed_parts : {c : Allowed} {ts : Trees} → AreParts c ts → MorePartsAt c ts
-  printed_parts {c} family.no_part = no_more_parts c
-  printed_parts {c} (family.first_part {t} {ts} v w) = one_more_part c t ts (printed_expression v) (printed_parts w)
+  printed_parts : {names : Tables} {c : Allowed} {ts : Trees} → AreParts names c ts → MorePartsAt names c ts
+  printed_parts {names} {c} family.no_part = no_more_parts c
+  printed_parts {names} {c} (family.first_part {t} {ts} v w) = one_more_part c t ts (printed_expression v) (printed_parts w)
 
-  printed_target : {c : Allowed} {t : Tree} → IsExpression c t → is_simple_assignment_target (type_of t) ≡ true → TargetPrinted c t
-  printed_target {c} (family.a_reference {a} h) s = reference_target c a h
-  printed_target {c} (family.a_named_member {a} {b} {o} m v h) s = named_target c a b o m h (printed_link v)
-  printed_target {c} (family.a_computed_member {a} {o} {e} m v w) s = computed_target c a o e m (printed_link v) (printed_expression w)
+  printed_target : {names : Tables} {c : Allowed} {t : Tree} → IsExpression names c t → is_simple_assignment_target (type_of t) ≡ true → TargetPrinted names c t
+  printed_target {names} {c} (family.a_reference {a} h) s = reference_target c a h
+  printed_target {names} {c} (family.a_named_member {a} {b} {o} m v h) s = named_target c a b o m h (printed_link v)
+  printed_target {names} {c} (family.a_computed_member {a} {o} {e} m v w) s = computed_target c a o e m (printed_link v) (printed_expression w)
   printed_target v s = absurd (both_ways false refl s)
 
-  printed_chain : {c : Allowed} {t : Tree} → IsChain c t → ChainPrinted c t
-  printed_chain {c} (family.an_optional_named_member {a} {b} {o} m v h) = optional_named_member c a b o m h (printed_base v)
-  printed_chain {c} (family.an_optional_computed_member {a} {o} {e} m v w) = optional_computed_member c a o e m (printed_base v) (printed_expression w)
-  printed_chain {c} (family.an_optional_call {a} {f} {es} m v w) = optional_call c a f es m (printed_base v) (printed_arguments w)
-  printed_chain {c} (family.a_further_named_member {a} {b} {o} m v h) = further_named_member c a b o m h (printed_chain v)
-  printed_chain {c} (family.a_further_computed_member {a} {o} {e} m v w) = further_computed_member c a o e m (printed_chain v) (printed_expression w)
-  printed_chain {c} (family.a_further_call {a} {f} {es} m v w) = further_call c a f es m (printed_chain v) (printed_arguments w)
+  printed_chain : {names : Tables} {c : Allowed} {t : Tree} → IsChain names c t → ChainPrinted names c t
+  printed_chain {names} {c} (family.an_optional_named_member {a} {b} {o} m v h) = optional_named_member c a b o m h (printed_base v)
+  printed_chain {names} {c} (family.an_optional_computed_member {a} {o} {e} m v w) = optional_computed_member c a o e m (printed_base v) (printed_expression w)
+  printed_chain {names} {c} (family.an_optional_call {a} {f} {es} m v w) = optional_call c a f es m (printed_base v) (printed_arguments w)
+  printed_chain {names} {c} (family.a_further_named_member {a} {b} {o} m v h) = further_named_member c a b o m h (printed_chain v)
+  printed_chain {names} {c} (family.a_further_computed_member {a} {o} {e} m v w) = further_computed_member c a o e m (printed_chain v) (printed_expression w)
+  printed_chain {names} {c} (family.a_further_call {a} {f} {es} m v w) = further_call c a f es m (printed_chain v) (printed_arguments w)
 
-  printed_base : {c : Allowed} {t : Tree} → IsChainBase c t → BasePrinted c t
-  printed_base {c} (family.a_first_link {t} v) = base_expression c t (printed_expression v)
-  printed_base {c} (family.a_further_link {t} v) = base_chain c t (printed_chain v)
+  printed_base : {names : Tables} {c : Allowed} {t : Tree} → IsChainBase names c t → BasePrinted names c t
+  printed_base {names} {c} (family.a_first_link {t} v) = base_expression c t (printed_expression v)
+  printed_base {names} {c} (family.a_further_link {t} v) = base_chain c t (printed_chain v)
 
-  printed_link : {c : Allowed} {t : Tree} → IsLink c t → LinkPrinted c t
-  printed_link {c} (family.a_super {a}) = link_super c a
-  printed_link {c} (family.an_operand {t} v) = link_expression c t (printed_expression v)
+  printed_link : {names : Tables} {c : Allowed} {t : Tree} → IsLink names c t → LinkPrinted names c t
+  printed_link {names} {c} (family.a_super {a}) = link_super c a
+  printed_link {names} {c} (family.an_operand {t} v) = link_expression c t (printed_expression v)
 
-  printed_arguments : {c : Allowed} {es : Trees} → AreArguments c es → ArgumentsAt c es
-  printed_arguments {c} family.no_argument = no_arguments c
-  printed_arguments {c} (family.first_argument {e} {es} v w) = first_of_arguments c e es (printed_element v) (behind_first w)
+  printed_arguments : {names : Tables} {c : Allowed} {es : Trees} → AreArguments names c es → ArgumentsAt names c es
+  printed_arguments {names} {c} family.no_argument = no_arguments c
+  printed_arguments {names} {c} (family.first_argument {e} {es} v w) = first_of_arguments c e es (printed_element v) (behind_first w)
 
-  behind_first : {c : Allowed} {es : Trees} → AreArguments c es → BehindFirstAt c es
-  behind_first {c} family.no_argument = none_behind_first c
-  behind_first {c} (family.first_argument {e} {es} v w) = second_argument c e es (printed_element v) (more_arguments w)
+  behind_first : {names : Tables} {c : Allowed} {es : Trees} → AreArguments names c es → BehindFirstAt names c es
+  behind_first {names} {c} family.no_argument = none_behind_first c
+  behind_first {names} {c} (family.first_argument {e} {es} v w) = second_argument c e es (printed_element v) (more_arguments w)
 
-  more_arguments : {c : Allowed} {es : Trees} → AreArguments c es → MoreArgumentsAt c es
-  more_arguments {c} family.no_argument = no_more_arguments c
-  more_arguments {c} (family.first_argument {e} {es} v w) = one_more_argument c e es (printed_element v) (more_arguments w)
+  more_arguments : {names : Tables} {c : Allowed} {es : Trees} → AreArguments names c es → MoreArgumentsAt names c es
+  more_arguments {names} {c} family.no_argument = no_more_arguments c
+  more_arguments {names} {c} (family.first_argument {e} {es} v w) = one_more_argument c e es (printed_element v) (more_arguments w)
 
-  printed_properties : {c : Allowed} {ps : Trees} → AreProperties c ps → PropertiesOf c ps
-  printed_properties {c} family.no_property = no_properties c
-  printed_properties {c} (family.first_property {t} {ts} v w) = first_of_properties c t ts (printed_property v) (printed_properties w)
+  printed_properties : {names : Tables} {c : Allowed} {ps : Trees} → AreProperties names c ps → PropertiesOf names c ps
+  printed_properties {names} {c} family.no_property = no_properties c
+  printed_properties {names} {c} (family.first_property {t} {ts} v w) = first_of_properties c t ts (printed_property v) (printed_properties w)
 
-  printed_property : {c : Allowed} {t : Tree} → IsProperty c t → PropertyOf c t
-  printed_property {c} (family.a_spread_property {a} {e} v) = good_spread_property c a e (printed_expression v)
-  printed_property {c} (family.a_property {computed} {a} {k} {v = x} m d key f value) = good_property c a computed k x m d f key value (printed_key key) (printed_expression value)
+  printed_property : {names : Tables} {c : Allowed} {t : Tree} → IsProperty names c t → PropertyOf names c t
+  printed_property {names} {c} (family.a_spread_property {a} {e} v) = good_spread_property c a e (printed_expression v)
+  printed_property {names} {c} (family.a_property {computed} {a} {k} {v = x} m d key f value) = good_property c a computed k x m d f key value (printed_key key) (printed_expression value)
 
-  printed_key : {c : Allowed} {computed : Bool} {t : Tree} → IsKey c computed t → KeyOf c computed t
-  printed_key {c} (family.a_name_key {a} h) = good_name_key c a h
-  printed_key {c} (family.a_string_key {a} h) = good_string_key c a h
-  printed_key {c} (family.a_number_key {a} h) = good_number_key c a h
-  printed_key {c} (family.a_big_integer_key {a} h m) = good_big_integer_key c a h m
-  printed_key {c} (family.a_computed_key {t} v) = good_computed_key v (printed_expression v)
+  printed_key : {names : Tables} {c : Allowed} {computed : Bool} {t : Tree} → IsKey names c computed t → KeyOf names c computed t
+  printed_key {names} {c} (family.a_name_key {a} h) = good_name_key c a h
+  printed_key {names} {c} (family.a_string_key {a} h) = good_string_key c a h
+  printed_key {names} {c} (family.a_number_key {a} h) = good_number_key c a h
+  printed_key {names} {c} (family.a_big_integer_key {a} h m) = good_big_integer_key c a h m
+  printed_key {names} {c} (family.a_computed_key {t} v) = good_computed_key v (printed_expression v)
 
-  printed_elements : {c : Allowed} {es : Trees} → AreElements c es → ElementsOf c es
-  printed_elements {c} family.no_element = no_elements c
-  printed_elements {c} (family.first_element {e} {es} v w) = first_of_elements c e es (printed_element v) (printed_elements w)
-  printed_elements {c} (family.an_elision {es} v) = left_out_of_elements c es (printed_elements v)
+  printed_elements : {names : Tables} {c : Allowed} {es : Trees} → AreElements names c es → ElementsOf names c es
+  printed_elements {names} {c} family.no_element = no_elements c
+  printed_elements {names} {c} (family.first_element {e} {es} v w) = first_of_elements c e es (printed_element v) (printed_elements w)
+  printed_elements {names} {c} (family.an_elision {es} v) = left_out_of_elements c es (printed_elements v)
 
-  pub printed_element : {c : Allowed} {e : Tree} → IsElement c e → ElementOf c e
-  printed_element {c} (family.an_element {e} v) = good_element c e (printed_expression v)
-  printed_element {c} (family.a_spread {a} {e} v) = good_spread c a e (printed_expression v)
+  pub printed_element : {names : Tables} {c : Allowed} {e : Tree} → IsElement names c e → ElementOf names c e
+  printed_element {names} {c} (family.an_element {e} v) = good_element c e (printed_expression v)
+  printed_element {names} {c} (family.a_spread {a} {e} v) = good_spread c a e (printed_expression v)

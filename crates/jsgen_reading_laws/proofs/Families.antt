@@ -1,13 +1,17 @@
--- The trees over which the induction goes. They follow from the rules, one lemma a row.
+-- The trees over which the induction goes, where names are printed by these tables. They follow from the rules, one lemma a row.
 use Rattle.std.proofs.Common.{◌≡◌, ◌^◌, nat_lt, ℕ, Bool, true, false, not, ◌&&◌, ◌||◌, ◌++◌, List, [], ◌∷◌, Option, Some, None, is_some, refl, ap}
+use Rattle.std.specs.Option.{option_map_or}
+use Rattle.jsgen_syntax.specs.declared.span.Span.{Span}
 use Rattle.std.proofs.lemmas.Bool.{both_ways, and_parts, and_from, not-true, or_parts}
 use Rattle.jsgen_tree.specs.Atom.{Atom, text}
 use Rattle.jsgen_tree.specs.Atom as atoms
 use Rattle.jsgen_tree.specs.Tree.{Tree, node, Maybe, absent, given, Trees, no_trees, more, hole, Atoms, type_of, span_of}
 use Rattle.jsgen_tree.specs.Nodes as tree
-use Rattle.jsgen_tree.specs.Values.{as_text, program_kind, directive_directive, binding_identifier_name, identifier_reference_name, identifier_name_name, numeric_literal_kind, numeric_literal_digits, numeric_literal_text, big_int_literal_value, string_literal_value, variable_declaration_declare, variable_declarator_definite, static_member_expression_optional, computed_member_expression_optional, call_expression_optional, object_property_method, object_property_shorthand, object_property_computed, formal_parameter_is_override, formal_parameter_readonly, formal_parameter_optional, arrow_function_expression_is_async}
+use Rattle.jsgen_tree.specs.Values.{as_text, program_kind, directive_directive, identifier_name_name, numeric_literal_kind, numeric_literal_digits, numeric_literal_text, big_int_literal_value, string_literal_value, variable_declaration_declare, variable_declarator_definite, static_member_expression_optional, computed_member_expression_optional, call_expression_optional, object_property_method, object_property_shorthand, object_property_computed, formal_parameter_is_override, formal_parameter_readonly, formal_parameter_optional, arrow_function_expression_is_async}
 use Rattle.jsgen_tree.specs.Number.{NumericKind, Whole, Raw}
-use Rattle.jsgen_tree.specs.Inside.{is_negative_big_integer, has_optional_link}
+use Rattle.jsgen_tree.specs.Job.{Tables}
+use Rattle.jsgen_tree.specs.Named.{Named, printed_name}
+use Rattle.jsgen_tree.specs.Inside.{reference_named, binding_named, is_negative_big_integer, has_optional_link}
 use Rattle.jsgen_tree.specs.Everywhere.{EverywhereIfGiven, EverywhereInTrees}
 use Rattle.jsgen_tree.specs.Sets.{in_set, is_expression, is_argument, is_statement, is_binding_pattern, is_variable_declarator, is_identifier_name, is_directive, is_simple_assignment_target, is_assignment_target, is_object_property_kind, is_formal_parameter, is_formal_parameter_rest, is_formal_parameters}
 use Rattle.jsgen_tree.specs.declared.types.NodeType.{NodeType}
@@ -23,7 +27,7 @@ use Rattle.jsgen_model.specs.Numbers.{is_raw_number, is_big_integer}
 use Rattle.jsgen_model.specs.Grammar.{Allowed, in_module, in_arrow_body}
 use Rattle.jsgen_model.specs.Plain.{IsPlain, is_plain_row, is_module, is_number, is_raw, is_absent, has_no_hole}
 use Rattle.jsgen_model.specs.Normal.{or_none, directive_units}
-use Rattle.jsgen_model.specs.Valid.{Surroundings, ChildPlace, takes_super, is_super, may_stand, breaches, in_maybe, in_trees, fault_if, set_faults, span_faults, own_faults, body_faults, name_faults, directive_faults, written_name_faults, number_faults, big_integer_faults, declaration_faults, is_literal_key, may_be_key, key_faults, shorthand_faults, sequence_faults, takes_optional_link, link_faults, super_faults, chain_faults, target_faults}
+use Rattle.jsgen_model.specs.Valid.{Surroundings, ChildPlace, takes_super, is_super, may_stand, breaches, in_maybe, in_trees, fault_if, set_faults, span_faults, own_faults, body_faults, is_in_tables, name_faults, directive_faults, written_name_faults, number_faults, big_integer_faults, declaration_faults, is_literal_key, may_be_key, key_faults, shorthand_faults, sequence_faults, takes_optional_link, link_faults, super_faults, chain_faults, target_faults}
 
 -- the value of a number: a whole one of 128 bits, or the text of one
 abbrev pub has_value : NumericKind → Atoms → Bool
@@ -32,140 +36,140 @@ has_value Raw a = is_raw_number (numeric_literal_text a)
 
 mutual
   -- what a link goes on from
-  pub data IsLink : Allowed → Tree → Type 0 where
-    a_super : {c : Allowed} {a : Atoms} → IsLink c (tree.super a)
-    an_operand : {c : Allowed} {t : Tree} → IsExpression c t → IsLink c t
+  pub data IsLink : Tables → Allowed → Tree → Type 0 where
+    a_super : {names : Tables} {c : Allowed} {a : Atoms} → IsLink names c (tree.super a)
+    an_operand : {names : Tables} {c : Allowed} {t : Tree} → IsExpression names c t → IsLink names c t
 
-  pub data IsExpression : Allowed → Tree → Type 0 where
-    a_reference : {c : Allowed} {a : Atoms} → is_free_name (identifier_reference_name a) ≡ true → IsExpression c (tree.identifier_reference a)
-    a_this : {c : Allowed} {a : Atoms} → IsExpression c (tree.this_expression a)
-    a_null : {c : Allowed} {a : Atoms} → IsExpression c (tree.null_literal a)
-    a_boolean : {c : Allowed} {a : Atoms} → IsExpression c (tree.boolean_literal a)
-    a_number : {c : Allowed} {a : Atoms} → has_value (numeric_literal_kind a) a ≡ true → IsExpression c (tree.numeric_literal a)
-    a_big_integer : {c : Allowed} {a : Atoms} → is_big_integer (big_int_literal_value a) ≡ true → IsExpression c (tree.big_int_literal a)
-    a_string : {c : Allowed} {a : Atoms} → are_units (string_literal_value a) ≡ true → IsExpression c (tree.string_literal a)
-    in_parentheses : {c : Allowed} {a : Atoms} {t : Tree} → IsExpression c t → IsExpression c (tree.parenthesized a t)
-    a_named_member : {c : Allowed} {a b : Atoms} {o : Tree} → static_member_expression_optional a ≡ false → IsLink c o → spells_name (identifier_name_name b) ≡ true → IsExpression c (tree.static_member a o (tree.identifier_name b))
-    a_computed_member : {c : Allowed} {a : Atoms} {o e : Tree} → computed_member_expression_optional a ≡ false → IsLink c o → IsExpression c e → IsExpression c (tree.computed_member a o e)
-    a_call : {c : Allowed} {a : Atoms} {f : Tree} {es : Trees} → call_expression_optional a ≡ false → IsLink c f → AreArguments c es → IsExpression c (tree.call a f es)
-    a_chain : {c : Allowed} {a : Atoms} {t : Tree} → IsChain c t → IsExpression c (tree.chain a t)
-    a_unary_operation : {c : Allowed} {a : Atoms} {t : Tree} → IsExpression c t → IsExpression c (tree.unary a t)
-    an_update : {c : Allowed} {a : Atoms} {t : Tree} → is_simple_assignment_target (type_of t) ≡ true → IsExpression c t → IsExpression c (tree.update a t)
-    a_construction : {c : Allowed} {a : Atoms} {f : Tree} {es : Trees} → IsExpression c f → AreArguments c es → IsExpression c (tree.new_expression a f es)
-    a_new_target : {c : Allowed} {a : Atoms} → IsExpression c (tree.new_target a)
-    an_operation : {c : Allowed} {a : Atoms} {l r : Tree} → IsExpression c l → IsExpression c r → IsExpression c (tree.binary a l r)
-    a_logical_operation : {c : Allowed} {a : Atoms} {l r : Tree} → IsExpression c l → IsExpression c r → IsExpression c (tree.logical a l r)
-    a_choice : {c : Allowed} {a : Atoms} {x y z : Tree} → IsExpression c x → IsExpression c y → IsExpression c z → IsExpression c (tree.conditional a x y z)
-    a_sequence : {c : Allowed} {a : Atoms} {t u : Tree} {ts : Trees} → IsExpression c t → IsExpression c u → AreParts c ts → IsExpression c (tree.sequence a (more t (more u ts)))
-    an_assignment : {c : Allowed} {a : Atoms} {t u : Tree} → is_simple_assignment_target (type_of t) ≡ true → IsExpression c t → IsExpression c u → IsExpression c (tree.assignment a t u)
-    an_array : {c : Allowed} {a : Atoms} {es : Trees} → AreElements c es → IsExpression c (tree.array a es)
-    an_object : {c : Allowed} {a : Atoms} {ps : Trees} → AreProperties c ps → IsExpression c (tree.object_expression a ps)
-    an_arrow_function : {c : Allowed} {a : Atoms} {ps e : Tree} → arrow_function_expression_is_async a ≡ atoms.no_value → IsParameters c ps → IsExpression (in_arrow_body c) e → IsExpression c (tree.arrow_function a ps e)
+  pub data IsExpression : Tables → Allowed → Tree → Type 0 where
+    a_reference : {names : Tables} {c : Allowed} {a : Atoms} → is_free_name (printed_name names (reference_named a)) ≡ true → IsExpression names c (tree.identifier_reference a)
+    a_this : {names : Tables} {c : Allowed} {a : Atoms} → IsExpression names c (tree.this_expression a)
+    a_null : {names : Tables} {c : Allowed} {a : Atoms} → IsExpression names c (tree.null_literal a)
+    a_boolean : {names : Tables} {c : Allowed} {a : Atoms} → IsExpression names c (tree.boolean_literal a)
+    a_number : {names : Tables} {c : Allowed} {a : Atoms} → has_value (numeric_literal_kind a) a ≡ true → IsExpression names c (tree.numeric_literal a)
+    a_big_integer : {names : Tables} {c : Allowed} {a : Atoms} → is_big_integer (big_int_literal_value a) ≡ true → IsExpression names c (tree.big_int_literal a)
+    a_string : {names : Tables} {c : Allowed} {a : Atoms} → are_units (string_literal_value a) ≡ true → IsExpression names c (tree.string_literal a)
+    in_parentheses : {names : Tables} {c : Allowed} {a : Atoms} {t : Tree} → IsExpression names c t → IsExpression names c (tree.parenthesized a t)
+    a_named_member : {names : Tables} {c : Allowed} {a b : Atoms} {o : Tree} → static_member_expression_optional a ≡ false → IsLink names c o → spells_name (identifier_name_name b) ≡ true → IsExpression names c (tree.static_member a o (tree.identifier_name b))
+    a_computed_member : {names : Tables} {c : Allowed} {a : Atoms} {o e : Tree} → computed_member_expression_optional a ≡ false → IsLink names c o → IsExpression names c e → IsExpression names c (tree.computed_member a o e)
+    a_call : {names : Tables} {c : Allowed} {a : Atoms} {f : Tree} {es : Trees} → call_expression_optional a ≡ false → IsLink names c f → AreArguments names c es → IsExpression names c (tree.call a f es)
+    a_chain : {names : Tables} {c : Allowed} {a : Atoms} {t : Tree} → IsChain names c t → IsExpression names c (tree.chain a t)
+    a_unary_operation : {names : Tables} {c : Allowed} {a : Atoms} {t : Tree} → IsExpression names c t → IsExpression names c (tree.unary a t)
+    an_update : {names : Tables} {c : Allowed} {a : Atoms} {t : Tree} → is_simple_assignment_target (type_of t) ≡ true → IsExpression names c t → IsExpression names c (tree.update a t)
+    a_construction : {names : Tables} {c : Allowed} {a : Atoms} {f : Tree} {es : Trees} → IsExpression names c f → AreArguments names c es → IsExpression names c (tree.new_expression a f es)
+    a_new_target : {names : Tables} {c : Allowed} {a : Atoms} → IsExpression names c (tree.new_target a)
+    an_operation : {names : Tables} {c : Allowed} {a : Atoms} {l r : Tree} → IsExpression names c l → IsExpression names c r → IsExpression names c (tree.binary a l r)
+    a_logical_operation : {names : Tables} {c : Allowed} {a : Atoms} {l r : Tree} → IsExpression names c l → IsExpression names c r → IsExpression names c (tree.logical a l r)
+    a_choice : {names : Tables} {c : Allowed} {a : Atoms} {x y z : Tree} → IsExpression names c x → IsExpression names c y → IsExpression names c z → IsExpression names c (tree.conditional a x y z)
+    a_sequence : {names : Tables} {c : Allowed} {a : Atoms} {t u : Tree} {ts : Trees} → IsExpression names c t → IsExpression names c u → AreParts names c ts → IsExpression names c (tree.sequence a (more t (more u ts)))
+    an_assignment : {names : Tables} {c : Allowed} {a : Atoms} {t u : Tree} → is_simple_assignment_target (type_of t) ≡ true → IsExpression names c t → IsExpression names c u → IsExpression names c (tree.assignment a t u)
+    an_array : {names : Tables} {c : Allowed} {a : Atoms} {es : Trees} → AreElements names c es → IsExpression names c (tree.array a es)
+    an_object : {names : Tables} {c : Allowed} {a : Atoms} {ps : Trees} → AreProperties names c ps → IsExpression names c (tree.object_expression a ps)
+    an_arrow_function : {names : Tables} {c : Allowed} {a : Atoms} {ps e : Tree} → arrow_function_expression_is_async a ≡ atoms.no_value → IsParameters names c ps → IsExpression names (in_arrow_body c) e → IsExpression names c (tree.arrow_function a ps e)
 
   -- the parts of a sequence behind its first two
-  pub data AreParts : Allowed → Trees → Type 0 where
-    no_part : {c : Allowed} → AreParts c no_trees
-    first_part : {c : Allowed} {t : Tree} {ts : Trees} → IsExpression c t → AreParts c ts → AreParts c (more t ts)
+  pub data AreParts : Tables → Allowed → Trees → Type 0 where
+    no_part : {names : Tables} {c : Allowed} → AreParts names c no_trees
+    first_part : {names : Tables} {c : Allowed} {t : Tree} {ts : Trees} → IsExpression names c t → AreParts names c ts → AreParts names c (more t ts)
 
   -- links of which one at least is optional
-  pub data IsChain : Allowed → Tree → Type 0 where
-    an_optional_named_member : {c : Allowed} {a b : Atoms} {o : Tree} → static_member_expression_optional a ≡ true → IsChainBase c o → spells_name (identifier_name_name b) ≡ true → IsChain c (tree.static_member a o (tree.identifier_name b))
-    an_optional_computed_member : {c : Allowed} {a : Atoms} {o e : Tree} → computed_member_expression_optional a ≡ true → IsChainBase c o → IsExpression c e → IsChain c (tree.computed_member a o e)
-    an_optional_call : {c : Allowed} {a : Atoms} {f : Tree} {es : Trees} → call_expression_optional a ≡ true → IsChainBase c f → AreArguments c es → IsChain c (tree.call a f es)
-    a_further_named_member : {c : Allowed} {a b : Atoms} {o : Tree} → static_member_expression_optional a ≡ false → IsChain c o → spells_name (identifier_name_name b) ≡ true → IsChain c (tree.static_member a o (tree.identifier_name b))
-    a_further_computed_member : {c : Allowed} {a : Atoms} {o e : Tree} → computed_member_expression_optional a ≡ false → IsChain c o → IsExpression c e → IsChain c (tree.computed_member a o e)
-    a_further_call : {c : Allowed} {a : Atoms} {f : Tree} {es : Trees} → call_expression_optional a ≡ false → IsChain c f → AreArguments c es → IsChain c (tree.call a f es)
+  pub data IsChain : Tables → Allowed → Tree → Type 0 where
+    an_optional_named_member : {names : Tables} {c : Allowed} {a b : Atoms} {o : Tree} → static_member_expression_optional a ≡ true → IsChainBase names c o → spells_name (identifier_name_name b) ≡ true → IsChain names c (tree.static_member a o (tree.identifier_name b))
+    an_optional_computed_member : {names : Tables} {c : Allowed} {a : Atoms} {o e : Tree} → computed_member_expression_optional a ≡ true → IsChainBase names c o → IsExpression names c e → IsChain names c (tree.computed_member a o e)
+    an_optional_call : {names : Tables} {c : Allowed} {a : Atoms} {f : Tree} {es : Trees} → call_expression_optional a ≡ true → IsChainBase names c f → AreArguments names c es → IsChain names c (tree.call a f es)
+    a_further_named_member : {names : Tables} {c : Allowed} {a b : Atoms} {o : Tree} → static_member_expression_optional a ≡ false → IsChain names c o → spells_name (identifier_name_name b) ≡ true → IsChain names c (tree.static_member a o (tree.identifier_name b))
+    a_further_computed_member : {names : Tables} {c : Allowed} {a : Atoms} {o e : Tree} → computed_member_expression_optional a ≡ false → IsChain names c o → IsExpression names c e → IsChain names c (tree.computed_member a o e)
+    a_further_call : {names : Tables} {c : Allowed} {a : Atoms} {f : Tree} {es : Trees} → call_expression_optional a ≡ false → IsChain names c f → AreArguments names c es → IsChain names c (tree.call a f es)
 
   -- what an optional link goes on from
-  pub data IsChainBase : Allowed → Tree → Type 0 where
-    a_first_link : {c : Allowed} {t : Tree} → IsExpression c t → IsChainBase c t
-    a_further_link : {c : Allowed} {t : Tree} → IsChain c t → IsChainBase c t
+  pub data IsChainBase : Tables → Allowed → Tree → Type 0 where
+    a_first_link : {names : Tables} {c : Allowed} {t : Tree} → IsExpression names c t → IsChainBase names c t
+    a_further_link : {names : Tables} {c : Allowed} {t : Tree} → IsChain names c t → IsChainBase names c t
 
-  pub data AreProperties : Allowed → Trees → Type 0 where
-    no_property : {c : Allowed} → AreProperties c no_trees
-    first_property : {c : Allowed} {t : Tree} {ts : Trees} → IsProperty c t → AreProperties c ts → AreProperties c (more t ts)
+  pub data AreProperties : Tables → Allowed → Trees → Type 0 where
+    no_property : {names : Tables} {c : Allowed} → AreProperties names c no_trees
+    first_property : {names : Tables} {c : Allowed} {t : Tree} {ts : Trees} → IsProperty names c t → AreProperties names c ts → AreProperties names c (more t ts)
 
   -- a property, or an object whose properties are spread
-  pub data IsProperty : Allowed → Tree → Type 0 where
-    a_property : {c : Allowed} {computed : Bool} {a : Atoms} {k v : Tree} → object_property_method a ≡ atoms.no_value → object_property_computed a ≡ computed → IsKey c computed k → shorthand_faults (object_property_shorthand a) k v ≡ [] → IsExpression c v → IsProperty c (tree.object_property a k v)
-    a_spread_property : {c : Allowed} {a : Atoms} {e : Tree} → IsExpression c e → IsProperty c (tree.spread a e)
+  pub data IsProperty : Tables → Allowed → Tree → Type 0 where
+    a_property : {names : Tables} {c : Allowed} {computed : Bool} {a : Atoms} {k v : Tree} → object_property_method a ≡ atoms.no_value → object_property_computed a ≡ computed → IsKey names c computed k → shorthand_faults names (object_property_shorthand a) k v ≡ [] → IsExpression names c v → IsProperty names c (tree.object_property a k v)
+    a_spread_property : {names : Tables} {c : Allowed} {a : Atoms} {e : Tree} → IsExpression names c e → IsProperty names c (tree.spread a e)
 
   -- the flag tells that the key is computed
-  pub data IsKey : Allowed → Bool → Tree → Type 0 where
-    a_name_key : {c : Allowed} {a : Atoms} → spells_name (identifier_name_name a) ≡ true → IsKey c false (tree.identifier_name a)
-    a_string_key : {c : Allowed} {a : Atoms} → are_units (string_literal_value a) ≡ true → IsKey c false (tree.string_literal a)
-    a_number_key : {c : Allowed} {a : Atoms} → has_value (numeric_literal_kind a) a ≡ true → IsKey c false (tree.numeric_literal a)
-    a_big_integer_key : {c : Allowed} {a : Atoms} → is_big_integer (big_int_literal_value a) ≡ true → is_negative_big_integer (tree.big_int_literal a) ≡ false → IsKey c false (tree.big_int_literal a)
-    a_computed_key : {c : Allowed} {t : Tree} → IsExpression c t → IsKey c true t
+  pub data IsKey : Tables → Allowed → Bool → Tree → Type 0 where
+    a_name_key : {names : Tables} {c : Allowed} {a : Atoms} → spells_name (identifier_name_name a) ≡ true → IsKey names c false (tree.identifier_name a)
+    a_string_key : {names : Tables} {c : Allowed} {a : Atoms} → are_units (string_literal_value a) ≡ true → IsKey names c false (tree.string_literal a)
+    a_number_key : {names : Tables} {c : Allowed} {a : Atoms} → has_value (numeric_literal_kind a) a ≡ true → IsKey names c false (tree.numeric_literal a)
+    a_big_integer_key : {names : Tables} {c : Allowed} {a : Atoms} → is_big_integer (big_int_literal_value a) ≡ true → is_negative_big_integer (tree.big_int_literal a) ≡ false → IsKey names c false (tree.big_int_literal a)
+    a_computed_key : {names : Tables} {c : Allowed} {t : Tree} → IsExpression names c t → IsKey names c true t
 
-  pub data AreArguments : Allowed → Trees → Type 0 where
-    no_argument : {c : Allowed} → AreArguments c no_trees
-    first_argument : {c : Allowed} {e : Tree} {es : Trees} → IsElement c e → AreArguments c es → AreArguments c (more e es)
+  pub data AreArguments : Tables → Allowed → Trees → Type 0 where
+    no_argument : {names : Tables} {c : Allowed} → AreArguments names c no_trees
+    first_argument : {names : Tables} {c : Allowed} {e : Tree} {es : Trees} → IsElement names c e → AreArguments names c es → AreArguments names c (more e es)
 
   -- elements of an array, of which some are left out
-  pub data AreElements : Allowed → Trees → Type 0 where
-    no_element : {c : Allowed} → AreElements c no_trees
-    first_element : {c : Allowed} {e : Tree} {es : Trees} → IsElement c e → AreElements c es → AreElements c (more e es)
-    an_elision : {c : Allowed} {es : Trees} → AreElements c es → AreElements c (hole es)
+  pub data AreElements : Tables → Allowed → Trees → Type 0 where
+    no_element : {names : Tables} {c : Allowed} → AreElements names c no_trees
+    first_element : {names : Tables} {c : Allowed} {e : Tree} {es : Trees} → IsElement names c e → AreElements names c es → AreElements names c (more e es)
+    an_elision : {names : Tables} {c : Allowed} {es : Trees} → AreElements names c es → AreElements names c (hole es)
 
   -- an argument, or an element of an array
-  pub data IsElement : Allowed → Tree → Type 0 where
-    an_element : {c : Allowed} {e : Tree} → IsExpression c e → IsElement c e
-    a_spread : {c : Allowed} {a : Atoms} {e : Tree} → IsExpression c e → IsElement c (tree.spread a e)
+  pub data IsElement : Tables → Allowed → Tree → Type 0 where
+    an_element : {names : Tables} {c : Allowed} {e : Tree} → IsExpression names c e → IsElement names c e
+    a_spread : {names : Tables} {c : Allowed} {a : Atoms} {e : Tree} → IsExpression names c e → IsElement names c (tree.spread a e)
 
   -- the parameters of a function, of which one may take the rest
-  pub data IsParameters : Allowed → Tree → Type 0 where
-    all_parameters : {c : Allowed} {a : Atoms} {ps : Trees} {rest : Maybe} → AreParameters c ps → IsRest c rest → IsParameters c (tree.formal_parameters a ps rest)
+  pub data IsParameters : Tables → Allowed → Tree → Type 0 where
+    all_parameters : {names : Tables} {c : Allowed} {a : Atoms} {ps : Trees} {rest : Maybe} → AreParameters names c ps → IsRest names c rest → IsParameters names c (tree.formal_parameters a ps rest)
 
-  pub data AreParameters : Allowed → Trees → Type 0 where
-    no_parameter : {c : Allowed} → AreParameters c no_trees
-    first_parameter : {c : Allowed} {t : Tree} {ts : Trees} → IsParameter c t → AreParameters c ts → AreParameters c (more t ts)
+  pub data AreParameters : Tables → Allowed → Trees → Type 0 where
+    no_parameter : {names : Tables} {c : Allowed} → AreParameters names c no_trees
+    first_parameter : {names : Tables} {c : Allowed} {t : Tree} {ts : Trees} → IsParameter names c t → AreParameters names c ts → AreParameters names c (more t ts)
 
-  pub data IsParameter : Allowed → Tree → Type 0 where
-    a_parameter : {c : Allowed} {a : Atoms} {b : Tree} {m : Maybe} → formal_parameter_is_override a ≡ atoms.no_value → formal_parameter_readonly a ≡ atoms.no_value → formal_parameter_optional a ≡ atoms.no_value → IsBinding c b → IsValue c m → IsParameter c (tree.formal_parameter a b m)
+  pub data IsParameter : Tables → Allowed → Tree → Type 0 where
+    a_parameter : {names : Tables} {c : Allowed} {a : Atoms} {b : Tree} {m : Maybe} → formal_parameter_is_override a ≡ atoms.no_value → formal_parameter_readonly a ≡ atoms.no_value → formal_parameter_optional a ≡ atoms.no_value → IsBinding names c b → IsValue names c m → IsParameter names c (tree.formal_parameter a b m)
 
-  pub data IsRest : Allowed → Maybe → Type 0 where
-    no_rest : {c : Allowed} → IsRest c absent
-    a_rest : {c : Allowed} {a : Atoms} {b : Tree} → IsBinding c b → IsRest c (given (tree.formal_parameter_rest a b))
+  pub data IsRest : Tables → Allowed → Maybe → Type 0 where
+    no_rest : {names : Tables} {c : Allowed} → IsRest names c absent
+    a_rest : {names : Tables} {c : Allowed} {a : Atoms} {b : Tree} → IsBinding names c b → IsRest names c (given (tree.formal_parameter_rest a b))
 
-  pub data IsBinding : Allowed → Tree → Type 0 where
-    a_bound_name : {c : Allowed} {a : Atoms} → is_free_name (binding_identifier_name a) ≡ true → IsBinding c (tree.binding_identifier a)
+  pub data IsBinding : Tables → Allowed → Tree → Type 0 where
+    a_bound_name : {names : Tables} {c : Allowed} {a : Atoms} → is_free_name (printed_name names (binding_named a)) ≡ true → IsBinding names c (tree.binding_identifier a)
 
-  pub data IsValue : Allowed → Maybe → Type 0 where
-    no_value : {c : Allowed} → IsValue c absent
-    a_value : {c : Allowed} {t : Tree} → IsExpression c t → IsValue c (given t)
+  pub data IsValue : Tables → Allowed → Maybe → Type 0 where
+    no_value : {names : Tables} {c : Allowed} → IsValue names c absent
+    a_value : {names : Tables} {c : Allowed} {t : Tree} → IsExpression names c t → IsValue names c (given t)
 
-  pub data IsDeclarator : Allowed → Tree → Type 0 where
-    a_declarator : {c : Allowed} {a : Atoms} {b : Tree} {m : Maybe} → variable_declarator_definite a ≡ atoms.no_value → IsBinding c b → IsValue c m → IsDeclarator c (tree.variable_declarator a b m)
+  pub data IsDeclarator : Tables → Allowed → Tree → Type 0 where
+    a_declarator : {names : Tables} {c : Allowed} {a : Atoms} {b : Tree} {m : Maybe} → variable_declarator_definite a ≡ atoms.no_value → IsBinding names c b → IsValue names c m → IsDeclarator names c (tree.variable_declarator a b m)
 
-  pub data AreDeclarators : Allowed → Trees → Type 0 where
-    last_declarator : {c : Allowed} {d : Tree} → IsDeclarator c d → AreDeclarators c (more d no_trees)
-    first_declarator : {c : Allowed} {d e : Tree} {ds : Trees} → IsDeclarator c d → AreDeclarators c (more e ds) → AreDeclarators c (more d (more e ds))
+  pub data AreDeclarators : Tables → Allowed → Trees → Type 0 where
+    last_declarator : {names : Tables} {c : Allowed} {d : Tree} → IsDeclarator names c d → AreDeclarators names c (more d no_trees)
+    first_declarator : {names : Tables} {c : Allowed} {d e : Tree} {ds : Trees} → IsDeclarator names c d → AreDeclarators names c (more e ds) → AreDeclarators names c (more d (more e ds))
 
   -- no declaration
-  pub data IsStatement : Allowed → Tree → Type 0 where
-    an_expression_statement : {c : Allowed} {a : Atoms} {e : Tree} → IsExpression c e → IsStatement c (tree.expression_statement a e)
-    an_empty_statement : {c : Allowed} {a : Atoms} → IsStatement c (tree.empty_statement a)
-    a_block : {c : Allowed} {a : Atoms} {ss : Trees} → AreStatements c ss → IsStatement c (tree.block a ss)
-    an_if : {c : Allowed} {a : Atoms} {t s : Tree} → IsExpression c t → IsStatement c s → IsStatement c (tree.if_statement a t s absent)
-    an_if_with_else : {c : Allowed} {a : Atoms} {t s u : Tree} → IsExpression c t → IsStatement c s → IsStatement c u → IsStatement c (tree.if_statement a t s (given u))
+  pub data IsStatement : Tables → Allowed → Tree → Type 0 where
+    an_expression_statement : {names : Tables} {c : Allowed} {a : Atoms} {e : Tree} → IsExpression names c e → IsStatement names c (tree.expression_statement a e)
+    an_empty_statement : {names : Tables} {c : Allowed} {a : Atoms} → IsStatement names c (tree.empty_statement a)
+    a_block : {names : Tables} {c : Allowed} {a : Atoms} {ss : Trees} → AreStatements names c ss → IsStatement names c (tree.block a ss)
+    an_if : {names : Tables} {c : Allowed} {a : Atoms} {t s : Tree} → IsExpression names c t → IsStatement names c s → IsStatement names c (tree.if_statement a t s absent)
+    an_if_with_else : {names : Tables} {c : Allowed} {a : Atoms} {t s u : Tree} → IsExpression names c t → IsStatement names c s → IsStatement names c u → IsStatement names c (tree.if_statement a t s (given u))
 
   -- a statement or a declaration
-  pub data IsItem : Allowed → Tree → Type 0 where
-    a_statement : {c : Allowed} {s : Tree} → IsStatement c s → IsItem c s
-    a_declaration : {c : Allowed} {a : Atoms} {ds : Trees} → variable_declaration_declare a ≡ atoms.no_value → AreDeclarators c ds → IsItem c (tree.variable_declaration a ds)
+  pub data IsItem : Tables → Allowed → Tree → Type 0 where
+    a_statement : {names : Tables} {c : Allowed} {s : Tree} → IsStatement names c s → IsItem names c s
+    a_declaration : {names : Tables} {c : Allowed} {a : Atoms} {ds : Trees} → variable_declaration_declare a ≡ atoms.no_value → AreDeclarators names c ds → IsItem names c (tree.variable_declaration a ds)
 
-  pub data AreStatements : Allowed → Trees → Type 0 where
-    no_statement : {c : Allowed} → AreStatements c no_trees
-    first_statement : {c : Allowed} {s : Tree} {ss : Trees} → IsItem c s → AreStatements c ss → AreStatements c (more s ss)
+  pub data AreStatements : Tables → Allowed → Trees → Type 0 where
+    no_statement : {names : Tables} {c : Allowed} → AreStatements names c no_trees
+    first_statement : {names : Tables} {c : Allowed} {s : Tree} {ss : Trees} → IsItem names c s → AreStatements names c ss → AreStatements names c (more s ss)
 
 -- a raw text with its value
 pub data AreDirectives : Trees → Type 0 where
   no_directive : AreDirectives no_trees
   first_directive : {a : Atoms} {ds : Trees} (us : List ℕ) → directive_value (as_text (directive_directive a)) ≡ Some us → directive_units (directive_directive a) ≡ us → AreDirectives ds → AreDirectives (more (tree.directive a) ds)
 
-pub data IsProgram : Tree → Type 0 where
-  a_program : {a : Atoms} {directives body : Trees} → AreDirectives directives → AreStatements in_module body → IsProgram (tree.program a directives body)
+pub data IsProgram : Tables → Tree → Type 0 where
+  a_program : {names : Tables} {a : Atoms} {comments directives body : Trees} → AreDirectives directives → AreStatements names in_module body → IsProgram names (tree.program a comments directives body)
 
 -- ---- no fault
 
@@ -223,7 +227,7 @@ holds_nothing v e = absurd (no_truth e)
 
 -- the name of a member
 member_valid : (around : Surroundings) (n : Tree) (P : Tree → Type 0) → IsPlain n → is_identifier_name (type_of n) ≡ true → breaches around n ≡ [] → ((b : Atoms) → spells_name (identifier_name_name b) ≡ true → P (tree.identifier_name b)) → P n
-member_valid around (tree.identifier_name b) P p s e f = f b (none_unless (spells_name (identifier_name_name b)) (faults.Name b.span.start) (parts (span_faults b.span) (written_name_faults b.span (identifier_name_name b)) [] e).0)
+member_valid around (tree.identifier_name b) P p s e f = f b (none_unless (spells_name (identifier_name_name b)) (faults.Name b.span.start) (parts (span_faults around b.span) (written_name_faults b.span (identifier_name_name b)) [] e).0)
 member_valid around n P p s e f = absurd (search no_truth)
 
 -- an argument that isn't spread is an expression
@@ -261,7 +265,7 @@ target_is_simple types.ComputedMemberExpression h = refl
 target_is_simple type h = absurd (no_truth h)
 
 -- what a link goes on from is `super`, or may stand anywhere
-link_valid : (c : Allowed) (t : Tree) → IsPlain t → StandsAt sets.Link t → has_optional_link t ≡ false → (StandsAt sets.Expression t → IsExpression c t) → IsLink c t
+link_valid : {names : Tables} (c : Allowed) (t : Tree) → IsPlain t → StandsAt sets.Link t → has_optional_link t ≡ false → (StandsAt sets.Expression t → IsExpression names c t) → IsLink names c t
 link_valid c (tree.super a) p s n f = a_super
 link_valid c (node types.Super a slots) p s n f = absurd (no_truth p.0)
 link_valid c t p s n f = an_operand (f (s.0, n))
@@ -270,10 +274,10 @@ link_valid c t p s n f = an_operand (f (s.0, n))
 base_stands : (t : Tree) → StandsAt sets.Link t → super_faults true t ≡ [] → has_optional_link t ≡ false → StandsAt sets.Expression t
 base_stands t s e n = (and_from (is_expression (type_of t)) (false || not (is_super (type_of t))) (and_parts (is_expression (type_of t)) true s.0).0 (ap not (none_if (is_super (type_of t)) (faults.Place (span_of t).start) e)), n)
 
-base_valid : (c : Allowed) (t : Tree) → StandsAt sets.Link t → super_faults true t ≡ [] → (has_optional_link t ≡ true → IsChain c t) → (StandsAt sets.Expression t → IsExpression c t) → IsChainBase c t
-base_valid c t s e f g = by (has_optional_link t) refl
+base_valid : {names : Tables} (c : Allowed) (t : Tree) → StandsAt sets.Link t → super_faults true t ≡ [] → (has_optional_link t ≡ true → IsChain names c t) → (StandsAt sets.Expression t → IsExpression names c t) → IsChainBase names c t
+base_valid {names} c t s e f g = by (has_optional_link t) refl
   where
-    by : (b : Bool) → has_optional_link t ≡ b → IsChainBase c t
+    by : (b : Bool) → has_optional_link t ≡ b → IsChainBase names c t
     by true n = a_further_link (f n)
     by false n = a_first_link (g (base_stands t s e n))
 
@@ -293,21 +297,21 @@ key_stands : (t : Tree) → is_expression (type_of t) ≡ true → StandsAt sets
 key_stands t s m = (and_from (is_expression (type_of t)) (false || not (is_super (type_of t))) s (and_parts (in_set sets.PropertyKey (type_of t)) (false || not (is_super (type_of t))) m.0).1, m.1)
 
 big_valued : (around : Surroundings) (a : Atoms) → breaches around (tree.big_int_literal a) ≡ [] → is_big_integer (big_int_literal_value a) ≡ true
-big_valued around a e = none_unless (is_big_integer (big_int_literal_value a)) (faults.Literal a.span.start) (parts (span_faults a.span) (big_integer_faults a.span (big_int_literal_value a)) [] e).0
+big_valued around a e = none_unless (is_big_integer (big_int_literal_value a)) (faults.Literal a.span.start) (parts (span_faults around a.span) (big_integer_faults a.span (big_int_literal_value a)) [] e).0
 
 -- a number whose value is at no fault has one
 number_valued : (kind : NumericKind) (a : Atoms) → is_number kind a ≡ true → number_faults a.span kind (numeric_literal_text a) ≡ [] → has_value kind a ≡ true
 number_valued Whole a p e = p
 number_valued Raw a p e = none_unless (is_raw_number (numeric_literal_text a)) (faults.Literal a.span.start) e
 
-literal_key_valid : (c : Allowed) (around : Surroundings) (k : Tree) → IsPlain k → is_literal_key (type_of k) ≡ true → is_negative_big_integer k ≡ false → breaches around k ≡ [] → IsKey c false k
-literal_key_valid c around (tree.identifier_name a) p s m e = a_name_key (none_unless (spells_name (identifier_name_name a)) (faults.Name a.span.start) (parts (span_faults a.span) (written_name_faults a.span (identifier_name_name a)) [] e).0)
+literal_key_valid : (c : Allowed) (around : Surroundings) (k : Tree) → IsPlain k → is_literal_key (type_of k) ≡ true → is_negative_big_integer k ≡ false → breaches around k ≡ [] → IsKey around.tables c false k
+literal_key_valid c around (tree.identifier_name a) p s m e = a_name_key (none_unless (spells_name (identifier_name_name a)) (faults.Name a.span.start) (parts (span_faults around a.span) (written_name_faults a.span (identifier_name_name a)) [] e).0)
 literal_key_valid c around (tree.string_literal a) p s m e = a_string_key p.0
-literal_key_valid c around (tree.numeric_literal a) p s m e = a_number_key (number_valued (numeric_literal_kind a) a p.0 (parts (span_faults a.span) (number_faults a.span (numeric_literal_kind a) (numeric_literal_text a)) [] e).0)
+literal_key_valid c around (tree.numeric_literal a) p s m e = a_number_key (number_valued (numeric_literal_kind a) a p.0 (parts (span_faults around a.span) (number_faults a.span (numeric_literal_kind a) (numeric_literal_text a)) [] e).0)
 literal_key_valid c around (tree.big_int_literal a) p s m e = a_big_integer_key (big_valued around a e) m
 literal_key_valid c around k p s m e = absurd (search no_truth)
 
-key_valid : (c : Allowed) (around : Surroundings) (computed : Bool) (k : Tree) → IsPlain k → key_faults computed k ≡ [] → breaches around k ≡ [] → (is_expression (type_of k) ≡ true → IsExpression c k) → IsKey c computed k
+key_valid : (c : Allowed) (around : Surroundings) (computed : Bool) (k : Tree) → IsPlain k → key_faults computed k ≡ [] → breaches around k ≡ [] → (is_expression (type_of k) ≡ true → IsExpression around.tables c k) → IsKey around.tables c computed k
 key_valid c around true k p f e h = a_computed_key (h (none_unless (is_expression (type_of k)) (faults.Place (span_of k).start) f))
 key_valid c around false k p f e h =
     let m = and_parts (is_literal_key (type_of k)) (not (is_negative_big_integer k)) (none_unless (may_be_key false k) (faults.Place (span_of k).start) f) in
@@ -318,18 +322,24 @@ link_kind : {A : Type 0} (b : Bool) (o : Tree) → (b || has_optional_link o) �
 link_kind true o i e f g = f refl e
 link_kind false o i e f g = g refl i
 
-binding_valid : (c : Allowed) (around : Surroundings) (t : Tree) → IsPlain t → is_binding_pattern (type_of t) ≡ true → breaches around t ≡ [] → IsBinding c t
-binding_valid c around (tree.binding_identifier a) p s e = a_bound_name (none_unless (is_free_name (binding_identifier_name a)) (faults.Name a.span.start) (parts (span_faults a.span) (name_faults a.span (binding_identifier_name a)) [] e).0)
+-- what is printed for a name is free
+free_since : (around : Surroundings) (s : Span) (n : Named) → name_faults around.tables s n ≡ [] → is_free_name (printed_name around.tables n) ≡ true
+free_since around s n e =
+    let known : Bool = option_map_or (λ scoping. is_in_tables scoping n) around.tables.scoping true in
+    (and_parts known (is_free_name (printed_name around.tables n)) (none_unless (known && is_free_name (printed_name around.tables n)) (faults.Name s.start) e)).1
+
+binding_valid : (c : Allowed) (around : Surroundings) (t : Tree) → IsPlain t → is_binding_pattern (type_of t) ≡ true → breaches around t ≡ [] → IsBinding around.tables c t
+binding_valid c around (tree.binding_identifier a) p s e = a_bound_name (free_since around a.span (binding_named a) (parts (span_faults around a.span) (name_faults around.tables a.span (binding_named a)) [] e).0)
 binding_valid c around t p s e = absurd (search no_truth)
 
 -- the parameter that takes the rest
-rest_parameter_valid : (c : Allowed) (around : Surroundings) (t : Tree) → IsPlain t → is_formal_parameter_rest (type_of t) ≡ true → breaches around t ≡ [] → IsRest c (given t)
+rest_parameter_valid : (c : Allowed) (around : Surroundings) (t : Tree) → IsPlain t → is_formal_parameter_rest (type_of t) ≡ true → breaches around t ≡ [] → IsRest around.tables c (given t)
 rest_parameter_valid c around (tree.formal_parameter_rest a b) p s e =
-    let k = placed around sets.BindingPattern b [] (parts (span_faults a.span) [] _ e).1 in
+    let k = placed around sets.BindingPattern b [] (parts (span_faults around a.span) [] _ e).1 in
     a_rest (binding_valid c around b p.1.0 k.0 k.1)
 rest_parameter_valid c around t p s e = absurd (search no_truth)
 
-rest_valid : (c : Allowed) (around : Surroundings) (m : Maybe) → EverywhereIfGiven is_plain_row m → in_maybe around (place_of sets.FormalParameterRest around ∷ []) m ≡ [] → IsRest c m
+rest_valid : (c : Allowed) (around : Surroundings) (m : Maybe) → EverywhereIfGiven is_plain_row m → in_maybe around (place_of sets.FormalParameterRest around ∷ []) m ≡ [] → IsRest around.tables c m
 rest_valid c around absent p e = no_rest
 rest_valid c around (given t) p e =
     let h = none_both (set_faults sets.FormalParameterRest t) (breaches around t) e in
@@ -337,113 +347,113 @@ rest_valid c around (given t) p e =
     rest_parameter_valid c around t p (and_parts (is_formal_parameter_rest (type_of t)) (false || not (is_super (type_of t))) s.0).0 h.1
 
 mutual
-  pub expression_valid : (c : Allowed) (around : Surroundings) (t : Tree) → IsPlain t → StandsAt sets.Expression t → breaches around t ≡ [] → IsExpression c t
-  expression_valid c around (tree.identifier_reference a) p s e = a_reference (none_unless (is_free_name (identifier_reference_name a)) (faults.Name a.span.start) (parts (span_faults a.span) (name_faults a.span (identifier_reference_name a)) [] e).0)
+  pub expression_valid : (c : Allowed) (around : Surroundings) (t : Tree) → IsPlain t → StandsAt sets.Expression t → breaches around t ≡ [] → IsExpression around.tables c t
+  expression_valid c around (tree.identifier_reference a) p s e = a_reference (free_since around a.span (reference_named a) (parts (span_faults around a.span) (name_faults around.tables a.span (reference_named a)) [] e).0)
   expression_valid c around (tree.this_expression a) p s e = a_this
   expression_valid c around (tree.null_literal a) p s e = a_null
   expression_valid c around (tree.boolean_literal a) p s e = a_boolean
-  expression_valid c around (tree.numeric_literal a) p s e = a_number (number_valued (numeric_literal_kind a) a p.0 (parts (span_faults a.span) (number_faults a.span (numeric_literal_kind a) (numeric_literal_text a)) [] e).0)
+  expression_valid c around (tree.numeric_literal a) p s e = a_number (number_valued (numeric_literal_kind a) a p.0 (parts (span_faults around a.span) (number_faults a.span (numeric_literal_kind a) (numeric_literal_text a)) [] e).0)
   expression_valid c around (tree.big_int_literal a) p s e = a_big_integer (big_valued around a e)
   expression_valid c around (tree.string_literal a) p s e = a_string p.0
   expression_valid c around (tree.parenthesized a t) p s e =
-      let k = standing around sets.Expression t [] (parts (span_faults a.span) [] _ e).1 in
+      let k = standing around sets.Expression t [] (parts (span_faults around a.span) [] _ e).1 in
       in_parentheses (expression_valid c around t p.1.0 k.0 k.1)
   expression_valid c around (tree.binary a l r) p s e =
-      let k = standing around sets.Expression l _ (parts (span_faults a.span) [] _ e).1 in
+      let k = standing around sets.Expression l _ (parts (span_faults around a.span) [] _ e).1 in
       let j = standing around sets.Expression r [] k.2 in
       an_operation (expression_valid c around l p.1.0 k.0 k.1) (expression_valid c around r p.1.1.0 j.0 j.1)
   expression_valid c around (tree.logical a l r) p s e =
-      let k = standing around sets.Expression l _ (parts (span_faults a.span) [] _ e).1 in
+      let k = standing around sets.Expression l _ (parts (span_faults around a.span) [] _ e).1 in
       let j = standing around sets.Expression r [] k.2 in
       a_logical_operation (expression_valid c around l p.1.0 k.0 k.1) (expression_valid c around r p.1.1.0 j.0 j.1)
   expression_valid c around (tree.static_member a o n) p s e =
-      let k = standing around sets.Link o _ (parts (span_faults a.span) (super_faults (static_member_expression_optional a) o) _ e).1 in
+      let k = standing around sets.Link o _ (parts (span_faults around a.span) (super_faults (static_member_expression_optional a) o) _ e).1 in
       let j = placed around sets.IdentifierName n [] k.2 in
       let h = or_parts (static_member_expression_optional a) (has_optional_link o) s.1 in
-      member_valid around n (λ x. IsExpression c (tree.static_member a o x)) p.1.1.0 j.0 j.1 (λ b y. a_named_member h.0 (link_valid c o p.1.0 k.0 h.1 (λ x. expression_valid c around o p.1.0 x k.1)) y)
+      member_valid around n (λ x. IsExpression around.tables c (tree.static_member a o x)) p.1.1.0 j.0 j.1 (λ b y. a_named_member h.0 (link_valid c o p.1.0 k.0 h.1 (λ x. expression_valid c around o p.1.0 x k.1)) y)
   expression_valid c around (tree.computed_member a o x) p s e =
-      let k = standing around sets.Link o _ (parts (span_faults a.span) (super_faults (computed_member_expression_optional a) o) _ e).1 in
+      let k = standing around sets.Link o _ (parts (span_faults around a.span) (super_faults (computed_member_expression_optional a) o) _ e).1 in
       let j = standing around sets.Expression x [] k.2 in
       let h = or_parts (computed_member_expression_optional a) (has_optional_link o) s.1 in
       a_computed_member h.0 (link_valid c o p.1.0 k.0 h.1 (λ x. expression_valid c around o p.1.0 x k.1)) (expression_valid c around x p.1.1.0 j.0 j.1)
   expression_valid c around (tree.call a f es) p s e =
-      let k = standing around sets.Link f _ (parts (span_faults a.span) (super_faults (call_expression_optional a) f) _ e).1 in
+      let k = standing around sets.Link f _ (parts (span_faults around a.span) (super_faults (call_expression_optional a) f) _ e).1 in
       let j = none_both (in_trees around (place_of sets.Argument around ∷ []) es) [] k.2 in
       let h = or_parts (call_expression_optional a) (has_optional_link f) s.1 in
       a_call h.0 (link_valid c f p.1.0 k.0 h.1 (λ x. expression_valid c around f p.1.0 x k.1)) (arguments_valid c around es p.0 p.1.1.0 j.0)
   expression_valid c around (tree.chain a t) p s e =
-      let h = parts (span_faults a.span) (chain_faults a.span t) _ e in
+      let h = parts (span_faults around a.span) (chain_faults a.span t) _ e in
       let k = placed around sets.ChainElement t [] h.1 in
       a_chain (chain_valid c around t p.1.0 k.1 (none_unless (has_optional_link t) (faults.Place a.span.start) h.0))
   expression_valid c around (tree.array a es) p s e =
-      let j = none_both (in_trees around (place_of sets.ArrayExpressionElement around ∷ []) es) [] (parts (span_faults a.span) [] _ e).1 in
+      let j = none_both (in_trees around (place_of sets.ArrayExpressionElement around ∷ []) es) [] (parts (span_faults around a.span) [] _ e).1 in
       an_array (elements_valid c around es p.1.0 j.0)
   expression_valid c around (tree.unary a t) p s e =
-      let k = standing around sets.Expression t [] (parts (span_faults a.span) [] _ e).1 in
+      let k = standing around sets.Expression t [] (parts (span_faults around a.span) [] _ e).1 in
       a_unary_operation (expression_valid c around t p.1.0 k.0 k.1)
   expression_valid c around (tree.update a t) p s e =
-      let h = parts (span_faults a.span) (target_faults t) _ e in
+      let h = parts (span_faults around a.span) (target_faults t) _ e in
       let k = placed around sets.SimpleAssignmentTarget t [] h.1 in
       an_update k.0 (expression_valid c around t p.1.0 (target_stands (type_of t) k.0, none_if (has_optional_link t) (faults.Place (span_of t).start) h.0) k.1)
   expression_valid c around (tree.new_expression a f es) p s e =
-      let k = standing around sets.Expression f _ (parts (span_faults a.span) [] _ e).1 in
+      let k = standing around sets.Expression f _ (parts (span_faults around a.span) [] _ e).1 in
       let j = none_both (in_trees around (place_of sets.Argument around ∷ []) es) [] k.2 in
       a_construction (expression_valid c around f p.1.0 k.0 k.1) (arguments_valid c around es p.0 p.1.1.0 j.0)
   expression_valid c around (tree.new_target a) p s e = a_new_target
   expression_valid c around (tree.object_expression a ps) p s e =
-      let j = none_both (in_trees around (place_of sets.ObjectPropertyKind around ∷ []) ps) [] (parts (span_faults a.span) [] _ e).1 in
+      let j = none_both (in_trees around (place_of sets.ObjectPropertyKind around ∷ []) ps) [] (parts (span_faults around a.span) [] _ e).1 in
       an_object (properties_valid c around ps p.0 p.1.0 j.0)
   expression_valid c around (tree.conditional a x y z) p s e =
-      let k = standing around sets.Expression x _ (parts (span_faults a.span) [] _ e).1 in
+      let k = standing around sets.Expression x _ (parts (span_faults around a.span) [] _ e).1 in
       let j = standing around sets.Expression y _ k.2 in
       let i = standing around sets.Expression z [] j.2 in
       a_choice (expression_valid c around x p.1.0 k.0 k.1) (expression_valid c around y p.1.1.0 j.0 j.1) (expression_valid c around z p.1.1.1.0 i.0 i.1)
   expression_valid c around (tree.sequence a ts) p s e =
-      let h = parts (span_faults a.span) (sequence_faults a.span ts) _ e in
+      let h = parts (span_faults around a.span) (sequence_faults a.span ts) _ e in
       let j = none_both (in_trees around (place_of sets.Expression around ∷ []) ts) [] h.1 in
       sequence_valid c around a ts p.0 p.1.0 h.0 j.0
   expression_valid c around (tree.assignment a t u) p s e =
-      let h = parts (span_faults a.span) (target_faults t) _ e in
+      let h = parts (span_faults around a.span) (target_faults t) _ e in
       let k = placed around sets.AssignmentTarget t _ h.1 in
       let j = standing around sets.Expression u [] k.2 in
       let i = target_is_simple (type_of t) k.0 in
       an_assignment i (expression_valid c around t p.1.0 (target_stands (type_of t) i, none_if (has_optional_link t) (faults.Place (span_of t).start) h.0) k.1) (expression_valid c around u p.1.1.0 j.0 j.1)
   expression_valid c around (tree.arrow_function a ps t) p s e =
-      let k = placed around sets.FormalParameters ps _ (parts (span_faults a.span) [] _ e).1 in
+      let k = placed around sets.FormalParameters ps _ (parts (span_faults around a.span) [] _ e).1 in
       let j = standing around sets.ArrowFunctionBody t [] k.2 in
       an_arrow_function (holds_nothing (arrow_function_expression_is_async a) p.0) (parameters_valid c around ps p.1.0 k.0 k.1) (expression_valid (in_arrow_body c) around t p.1.1.0 j.0 j.1)
   expression_valid c around t p s e = absurd (search no_truth)
 
-  parameters_valid : (c : Allowed) (around : Surroundings) (t : Tree) → IsPlain t → is_formal_parameters (type_of t) ≡ true → breaches around t ≡ [] → IsParameters c t
+  parameters_valid : (c : Allowed) (around : Surroundings) (t : Tree) → IsPlain t → is_formal_parameters (type_of t) ≡ true → breaches around t ≡ [] → IsParameters around.tables c t
   parameters_valid c around (tree.formal_parameters a ps rest) p s e =
       let others : List ChildPlace = place_of sets.FormalParameterRest around ∷ [] in
-      let k = none_both (in_trees around (place_of sets.FormalParameter around ∷ others) ps) _ (parts (span_faults a.span) [] _ e).1 in
+      let k = none_both (in_trees around (place_of sets.FormalParameter around ∷ others) ps) _ (parts (span_faults around a.span) [] _ e).1 in
       let j = none_both (in_maybe around others rest) [] k.1 in
       all_parameters (each_parameter_valid c around others ps p.0 p.1.0 k.0) (rest_valid c around rest p.1.1.0 j.0)
   parameters_valid c around t p s e = absurd (search no_truth)
 
   -- behind their field stand others
-  each_parameter_valid : (c : Allowed) (around : Surroundings) (others : List ChildPlace) (ps : Trees) → has_no_hole ps ≡ true → EverywhereInTrees is_plain_row ps → in_trees around (place_of sets.FormalParameter around ∷ others) ps ≡ [] → AreParameters c ps
+  each_parameter_valid : (c : Allowed) (around : Surroundings) (others : List ChildPlace) (ps : Trees) → has_no_hole ps ≡ true → EverywhereInTrees is_plain_row ps → in_trees around (place_of sets.FormalParameter around ∷ others) ps ≡ [] → AreParameters around.tables c ps
   each_parameter_valid c around others no_trees n p e = no_parameter
   each_parameter_valid c around others (more t ts) n p e = let k = placed around sets.FormalParameter t _ e in first_parameter (parameter_valid c around t p.0 k.0 k.1) (each_parameter_valid c around others ts n p.1 k.2)
   each_parameter_valid c around others (hole ts) n p e = absurd (no_truth n)
 
-  parameter_valid : (c : Allowed) (around : Surroundings) (t : Tree) → IsPlain t → is_formal_parameter (type_of t) ≡ true → breaches around t ≡ [] → IsParameter c t
+  parameter_valid : (c : Allowed) (around : Surroundings) (t : Tree) → IsPlain t → is_formal_parameter (type_of t) ≡ true → breaches around t ≡ [] → IsParameter around.tables c t
   parameter_valid c around (tree.formal_parameter a b m) p s e =
-      let k = placed around sets.BindingPattern b _ (parts (span_faults a.span) [] _ e).1 in
+      let k = placed around sets.BindingPattern b _ (parts (span_faults around a.span) [] _ e).1 in
       let j = none_both (in_maybe around (place_of sets.Expression around ∷ []) m) [] k.2 in
       let h = and_parts (is_absent (formal_parameter_is_override a) && is_absent (formal_parameter_readonly a)) (is_absent (formal_parameter_optional a)) p.0 in
       let i = and_parts (is_absent (formal_parameter_is_override a)) (is_absent (formal_parameter_readonly a)) h.0 in
       a_parameter (holds_nothing (formal_parameter_is_override a) i.0) (holds_nothing (formal_parameter_readonly a) i.1) (holds_nothing (formal_parameter_optional a) h.1) (binding_valid c around b p.1.0 k.0 k.1) (value_valid c around m p.1.1.0 j.0)
   parameter_valid c around t p s e = absurd (search no_truth)
 
-  value_valid : (c : Allowed) (around : Surroundings) (m : Maybe) → EverywhereIfGiven is_plain_row m → in_maybe around (place_of sets.Expression around ∷ []) m ≡ [] → IsValue c m
+  value_valid : (c : Allowed) (around : Surroundings) (m : Maybe) → EverywhereIfGiven is_plain_row m → in_maybe around (place_of sets.Expression around ∷ []) m ≡ [] → IsValue around.tables c m
   value_valid c around absent p e = no_value
   value_valid c around (given t) p e =
       let h = none_both (set_faults sets.Expression t) (breaches around t) e in
       a_value (expression_valid c around t p (stands_at sets.Expression t h.0) h.1)
 
-  sequence_valid : (c : Allowed) (around : Surroundings) (a : Atoms) (ts : Trees) → has_no_hole ts ≡ true → EverywhereInTrees is_plain_row ts → sequence_faults a.span ts ≡ [] → in_trees around (place_of sets.Expression around ∷ []) ts ≡ [] → IsExpression c (tree.sequence a ts)
+  sequence_valid : (c : Allowed) (around : Surroundings) (a : Atoms) (ts : Trees) → has_no_hole ts ≡ true → EverywhereInTrees is_plain_row ts → sequence_faults a.span ts ≡ [] → in_trees around (place_of sets.Expression around ∷ []) ts ≡ [] → IsExpression around.tables c (tree.sequence a ts)
   sequence_valid c around a (more t (more u ts)) n p f e =
       let k = standing around sets.Expression t _ e in
       let j = standing around sets.Expression u _ k.2 in
@@ -453,83 +463,83 @@ mutual
   sequence_valid c around a (more t (hole ts)) n p f e = absurd (no_truth n)
   sequence_valid c around a (hole ts) n p f e = absurd (no_truth n)
 
-  parts_valid : (c : Allowed) (around : Surroundings) (ts : Trees) → has_no_hole ts ≡ true → EverywhereInTrees is_plain_row ts → in_trees around (place_of sets.Expression around ∷ []) ts ≡ [] → AreParts c ts
+  parts_valid : (c : Allowed) (around : Surroundings) (ts : Trees) → has_no_hole ts ≡ true → EverywhereInTrees is_plain_row ts → in_trees around (place_of sets.Expression around ∷ []) ts ≡ [] → AreParts around.tables c ts
   parts_valid c around no_trees n p e = no_part
   parts_valid c around (more t ts) n p e = let k = standing around sets.Expression t _ e in first_part (expression_valid c around t p.0 k.0 k.1) (parts_valid c around ts n p.1 k.2)
   parts_valid c around (hole ts) n p e = absurd (no_truth n)
 
-  chain_valid : (c : Allowed) (around : Surroundings) (t : Tree) → IsPlain t → breaches around t ≡ [] → has_optional_link t ≡ true → IsChain c t
+  chain_valid : (c : Allowed) (around : Surroundings) (t : Tree) → IsPlain t → breaches around t ≡ [] → has_optional_link t ≡ true → IsChain around.tables c t
   chain_valid c around (tree.static_member a o n) p e i =
-      let h = parts (span_faults a.span) (super_faults (static_member_expression_optional a) o) _ e in
+      let h = parts (span_faults around a.span) (super_faults (static_member_expression_optional a) o) _ e in
       let k = standing around sets.Link o _ h.1 in
       let j = placed around sets.IdentifierName n [] k.2 in
-      let f : has_optional_link o ≡ true → IsChain c o = λ x. chain_valid c around o p.1.0 k.1 x in
-      let g : StandsAt sets.Expression o → IsExpression c o = λ x. expression_valid c around o p.1.0 x k.1 in
-      member_valid around n (λ x. IsChain c (tree.static_member a o x)) p.1.1.0 j.0 j.1
+      let f : has_optional_link o ≡ true → IsChain around.tables c o = λ x. chain_valid c around o p.1.0 k.1 x in
+      let g : StandsAt sets.Expression o → IsExpression around.tables c o = λ x. expression_valid c around o p.1.0 x k.1 in
+      member_valid around n (λ x. IsChain around.tables c (tree.static_member a o x)) p.1.1.0 j.0 j.1
       (λ b y. link_kind (static_member_expression_optional a) o i h.0 (λ q r. an_optional_named_member q (base_valid c o k.0 r f g) y) (λ q r. a_further_named_member q (f r) y))
   chain_valid c around (tree.computed_member a o x) p e i =
-      let h = parts (span_faults a.span) (super_faults (computed_member_expression_optional a) o) _ e in
+      let h = parts (span_faults around a.span) (super_faults (computed_member_expression_optional a) o) _ e in
       let k = standing around sets.Link o _ h.1 in
       let j = standing around sets.Expression x [] k.2 in
-      let f : has_optional_link o ≡ true → IsChain c o = λ y. chain_valid c around o p.1.0 k.1 y in
-      let g : StandsAt sets.Expression o → IsExpression c o = λ y. expression_valid c around o p.1.0 y k.1 in
-      let v : IsExpression c x = expression_valid c around x p.1.1.0 j.0 j.1 in
+      let f : has_optional_link o ≡ true → IsChain around.tables c o = λ y. chain_valid c around o p.1.0 k.1 y in
+      let g : StandsAt sets.Expression o → IsExpression around.tables c o = λ y. expression_valid c around o p.1.0 y k.1 in
+      let v : IsExpression around.tables c x = expression_valid c around x p.1.1.0 j.0 j.1 in
       link_kind (computed_member_expression_optional a) o i h.0 (λ q r. an_optional_computed_member q (base_valid c o k.0 r f g) v) (λ q r. a_further_computed_member q (f r) v)
   chain_valid c around (tree.call a o es) p e i =
-      let h = parts (span_faults a.span) (super_faults (call_expression_optional a) o) _ e in
+      let h = parts (span_faults around a.span) (super_faults (call_expression_optional a) o) _ e in
       let k = standing around sets.Link o _ h.1 in
       let j = none_both (in_trees around (place_of sets.Argument around ∷ []) es) [] k.2 in
-      let f : has_optional_link o ≡ true → IsChain c o = λ y. chain_valid c around o p.1.0 k.1 y in
-      let g : StandsAt sets.Expression o → IsExpression c o = λ y. expression_valid c around o p.1.0 y k.1 in
-      let v : AreArguments c es = arguments_valid c around es p.0 p.1.1.0 j.0 in
+      let f : has_optional_link o ≡ true → IsChain around.tables c o = λ y. chain_valid c around o p.1.0 k.1 y in
+      let g : StandsAt sets.Expression o → IsExpression around.tables c o = λ y. expression_valid c around o p.1.0 y k.1 in
+      let v : AreArguments around.tables c es = arguments_valid c around es p.0 p.1.1.0 j.0 in
       link_kind (call_expression_optional a) o i h.0 (λ q r. an_optional_call q (base_valid c o k.0 r f g) v) (λ q r. a_further_call q (f r) v)
   chain_valid c around t p e i = absurd (no_truth i)
 
-  arguments_valid : (c : Allowed) (around : Surroundings) (es : Trees) → has_no_hole es ≡ true → EverywhereInTrees is_plain_row es → in_trees around (place_of sets.Argument around ∷ []) es ≡ [] → AreArguments c es
+  arguments_valid : (c : Allowed) (around : Surroundings) (es : Trees) → has_no_hole es ≡ true → EverywhereInTrees is_plain_row es → in_trees around (place_of sets.Argument around ∷ []) es ≡ [] → AreArguments around.tables c es
   arguments_valid c around no_trees n p e = no_argument
   arguments_valid c around (more (tree.spread a t) ts) n p e =
       let k = standing around sets.Argument (tree.spread a t) _ e in
-      let j = standing around sets.Expression t [] (parts (span_faults a.span) [] _ k.1).1 in
+      let j = standing around sets.Expression t [] (parts (span_faults around a.span) [] _ k.1).1 in
       first_argument (a_spread (expression_valid c around t p.0.1.0 j.0 j.1)) (arguments_valid c around ts n p.1 k.2)
   arguments_valid c around (more t ts) n p e = let k = standing around sets.Argument t _ e in first_argument (an_element (expression_valid c around t p.0 (argument_stands t p.0.0 k.0 refl) k.1)) (arguments_valid c around ts n p.1 k.2)
   arguments_valid c around (hole ts) n p e = absurd (no_truth n)
 
-  properties_valid : (c : Allowed) (around : Surroundings) (ps : Trees) → has_no_hole ps ≡ true → EverywhereInTrees is_plain_row ps → in_trees around (place_of sets.ObjectPropertyKind around ∷ []) ps ≡ [] → AreProperties c ps
+  properties_valid : (c : Allowed) (around : Surroundings) (ps : Trees) → has_no_hole ps ≡ true → EverywhereInTrees is_plain_row ps → in_trees around (place_of sets.ObjectPropertyKind around ∷ []) ps ≡ [] → AreProperties around.tables c ps
   properties_valid c around no_trees n p e = no_property
   properties_valid c around (more (tree.spread a t) ts) n p e =
       let k = standing around sets.ObjectPropertyKind (tree.spread a t) _ e in
-      let j = standing around sets.Expression t [] (parts (span_faults a.span) [] _ k.1).1 in
+      let j = standing around sets.Expression t [] (parts (span_faults around a.span) [] _ k.1).1 in
       first_property (a_spread_property (expression_valid c around t p.0.1.0 j.0 j.1)) (properties_valid c around ts n p.1 k.2)
   properties_valid c around (more (tree.object_property a x v) ts) n p e =
       let k = placed around sets.ObjectPropertyKind (tree.object_property a x v) _ e in
-      let h = parts (span_faults a.span) (key_faults (object_property_computed a) x ++ shorthand_faults (object_property_shorthand a) x v) _ k.1 in
-      let f = none_both (key_faults (object_property_computed a) x) (shorthand_faults (object_property_shorthand a) x v) h.0 in
+      let h = parts (span_faults around a.span) (key_faults (object_property_computed a) x ++ shorthand_faults around.tables (object_property_shorthand a) x v) _ k.1 in
+      let f = none_both (key_faults (object_property_computed a) x) (shorthand_faults around.tables (object_property_shorthand a) x v) h.0 in
       let j = standing around sets.PropertyKey x _ h.1 in
       let i = standing around sets.Expression v [] j.2 in
       first_property (a_property (holds_nothing (object_property_method a) p.0.0) refl (key_valid c around (object_property_computed a) x p.0.1.0 f.0 j.1 (λ s. expression_valid c around x p.0.1.0 (key_stands x s j.0) j.1)) f.1 (expression_valid c around v p.0.1.1.0 i.0 i.1)) (properties_valid c around ts n p.1 k.2)
   properties_valid c around (more t ts) n p e = let k = placed around sets.ObjectPropertyKind t _ e in absurd (none_in_object t p.0.0 k.0 refl)
   properties_valid c around (hole ts) n p e = absurd (no_truth n)
 
-  elements_valid : (c : Allowed) (around : Surroundings) (es : Trees) → EverywhereInTrees is_plain_row es → in_trees around (place_of sets.ArrayExpressionElement around ∷ []) es ≡ [] → AreElements c es
+  elements_valid : (c : Allowed) (around : Surroundings) (es : Trees) → EverywhereInTrees is_plain_row es → in_trees around (place_of sets.ArrayExpressionElement around ∷ []) es ≡ [] → AreElements around.tables c es
   elements_valid c around no_trees p e = no_element
   elements_valid c around (more (tree.spread a t) ts) p e =
       let k = standing around sets.ArrayExpressionElement (tree.spread a t) _ e in
-      let j = standing around sets.Expression t [] (parts (span_faults a.span) [] _ k.1).1 in
+      let j = standing around sets.Expression t [] (parts (span_faults around a.span) [] _ k.1).1 in
       first_element (a_spread (expression_valid c around t p.0.1.0 j.0 j.1)) (elements_valid c around ts p.1 k.2)
   elements_valid c around (more t ts) p e = let k = standing around sets.ArrayExpressionElement t _ e in first_element (an_element (expression_valid c around t p.0 (argument_stands t p.0.0 k.0 refl) k.1)) (elements_valid c around ts p.1 k.2)
   elements_valid c around (hole ts) p e = an_elision (elements_valid c around ts p e)
 
 -- ---- the rows of declarations
 
-declarator_valid : (c : Allowed) (around : Surroundings) (t : Tree) → IsPlain t → is_variable_declarator (type_of t) ≡ true → breaches around t ≡ [] → IsDeclarator c t
+declarator_valid : (c : Allowed) (around : Surroundings) (t : Tree) → IsPlain t → is_variable_declarator (type_of t) ≡ true → breaches around t ≡ [] → IsDeclarator around.tables c t
 declarator_valid c around (tree.variable_declarator a b m) p s e =
-    let k = placed around sets.BindingPattern b _ (parts (span_faults a.span) [] _ e).1 in
+    let k = placed around sets.BindingPattern b _ (parts (span_faults around a.span) [] _ e).1 in
     let j = none_both (in_maybe around (place_of sets.Expression around ∷ []) m) [] k.2 in
     a_declarator (holds_nothing (variable_declarator_definite a) p.0) (binding_valid c around b p.1.0 k.0 k.1) (value_valid c around m p.1.1.0 j.0)
 declarator_valid c around t p s e = absurd (search no_truth)
 
 -- a declaration has a declarator
-declarators_valid : (c : Allowed) (around : Surroundings) (a : Atoms) (ds : Trees) → has_no_hole ds ≡ true → EverywhereInTrees is_plain_row ds → declaration_faults a.span ds ≡ [] → in_trees around (place_of sets.VariableDeclarator around ∷ []) ds ≡ [] → AreDeclarators c ds
+declarators_valid : (c : Allowed) (around : Surroundings) (a : Atoms) (ds : Trees) → has_no_hole ds ≡ true → EverywhereInTrees is_plain_row ds → declaration_faults a.span ds ≡ [] → in_trees around (place_of sets.VariableDeclarator around ∷ []) ds ≡ [] → AreDeclarators around.tables c ds
 declarators_valid c around a no_trees n p f e = absurd (cc)
 declarators_valid c around a (more d no_trees) n p f e = let k = placed around sets.VariableDeclarator d [] e in last_declarator (declarator_valid c around d p.0 k.0 k.1)
 declarators_valid c around a (more d (more x xs)) n p f e =
@@ -541,32 +551,32 @@ declarators_valid c around a (hole ds) n p f e = absurd (no_truth n)
 -- ---- the rows of statements
 
 -- where no declaration may stand
-body_valid : {c : Allowed} (t : Tree) → body_faults t ≡ [] → IsItem c t → IsStatement c t
+body_valid : {names : Tables} {c : Allowed} (t : Tree) → body_faults t ≡ [] → IsItem names c t → IsStatement names c t
 body_valid t e (a_statement v) = v
 body_valid t e (a_declaration m v) = absurd (cc)
 
 mutual
-  item_valid : (c : Allowed) (around : Surroundings) (t : Tree) → IsPlain t → is_statement (type_of t) ≡ true → breaches around t ≡ [] → IsItem c t
+  item_valid : (c : Allowed) (around : Surroundings) (t : Tree) → IsPlain t → is_statement (type_of t) ≡ true → breaches around t ≡ [] → IsItem around.tables c t
   item_valid c around (tree.variable_declaration a ds) p s e =
-      let h = parts (span_faults a.span) (declaration_faults a.span ds) _ e in
+      let h = parts (span_faults around a.span) (declaration_faults a.span ds) _ e in
       let k = none_both (in_trees around (place_of sets.VariableDeclarator around ∷ []) ds) [] h.1 in
       let m = and_parts (is_absent (variable_declaration_declare a)) (has_no_hole ds) p.0 in
       a_declaration (holds_nothing (variable_declaration_declare a) m.0) (declarators_valid c around a ds m.1 p.1.0 h.0 k.0)
   item_valid c around (tree.expression_statement a t) p s e =
-      let k = standing around sets.Expression t [] (parts (span_faults a.span) [] _ e).1 in
+      let k = standing around sets.Expression t [] (parts (span_faults around a.span) [] _ e).1 in
       a_statement (an_expression_statement (expression_valid c around t p.1.0 k.0 k.1))
   item_valid c around (tree.empty_statement a) p s e = a_statement an_empty_statement
   item_valid c around (tree.block a ss) p s e =
-      let k = none_both (in_trees around (place_of sets.Statement around ∷ []) ss) [] (parts (span_faults a.span) [] _ e).1 in
+      let k = none_both (in_trees around (place_of sets.Statement around ∷ []) ss) [] (parts (span_faults around a.span) [] _ e).1 in
       a_statement (a_block (items_valid c around ss p.0 p.1.0 k.0))
   item_valid c around (tree.if_statement a t u absent) p s e =
-      let h = parts (span_faults a.span) (body_faults u ++ []) _ e in
+      let h = parts (span_faults around a.span) (body_faults u ++ []) _ e in
       let b = none_both (body_faults u) [] h.0 in
       let k = standing around sets.Expression t _ h.1 in
       let j = placed around sets.Statement u [] k.2 in
       a_statement (an_if (expression_valid c around t p.1.0 k.0 k.1) (body_valid u b.0 (item_valid c around u p.1.1.0 j.0 j.1)))
   item_valid c around (tree.if_statement a t u (given v)) p s e =
-      let h = parts (span_faults a.span) (body_faults u ++ body_faults v) _ e in
+      let h = parts (span_faults around a.span) (body_faults u ++ body_faults v) _ e in
       let b = none_both (body_faults u) (body_faults v) h.0 in
       let k = standing around sets.Expression t _ h.1 in
       let j = placed around sets.Statement u _ k.2 in
@@ -574,7 +584,7 @@ mutual
       a_statement (an_if_with_else (expression_valid c around t p.1.0 k.0 k.1) (body_valid u b.0 (item_valid c around u p.1.1.0 j.0 j.1)) (body_valid v b.1 (item_valid c around v p.1.1.1.0 i.0 i.1)))
   item_valid c around t p s e = absurd (search no_truth)
 
-  items_valid : (c : Allowed) (around : Surroundings) (ss : Trees) → has_no_hole ss ≡ true → EverywhereInTrees is_plain_row ss → in_trees around (place_of sets.Statement around ∷ []) ss ≡ [] → AreStatements c ss
+  items_valid : (c : Allowed) (around : Surroundings) (ss : Trees) → has_no_hole ss ≡ true → EverywhereInTrees is_plain_row ss → in_trees around (place_of sets.Statement around ∷ []) ss ≡ [] → AreStatements around.tables c ss
   items_valid c around no_trees n p e = no_statement
   items_valid c around (more s ss) n p e = let k = placed around sets.Statement s _ e in first_statement (item_valid c around s p.0 k.0 k.1) (items_valid c around ss n p.1 k.2)
   items_valid c around (hole ss) n p e = absurd (no_truth n)
@@ -593,7 +603,7 @@ raw_directive v p h = absurd (no_truth p)
 directive_valid : (around : Surroundings) (t : Tree) (ds : Trees) → IsPlain t → is_directive (type_of t) ≡ true → breaches around t ≡ [] → AreDirectives ds → AreDirectives (more t ds)
 directive_valid around (tree.directive a) ds p s e v =
     let raw : List ℕ = as_text (directive_directive a) in
-    let k = raw_directive (directive_directive a) p.0 (none_unless (is_some (directive_value raw)) (faults.Literal a.span.start) (parts (span_faults a.span) (directive_faults a.span raw) [] e).0) in
+    let k = raw_directive (directive_directive a) p.0 (none_unless (is_some (directive_value raw)) (faults.Literal a.span.start) (parts (span_faults around a.span) (directive_faults a.span raw) [] e).0) in
     first_directive k.0 k.1 k.2 v
 directive_valid around t ds p s e v = absurd (search no_truth)
 
@@ -607,12 +617,13 @@ abbrev pub is_program : NodeType → Bool
 is_program types.Program = true
 is_program other = false
 
-pub program_valid : (around : Surroundings) (t : Tree) → IsPlain t → is_program (type_of t) ≡ true → breaches around t ≡ [] → IsProgram t
-program_valid around (tree.program a directives body) p s e =
-    let h = parts (span_faults a.span) (own_faults around (tree.program a directives body)) _ e in
-    let d = none_both (in_trees around (place_of sets.Directive around ∷ place_of sets.Statement around ∷ []) directives) _ h.1 in
+pub program_valid : (around : Surroundings) (t : Tree) → IsPlain t → is_program (type_of t) ≡ true → breaches around t ≡ [] → IsProgram around.tables t
+program_valid around (tree.program a comments directives body) p s e =
+    let h = parts (span_faults around a.span) (own_faults around (tree.program a comments directives body)) _ e in
+    let b = none_both (in_trees around (place_of sets.Comment around ∷ place_of sets.Directive around ∷ place_of sets.Statement around ∷ []) comments) _ h.1 in
+    let d = none_both (in_trees around (place_of sets.Directive around ∷ place_of sets.Statement around ∷ []) directives) _ b.1 in
     let k = none_both (in_trees around (place_of sets.Statement around ∷ []) body) [] d.1 in
     let m = and_parts (is_module (program_kind a) && has_no_hole directives) (has_no_hole body) p.0 in
     let n = and_parts (is_module (program_kind a)) (has_no_hole directives) m.0 in
-    a_program (directives_valid around (place_of sets.Statement around ∷ []) directives n.1 p.1.0 d.0) (items_valid in_module around body m.1 p.1.1.0 k.0)
+    a_program (directives_valid around (place_of sets.Statement around ∷ []) directives n.1 p.1.1.0 d.0) (items_valid in_module around body m.1 p.1.1.1.0 k.0)
 program_valid around t p s e = absurd (search no_truth)

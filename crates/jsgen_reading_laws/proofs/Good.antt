@@ -1,6 +1,7 @@
 -- What is carried through the induction for expressions.
 use Rattle.std.proofs.Common.{◌≡◌, Bool, true, false, not, Some, codes, refl, sym, ap, ◌∙◌, subst}
 use Rattle.std.proofs.lemmas.Bool.{both_ways}
+use Rattle.jsgen_tree.specs.Job.{Tables}
 use Rattle.jsgen_tree.specs.Tree.{Tree}
 use Rattle.jsgen_tree.specs.Nodes as tree
 use Rattle.jsgen_model.specs.Punctuator.{plus_plus, minus_minus, Round, Brace, opening, closing}
@@ -10,6 +11,7 @@ use Rattle.jsgen_model.specs.Layout.{Pen, Start, nowhere, statement, arrow_body,
 use Rattle.jsgen_model.specs.Grammar.{Allowed, Level, ReadsExpression, with_in, is_word, on_same_line, starts_statement, starts_declaration, simple_target}
 use Rattle.jsgen_model.specs.Grammar as grammar
 use Rattle.jsgen_model.specs.Normal.{normal, nothing_of}
+use Rattle.jsgen_model.specs.Renamed.{renamed}
 use Rattle.jsgen_model.specs.Spell.{Place, spell, within}
 use Rattle.jsgen_token_laws.proofs.Last.{Last, Open, After, line_of, Operand, Ready, Knows}
 use Rattle.jsgen_token_laws.proofs.Writes.{Writes, wrote_both, wrote_and_none, then_assoc}
@@ -32,31 +34,31 @@ may_begin statement ts = starts_statement ts
 may_begin arrow_body ts = no_brace ts
 may_begin default_export ts = no_declaration ts
 
--- Between two pens stands an expression that is read so as a tree of the same normal form. No semicolon was due before, and none is after.
+-- Between two pens stands an expression that is read so, as a tree of the normal form that it has with its names as they are printed. No semicolon was due before, and none is after.
 -- What it may begin it begins with whatever follows, but the word `function`.
-pub record GoodAs (Reads : Tokens → Tree → Type 0) (p : Pen) (l : Last) (q : Pen) (start : Start) (t : Tree) : Type 0 where
+pub record GoodAs (names : Tables) (Reads : Tokens → Tree → Type 0) (p : Pen) (l : Last) (q : Pen) (start : Start) (t : Tree) : Type 0 where
   pub last : Last
   pub tokens : Tokens
-  pub writes : Writes p l q last tokens
+  pub writes : Writes names p l q last tokens
   pub operand : Operand last
   pub semicolon : q.pending_semicolon ≡ false
   pub begins : (b : Tokens) → is_word (codes "function") b ≡ false → may_begin start (tokens ⧺ b) ≡ true
   pub line : line_of l ≡ false → on_same_line tokens ≡ true
   pub tree : Tree
   pub reads : Reads tokens tree
-  pub same : normal tree ≡ normal t
+  pub same : normal tree ≡ normal (renamed names t)
 
 -- one that is read at the level
-abbrev pub Good : Pen → Last → Pen → Allowed → Level → Start → Tree → Type 0
-Good p l q c level start t = GoodAs (ReadsExpression c level) p l q start t
+abbrev pub Good : Tables → Pen → Last → Pen → Allowed → Level → Start → Tree → Type 0
+Good names p l q c level start t = GoodAs names (ReadsExpression c level) p l q start t
 
 -- printed at any place from any pen
-abbrev pub Printed : Allowed → Tree → Type 0
-Printed c t = (place : Place) (p : Pen) (l : Last) → p.pending_semicolon ≡ false → Ready l → Knows p l → Good p l (layout (spell t place) p) (under place c) (level_of place) place.start t
+abbrev pub Printed : Tables → Allowed → Tree → Type 0
+Printed names c t = (place : Place) (p : Pen) (l : Last) → p.pending_semicolon ≡ false → Ready l → Knows names p l → Good names p l (layout (spell t place) p) (under place c) (level_of place) place.start t
 
 -- and read as a simple target, which no line end follows; it is a left-hand side at any level
-abbrev pub TargetPrinted : Allowed → Tree → Type 0
-TargetPrinted c t = (place : Place) (p : Pen) (l : Last) → p.pending_semicolon ≡ false → Ready l → Knows p l → (g : Good p l (layout (spell t place) p) (under place c) (level_of place) place.start t) × (simple_target g.tree ≡ Some g.tree) × (line_of g.last ≡ false) × ReadsExpression (under place c) grammar.LeftHandSide g.tokens g.tree
+abbrev pub TargetPrinted : Tables → Allowed → Tree → Type 0
+TargetPrinted names c t = (place : Place) (p : Pen) (l : Last) → p.pending_semicolon ≡ false → Ready l → Knows names p l → (g : Good names p l (layout (spell t place) p) (under place c) (level_of place) place.start t) × (simple_target g.tree ≡ Some g.tree) × (line_of g.last ≡ false) × ReadsExpression (under place c) grammar.LeftHandSide g.tokens g.tree
 
 pub operand_ready : (l : Last) → Operand l → Ready l
 operand_ready (Open line) o = tt
@@ -78,14 +80,14 @@ pub begins_then : (start : Start) (a rest d : Tokens) → ((b : Tokens) → is_w
 begins_then start a rest d h n = subst (λ ts. may_begin start ts ≡ true) (sym (then_assoc a rest d)) (h (rest ⧺ d) n)
 
 -- the same text, read at another level, for which the normal form may be needed
-pub good_since : {p q : Pen} {l : Last} {c : Allowed} {start : Start} {t : Tree} {g h : Level} → ((ts : Tokens) (u : Tree) → normal u ≡ normal t → ReadsExpression c g ts u → ReadsExpression c h ts u) → Good p l q c g start t → Good p l q c h start t
+pub good_since : {names : Tables} {p q : Pen} {l : Last} {c : Allowed} {start : Start} {t : Tree} {g h : Level} → ((ts : Tokens) (u : Tree) → normal u ≡ normal (renamed names t) → ReadsExpression c g ts u → ReadsExpression c h ts u) → Good names p l q c g start t → Good names p l q c h start t
 good_since lift g = record { last = g.last; tokens = g.tokens; writes = g.writes; operand = g.operand; semicolon = g.semicolon; begins = g.begins; line = g.line; tree = g.tree; reads = lift g.tokens g.tree g.same g.reads; same = g.same }
 
-pub good_at : {p q : Pen} {l : Last} {c : Allowed} {start : Start} {t : Tree} {g h : Level} → ((ts : Tokens) (u : Tree) → ReadsExpression c g ts u → ReadsExpression c h ts u) → Good p l q c g start t → Good p l q c h start t
+pub good_at : {names : Tables} {p q : Pen} {l : Last} {c : Allowed} {start : Start} {t : Tree} {g h : Level} → ((ts : Tokens) (u : Tree) → ReadsExpression c g ts u → ReadsExpression c h ts u) → Good names p l q c g start t → Good names p l q c h start t
 good_at lift g = good_since (λ ts u e r. lift ts u r) g
 
 -- blanks, or nothing, round an expression
-pub soft_round : {Reads : Tokens → Tree → Type 0} {p q r s : Pen} {l : Last} {start : Start} {t : Tree} → (a : Soft p l q) → (g : GoodAs Reads q a.last r start t) → Soft r g.last s → GoodAs Reads p l s start t
+pub soft_round : {names : Tables} {Reads : Tokens → Tree → Type 0} {p q r s : Pen} {l : Last} {start : Start} {t : Tree} → (a : Soft names p l q) → (g : GoodAs names Reads q a.last r start t) → Soft names r g.last s → GoodAs names Reads p l s start t
 soft_round a g b = record {
   last = b.last;
   tokens = g.tokens;
@@ -108,7 +110,7 @@ parentheses_begin arrow_body line ts b = refl
 parentheses_begin default_export line ts b = refl
 
 -- in parentheses an expression is read at every level
-pub good_parentheses : {start : Start} {t : Tree} (c : Allowed) (place : Place) (p q : Pen) (l : Last) → Good (written_if true (opening Round) p) (Open false) q (with_in (under place c)) grammar.Expression start t → Good p l (written_if true (closing Round) q) (under place c) (level_of place) place.start t
+pub good_parentheses : {names : Tables} {start : Start} {t : Tree} (c : Allowed) (place : Place) (p q : Pen) (l : Last) → Good names (written_if true (opening Round) p) (Open false) q (with_in (under place c)) grammar.Expression start t → Good names p l (written_if true (closing Round) q) (under place c) (level_of place) place.start t
 good_parentheses c place p q l g = record {
   last = Open false;
   tokens = group (line_of l) Round g.tokens done;
@@ -129,52 +131,52 @@ unless_not arrow_body = refl
 unless_not default_export = refl
 
 -- An operation in parentheses where it has to be. In them nothing is forbidden.
-pub good_wrapped : (c : Allowed) (place : Place) (own : Level) (w : Bool) (items : Bool → Items) (t : Tree) → ((d : Allowed) (ts : Tokens) (u : Tree) → ReadsExpression d own ts u → ReadsExpression d grammar.Expression ts u) → (w ≡ false → (ts : Tokens) (u : Tree) → ReadsExpression (under place c) own ts u → ReadsExpression (under place c) (level_of place) ts u)
-    → ((v : Bool) → w ≡ v → (p : Pen) (l : Last) → p.pending_semicolon ≡ false → Ready l → Knows p l → Good p l (layout (items v) p) (under (within v place) c) own (unless_printed v place.start) t) → (p : Pen) (l : Last) → p.pending_semicolon ≡ false → Ready l → Knows p l → Good p l (layout (wrapped w (items w)) p) (under place c) (level_of place) place.start t
-good_wrapped c place own w items t top lift inner p l z y k = go w refl
+pub good_wrapped : {names : Tables} (c : Allowed) (place : Place) (own : Level) (w : Bool) (items : Bool → Items) (t : Tree) → ((d : Allowed) (ts : Tokens) (u : Tree) → ReadsExpression d own ts u → ReadsExpression d grammar.Expression ts u) → (w ≡ false → (ts : Tokens) (u : Tree) → ReadsExpression (under place c) own ts u → ReadsExpression (under place c) (level_of place) ts u)
+    → ((v : Bool) → w ≡ v → (p : Pen) (l : Last) → p.pending_semicolon ≡ false → Ready l → Knows names p l → Good names p l (layout (items v) p) (under (within v place) c) own (unless_printed v place.start) t) → (p : Pen) (l : Last) → p.pending_semicolon ≡ false → Ready l → Knows names p l → Good names p l (layout (wrapped w (items w)) p) (under place c) (level_of place) place.start t
+good_wrapped {names} c place own w items t top lift inner p l z y k = go w refl
   where
-    go : (v : Bool) → w ≡ v → Good p l (layout (wrapped v (items v)) p) (under place c) (level_of place) place.start t
+    go : (v : Bool) → w ≡ v → Good names p l (layout (wrapped v (items v)) p) (under place c) (level_of place) place.start t
     go true e = good_parentheses c place p (layout (items true) (written_if true (opening Round) p)) l (good_at (top (with_in (under place c))) (inner true e (written_if true (opening Round) p) (Open false) z tt (opened p l k)))
     go false e =
         let a = unopened p l (opening Round) k in
         let p1 : Pen = written_if false (opening Round) p in
         let g = inner false e p1 a.last (a.semicolon ∙ z) (a.ready y) a.writes.knows in
         let b = unopened (layout (items false) p1) g.last (closing Round) g.writes.knows in
-        subst (λ s. Good p l (written_if false (closing Round) (layout (items false) p1)) (under place c) (level_of place) s t) (unless_not place.start) (good_at (lift e) (soft_round a g b))
+        subst (λ s. Good names p l (written_if false (closing Round) (layout (items false) p1)) (under place c) (level_of place) s t) (unless_not place.start) (good_at (lift e) (soft_round a g b))
 
 -- where `in` may stand
-good_freed : {p q : Pen} {l : Last} {c : Allowed} {start : Start} {t : Tree} {level : Level} → Good p l q c level start t → Good p l q (with_in c) level start t
+good_freed : {names : Tables} {p q : Pen} {l : Last} {c : Allowed} {start : Start} {t : Tree} {level : Level} → Good names p l q c level start t → Good names p l q (with_in c) level start t
 good_freed g = record { last = g.last; tokens = g.tokens; writes = g.writes; operand = g.operand; semicolon = g.semicolon; begins = g.begins; line = g.line; tree = g.tree; reads = freed g.reads; same = g.same }
 
 -- In parentheses where it has to be. In them what is forbidden outside stays forbidden.
-pub good_enclosed : (c : Allowed) (place : Place) (own : Level) (w : Bool) (items : Bool → Items) (t : Tree) → ((d : Allowed) (ts : Tokens) (u : Tree) → ReadsExpression d own ts u → ReadsExpression d grammar.Expression ts u) → (w ≡ false → (ts : Tokens) (u : Tree) → ReadsExpression (under place c) own ts u → ReadsExpression (under place c) (level_of place) ts u)
-    → ((v : Bool) (p : Pen) (l : Last) → p.pending_semicolon ≡ false → Ready l → Knows p l → Good p l (layout (items v) p) (under place c) own (unless_printed v place.start) t) → (p : Pen) (l : Last) → p.pending_semicolon ≡ false → Ready l → Knows p l → Good p l (layout (wrapped w (items w)) p) (under place c) (level_of place) place.start t
-good_enclosed c place own w items t top lift inner p l z y k = go w refl
+pub good_enclosed : {names : Tables} (c : Allowed) (place : Place) (own : Level) (w : Bool) (items : Bool → Items) (t : Tree) → ((d : Allowed) (ts : Tokens) (u : Tree) → ReadsExpression d own ts u → ReadsExpression d grammar.Expression ts u) → (w ≡ false → (ts : Tokens) (u : Tree) → ReadsExpression (under place c) own ts u → ReadsExpression (under place c) (level_of place) ts u)
+    → ((v : Bool) (p : Pen) (l : Last) → p.pending_semicolon ≡ false → Ready l → Knows names p l → Good names p l (layout (items v) p) (under place c) own (unless_printed v place.start) t) → (p : Pen) (l : Last) → p.pending_semicolon ≡ false → Ready l → Knows names p l → Good names p l (layout (wrapped w (items w)) p) (under place c) (level_of place) place.start t
+good_enclosed {names} c place own w items t top lift inner p l z y k = go w refl
   where
-    go : (v : Bool) → w ≡ v → Good p l (layout (wrapped v (items v)) p) (under place c) (level_of place) place.start t
+    go : (v : Bool) → w ≡ v → Good names p l (layout (wrapped v (items v)) p) (under place c) (level_of place) place.start t
     go true e = good_parentheses c place p (layout (items true) (written_if true (opening Round) p)) l (good_at (top (with_in (under place c))) (good_freed (inner true (written_if true (opening Round) p) (Open false) z tt (opened p l k))))
     go false e =
         let a = unopened p l (opening Round) k in
         let p1 : Pen = written_if false (opening Round) p in
         let g = inner false p1 a.last (a.semicolon ∙ z) (a.ready y) a.writes.knows in
         let b = unopened (layout (items false) p1) g.last (closing Round) g.writes.knows in
-        subst (λ s. Good p l (written_if false (closing Round) (layout (items false) p1)) (under place c) (level_of place) s t) (unless_not place.start) (good_at (lift e) (soft_round a g b))
+        subst (λ s. Good names p l (written_if false (closing Round) (layout (items false) p1)) (under place c) (level_of place) s t) (unless_not place.start) (good_at (lift e) (soft_round a g b))
 
 -- ---- operators
 
 -- the item writes this one token behind an operand, and an operand may follow
-pub record Between (item : Items) (x : Piece) : Type 0 where
-  pub writes : (p : Pen) (l : Last) → Operand l → Knows p l → Writes p l (layout item p) (After x) (piece (line_of l) x done)
+pub record Between (names : Tables) (item : Items) (x : Piece) : Type 0 where
+  pub writes : (p : Pen) (l : Last) → Operand l → Knows names p l → Writes names p l (layout item p) (After x) (piece (line_of l) x done)
   pub semicolon : (p : Pen) → (layout item p).pending_semicolon ≡ p.pending_semicolon
   pub ready : Ready (After x)
   pub no_function : (line : Bool) (ts : Tokens) → is_word (codes "function") (piece line x ts) ≡ false
 
 -- what has to be built from two operands and a token between
-abbrev pub Joins : Piece → Allowed → Level → Level → Level → Tree → Tree → Tree → Type 0
-Joins x c gl gr g lt rt t = (a b : Tokens) (line : Bool) (u v : Tree) → ReadsExpression c gl a u → ReadsExpression c gr b v → normal u ≡ normal lt → normal v ≡ normal rt → (w : Tree) × ReadsExpression c g (a ⧺ piece line x b) w × (normal w ≡ normal t)
+abbrev pub Joins : Tables → Piece → Allowed → Level → Level → Level → Tree → Tree → Tree → Type 0
+Joins names x c gl gr g lt rt t = (a b : Tokens) (line : Bool) (u v : Tree) → ReadsExpression c gl a u → ReadsExpression c gr b v → normal u ≡ normal (renamed names lt) → normal v ≡ normal (renamed names rt) → (w : Tree) × ReadsExpression c g (a ⧺ piece line x b) w × (normal w ≡ normal (renamed names t))
 
 -- from the left operand, a blank, the token, a blank and the right operand
-infix_parts : (item : Items) (x : Piece) (lt rt t : Tree) (c : Allowed) (start : Start) (gl gr g : Level) (p p1 p2 p3 p4 q : Pen) (l : Last) → Between item x → Joins x c gl gr g lt rt t → (a : Good p l p1 c gl start lt) (s : Soft p1 a.last p2) → Writes p2 s.last p3 (After x) (piece (line_of s.last) x done) → (n : Soft p3 (After x) p4) → Good p4 n.last q c gr nowhere rt → Good p l q c g start t
+infix_parts : {names : Tables} (item : Items) (x : Piece) (lt rt t : Tree) (c : Allowed) (start : Start) (gl gr g : Level) (p p1 p2 p3 p4 q : Pen) (l : Last) → Between names item x → Joins names x c gl gr g lt rt t → (a : Good names p l p1 c gl start lt) (s : Soft names p1 a.last p2) → Writes names p2 s.last p3 (After x) (piece (line_of s.last) x done) → (n : Soft names p3 (After x) p4) → Good names p4 n.last q c gr nowhere rt → Good names p l q c g start t
 infix_parts item x lt rt t c start gl gr g p p1 p2 p3 p4 q l between build a s o n b =
     let w = build a.tokens b.tokens (line_of s.last) a.tree b.tree a.reads b.reads a.same b.same in
     record {
@@ -190,8 +192,8 @@ infix_parts item x lt rt t c start gl gr g p p1 p2 p3 p4 q l between build a s o
       same = w.2;
     }
 
-pub good_infix : (item : Items) (x : Piece) (li ri : Items) (lt rt t : Tree) (c : Allowed) (start : Start) (gl gr g : Level) → Between item x → Joins x c gl gr g lt rt t → ((p : Pen) (l : Last) → p.pending_semicolon ≡ false → Ready l → Knows p l → Good p l (layout li p) c gl start lt)
-    → ((p : Pen) (l : Last) → p.pending_semicolon ≡ false → Ready l → Knows p l → Good p l (layout ri p) c gr nowhere rt) → (p : Pen) (l : Last) → p.pending_semicolon ≡ false → Ready l → Knows p l → Good p l (layout (li ⊕ (soft_space ⊕ (item ⊕ (soft_space ⊕ ri)))) p) c g start t
+pub good_infix : {names : Tables} (item : Items) (x : Piece) (li ri : Items) (lt rt t : Tree) (c : Allowed) (start : Start) (gl gr g : Level) → Between names item x → Joins names x c gl gr g lt rt t → ((p : Pen) (l : Last) → p.pending_semicolon ≡ false → Ready l → Knows names p l → Good names p l (layout li p) c gl start lt)
+    → ((p : Pen) (l : Last) → p.pending_semicolon ≡ false → Ready l → Knows names p l → Good names p l (layout ri p) c gr nowhere rt) → (p : Pen) (l : Last) → p.pending_semicolon ≡ false → Ready l → Knows names p l → Good names p l (layout (li ⊕ (soft_space ⊕ (item ⊕ (soft_space ⊕ ri)))) p) c g start t
 good_infix item x li ri lt rt t c start gl gr g between build left right p l z y k =
     let p1 : Pen = layout li p in
     let p2 : Pen = layout soft_space p1 in

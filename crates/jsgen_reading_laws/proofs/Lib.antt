@@ -13,6 +13,7 @@ pub mod Chains
 pub mod Prefixes
 pub mod Links
 pub mod Literals
+pub mod Unrenamed
 pub mod OptionalChains
 pub mod Properties
 pub mod Collections

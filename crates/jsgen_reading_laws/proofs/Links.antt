@@ -5,8 +5,10 @@ use Rattle.jsgen_syntax.specs.Escapes.{name_text, word_value}
 use Rattle.jsgen_syntax.specs.Name.{spells_name}
 use Rattle.jsgen_syntax.proofs.Escapes.{word_text_value}
 use Rattle.jsgen_syntax.specs.declared.precedence.Precedence.TheVariants as levels
+use Rattle.jsgen_tree.specs.Job.{Tables}
 use Rattle.jsgen_tree.specs.Tree.{Tree, Trees, no_trees, more, hole, Atoms}
 use Rattle.jsgen_tree.specs.Values.{identifier_name_name, static_member_expression_optional, computed_member_expression_optional, call_expression_optional}
+use Rattle.jsgen_tree.specs.Named.{as_written}
 use Rattle.jsgen_tree.specs.Nodes as tree
 use Rattle.jsgen_model.specs.Punctuator.{dot, ellipsis, Round, Square, opening, closing}
 use Rattle.jsgen_model.specs.Tokens.{Tokens, done, piece, group, ◌⧺◌, Word, Sign}
@@ -15,12 +17,13 @@ use Rattle.jsgen_model.specs.Layout.{Pen, Start, other_end, layout, written, unl
 use Rattle.jsgen_model.specs.Grammar.{Allowed, Level, ReadsExpression, ReadsElement, ReadsArguments, ReadsArgumentList, with_in, is_word, on_same_line, simple_target}
 use Rattle.jsgen_model.specs.Grammar as grammar
 use Rattle.jsgen_model.specs.Normal.{normal, normal_trees, nothing_of, named, link_values, call_values}
+use Rattle.jsgen_model.specs.Renamed.{renamed, renamed_trees}
 use Rattle.jsgen_model.specs.Quotes.{is_require_call, is_definition_call}
 use Rattle.jsgen_model.specs.Spell.{Place, spell, spell_list, spell_more, spell_arguments, spell_behind_first, within, linked, called, in_brackets, quoted_plainly, wraps, call_wraps, name_link, bracket_link}
 use Rattle.jsgen_token_laws.proofs.Characters.{letters_spelled}
 use Rattle.jsgen_token_laws.proofs.Last.{Last, Open, After, line_of, Operand, Ready, begun_ready, Knows}
 use Rattle.jsgen_token_laws.proofs.Writes.{Writes, wrote_none, wrote_both}
-use Rattle.jsgen_token_laws.proofs.Steps.{wrote_word, wrote_name, wrote_dot, wrote_dots, within_brackets, brackets_written}
+use Rattle.jsgen_token_laws.proofs.Steps.{wrote_word, wrote_written_name, wrote_dot, wrote_dots, within_brackets, brackets_written}
 use Rattle.jsgen_reading_laws.proofs.Levels.{number_of, operation_number, left_hand_side, level_of, under, weaken_member, read_left, lifted, unwrapped, from_left}
 use Rattle.jsgen_reading_laws.proofs.Good.{Good, Printed, TargetPrinted, may_begin, begins_then, line_then, good_wrapped}
 use Rattle.jsgen_reading_laws.proofs.Prefixes.{word_begins}
@@ -39,10 +42,10 @@ linked_read true f h r = f r
 linked_read false f h r = behind_callee refl f h r
 
 -- Between two pens stands what a link may go on from: an expression that is a member or a call, or `super`.
-pub record Linkable (p : Pen) (l : Last) (q : Pen) (c : Allowed) (no_call : Bool) (start : Start) (t : Tree) : Type 0 where
+pub record Linkable (names : Tables) (p : Pen) (l : Last) (q : Pen) (c : Allowed) (no_call : Bool) (start : Start) (t : Tree) : Type 0 where
   pub last : Last
   pub tokens : Tokens
-  pub writes : Writes p l q last tokens
+  pub writes : Writes names p l q last tokens
   pub operand : Operand last
   pub semicolon : q.pending_semicolon ≡ false
   pub begins : (b : Tokens) → is_word (codes "function") b ≡ false → may_begin start (tokens ⧺ b) ≡ true
@@ -51,13 +54,13 @@ pub record Linkable (p : Pen) (l : Last) (q : Pen) (c : Allowed) (no_call : Bool
   pub named : (w v : List ℕ) (mark next : Bool) → word_value w ≡ Some v → ReadsExpression c (left_hand_side no_call) (tokens ⧺ piece mark (Sign dot) (piece next (Word w) done)) (tree.static_member (link_values false) base (tree.identifier_name (named v)))
   pub computed : (mark : Bool) (inside : Tokens) (e : Tree) → ReadsExpression (with_in c) grammar.Expression inside e → ReadsExpression c (left_hand_side no_call) (tokens ⧺ group mark Square inside done) (tree.computed_member (link_values false) base e)
   pub called : no_call ≡ false → (mark : Bool) (inside : Tokens) (es : Trees) → ReadsArguments (with_in c) inside es → ReadsExpression c grammar.Call (tokens ⧺ group mark Round inside done) (tree.call (call_values false) base es)
-  pub same : normal base ≡ normal t
+  pub same : normal base ≡ normal (renamed names t)
 
 -- printed before a link
-abbrev pub LinkPrinted : Allowed → Tree → Type 0
-LinkPrinted c t = (place : Place) (p : Pen) (l : Last) → p.pending_semicolon ≡ false → Ready l → Knows p l → Linkable p l (layout (spell t (linked place)) p) (under place c) place.context.forbids_call place.start t
+abbrev pub LinkPrinted : Tables → Allowed → Tree → Type 0
+LinkPrinted names c t = (place : Place) (p : Pen) (l : Last) → p.pending_semicolon ≡ false → Ready l → Knows names p l → Linkable names p l (layout (spell t (linked place)) p) (under place c) place.context.forbids_call place.start t
 
-pub link_expression : (c : Allowed) (t : Tree) → Printed c t → LinkPrinted c t
+pub link_expression : {names : Tables} (c : Allowed) (t : Tree) → Printed names c t → LinkPrinted names c t
 link_expression c t f place p l z y k =
     let no_call : Bool = place.context.forbids_call in
     let g = f (linked place) p l z y k in
@@ -76,7 +79,7 @@ link_expression c t f place p l z y k =
       same = g.same;
     }
 
-pub link_super : (c : Allowed) (a : Atoms) → LinkPrinted c (tree.super a)
+pub link_super : {names : Tables} (c : Allowed) (a : Atoms) → LinkPrinted names c (tree.super a)
 link_super c a place p l z y k =
     let no_call : Bool = place.context.forbids_call in
     record {
@@ -97,11 +100,11 @@ link_super c a place p l z y k =
 -- ---- members
 
 -- what stands between the pens may be changed, and no line end follows it
-abbrev TargetAt : Pen → Last → Pen → Allowed → Place → Tree → Type 0
-TargetAt p l q c place t = (g : Good p l q (under place c) (level_of place) place.start t) × (simple_target g.tree ≡ Some g.tree) × (line_of g.last ≡ false) × ReadsExpression (under place c) grammar.LeftHandSide g.tokens g.tree
+abbrev TargetAt : Tables → Pen → Last → Pen → Allowed → Place → Tree → Type 0
+TargetAt names p l q c place t = (g : Good names p l q (under place c) (level_of place) place.start t) × (simple_target g.tree ≡ Some g.tree) × (line_of g.last ≡ false) × ReadsExpression (under place c) grammar.LeftHandSide g.tokens g.tree
 
-pub named_target : (c : Allowed) (a b : Atoms) (o : Tree) → static_member_expression_optional a ≡ false → spells_name (identifier_name_name b) ≡ true → LinkPrinted c o → TargetPrinted c (tree.static_member a o (tree.identifier_name b))
-named_target c a b o m h f place p l z y k =
+pub named_target : {names : Tables} (c : Allowed) (a b : Atoms) (o : Tree) → static_member_expression_optional a ≡ false → spells_name (identifier_name_name b) ≡ true → LinkPrinted names c o → TargetPrinted names c (tree.static_member a o (tree.identifier_name b))
+named_target {names} c a b o m h f place p l z y k =
     let v : List ℕ = identifier_name_name b in
     let p1 : Pen = layout (spell o (linked place)) p in
     let p2 : Pen = layout member_dot p1 in
@@ -109,8 +112,8 @@ named_target c a b o m h f place p l z y k =
     let x : word_value w ≡ Some v = word_text_value p2.style.ascii v h in
     let g = f place p l z y k in
     let d = wrote_dot p1 g.last g.operand g.writes.knows in
-    let n = wrote_name v p2 (After (Sign dot)) h d.knows in
-    subst (λ optional. TargetAt p l (layout (name_link optional ⊕ name v) p1) c place (tree.static_member a o (tree.identifier_name b))) (sym m) (
+    let n = wrote_written_name v p2 (After (Sign dot)) h d.knows in
+    subst (λ optional. TargetAt names p l (layout (name_link optional ⊕ name (as_written v)) p1) c place (tree.static_member a o (tree.identifier_name b))) (sym m) (
       record {
         last = After (Word w);
         tokens = g.tokens ⧺ piece (line_of g.last) (Sign dot) (piece false (Word w) done);
@@ -128,7 +131,7 @@ named_target c a b o m h f place p l z y k =
       read_left place.context.forbids_call (g.named w v (line_of g.last) false x),
     )
 
-pub good_named_member : (c : Allowed) (a b : Atoms) (o : Tree) → static_member_expression_optional a ≡ false → spells_name (identifier_name_name b) ≡ true → LinkPrinted c o → Printed c (tree.static_member a o (tree.identifier_name b))
+pub good_named_member : {names : Tables} (c : Allowed) (a b : Atoms) (o : Tree) → static_member_expression_optional a ≡ false → spells_name (identifier_name_name b) ≡ true → LinkPrinted names c o → Printed names c (tree.static_member a o (tree.identifier_name b))
 good_named_member c a b o m h f place p l z y k = (named_target c a b o m h f place p l z y k).0
 
 -- where the key of a member stands
@@ -138,8 +141,8 @@ key_place place = quoted_plainly place.plain_quotes (in_brackets levels.Lowest p
 same_member : (a : Atoms) (u v x y : Tree) → computed_member_expression_optional a ≡ false → normal u ≡ normal x → normal v ≡ normal y → normal (tree.computed_member (link_values false) u v) ≡ normal (tree.computed_member a x y)
 same_member a u v x y m e f = λ i. tree.computed_member (link_values (sym m i)) (e i) (f i)
 
-computed_parts : (c : Allowed) (a : Atoms) (o x : Tree) (place : Place) (p p1 q : Pen) (l : Last) → computed_member_expression_optional a ≡ false → (g : Linkable p l p1 (under place c) place.context.forbids_call place.start o) → Good (written (opening Square) other_end p1) (Open false) q (with_in c) grammar.Expression (key_place place).start x → (r : Good p l (written (closing Square) other_end q) (under place c) (level_of place) place.start (tree.computed_member a o x)) × (simple_target r.tree ≡ Some r.tree) × (line_of r.last ≡ false) × ReadsExpression (under place c) grammar.LeftHandSide r.tokens r.tree
-computed_parts c a o x place p p1 q l m g h = (
+computed_parts : {names : Tables} (c : Allowed) (a : Atoms) (o x : Tree) (place : Place) (p p1 q : Pen) (l : Last) → computed_member_expression_optional a ≡ false → (g : Linkable names p l p1 (under place c) place.context.forbids_call place.start o) → Good names (written (opening Square) other_end p1) (Open false) q (with_in c) grammar.Expression (key_place place).start x → (r : Good names p l (written (closing Square) other_end q) (under place c) (level_of place) place.start (tree.computed_member a o x)) × (simple_target r.tree ≡ Some r.tree) × (line_of r.last ≡ false) × ReadsExpression (under place c) grammar.LeftHandSide r.tokens r.tree
+computed_parts {names} c a o x place p p1 q l m g h = (
   record {
     last = Open false;
     tokens = g.tokens ⧺ group (line_of g.last) Square h.tokens done;
@@ -150,24 +153,24 @@ computed_parts c a o x place p p1 q l m g h = (
     line = λ e. line_then g.tokens (group (line_of g.last) Square h.tokens done) (g.line e);
     tree = tree.computed_member (link_values false) g.base h.tree;
     reads = from_left place (g.computed (line_of g.last) h.tokens h.tree h.reads);
-    same = same_member a g.base h.tree o x m g.same h.same;
+    same = same_member a g.base h.tree (renamed names o) (renamed names x) m g.same h.same;
   },
   refl,
   refl,
   read_left place.context.forbids_call (g.computed (line_of g.last) h.tokens h.tree h.reads),
 )
 
-pub computed_target : (c : Allowed) (a : Atoms) (o x : Tree) → computed_member_expression_optional a ≡ false → LinkPrinted c o → Printed c x → TargetPrinted c (tree.computed_member a o x)
-computed_target c a o x m f h place p l z y k =
+pub computed_target : {names : Tables} (c : Allowed) (a : Atoms) (o x : Tree) → computed_member_expression_optional a ≡ false → LinkPrinted names c o → Printed names c x → TargetPrinted names c (tree.computed_member a o x)
+computed_target {names} c a o x m f h place p l z y k =
     let p1 : Pen = layout (spell o (linked place)) p in
     let p2 : Pen = written (opening Square) other_end p1 in
     let g = f place p l z y k in
     let key : Place = key_place place in
     let i = h key p2 (Open false) g.semicolon tt (within_brackets Square p1 g.last g.writes.knows) in
     let q : Pen = layout (spell x key) p2 in
-    subst (λ optional. TargetAt p l (layout (bracket_link optional ⊕ brackets Square (spell x key)) p1) c place (tree.computed_member a o x)) (sym m) (computed_parts c a o x place p p1 q l m g i)
+    subst (λ optional. TargetAt names p l (layout (bracket_link optional ⊕ brackets Square (spell x key)) p1) c place (tree.computed_member a o x)) (sym m) (computed_parts c a o x place p p1 q l m g i)
 
-pub good_computed_member : (c : Allowed) (a : Atoms) (o x : Tree) → computed_member_expression_optional a ≡ false → LinkPrinted c o → Printed c x → Printed c (tree.computed_member a o x)
+pub good_computed_member : {names : Tables} (c : Allowed) (a : Atoms) (o x : Tree) → computed_member_expression_optional a ≡ false → LinkPrinted names c o → Printed names c x → Printed names c (tree.computed_member a o x)
 good_computed_member c a o x m f h place p l z y k = (computed_target c a o x m f h place p l z y k).0
 
 -- ---- elements: expressions, and those whose values are spread
@@ -176,15 +179,15 @@ good_computed_member c a o x m f h place p l z y k = (computed_target c a o x m 
 abbrev pub element_place : Bool → Place → Place
 element_place plain place = quoted_plainly plain (in_brackets levels.Comma place)
 
-abbrev pub ElementOf : Allowed → Tree → Type 0
-ElementOf c e = (plain : Bool) (place : Place) → ElementAt (ReadsElement (with_in c)) (element_place plain place) e
+abbrev pub ElementOf : Tables → Allowed → Tree → Type 0
+ElementOf names c e = (plain : Bool) (place : Place) → ElementAt names (ReadsElement (with_in c)) (element_place plain place) e
 
-pub good_element : (c : Allowed) (e : Tree) → Printed c e → ElementOf c e
+pub good_element : {names : Tables} (c : Allowed) (e : Tree) → Printed names c e → ElementOf names c e
 good_element c e f plain place p l z b k =
     let g = f (element_place plain place) p l z (begun_ready l b) k in
     record { last = g.last; tokens = g.tokens; writes = g.writes; operand = g.operand; semicolon = g.semicolon; tree = g.tree; reads = grammar.an_element g.reads; same = g.same }
 
-pub good_spread : (c : Allowed) (a : Atoms) (e : Tree) → Printed c e → ElementOf c (tree.spread a e)
+pub good_spread : {names : Tables} (c : Allowed) (a : Atoms) (e : Tree) → Printed names c e → ElementOf names c (tree.spread a e)
 good_spread c a e f plain place p l z b k =
     let o = wrote_dots p l b k in
     let g = f (in_brackets levels.Comma place) (layout (punctuator ellipsis) p) (After (Sign ellipsis)) z tt o.knows in
@@ -202,36 +205,36 @@ good_spread c a e f plain place p l z b k =
 -- ---- arguments
 
 -- behind an opening bracket; the tests hold where the first or the second is a string that is never in backticks
-abbrev pub ArgumentsAt : Allowed → Trees → Type 0
-ArgumentsAt c es = (first second : Bool) (place : Place) (p : Pen) → p.pending_semicolon ≡ false → Knows p (Open false) → Elements (ReadsArguments (with_in c)) p (Open false) (layout (spell_arguments first second es (in_brackets levels.Comma place)) p) es
+abbrev pub ArgumentsAt : Tables → Allowed → Trees → Type 0
+ArgumentsAt names c es = (first second : Bool) (place : Place) (p : Pen) → p.pending_semicolon ≡ false → Knows names p (Open false) → Elements names (ReadsArguments (with_in c)) p (Open false) (layout (spell_arguments first second es (in_brackets levels.Comma place)) p) es
 
-abbrev pub BehindFirstAt : Allowed → Trees → Type 0
-BehindFirstAt c es = (second : Bool) (place : Place) → GivesMore (ReadsElement (with_in c)) (ReadsArgumentList (with_in c)) (spell_behind_first second es (in_brackets levels.Comma place)) es
+abbrev pub BehindFirstAt : Tables → Allowed → Trees → Type 0
+BehindFirstAt names c es = (second : Bool) (place : Place) → GivesMore names (ReadsElement (with_in c)) (ReadsArgumentList (with_in c)) (spell_behind_first second es (in_brackets levels.Comma place)) es
 
-abbrev pub MoreArgumentsAt : Allowed → Trees → Type 0
-MoreArgumentsAt c es = (place : Place) → MoreAt (ReadsElement (with_in c)) (ReadsArgumentList (with_in c)) (in_brackets levels.Comma place) es
+abbrev pub MoreArgumentsAt : Tables → Allowed → Trees → Type 0
+MoreArgumentsAt names c es = (place : Place) → MoreAt names (ReadsElement (with_in c)) (ReadsArgumentList (with_in c)) (in_brackets levels.Comma place) es
 
 arguments_join : (c : Allowed) → Joins (ReadsElement c) (ReadsArgumentList c)
 arguments_join c = record { one = λ ts e r. grammar.last_argument r; first = λ mark a b e es r s. grammar.first_argument mark refl r s }
 
-pub no_arguments : (c : Allowed) → ArgumentsAt c no_trees
+pub no_arguments : {names : Tables} (c : Allowed) → ArgumentsAt names c no_trees
 no_arguments c first second place p z k = record { last = Open false; tokens = done; writes = wrote_none p p (Open false) refl k; operand = tt; semicolon = z; trees = no_trees; reads = grammar.no_argument; same = refl }
 
-pub first_of_arguments : (c : Allowed) (e : Tree) (es : Trees) → ElementOf c e → BehindFirstAt c es → ArgumentsAt c (more e es)
+pub first_of_arguments : {names : Tables} (c : Allowed) (e : Tree) (es : Trees) → ElementOf names c e → BehindFirstAt names c es → ArgumentsAt names c (more e es)
 first_of_arguments c e es f m first second place p z k =
     let g = first_and_others (ReadsElement (with_in c)) (ReadsArgumentList (with_in c)) e es (spell e (element_place first place)) (spell_behind_first second es (in_brackets levels.Comma place)) (f first place) (m second place) p (Open false) z tt k in
     record { last = g.last; tokens = g.tokens; writes = g.writes; operand = g.operand; semicolon = g.semicolon; trees = g.trees; reads = grammar.some_arguments g.reads; same = g.same }
 
-pub none_behind_first : (c : Allowed) → BehindFirstAt c no_trees
+pub none_behind_first : {names : Tables} (c : Allowed) → BehindFirstAt names c no_trees
 none_behind_first c second place = none_behind (ReadsElement (with_in c)) (ReadsArgumentList (with_in c)) (arguments_join (with_in c)).one
 
-pub second_argument : (c : Allowed) (e : Tree) (es : Trees) → ElementOf c e → MoreArgumentsAt c es → BehindFirstAt c (more e es)
+pub second_argument : {names : Tables} (c : Allowed) (e : Tree) (es : Trees) → ElementOf names c e → MoreArgumentsAt names c es → BehindFirstAt names c (more e es)
 second_argument c e es f m second place = one_behind (ReadsElement (with_in c)) (ReadsArgumentList (with_in c)) (arguments_join (with_in c)).first e es (spell e (element_place second place)) (spell_more es (in_brackets levels.Comma place)) (f second place) (m place)
 
-pub no_more_arguments : (c : Allowed) → MoreArgumentsAt c no_trees
+pub no_more_arguments : {names : Tables} (c : Allowed) → MoreArgumentsAt names c no_trees
 no_more_arguments c place = no_more (ReadsElement (with_in c)) (ReadsArgumentList (with_in c)) (arguments_join (with_in c)) (in_brackets levels.Comma place)
 
-pub one_more_argument : (c : Allowed) (e : Tree) (es : Trees) → ElementOf c e → MoreArgumentsAt c es → MoreArgumentsAt c (more e es)
+pub one_more_argument : {names : Tables} (c : Allowed) (e : Tree) (es : Trees) → ElementOf names c e → MoreArgumentsAt names c es → MoreArgumentsAt names c (more e es)
 one_more_argument c e es f m place = one_more (ReadsElement (with_in c)) (ReadsArgumentList (with_in c)) (arguments_join (with_in c)) (in_brackets levels.Comma place) e es (f false place) (m place)
 
 -- where neither test holds they are spelled as any list
@@ -254,8 +257,8 @@ argument_items t es place = spell_arguments (is_require_call place.settings.mini
 same_call : (a : Atoms) (u x : Tree) (us xs : Trees) → call_expression_optional a ≡ false → normal u ≡ normal x → normal_trees us ≡ normal_trees xs → normal (tree.call (call_values false) u us) ≡ normal (tree.call a x xs)
 same_call a u x us xs m e f = λ i. tree.call (call_values (sym m i)) (e i) (f i)
 
-call_parts : (c : Allowed) (a : Atoms) (t : Tree) (es : Trees) (start : Start) (p p1 q : Pen) (l : Last) → call_expression_optional a ≡ false → (g : Linkable p l p1 c false start t) → Elements (ReadsArguments (with_in c)) (written (opening Round) other_end p1) (Open false) q es → Good p l (written (closing Round) other_end q) c grammar.Call start (tree.call a t es)
-call_parts c a t es start p p1 q l m g h = record {
+call_parts : {names : Tables} (c : Allowed) (a : Atoms) (t : Tree) (es : Trees) (start : Start) (p p1 q : Pen) (l : Last) → call_expression_optional a ≡ false → (g : Linkable names p l p1 c false start t) → Elements names (ReadsArguments (with_in c)) (written (opening Round) other_end p1) (Open false) q es → Good names p l (written (closing Round) other_end q) c grammar.Call start (tree.call a t es)
+call_parts {names} c a t es start p p1 q l m g h = record {
   last = Open false;
   tokens = g.tokens ⧺ group (line_of g.last) Round h.tokens done;
   writes = wrote_both g.writes (brackets_written Round p1 q g.last h.last h.tokens h.writes);
@@ -265,7 +268,7 @@ call_parts c a t es start p p1 q l m g h = record {
   line = λ e. line_then g.tokens (group (line_of g.last) Round h.tokens done) (g.line e);
   tree = tree.call (call_values false) g.base h.trees;
   reads = g.called refl (line_of g.last) h.tokens h.trees h.reads;
-  same = same_call a g.base t h.trees es m g.same h.same;
+  same = same_call a g.base (renamed names t) h.trees (renamed_trees names es) m g.same h.same;
 }
 
 -- without parentheses calls aren't forbidden
@@ -274,12 +277,12 @@ unwrapped_call {c} {ts} {u} place e r =
     let k = or_parts (wraps levels.New place) place.context.forbids_call e in
     unwrapped levels.New place k.0 (subst (λ b. ReadsExpression c (left_hand_side b) ts u) (sym k.1) (grammar.a_called_call r))
 
-pub good_call : (c : Allowed) (a : Atoms) (t : Tree) (es : Trees) → call_expression_optional a ≡ false → LinkPrinted c t → ArgumentsAt c es → Printed c (tree.call a t es)
-good_call c a t es m f h place =
+pub good_call : {names : Tables} (c : Allowed) (a : Atoms) (t : Tree) (es : Trees) → call_expression_optional a ≡ false → LinkPrinted names c t → ArgumentsAt names c es → Printed names c (tree.call a t es)
+good_call {names} c a t es m f h place =
     good_wrapped c place grammar.Call (call_wraps place) (λ w. spell t (called (within w place)) ⊕ (bracket_link (call_expression_optional a) ⊕ brackets Round (argument_items t es place))) (tree.call a t es)
     (λ d ts u r. lifted false levels.Postfix levels.Lowest (omega arith) (grammar.a_called_call r)) (λ e ts u r. unwrapped_call place e r) inner
   where
-    inner : (v : Bool) → call_wraps place ≡ v → (p : Pen) (l : Last) → p.pending_semicolon ≡ false → Ready l → Knows p l → Good p l (layout (spell t (called (within v place)) ⊕ (bracket_link (call_expression_optional a) ⊕ brackets Round (argument_items t es place))) p) (under (within v place) c) grammar.Call (unless_printed v place.start) (tree.call a t es)
+    inner : (v : Bool) → call_wraps place ≡ v → (p : Pen) (l : Last) → p.pending_semicolon ≡ false → Ready l → Knows names p l → Good names p l (layout (spell t (called (within v place)) ⊕ (bracket_link (call_expression_optional a) ⊕ brackets Round (argument_items t es place))) p) (under (within v place) c) grammar.Call (unless_printed v place.start) (tree.call a t es)
     inner v e p l z y k =
         let p1 : Pen = layout (spell t (called (within v place))) p in
         let p2 : Pen = written (opening Round) other_end p1 in
@@ -287,4 +290,4 @@ good_call c a t es m f h place =
         let g = f (record at { context = record at.context { forbids_call = false } }) p l z y k in
         let i = h (is_require_call place.settings.minified t es) (is_definition_call place.settings.minified t es) place p2 g.semicolon (within_brackets Round p1 g.last g.writes.knows) in
         let q : Pen = layout (argument_items t es place) p2 in
-        subst (λ optional. Good p l (layout (bracket_link optional ⊕ brackets Round (argument_items t es place)) p1) (under (within v place) c) grammar.Call (unless_printed v place.start) (tree.call a t es)) (sym m) (call_parts (under (within v place) c) a t es (unless_printed v place.start) p p1 q l m g i)
+        subst (λ optional. Good names p l (layout (bracket_link optional ⊕ brackets Round (argument_items t es place)) p1) (under (within v place) c) grammar.Call (unless_printed v place.start) (tree.call a t es)) (sym m) (call_parts (under (within v place) c) a t es (unless_printed v place.start) p p1 q l m g i)

@@ -7,6 +7,7 @@ use Rattle.std.proofs.lemmas.Bool.{both_ways, and_parts, or_parts, or_from, not-
 use Rattle.jsgen_syntax.specs.Escapes.{begins}
 use Rattle.jsgen_syntax.specs.declared.operator.UnaryOperator.TheVariants as unary_operators
 use Rattle.jsgen_syntax.specs.declared.precedence.Precedence.TheVariants as levels
+use Rattle.jsgen_tree.specs.Job.{Tables}
 use Rattle.jsgen_tree.specs.Number.{NumericKind, Whole, Raw}
 use Rattle.jsgen_tree.specs.Tree.{Tree, Atoms}
 use Rattle.jsgen_tree.specs.Nodes as tree
@@ -20,6 +21,7 @@ use Rattle.jsgen_model.specs.Layout.{Pen, layout, Start, nowhere, statement, arr
 use Rattle.jsgen_model.specs.Grammar.{Allowed, ReadsExpression, ReadsKey, has_suffix}
 use Rattle.jsgen_model.specs.Grammar as grammar
 use Rattle.jsgen_model.specs.Normal.{normal, named, by_text, number_text, minus_before, big_integer}
+use Rattle.jsgen_model.specs.Renamed.{renamed}
 use Rattle.jsgen_model.specs.Spell.{Place, within, behind, wraps, negative, signed, number_items, big_text, big_integer_items}
 use Rattle.jsgen_token_laws.proofs.Characters.{whole_digits}
 use Rattle.jsgen_token_laws.proofs.Last.{Last, After, line_of, Ready, Knows}
@@ -90,41 +92,50 @@ number_begins arrow_body line w b = refl
 number_begins default_export line w b = refl
 
 -- the token of a number, which is read as a tree of this normal form
-pub record Numeral (dot : Bool) (w : List ℕ) (t : Tree) : Type 0 where
-  pub writes : (p : Pen) (l : Last) → Ready l → Knows p l → Writes p l (layout (number dot w) p) (After (Number w)) (piece (line_of l) (Number w) done)
+pub record Numeral (names : Tables) (dot : Bool) (w : List ℕ) (t : Tree) : Type 0 where
+  pub writes : (p : Pen) (l : Last) → Ready l → Knows names p l → Writes names p l (layout (number dot w) p) (After (Number w)) (piece (line_of l) (Number w) done)
   pub reading : Tree
   pub reads : {c : Allowed} {mark : Bool} → ReadsExpression c grammar.Primary (piece mark (Number w) done) reading
   pub reads_key : {c : Allowed} {mark : Bool} → ReadsKey c false (piece mark (Number w) done) reading
+  -- it has no name
+  pub unnamed : renamed names reading ≡ reading
   pub same : normal reading ≡ t
 
-pub whole_numeral : (n : ℕ) → nat_lt n (2 ^ 128) ≡ true → Numeral true (decimal n) (tree.numeric_literal (by_text (decimal n)))
+pub whole_numeral : {names : Tables} (n : ℕ) → nat_lt n (2 ^ 128) ≡ true → Numeral names true (decimal n) (tree.numeric_literal (by_text (decimal n)))
 whole_numeral n h = let s = decimal_whole n (ltb-true n _ h) in record {
   writes = λ p l y k. wrote_whole (decimal n) p l s y k;
   reading = tree.numeric_literal (by_text (decimal n));
   reads = grammar.a_number (whole_suffix (decimal n) s);
   reads_key = grammar.a_number_key (whole_suffix (decimal n) s);
+  unnamed = refl;
   same = refl;
 }
 
-pub raw_numeral : (w : List ℕ) → is_raw_number w ≡ true → Numeral (not (takes_no_dot w)) w (tree.numeric_literal (by_text w))
+pub raw_numeral : {names : Tables} (w : List ℕ) → is_raw_number w ≡ true → Numeral names (not (takes_no_dot w)) w (tree.numeric_literal (by_text w))
 raw_numeral w h = record {
   writes = λ p l y k. wrote_raw w p l h y k;
   reading = tree.numeric_literal (by_text w);
   reads = grammar.a_number (raw_suffix w h);
   reads_key = grammar.a_number_key (raw_suffix w h);
+  unnamed = refl;
   same = refl;
 }
 
-pub big_numeral : (w : List ℕ) → spells_whole w ≡ true → Numeral false (big_text w) (tree.big_int_literal (named w))
+pub big_numeral : {names : Tables} (w : List ℕ) → spells_whole w ≡ true → Numeral names false (big_text w) (tree.big_int_literal (named w))
 big_numeral w h = record {
   writes = λ p l y k. wrote_big w p l h y k;
   reading = tree.big_int_literal (named w);
   reads = grammar.a_big_integer refl;
   reads_key = grammar.a_big_integer_key refl;
+  unnamed = refl;
   same = ap (big_integer w) (no_minus w h);
 }
 
-bare_numeral : (c : Allowed) (place : Place) (dot : Bool) (w : List ℕ) (t u : Tree) → Numeral dot w u → normal t ≡ u → (p : Pen) (l : Last) → p.pending_semicolon ≡ false → Ready l → Knows p l → Good p l (layout (number dot w) p) (under place c) (level_of place) place.start t
+-- its normal form is that of what is read, whatever names are printed
+as_read : {names : Tables} {dot : Bool} {w : List ℕ} {u : Tree} → (n : Numeral names dot w u) → normal (renamed names n.reading) ≡ u
+as_read n = ap normal n.unnamed ∙ n.same
+
+bare_numeral : {names : Tables} (c : Allowed) (place : Place) (dot : Bool) (w : List ℕ) (t u : Tree) → Numeral names dot w u → normal (renamed names t) ≡ u → (p : Pen) (l : Last) → p.pending_semicolon ≡ false → Ready l → Knows names p l → Good names p l (layout (number dot w) p) (under place c) (level_of place) place.start t
 bare_numeral c place dot w t u n e p l z y k = record {
   last = _;
   tokens = piece (line_of l) (Number w) done;
@@ -139,34 +150,34 @@ bare_numeral c place dot w t u n e p l z y k = record {
 }
 
 -- a minus, and a number behind it
-negative_numeral : (c : Allowed) (place : Place) (dot : Bool) (w : List ℕ) (t u : Tree) → Numeral dot w u → normal t ≡ minus_before true u → (p : Pen) (l : Last) → p.pending_semicolon ≡ false → Ready l → Knows p l → Good p l (layout (negative dot w place) p) (under place c) (level_of place) place.start t
+negative_numeral : {names : Tables} (c : Allowed) (place : Place) (dot : Bool) (w : List ℕ) (t u : Tree) → Numeral names dot w u → normal (renamed names t) ≡ minus_before true u → (p : Pen) (l : Last) → p.pending_semicolon ≡ false → Ready l → Knows names p l → Good names p l (layout (negative dot w place) p) (under place c) (level_of place) place.start t
 negative_numeral c place dot w t u n e =
     good_wrapped c place grammar.Unary (wraps levels.Prefix place) (λ v. operator minus ⊕ number dot w) t
     (λ d ts x r. lifted false levels.Exponentiation levels.Lowest (omega arith) r) (λ f ts x r. unwrapped levels.Prefix place f r)
     (λ v f. good_prefix (operator minus) (Sign minus) nothing (number dot w) n.reading t (under (within v place) c) (unless_printed v place.start) grammar.Unary grammar.Unary (sign_before minus tt wrote_minus) nothing_soft
-    (λ ts line x r s. (minus_before true x, grammar.a_unary_operation unary_operators.UnaryNegation r, ap (minus_before true) (s ∙ n.same) ∙ sym e))
-    (bare_numeral c (behind levels.Exponentiation (within v place)) dot w n.reading u n n.same))
+    (λ ts line x r s. (minus_before true x, grammar.a_unary_operation unary_operators.UnaryNegation r, ap (minus_before true) (s ∙ as_read n) ∙ sym e))
+    (bare_numeral c (behind levels.Exponentiation (within v place)) dot w n.reading u n (as_read n)))
 
-signed_numeral : (c : Allowed) (place : Place) (dot sign : Bool) (w : List ℕ) (t u : Tree) → Numeral dot w u → normal t ≡ minus_before sign u → (p : Pen) (l : Last) → p.pending_semicolon ≡ false → Ready l → Knows p l → Good p l (layout (signed dot sign w place) p) (under place c) (level_of place) place.start t
+signed_numeral : {names : Tables} (c : Allowed) (place : Place) (dot sign : Bool) (w : List ℕ) (t u : Tree) → Numeral names dot w u → normal (renamed names t) ≡ minus_before sign u → (p : Pen) (l : Last) → p.pending_semicolon ≡ false → Ready l → Knows names p l → Good names p l (layout (signed dot sign w place) p) (under place c) (level_of place) place.start t
 signed_numeral c place dot true w t u n e = negative_numeral c place dot w t u n e
 signed_numeral c place dot false w t u n e = bare_numeral c place dot w t u n e
 
-pub good_number : (c : Allowed) (a : Atoms) → has_value (numeric_literal_kind a) a ≡ true → Printed c (tree.numeric_literal a)
-good_number c a h place = by (numeric_literal_kind a) refl h
+pub good_number : {names : Tables} (c : Allowed) (a : Atoms) → has_value (numeric_literal_kind a) a ≡ true → Printed names c (tree.numeric_literal a)
+good_number {names} c a h place = by (numeric_literal_kind a) refl h
   where
     form : (kind : NumericKind) → numeric_literal_kind a ≡ kind → normal (tree.numeric_literal a) ≡ minus_before (numeric_literal_negative a) (tree.numeric_literal (by_text (number_text kind a)))
     form kind e = ap (λ x. minus_before (numeric_literal_negative a) (tree.numeric_literal (by_text (number_text x a)))) e
 
-    by : (kind : NumericKind) → numeric_literal_kind a ≡ kind → has_value kind a ≡ true → (p : Pen) (l : Last) → p.pending_semicolon ≡ false → Ready l → Knows p l → Good p l (layout (number_items kind a place) p) (under place c) (level_of place) place.start (tree.numeric_literal a)
+    by : (kind : NumericKind) → numeric_literal_kind a ≡ kind → has_value kind a ≡ true → (p : Pen) (l : Last) → p.pending_semicolon ≡ false → Ready l → Knows names p l → Good names p l (layout (number_items kind a place) p) (under place c) (level_of place) place.start (tree.numeric_literal a)
     by Whole e h = signed_numeral c place true (numeric_literal_negative a) (decimal (numeric_literal_digits a)) (tree.numeric_literal a) _ (whole_numeral (numeric_literal_digits a) h) (form Whole e)
     by Raw e h = signed_numeral c place (not (takes_no_dot (numeric_literal_text a))) (numeric_literal_negative a) (numeric_literal_text a) (tree.numeric_literal a) _ (raw_numeral (numeric_literal_text a) h) (form Raw e)
 
-pub good_big_integer : (c : Allowed) (a : Atoms) → is_big_integer (big_int_literal_value a) ≡ true → Printed c (tree.big_int_literal a)
-good_big_integer c a h place = by (behind_minus (big_int_literal_value a)) refl
+pub good_big_integer : {names : Tables} (c : Allowed) (a : Atoms) → is_big_integer (big_int_literal_value a) ≡ true → Printed names c (tree.big_int_literal a)
+good_big_integer {names} c a h place = by (behind_minus (big_int_literal_value a)) refl
   where
     v : List ℕ
     v = big_int_literal_value a
 
-    by : (o : Option (List ℕ)) → behind_minus v ≡ o → (p : Pen) (l : Last) → p.pending_semicolon ≡ false → Ready l → Knows p l → Good p l (layout (big_integer_items v o place) p) (under place c) (level_of place) place.start (tree.big_int_literal a)
+    by : (o : Option (List ℕ)) → behind_minus v ≡ o → (p : Pen) (l : Last) → p.pending_semicolon ≡ false → Ready l → Knows names p l → Good names p l (layout (big_integer_items v o place) p) (under place c) (level_of place) place.start (tree.big_int_literal a)
     by (Some w) e = negative_numeral c place false (big_text w) (tree.big_int_literal a) _ (big_numeral w (big_whole v (Some w) h e)) (ap (big_integer v) e)
     by None e = bare_numeral c place false (big_text v) (tree.big_int_literal a) _ (big_numeral v (big_whole v None h e)) (ap (big_integer v) e)

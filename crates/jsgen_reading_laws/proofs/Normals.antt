@@ -131,7 +131,7 @@ computed_again computed key e = ap (λ b. (computed || is_negative_number key) |
 
 mutual
   pub normal_again : (t : Tree) → normal (normal t) ≡ normal t
-  normal_again (tree.program a directives body) = let e = normal_trees_again directives in let f = normal_trees_again body in λ i. tree.program (nothing_of 4) (e i) (f i)
+  normal_again (tree.program a comments directives body) = let e = normal_trees_again directives in let f = normal_trees_again body in λ i. tree.program (nothing_of 4) no_trees (e i) (f i)
   normal_again (tree.directive a) = refl
   normal_again (tree.expression_statement a expression) = ap (λ e. tree.expression_statement (nothing_of 0) e) (normal_again expression)
   normal_again (tree.variable_declaration a declarations) = ap (λ ts. tree.variable_declaration (bare (declaration_kind (variable_declaration_kind a) ∷ variable_declaration_declare a ∷ [])) ts) (normal_trees_again declarations)

@@ -6,6 +6,7 @@ use Rattle.jsgen_syntax.specs.Operator.{binary_level}
 use Rattle.jsgen_syntax.specs.declared.operator.BinaryOperator.{BinaryOperator}
 use Rattle.jsgen_syntax.specs.declared.operator.BinaryOperator.TheVariants as operators
 use Rattle.jsgen_syntax.specs.declared.precedence.Precedence.TheVariants as levels
+use Rattle.jsgen_tree.specs.Job.{Tables}
 use Rattle.jsgen_tree.specs.Inside.{without_parentheses}
 use Rattle.jsgen_tree.specs.Atom.{binary_operator}
 use Rattle.jsgen_tree.specs.Tree.{Tree, Atoms}
@@ -19,6 +20,7 @@ use Rattle.jsgen_model.specs.Layout.{Pen, layout, unless_printed}
 use Rattle.jsgen_model.specs.Grammar.{Allowed, Level, ReadsExpression, operation_level, next_level, operator_piece, may_stand}
 use Rattle.jsgen_model.specs.Grammar as grammar
 use Rattle.jsgen_model.specs.Normal.{normal}
+use Rattle.jsgen_model.specs.Renamed.{renamed}
 use Rattle.jsgen_model.specs.Quotes.{is_export_mark}
 use Rattle.jsgen_model.specs.Spell.{Place, spell, within, left_of, behind, quoted_plainly, operator_item, wraps, is_forbidden, binary_wraps, left_level, right_level, is_prefixed}
 use Rattle.jsgen_token_laws.proofs.Characters.{letters_spelled}
@@ -30,13 +32,13 @@ use Rattle.jsgen_reading_laws.proofs.Good.{Good, Printed, Between, good_at, good
 
 -- ---- the token between the operands
 
-sign_between : (s : Punctuator) → NoDot s → Ready (After (Sign s)) → Between (operator s) (Sign s)
+sign_between : {names : Tables} (s : Punctuator) → NoDot s → Ready (After (Sign s)) → Between names (operator s) (Sign s)
 sign_between s n y = record { writes = λ p l o k. wrote_operator s p l n o k; semicolon = λ p. refl; ready = y; no_function = λ line ts. refl }
 
-word_between : (w : List ℕ) → spells_name w ≡ true → bytes_eq w (codes "function") ≡ false → Between (word w) (Word w)
+word_between : {names : Tables} (w : List ℕ) → spells_name w ≡ true → bytes_eq w (codes "function") ≡ false → Between names (word w) (Word w)
 word_between w h n = record { writes = λ p l o k. wrote_word w p l h k; semicolon = λ p. refl; ready = tt; no_function = λ line ts. n }
 
-operator_between : (o : BinaryOperator) → Between (operator_item o) (operator_piece o)
+operator_between : {names : Tables} (o : BinaryOperator) → Between names (operator_item o) (operator_piece o)
 operator_between operators.In = word_between (codes "in") (letters_spelled 105 (codes "n") refl) refl
 operator_between operators.Instanceof = word_between (codes "instanceof") (letters_spelled 105 (codes "nstanceof") refl) refl
 operator_between o = sign_between _ tt tt
@@ -78,23 +80,23 @@ not_prefixed (tree.big_int_literal a) h = absurd (both_ways true h refl)
 not_prefixed t h = refl
 
 -- of a unary operation, and of a number with a minus before it, the normal form is one, and of nothing else
-abbrev IsToldByForm : Tree → Type 0
-IsToldByForm t = is_unary (normal t) ≡ is_signed (without_parentheses t)
+abbrev IsToldByForm : Tables → Tree → Type 0
+IsToldByForm names t = is_unary (normal (renamed names t)) ≡ is_signed (without_parentheses t)
 
-power_left : (plain : Bool) (c : Allowed) (t : Tree) → IsToldByForm t → Printed c t → (place : Place) (p : Pen) (l : Last) → p.pending_semicolon ≡ false → Ready l → Knows p l → Good p l (layout (spell t (quoted_plainly plain (left_of (left_level operators.Exponential t) place))) p) (under place c) grammar.Update place.start t
-power_left plain c t h f place p l z y k = go (is_prefixed (without_parentheses t)) refl
+power_left : {names : Tables} (plain : Bool) (c : Allowed) (t : Tree) → IsToldByForm names t → Printed names c t → (place : Place) (p : Pen) (l : Last) → p.pending_semicolon ≡ false → Ready l → Knows names p l → Good names p l (layout (spell t (quoted_plainly plain (left_of (left_level operators.Exponential t) place))) p) (under place c) grammar.Update place.start t
+power_left {names} plain c t h f place p l z y k = go (is_prefixed (without_parentheses t)) refl
   where
-    go : (b : Bool) → is_prefixed (without_parentheses t) ≡ b → Good p l (layout (spell t (quoted_plainly plain (left_of (cond b levels.Call levels.Exponentiation) place))) p) (under place c) grammar.Update place.start t
+    go : (b : Bool) → is_prefixed (without_parentheses t) ≡ b → Good names p l (layout (spell t (quoted_plainly plain (left_of (cond b levels.Call levels.Exponentiation) place))) p) (under place c) grammar.Update place.start t
     go true e = good_at (λ ts u. lifted place.context.forbids_call levels.Call levels.Prefix (omega arith)) (f (quoted_plainly plain (left_of levels.Call place)) p l z y k)
     go false e = good_since (λ ts u s r. no_unary refl (ap is_unary s ∙ h ∙ not_prefixed (without_parentheses t) e) r) (f (quoted_plainly plain (left_of levels.Exponentiation place)) p l z y k)
 
 -- ---- the operands
 
-left_operand : (o : BinaryOperator) (plain : Bool) (c : Allowed) (t : Tree) → IsToldByForm t → Printed c t → (place : Place) (p : Pen) (l : Last) → p.pending_semicolon ≡ false → Ready l → Knows p l → Good p l (layout (spell t (quoted_plainly plain (left_of (left_level o t) place))) p) (under place c) (left_goal o) place.start t
+left_operand : {names : Tables} (o : BinaryOperator) (plain : Bool) (c : Allowed) (t : Tree) → IsToldByForm names t → Printed names c t → (place : Place) (p : Pen) (l : Last) → p.pending_semicolon ≡ false → Ready l → Knows names p l → Good names p l (layout (spell t (quoted_plainly plain (left_of (left_level o t) place))) p) (under place c) (left_goal o) place.start t
 left_operand operators.Exponential plain c t h f place = power_left plain c t h f place
 left_operand o plain c t h f place = f (quoted_plainly plain (left_of (left_level o t) place))
 
-right_operand : (o : BinaryOperator) (plain : Bool) (c : Allowed) (t : Tree) → Printed c t → (place : Place) (p : Pen) (l : Last) → p.pending_semicolon ≡ false → Ready l → Knows p l → Good p l (layout (spell t (quoted_plainly plain (behind (right_level o) place))) p) (under place c) (next_level (operation_level o)) (behind (right_level o) place).start t
+right_operand : {names : Tables} (o : BinaryOperator) (plain : Bool) (c : Allowed) (t : Tree) → Printed names c t → (place : Place) (p : Pen) (l : Last) → p.pending_semicolon ≡ false → Ready l → Knows names p l → Good names p l (layout (spell t (quoted_plainly plain (behind (right_level o) place))) p) (under place c) (next_level (operation_level o)) (behind (right_level o) place).start t
 right_operand operators.Exponential plain c t f place = f (quoted_plainly plain (behind levels.Multiply place))
 right_operand o plain c t f place = f (quoted_plainly plain (behind (right_level o) place))
 
@@ -103,12 +105,12 @@ right_operand o plain c t f place = f (quoted_plainly plain (behind (right_level
 same_operation : (o : BinaryOperator) (u v x y : Tree) → normal u ≡ normal x → normal v ≡ normal y → tree.binary (bare (binary_operator o ∷ [])) (normal u) (normal v) ≡ tree.binary (bare (binary_operator o ∷ [])) (normal x) (normal y)
 same_operation o u v x y e f = λ i. tree.binary (bare (binary_operator o ∷ [])) (e i) (f i)
 
-pub good_operation : (c : Allowed) (a : Atoms) (x y : Tree) → IsToldByForm x → Printed c x → Printed c y → Printed c (tree.binary a x y)
-good_operation c a x y h f g place =
+pub good_operation : {names : Tables} (c : Allowed) (a : Atoms) (x y : Tree) → IsToldByForm names x → Printed names c x → Printed names c y → Printed names c (tree.binary a x y)
+good_operation {names} c a x y h f g place =
     let o : BinaryOperator = binary_expression_operator a in
     let left : Bool = is_export_mark place.settings.minified o x in
     let right : Bool = is_export_mark place.settings.minified o y in
     good_wrapped c place (operation_level o) (binary_wraps o place) (λ w. spell x (quoted_plainly left (left_of (left_level o x) (within w place))) ⊕ (soft_space ⊕ (operator_item o ⊕ (soft_space ⊕ spell y (quoted_plainly right (behind (right_level o) (within w place))))))) (tree.binary a x y)
     (λ d ts u r. lifted false (looser (binary_level o)) levels.Lowest (omega arith) (own_level false o r)) (λ e ts u r. unwrapped (binary_level o) place (or_parts (wraps (binary_level o) place) (is_forbidden o place) e).0 (own_level place.context.forbids_call o r))
     (λ v e. good_infix (operator_item o) (operator_piece o) (spell x (quoted_plainly left (left_of (left_level o x) (within v place)))) (spell y (quoted_plainly right (behind (right_level o) (within v place)))) x y (tree.binary a x y) (under (within v place) c) (unless_printed v place.start) (left_goal o) (next_level (operation_level o)) (operation_level o) (operator_between o)
-    (λ ts us line u w ru rw eu ew. (tree.binary (bare (binary_operator o ∷ [])) u w, operation_reads o line (stands_there o c place v e) ru rw, same_operation o u w x y eu ew)) (left_operand o left c x h f (within v place)) (right_operand o right c y g (within v place)))
+    (λ ts us line u w ru rw eu ew. (tree.binary (bare (binary_operator o ∷ [])) u w, operation_reads o line (stands_there o c place v e) ru rw, same_operation o u w (renamed names x) (renamed names y) eu ew)) (left_operand o left c x h f (within v place)) (right_operand o right c y g (within v place)))

@@ -5,10 +5,13 @@ use Rattle.jsgen_syntax.specs.Escapes.{name_text, word_value}
 use Rattle.jsgen_syntax.specs.Name.{is_free_name}
 use Rattle.jsgen_syntax.specs.declared.precedence.Precedence.TheVariants as levels
 use Rattle.jsgen_syntax.proofs.Escapes.{word_text_value}
+use Rattle.jsgen_tree.specs.Job.{Tables}
 use Rattle.jsgen_tree.specs.Atom.{no_value}
 use Rattle.jsgen_tree.specs.Tree.{Tree, Maybe, absent, given, Trees, no_trees, more, Atoms}
 use Rattle.jsgen_tree.specs.Places.{bare}
-use Rattle.jsgen_tree.specs.Values.{binding_identifier_name, formal_parameter_is_override, formal_parameter_readonly, formal_parameter_optional}
+use Rattle.jsgen_tree.specs.Values.{formal_parameter_is_override, formal_parameter_readonly, formal_parameter_optional}
+use Rattle.jsgen_tree.specs.Inside.{binding_named}
+use Rattle.jsgen_tree.specs.Named.{Named, printed_name}
 use Rattle.jsgen_tree.specs.Nodes as tree
 use Rattle.jsgen_model.specs.Punctuator.{ellipsis, comma, Round, opening}
 use Rattle.jsgen_model.specs.Tokens.{Tokens, done, piece, group, Word, Sign}
@@ -17,6 +20,7 @@ use Rattle.jsgen_model.specs.Layout.{Pen, other_end, layout, written}
 use Rattle.jsgen_model.specs.Grammar.{Allowed, ReadsArrowParameters, ReadsParameters, ReadsParameter, with_in}
 use Rattle.jsgen_model.specs.Grammar as grammar
 use Rattle.jsgen_model.specs.Normal.{normal, normal_maybe, nothing_of, unnumbered}
+use Rattle.jsgen_model.specs.Renamed.{renamed, renamed_maybe}
 use Rattle.jsgen_model.specs.Spell.{Place, spell, spell_list, spell_more, spell_if_given, behind, is_name_alone, is_bare, parameter_items, parameters_place, comma_between}
 use Rattle.jsgen_token_laws.proofs.Last.{Last, Open, After, line_of, Ready, Knows}
 use Rattle.jsgen_token_laws.proofs.Writes.{wrote_none, wrote_both}
@@ -34,18 +38,18 @@ use Rattle.jsgen_reading_laws.proofs.Bindings.{Bound, PrintedIfGiven, Holds, goo
 same_parameter : (a : Atoms) (b u : Tree) (m n : Maybe) → formal_parameter_is_override a ≡ no_value → formal_parameter_readonly a ≡ no_value → formal_parameter_optional a ≡ no_value → normal b ≡ normal u → normal_maybe m ≡ normal_maybe n → normal (tree.formal_parameter (nothing_of 3) b m) ≡ normal (tree.formal_parameter a u n)
 same_parameter a b u m n h i j e f = λ x. tree.formal_parameter (bare (sym h x ∷ sym i x ∷ sym j x ∷ [])) (e x) (f x)
 
-parameter_holds : (c : Allowed) (a : Atoms) → formal_parameter_is_override a ≡ no_value → formal_parameter_readonly a ≡ no_value → formal_parameter_optional a ≡ no_value → Holds c (ReadsParameter c) (λ b m. tree.formal_parameter a b m)
-parameter_holds c a h i j = record {
+parameter_holds : {names : Tables} (c : Allowed) (a : Atoms) → formal_parameter_is_override a ≡ no_value → formal_parameter_readonly a ≡ no_value → formal_parameter_optional a ≡ no_value → Holds names c (ReadsParameter c) (λ b m. tree.formal_parameter a b m)
+parameter_holds {names} c a h i j = record {
   reading = λ b m. tree.formal_parameter (nothing_of 3) b m;
   alone = λ ts b r. grammar.a_parameter r;
   with_value = λ mark x v b e r s. grammar.with_initializer mark refl r s;
-  same = λ b u m n e f. same_parameter a b u m n h i j e f;
+  same = λ b u m n e f. same_parameter a b (renamed names u) m (renamed_maybe names n) h i j e f;
 }
 
-abbrev pub ParameterOf : Allowed → Tree → Type 0
-ParameterOf c t = (place : Place) → ElementAt (ReadsParameter (with_in c)) (parameters_place place) t
+abbrev pub ParameterOf : Tables → Allowed → Tree → Type 0
+ParameterOf names c t = (place : Place) → ElementAt names (ReadsParameter (with_in c)) (parameters_place place) t
 
-pub good_parameter : (c : Allowed) (a : Atoms) (b : Tree) (m : Maybe) → formal_parameter_is_override a ≡ no_value → formal_parameter_readonly a ≡ no_value → formal_parameter_optional a ≡ no_value → Bound c b → PrintedIfGiven c m → ParameterOf c (tree.formal_parameter a b m)
+pub good_parameter : {names : Tables} (c : Allowed) (a : Atoms) (b : Tree) (m : Maybe) → formal_parameter_is_override a ≡ no_value → formal_parameter_readonly a ≡ no_value → formal_parameter_optional a ≡ no_value → Bound names c b → PrintedIfGiven names c m → ParameterOf names c (tree.formal_parameter a b m)
 good_parameter c a b m h i j f v place = good_held c (ReadsParameter (with_in c)) (λ x n. tree.formal_parameter a x n) b m (parameters_place place) (parameter_holds (with_in c) a h i j) f v
 
 -- ---- the one that takes the rest
@@ -53,11 +57,11 @@ good_parameter c a b m h i j f v place = good_held c (ReadsParameter (with_in c)
 abbrev ReadsRest : Allowed → Tokens → Tree → Type 0
 ReadsRest c ts t = ReadsParameters c ts no_trees (given t)
 
-abbrev pub RestOf : Allowed → Maybe → Type 0
-RestOf c absent = Unit {0}
-RestOf c (given t) = (place : Place) → ElementAt (ReadsRest (with_in c)) (parameters_place place) t
+abbrev pub RestOf : Tables → Allowed → Maybe → Type 0
+RestOf names c absent = Unit {0}
+RestOf names c (given t) = (place : Place) → ElementAt names (ReadsRest (with_in c)) (parameters_place place) t
 
-pub good_rest : (c : Allowed) (a : Atoms) (b : Tree) → Bound c b → RestOf c (given (tree.formal_parameter_rest a b))
+pub good_rest : {names : Tables} (c : Allowed) (a : Atoms) (b : Tree) → Bound names c b → RestOf names c (given (tree.formal_parameter_rest a b))
 good_rest c a b f place p l z y k =
     let o = wrote_dots p l y k in
     let g = f (behind levels.Lowest (parameters_place place)) (layout (punctuator ellipsis) p) (After (Sign ellipsis)) z tt o.knows in
@@ -75,22 +79,22 @@ good_rest c a b f place p l z y k =
 -- ---- all of them
 
 -- read with one that takes the rest, of this normal form, or with none
-abbrev ReadsWithRest : Allowed → Maybe → Tokens → Trees → Type 0
-ReadsWithRest c rest ts ps = (r : Maybe) × ReadsParameters c ts ps r × (normal_maybe r ≡ normal_maybe rest)
+abbrev ReadsWithRest : Tables → Allowed → Maybe → Tokens → Trees → Type 0
+ReadsWithRest names c rest ts ps = (r : Maybe) × ReadsParameters c ts ps r × (normal_maybe r ≡ normal_maybe (renamed_maybe names rest))
 
-joins_one : (c : Allowed) → JoinsOne (ReadsParameter c) (ReadsWithRest c absent)
-joins_one c ts t r = (absent, grammar.last_parameter r, refl)
+joins_one : (names : Tables) (c : Allowed) → JoinsOne (ReadsParameter c) (ReadsWithRest names c absent)
+joins_one names c ts t r = (absent, grammar.last_parameter r, refl)
 
-joins_first : (c : Allowed) (rest : Maybe) → JoinsFirst (ReadsParameter c) (ReadsWithRest c rest)
-joins_first c rest mark a b t us r s = (s.0, grammar.first_parameter mark refl r s.1, s.2)
+joins_first : (names : Tables) (c : Allowed) (rest : Maybe) → JoinsFirst (ReadsParameter c) (ReadsWithRest names c rest)
+joins_first names c rest mark a b t us r s = (s.0, grammar.first_parameter mark refl r s.1, s.2)
 
 -- what takes the rest stands behind the others, and behind a comma
 abbrev rest_items : Maybe → Place → Items
 rest_items absent place = spell_if_given absent (parameters_place place)
 rest_items (given t) place = (punctuator comma ⊕ soft_space) ⊕ spell t (parameters_place place)
 
-rest_behind : (c : Allowed) (rest : Maybe) → RestOf c rest → (place : Place) → GivesMore (ReadsParameter (with_in c)) (ReadsWithRest (with_in c) rest) (rest_items rest place) no_trees
-rest_behind c absent f place p l z o k = none_behind (ReadsParameter (with_in c)) (ReadsWithRest (with_in c) absent) (joins_one (with_in c)) p l z o k
+rest_behind : {names : Tables} (c : Allowed) (rest : Maybe) → RestOf names c rest → (place : Place) → GivesMore names (ReadsParameter (with_in c)) (ReadsWithRest names (with_in c) rest) (rest_items rest place) no_trees
+rest_behind {names} c absent f place p l z o k = none_behind (ReadsParameter (with_in c)) (ReadsWithRest names (with_in c) absent) (joins_one names (with_in c)) p l z o k
 rest_behind c (given t) f place p l z o k =
     let p1 : Pen = layout (punctuator comma) p in
     let p2 : Pen = layout soft_space p1 in
@@ -109,67 +113,67 @@ rest_behind c (given t) f place p l z o k =
     }
 
 -- more of them, whatever takes the rest
-abbrev pub MoreParametersOf : Allowed → Trees → Type 0
-MoreParametersOf c ps = (rest : Maybe) (place : Place) → GivesMore (ReadsParameter (with_in c)) (ReadsWithRest (with_in c) rest) (rest_items rest place) no_trees → GivesMore (ReadsParameter (with_in c)) (ReadsWithRest (with_in c) rest) (spell_more ps (parameters_place place) ⊕ rest_items rest place) ps
+abbrev pub MoreParametersOf : Tables → Allowed → Trees → Type 0
+MoreParametersOf names c ps = (rest : Maybe) (place : Place) → GivesMore names (ReadsParameter (with_in c)) (ReadsWithRest names (with_in c) rest) (rest_items rest place) no_trees → GivesMore names (ReadsParameter (with_in c)) (ReadsWithRest names (with_in c) rest) (spell_more ps (parameters_place place) ⊕ rest_items rest place) ps
 
-pub no_more_parameters : (c : Allowed) → MoreParametersOf c no_trees
+pub no_more_parameters : {names : Tables} (c : Allowed) → MoreParametersOf names c no_trees
 no_more_parameters c rest place f = f
 
-pub one_more_parameter : (c : Allowed) (t : Tree) (ts : Trees) → ParameterOf c t → MoreParametersOf c ts → MoreParametersOf c (more t ts)
-one_more_parameter c t ts f h rest place g = one_behind (ReadsParameter (with_in c)) (ReadsWithRest (with_in c) rest) (joins_first (with_in c) rest) t ts (spell t (parameters_place place)) (spell_more ts (parameters_place place) ⊕ rest_items rest place) (f place) (h rest place g)
+pub one_more_parameter : {names : Tables} (c : Allowed) (t : Tree) (ts : Trees) → ParameterOf names c t → MoreParametersOf names c ts → MoreParametersOf names c (more t ts)
+one_more_parameter {names} c t ts f h rest place g = one_behind (ReadsParameter (with_in c)) (ReadsWithRest names (with_in c) rest) (joins_first names (with_in c) rest) t ts (spell t (parameters_place place)) (spell_more ts (parameters_place place) ⊕ rest_items rest place) (f place) (h rest place g)
 
 -- behind an opening bracket
-abbrev pub ParametersOf : Allowed → Trees → Maybe → Type 0
-ParametersOf c ps rest = (place : Place) (p : Pen) → p.pending_semicolon ≡ false → Knows p (Open false) → Elements (ReadsWithRest (with_in c) rest) p (Open false) (layout (spell_list ps (parameters_place place) ⊕ (comma_between ps rest ⊕ spell_if_given rest (parameters_place place))) p) ps
+abbrev pub ParametersOf : Tables → Allowed → Trees → Maybe → Type 0
+ParametersOf names c ps rest = (place : Place) (p : Pen) → p.pending_semicolon ≡ false → Knows names p (Open false) → Elements names (ReadsWithRest names (with_in c) rest) p (Open false) (layout (spell_list ps (parameters_place place) ⊕ (comma_between ps rest ⊕ spell_if_given rest (parameters_place place))) p) ps
 
-pub no_parameters : (c : Allowed) (rest : Maybe) → RestOf c rest → ParametersOf c no_trees rest
+pub no_parameters : {names : Tables} (c : Allowed) (rest : Maybe) → RestOf names c rest → ParametersOf names c no_trees rest
 no_parameters c absent f place p z k = record { last = Open false; tokens = done; writes = wrote_none p p (Open false) refl k; operand = tt; semicolon = z; trees = no_trees; reads = (absent, grammar.no_parameter, refl); same = refl }
 no_parameters c (given t) f place p z k =
     let g = f place p (Open false) z tt k in
     record { last = g.last; tokens = g.tokens; writes = g.writes; operand = g.operand; semicolon = g.semicolon; trees = no_trees; reads = (given g.tree, g.reads, ap (λ x. given x) g.same); same = refl }
 
-pub some_parameters : (c : Allowed) (t : Tree) (ts : Trees) (rest : Maybe) → ParameterOf c t → MoreParametersOf c ts → RestOf c rest → ParametersOf c (more t ts) rest
-some_parameters c t ts rest f h r place p z k = by rest r
+pub some_parameters : {names : Tables} (c : Allowed) (t : Tree) (ts : Trees) (rest : Maybe) → ParameterOf names c t → MoreParametersOf names c ts → RestOf names c rest → ParametersOf names c (more t ts) rest
+some_parameters {names} c t ts rest f h r place p z k = by rest r
   where
-    by : (m : Maybe) → RestOf c m → Elements (ReadsWithRest (with_in c) m) p (Open false) (layout (spell_list (more t ts) (parameters_place place) ⊕ (comma_between (more t ts) m ⊕ spell_if_given m (parameters_place place))) p) (more t ts)
-    by absent r = first_and_others (ReadsParameter (with_in c)) (ReadsWithRest (with_in c) absent) t ts (spell t (parameters_place place)) (spell_more ts (parameters_place place) ⊕ rest_items absent place) (f place) (h absent place (rest_behind c absent r place)) p (Open false) z tt k
-    by (given u) r = first_and_others (ReadsParameter (with_in c)) (ReadsWithRest (with_in c) (given u)) t ts (spell t (parameters_place place)) (spell_more ts (parameters_place place) ⊕ rest_items (given u) place) (f place) (h (given u) place (rest_behind c (given u) r place)) p (Open false) z tt k
+    by : (m : Maybe) → RestOf names c m → Elements names (ReadsWithRest names (with_in c) m) p (Open false) (layout (spell_list (more t ts) (parameters_place place) ⊕ (comma_between (more t ts) m ⊕ spell_if_given m (parameters_place place))) p) (more t ts)
+    by absent r = first_and_others (ReadsParameter (with_in c)) (ReadsWithRest names (with_in c) absent) t ts (spell t (parameters_place place)) (spell_more ts (parameters_place place) ⊕ rest_items absent place) (f place) (h absent place (rest_behind c absent r place)) p (Open false) z tt k
+    by (given u) r = first_and_others (ReadsParameter (with_in c)) (ReadsWithRest names (with_in c) (given u)) t ts (spell t (parameters_place place)) (spell_more ts (parameters_place place) ⊕ rest_items (given u) place) (f place) (h (given u) place (rest_behind c (given u) r place)) p (Open false) z tt k
 
 -- ---- before an arrow
 
 -- printed at an arrow function's place, and read where it stands in parentheses or not; no line end follows them
-abbrev pub ArrowParametersOf : Allowed → Tree → Type 0
-ArrowParametersOf c t = (place at : Place) (p : Pen) (l : Last) → p.pending_semicolon ≡ false → Ready l → Knows p l → (g : GoodAs (ReadsArrowParameters (under at c)) p l (layout (parameter_items (is_bare place.settings t) (spell t (parameters_place place))) p) at.start t) × (line_of g.last ≡ false)
+abbrev pub ArrowParametersOf : Tables → Allowed → Tree → Type 0
+ArrowParametersOf names c t = (place at : Place) (p : Pen) (l : Last) → p.pending_semicolon ≡ false → Ready l → Knows names p l → (g : GoodAs names (ReadsArrowParameters (under at c)) p l (layout (parameter_items (is_bare place.settings t) (spell t (parameters_place place))) p) at.start t) × (line_of g.last ≡ false)
 
 -- one parameter, which is a name alone
-pub record NameAlone (t : Tree) : Type 0 where
-  pub value : List ℕ
+pub record NameAlone (names : Tables) (t : Tree) : Type 0 where
+  pub value : Named
   pub spelled : (place : Place) (p : Pen) → layout (spell t place) p ≡ layout (name value) p
-  pub free : is_free_name value ≡ true
-  pub form : normal t ≡ tree.formal_parameters (nothing_of 0) (more (tree.formal_parameter (nothing_of 3) (tree.binding_identifier (unnumbered value)) absent) no_trees) absent
+  pub free : is_free_name (printed_name names value) ≡ true
+  pub form : normal (renamed names t) ≡ tree.formal_parameters (nothing_of 0) (more (tree.formal_parameter (nothing_of 3) (tree.binding_identifier (unnumbered (printed_name names value))) absent) no_trees) absent
 
-pub name_alone : {c : Allowed} {t : Tree} → IsParameters c t → is_name_alone t ≡ true → NameAlone t
-name_alone (family.all_parameters (family.first_parameter (family.a_parameter {a = b} h i j (family.a_bound_name {a} f) family.no_value) family.no_parameter) family.no_rest) e = record {
-  value = binding_identifier_name a;
+pub name_alone : {names : Tables} {c : Allowed} {t : Tree} → IsParameters names c t → is_name_alone t ≡ true → NameAlone names t
+name_alone {names} (family.all_parameters (family.first_parameter (family.a_parameter {a = b} h i j (family.a_bound_name {a} f) family.no_value) family.no_parameter) family.no_rest) e = record {
+  value = binding_named a;
   spelled = λ place p. refl;
   free = f;
-  form = λ x. tree.formal_parameters (nothing_of 0) (more (tree.formal_parameter (bare (h x ∷ i x ∷ j x ∷ [])) (tree.binding_identifier (unnumbered (binding_identifier_name a))) absent) no_trees) absent;
+  form = λ x. tree.formal_parameters (nothing_of 0) (more (tree.formal_parameter (bare (h x ∷ i x ∷ j x ∷ [])) (tree.binding_identifier (unnumbered (printed_name names (binding_named a)))) absent) no_trees) absent;
 }
 name_alone (family.all_parameters (family.first_parameter (family.a_parameter h i j (family.a_bound_name f) family.no_value) family.no_parameter) (family.a_rest r)) e = absurd (both_ways false refl e)
 name_alone (family.all_parameters (family.first_parameter (family.a_parameter h i j (family.a_bound_name f) family.no_value) (family.first_parameter v w)) r) e = absurd (both_ways false refl e)
 name_alone (family.all_parameters (family.first_parameter (family.a_parameter h i j (family.a_bound_name f) (family.a_value v)) w) r) e = absurd (both_ways false refl e)
 name_alone (family.all_parameters family.no_parameter r) e = absurd (both_ways false refl e)
 
-bare_parameter : (c : Allowed) (t : Tree) → NameAlone t → (place at : Place) (p : Pen) (l : Last) → p.pending_semicolon ≡ false → Knows p l → (g : GoodAs (ReadsArrowParameters (under at c)) p l (layout (spell t (parameters_place place)) p) at.start t) × (line_of g.last ≡ false)
-bare_parameter c t n place at p l z k =
-    let v : List ℕ = n.value in
+bare_parameter : {names : Tables} (c : Allowed) (t : Tree) → NameAlone names t → (place at : Place) (p : Pen) (l : Last) → p.pending_semicolon ≡ false → Knows names p l → (g : GoodAs names (ReadsArrowParameters (under at c)) p l (layout (spell t (parameters_place place)) p) at.start t) × (line_of g.last ≡ false)
+bare_parameter {names} c t n place at p l z k =
+    let v : List ℕ = printed_name names n.value in
     let w : List ℕ = name_text p.style.ascii v in
     let e : word_value w ≡ Some v = word_text_value p.style.ascii v (free_spelled v n.free) in
-    subst (λ q. (g : GoodAs (ReadsArrowParameters (under at c)) p l q at.start t) × (line_of g.last ≡ false)) (sym (n.spelled (parameters_place place) p)) (
+    subst (λ q. (g : GoodAs names (ReadsArrowParameters (under at c)) p l q at.start t) × (line_of g.last ≡ false)) (sym (n.spelled (parameters_place place) p)) (
       record {
         last = After (Word w);
         tokens = piece (line_of l) (Word w) done;
-        writes = wrote_name v p l (free_spelled v n.free) k;
+        writes = wrote_name n.value p l (free_spelled v n.free) k;
         operand = tt;
         semicolon = z;
         begins = λ b h. name_begins at.start (line_of l) w v b e n.free h;
@@ -181,7 +185,7 @@ bare_parameter c t n place at p l z k =
       refl,
     )
 
-grouped_parameters : (c : Allowed) (a : Atoms) (ps : Trees) (rest : Maybe) → ParametersOf c ps rest → let t = tree.formal_parameters a ps rest in (place at : Place) (p : Pen) (l : Last) → p.pending_semicolon ≡ false → Knows p l → (g : GoodAs (ReadsArrowParameters (under at c)) p l (layout (brackets Round (spell t (parameters_place place))) p) at.start t) × (line_of g.last ≡ false)
+grouped_parameters : {names : Tables} (c : Allowed) (a : Atoms) (ps : Trees) (rest : Maybe) → ParametersOf names c ps rest → let t = tree.formal_parameters a ps rest in (place at : Place) (p : Pen) (l : Last) → p.pending_semicolon ≡ false → Knows names p l → (g : GoodAs names (ReadsArrowParameters (under at c)) p l (layout (brackets Round (spell t (parameters_place place))) p) at.start t) × (line_of g.last ≡ false)
 grouped_parameters c a ps rest f place at p l z k =
     let p1 : Pen = written (opening Round) other_end p in
     let q : Pen = layout (spell (tree.formal_parameters a ps rest) (parameters_place place)) p1 in
@@ -201,12 +205,12 @@ grouped_parameters c a ps rest f place at p l z k =
       refl,
     )
 
-pub good_arrow_parameters : (c : Allowed) (a : Atoms) (ps : Trees) (rest : Maybe) → (is_name_alone (tree.formal_parameters a ps rest) ≡ true → NameAlone (tree.formal_parameters a ps rest)) → ParametersOf c ps rest → ArrowParametersOf c (tree.formal_parameters a ps rest)
-good_arrow_parameters c a ps rest alone f place at p l z y k = by (is_bare place.settings t) refl
+pub good_arrow_parameters : {names : Tables} (c : Allowed) (a : Atoms) (ps : Trees) (rest : Maybe) → (is_name_alone (tree.formal_parameters a ps rest) ≡ true → NameAlone names (tree.formal_parameters a ps rest)) → ParametersOf names c ps rest → ArrowParametersOf names c (tree.formal_parameters a ps rest)
+good_arrow_parameters {names} c a ps rest alone f place at p l z y k = by (is_bare place.settings t) refl
   where
     t : Tree
     t = tree.formal_parameters a ps rest
 
-    by : (b : Bool) → is_bare place.settings t ≡ b → (g : GoodAs (ReadsArrowParameters (under at c)) p l (layout (parameter_items b (spell t (parameters_place place))) p) at.start t) × (line_of g.last ≡ false)
+    by : (b : Bool) → is_bare place.settings t ≡ b → (g : GoodAs names (ReadsArrowParameters (under at c)) p l (layout (parameter_items b (spell t (parameters_place place))) p) at.start t) × (line_of g.last ≡ false)
     by true e = bare_parameter c t (alone (and_parts place.settings.minified (is_name_alone t) e).1) place at p l z k
     by false e = grouped_parameters c a ps rest f place at p l z k

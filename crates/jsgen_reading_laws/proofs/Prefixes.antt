@@ -4,6 +4,7 @@ use Rattle.jsgen_syntax.specs.Name.{spells_name}
 use Rattle.jsgen_syntax.specs.declared.operator.UnaryOperator.{UnaryOperator}
 use Rattle.jsgen_syntax.specs.declared.operator.UnaryOperator.TheVariants as unary_operators
 use Rattle.jsgen_syntax.specs.declared.precedence.Precedence.TheVariants as levels
+use Rattle.jsgen_tree.specs.Job.{Tables}
 use Rattle.jsgen_tree.specs.Atom.{unary_operator}
 use Rattle.jsgen_tree.specs.Tree.{Tree, Atoms}
 use Rattle.jsgen_tree.specs.Places.{bare}
@@ -16,6 +17,7 @@ use Rattle.jsgen_model.specs.Layout.{Pen, Start, nowhere, statement, arrow_body,
 use Rattle.jsgen_model.specs.Grammar.{Allowed, Level, ReadsExpression, unary_piece, starts_declaration}
 use Rattle.jsgen_model.specs.Grammar as grammar
 use Rattle.jsgen_model.specs.Normal.{normal}
+use Rattle.jsgen_model.specs.Renamed.{renamed}
 use Rattle.jsgen_model.specs.Spell.{spell, within, behind, wraps, unary_sign, behind_unary}
 use Rattle.jsgen_token_laws.proofs.Characters.{letters_spelled}
 use Rattle.jsgen_token_laws.proofs.Last.{Last, After, line_of, Ready, Knows}
@@ -25,21 +27,21 @@ use Rattle.jsgen_reading_laws.proofs.Levels.{under, lifted, unwrapped}
 use Rattle.jsgen_reading_laws.proofs.Good.{Good, Printed, may_begin, good_wrapped}
 
 -- the item writes this one token behind anything, and an operand may follow
-pub record Before (item : Items) (x : Piece) : Type 0 where
-  pub writes : (p : Pen) (l : Last) → Knows p l → Writes p l (layout item p) (After x) (piece (line_of l) x done)
+pub record Before (names : Tables) (item : Items) (x : Piece) : Type 0 where
+  pub writes : (p : Pen) (l : Last) → Knows names p l → Writes names p l (layout item p) (After x) (piece (line_of l) x done)
   pub semicolon : (p : Pen) → (layout item p).pending_semicolon ≡ p.pending_semicolon
   pub ready : Ready (After x)
   pub begins : (start : Start) (line : Bool) (ts : Tokens) → may_begin start (piece line x ts) ≡ true
 
 -- these items write blanks, or nothing
-abbrev pub Softens : Items → Type 0
-Softens items = (p : Pen) (l : Last) → Knows p l → Soft p l (layout items p)
+abbrev pub Softens : Tables → Items → Type 0
+Softens names items = (p : Pen) (l : Last) → Knows names p l → Soft names p l (layout items p)
 
 -- what has to be built from the token and the operand
-abbrev pub Builds : Piece → Allowed → Level → Level → Tree → Tree → Type 0
-Builds x c g h e t = (a : Tokens) (line : Bool) (u : Tree) → ReadsExpression c g a u → normal u ≡ normal e → (w : Tree) × ReadsExpression c h (piece line x a) w × (normal w ≡ normal t)
+abbrev pub Builds : Tables → Piece → Allowed → Level → Level → Tree → Tree → Type 0
+Builds names x c g h e t = (a : Tokens) (line : Bool) (u : Tree) → ReadsExpression c g a u → normal u ≡ normal (renamed names e) → (w : Tree) × ReadsExpression c h (piece line x a) w × (normal w ≡ normal (renamed names t))
 
-prefix_parts : (item : Items) (x : Piece) (e t : Tree) (c : Allowed) (start : Start) (g h : Level) (p p1 p2 q : Pen) (l : Last) → Before item x → Builds x c g h e t → Writes p l p1 (After x) (piece (line_of l) x done) → (n : Soft p1 (After x) p2) → Good p2 n.last q c g nowhere e → Good p l q c h start t
+prefix_parts : {names : Tables} (item : Items) (x : Piece) (e t : Tree) (c : Allowed) (start : Start) (g h : Level) (p p1 p2 q : Pen) (l : Last) → Before names item x → Builds names x c g h e t → Writes names p l p1 (After x) (piece (line_of l) x done) → (n : Soft names p1 (After x) p2) → Good names p2 n.last q c g nowhere e → Good names p l q c h start t
 prefix_parts item x e t c start g h p p1 p2 q l before build w n b =
     let r = build b.tokens (line_of l) b.tree b.reads b.same in
     record {
@@ -55,8 +57,8 @@ prefix_parts item x e t c start g h p p1 p2 q l before build w n b =
       same = r.2;
     }
 
-pub good_prefix : (item : Items) (x : Piece) (gap operand : Items) (e t : Tree) (c : Allowed) (start : Start) (g h : Level) → Before item x → Softens gap → Builds x c g h e t → ((p : Pen) (l : Last) → p.pending_semicolon ≡ false → Ready l → Knows p l → Good p l (layout operand p) c g nowhere e)
-    → (p : Pen) (l : Last) → p.pending_semicolon ≡ false → Ready l → Knows p l → Good p l (layout (item ⊕ (gap ⊕ operand)) p) c h start t
+pub good_prefix : {names : Tables} (item : Items) (x : Piece) (gap operand : Items) (e t : Tree) (c : Allowed) (start : Start) (g h : Level) → Before names item x → Softens names gap → Builds names x c g h e t → ((p : Pen) (l : Last) → p.pending_semicolon ≡ false → Ready l → Knows names p l → Good names p l (layout operand p) c g nowhere e)
+    → (p : Pen) (l : Last) → p.pending_semicolon ≡ false → Ready l → Knows names p l → Good names p l (layout (item ⊕ (gap ⊕ operand)) p) c h start t
 good_prefix item x gap operand e t c start g h before soft build f p l z y k =
     let p1 : Pen = layout item p in
     let p2 : Pen = layout gap p1 in
@@ -79,15 +81,15 @@ word_begins w h statement line ts = ap not (h ts)
 word_begins w h arrow_body line ts = refl
 word_begins w h default_export line ts = ap not (h ts)
 
-pub sign_before : (s : Punctuator) → Ready (After (Sign s)) → ((p : Pen) (l : Last) → Knows p l → Writes p l (layout (operator s) p) (After (Sign s)) (piece (line_of l) (Sign s) done)) → Before (operator s) (Sign s)
+pub sign_before : {names : Tables} (s : Punctuator) → Ready (After (Sign s)) → ((p : Pen) (l : Last) → Knows names p l → Writes names p l (layout (operator s) p) (After (Sign s)) (piece (line_of l) (Sign s) done)) → Before names (operator s) (Sign s)
 sign_before s y w = record { writes = w; semicolon = λ p. refl; ready = y; begins = sign_begins s }
 
-pub word_before : (w : List ℕ) → spells_name w ≡ true → ((ts : Tokens) → starts_declaration w ts ≡ false) → Before (word w) (Word w)
+pub word_before : {names : Tables} (w : List ℕ) → spells_name w ≡ true → ((ts : Tokens) → starts_declaration w ts ≡ false) → Before names (word w) (Word w)
 word_before w h n = record { writes = λ p l k. wrote_word w p l h k; semicolon = λ p. refl; ready = tt; begins = word_begins w n }
 
 -- ---- unary operations
 
-unary_before : (o : UnaryOperator) → Before (unary_sign o) (unary_piece o)
+unary_before : {names : Tables} (o : UnaryOperator) → Before names (unary_sign o) (unary_piece o)
 unary_before unary_operators.UnaryPlus = sign_before _ tt wrote_plus
 unary_before unary_operators.UnaryNegation = sign_before _ tt wrote_minus
 unary_before unary_operators.LogicalNot = sign_before bang tt (λ p l k. wrote_prefix bang 33 p l refl refl refl refl k)
@@ -96,16 +98,16 @@ unary_before unary_operators.Typeof = word_before (codes "typeof") (letters_spel
 unary_before unary_operators.Void = word_before (codes "void") (letters_spelled 118 (codes "oid") refl) (λ ts. refl)
 unary_before unary_operators.Delete = word_before (codes "delete") (letters_spelled 100 (codes "elete") refl) (λ ts. refl)
 
-pub nothing_soft : (p : Pen) (l : Last) → Knows p l → Soft p l p
+pub nothing_soft : {names : Tables} (p : Pen) (l : Last) → Knows names p l → Soft names p l p
 nothing_soft p l k = no_soft p p l refl refl refl refl k
 
-behind_soft : (o : UnaryOperator) → Softens (behind_unary o)
+behind_soft : {names : Tables} (o : UnaryOperator) → Softens names (behind_unary o)
 behind_soft unary_operators.Typeof = soft_space_written
 behind_soft unary_operators.Void = soft_space_written
 behind_soft unary_operators.Delete = soft_space_written
 behind_soft o = nothing_soft
 
-pub good_unary_operation : (c : Allowed) (a : Atoms) (t : Tree) → Printed c t → Printed c (tree.unary a t)
+pub good_unary_operation : {names : Tables} (c : Allowed) (a : Atoms) (t : Tree) → Printed names c t → Printed names c (tree.unary a t)
 good_unary_operation c a t f place =
     let o : UnaryOperator = unary_expression_operator a in
     good_wrapped c place grammar.Unary (wraps levels.Prefix place) (λ w. unary_sign o ⊕ (behind_unary o ⊕ spell t (behind levels.Exponentiation (within w place)))) (tree.unary a t)

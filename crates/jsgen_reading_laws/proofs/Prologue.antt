@@ -4,6 +4,7 @@ use Rattle.jsgen_syntax.specs.Strings.{is_backtick, string_value}
 use Rattle.jsgen_syntax.specs.Raw.{directive_text, directive_quote, directive_value}
 use Rattle.jsgen_syntax.specs.declared.quote.Quote.{Quote}
 use Rattle.jsgen_syntax.proofs.Raw.{directive_text_value, directive_quote_value, directive_quote_plain}
+use Rattle.jsgen_tree.specs.Job.{Tables}
 use Rattle.jsgen_tree.specs.Atom.{units}
 use Rattle.jsgen_tree.specs.Tree.{Trees, no_trees, more, Atoms}
 use Rattle.jsgen_tree.specs.Places.{bare}
@@ -16,6 +17,7 @@ use Rattle.jsgen_model.specs.Layout.{Pen, layout}
 use Rattle.jsgen_model.specs.Grammar.{Allowed, ReadsBody}
 use Rattle.jsgen_model.specs.Grammar as grammar
 use Rattle.jsgen_model.specs.Normal.{normal_trees, directive_units}
+use Rattle.jsgen_model.specs.Renamed.{renamed_trees}
 use Rattle.jsgen_model.specs.Spell.{Settings, spell, spell_directives, spell_body, among_statements}
 use Rattle.jsgen_token_laws.proofs.Last.{Last, After, line_of, Ready, Knows}
 use Rattle.jsgen_token_laws.proofs.Writes.{Writes, wrote_none, wrote_both, wrote_and_none}
@@ -27,29 +29,29 @@ use Rattle.jsgen_reading_laws.proofs.Stands.{Stands, StandsAt, SameTrees, behind
 use Rattle.jsgen_reading_laws.proofs.Directives.{body_stated}
 
 -- between two pens stand directives
-pub record GoodDirectives (p : Pen) (l : Last) (q : Pen) (ds : Trees) : Type 0 where
+pub record GoodDirectives (names : Tables) (p : Pen) (l : Last) (q : Pen) (ds : Trees) : Type 0 where
   pub last : Last
   pub tokens : Tokens
-  pub writes : Writes p l q last tokens
+  pub writes : Writes names p l q last tokens
   pub ready : Ready last
   pub semicolon : q.pending_semicolon ≡ false
   pub trees : Trees
   pub reads : (c : Allowed) (e : Bool) (ts : Tokens) (ss : Trees) → ReadsBody c e ts no_trees ss → ReadsBody c e (tokens ⧺ ts) trees ss
-  pub same : normal_trees trees ≡ normal_trees ds
+  pub same : normal_trees trees ≡ normal_trees (renamed_trees names ds)
 
 -- one directive with its semicolon
-record GoodDirective (p : Pen) (l : Last) (q : Pen) (a : Atoms) : Type 0 where
+record GoodDirective (names : Tables) (p : Pen) (l : Last) (q : Pen) (a : Atoms) : Type 0 where
   last : Last
   line : Bool
   quote : Quote
   text : List ℕ
-  writes : Writes p l q last (piece line (Quoted quote text) (piece false (Sign semicolon) done))
+  writes : Writes names p l q last (piece line (Quoted quote text) (piece false (Sign semicolon) done))
   ready : Ready last
   semicolon_left : q.pending_semicolon ≡ false
   plain : is_backtick quote ≡ false
   value : string_value quote text ≡ Some (directive_units (directive_directive a))
 
-good_directive : (a : Atoms) (us : List ℕ) (settings : Settings) → directive_value (as_text (directive_directive a)) ≡ Some us → directive_units (directive_directive a) ≡ us → (p : Pen) (l : Last) → p.pending_semicolon ≡ false → Ready l → Knows p l → GoodDirective p l (layout (spell (tree.directive a) (among_statements settings)) p) a
+good_directive : {names : Tables} (a : Atoms) (us : List ℕ) (settings : Settings) → directive_value (as_text (directive_directive a)) ≡ Some us → directive_units (directive_directive a) ≡ us → (p : Pen) (l : Last) → p.pending_semicolon ≡ false → Ready l → Knows names p l → GoodDirective names p l (layout (spell (tree.directive a) (among_statements settings)) p) a
 good_directive a us settings h e p l z y k =
     let raw : List ℕ = as_text (directive_directive a) in
     let p1 : Pen = layout indentation p in
@@ -75,11 +77,11 @@ good_directive a us settings h e p l z y k =
       value = v ∙ ap Some (sym e);
     }
 
-no_directives : (p : Pen) (l : Last) → p.pending_semicolon ≡ false → Ready l → Knows p l → GoodDirectives p l p no_trees
+no_directives : {names : Tables} (p : Pen) (l : Last) → p.pending_semicolon ≡ false → Ready l → Knows names p l → GoodDirectives names p l p no_trees
 no_directives p l z y k = record { last = l; tokens = done; writes = wrote_none p p l refl k; ready = y; semicolon = z; trees = no_trees; reads = λ c e ts ss r. r; same = refl }
 
-more_directives : (a : Atoms) (ds : Trees) (p p1 q : Pen) (l : Last) → (d : GoodDirective p l p1 a) → GoodDirectives p1 d.last q ds → GoodDirectives p l q (more (tree.directive a) ds)
-more_directives a ds p p1 q l d g = record {
+more_directives : {names : Tables} (a : Atoms) (ds : Trees) (p p1 q : Pen) (l : Last) → (d : GoodDirective names p l p1 a) → GoodDirectives names p1 d.last q ds → GoodDirectives names p l q (more (tree.directive a) ds)
+more_directives {names} a ds p p1 q l d g = record {
   last = g.last;
   tokens = piece d.line (Quoted d.quote d.text) (piece false (Sign semicolon) g.tokens);
   writes = wrote_both d.writes g.writes;
@@ -87,10 +89,10 @@ more_directives a ds p p1 q l d g = record {
   semicolon = g.semicolon;
   trees = more (tree.directive (bare (units (directive_units (directive_directive a)) ∷ []))) g.trees;
   reads = λ c e ts ss r. grammar.a_directive d.plain d.value (g.reads c e ts ss r);
-  same = same_more (tree.directive (bare (units (directive_units (directive_directive a)) ∷ []))) (tree.directive a) g.trees ds refl g.same;
+  same = same_more (tree.directive (bare (units (directive_units (directive_directive a)) ∷ []))) (tree.directive a) g.trees (renamed_trees names ds) refl g.same;
 }
 
-directives_written : {ds : Trees} → AreDirectives ds → (settings : Settings) (p : Pen) (l : Last) → p.pending_semicolon ≡ false → Ready l → Knows p l → GoodDirectives p l (layout (spell_directives ds settings) p) ds
+directives_written : {names : Tables} {ds : Trees} → AreDirectives ds → (settings : Settings) (p : Pen) (l : Last) → p.pending_semicolon ≡ false → Ready l → Knows names p l → GoodDirectives names p l (layout (spell_directives ds settings) p) ds
 directives_written family.no_directive settings p l z y k = no_directives p l z y k
 directives_written (family.first_directive {a} {ds} us h e v) settings p l z y k =
     let p1 : Pen = layout (spell (tree.directive a) (among_statements settings)) p in
@@ -103,13 +105,13 @@ directives_written (family.first_directive {a} {ds} us h e v) settings p l z y k
 abbrev pub ReadsBoth : Allowed → Bool → Tokens → Trees × Trees → Type 0
 ReadsBoth c last ts b = ReadsBody c last ts b.0 b.1
 
-abbrev pub SameBoth : Trees → Trees → Trees × Trees → Type 0
-SameBoth ds ss b = (normal_trees b.0 ≡ normal_trees ds) × (normal_trees b.1 ≡ normal_trees ss)
+abbrev pub SameBoth : Tables → Trees → Trees → Trees × Trees → Type 0
+SameBoth names ds ss b = (normal_trees b.0 ≡ normal_trees (renamed_trees names ds)) × (normal_trees b.1 ≡ normal_trees (renamed_trees names ss))
 
-body_of : {p q r : Pen} {l : Last} {c : Allowed} (ds ss : Trees) → (g : GoodDirectives p l q ds) → Stands (λ e ts us. ReadsBody c e ts no_trees us) (SameTrees ss) q g.last r → Stands (ReadsBoth c) (SameBoth ds ss) p l r
+body_of : {names : Tables} {p q r : Pen} {l : Last} {c : Allowed} (ds ss : Trees) → (g : GoodDirectives names p l q ds) → Stands names (λ e ts us. ReadsBody c e ts no_trees us) (SameTrees names ss) q g.last r → Stands names (ReadsBoth c) (SameBoth names ds ss) p l r
 body_of {c = c} ds ss g h = behind_tokens g.tokens (λ us. (g.trees, us)) g.writes (λ e ts us r. g.reads c e ts us r) (λ us s. (g.same, s)) h
 
-pub whole_body : {c : Allowed} {ds ss : Trees} → AreDirectives ds → AreStatements c ss → (settings : Settings) → StandsAt (ReadsBoth c) (SameBoth ds ss) (spell_directives ds settings ⊕ spell_body ss settings)
+pub whole_body : {names : Tables} {c : Allowed} {ds ss : Trees} → AreDirectives ds → AreStatements names c ss → (settings : Settings) → StandsAt names (ReadsBoth c) (SameBoth names ds ss) (spell_directives ds settings ⊕ spell_body ss settings)
 whole_body {ds = ds} {ss} v w settings p l z y k =
     let g = directives_written v settings p l z y k in
     body_of ds ss g (body_stated w settings (layout (spell_directives ds settings) p) g.last g.semicolon g.ready g.writes.knows)

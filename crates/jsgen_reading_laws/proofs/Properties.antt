@@ -1,5 +1,5 @@
 -- Keys and properties.
-use Rattle.std.proofs.Common.{◌≡◌, ℕ, Bool, true, false, not, ◌&&◌, ◌||◌, cond, if◌then◌else◌, decimal, nat_le, Option, Some, None, is_some, List, [], ◌∷◌, bytes_eq, refl, sym, ap, ◌∙◌, subst}
+use Rattle.std.proofs.Common.{◌≡◌, ℕ, Bool, true, false, not, ◌&&◌, ◌||◌, cond, if◌then◌else◌, decimal, nat_le, Option, Some, None, is_some, option_map, List, [], ◌∷◌, bytes_eq, refl, sym, ap, ◌∙◌, subst}
 use Rattle.std.specs.Option.{option_map_or}
 use Rattle.std.proofs.lemmas.Bool.{both_ways}
 use Rattle.std.proofs.lemmas.Option.{same_Some}
@@ -13,29 +13,32 @@ use Rattle.jsgen_syntax.specs.declared.quote.Quote.TheVariants as quotes
 use Rattle.jsgen_syntax.specs.declared.precedence.Precedence.TheVariants as levels
 use Rattle.jsgen_syntax.proofs.Escapes.{word_text_value}
 use Rattle.jsgen_syntax.proofs.Strings.{escaped_value}
+use Rattle.jsgen_tree.specs.Job.{Tables}
 use Rattle.jsgen_tree.specs.Atom.{no_value, units, flag, property_kind}
 use Rattle.jsgen_tree.specs.Number.{NumericKind, Whole, Raw}
 use Rattle.jsgen_tree.specs.Tree.{Tree, Atoms, span_of}
 use Rattle.jsgen_tree.specs.Nodes as tree
 use Rattle.jsgen_tree.specs.Places.{bare}
-use Rattle.jsgen_tree.specs.Inside.{without_parentheses, reference_in, written_name_in, is_proto, behind_minus, is_negative_big_integer}
-use Rattle.jsgen_tree.specs.Values.{identifier_name_name, identifier_reference_name, numeric_literal_kind, numeric_literal_negative, numeric_literal_digits, numeric_literal_text, big_int_literal_value, string_literal_value, object_property_kind, object_property_method, object_property_shorthand, object_property_computed}
+use Rattle.jsgen_tree.specs.Named.{Named, as_written, printed_name}
+use Rattle.jsgen_tree.specs.Inside.{without_parentheses, looked_up_in, reference_named, written_name_in, is_proto, behind_minus, is_negative_big_integer}
+use Rattle.jsgen_tree.specs.Values.{identifier_name_name, numeric_literal_kind, numeric_literal_negative, numeric_literal_digits, numeric_literal_text, big_int_literal_value, string_literal_value, object_property_kind, object_property_method, object_property_shorthand, object_property_computed}
 use Rattle.jsgen_tree.specs.declared.collections.PropertyKind.{PropertyKind}
 use Rattle.jsgen_tree.specs.declared.collections.PropertyKind.TheVariants as kinds
 use Rattle.jsgen_model.specs.declared.fault.TreeFault.{TreeFault}
 use Rattle.jsgen_model.specs.Punctuator.{colon, ellipsis, Square, opening}
 use Rattle.jsgen_model.specs.Numbers.{takes_no_dot, is_big_integer}
 use Rattle.jsgen_model.specs.Tokens.{Tokens, done, piece, group, ◌⧺◌, Word, Number, Quoted, Sign}
-use Rattle.jsgen_model.specs.Items.{Items, name, number, string, punctuator, soft_space}
-use Rattle.jsgen_model.specs.Layout.{Pen, Style, other_end, layout, written, chosen_quote, but_backticks}
+use Rattle.jsgen_model.specs.Items.{Items, where_same, name, number, string, punctuator, soft_space}
+use Rattle.jsgen_model.specs.Layout.{Pen, Style, other_end, are_same, layout, written, chosen_quote, but_backticks}
 use Rattle.jsgen_model.specs.Grammar.{Allowed, ReadsExpression, ReadsKey, ReadsProperty, property_values, with_in}
 use Rattle.jsgen_model.specs.Grammar as grammar
 use Rattle.jsgen_model.specs.Normal.{normal, nothing_of, named, unnumbered, by_text, number_text, minus_before, big_integer, is_computed, is_proto_shorthand}
-use Rattle.jsgen_model.specs.Spell.{Place, spell, in_brackets, in_front, key_text, needs_brackets, key_items, says_name, is_short, property_items, signed, number_items, big_text, big_integer_items}
+use Rattle.jsgen_model.specs.Renamed.{renamed}
+use Rattle.jsgen_model.specs.Spell.{Place, spell, in_brackets, in_front, key_text, needs_brackets, key_items, with_key, alone_if, alone_where_said, property_items, signed, number_items, big_text, big_integer_items}
 use Rattle.jsgen_model.specs.Valid.{named_faults, shorthand_faults}
 use Rattle.jsgen_token_laws.proofs.Last.{Last, Open, After, line_of, Operand, Begun, begun_ready, Knows}
 use Rattle.jsgen_token_laws.proofs.Writes.{Writes, wrote_both}
-use Rattle.jsgen_token_laws.proofs.Steps.{wrote_name, wrote_quoted, wrote_punctuator, wrote_dots, within_brackets, brackets_written, soft_space_written}
+use Rattle.jsgen_token_laws.proofs.Steps.{printed_as_written, wrote_name, wrote_written_name, wrote_quoted, wrote_punctuator, wrote_dots, within_brackets, brackets_written, soft_space_written}
 use Rattle.jsgen_reading_laws.proofs.Families.{IsExpression, IsKey, none_unless, has_value}
 use Rattle.jsgen_reading_laws.proofs.Families as family
 use Rattle.jsgen_reading_laws.proofs.Names.{free_spelled}
@@ -44,34 +47,35 @@ use Rattle.jsgen_reading_laws.proofs.Levels.{from_primary}
 use Rattle.jsgen_reading_laws.proofs.Good.{Good, Printed}
 use Rattle.jsgen_reading_laws.proofs.Lists.{Element, ElementAt}
 use Rattle.jsgen_reading_laws.proofs.Asked.{asked}
+use Rattle.jsgen_reading_laws.proofs.Unrenamed.{written_as_it_was, signed_as_it_was}
 
 -- ---- keys
 
 -- between two pens stands a key
-pub record GoodKey (p : Pen) (l : Last) (q : Pen) (c : Allowed) (computed : Bool) (t : Tree) : Type 0 where
+pub record GoodKey (names : Tables) (p : Pen) (l : Last) (q : Pen) (c : Allowed) (computed : Bool) (t : Tree) : Type 0 where
   pub last : Last
   pub tokens : Tokens
-  pub writes : Writes p l q last tokens
+  pub writes : Writes names p l q last tokens
   pub operand : Operand last
   pub semicolon : q.pending_semicolon ≡ false
   pub tree : Tree
   pub reads : ReadsKey c computed tokens tree
-  pub same : normal tree ≡ normal t
+  pub same : normal tree ≡ normal (renamed names t)
 
 -- in brackets or alone, at the place of its property
-abbrev KeyAt : Allowed → Bool → Tree → Type 0
-KeyAt c brackets t = (place : Place) (p : Pen) (l : Last) → p.pending_semicolon ≡ false → Begun l → Knows p l → GoodKey p l (layout (key_items brackets t (spell t (in_brackets levels.Comma place)) (spell t (in_front levels.Comma place))) p) (with_in c) brackets t
+abbrev KeyAt : Tables → Allowed → Bool → Tree → Type 0
+KeyAt names c brackets t = (place : Place) (p : Pen) (l : Last) → p.pending_semicolon ≡ false → Begun l → Knows names p l → GoodKey names p l (layout (key_items brackets t (spell t (in_brackets levels.Comma place)) (spell t (in_front levels.Comma place))) p) (with_in c) brackets t
 
-abbrev pub KeyOf : Allowed → Bool → Tree → Type 0
-KeyOf c computed t = KeyAt c (needs_brackets computed t) t
+abbrev pub KeyOf : Tables → Allowed → Bool → Tree → Type 0
+KeyOf names c computed t = KeyAt names c (needs_brackets computed t) t
 
-pub good_name_key : (c : Allowed) (a : Atoms) → spells_name (identifier_name_name a) ≡ true → KeyOf c false (tree.identifier_name a)
+pub good_name_key : {names : Tables} (c : Allowed) (a : Atoms) → spells_name (identifier_name_name a) ≡ true → KeyOf names c false (tree.identifier_name a)
 good_name_key c a h place p l z b k =
     let v : List ℕ = identifier_name_name a in
     record {
       last = _;
       tokens = piece (line_of l) (Word (name_text p.style.ascii v)) done;
-      writes = wrote_name v p l h k;
+      writes = wrote_written_name v p l h k;
       operand = tt;
       semicolon = z;
       tree = tree.identifier_name (named v);
@@ -96,7 +100,7 @@ no_backticks style us = go style.minified
     go true = cheapest_plain (nat_le (quote_cost quotes.Double us) (quote_cost quotes.Single us))
     go false = other_plain style.quote
 
-pub good_string_key : (c : Allowed) (a : Atoms) → are_units (string_literal_value a) ≡ true → KeyOf c false (tree.string_literal a)
+pub good_string_key : {names : Tables} (c : Allowed) (a : Atoms) → are_units (string_literal_value a) ≡ true → KeyOf names c false (tree.string_literal a)
 good_string_key c a h place p l z b k =
     let us : List ℕ = string_literal_value a in
     let q : Quote = chosen_quote p.style false us in
@@ -114,11 +118,11 @@ good_string_key c a h place p l z b k =
     }
 
 -- a key in brackets is an expression, but no string in backticks
-abbrev ComputedText : Allowed → Tree → Type 0
-ComputedText c t = (place : Place) (p : Pen) → p.pending_semicolon ≡ false → Knows p (Open false) → Element (ReadsExpression (with_in c) grammar.Assignment) p (Open false) (layout (key_text t (spell t (in_brackets levels.Comma place))) p) t
+abbrev ComputedText : Tables → Allowed → Tree → Type 0
+ComputedText names c t = (place : Place) (p : Pen) → p.pending_semicolon ≡ false → Knows names p (Open false) → Element names (ReadsExpression (with_in c) grammar.Assignment) p (Open false) (layout (key_text t (spell t (in_brackets levels.Comma place))) p) t
 
-computed_text : {c : Allowed} {t : Tree} → IsExpression c t → Printed c t → ComputedText c t
-computed_text {c} (family.a_string {a} h) f place p z k =
+computed_text : {names : Tables} {c : Allowed} {t : Tree} → IsExpression names c t → Printed names c t → ComputedText names c t
+computed_text {names} {c} (family.a_string {a} h) f place p z k =
     let us : List ℕ = string_literal_value a in
     let q : Quote = chosen_quote p.style false us in
     let w : List ℕ = escaped q p.style.ascii us in
@@ -133,12 +137,12 @@ computed_text {c} (family.a_string {a} h) f place p z k =
       reads = from_primary (in_brackets levels.Comma place) (grammar.a_string e);
       same = refl;
     }
-computed_text {c} v f place p z k =
+computed_text {names} {c} v f place p z k =
     let g = f (in_brackets levels.Comma place) p (Open false) z tt k in
     record { last = g.last; tokens = g.tokens; writes = g.writes; operand = g.operand; semicolon = g.semicolon; tree = g.tree; reads = g.reads; same = g.same }
 
-pub good_computed_key : {c : Allowed} {t : Tree} → IsExpression c t → Printed c t → KeyOf c true t
-good_computed_key {c} {t} v f place p l z b k =
+pub good_computed_key : {names : Tables} {c : Allowed} {t : Tree} → IsExpression names c t → Printed names c t → KeyOf names c true t
+good_computed_key {names} {c} {t} v f place p l z b k =
     let p1 : Pen = written (opening Square) other_end p in
     let g = computed_text v f place p1 z (within_brackets Square p l k) in
     record {
@@ -155,7 +159,7 @@ good_computed_key {c} {t} v f place p l z b k =
 -- ---- numbers
 
 -- a number alone
-numeral_key : (c : Allowed) (dot : Bool) (w : List ℕ) (t u : Tree) → Numeral dot w u → normal t ≡ u → (p : Pen) (l : Last) → p.pending_semicolon ≡ false → Begun l → Knows p l → GoodKey p l (layout (number dot w) p) (with_in c) false t
+numeral_key : {names : Tables} (c : Allowed) (dot : Bool) (w : List ℕ) (t u : Tree) → Numeral names dot w u → normal (renamed names t) ≡ u → (p : Pen) (l : Last) → p.pending_semicolon ≡ false → Begun l → Knows names p l → GoodKey names p l (layout (number dot w) p) (with_in c) false t
 numeral_key c dot w t u n e p l z b k = record {
   last = _;
   tokens = piece (line_of l) (Number w) done;
@@ -167,43 +171,43 @@ numeral_key c dot w t u n e p l z b k = record {
   same = n.same ∙ sym e;
 }
 
-positive_key : (c : Allowed) (a : Atoms) → has_value (numeric_literal_kind a) a ≡ true → numeric_literal_negative a ≡ false → KeyAt c false (tree.numeric_literal a)
-positive_key c a h m place = by (numeric_literal_kind a) refl h
+positive_key : {names : Tables} (c : Allowed) (a : Atoms) → has_value (numeric_literal_kind a) a ≡ true → numeric_literal_negative a ≡ false → KeyAt names c false (tree.numeric_literal a)
+positive_key {names} c a h m place = by (numeric_literal_kind a) refl h
   where
     form : (kind : NumericKind) → numeric_literal_kind a ≡ kind → normal (tree.numeric_literal a) ≡ tree.numeric_literal (by_text (number_text kind a))
     form kind e = ap (λ x. minus_before x (tree.numeric_literal (by_text (number_text (numeric_literal_kind a) a)))) m ∙ ap (λ x. tree.numeric_literal (by_text (number_text x a))) e
 
-    bare : (dot : Bool) (w : List ℕ) → normal (tree.numeric_literal a) ≡ tree.numeric_literal (by_text w) → Numeral dot w (tree.numeric_literal (by_text w)) → (p : Pen) (l : Last) → p.pending_semicolon ≡ false → Begun l → Knows p l → GoodKey p l (layout (signed dot (numeric_literal_negative a) w (in_front levels.Comma place)) p) (with_in c) false (tree.numeric_literal a)
-    bare dot w e n p l z b k = subst (λ x. GoodKey p l (layout (signed dot x w (in_front levels.Comma place)) p) (with_in c) false (tree.numeric_literal a)) (sym m) (numeral_key c dot w (tree.numeric_literal a) _ n e p l z b k)
+    bare : (dot : Bool) (w : List ℕ) → normal (tree.numeric_literal a) ≡ tree.numeric_literal (by_text w) → Numeral names dot w (tree.numeric_literal (by_text w)) → (p : Pen) (l : Last) → p.pending_semicolon ≡ false → Begun l → Knows names p l → GoodKey names p l (layout (signed dot (numeric_literal_negative a) w (in_front levels.Comma place)) p) (with_in c) false (tree.numeric_literal a)
+    bare dot w e n p l z b k = subst (λ x. GoodKey names p l (layout (signed dot x w (in_front levels.Comma place)) p) (with_in c) false (tree.numeric_literal a)) (sym m) (numeral_key c dot w (tree.numeric_literal a) _ n e p l z b k)
 
-    by : (kind : NumericKind) → numeric_literal_kind a ≡ kind → has_value kind a ≡ true → (p : Pen) (l : Last) → p.pending_semicolon ≡ false → Begun l → Knows p l → GoodKey p l (layout (number_items kind a (in_front levels.Comma place)) p) (with_in c) false (tree.numeric_literal a)
+    by : (kind : NumericKind) → numeric_literal_kind a ≡ kind → has_value kind a ≡ true → (p : Pen) (l : Last) → p.pending_semicolon ≡ false → Begun l → Knows names p l → GoodKey names p l (layout (number_items kind a (in_front levels.Comma place)) p) (with_in c) false (tree.numeric_literal a)
     by Whole e h = bare true (decimal (numeric_literal_digits a)) (form Whole e) (whole_numeral (numeric_literal_digits a) h)
     by Raw e h = bare (not (takes_no_dot (numeric_literal_text a))) (numeric_literal_text a) (form Raw e) (raw_numeral (numeric_literal_text a) h)
 
 -- a negative number stands in brackets
-pub good_number_key : (c : Allowed) (a : Atoms) → has_value (numeric_literal_kind a) a ≡ true → KeyOf c false (tree.numeric_literal a)
-good_number_key c a h = by (numeric_literal_negative a) refl
+pub good_number_key : {names : Tables} (c : Allowed) (a : Atoms) → has_value (numeric_literal_kind a) a ≡ true → KeyOf names c false (tree.numeric_literal a)
+good_number_key {names} c a h = by (numeric_literal_negative a) refl
   where
-    by : (b : Bool) → numeric_literal_negative a ≡ b → KeyAt c (numeric_literal_negative a) (tree.numeric_literal a)
-    by true e = subst (λ x. KeyAt c x (tree.numeric_literal a)) (sym e) (good_computed_key (family.a_number {c = c} {a = a} h) (good_number c a h))
-    by false e = subst (λ x. KeyAt c x (tree.numeric_literal a)) (sym e) (positive_key c a h e)
+    by : (b : Bool) → numeric_literal_negative a ≡ b → KeyAt names c (numeric_literal_negative a) (tree.numeric_literal a)
+    by true e = subst (λ x. KeyAt names c x (tree.numeric_literal a)) (sym e) (good_computed_key (family.a_number {c = c} {a = a} h) (good_number c a h))
+    by false e = subst (λ x. KeyAt names c x (tree.numeric_literal a)) (sym e) (positive_key c a h e)
 
-pub good_big_integer_key : (c : Allowed) (a : Atoms) → is_big_integer (big_int_literal_value a) ≡ true → is_negative_big_integer (tree.big_int_literal a) ≡ false → KeyOf c false (tree.big_int_literal a)
-good_big_integer_key c a h m place = by (behind_minus (big_int_literal_value a)) refl m
+pub good_big_integer_key : {names : Tables} (c : Allowed) (a : Atoms) → is_big_integer (big_int_literal_value a) ≡ true → is_negative_big_integer (tree.big_int_literal a) ≡ false → KeyOf names c false (tree.big_int_literal a)
+good_big_integer_key {names} c a h m place = by (behind_minus (big_int_literal_value a)) refl m
   where
     v : List ℕ
     v = big_int_literal_value a
 
-    by : (o : Option (List ℕ)) → behind_minus v ≡ o → is_some o ≡ false → (p : Pen) (l : Last) → p.pending_semicolon ≡ false → Begun l → Knows p l → GoodKey p l (layout (big_integer_items v o (in_front levels.Comma place)) p) (with_in c) false (tree.big_int_literal a)
+    by : (o : Option (List ℕ)) → behind_minus v ≡ o → is_some o ≡ false → (p : Pen) (l : Last) → p.pending_semicolon ≡ false → Begun l → Knows names p l → GoodKey names p l (layout (big_integer_items v o (in_front levels.Comma place)) p) (with_in c) false (tree.big_int_literal a)
     by (Some w) e m = absurd (both_ways true m refl)
     by None e m = numeral_key c false (big_text v) (tree.big_int_literal a) _ (big_numeral v (big_whole v None h e)) (ap (big_integer v) e)
 
 -- ---- properties
 
-abbrev pub PropertyOf : Allowed → Tree → Type 0
-PropertyOf c t = (place : Place) → ElementAt (ReadsProperty (with_in c)) (in_brackets levels.Comma place) t
+abbrev pub PropertyOf : Tables → Allowed → Tree → Type 0
+PropertyOf names c t = (place : Place) → ElementAt names (ReadsProperty (with_in c)) (in_brackets levels.Comma place) t
 
-pub good_spread_property : (c : Allowed) (a : Atoms) (e : Tree) → Printed c e → PropertyOf c (tree.spread a e)
+pub good_spread_property : {names : Tables} (c : Allowed) (a : Atoms) (e : Tree) → Printed names c e → PropertyOf names c (tree.spread a e)
 good_spread_property c a e f place p l z b k =
     let o = wrote_dots p l b k in
     let g = f (in_brackets levels.Comma place) (layout (punctuator ellipsis) p) (After (Sign ellipsis)) z tt o.knows in
@@ -220,54 +224,92 @@ good_spread_property c a e f place p l z b k =
 
 -- ---- where the value says the key
 
--- an expression that is a reference of this name, in parentheses or not
-record Refers (t : Tree) (v : List ℕ) : Type 0 where
-  spelled : (place : Place) → spell t place ≡ name v
-  free : is_free_name v ≡ true
-  form : normal t ≡ tree.identifier_reference (unnumbered v)
+-- the name by which a value is printed that is a reference, in parentheses or not
+abbrev printed_in : Tables → Tree → Option (List ℕ)
+printed_in names value = option_map (λ n. printed_name names n) (looked_up_in (without_parentheses value))
 
-none_is_some : (v : List ℕ) → None ≡ Some v → ⊥
+-- the value says the name that is the key
+abbrev says_name : Bool → List ℕ → Option (List ℕ) → Bool
+says_name shorthand w o = if is_proto w then shorthand else option_map_or (λ v. bytes_eq v w) o false
+
+-- it stands alone
+abbrev is_short : Tables → Bool → Tree → Tree → Bool
+is_short names shorthand key value = option_map_or (λ w. says_name shorthand w (printed_in names value)) (written_name_in key) false
+
+-- where the names are printed the same
+same_laid : {names : Tables} (p : Pen) (w : List ℕ) (value : Named) (alone whole : Items) → p.style.tables ≡ names → layout (where_same value (as_written w) alone whole) p ≡ layout (if bytes_eq (printed_name names value) w then alone else whole) p
+same_laid {names} p w value alone whole t = ap (λ b. if b then layout alone p else layout whole p) told ∙ go (bytes_eq (printed_name names value) w)
+  where
+    told : are_same p.style.tables value (as_written w) ≡ bytes_eq (printed_name names value) w
+    told = ap (λ tables. are_same tables value (as_written w)) t ∙ ap (λ x. bytes_eq (printed_name names value) x) (printed_as_written names w)
+
+    go : (b : Bool) → (if b then layout alone p else layout whole p) ≡ layout (if b then alone else whole) p
+    go true = refl
+    go false = refl
+
+property_laid : {names : Tables} (p : Pen) (shorthand : Bool) (o : Option (List ℕ)) (value : Option Named) (alone whole : Items) → p.style.tables ≡ names → layout (property_items shorthand o value alone whole) p ≡ layout (if option_map_or (λ w. says_name shorthand w (option_map (λ n. printed_name names n) value)) o false then alone else whole) p
+property_laid p shorthand None value alone whole t = refl
+property_laid {names} p shorthand (Some w) value alone whole t = by (is_proto w) value
+  where
+    by : (b : Bool) (r : Option Named) → layout (if b then alone_if shorthand alone whole else alone_where_said w r alone whole) p ≡ layout (if (if b then shorthand else option_map_or (λ v. bytes_eq v w) (option_map (λ n. printed_name names n) r) false) then alone else whole) p
+    by true r = go shorthand
+      where
+        go : (b : Bool) → layout (alone_if b alone whole) p ≡ layout (if b then alone else whole) p
+        go true = refl
+        go false = refl
+    by false None = refl
+    by false (Some v) = same_laid p w v alone whole t
+
+-- an expression that is a reference of this name, in parentheses or not
+record Refers (names : Tables) (t : Tree) (n : Named) : Type 0 where
+  spelled : (place : Place) → spell t place ≡ name n
+  free : is_free_name (printed_name names n) ≡ true
+  form : normal (renamed names t) ≡ tree.identifier_reference (unnumbered (printed_name names n))
+
+none_is_some : {A : Type 0} (v : A) → None ≡ Some v → ⊥
 none_is_some v e = both_ways false refl (ap is_some e)
 
-referred : {c : Allowed} {t : Tree} → IsExpression c t → (v : List ℕ) → reference_in (without_parentheses t) ≡ Some v → Refers t v
-referred (family.a_reference {a} h) v s =
-    let e = same_Some (identifier_reference_name a) v s in
-    record { spelled = λ place. ap (λ w. name w) e; free = subst (λ w. is_free_name w ≡ true) e h; form = ap (λ w. tree.identifier_reference (unnumbered w)) e }
-referred (family.in_parentheses {a} {t} w) v s =
-    let r = referred w v (subst (λ b. reference_in (cond b (without_parentheses t) (tree.parenthesized a t)) ≡ Some v) (asked w).expression s) in
+referred : {names : Tables} {c : Allowed} {t : Tree} → IsExpression names c t → (n : Named) → looked_up_in (without_parentheses t) ≡ Some n → Refers names t n
+referred {names} (family.a_reference {a} h) n s =
+    let e = same_Some (reference_named a) n s in
+    record { spelled = λ place. ap (λ m. name m) e; free = subst (λ m. is_free_name (printed_name names m) ≡ true) e h; form = ap (λ m. tree.identifier_reference (unnumbered (printed_name names m))) e }
+referred (family.in_parentheses {a} {t} w) n s =
+    let r = referred w n (subst (λ b. looked_up_in (cond b (without_parentheses t) (tree.parenthesized a t)) ≡ Some n) (asked w).expression s) in
     record { spelled = r.spelled; free = r.free; form = r.form }
-referred w v s = absurd (none_is_some v s)
+referred w n s = absurd (none_is_some n s)
 
--- the name of a value is the key's
-record Says (shorthand : Bool) (w : List ℕ) (o : Option (List ℕ)) : Type 0 where
-  reference : o ≡ Some w
+-- the value is a reference that is printed as the key
+record Says (names : Tables) (shorthand : Bool) (w : List ℕ) (value : Option Named) : Type 0 where
+  named : Named
+  reference : value ≡ Some named
+  printed : printed_name names named ≡ w
   proto : (is_proto w && true) ≡ (is_proto w && shorthand)
 
 none_named : (faults rest : List TreeFault) → (x : TreeFault) → x ∷ rest ≡ [] → ⊥
 none_named faults rest x e = cc
 
 -- of `__proto__` by the rule, and of other names by the test
-by_rule : (shorthand : Bool) (w : List ℕ) (value : Tree) (o : Option (List ℕ)) → is_proto w ≡ true → shorthand ≡ true → named_faults (span_of value) o ≡ [] → Says shorthand w o
+by_rule : {names : Tables} (shorthand : Bool) (w : List ℕ) (value : Tree) (o : Option Named) → is_proto w ≡ true → shorthand ≡ true → named_faults names (span_of value) o ≡ [] → Says names shorthand w o
 by_rule shorthand w value None e s f = absurd (none_named [] [] _ f)
-by_rule shorthand w value (Some v) e s f =
-    let n : is_proto v ≡ true = none_unless (is_proto v) _ f in
-    record { reference = ap (λ x. Some x) ((bytes_eq-Decides v _).0 n ∙ sym ((bytes_eq-Decides w _).0 e)); proto = ap (λ x. is_proto w && x) (sym s) }
+by_rule {names} shorthand w value (Some v) e s f =
+    let n : is_proto (printed_name names v) ≡ true = none_unless (is_proto (printed_name names v)) _ f in
+    record { named = v; reference = refl; printed = (bytes_eq-Decides (printed_name names v) _).0 n ∙ sym ((bytes_eq-Decides w _).0 e); proto = ap (λ x. is_proto w && x) (sym s) }
 
-by_name : (shorthand : Bool) (w : List ℕ) (o : Option (List ℕ)) → is_proto w ≡ false → option_map_or (λ v. bytes_eq v w) o false ≡ true → Says shorthand w o
+by_name : {names : Tables} (shorthand : Bool) (w : List ℕ) (o : Option Named) → is_proto w ≡ false → option_map_or (λ v. bytes_eq v w) (option_map (λ n. printed_name names n) o) false ≡ true → Says names shorthand w o
 by_name shorthand w None e h = absurd (both_ways false refl h)
-by_name shorthand w (Some v) e h = record { reference = ap (λ x. Some x) ((bytes_eq-Decides v w).0 h); proto = ap (λ x. x && true) e ∙ ap (λ x. x && shorthand) (sym e) }
+by_name {names} shorthand w (Some v) e h = record { named = v; reference = refl; printed = (bytes_eq-Decides (printed_name names v) w).0 h; proto = ap (λ x. x && true) e ∙ ap (λ x. x && shorthand) (sym e) }
 
-said : (shorthand : Bool) (a : Atoms) (value : Tree) → shorthand_faults shorthand (tree.identifier_name a) value ≡ [] → is_short shorthand (tree.identifier_name a) value ≡ true → Says shorthand (identifier_name_name a) (reference_in (without_parentheses value))
-said shorthand a value f h = by (is_proto (identifier_name_name a)) refl f h
+said : {names : Tables} (shorthand : Bool) (a : Atoms) (value : Tree) → shorthand_faults names shorthand (tree.identifier_name a) value ≡ [] → is_short names shorthand (tree.identifier_name a) value ≡ true → Says names shorthand (identifier_name_name a) (looked_up_in (without_parentheses value))
+said {names} shorthand a value f h = by (is_proto (identifier_name_name a)) refl f h
   where
     w : List ℕ
     w = identifier_name_name a
 
-    o : Option (List ℕ)
-    o = reference_in (without_parentheses value)
+    o : Option Named
+    o = looked_up_in (without_parentheses value)
 
-    by : (b : Bool) → is_proto w ≡ b → (if shorthand && b then named_faults (span_of value) o else []) ≡ [] → (if b then shorthand else option_map_or (λ v. bytes_eq v w) o false) ≡ true → Says shorthand w o
-    by true e f h = by_rule shorthand w value o e h (subst (λ s. (if s && true then named_faults (span_of value) o else []) ≡ []) h f)
+    by : (b : Bool) → is_proto w ≡ b → (if shorthand && b then named_faults names (span_of value) o else []) ≡ [] → (if b then shorthand else option_map_or (λ v. bytes_eq v w) (printed_in names value) false) ≡ true → Says names shorthand w o
+    by true e f h = by_rule shorthand w value o e h (subst (λ s. (if s && true then named_faults names (span_of value) o else []) ≡ []) h f)
     by false e f h = by_name shorthand w o e h
 
 -- there is one kind of property so far
@@ -277,35 +319,39 @@ only_kind kinds.Init = refl
 same_property : (a : Atoms) (s b : Bool) (k v x y : Tree) → object_property_method a ≡ no_value → is_proto_shorthand s k ≡ is_proto_shorthand (object_property_shorthand a) x → is_computed b k ≡ is_computed (object_property_computed a) x → normal k ≡ normal x → normal v ≡ normal y → normal (tree.object_property (property_values s b) k v) ≡ normal (tree.object_property a x y)
 same_property a s b k v x y m h d e f = λ i. tree.object_property (bare (property_kind (only_kind (object_property_kind a) i) ∷ sym m i ∷ flag (h i) ∷ flag (d i) ∷ [])) (e i) (f i)
 
-good_short_property : (c : Allowed) (a b : Atoms) (v : Tree) → object_property_method a ≡ no_value → object_property_computed a ≡ false → shorthand_faults (object_property_shorthand a) (tree.identifier_name b) v ≡ [] → is_short (object_property_shorthand a) (tree.identifier_name b) v ≡ true → IsExpression c v → PropertyOf c (tree.object_property a (tree.identifier_name b) v)
-good_short_property c a b v m d f h value place p l z y k =
+good_short_property : {names : Tables} (c : Allowed) (a b : Atoms) (v : Tree) → object_property_method a ≡ no_value → object_property_computed a ≡ false → shorthand_faults names (object_property_shorthand a) (tree.identifier_name b) v ≡ [] → is_short names (object_property_shorthand a) (tree.identifier_name b) v ≡ true → IsExpression names c v → PropertyOf names c (tree.object_property a (tree.identifier_name b) v)
+good_short_property {names} c a b v m d f h value place p l z y k =
     let w : List ℕ = identifier_name_name b in
-    let says = said (object_property_shorthand a) b v f h in
-    let r = referred value w says.reference in
-    let items : Items = property_items true (key_items (needs_brackets (object_property_computed a) (tree.identifier_name b)) (tree.identifier_name b) (name w) (name w)) (name w) (name w) in
-    let laid : layout (spell (tree.object_property a (tree.identifier_name b) v) (in_brackets levels.Comma place)) p ≡ layout (name w) p = ap (λ s. layout (property_items s (key_items (needs_brackets (object_property_computed a) (tree.identifier_name b)) (tree.identifier_name b) (name w) (name w)) (spell v (in_front levels.Comma (in_brackets levels.Comma place))) (spell v (in_brackets levels.Comma (in_brackets levels.Comma place)))) p) h ∙ ap (λ i. layout i p) (r.spelled (in_front levels.Comma (in_brackets levels.Comma place))) in
-    subst (λ q. Element (ReadsProperty (with_in c)) p l q (tree.object_property a (tree.identifier_name b) v)) (sym laid) (record {
+    let says = said {names = names} (object_property_shorthand a) b v f h in
+    let r = referred value says.named says.reference in
+    let free : is_free_name w ≡ true = subst (λ x. is_free_name x ≡ true) says.printed r.free in
+    let form : normal (renamed names v) ≡ tree.identifier_reference (unnumbered w) = r.form ∙ ap (λ x. tree.identifier_reference (unnumbered x)) says.printed in
+    let around : Place = in_brackets levels.Comma place in
+    let alone : Items = spell v (in_front levels.Comma around) in
+    let whole : Items = with_key (key_items (needs_brackets (object_property_computed a) (tree.identifier_name b)) (tree.identifier_name b) (name (as_written w)) (name (as_written w))) (spell v (in_brackets levels.Comma around)) in
+    let laid : layout (spell (tree.object_property a (tree.identifier_name b) v) around) p ≡ layout (name says.named) p = property_laid p (object_property_shorthand a) (Some w) (looked_up_in (without_parentheses v)) alone whole k.tables ∙ (ap (λ s. layout (if s then alone else whole) p) h ∙ ap (λ i. layout i p) (r.spelled (in_front levels.Comma around))) in
+    subst (λ q. Element names (ReadsProperty (with_in c)) p l q (tree.object_property a (tree.identifier_name b) v)) (sym laid) (record {
       last = _;
       tokens = piece (line_of l) (Word (name_text p.style.ascii w)) done;
-      writes = wrote_name w p l (free_spelled w r.free) k;
+      writes = subst (λ x. Writes names p l (layout (name says.named) p) (After (Word (name_text p.style.ascii x))) (piece (line_of l) (Word (name_text p.style.ascii x)) done)) says.printed (wrote_name says.named p l (free_spelled (printed_name names says.named) r.free) k);
       operand = tt;
       semicolon = z;
       tree = tree.object_property (property_values true false) (tree.identifier_name (named w)) (tree.identifier_reference (unnumbered w));
-      reads = grammar.a_shorthand (word_text_value p.style.ascii w (free_spelled w r.free)) r.free;
-      same = same_property a true false (tree.identifier_name (named w)) (tree.identifier_reference (unnumbered w)) (tree.identifier_name b) v m says.proto (sym (ap (λ x. x || false) d)) refl (sym r.form);
+      reads = grammar.a_shorthand (word_text_value p.style.ascii w (free_spelled w free)) free;
+      same = same_property a true false (tree.identifier_name (named w)) (tree.identifier_reference (unnumbered w)) (tree.identifier_name b) (renamed names v) m says.proto (sym (ap (λ x. x || false) d)) refl (sym form);
     })
 
 -- an expression has no written name
-no_written_name : {c : Allowed} {t : Tree} → IsExpression c t → written_name_in t ≡ None
+no_written_name : {names : Tables} {c : Allowed} {t : Tree} → IsExpression names c t → written_name_in t ≡ None
 no_written_name (family.a_reference h) = refl
 no_written_name v = refl
 
-short_property : (c : Allowed) (a : Atoms) {computed : Bool} {x v : Tree} → IsKey c computed x → object_property_method a ≡ no_value → object_property_computed a ≡ computed → shorthand_faults (object_property_shorthand a) x v ≡ [] → is_short (object_property_shorthand a) x v ≡ true → IsExpression c v → PropertyOf c (tree.object_property a x v)
+short_property : {names : Tables} (c : Allowed) (a : Atoms) {computed : Bool} {x v : Tree} → IsKey names c computed x → object_property_method a ≡ no_value → object_property_computed a ≡ computed → shorthand_faults names (object_property_shorthand a) x v ≡ [] → is_short names (object_property_shorthand a) x v ≡ true → IsExpression names c v → PropertyOf names c (tree.object_property a x v)
 short_property c a {v = v} (family.a_name_key {a = b} h) m d f s value = good_short_property c a b v m d f s value
 short_property c a (family.a_string_key h) m d f s value = absurd (both_ways false refl s)
 short_property c a (family.a_number_key h) m d f s value = absurd (both_ways false refl s)
 short_property c a (family.a_big_integer_key h n) m d f s value = absurd (both_ways false refl s)
-short_property c a {v = v} (family.a_computed_key w) m d f s value = absurd (both_ways false refl (ap (λ o. option_map_or (λ n. says_name (object_property_shorthand a) n (reference_in (without_parentheses v))) o false) (sym (no_written_name w)) ∙ s))
+short_property {names} c a {v = v} (family.a_computed_key w) m d f s value = absurd (both_ways false refl (ap (λ o. option_map_or (λ n. says_name (object_property_shorthand a) n (printed_in names v)) o false) (sym (no_written_name w)) ∙ s))
 
 -- ---- a key and its value
 
@@ -333,8 +379,8 @@ read_computed (grammar.a_number_key n) = refl
 read_computed (grammar.a_big_integer_key e) = refl
 read_computed (grammar.a_computed_key r) = refl
 
-keyed_parts : (c : Allowed) (a : Atoms) (computed : Bool) (x v : Tree) (place : Place) (p p1 p2 p3 q : Pen) (l : Last) → object_property_method a ≡ no_value → object_property_computed a ≡ computed → is_short (object_property_shorthand a) x v ≡ false → (g : GoodKey p l p1 (with_in c) (needs_brackets computed x) x) (o : Writes p1 g.last p2 (After (Sign colon)) (piece (line_of g.last) (Sign colon) done)) (n : Last) → Writes p2 (After (Sign colon)) p3 n done → Good p3 n q (with_in c) grammar.Assignment (in_brackets levels.Comma place).start v → Element (ReadsProperty (with_in c)) p l q (tree.object_property a x v)
-keyed_parts c a computed x v place p p1 p2 p3 q l m d s g o n w e = record {
+keyed_parts : {names : Tables} (c : Allowed) (a : Atoms) (computed : Bool) (x v : Tree) (place : Place) (p p1 p2 p3 q : Pen) (l : Last) → object_property_method a ≡ no_value → object_property_computed a ≡ computed → is_short names (object_property_shorthand a) x v ≡ false → (g : GoodKey names p l p1 (with_in c) (needs_brackets computed x) x) (o : Writes names p1 g.last p2 (After (Sign colon)) (piece (line_of g.last) (Sign colon) done)) (n : Last) → Writes names p2 (After (Sign colon)) p3 n done → Good names p3 n q (with_in c) grammar.Assignment (in_brackets levels.Comma place).start v → Element names (ReadsProperty (with_in c)) p l q (tree.object_property a x v)
+keyed_parts {names} c a computed x v place p p1 p2 p3 q l m d s g o n w e = record {
   last = e.last;
   tokens = g.tokens ⧺ piece (line_of g.last) (Sign colon) e.tokens;
   writes = wrote_both g.writes (wrote_both o (wrote_both w e.writes));
@@ -342,11 +388,11 @@ keyed_parts c a computed x v place p p1 p2 p3 q l m d s g o n w e = record {
   semicolon = e.semicolon;
   tree = tree.object_property (property_values false (needs_brackets computed x)) g.tree e.tree;
   reads = grammar.a_property (line_of g.last) refl g.reads e.reads;
-  same = same_property a false (needs_brackets computed x) g.tree e.tree x v m (no_shorthand g.tree ∙ sym (not_said (object_property_shorthand a) (written_name_in x) (reference_in (without_parentheses v)) s)) (read_computed g.reads ∙ sym (ap (λ y. needs_brackets y x) d)) g.same e.same;
+  same = same_property a false (needs_brackets computed x) g.tree e.tree (renamed names x) (renamed names v) m (no_shorthand g.tree ∙ sym (ap (λ o. option_map_or is_proto o false && object_property_shorthand a) (written_as_it_was names x) ∙ not_said (object_property_shorthand a) (written_name_in x) (printed_in names v) s)) (read_computed g.reads ∙ sym (ap (λ b. object_property_computed a || b) (signed_as_it_was names x) ∙ ap (λ y. needs_brackets y x) d)) g.same e.same;
 }
 
-good_keyed_property : (c : Allowed) (a : Atoms) (computed : Bool) (x v : Tree) → object_property_method a ≡ no_value → object_property_computed a ≡ computed → is_short (object_property_shorthand a) x v ≡ false → KeyOf c computed x → Printed c v → PropertyOf c (tree.object_property a x v)
-good_keyed_property c a computed x v m d s key value place p l z b k =
+good_keyed_property : {names : Tables} (c : Allowed) (a : Atoms) (computed : Bool) (x v : Tree) → object_property_method a ≡ no_value → object_property_computed a ≡ computed → is_short names (object_property_shorthand a) x v ≡ false → KeyOf names c computed x → Printed names c v → PropertyOf names c (tree.object_property a x v)
+good_keyed_property {names} c a computed x v m d s key value place p l z b k =
     let around : Place = in_brackets levels.Comma place in
     let inside : Items = spell x (in_brackets levels.Comma around) in
     let alone : Items = spell x (in_front levels.Comma around) in
@@ -358,15 +404,16 @@ good_keyed_property c a computed x v m d s key value place p l z b k =
     let n = soft_space_written p2 (After (Sign colon)) o.knows in
     let e = value (in_brackets levels.Comma around) p3 n.last (n.semicolon ∙ g.semicolon) (n.ready tt) n.writes.knows in
     let q : Pen = layout (spell v (in_brackets levels.Comma around)) p3 in
-    let laid : layout (spell (tree.object_property a x v) around) p ≡ q = ap (λ y. layout (property_items y (key_items (needs_brackets (object_property_computed a) x) x inside alone) (spell v (in_front levels.Comma around)) (spell v (in_brackets levels.Comma around))) p) s ∙ ap (λ y. layout (property_items false (key_items (needs_brackets y x) x inside alone) (spell v (in_front levels.Comma around)) (spell v (in_brackets levels.Comma around))) p) d in
-    subst (λ r. Element (ReadsProperty (with_in c)) p l r (tree.object_property a x v)) (sym laid) (keyed_parts c a computed x v around p p1 p2 p3 q l m d s g o n.last n.writes e)
+    let whole : Items = with_key (key_items (needs_brackets (object_property_computed a) x) x inside alone) (spell v (in_brackets levels.Comma around)) in
+    let laid : layout (spell (tree.object_property a x v) around) p ≡ q = property_laid p (object_property_shorthand a) (written_name_in x) (looked_up_in (without_parentheses v)) (spell v (in_front levels.Comma around)) whole k.tables ∙ (ap (λ y. layout (if y then spell v (in_front levels.Comma around) else whole) p) s ∙ ap (λ y. layout (with_key (key_items (needs_brackets y x) x inside alone) (spell v (in_brackets levels.Comma around))) p) d) in
+    subst (λ r. Element names (ReadsProperty (with_in c)) p l r (tree.object_property a x v)) (sym laid) (keyed_parts c a computed x v around p p1 p2 p3 q l m d s g o n.last n.writes e)
 
 -- ---- either
 
 -- a key that isn't a name is never said by a value
-pub good_property : (c : Allowed) (a : Atoms) (computed : Bool) (x v : Tree) → object_property_method a ≡ no_value → object_property_computed a ≡ computed → shorthand_faults (object_property_shorthand a) x v ≡ [] → IsKey c computed x → IsExpression c v → KeyOf c computed x → Printed c v → PropertyOf c (tree.object_property a x v)
-good_property c a computed x v m d f k value key printed = by (is_short (object_property_shorthand a) x v) refl
+pub good_property : {names : Tables} (c : Allowed) (a : Atoms) (computed : Bool) (x v : Tree) → object_property_method a ≡ no_value → object_property_computed a ≡ computed → shorthand_faults names (object_property_shorthand a) x v ≡ [] → IsKey names c computed x → IsExpression names c v → KeyOf names c computed x → Printed names c v → PropertyOf names c (tree.object_property a x v)
+good_property {names} c a computed x v m d f k value key printed = by (is_short names (object_property_shorthand a) x v) refl
   where
-    by : (b : Bool) → is_short (object_property_shorthand a) x v ≡ b → PropertyOf c (tree.object_property a x v)
+    by : (b : Bool) → is_short names (object_property_shorthand a) x v ≡ b → PropertyOf names c (tree.object_property a x v)
     by false s = good_keyed_property c a computed x v m d s key printed
     by true s = short_property c a k m d f s value

@@ -1,5 +1,5 @@
 -- The whole path: from a valid job to its text, the text's tokens and their reading.
-use Rattle.std.proofs.Common.{◌≡◌, ℕ, true, false, List, chars, encode_utf8_all, refl, sym, ap, ◌∙◌, subst}
+use Rattle.std.proofs.Common.{◌≡◌, ℕ, true, false, List, chars, encode_utf8_all, refl, sym, ap, subst}
 use Rattle.std.specs.Str.{IsUtf8}
 use Rattle.std.proofs.lemmas.Str.{chars-encodes}
 use Rattle.jsgen_syntax.specs.Buffer.{indent_code}
@@ -7,15 +7,14 @@ use Rattle.jsgen_syntax.specs.declared.buffer.IndentChar.{IndentChar}
 use Rattle.jsgen_syntax.specs.declared.buffer.IndentChar.TheVariants as indents
 use Rattle.jsgen_tree.specs.declared.types.NodeType.TheVariants as types
 use Rattle.jsgen_tree.specs.Options.{Options}
-use Rattle.jsgen_tree.specs.Job.{Tables, no_tables, JobData}
-use Rattle.jsgen_tree.specs.Tree.{Tree, type_of}
+use Rattle.jsgen_tree.specs.Job.{Tables, JobData}
+use Rattle.jsgen_tree.specs.Tree.{Tree, no_trees, type_of}
 use Rattle.jsgen_tree.specs.Nodes as tree
 use Rattle.jsgen_model.specs.Tokens.{◌⧺◌}
 use Rattle.jsgen_model.specs.Items.{◌⊕◌, due_semicolon}
 use Rattle.jsgen_model.specs.Layout.{Pen, layout, empty_pen, style_of}
 use Rattle.jsgen_model.specs.Grammar as grammar
-use Rattle.jsgen_model.specs.Normal.{normal, nothing_of}
-use Rattle.jsgen_model.specs.Renamed.{renamed}
+use Rattle.jsgen_model.specs.Normal.{nothing_of}
 use Rattle.jsgen_model.specs.Spell.{Settings, spell_body, spell_directives, settings_of, printed, text_bytes}
 use Rattle.jsgen_model.specs.Valid.{IsValid, surroundings_of}
 use Rattle.jsgen_model.specs.Plain.{IsPlain, IsQuiet}
@@ -30,33 +29,29 @@ use Rattle.jsgen_reading_laws.proofs.Ends.{due_ends}
 use Rattle.jsgen_reading_laws.proofs.Prologue.{whole_body}
 
 -- the indentation of a job's options is of spaces or of tabs
-style_indents : (options : Options) → is_indent (style_of options).indent ≡ true
-style_indents options = by options.indent_char
+style_indents : (options : Options) (tables : Tables) → is_indent (style_of options tables).indent ≡ true
+style_indents options tables = by options.indent_char
   where
     by : (c : IndentChar) → is_indent (indent_code c) ≡ true
     by indents.Tab = refl
     by indents.Space = refl
 
--- no name is printed otherwise
-renamed_so : (tables : Tables) (t : Tree) → renamed tables t ≡ t
-renamed_so no_tables t = refl
-
 -- ---- the whole
 
-read_as : (options : Options) (tables : Tables) (t : Tree) → IsProgram t → let job : JobData = record { options = options; tables = tables; program = t } in IsReadAs (printed job) job
-read_as options tables t (family.a_program {a} {directives} {body} v w) =
+read_as : (options : Options) (tables : Tables) (t : Tree) → IsProgram tables t → let job : JobData = record { options = options; tables = tables; program = t } in IsReadAs (printed job) job
+read_as options tables t (family.a_program {a} {comments} {directives} {body} v w) =
     let settings : Settings = settings_of (record { options = options; tables = tables; program = t }) in
-    let p : Pen = empty_pen (style_of options) options.initial_indent in
+    let p : Pen = empty_pen (style_of options tables) options.initial_indent in
     let q : Pen = layout (spell_directives directives settings ⊕ spell_body body settings) p in
-    let b = whole_body v w settings p (Open false) refl tt (record { indent = style_indents options; ending = tt }) in
+    let b = whole_body v w settings p (Open false) refl tt (record { indent = style_indents options tables; tables = refl; ending = tt }) in
     let d = due_ends q b.last b.ready b.writes.knows in
     record {
       tokens = b.tokens ⧺ d.tokens;
       are_tokens = all_tokens p (layout due_semicolon q) d.last (b.tokens ⧺ d.tokens) refl (wrote_both b.writes d.writes);
       plain = all_plain (b.tokens ⧺ d.tokens);
-      reading = tree.program (nothing_of 4) b.reading.0 b.reading.1;
+      reading = tree.program (nothing_of 4) no_trees b.reading.0 b.reading.1;
       reads = grammar.a_module (b.reads.read false (b.tokens ⧺ d.tokens) (d.ends b.tokens));
-      same = (λ i. tree.program (nothing_of 4) (b.same.0 i) (b.same.1 i)) ∙ ap normal (sym (renamed_so tables (tree.program a directives body)));
+      same = λ i. tree.program (nothing_of 4) no_trees (b.same.0 i) (b.same.1 i);
     }
 
 pub printed_is_read : (job : JobData) → type_of job.program ≡ types.Program → IsValid job → IsPlain job.program → IsQuiet job → IsReadAs (printed job) job

@@ -1,6 +1,7 @@
 -- Sequences. A part that is a sequence itself is printed without parentheses, and so it is read as its own parts.
 use Rattle.std.proofs.Common.{◌≡◌, Bool, false, refl, sym, ap, ◌∙◌, subst₂, arith}
 use Rattle.jsgen_syntax.specs.declared.precedence.Precedence.TheVariants as levels
+use Rattle.jsgen_tree.specs.Job.{Tables}
 use Rattle.jsgen_tree.specs.Tree.{Tree, Trees, no_trees, more, Atoms}
 use Rattle.jsgen_tree.specs.Nodes as tree
 use Rattle.jsgen_model.specs.Punctuator.{comma}
@@ -10,6 +11,7 @@ use Rattle.jsgen_model.specs.Layout.{Pen, Start, nowhere, layout, unless_printed
 use Rattle.jsgen_model.specs.Grammar.{Allowed, Level, ReadsExpression, ReadsParts}
 use Rattle.jsgen_model.specs.Grammar as grammar
 use Rattle.jsgen_model.specs.Normal.{normal, normal_trees, nothing_of, joined, parts_of, flattened}
+use Rattle.jsgen_model.specs.Renamed.{renamed, renamed_trees}
 use Rattle.jsgen_model.specs.Spell.{Place, spell, spell_parts, spell_more, enclosed, in_front, behind, with_calls, wraps}
 use Rattle.jsgen_token_laws.proofs.Last.{Last, After, line_of, Operand, Ready, Knows}
 use Rattle.jsgen_token_laws.proofs.Writes.{Writes, wrote_none, wrote_both, then_assoc, then_done}
@@ -49,20 +51,20 @@ flattened_more us vs x t ts e f g =
 -- ---- parts that are printed
 
 -- behind parts that are read stand more
-pub record MoreParts (p : Pen) (l : Last) (q : Pen) (c : Allowed) (ts : Trees) : Type 0 where
+pub record MoreParts (names : Tables) (p : Pen) (l : Last) (q : Pen) (c : Allowed) (ts : Trees) : Type 0 where
   pub last : Last
   pub tokens : Tokens
-  pub writes : Writes p l q last tokens
+  pub writes : Writes names p l q last tokens
   pub operand : Operand last
   pub semicolon : q.pending_semicolon ≡ false
   pub trees : Trees
   pub reads : (a : Tokens) (us : Trees) → ReadsParts c a us → ReadsParts c (a ⧺ tokens) (joined us trees)
-  pub same : flattened (normal_trees trees) ≡ flattened (normal_trees ts)
+  pub same : flattened (normal_trees trees) ≡ flattened (normal_trees (renamed_trees names ts))
 
-abbrev pub MorePartsAt : Allowed → Trees → Type 0
-MorePartsAt c ts = (place : Place) (p : Pen) (l : Last) → p.pending_semicolon ≡ false → Operand l → Knows p l → MoreParts p l (layout (spell_more ts (with_calls (behind levels.Lowest place))) p) (under place c) ts
+abbrev pub MorePartsAt : Tables → Allowed → Trees → Type 0
+MorePartsAt names c ts = (place : Place) (p : Pen) (l : Last) → p.pending_semicolon ≡ false → Operand l → Knows names p l → MoreParts names p l (layout (spell_more ts (with_calls (behind levels.Lowest place))) p) (under place c) ts
 
-pub no_more_parts : (c : Allowed) → MorePartsAt c no_trees
+pub no_more_parts : {names : Tables} (c : Allowed) → MorePartsAt names c no_trees
 no_more_parts c place p l z o k = record {
   last = l;
   tokens = done;
@@ -74,8 +76,8 @@ no_more_parts c place p l z o k = record {
   same = refl;
 }
 
-more_parts : (c : Allowed) (t : Tree) (ts : Trees) (p p1 p2 p3 q : Pen) (l : Last) → Writes p l p1 (After (Sign comma)) (piece (line_of l) (Sign comma) done) → (n : Soft p1 (After (Sign comma)) p2) (g : Good p2 n.last p3 c grammar.Expression nowhere t) → MoreParts p3 g.last q c ts → MoreParts p l q c (more t ts)
-more_parts c t ts p p1 p2 p3 q l o n g m =
+more_parts : {names : Tables} (c : Allowed) (t : Tree) (ts : Trees) (p p1 p2 p3 q : Pen) (l : Last) → Writes names p l p1 (After (Sign comma)) (piece (line_of l) (Sign comma) done) → (n : Soft names p1 (After (Sign comma)) p2) (g : Good names p2 n.last p3 c grammar.Expression nowhere t) → MoreParts names p3 g.last q c ts → MoreParts names p l q c (more t ts)
+more_parts {names} c t ts p p1 p2 p3 q l o n g m =
     let k = as_parts refl g.reads in
     record {
       last = m.last;
@@ -85,10 +87,10 @@ more_parts c t ts p p1 p2 p3 q l o n g m =
       semicolon = m.semicolon;
       trees = joined k.0 m.trees;
       reads = λ a us r. parts_then (line_of l) r (m.reads g.tokens k.0 k.1);
-      same = flattened_more k.0 m.trees g.tree t ts k.2 g.same m.same;
+      same = flattened_more k.0 m.trees g.tree (renamed names t) (renamed_trees names ts) k.2 g.same m.same;
     }
 
-pub one_more_part : (c : Allowed) (t : Tree) (ts : Trees) → Printed c t → MorePartsAt c ts → MorePartsAt c (more t ts)
+pub one_more_part : {names : Tables} (c : Allowed) (t : Tree) (ts : Trees) → Printed names c t → MorePartsAt names c ts → MorePartsAt names c (more t ts)
 one_more_part c t ts f h place p l z o k =
     let at : Place = with_calls (behind levels.Lowest place) in
     let p1 : Pen = layout (punctuator comma) p in
@@ -102,8 +104,8 @@ one_more_part c t ts f h place p l z o k =
 
 -- ---- the whole
 
-sequence_parts : (c : Allowed) (a : Atoms) (t u : Tree) (ts : Trees) (start : Start) (p p1 p2 p3 p4 q : Pen) (l : Last) → (g : Good p l p1 c grammar.Expression start t) → Writes p1 g.last p2 (After (Sign comma)) (piece (line_of g.last) (Sign comma) done) → (n : Soft p2 (After (Sign comma)) p3) (h : Good p3 n.last p4 c grammar.Expression nowhere u) → MoreParts p4 h.last q c ts → Good p l q c grammar.Expression start (tree.sequence a (more t (more u ts)))
-sequence_parts c a t u ts start p p1 p2 p3 p4 q l g o n h m =
+sequence_parts : {names : Tables} (c : Allowed) (a : Atoms) (t u : Tree) (ts : Trees) (start : Start) (p p1 p2 p3 p4 q : Pen) (l : Last) → (g : Good names p l p1 c grammar.Expression start t) → Writes names p1 g.last p2 (After (Sign comma)) (piece (line_of g.last) (Sign comma) done) → (n : Soft names p2 (After (Sign comma)) p3) (h : Good names p3 n.last p4 c grammar.Expression nowhere u) → MoreParts names p4 h.last q c ts → Good names p l q c grammar.Expression start (tree.sequence a (more t (more u ts)))
+sequence_parts {names} c a t u ts start p p1 p2 p3 p4 q l g o n h m =
     let j = as_parts refl g.reads in
     let k = as_parts refl h.reads in
     let others : Tokens = piece (line_of g.last) (Sign comma) (h.tokens ⧺ m.tokens) in
@@ -117,18 +119,18 @@ sequence_parts c a t u ts start p p1 p2 p3 p4 q l g o n h m =
       line = λ e. line_then g.tokens others (g.line e);
       tree = tree.sequence (nothing_of 0) (joined j.0 (joined k.0 m.trees));
       reads = sequence_read (line_of g.last) j.1 (m.reads h.tokens k.0 k.1);
-      same = ap (λ us. tree.sequence (nothing_of 0) us) (flattened_more j.0 (joined k.0 m.trees) g.tree t (more u ts) j.2 g.same (flattened_more k.0 m.trees h.tree u ts k.2 h.same m.same));
+      same = ap (λ us. tree.sequence (nothing_of 0) us) (flattened_more j.0 (joined k.0 m.trees) g.tree (renamed names t) (renamed_trees names (more u ts)) j.2 g.same (flattened_more k.0 m.trees h.tree (renamed names u) (renamed_trees names ts) k.2 h.same m.same));
     }
 
 abbrev items_of : Tree → Tree → Trees → Place → Bool → Items
 items_of t u ts place w = spell_parts (more t (more u ts)) (with_calls (in_front levels.Lowest (enclosed w place)))
 
-pub good_sequence : (c : Allowed) (a : Atoms) (t u : Tree) (ts : Trees) → Printed c t → Printed c u → MorePartsAt c ts → Printed c (tree.sequence a (more t (more u ts)))
-good_sequence c a t u ts f g h place =
+pub good_sequence : {names : Tables} (c : Allowed) (a : Atoms) (t u : Tree) (ts : Trees) → Printed names c t → Printed names c u → MorePartsAt names c ts → Printed names c (tree.sequence a (more t (more u ts)))
+good_sequence {names} c a t u ts f g h place =
     good_enclosed c place grammar.Expression (wraps levels.Comma place) (items_of t u ts place) (tree.sequence a (more t (more u ts)))
     (λ d ts u r. r) (λ e ts u r. unwrapped levels.Comma place e r) inner
   where
-    inner : (v : Bool) (p : Pen) (l : Last) → p.pending_semicolon ≡ false → Ready l → Knows p l → Good p l (layout (items_of t u ts place v) p) (under place c) grammar.Expression (unless_printed v place.start) (tree.sequence a (more t (more u ts)))
+    inner : (v : Bool) (p : Pen) (l : Last) → p.pending_semicolon ≡ false → Ready l → Knows names p l → Good names p l (layout (items_of t u ts place v) p) (under place c) grammar.Expression (unless_printed v place.start) (tree.sequence a (more t (more u ts)))
     inner v p l z y k =
         let first : Place = with_calls (in_front levels.Lowest (enclosed v place)) in
         let at : Place = with_calls (behind levels.Lowest place) in

@@ -1,6 +1,7 @@
 -- What is carried through the induction for statements, declarations and rows of them.
 use Rattle.std.proofs.Common.{◌≡◌, Bool, true, false, refl, sym, ◌∙◌, subst}
 use Rattle.std.proofs.lemmas.Bool.{both_ways}
+use Rattle.jsgen_tree.specs.Job.{Tables}
 use Rattle.jsgen_tree.specs.Inside.{ends_open}
 use Rattle.jsgen_tree.specs.Tree.{Tree, Trees}
 use Rattle.jsgen_model.specs.Punctuator.{semicolon}
@@ -10,6 +11,7 @@ use Rattle.jsgen_model.specs.Layout.{Pen, layout, end_statement}
 use Rattle.jsgen_model.specs.Grammar.{Allowed, ReadsStatement, ReadsItem}
 use Rattle.jsgen_model.specs.Grammar as grammar
 use Rattle.jsgen_model.specs.Normal.{normal, normal_trees}
+use Rattle.jsgen_model.specs.Renamed.{renamed, renamed_trees}
 use Rattle.jsgen_model.specs.Spell.{Settings, Place, spell, among_statements}
 use Rattle.jsgen_token_laws.proofs.Last.{Last, Open, line_of, Ready, Knows}
 use Rattle.jsgen_token_laws.proofs.Writes.{Writes, wrote_both, wrote_and_none}
@@ -17,20 +19,20 @@ use Rattle.jsgen_token_laws.proofs.Steps.{Gap, gap, indentation_written, end_wri
 use Rattle.jsgen_reading_laws.proofs.Ends.{Ends, ends_since, ends_behind, semicolon_behind}
 
 -- Between two pens stand tokens that are read as `R` says, however they end. `Same` holds of what they are read as.
-pub record Stands {X : Type 0} (R : Bool → Tokens → X → Type 0) (Same : X → Type 0) (p : Pen) (l : Last) (q : Pen) : Type 0 where
+pub record Stands (names : Tables) {X : Type 0} (R : Bool → Tokens → X → Type 0) (Same : X → Type 0) (p : Pen) (l : Last) (q : Pen) : Type 0 where
   pub last : Last
   pub tokens : Tokens
-  pub writes : Writes p l q last tokens
+  pub writes : Writes names p l q last tokens
   pub ready : Ready last
   pub reading : X
   pub reads : Ends (λ e ts. R e ts reading) q.pending_semicolon tokens
   pub same : Same reading
 
 -- the same without its end
-pub record Unended {X : Type 0} (R : Bool → Tokens → X → Type 0) (Same : X → Type 0) (p : Pen) (l : Last) (q : Pen) : Type 0 where
+pub record Unended (names : Tables) {X : Type 0} (R : Bool → Tokens → X → Type 0) (Same : X → Type 0) (p : Pen) (l : Last) (q : Pen) : Type 0 where
   pub last : Last
   pub tokens : Tokens
-  pub writes : Writes p l q last tokens
+  pub writes : Writes names p l q last tokens
   pub ready : Ready last
   pub semicolon : q.pending_semicolon ≡ false
   pub reading : X
@@ -38,34 +40,34 @@ pub record Unended {X : Type 0} (R : Bool → Tokens → X → Type 0) (Same : X
   pub same : Same reading
 
 -- these items are printed so from any pen
-abbrev pub StandsAt : {X : Type 0} → (Bool → Tokens → X → Type 0) → (X → Type 0) → Items → Type 0
-StandsAt R Same items = (p : Pen) (l : Last) → p.pending_semicolon ≡ false → Ready l → Knows p l → Stands R Same p l (layout items p)
+abbrev pub StandsAt : Tables → {X : Type 0} → (Bool → Tokens → X → Type 0) → (X → Type 0) → Items → Type 0
+StandsAt names R Same items = (p : Pen) (l : Last) → p.pending_semicolon ≡ false → Ready l → Knows names p l → Stands names R Same p l (layout items p)
 
-abbrev pub UnendedAt : {X : Type 0} → (Bool → Tokens → X → Type 0) → (X → Type 0) → Items → Type 0
-UnendedAt R Same items = (p : Pen) (l : Last) → p.pending_semicolon ≡ false → Ready l → Knows p l → Unended R Same p l (layout items p)
+abbrev pub UnendedAt : Tables → {X : Type 0} → (Bool → Tokens → X → Type 0) → (X → Type 0) → Items → Type 0
+UnendedAt names R Same items = (p : Pen) (l : Last) → p.pending_semicolon ≡ false → Ready l → Knows names p l → Unended names R Same p l (layout items p)
 
--- the normal form is that of the tree, or of the trees
-abbrev pub SameTree : Tree → Tree → Type 0
-SameTree t u = normal u ≡ normal t
+-- the normal form is that of the tree, or of the trees, with the names as they are printed
+abbrev pub SameTree : Tables → Tree → Tree → Type 0
+SameTree names t u = normal u ≡ normal (renamed names t)
 
-abbrev pub SameTrees : Trees → Trees → Type 0
-SameTrees ts us = normal_trees us ≡ normal_trees ts
+abbrev pub SameTrees : Tables → Trees → Trees → Type 0
+SameTrees names ts us = normal_trees us ≡ normal_trees (renamed_trees names ts)
 
 -- ---- steps
 
 -- read otherwise
-pub stands_since : {X : Type 0} {R S : Bool → Tokens → X → Type 0} {Same Other : X → Type 0} {p q : Pen} {l : Last} → ((e : Bool) (ts : Tokens) (x : X) → Same x → R e ts x → S e ts x) → ((x : X) → Same x → Other x) → Stands R Same p l q → Stands S Other p l q
+pub stands_since : {names : Tables} {X : Type 0} {R S : Bool → Tokens → X → Type 0} {Same Other : X → Type 0} {p q : Pen} {l : Last} → ((e : Bool) (ts : Tokens) (x : X) → Same x → R e ts x → S e ts x) → ((x : X) → Same x → Other x) → Stands names R Same p l q → Stands names S Other p l q
 stands_since f h g = record { last = g.last; tokens = g.tokens; writes = g.writes; ready = g.ready; reading = g.reading; reads = ends_since (λ e ts r. f e ts g.reading g.same r) g.reads; same = h g.reading g.same }
 
 -- tokens before it, with which it is read as something more
-pub behind_tokens : {X Y : Type 0} {R : Bool → Tokens → X → Type 0} {S : Bool → Tokens → Y → Type 0} {Same : X → Type 0} {Other : Y → Type 0} {p q r : Pen} {l m : Last} (a : Tokens) (whole : X → Y) → Writes p l q m a → ((e : Bool) (ts : Tokens) (x : X) → R e ts x → S e (a ⧺ ts) (whole x)) → ((x : X) → Same x → Other (whole x)) → Stands R Same q m r → Stands S Other p l r
+pub behind_tokens : {names : Tables} {X Y : Type 0} {R : Bool → Tokens → X → Type 0} {S : Bool → Tokens → Y → Type 0} {Same : X → Type 0} {Other : Y → Type 0} {p q r : Pen} {l m : Last} (a : Tokens) (whole : X → Y) → Writes names p l q m a → ((e : Bool) (ts : Tokens) (x : X) → R e ts x → S e (a ⧺ ts) (whole x)) → ((x : X) → Same x → Other (whole x)) → Stands names R Same q m r → Stands names S Other p l r
 behind_tokens a whole w f h g = record { last = g.last; tokens = a ⧺ g.tokens; writes = wrote_both w g.writes; ready = g.ready; reading = whole g.reading; reads = ends_behind a (λ e ts r. f e ts g.reading r) g.reads; same = h g.reading g.same }
 
 -- blanks before it, and behind it
-pub blank_before : {X : Type 0} {R : Bool → Tokens → X → Type 0} {Same : X → Type 0} {p q r : Pen} {l : Last} → (s : Gap p l q) → Stands R Same q s.last r → Stands R Same p l r
+pub blank_before : {names : Tables} {X : Type 0} {R : Bool → Tokens → X → Type 0} {Same : X → Type 0} {p q r : Pen} {l : Last} → (s : Gap names p l q) → Stands names R Same q s.last r → Stands names R Same p l r
 blank_before s g = record { last = g.last; tokens = g.tokens; writes = wrote_both s.writes g.writes; ready = g.ready; reading = g.reading; reads = g.reads; same = g.same }
 
-pub blank_behind : {X : Type 0} {R : Bool → Tokens → X → Type 0} {Same : X → Type 0} {p q r : Pen} {l : Last} → (g : Stands R Same p l q) → Gap q g.last r → Stands R Same p l r
+pub blank_behind : {names : Tables} {X : Type 0} {R : Bool → Tokens → X → Type 0} {Same : X → Type 0} {p q r : Pen} {l : Last} → (g : Stands names R Same p l q) → Gap names q g.last r → Stands names R Same p l r
 blank_behind {R = R} g s = record {
   last = s.last;
   tokens = g.tokens;
@@ -76,11 +78,11 @@ blank_behind {R = R} g s = record {
   same = g.same;
 }
 
-pub blank_before_unended : {X : Type 0} {R : Bool → Tokens → X → Type 0} {Same : X → Type 0} {p q r : Pen} {l : Last} → (s : Gap p l q) → Unended R Same q s.last r → Unended R Same p l r
+pub blank_before_unended : {names : Tables} {X : Type 0} {R : Bool → Tokens → X → Type 0} {Same : X → Type 0} {p q r : Pen} {l : Last} → (s : Gap names p l q) → Unended names R Same q s.last r → Unended names R Same p l r
 blank_before_unended s g = record { last = g.last; tokens = g.tokens; writes = wrote_both s.writes g.writes; ready = g.ready; semicolon = g.semicolon; reading = g.reading; reads = g.reads; same = g.same }
 
 -- a semicolon behind it, or one that is left
-ended_so : {X : Type 0} {R : Bool → Tokens → X → Type 0} {Same : X → Type 0} {p q : Pen} {l : Last} (minified : Bool) → Unended R Same p l q → Stands R Same p l (end_statement minified q)
+ended_so : {names : Tables} {X : Type 0} {R : Bool → Tokens → X → Type 0} {Same : X → Type 0} {p q : Pen} {l : Last} (minified : Bool) → Unended names R Same p l q → Stands names R Same p l (end_statement minified q)
 ended_so {q = q} true g = record { last = g.last; tokens = g.tokens; writes = wrote_and_none g.writes (end_left q g.last g.writes.knows); ready = g.ready; reading = g.reading; reads = g.reads; same = g.same }
 ended_so {R = R} {q = q} false g = record {
   last = Open true;
@@ -95,25 +97,25 @@ ended_so {R = R} {q = q} false g = record {
 -- ---- items
 
 -- these items are blank, or print nothing
-abbrev pub BlankAt : Items → Type 0
-BlankAt items = (p : Pen) (l : Last) → Knows p l → Gap p l (layout items p)
+abbrev pub BlankAt : Tables → Items → Type 0
+BlankAt names items = (p : Pen) (l : Last) → Knows names p l → Gap names p l (layout items p)
 
-pub behind_blank : {X : Type 0} {R : Bool → Tokens → X → Type 0} {Same : X → Type 0} (blank items : Items) → BlankAt blank → StandsAt R Same items → StandsAt R Same (blank ⊕ items)
+pub behind_blank : {names : Tables} {X : Type 0} {R : Bool → Tokens → X → Type 0} {Same : X → Type 0} (blank items : Items) → BlankAt names blank → StandsAt names R Same items → StandsAt names R Same (blank ⊕ items)
 behind_blank blank items b f p l z y k =
     let s = b p l k in
     blank_before s (f (layout blank p) s.last (s.semicolon ∙ z) (s.ready y) s.writes.knows)
 
-pub before_blank : {X : Type 0} {R : Bool → Tokens → X → Type 0} {Same : X → Type 0} (items blank : Items) → StandsAt R Same items → BlankAt blank → StandsAt R Same (items ⊕ blank)
+pub before_blank : {names : Tables} {X : Type 0} {R : Bool → Tokens → X → Type 0} {Same : X → Type 0} (items blank : Items) → StandsAt names R Same items → BlankAt names blank → StandsAt names R Same (items ⊕ blank)
 before_blank items blank f b p l z y k =
     let g = f p l z y k in
     blank_behind g (b (layout items p) g.last g.writes.knows)
 
 -- indentation before it
-pub indented_line : {X : Type 0} {R : Bool → Tokens → X → Type 0} {Same : X → Type 0} (items : Items) → StandsAt R Same items → StandsAt R Same (indentation ⊕ items)
+pub indented_line : {names : Tables} {X : Type 0} {R : Bool → Tokens → X → Type 0} {Same : X → Type 0} (items : Items) → StandsAt names R Same items → StandsAt names R Same (indentation ⊕ items)
 indented_line items f = behind_blank indentation items (λ p l k. gap (indentation_written p l k)) f
 
 -- and its end behind it
-pub whole_line : {X : Type 0} {R : Bool → Tokens → X → Type 0} {Same : X → Type 0} (items : Items) → UnendedAt R Same items → StandsAt R Same (indentation ⊕ (items ⊕ statement_end))
+pub whole_line : {names : Tables} {X : Type 0} {R : Bool → Tokens → X → Type 0} {Same : X → Type 0} (items : Items) → UnendedAt names R Same items → StandsAt names R Same (indentation ⊕ (items ⊕ statement_end))
 whole_line items f = indented_line (items ⊕ statement_end) (λ p l z y k. ended_so (layout items p).style.minified (f p l z y k))
 
 -- ---- statements and declarations
@@ -123,12 +125,12 @@ abbrev pub ReadsClosed : Allowed → Bool → Bool → Tokens → Tree → Type 
 ReadsClosed c is_open last ts t = (before_else : Bool) → (before_else ≡ true → is_open ≡ false) → ReadsStatement c last before_else ts t
 
 -- a statement, printed at any place
-abbrev pub Stated : Allowed → Tree → Type 0
-Stated c t = (place : Place) → StandsAt (ReadsClosed c (ends_open t)) (SameTree t) (spell t place)
+abbrev pub Stated : Tables → Allowed → Tree → Type 0
+Stated names c t = (place : Place) → StandsAt names (ReadsClosed c (ends_open t)) (SameTree names t) (spell t place)
 
 -- a statement or a declaration, printed among statements
-abbrev pub Listed : Allowed → Tree → Type 0
-Listed c t = (settings : Settings) → StandsAt (ReadsItem c) (SameTree t) (spell t (among_statements settings))
+abbrev pub Listed : Tables → Allowed → Tree → Type 0
+Listed names c t = (settings : Settings) → StandsAt names (ReadsItem c) (SameTree names t) (spell t (among_statements settings))
 
-pub listed_statement : {c : Allowed} (t : Tree) → Stated c t → Listed c t
+pub listed_statement : {names : Tables} {c : Allowed} (t : Tree) → Stated names c t → Listed names c t
 listed_statement t f settings p l z y k = stands_since (λ e ts u s r. grammar.a_statement (r false (λ h. absurd (both_ways false refl h)))) (λ u s. s) (f (among_statements settings) p l z y k)

@@ -1,5 +1,6 @@
 -- One lemma for each type of statement, and rows of all of them.
 use Rattle.std.proofs.Common.{◌≡◌, false, true, refl, ap, ◌∙◌, subst}
+use Rattle.jsgen_tree.specs.Job.{Tables}
 use Rattle.jsgen_tree.specs.Inside.{ends_open}
 use Rattle.jsgen_tree.specs.Tree.{Tree, Trees, Atoms}
 use Rattle.jsgen_tree.specs.Nodes as tree
@@ -9,6 +10,7 @@ use Rattle.jsgen_model.specs.Layout.{Pen, layout}
 use Rattle.jsgen_model.specs.Grammar.{Allowed, with_in}
 use Rattle.jsgen_model.specs.Grammar as grammar
 use Rattle.jsgen_model.specs.Normal.{normal, nothing_of}
+use Rattle.jsgen_model.specs.Renamed.{renamed}
 use Rattle.jsgen_model.specs.Spell.{Settings, Place, spell, spell_statements, among_statements, whole_statement}
 use Rattle.jsgen_token_laws.proofs.Last.{Last}
 use Rattle.jsgen_token_laws.proofs.Writes.{then_done}
@@ -25,7 +27,7 @@ use Rattle.jsgen_reading_laws.proofs.Branches.{EmptyAlone, good_empty, good_if, 
 
 -- ---- expression statements
 
-unended_expression : {p q : Pen} {l : Last} (c : Allowed) (a : Atoms) (e : Tree) (place : Place) → Good p l q (with_in c) grammar.Expression (whole_statement place.settings).start e → Unended (ReadsClosed c false) (SameTree (tree.expression_statement a e)) p l q
+unended_expression : {names : Tables} {p q : Pen} {l : Last} (c : Allowed) (a : Atoms) (e : Tree) (place : Place) → Good names p l q (with_in c) grammar.Expression (whole_statement place.settings).start e → Unended names (ReadsClosed c false) (SameTree names (tree.expression_statement a e)) p l q
 unended_expression c a e place g = record {
   last = g.last;
   tokens = g.tokens;
@@ -37,10 +39,10 @@ unended_expression c a e place g = record {
   same = ap (λ x. tree.expression_statement (nothing_of 0) x) g.same;
 }
 
-good_expression_statement : (c : Allowed) (a : Atoms) (e : Tree) → Printed c e → Stated c (tree.expression_statement a e)
-good_expression_statement c a e f place = whole_line (statement_begins ⊕ spell e (whole_statement place.settings)) inside
+good_expression_statement : {names : Tables} (c : Allowed) (a : Atoms) (e : Tree) → Printed names c e → Stated names c (tree.expression_statement a e)
+good_expression_statement {names} c a e f place = whole_line (statement_begins ⊕ spell e (whole_statement place.settings)) inside
   where
-    inside : UnendedAt (ReadsClosed c false) (SameTree (tree.expression_statement a e)) (statement_begins ⊕ spell e (whole_statement place.settings))
+    inside : UnendedAt names (ReadsClosed c false) (SameTree names (tree.expression_statement a e)) (statement_begins ⊕ spell e (whole_statement place.settings))
     inside p l z y k =
         let b = begins_written p l k in
         let g = f (whole_statement place.settings) (layout statement_begins p) b.last (b.semicolon ∙ z) (b.ready y) b.writes.knows in
@@ -49,7 +51,7 @@ good_expression_statement c a e f place = whole_line (statement_begins ⊕ spell
 -- ---- the families
 
 -- the normal form tells what ends open
-normal_open : {c : Allowed} {t : Tree} → IsStatement c t → ends_open (normal t) ≡ ends_open t
+normal_open : {names : Tables} {c : Allowed} {t : Tree} → IsStatement names c t → ends_open (normal (renamed names t)) ≡ ends_open t
 normal_open (family.an_expression_statement v) = refl
 normal_open family.an_empty_statement = refl
 normal_open (family.a_block v) = refl
@@ -57,26 +59,26 @@ normal_open (family.an_if v w) = refl
 normal_open (family.an_if_with_else v w u) = normal_open u
 
 -- of all statements an empty one alone is spelled as one
-empty_alone : {c : Allowed} {t : Tree} → IsStatement c t → EmptyAlone t
+empty_alone : {names : Tables} {c : Allowed} {t : Tree} → IsStatement names c t → EmptyAlone names t
 empty_alone family.an_empty_statement e = refl
 empty_alone v e = absurd (cc)
 
 mutual
-  pub stated : {c : Allowed} {t : Tree} → IsStatement c t → Stated c t
-  stated {c} (family.an_expression_statement {a} {e} v) = good_expression_statement c a e (printed_expression v)
-  stated {c} (family.an_empty_statement {a}) = good_empty c a
-  stated {c} (family.a_block {a} {ss} v) = good_block c a ss (λ settings. (rows v settings).0)
-  stated {c} (family.an_if {a} {t} {s} v w) = good_if c a t s (printed_expression v) (normal_open w) (empty_alone w) (stated w)
-  stated {c} (family.an_if_with_else {a} {t} {s} {u} v w x) = good_if_with_else c a t s u (printed_expression v) (normal_open w) (empty_alone w) (stated w) (empty_alone x) (stated x)
+  pub stated : {names : Tables} {c : Allowed} {t : Tree} → IsStatement names c t → Stated names c t
+  stated {names} {c} (family.an_expression_statement {a} {e} v) = good_expression_statement c a e (printed_expression v)
+  stated {names} {c} (family.an_empty_statement {a}) = good_empty c a
+  stated {names} {c} (family.a_block {a} {ss} v) = good_block c a ss (λ settings. (rows v settings).0)
+  stated {names} {c} (family.an_if {a} {t} {s} v w) = good_if c a t s (printed_expression v) (normal_open w) (empty_alone w) (stated w)
+  stated {names} {c} (family.an_if_with_else {a} {t} {s} {u} v w x) = good_if_with_else c a t s u (printed_expression v) (normal_open w) (empty_alone w) (stated w) (empty_alone x) (stated x)
 
-  pub listed : {c : Allowed} {t : Tree} → IsItem c t → Listed c t
+  pub listed : {names : Tables} {c : Allowed} {t : Tree} → IsItem names c t → Listed names c t
   listed {t = t} (family.a_statement v) = listed_statement t (stated v)
   listed (family.a_declaration {a} m v) = listed_declaration a m v
 
   -- as a whole row, and as the rest of one
-  pub rows : {c : Allowed} {ss : Trees} → AreStatements c ss → (settings : Settings) → RowAt c (spell_statements ss settings) ss × RestAt c (spell_statements ss settings) ss
-  rows {c} family.no_statement settings = (row_none c, rest_none c)
-  rows {c} (family.first_statement {s} {ss} v w) settings =
+  pub rows : {names : Tables} {c : Allowed} {ss : Trees} → AreStatements names c ss → (settings : Settings) → RowAt names c (spell_statements ss settings) ss × RestAt names c (spell_statements ss settings) ss
+  rows {names} {c} family.no_statement settings = (row_none c, rest_none c)
+  rows {names} {c} (family.first_statement {s} {ss} v w) settings =
       let f = listed v settings in
       let r = (rows w settings).1 in
       (row_more c s ss (spell s (among_statements settings)) (spell_statements ss settings) f r, rest_more c s ss (spell s (among_statements settings)) (spell_statements ss settings) f r)

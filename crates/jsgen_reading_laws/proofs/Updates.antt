@@ -3,6 +3,7 @@ use Rattle.std.proofs.Common.{◌≡◌, Bool, true, false, not, Some, [], ◌�
 use Rattle.jsgen_syntax.specs.declared.operator.UpdateOperator.{UpdateOperator}
 use Rattle.jsgen_syntax.specs.declared.operator.UpdateOperator.TheVariants as operators
 use Rattle.jsgen_syntax.specs.declared.precedence.Precedence.TheVariants as levels
+use Rattle.jsgen_tree.specs.Job.{Tables}
 use Rattle.jsgen_tree.specs.Atom.{update_operator, flag}
 use Rattle.jsgen_tree.specs.Tree.{Tree, Atoms}
 use Rattle.jsgen_tree.specs.Places.{bare}
@@ -15,6 +16,7 @@ use Rattle.jsgen_model.specs.Layout.{Pen, Start, nowhere, layout, unless_printed
 use Rattle.jsgen_model.specs.Grammar.{Allowed, Level, ReadsExpression, update_sign, simple_target}
 use Rattle.jsgen_model.specs.Grammar as grammar
 use Rattle.jsgen_model.specs.Normal.{normal}
+use Rattle.jsgen_model.specs.Renamed.{renamed}
 use Rattle.jsgen_model.specs.Spell.{Place, spell, within, behind, in_front, wraps, update_item, update_items, update_level}
 use Rattle.jsgen_token_laws.proofs.Last.{Last, After, line_of, Operand, Ready, Knows}
 use Rattle.jsgen_token_laws.proofs.Writes.{Writes, wrote_both}
@@ -25,11 +27,11 @@ use Rattle.jsgen_reading_laws.proofs.Prefixes.{sign_begins}
 
 -- ---- the sign
 
-written_before : (o : UpdateOperator) (p : Pen) (l : Last) → Knows p l → Writes p l (layout (update_item o) p) (After (Sign (update_sign o))) (piece (line_of l) (Sign (update_sign o)) done)
+written_before : {names : Tables} (o : UpdateOperator) (p : Pen) (l : Last) → Knows names p l → Writes names p l (layout (update_item o) p) (After (Sign (update_sign o))) (piece (line_of l) (Sign (update_sign o)) done)
 written_before operators.Increment p l k = wrote_increment p l k
 written_before operators.Decrement p l k = wrote_decrement p l k
 
-written_behind : (o : UpdateOperator) (p : Pen) (l : Last) → Operand l → Knows p l → Writes p l (layout (update_item o) p) (After (Sign (update_sign o))) (piece (line_of l) (Sign (update_sign o)) done)
+written_behind : {names : Tables} (o : UpdateOperator) (p : Pen) (l : Last) → Operand l → Knows names p l → Writes names p l (layout (update_item o) p) (After (Sign (update_sign o))) (piece (line_of l) (Sign (update_sign o)) done)
 written_behind operators.Increment p l i k = wrote_operator plus_plus p l tt i k
 written_behind operators.Decrement p l i k = wrote_operator minus_minus p l tt i k
 
@@ -50,8 +52,8 @@ same_update a prefix u x h e = λ i. tree.update (bare (update_operator (update_
 
 -- ---- before the operand
 
-before_parts : (c : Allowed) (a : Atoms) (t : Tree) (start : Start) (p p1 q : Pen) (l : Last) → update_expression_prefix a ≡ true → let s = Sign (update_sign (update_expression_operator a)) in Writes p l p1 (After s) (piece (line_of l) s done) → (g : Good p1 (After s) q c grammar.Update nowhere t) → simple_target g.tree ≡ Some g.tree → Good p l q c grammar.Update start (tree.update a t)
-before_parts c a t start p p1 q l h w g simple =
+before_parts : {names : Tables} (c : Allowed) (a : Atoms) (t : Tree) (start : Start) (p p1 q : Pen) (l : Last) → update_expression_prefix a ≡ true → let s = Sign (update_sign (update_expression_operator a)) in Writes names p l p1 (After s) (piece (line_of l) s done) → (g : Good names p1 (After s) q c grammar.Update nowhere t) → simple_target g.tree ≡ Some g.tree → Good names p l q c grammar.Update start (tree.update a t)
+before_parts {names} c a t start p p1 q l h w g simple =
     let o : UpdateOperator = update_expression_operator a in
     record {
       last = g.last;
@@ -63,13 +65,13 @@ before_parts c a t start p p1 q l h w g simple =
       line = λ i. ap not i;
       tree = tree.update (bare (update_operator o ∷ flag true ∷ [])) g.tree;
       reads = grammar.an_update_before o (grammar.an_update g.reads) simple;
-      same = same_update a true g.tree t h g.same;
+      same = same_update a true g.tree (renamed names t) h g.same;
     }
 
 -- ---- behind it
 
-behind_parts : (c : Allowed) (a : Atoms) (t : Tree) (start : Start) (level : Level) (p p1 q : Pen) (l : Last) → update_expression_prefix a ≡ false → let s = Sign (update_sign (update_expression_operator a)) in (g : Good p l p1 c level start t) → ReadsExpression c grammar.LeftHandSide g.tokens g.tree → simple_target g.tree ≡ Some g.tree → line_of g.last ≡ false → q.pending_semicolon ≡ false → Writes p1 g.last q (After s) (piece (line_of g.last) s done) → Good p l q c grammar.Update start (tree.update a t)
-behind_parts c a t start level p p1 q l h g r simple one_line z w =
+behind_parts : {names : Tables} (c : Allowed) (a : Atoms) (t : Tree) (start : Start) (level : Level) (p p1 q : Pen) (l : Last) → update_expression_prefix a ≡ false → let s = Sign (update_sign (update_expression_operator a)) in (g : Good names p l p1 c level start t) → ReadsExpression c grammar.LeftHandSide g.tokens g.tree → simple_target g.tree ≡ Some g.tree → line_of g.last ≡ false → q.pending_semicolon ≡ false → Writes names p1 g.last q (After s) (piece (line_of g.last) s done) → Good names p l q c grammar.Update start (tree.update a t)
+behind_parts {names} c a t start level p p1 q l h g r simple one_line z w =
     let o : UpdateOperator = update_expression_operator a in
     record {
       last = After (Sign (update_sign o));
@@ -81,7 +83,7 @@ behind_parts c a t start level p p1 q l h g r simple one_line z w =
       line = λ e. line_then g.tokens (piece (line_of g.last) (Sign (update_sign o)) done) (g.line e);
       tree = tree.update (bare (update_operator o ∷ flag false ∷ [])) g.tree;
       reads = grammar.an_update_behind o (ap (λ b. g.tokens ⧺ piece b (Sign (update_sign o)) done) one_line) r simple;
-      same = same_update a false g.tree t h g.same;
+      same = same_update a false g.tree (renamed names t) h g.same;
     }
 
 -- ---- the whole
@@ -89,15 +91,15 @@ behind_parts c a t start level p p1 q l h g r simple one_line z w =
 abbrev items_of : Atoms → Tree → Place → Bool → Bool → Items
 items_of a t place prefix w = update_items prefix (update_item (update_expression_operator a)) (spell t (in_front levels.Postfix (within w place))) (spell t (behind levels.Prefix (within w place)))
 
-abbrev UpdateAt : Allowed → Atoms → Tree → Place → Bool → Type 0
-UpdateAt c a t place prefix = (p : Pen) (l : Last) → p.pending_semicolon ≡ false → Ready l → Knows p l → Good p l (layout (wrapped (wraps (update_level prefix) place) (items_of a t place prefix (wraps (update_level prefix) place))) p) (under place c) (level_of place) place.start (tree.update a t)
+abbrev UpdateAt : Tables → Allowed → Atoms → Tree → Place → Bool → Type 0
+UpdateAt names c a t place prefix = (p : Pen) (l : Last) → p.pending_semicolon ≡ false → Ready l → Knows names p l → Good names p l (layout (wrapped (wraps (update_level prefix) place) (items_of a t place prefix (wraps (update_level prefix) place))) p) (under place c) (level_of place) place.start (tree.update a t)
 
-update_before : (c : Allowed) (a : Atoms) (t : Tree) → TargetPrinted c t → update_expression_prefix a ≡ true → (place : Place) → UpdateAt c a t place true
-update_before c a t f h place =
+update_before : {names : Tables} (c : Allowed) (a : Atoms) (t : Tree) → TargetPrinted names c t → update_expression_prefix a ≡ true → (place : Place) → UpdateAt names c a t place true
+update_before {names} c a t f h place =
     good_wrapped c place grammar.Update (wraps levels.Prefix place) (items_of a t place true) (tree.update a t)
     (λ d ts u r. lifted false levels.Prefix levels.Lowest (omega arith) r) (λ e ts u r. unwrapped levels.Prefix place e (grammar.an_update r)) inner
   where
-    inner : (v : Bool) → wraps levels.Prefix place ≡ v → (p : Pen) (l : Last) → p.pending_semicolon ≡ false → Ready l → Knows p l → Good p l (layout (items_of a t place true v) p) (under (within v place) c) grammar.Update (unless_printed v place.start) (tree.update a t)
+    inner : (v : Bool) → wraps levels.Prefix place ≡ v → (p : Pen) (l : Last) → p.pending_semicolon ≡ false → Ready l → Knows names p l → Good names p l (layout (items_of a t place true v) p) (under (within v place) c) grammar.Update (unless_printed v place.start) (tree.update a t)
     inner v e p l z y k =
         let o : UpdateOperator = update_expression_operator a in
         let p1 : Pen = layout (update_item o) p in
@@ -105,12 +107,12 @@ update_before c a t f h place =
         let g = f (behind levels.Prefix (within v place)) p1 (After (Sign (update_sign o))) (sign_semicolon o p ∙ z) (sign_ready o) w.knows in
         before_parts (under (within v place) c) a t (unless_printed v place.start) p p1 (layout (spell t (behind levels.Prefix (within v place))) p1) l h w g.0 g.1
 
-update_behind : (c : Allowed) (a : Atoms) (t : Tree) → TargetPrinted c t → update_expression_prefix a ≡ false → (place : Place) → UpdateAt c a t place false
-update_behind c a t f h place =
+update_behind : {names : Tables} (c : Allowed) (a : Atoms) (t : Tree) → TargetPrinted names c t → update_expression_prefix a ≡ false → (place : Place) → UpdateAt names c a t place false
+update_behind {names} c a t f h place =
     good_wrapped c place grammar.Update (wraps levels.Postfix place) (items_of a t place false) (tree.update a t)
     (λ d ts u r. lifted false levels.Prefix levels.Lowest (omega arith) r) (λ e ts u r. unwrapped levels.Postfix place e r) inner
   where
-    inner : (v : Bool) → wraps levels.Postfix place ≡ v → (p : Pen) (l : Last) → p.pending_semicolon ≡ false → Ready l → Knows p l → Good p l (layout (items_of a t place false v) p) (under (within v place) c) grammar.Update (unless_printed v place.start) (tree.update a t)
+    inner : (v : Bool) → wraps levels.Postfix place ≡ v → (p : Pen) (l : Last) → p.pending_semicolon ≡ false → Ready l → Knows names p l → Good names p l (layout (items_of a t place false v) p) (under (within v place) c) grammar.Update (unless_printed v place.start) (tree.update a t)
     inner v e p l z y k =
         let o : UpdateOperator = update_expression_operator a in
         let at : Place = in_front levels.Postfix (within v place) in
@@ -118,9 +120,9 @@ update_behind c a t f h place =
         let g = f at p l z y k in
         behind_parts (under (within v place) c) a t (unless_printed v place.start) (level_of at) p p1 (layout (update_item o) p1) l h g.0 (read_left at.context.forbids_call g.0.reads) g.1 g.2 (sign_semicolon o p1 ∙ g.0.semicolon) (written_behind o p1 g.0.last g.0.operand g.0.writes.knows)
 
-pub good_update : (c : Allowed) (a : Atoms) (t : Tree) → TargetPrinted c t → (place : Place) → UpdateAt c a t place (update_expression_prefix a)
-good_update c a t f place = go (update_expression_prefix a) refl
+pub good_update : {names : Tables} (c : Allowed) (a : Atoms) (t : Tree) → TargetPrinted names c t → (place : Place) → UpdateAt names c a t place (update_expression_prefix a)
+good_update {names} c a t f place = go (update_expression_prefix a) refl
   where
-    go : (b : Bool) → update_expression_prefix a ≡ b → UpdateAt c a t place b
+    go : (b : Bool) → update_expression_prefix a ≡ b → UpdateAt names c a t place b
     go true e = update_before c a t f e place
     go false e = update_behind c a t f e place

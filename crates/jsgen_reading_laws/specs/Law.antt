@@ -3,14 +3,15 @@ use Rattle.std.specs.Prelude.{◌≡◌}
 use Rattle.std.specs.Str.{chars}
 use Rattle.jsgen_tree.specs.declared.types.NodeType.TheVariants as types
 use Rattle.jsgen_tree.specs.Tree.{Tree, type_of}
-use Rattle.jsgen_tree.specs.Job.{JobData}
+use Rattle.jsgen_tree.specs.Job.{no_tables, JobData}
 use Rattle.jsgen_model.specs.Spell.{printed, text_bytes}
 use Rattle.jsgen_model.specs.Normal.{normal}
+use Rattle.jsgen_model.specs.Renamed.{renamed}
 use Rattle.jsgen_model.specs.Valid.{IsValid}
 use Rattle.jsgen_model.specs.Plain.{IsPlain, IsQuiet}
 use Rattle.jsgen_model.specs.Reading.{IsReadAs}
 
--- the characters of the text of a valid, plain and quiet job are read as its program, pretty and minified
+-- the characters of the text of a valid, plain and quiet job are read as its program with its names as they are printed, pretty and minified
 abbrev pub PrintedIsRead : Type 0
 PrintedIsRead = (job : JobData) → type_of job.program ≡ types.Program → IsValid job → IsPlain job.program → IsQuiet job → IsReadAs (printed job) job
 
@@ -21,3 +22,7 @@ BytesAreRead = (job : JobData) → type_of job.program ≡ types.Program → IsV
 -- a normal form is its own normal form
 abbrev pub NormalIsNormal : Type 0
 NormalIsNormal = (t : Tree) → normal (normal t) ≡ normal t
+
+-- without tables a program keeps its names
+abbrev pub NoTablesRenameNothing : Type 0
+NoTablesRenameNothing = (t : Tree) → normal (renamed no_tables t) ≡ normal t

@@ -1,7 +1,7 @@
 //! The reading law: what is printed reads back. It goes over definitions alone, and mentions no printer.
 #![tactic(auto)]
 
-ghost use Rattle.jsgen_reading_laws.specs.Law.{PrintedIsRead, BytesAreRead, NormalIsNormal};
+ghost use Rattle.jsgen_reading_laws.specs.Law.{PrintedIsRead, BytesAreRead, NormalIsNormal, NoTablesRenameNothing};
 
 /// The characters of a job's text are read as its program.
 pub fn printed_is_read()
@@ -16,4 +16,9 @@ pub fn bytes_are_read()
 /// A normal form is its own.
 pub fn normal_is_normal()
     ensures { NormalIsNormal }
+{}
+
+/// Without tables a program keeps its names.
+pub fn no_tables_rename_nothing()
+    ensures { NoTablesRenameNothing }
 {}

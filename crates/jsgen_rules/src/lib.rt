@@ -3,53 +3,22 @@
 
 ghost use Rattle.std.specs.Prelude.{◌≡◌, not};
 ghost use Rattle.std.specs.Str.{chars};
-ghost use Rattle.jsgen_syntax.specs.Name.{is_free_name};
-ghost use Rattle.jsgen_model.specs.Valid.{span_faults, name_faults, written_name_faults, directive_faults, raw_number_faults, big_integer_faults, source_faults, fault_if, is_super, takes_super, may_stand, takes_optional_link};
+ghost use Rattle.jsgen_model.specs.Valid.{directive_faults, raw_number_faults, big_integer_faults, fault_if, is_super, takes_super, may_stand, takes_optional_link};
 ghost use Rattle.jsgen_model.specs.declared.fault.TreeFault.TheVariants as faults;
 ghost use Rattle.jsgen_rules.specs.Verdict.{verdict};
 
+mod comments;
+mod names;
+mod spans;
+
+pub use comments::check_comment;
 use jsgen_model::TreeFault;
 use jsgen_numbers::{is_big_integer, is_raw_number};
-use jsgen_syntax::{Quote, Span, is_name, is_reserved, is_strict_reserved};
+use jsgen_syntax::{Quote, Span};
 use jsgen_text::spells_string;
 use jsgen_tree::{NodeSet, NodeType};
-
-/// A start isn't after its end.
-pub fn check_span(span: Span) -> Result<(), TreeFault>
-    ensures { result ≡ verdict (span_faults span) }
-{
-    if span.end < span.start {
-        return Err(TreeFault::Span { start: span.start });
-    }
-    Ok(())
-}
-
-#[tactic(auto, using(crate::proofs::Bytes::free_names))]
-fn is_free_name(name: &str) -> bool
-    ensures { result ≡ is_free_name (chars name.now) }
-{
-    is_name(name) && !is_reserved(name) && !is_strict_reserved(name)
-}
-
-/// A name that is looked up or bound is one, and isn't reserved.
-pub fn check_name(name: &str, span: Span) -> Result<(), TreeFault>
-    ensures { result ≡ verdict (name_faults span (chars name.now)) }
-{
-    if !is_free_name(name) {
-        return Err(TreeFault::Name { start: span.start });
-    }
-    Ok(())
-}
-
-/// A member's name is one, reserved or not.
-pub fn check_written_name(name: &str, span: Span) -> Result<(), TreeFault>
-    ensures { result ≡ verdict (written_name_faults span (chars name.now)) }
-{
-    if !is_name(name) {
-        return Err(TreeFault::Name { start: span.start });
-    }
-    Ok(())
-}
+pub use names::{check_binding, check_reference, check_written_name};
+pub use spans::{check_source, check_span};
 
 /// A directive's raw text spells a string, in the one quote or the other.
 pub fn check_raw(raw: &str, span: Span) -> Result<(), TreeFault>
@@ -77,17 +46,6 @@ pub fn check_big_integer(value: &str, span: Span) -> Result<(), TreeFault>
 {
     if !is_big_integer(value) {
         return Err(TreeFault::Literal { start: span.start });
-    }
-    Ok(())
-}
-
-/// Offsets of the source fit 32 bits.
-#[tactic(auto, using(crate::proofs::Bytes::lengths), unfolding(crate::specs::Verdict::verdict))]
-pub fn check_source(source: &str, span: Span) -> Result<(), TreeFault>
-    ensures { result ≡ verdict (source_faults span (chars source.now)) }
-{
-    if source.len() > 4_294_967_295 {
-        return Err(TreeFault::Span { start: span.start });
     }
     Ok(())
 }

@@ -8,6 +8,7 @@ use Rattle.jsgen_syntax.specs.Name.{starts_name, continues_name, goes_in_word}
 use Rattle.jsgen_syntax.specs.Strings.{quote_char}
 use Rattle.jsgen_syntax.specs.declared.quote.Quote.{Quote}
 use Rattle.jsgen_syntax.specs.declared.quote.Quote.TheVariants as quotes
+use Rattle.jsgen_tree.specs.Job.{Tables}
 use Rattle.jsgen_model.specs.Punctuator.{Punctuator, punctuator_text, dot, ellipsis, comma, question_dot, slash, plus, minus, Bracket, Round, Square, Brace, opening, closing, plus_plus, minus_minus}
 use Rattle.jsgen_model.specs.Numbers.{spells_number}
 use Rattle.jsgen_model.specs.Tokens.{Piece, Word, Number, Quoted, Sign, ends_before, may_precede, stands, longer_stands}
@@ -77,8 +78,10 @@ Ended code e (After (Sign s)) = Remembers s e
 abbrev pub is_indent : ℕ → Bool
 is_indent c = (c == 32) || (c == 9)
 
-pub record Knows (p : Pen) (l : Last) : Type 0 where
+-- what is known of a pen behind which the code ends so: names are printed by these tables, whatever is printed
+pub record Knows (names : Tables) (p : Pen) (l : Last) : Type 0 where
   pub indent : is_indent p.style.indent ≡ true
+  pub tables : p.style.tables ≡ names
   pub ending : Ended p.code p.ending l
 
 -- ---- what may stand behind anything

@@ -18,12 +18,20 @@ pub enum Fault {
 pub fn answer(alloc: Global, bytes: &[u8]) -> Result<String, Fault>
     ensures { Answers bytes.now result }
 {
-    let Job { options, program } = match read_job(alloc, bytes) {
+    let Job {
+        options,
+        scoping,
+        private,
+        program,
+    } = match read_job(alloc, bytes) {
         Ok(job) => job,
         Err(InputFault::Memory) => return Err(Fault::Memory),
         Err(fault) => return Err(Fault::NotJob(fault)),
     };
-    let printer = Codegen::new(alloc).with_options(options);
+    let printer = Codegen::new(alloc)
+        .with_options(options)
+        .with_scoping(scoping.as_ref())
+        .with_private_member_mappings(private.as_ref());
     if let Err(fault) = printer.check(&program) {
         return Err(Fault::Refused(fault));
     }

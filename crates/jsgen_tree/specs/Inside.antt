@@ -6,6 +6,8 @@ use Rattle.jsgen_tree.specs.Nodes.{parenthesized, if_statement, identifier_refer
 use Rattle.jsgen_tree.specs.Named.{Named, looked_up, bound}
 use Rattle.jsgen_tree.specs.Values.{identifier_reference_name, identifier_reference_reference, binding_identifier_name, binding_identifier_symbol, identifier_name_name, numeric_literal_negative, big_int_literal_value, static_member_expression_optional, computed_member_expression_optional, call_expression_optional}
 use Rattle.jsgen_tree.specs.Sets.{is_expression}
+use Rattle.jsgen_tree.specs.Characters.{characters}
+use Rattle.jsgen_tree.specs.declared.expressions.IdentifierReference.{IdentifierReference}
 
 -- a statement ends in an `if` without `else`
 abbrev pub ends_open : Tree → Bool
@@ -46,6 +48,10 @@ binding_named a = bound (binding_identifier_symbol a) (binding_identifier_name a
 abbrev pub looked_up_in : Tree → Option Named
 looked_up_in (identifier_reference a) = Some (reference_named a)
 looked_up_in t = None
+
+-- the name of a reference, which its row holds
+abbrev pub named_by : IdentifierReference → Named
+named_by n = looked_up n.reference (characters n.name)
 
 -- the name that stands there as it is written
 abbrev pub written_name_in : Tree → Option (List ℕ)

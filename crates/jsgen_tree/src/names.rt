@@ -1,10 +1,11 @@
 // Which name a node is.
 ghost use Rattle.std.specs.Prelude.{◌≡◌, option_map};
 ghost use Rattle.std.specs.Str.{chars};
-ghost use Rattle.jsgen_tree.specs.Inside.{without_parentheses, reference_in, written_name_in, is_proto};
+ghost use Rattle.jsgen_tree.specs.Inside.{without_parentheses, reference_in, looked_up_in, named_by, written_name_in, is_proto};
 ghost use Rattle.jsgen_tree.specs.Rows.{expression_plain, statement_plain, declaration_plain, binding_pattern_plain};
 ghost use Rattle.jsgen_tree.specs.Plain.{node_plain};
 
+use crate::expressions::IdentifierReference;
 use crate::nodes::Node;
 use crate::sets::{BindingPattern, Declaration, Expression, Statement};
 
@@ -22,6 +23,16 @@ impl Node {
     {
         match self.inner_expression() {
             Some(expression) => expression.reference(),
+            None => None,
+        }
+    }
+
+    /// The reference itself, with its number, where it is one, without the parentheses that it may have round it.
+    pub fn looked_up(&self) -> Option<&IdentifierReference>
+        ensures { option_map (λ n. named_by n.now) result ≡ looked_up_in (without_parentheses (node_plain self.now)) }
+    {
+        match self.inner_expression() {
+            Some(expression) => expression.looked_up(),
             None => None,
         }
     }
@@ -46,6 +57,15 @@ impl Expression {
     {
         match self {
             Expression::IdentifierReference(node) => Some(node.name.as_str()),
+            _ => None,
+        }
+    }
+
+    fn looked_up(&self) -> Option<&IdentifierReference>
+        ensures { option_map (λ n. named_by n.now) result ≡ looked_up_in (expression_plain node_plain self.now) }
+    {
+        match self {
+            Expression::IdentifierReference(node) => Some(node),
             _ => None,
         }
     }

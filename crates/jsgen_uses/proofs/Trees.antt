@@ -21,7 +21,7 @@ quiet_call : (message name : List ℕ) → Everywhere is_quiet_row (log_call mes
 quiet_call message name = (refl, (quiet_callee, (((refl, tt), ((refl, tt), tt)), tt)))
 
 quiet : (message name : List ℕ) → Everywhere is_quiet_row (log_program message name)
-quiet message name = (refl, (tt, (((refl, (quiet_call message name, tt)), tt), tt)))
+quiet message name = (refl, (tt, (tt, (((refl, (quiet_call message name, tt)), tt), tt))))
 
 breaches_where : (message name : List ℕ) (free : Bool) → is_free_name name ≡ free → job_breaches (log_job message name) ≡ fault_if (not free) (faults.Name 0)
 breaches_where message name true h = rw (console_is_free, log_is_name, h)

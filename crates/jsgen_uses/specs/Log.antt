@@ -34,7 +34,7 @@ statement expression = tree.expression_statement (holds []) expression
 
 -- a module of one statement, without a source
 abbrev pub only : Tree → Tree
-only s = tree.program (holds (text [] ∷ source_kind Module ∷ no_value ∷ no_value ∷ [])) no_trees (trees (s ∷ []))
+only s = tree.program (holds (text [] ∷ source_kind Module ∷ no_value ∷ no_value ∷ [])) no_trees no_trees (trees (s ∷ []))
 
 abbrev pub console_log : Tree
 console_log = member (reference (codes "console")) (codes "log")

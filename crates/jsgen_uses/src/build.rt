@@ -23,6 +23,7 @@ pub fn reference(alloc: Global, name: &str) -> Result<Expression, Memory>
     let node = IdentifierReference {
         span: NOWHERE,
         name,
+        reference: None,
     };
     Ok(Expression::IdentifierReference(Box::new(alloc, node)?))
 }
@@ -122,6 +123,7 @@ pub fn only(alloc: Global, statement: StatementNode) -> Result<Program, Memory>
         span: NOWHERE,
         source: String::new(alloc),
         kind: SourceKind::Module,
+        comments: Vec::new(alloc),
         directives: Vec::new(alloc),
         body,
     })

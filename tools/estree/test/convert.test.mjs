@@ -33,6 +33,44 @@ test("options stand in the head, and an option that isn't read is refused", () =
   assert.throws(() => jobOf(parsed(""), { options: { indented: 3 } }), NotRead);
 });
 
+function commentRows(source) {
+  const program = parsed(source, { comments: true });
+  const { rows } = jobOf(program, { source, comments: program.comments });
+  return rows.at(-1).comments.map((row) => rows[row]);
+}
+
+test("comments have their places in the source, which stands in the job", () => {
+  const source = "é; // b\n/* c */ d /*\n*/";
+  assert.deepEqual(commentRows(source), [
+    { type: "Comment", kind: "line", content: "normal", attached_to: 17, followed_by_newline: true, span: [4, 8] },
+    { type: "Comment", kind: "block", content: "normal", leading: true, attached_to: 17, preceded_by_newline: true, span: [9, 16] },
+    { type: "Comment", kind: "multiline", content: "normal", leading: true, attached_to: 24, span: [19, 24] },
+  ]);
+  const program = parsed(source, { comments: true });
+  assert.equal(jobOf(program, { source, comments: program.comments }).rows.at(-1).source, source);
+  assert.equal("source" in jobOf(program, { source }).rows.at(-1), false);
+  assert.equal(jobOf(program, { source, options: { source_map_path: "a.map" } }).rows.at(-1).source, source);
+  assert.throws(() => jobOf(program, { comments: program.comments }), TypeError);
+});
+
+test("comments have what they say", () => {
+  const contentOf = (comment) => commentRows(`${comment}\nf()`)[0].content;
+  const said = {
+    "// a": "normal", "/***/": "normal", "/**/": "normal", "/** a */": "jsdoc", "//! a": "legal", "/*! a */": "legal",
+    "/* @license */": "legal", "/** @preserve */": "jsdoclegal", "/* @__PURE__ */": "pure", "/*#__PURE__*/": "pure",
+    "/* @__NO_SIDE_EFFECTS__ */": "nosideeffects", "/* webpackChunkName: 'a' */": "webpack", "/* @vite-ignore */": "vite",
+    "/* @__KEY__ */": "propertykey", "/* v8 ignore next */": "coverage", "/* c8 ignore file */": "coveragefile",
+  };
+  for (const [comment, content] of Object.entries(said)) assert.equal(contentOf(comment), content, comment);
+});
+
+test("a comment belongs to the next token, behind other comments", () => {
+  const starts = (source) => commentRows(source).map(({ attached_to }) => attached_to);
+  assert.deepEqual(starts("/*a*/ //b\n /*c*/ d"), [17, 17, 17]);
+  assert.deepEqual(starts("/*a*//*b*/d/*c*/"), [10, 10, 16]);
+  assert.deepEqual(starts("#!/bin/node // a\n/*b*/c"), [22]);
+});
+
 test("directives are their raw text", () => {
   assert.deepEqual(rowsOf("'a\\\nb'; 'c'.d")[0], { type: "Directive", directive: "a\\\nb" });
   assert.equal(rowsOf("'c'.d").some((row) => row.type === "Directive"), false);

@@ -64,7 +64,46 @@ test("the fields of a type are in order, with their sets and words", () => {
   assert.ok(format.types.get("BinaryExpression")[0].words.includes("|"));
   assert.ok(format.types.get("Program").find(({ name }) => name === "hashbang").isUnread);
   assert.ok(format.options.get("minify").kind === "flag" && format.options.get("legal").words.includes("linked"));
-  assert.deepEqual(["indent_char", "indent_width", "initial_indent", "legal_path"].map((name) => format.options.get(name).kind), ["word", "whole", "number", "text"]);
+  const kindsOf = (...names) => names.map((name) => format.options.get(name).kind);
+  assert.deepEqual(kindsOf("indent_char", "indent_width", "initial_indent", "legal_path"), ["word", "whole", "number", "text"]);
+  const [name, reference] = format.types.get("IdentifierReference");
+  assert.deepEqual([name.isNeeded, reference.isNeeded, reference.kind], [true, false, "number"]);
+});
+
+// Of jobs whose one row is the program.
+const HEADS = [
+  ['"symbols":[],"references":[],"private":[]', null],
+  ['"symbols":null,"references":null,"private":null', null],
+  ['"symbols":["a",""],"references":[0,null,4294967295],"private":[{},{"a":"b"}]', null],
+  ['"private":[{"a":1,"a":"b"}]', null],
+  ['"symbols":["a",null]', "Wrong head field 1"],
+  ['"symbols":[["a"]]', "Wrong head field 1"],
+  ['"symbols":{"0":"a"}', "Wrong head field 1"],
+  ['"symbols":[1,0.5]', "Float head field 1"],
+  ['"references":[4294967296]', "Wrong head field 2"],
+  ['"references":[-1]', "Wrong head field 2"],
+  ['"references":["0"]', "Wrong head field 2"],
+  ['"references":["0",-0]', "Float head field 2"],
+  ['"private":[null]', "Wrong head field 3"],
+  ['"private":[{"a":null}]', "Wrong head field 3"],
+  ['"private":{"a":"b"}', "Wrong head field 3"],
+  ['"private":[{"a":[{"b":1e0}]}]', "Float head field 3"],
+  ['"private":0.5,"references":true,"symbols":["a"]', "Wrong head field 2"],
+  ['"options":{"legal":"linked"}', "Wrong head field 0"],
+  ['"options":{"legal":"linked","legal_path":null}', "Wrong head field 0"],
+  ['"options":{"legal":"linked","legal_path":""}', null],
+  ['"options":{"legal":"eof","legal_path":"a.txt","source_map_path":"a.map"}', null],
+  ['"options":{"normal":true,"jsdoc":false,"annotation":null}', null],
+  ['"options":{"annotation":1}', "Wrong head field 0"],
+  ['"options":{"source_map_path":["a"]}', "Wrong head field 0"],
+  ['"options":{"other":[0.5],"legal":7}', "Float head field 0"],
+];
+
+test("the tables and the options of a head have their faults", () => {
+  for (const [members, wanted] of HEADS) {
+    const job = `{${members},"rows":[{"type":"Program","kind":"module"}]}`;
+    assert.equal(firstFault(format, Buffer.from(job)), wanted, job);
+  }
 });
 
 test("numbers are whole or floats as serde_json has them", () => {
@@ -114,7 +153,8 @@ test("each damage comes, and each kind of fault in each place", () => {
   }
   assert.deepEqual([...damages].sort(), [...Object.keys(DAMAGES), ...Object.keys(SPOILINGS)].sort());
   const wrong = [0, 1, 2, 3, 4].map((at) => `Wrong head field ${at}`);
-  const head = ["Float head field 0", "Float head field 4", "Missing head field 4", ...wrong];
+  const floats = [0, 1, 2, 3, 4].map((at) => `Float head field ${at}`);
+  const head = [...floats, "Missing head field 4", ...wrong];
   const rows = ["Missing", "Float", "Wrong", "Child"].map((kind) => `${kind} field`);
   const fronts = ["Missing row field 0", "Float row field 0", "Wrong row field 0", "Float row field 1", "Wrong row field 1"];
   for (const wanted of [undefined, "Json", "Shared row", ...head, ...rows, ...fronts]) assert.ok(faults.has(wanted), wanted);

@@ -11,7 +11,7 @@ CHECK = "crates/jsgen_check"
 PROOFS = "Rattle.jsgen_check.proofs"
 VERDICT = "Rattle.jsgen_check.specs.Verdict"
 AROUND = "around: Surroundings<'_>"
-STEPS = ["no_rules", "two_children", "last_child", "of_row", "none_before", "turn", "turns_end", "turn_or_hole", "turns_or_holes_end"]
+STEPS = ["no_rules", "two_children", "last_child", "of_row", "none_before", "turn", "turn_copied", "turns_end", "turn_or_hole", "turns_or_holes_end"]
 PROGRAM = "Program"  # its row stands by hand, in crates/jsgen_check/src/program.rt
 RESULT = "Result<u64, TreeFault>"
 LISTS_THAT_ARE_TYPES = ["FormalParameter"]  # the plural of its name is the name of another type
@@ -119,15 +119,14 @@ def highest(names):
 def of_row(table, n):
     of, parameter = typed(table, n.name)
     below = calls(table, n)
-    body = "" if n.rules or below else "    let _ = around;\n"
-    body += f"    let rules = {rules(n)}(node, around);\n" if n.rules else ""
+    body = f"    let rules = {rules(n)}(node, around);\n" if n.rules else ""
     body += "".join(f"    let {name} = {call};\n" for name, call, _, _ in below)
     own = "rules" if n.rules else "Ok(())"
     children = highest([name for name, _, _, _ in below]) if below else "Ok(0)"
     return f"""pub fn {check(n.name)}{parameter}(node: &{of}, {AROUND}) -> {RESULT}
     ensures {{ result ≡ tree_verdict around.entry ({plain(table, n.name)} node.now) }}
 {{
-{body}    check_node(node.span, {own}, {children})
+{body}    check_node(around, node.span, {own}, {children})
 }}"""
 
 
@@ -249,11 +248,14 @@ def list_answers(table, kind):
     row = each(table, kind, "g.N.CheckNode.plain")
     every = f"c.loop-node.below c.args.around sets.{kind} {row} c.args.nodes.now c.loop-node.node-index"
     item = "c.node-item.result c.loop-node-test.true c.node-item.is"
+    step = f"turn {every} {item}"
+    if kind in table.nodes and table.nodes[kind].is_copy:  # the proof has no name for such an item
+        step = f"turn_copied {every} _ c.loop-node-test.true"
     body = f"""pub loop-node-init : goal.loop-node-init
 loop-node-init {g}c = none_before _
 
 pub loop-node-preserved : goal.loop-node-preserved
-loop-node-preserved {g}c = turn {every} {item} c.loop-node.invariant c.higher-below.ensures {said}
+loop-node-preserved {g}c = {step} c.loop-node.invariant c.higher-below.ensures {said}
 
 pub returns : goal.returns
 returns {g}c = turns_end {every} c.loop-node-test.false c.loop-node.invariant"""

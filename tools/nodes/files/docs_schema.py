@@ -24,8 +24,11 @@ OPTIONS = {
     "legal_path": VALUES["text"],
     "source_map_path": VALUES["text"],
 }
-# comments that are linked have a path
-LINKED = {"if": {"properties": {"legal": {"const": "linked"}}, "required": ["legal"]}, "then": {"properties": {"legal_path": VALUES["text"]}, "required": ["legal_path"]}}
+# Legal comments that are linked stand at a path.
+LINKED = {
+    "if": {"required": ["legal"], "properties": {"legal": {"const": "linked"}}},
+    "then": {"required": ["legal_path"], "properties": {"legal_path": VALUES["text"]}},
+}
 ROW = {"$ref": "#/$defs/row number"}
 
 
@@ -39,15 +42,19 @@ def write(table):
         "required": ["rows"],
         "properties": {
             "options": or_null({"type": "object", "properties": options} | LINKED),
-            "symbols": or_null({"type": "array", "items": VALUES["text"]}),
-            "references": or_null({"type": "array", "items": or_null(VALUES["number"])}),
-            "private": or_null({"type": "array", "items": {"type": "object", "additionalProperties": VALUES["text"]}}),
+            "symbols": or_null(listed(VALUES["text"])),
+            "references": or_null(listed(or_null(VALUES["number"]))),
+            "private": or_null(listed({"type": "object", "additionalProperties": VALUES["text"]})),
             "rows": {"type": "array", "minItems": 1, "items": {"$ref": "#/$defs/row"}},
         },
         "$defs": {"row number": {"type": "integer", "minimum": 0}, "row": any_row(table)}
         | {n.name: row(table, n) for n in table.nodes.values()},
     }
     return {"docs/job.schema.json": json.dumps(schema, indent=1, ensure_ascii=False) + "\n"}
+
+
+def listed(schema):
+    return {"type": "array", "items": schema}
 
 
 def or_null(schema):

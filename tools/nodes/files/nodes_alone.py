@@ -74,7 +74,7 @@ def of_type(table, name):
         return f"""{head(table, 'PrintAtLevel', name)} {{
     ghost plain = {{ {plain(table, name)} }};
 
-    fn print_at(&self, p: &mut Printer, place: Place) -> Result<(), Memory> {{
+    fn print_at(&self, p: &mut Printer<'_>, place: Place) -> Result<(), Memory> {{
         {body(table, name, 'place')}
     }}
 }}"""
@@ -85,7 +85,7 @@ def of_type(table, name):
 
     fn print_alone(
         &self,
-        p: &mut Printer,
+        p: &mut Printer<'_>,
         settings: Settings,
         context: Context,
     ) -> Result<(), Memory> {{

@@ -68,7 +68,7 @@ def function(table, s, at):
     requires = f"    requires {{ nat_le {at} ({snake(s.name)}_part node.now) ≡ true }}\n" if at else ""
     return f"""{'' if at else 'pub '}fn {function_name(table, s, at)}{'<N: PrintNode>' if generic else ''}(
     node: &{s.name}{'<N>' if generic else ''},
-    p: &mut Printer,
+    p: &mut Printer<'_>,
     place: Place,
 ) -> Result<(), Memory>
 {requires}    ensures {{ Reaches result (pen_of p.old) (pen_of p.new) (pen_after ({plain_of(table, s)} node.now) place p.old) }}

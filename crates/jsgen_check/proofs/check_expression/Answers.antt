@@ -1,12 +1,11 @@
-use Rattle.std.proofs.Common.{◌∙◌, ap}
+use Rattle.std.proofs.Common.{◌∙◌, ap, false}
 use Rattle.std.proofs.lemmas.Str.{chars-nil}
 use Rattle.jsgen_tree.specs.Options.{options_plain}
-use Rattle.jsgen_tree.specs.Job.{no_tables}
 use Rattle.jsgen_tree.specs.Rows.{expression_plain}
 use Rattle.jsgen_tree.specs.Plain.{node_plain}
 use Rattle.jsgen_tree.specs.Tree.{span_of}
 use Rattle.jsgen_tree.proofs.Knot.{plain_expression, expression_spans}
-use Rattle.jsgen_check.specs.Verdict.{surroundings_plain}
+use Rattle.jsgen_check.specs.Verdict.{tables_of, surroundings_plain}
 use Rattle.jsgen_check.proofs.Alone.{of_expression}
 use Rattle.jsgen_check.proofs.check_expression.Goals as goal
 
@@ -14,6 +13,7 @@ pub returns : goal.returns
 unfolding surroundings_plain
 returns c =
     let options = options_plain c.args.options.now in
+    let tables = tables_of c.args.scoping c.args.private in
     let span = expression_spans c.args.expression.now ∙ ap span_of (plain_expression c.args.expression.now) in
-    let same = ap (λ x. record { options = options; tables = no_tables; source = x }) chars-nil in
-    of_expression _ options no_tables _ (expression_plain node_plain c.args.expression.now) same (c.span.ensures ∙ span) c.check_top.ensures c.check_alone-found.ensures
+    let same = ap (λ x. record { options = options; tables = tables; source = x; is_mapped = false }) chars-nil in
+    of_expression _ options tables _ (expression_plain node_plain c.args.expression.now) same (c.span.ensures ∙ span) c.check_top.ensures c.check_alone-found.ensures

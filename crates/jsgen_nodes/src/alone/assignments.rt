@@ -15,7 +15,7 @@ use jsgen_tree::{AssignmentExpression, ConditionalExpression, SequenceExpression
 impl<N: PrintNode> PrintAtLevel for ConditionalExpression<N> {
     ghost plain = { conditional_expression_row N.plain };
 
-    fn print_at(&self, p: &mut Printer, place: Place) -> Result<(), Memory> {
+    fn print_at(&self, p: &mut Printer<'_>, place: Place) -> Result<(), Memory> {
         print_conditional_expression(self, p, place)
     }
 }
@@ -24,7 +24,7 @@ impl<N: PrintNode> PrintAtLevel for ConditionalExpression<N> {
 impl<N: PrintNode> PrintAtLevel for SequenceExpression<N> {
     ghost plain = { sequence_expression_row N.plain };
 
-    fn print_at(&self, p: &mut Printer, place: Place) -> Result<(), Memory> {
+    fn print_at(&self, p: &mut Printer<'_>, place: Place) -> Result<(), Memory> {
         print_sequence_expression(self, p, place)
     }
 }
@@ -33,7 +33,7 @@ impl<N: PrintNode> PrintAtLevel for SequenceExpression<N> {
 impl<N: PrintNode> PrintAtLevel for AssignmentExpression<N> {
     ghost plain = { assignment_expression_row N.plain };
 
-    fn print_at(&self, p: &mut Printer, place: Place) -> Result<(), Memory> {
+    fn print_at(&self, p: &mut Printer<'_>, place: Place) -> Result<(), Memory> {
         print_assignment_expression(self, p, place)
     }
 }

@@ -19,7 +19,7 @@ impl<N: PrintNode> PrintAlone for SpreadElement<N> {
 
     fn print_alone(
         &self,
-        p: &mut Printer,
+        p: &mut Printer<'_>,
         settings: Settings,
         context: Context,
     ) -> Result<(), Memory> {
@@ -33,7 +33,7 @@ impl<N: PrintNode> PrintAlone for ArrayExpression<N> {
 
     fn print_alone(
         &self,
-        p: &mut Printer,
+        p: &mut Printer<'_>,
         settings: Settings,
         context: Context,
     ) -> Result<(), Memory> {
@@ -47,7 +47,7 @@ impl<N: PrintNode> PrintAlone for ObjectProperty<N> {
 
     fn print_alone(
         &self,
-        p: &mut Printer,
+        p: &mut Printer<'_>,
         settings: Settings,
         context: Context,
     ) -> Result<(), Memory> {
@@ -59,7 +59,7 @@ impl<N: PrintNode> PrintAlone for ObjectProperty<N> {
 impl<N: PrintNode> PrintAtLevel for ObjectExpression<N> {
     ghost plain = { object_expression_row N.plain };
 
-    fn print_at(&self, p: &mut Printer, place: Place) -> Result<(), Memory> {
+    fn print_at(&self, p: &mut Printer<'_>, place: Place) -> Result<(), Memory> {
         print_object_expression(self, p, place)
     }
 }

@@ -30,7 +30,7 @@ impl PrintAlone for IdentifierReference {
 
     fn print_alone(
         &self,
-        p: &mut Printer,
+        p: &mut Printer<'_>,
         settings: Settings,
         context: Context,
     ) -> Result<(), Memory> {
@@ -44,7 +44,7 @@ impl PrintAlone for ThisExpression {
 
     fn print_alone(
         &self,
-        p: &mut Printer,
+        p: &mut Printer<'_>,
         settings: Settings,
         context: Context,
     ) -> Result<(), Memory> {
@@ -58,7 +58,7 @@ impl PrintAlone for NullLiteral {
 
     fn print_alone(
         &self,
-        p: &mut Printer,
+        p: &mut Printer<'_>,
         settings: Settings,
         context: Context,
     ) -> Result<(), Memory> {
@@ -72,7 +72,7 @@ impl PrintAlone for BooleanLiteral {
 
     fn print_alone(
         &self,
-        p: &mut Printer,
+        p: &mut Printer<'_>,
         settings: Settings,
         context: Context,
     ) -> Result<(), Memory> {
@@ -84,7 +84,7 @@ impl PrintAlone for BooleanLiteral {
 impl PrintAtLevel for NumericLiteral {
     ghost plain = { numeric_literal_row };
 
-    fn print_at(&self, p: &mut Printer, place: Place) -> Result<(), Memory> {
+    fn print_at(&self, p: &mut Printer<'_>, place: Place) -> Result<(), Memory> {
         print_numeric_literal(self, p, place)
     }
 }
@@ -93,7 +93,7 @@ impl PrintAtLevel for NumericLiteral {
 impl PrintAtLevel for BigIntLiteral {
     ghost plain = { big_int_literal_row };
 
-    fn print_at(&self, p: &mut Printer, place: Place) -> Result<(), Memory> {
+    fn print_at(&self, p: &mut Printer<'_>, place: Place) -> Result<(), Memory> {
         print_big_int_literal(self, p, place)
     }
 }
@@ -104,7 +104,7 @@ impl PrintAlone for StringLiteral {
 
     fn print_alone(
         &self,
-        p: &mut Printer,
+        p: &mut Printer<'_>,
         settings: Settings,
         context: Context,
     ) -> Result<(), Memory> {
@@ -116,7 +116,7 @@ impl PrintAlone for StringLiteral {
 impl<N: PrintNode> PrintAtLevel for ParenthesizedExpression<N> {
     ghost plain = { parenthesized_expression_row N.plain };
 
-    fn print_at(&self, p: &mut Printer, place: Place) -> Result<(), Memory> {
+    fn print_at(&self, p: &mut Printer<'_>, place: Place) -> Result<(), Memory> {
         print_parenthesized_expression(self, p, place)
     }
 }
@@ -125,7 +125,7 @@ impl<N: PrintNode> PrintAtLevel for ParenthesizedExpression<N> {
 impl<N: PrintNode> PrintAtLevel for BinaryExpression<N> {
     ghost plain = { binary_expression_row N.plain };
 
-    fn print_at(&self, p: &mut Printer, place: Place) -> Result<(), Memory> {
+    fn print_at(&self, p: &mut Printer<'_>, place: Place) -> Result<(), Memory> {
         print_binary_expression(self, p, place)
     }
 }
@@ -134,7 +134,7 @@ impl<N: PrintNode> PrintAtLevel for BinaryExpression<N> {
 impl<N: PrintNode> PrintAtLevel for LogicalExpression<N> {
     ghost plain = { logical_expression_row N.plain };
 
-    fn print_at(&self, p: &mut Printer, place: Place) -> Result<(), Memory> {
+    fn print_at(&self, p: &mut Printer<'_>, place: Place) -> Result<(), Memory> {
         print_logical_expression(self, p, place)
     }
 }
@@ -145,7 +145,7 @@ impl PrintAlone for IdentifierName {
 
     fn print_alone(
         &self,
-        p: &mut Printer,
+        p: &mut Printer<'_>,
         settings: Settings,
         context: Context,
     ) -> Result<(), Memory> {
@@ -157,7 +157,7 @@ impl PrintAlone for IdentifierName {
 impl<N: PrintNode> PrintAtLevel for StaticMemberExpression<N> {
     ghost plain = { static_member_expression_row N.plain };
 
-    fn print_at(&self, p: &mut Printer, place: Place) -> Result<(), Memory> {
+    fn print_at(&self, p: &mut Printer<'_>, place: Place) -> Result<(), Memory> {
         print_static_member_expression(self, p, place)
     }
 }
@@ -166,7 +166,7 @@ impl<N: PrintNode> PrintAtLevel for StaticMemberExpression<N> {
 impl<N: PrintNode> PrintAtLevel for ComputedMemberExpression<N> {
     ghost plain = { computed_member_expression_row N.plain };
 
-    fn print_at(&self, p: &mut Printer, place: Place) -> Result<(), Memory> {
+    fn print_at(&self, p: &mut Printer<'_>, place: Place) -> Result<(), Memory> {
         print_computed_member_expression(self, p, place)
     }
 }
@@ -175,7 +175,7 @@ impl<N: PrintNode> PrintAtLevel for ComputedMemberExpression<N> {
 impl<N: PrintNode> PrintAtLevel for CallExpression<N> {
     ghost plain = { call_expression_row N.plain };
 
-    fn print_at(&self, p: &mut Printer, place: Place) -> Result<(), Memory> {
+    fn print_at(&self, p: &mut Printer<'_>, place: Place) -> Result<(), Memory> {
         print_call_expression(self, p, place)
     }
 }
@@ -184,7 +184,7 @@ impl<N: PrintNode> PrintAtLevel for CallExpression<N> {
 impl<N: PrintNode> PrintAtLevel for ChainExpression<N> {
     ghost plain = { chain_expression_row N.plain };
 
-    fn print_at(&self, p: &mut Printer, place: Place) -> Result<(), Memory> {
+    fn print_at(&self, p: &mut Printer<'_>, place: Place) -> Result<(), Memory> {
         print_chain_expression(self, p, place)
     }
 }

@@ -20,7 +20,7 @@ impl<N: PrintNode> PrintAlone for FormalParameter<N> {
 
     fn print_alone(
         &self,
-        p: &mut Printer,
+        p: &mut Printer<'_>,
         settings: Settings,
         context: Context,
     ) -> Result<(), Memory> {
@@ -34,7 +34,7 @@ impl<N: PrintNode> PrintAlone for FormalParameterRest<N> {
 
     fn print_alone(
         &self,
-        p: &mut Printer,
+        p: &mut Printer<'_>,
         settings: Settings,
         context: Context,
     ) -> Result<(), Memory> {
@@ -48,7 +48,7 @@ impl<N: PrintNode> PrintAlone for FormalParameters<N> {
 
     fn print_alone(
         &self,
-        p: &mut Printer,
+        p: &mut Printer<'_>,
         settings: Settings,
         context: Context,
     ) -> Result<(), Memory> {
@@ -60,7 +60,7 @@ impl<N: PrintNode> PrintAlone for FormalParameters<N> {
 impl<N: PrintNode> PrintAtLevel for ArrowFunctionExpression<N> {
     ghost plain = { arrow_function_expression_row N.plain };
 
-    fn print_at(&self, p: &mut Printer, place: Place) -> Result<(), Memory> {
+    fn print_at(&self, p: &mut Printer<'_>, place: Place) -> Result<(), Memory> {
         print_arrow_function_expression(self, p, place)
     }
 }

@@ -18,7 +18,7 @@ use jsgen_tree::{NewExpression, NewTarget, Super, UnaryExpression, UpdateExpress
 impl<N: PrintNode> PrintAtLevel for UnaryExpression<N> {
     ghost plain = { unary_expression_row N.plain };
 
-    fn print_at(&self, p: &mut Printer, place: Place) -> Result<(), Memory> {
+    fn print_at(&self, p: &mut Printer<'_>, place: Place) -> Result<(), Memory> {
         print_unary_expression(self, p, place)
     }
 }
@@ -29,7 +29,7 @@ impl PrintAlone for NewTarget {
 
     fn print_alone(
         &self,
-        p: &mut Printer,
+        p: &mut Printer<'_>,
         settings: Settings,
         context: Context,
     ) -> Result<(), Memory> {
@@ -41,7 +41,7 @@ impl PrintAlone for NewTarget {
 impl<N: PrintNode> PrintAtLevel for UpdateExpression<N> {
     ghost plain = { update_expression_row N.plain };
 
-    fn print_at(&self, p: &mut Printer, place: Place) -> Result<(), Memory> {
+    fn print_at(&self, p: &mut Printer<'_>, place: Place) -> Result<(), Memory> {
         print_update_expression(self, p, place)
     }
 }
@@ -50,7 +50,7 @@ impl<N: PrintNode> PrintAtLevel for UpdateExpression<N> {
 impl<N: PrintNode> PrintAtLevel for NewExpression<N> {
     ghost plain = { new_expression_row N.plain };
 
-    fn print_at(&self, p: &mut Printer, place: Place) -> Result<(), Memory> {
+    fn print_at(&self, p: &mut Printer<'_>, place: Place) -> Result<(), Memory> {
         print_new_expression(self, p, place)
     }
 }
@@ -61,7 +61,7 @@ impl PrintAlone for Super {
 
     fn print_alone(
         &self,
-        p: &mut Printer,
+        p: &mut Printer<'_>,
         settings: Settings,
         context: Context,
     ) -> Result<(), Memory> {

@@ -21,7 +21,7 @@ use jsgen_tree::{
 impl<N: PrintNode> PrintAtLevel for Expression<N> {
     ghost plain = { expression_plain N.plain };
 
-    fn print_at(&self, p: &mut Printer, place: Place) -> Result<(), Memory> {
+    fn print_at(&self, p: &mut Printer<'_>, place: Place) -> Result<(), Memory> {
         print_expression(self, p, place)
     }
 }
@@ -32,7 +32,7 @@ impl<N: PrintNode> PrintAlone for Argument<N> {
 
     fn print_alone(
         &self,
-        p: &mut Printer,
+        p: &mut Printer<'_>,
         settings: Settings,
         context: Context,
     ) -> Result<(), Memory> {
@@ -51,7 +51,7 @@ impl<N: PrintNode> PrintAlone for ArrayExpressionElement<N> {
 
     fn print_alone(
         &self,
-        p: &mut Printer,
+        p: &mut Printer<'_>,
         settings: Settings,
         context: Context,
     ) -> Result<(), Memory> {
@@ -68,7 +68,7 @@ impl<N: PrintNode> PrintAlone for ArrayExpressionElement<N> {
 impl<N: PrintNode> PrintAtLevel for SimpleAssignmentTarget<N> {
     ghost plain = { in_simple_assignment_target N.plain };
 
-    fn print_at(&self, p: &mut Printer, place: Place) -> Result<(), Memory> {
+    fn print_at(&self, p: &mut Printer<'_>, place: Place) -> Result<(), Memory> {
         match self {
             SimpleAssignmentTarget::IdentifierReference(node) => print_identifier_reference(
                 node, p, place,
@@ -88,7 +88,7 @@ impl<N: PrintNode> PrintAlone for AssignmentTarget<N> {
 
     fn print_alone(
         &self,
-        p: &mut Printer,
+        p: &mut Printer<'_>,
         settings: Settings,
         context: Context,
     ) -> Result<(), Memory> {
@@ -114,7 +114,7 @@ impl<N: PrintNode> PrintAlone for ObjectPropertyKind<N> {
 
     fn print_alone(
         &self,
-        p: &mut Printer,
+        p: &mut Printer<'_>,
         settings: Settings,
         context: Context,
     ) -> Result<(), Memory> {
@@ -133,7 +133,7 @@ impl<N: PrintNode> PrintAlone for PropertyKey<N> {
 
     fn print_alone(
         &self,
-        p: &mut Printer,
+        p: &mut Printer<'_>,
         settings: Settings,
         context: Context,
     ) -> Result<(), Memory> {
@@ -148,7 +148,7 @@ impl<N: PrintNode> PrintAlone for Statement<N> {
 
     fn print_alone(
         &self,
-        p: &mut Printer,
+        p: &mut Printer<'_>,
         settings: Settings,
         context: Context,
     ) -> Result<(), Memory> {
@@ -163,7 +163,7 @@ impl PrintAlone for BindingPattern {
 
     fn print_alone(
         &self,
-        p: &mut Printer,
+        p: &mut Printer<'_>,
         settings: Settings,
         context: Context,
     ) -> Result<(), Memory> {

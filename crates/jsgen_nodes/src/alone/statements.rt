@@ -24,7 +24,7 @@ impl<N: PrintNode> PrintAlone for Program<N> {
 
     fn print_alone(
         &self,
-        p: &mut Printer,
+        p: &mut Printer<'_>,
         settings: Settings,
         context: Context,
     ) -> Result<(), Memory> {
@@ -39,7 +39,7 @@ impl PrintAlone for Directive {
 
     fn print_alone(
         &self,
-        p: &mut Printer,
+        p: &mut Printer<'_>,
         settings: Settings,
         context: Context,
     ) -> Result<(), Memory> {
@@ -54,7 +54,7 @@ impl<N: PrintNode> PrintAlone for VariableDeclaration<N> {
 
     fn print_alone(
         &self,
-        p: &mut Printer,
+        p: &mut Printer<'_>,
         settings: Settings,
         context: Context,
     ) -> Result<(), Memory> {
@@ -68,7 +68,7 @@ impl<N: PrintNode> PrintAlone for VariableDeclarator<N> {
 
     fn print_alone(
         &self,
-        p: &mut Printer,
+        p: &mut Printer<'_>,
         settings: Settings,
         context: Context,
     ) -> Result<(), Memory> {
@@ -82,7 +82,7 @@ impl PrintAlone for BindingIdentifier {
 
     fn print_alone(
         &self,
-        p: &mut Printer,
+        p: &mut Printer<'_>,
         settings: Settings,
         context: Context,
     ) -> Result<(), Memory> {
@@ -96,7 +96,7 @@ impl<N: PrintNode> PrintAlone for ExpressionStatement<N> {
 
     fn print_alone(
         &self,
-        p: &mut Printer,
+        p: &mut Printer<'_>,
         settings: Settings,
         context: Context,
     ) -> Result<(), Memory> {
@@ -111,7 +111,7 @@ impl<N: PrintNode> PrintAlone for BlockStatement<N> {
 
     fn print_alone(
         &self,
-        p: &mut Printer,
+        p: &mut Printer<'_>,
         settings: Settings,
         context: Context,
     ) -> Result<(), Memory> {
@@ -126,7 +126,7 @@ impl<N: PrintNode> PrintAlone for IfStatement<N> {
 
     fn print_alone(
         &self,
-        p: &mut Printer,
+        p: &mut Printer<'_>,
         settings: Settings,
         context: Context,
     ) -> Result<(), Memory> {
@@ -141,7 +141,7 @@ impl PrintAlone for EmptyStatement {
 
     fn print_alone(
         &self,
-        p: &mut Printer,
+        p: &mut Printer<'_>,
         settings: Settings,
         context: Context,
     ) -> Result<(), Memory> {

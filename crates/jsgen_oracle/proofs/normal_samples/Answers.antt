@@ -40,7 +40,7 @@ begins_with_name (tree.binary a left right) = is_name left
 begins_with_name t = false
 
 abbrev begins_with_a : Tree → Bool
-begins_with_a (tree.program a directives (more (tree.expression_statement b e) ts)) = is_a e
+begins_with_a (tree.program a comments directives (more (tree.expression_statement b e) ts)) = is_a e
 begins_with_a t = false
 
 abbrev is_conjunction : Tree → Bool
@@ -60,7 +60,7 @@ has_alternate (tree.if_statement a test consequent (given alternate)) = true
 has_alternate t = false
 
 abbrev has_directives : Tree → Bool
-has_directives (tree.program a no_trees body) = false
+has_directives (tree.program a comments no_trees body) = false
 has_directives t = true
 
 abbrev has_bare_parameter : Tree → Bool

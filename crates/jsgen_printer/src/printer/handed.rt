@@ -11,7 +11,7 @@ use jsgen_syntax::Memory;
 use jsgen_text::print_str_escaping_script_close_tag;
 
 #[tactic(auto, unfolding(crate::specs::Printer::pen_of))]
-impl Printer {
+impl Printer<'_> {
     /// One byte of ASCII, as it is handed in.
     pub fn append_ascii_byte(&mut self, byte: u8) -> Result<(), Memory>
         requires { byte < 128 }

@@ -12,7 +12,7 @@ use super::{Ending, Printer};
 use jsgen_syntax::{Memory, UnaryOperator};
 
 #[tactic(auto, unfolding(crate::specs::Printer::pen_of))]
-impl Printer {
+impl Printer<'_> {
     // What the code ends in behind a number.
     fn number_ending(dot_is_its_own: bool) -> Ending
         ensures { ending_of result ≡ number_ending dot_is_its_own }

@@ -3,7 +3,7 @@
 use Rattle.std.proofs.Common.{refl, sym, ◌∙◌}
 use Rattle.jsgen_tree.specs.Rows.{comment_row}
 use Rattle.jsgen_check.proofs.Verdicts.{of_right_set}
-use Rattle.jsgen_check.proofs.Steps.{none_before, turn, turns_end}
+use Rattle.jsgen_check.proofs.Steps.{none_before, turn_copied, turns_end}
 use Rattle.jsgen_tree.specs.declared.types.NodeSet.TheVariants as sets
 use Rattle.jsgen_check.proofs.children.check_comments.Goals as goal
 
@@ -11,7 +11,7 @@ pub loop-node-init : goal.loop-node-init
 loop-node-init c = none_before _
 
 pub loop-node-preserved : goal.loop-node-preserved
-loop-node-preserved c = turn c.loop-node.below c.args.around sets.Comment comment_row c.args.nodes.now c.loop-node.node-index c.node-item.result c.loop-node-test.true c.node-item.is c.loop-node.invariant c.higher-below.ensures (c.check_comment-found.ensures ∙ sym (of_right_set _ sets.Comment _ refl))
+loop-node-preserved c = turn_copied c.loop-node.below c.args.around sets.Comment comment_row c.args.nodes.now c.loop-node.node-index _ c.loop-node-test.true c.loop-node.invariant c.higher-below.ensures (c.check_comment-found.ensures ∙ sym (of_right_set _ sets.Comment _ refl))
 
 pub returns : goal.returns
 returns c = turns_end c.loop-node.below c.args.around sets.Comment comment_row c.args.nodes.now c.loop-node.node-index c.loop-node-test.false c.loop-node.invariant

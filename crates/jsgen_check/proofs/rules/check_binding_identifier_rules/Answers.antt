@@ -1,4 +1,7 @@
+use Rattle.jsgen_check.specs.Verdict.{surroundings_plain}
+use Rattle.jsgen_check.proofs.Numbers.{as_given}
 use Rattle.jsgen_check.proofs.rules.check_binding_identifier_rules.Goals as goal
 
 pub returns : goal.returns
-returns c = rw c.deref.ensures at c.check_name.ensures
+unfolding surroundings_plain
+returns c = rw as_given (rw c.deref.ensures at c.check_binding.ensures)

@@ -6,7 +6,7 @@ use Rattle.jsgen_printer.specs.Printer.{pen_of, name_written}
 use Rattle.jsgen_printer.proofs.Prefixes.{prefix_append}
 use Rattle.jsgen_printer.proofs.Stops.{stopped, stops_apart, reaches_last}
 use Rattle.jsgen_printer.proofs.Texts.{name_apart}
-use Rattle.jsgen_printer.proofs.printer.Printer.print_name.Goals as goal
+use Rattle.jsgen_printer.proofs.printer.Printer.print_name_apart.Goals as goal
 
 pub returns-in_err-print_if : goal.returns-in_err-print_if
 returns-in_err-print_if c =

@@ -1,0 +1,63 @@
+// Names: as they are written, or by the tables.
+ghost use Rattle.std.specs.Prelude.{◌≡◌, bytes_eq};
+ghost use Rattle.std.specs.Str.{chars};
+ghost use Rattle.jsgen_tree.specs.Named.{as_written, looked_up, bound};
+ghost use Rattle.jsgen_model.specs.Items.{name};
+ghost use Rattle.jsgen_model.specs.Layout.{layout, with_name, are_same};
+ghost use Rattle.jsgen_model.specs.Printing.{Reaches};
+ghost use Rattle.jsgen_printer.specs.Printer.{pen_of};
+
+use super::Printer;
+use jsgen_syntax::Memory;
+
+#[tactic(auto, unfolding(crate::specs::Printer::pen_of))]
+impl Printer<'_> {
+    /// A name as it is written, by no table.
+    pub fn print_name(&mut self, text: &str) -> Result<(), Memory>
+        ensures { Reaches result (pen_of self.old) (pen_of self.new)
+            (layout (name (as_written (chars text.now))) (pen_of self.old)) }
+    {
+        self.print_name_apart(text)
+    }
+
+    /// A name that is looked up, by the number of its reference.
+    pub fn print_reference(&mut self, text: &str, reference: Option<u32>) -> Result<(), Memory>
+        ensures { Reaches result (pen_of self.old) (pen_of self.new)
+            (layout (name (looked_up reference (chars text.now))) (pen_of self.old)) }
+    {
+        let printed = self.tables.reference_name(reference, text);
+        self.print_name_apart(printed)
+    }
+
+    /// A name that is bound, by the number of its symbol.
+    pub fn print_binding(&mut self, text: &str, symbol: Option<u32>) -> Result<(), Memory>
+        ensures { Reaches result (pen_of self.old) (pen_of self.new)
+            (layout (name (bound symbol (chars text.now))) (pen_of self.old)) }
+    {
+        let printed = self.tables.binding_name(symbol, text);
+        self.print_name_apart(printed)
+    }
+
+    /// Whether a name that is looked up is printed as this one is written.
+    pub fn prints_as(&self, text: &str, reference: Option<u32>, written: &str) -> bool
+        ensures { result ≡ are_same (pen_of self.now).style.tables (looked_up reference (chars text.now)) (as_written (chars written.now)) }
+    {
+        is_same(self.tables.reference_name(reference, text), written)
+    }
+
+    // A name, apart from a word that the code ends in.
+    fn print_name_apart(&mut self, text: &str) -> Result<(), Memory>
+        ensures { Reaches result (pen_of self.old) (pen_of self.new)
+            (with_name (chars text.now) (pen_of self.old)) }
+    {
+        let apart = self.is_apart();
+        self.print_if(apart, " ")?;
+        self.print_bare_name(text)
+    }
+}
+
+fn is_same(a: &str, b: &str) -> bool
+    ensures { result ≡ bytes_eq (chars a.now) (chars b.now) }
+{
+    a == b
+}

@@ -1,0 +1,98 @@
+-- What stays as it is where names are printed by tables; and without tables all does.
+use Rattle.std.specs.Option.{option_map_or}
+use Rattle.std.proofs.Common.{◌≡◌, false, ◌&&◌, ◌||◌, [], ◌∷◌, refl, ap}
+use Rattle.jsgen_tree.specs.Atom.{no_value, declaration_kind, binary_operator, logical_operator, unary_operator, update_operator, assignment_operator, flag, property_kind}
+use Rattle.jsgen_tree.specs.Tree.{Tree, node, Slots, no_slots, one, maybe, many, maybe_many, Maybe, absent, given, Trees, no_trees, more, hole, MaybeTrees, no_list, listed}
+use Rattle.jsgen_tree.specs.Places.{bare}
+use Rattle.jsgen_tree.specs.Values.{variable_declaration_kind, variable_declaration_declare, variable_declarator_definite, static_member_expression_optional, computed_member_expression_optional, call_expression_optional, binary_expression_operator, logical_expression_operator, unary_expression_operator, update_expression_operator, update_expression_prefix, object_property_kind, object_property_method, object_property_shorthand, object_property_computed, assignment_expression_operator, formal_parameter_is_override, formal_parameter_readonly, formal_parameter_optional, arrow_function_expression_is_async}
+use Rattle.jsgen_tree.specs.Inside.{written_name_in, is_proto, is_negative_number}
+use Rattle.jsgen_tree.specs.Job.{Tables, no_tables}
+use Rattle.jsgen_tree.specs.Nodes as tree
+use Rattle.jsgen_model.specs.Normal.{normal, normal_slots, normal_maybe, normal_trees, normal_maybe_trees, unbraced, nothing_of, chain, joined, links, flattened, link_values, call_values}
+use Rattle.jsgen_model.specs.Renamed.{renamed, renamed_slots, renamed_maybe, renamed_trees, renamed_maybe_trees}
+
+-- ---- by any tables
+
+-- no key gets another name, or another sign
+pub written_as_it_was : (names : Tables) (t : Tree) → written_name_in (renamed names t) ≡ written_name_in t
+written_as_it_was names (tree.identifier_reference a) = refl
+written_as_it_was names (tree.binding_identifier a) = refl
+written_as_it_was names (tree.identifier_name a) = refl
+written_as_it_was names t = refl
+
+pub signed_as_it_was : (names : Tables) (t : Tree) → is_negative_number (renamed names t) ≡ is_negative_number t
+signed_as_it_was names (tree.identifier_reference a) = refl
+signed_as_it_was names (tree.binding_identifier a) = refl
+signed_as_it_was names (tree.numeric_literal a) = refl
+signed_as_it_was names t = refl
+
+-- ---- without tables
+
+mutual
+  pub unrenamed : (t : Tree) → normal (renamed no_tables t) ≡ normal t
+  unrenamed (tree.program a comments directives body) = let e = unrenamed_trees directives in let f = unrenamed_trees body in λ i. tree.program (nothing_of 4) no_trees (e i) (f i)
+  unrenamed (tree.directive a) = refl
+  unrenamed (tree.expression_statement a expression) = ap (λ e. tree.expression_statement (nothing_of 0) e) (unrenamed expression)
+  unrenamed (tree.variable_declaration a declarations) = ap (λ ts. tree.variable_declaration (bare (declaration_kind (variable_declaration_kind a) ∷ variable_declaration_declare a ∷ [])) ts) (unrenamed_trees declarations)
+  unrenamed (tree.variable_declarator a id init) = let e = unrenamed id in let f = unrenamed_maybe init in λ i. tree.variable_declarator (bare (variable_declarator_definite a ∷ [])) (e i) (f i)
+  unrenamed (tree.binding_identifier a) = refl
+  unrenamed (tree.identifier_reference a) = refl
+  unrenamed (tree.this_expression a) = refl
+  unrenamed (tree.null_literal a) = refl
+  unrenamed (tree.boolean_literal a) = refl
+  unrenamed (tree.numeric_literal a) = refl
+  unrenamed (tree.big_int_literal a) = refl
+  unrenamed (tree.string_literal a) = refl
+  unrenamed (tree.parenthesized a expression) = unrenamed expression
+  unrenamed (tree.binary a left right) = let e = unrenamed left in let f = unrenamed right in λ i. tree.binary (bare (binary_operator (binary_expression_operator a) ∷ [])) (e i) (f i)
+  unrenamed (tree.logical a left right) = let e = unrenamed left in let f = unrenamed right in λ i. chain (bare (logical_operator (logical_expression_operator a) ∷ [])) (joined (links (logical_expression_operator a) (e i)) (links (logical_expression_operator a) (f i)))
+  unrenamed (tree.block a body) = ap (λ ts. tree.block (nothing_of 0) ts) (unrenamed_trees body)
+  unrenamed (tree.if_statement a test consequent alternate) = let e = unrenamed test in let f = ap unbraced (unrenamed consequent) in let g = unrenamed_maybe alternate in λ i. tree.if_statement (nothing_of 0) (e i) (f i) (g i)
+  unrenamed (tree.empty_statement a) = refl
+  unrenamed (tree.identifier_name a) = refl
+  unrenamed (tree.static_member a object property) = let e = unrenamed object in let f = unrenamed property in λ i. tree.static_member (link_values (static_member_expression_optional a)) (e i) (f i)
+  unrenamed (tree.computed_member a object expression) = let e = unrenamed object in let f = unrenamed expression in λ i. tree.computed_member (link_values (computed_member_expression_optional a)) (e i) (f i)
+  unrenamed (tree.call a callee arguments) = let e = unrenamed callee in let f = unrenamed_trees arguments in λ i. tree.call (call_values (call_expression_optional a)) (e i) (f i)
+  unrenamed (tree.chain a element) = ap (λ e. tree.chain (nothing_of 0) e) (unrenamed element)
+  unrenamed (tree.array a elements) = ap (λ ts. tree.array (nothing_of 0) ts) (unrenamed_trees elements)
+  unrenamed (tree.object_expression a properties) = ap (λ ts. tree.object_expression (nothing_of 0) ts) (unrenamed_trees properties)
+  unrenamed (tree.object_property a key value) =
+      let e = unrenamed key in
+      let f = unrenamed value in
+      let g = ap (λ o. option_map_or is_proto o false && object_property_shorthand a) (written_as_it_was no_tables key) in
+      let h = ap (λ b. object_property_computed a || b) (signed_as_it_was no_tables key) in
+      λ i. tree.object_property (bare (property_kind (object_property_kind a) ∷ object_property_method a ∷ flag (g i) ∷ flag (h i) ∷ [])) (e i) (f i)
+  unrenamed (tree.spread a argument) = ap (λ e. tree.spread (nothing_of 0) e) (unrenamed argument)
+  unrenamed (tree.unary a argument) = ap (λ e. tree.unary (bare (unary_operator (unary_expression_operator a) ∷ [])) e) (unrenamed argument)
+  unrenamed (tree.update a argument) = ap (λ e. tree.update (bare (update_operator (update_expression_operator a) ∷ flag (update_expression_prefix a) ∷ [])) e) (unrenamed argument)
+  unrenamed (tree.new_expression a callee arguments) = let e = unrenamed callee in let f = unrenamed_trees arguments in λ i. tree.new_expression (nothing_of 1) (e i) (f i)
+  unrenamed (tree.super a) = refl
+  unrenamed (tree.new_target a) = refl
+  unrenamed (tree.conditional a test consequent alternate) = let e = unrenamed test in let f = unrenamed consequent in let g = unrenamed alternate in λ i. tree.conditional (nothing_of 0) (e i) (f i) (g i)
+  unrenamed (tree.sequence a expressions) = ap (λ ts. tree.sequence (nothing_of 0) (flattened ts)) (unrenamed_trees expressions)
+  unrenamed (tree.assignment a left right) = let e = unrenamed left in let f = unrenamed right in λ i. tree.assignment (bare (assignment_operator (assignment_expression_operator a) ∷ [])) (e i) (f i)
+  unrenamed (tree.formal_parameter a pattern initializer) = let e = unrenamed pattern in let f = unrenamed_maybe initializer in λ i. tree.formal_parameter (bare (formal_parameter_is_override a ∷ formal_parameter_readonly a ∷ formal_parameter_optional a ∷ [])) (e i) (f i)
+  unrenamed (tree.formal_parameter_rest a argument) = ap (λ e. tree.formal_parameter_rest (nothing_of 0) e) (unrenamed argument)
+  unrenamed (tree.formal_parameters a items rest) = let e = unrenamed_trees items in let f = unrenamed_maybe rest in λ i. tree.formal_parameters (nothing_of 0) (e i) (f i)
+  unrenamed (tree.arrow_function a params body) = let e = unrenamed params in let f = unrenamed body in λ i. tree.arrow_function (bare (arrow_function_expression_is_async a ∷ no_value ∷ no_value ∷ [])) (e i) (f i)
+  unrenamed (node type a slots) = ap (λ s. node type (bare a.values) s) (unrenamed_slots slots)
+
+  unrenamed_slots : (s : Slots) → normal_slots (renamed_slots no_tables s) ≡ normal_slots s
+  unrenamed_slots no_slots = refl
+  unrenamed_slots (one t s) = let e = unrenamed t in let f = unrenamed_slots s in λ i. one (e i) (f i)
+  unrenamed_slots (maybe m s) = let e = unrenamed_maybe m in let f = unrenamed_slots s in λ i. maybe (e i) (f i)
+  unrenamed_slots (many ts s) = let e = unrenamed_trees ts in let f = unrenamed_slots s in λ i. many (e i) (f i)
+  unrenamed_slots (maybe_many ts s) = let e = unrenamed_maybe_trees ts in let f = unrenamed_slots s in λ i. maybe_many (e i) (f i)
+
+  unrenamed_maybe : (m : Maybe) → normal_maybe (renamed_maybe no_tables m) ≡ normal_maybe m
+  unrenamed_maybe absent = refl
+  unrenamed_maybe (given t) = ap (λ u. given u) (unrenamed t)
+
+  unrenamed_trees : (ts : Trees) → normal_trees (renamed_trees no_tables ts) ≡ normal_trees ts
+  unrenamed_trees no_trees = refl
+  unrenamed_trees (more t ts) = let e = unrenamed t in let f = unrenamed_trees ts in λ i. more (e i) (f i)
+  unrenamed_trees (hole ts) = ap (λ us. hole us) (unrenamed_trees ts)
+
+  unrenamed_maybe_trees : (ts : MaybeTrees) → normal_maybe_trees (renamed_maybe_trees no_tables ts) ≡ normal_maybe_trees ts
+  unrenamed_maybe_trees no_list = refl
+  unrenamed_maybe_trees (listed ts) = ap (λ us. listed us) (unrenamed_trees ts)
