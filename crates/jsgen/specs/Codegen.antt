@@ -49,7 +49,3 @@ pub record Prints {T E : Type 0} (old new : Codegen) (pen : Pen) (result : Resul
   pub printed : has_printed new ≡ true
   pub options : options_of new ≡ options_of old
   pub tables : tables_of new ≡ tables_of old
-
--- the same pen, by which names are printed from these tables
-abbrev pub with_tables : Tables → Pen → Pen
-with_tables tables pen = record pen { style = record pen.style { tables = tables } }

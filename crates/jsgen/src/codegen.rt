@@ -15,7 +15,7 @@ ghost use Rattle.std.specs.Str.{chars};
 ghost use Rattle.jsgen_model.specs.Plain.{IsPlain, IsQuiet};
 ghost use Rattle.jsgen_model.specs.Reading.{IsReadAs};
 ghost use Rattle.jsgen_model.specs.Valid.{job_breaches, expression_breaches, IsValid, IsValidExpression, Judges};
-ghost use Rattle.jsgen_printer.specs.Printer.{pen_of, name_written, unless_empty};
+ghost use Rattle.jsgen_printer.specs.Printer.{pen_of, by_tables, name_written, unless_empty};
 ghost use Rattle.jsgen_place.specs.Place.{place_of, context_of, settings_of};
 ghost use Rattle.jsgen.specs.Context.{context_at};
 ghost use Rattle.jsgen_nodes.specs.Alone.{at_level};
@@ -73,7 +73,6 @@ pub struct Codegen<'a> {
     has_printed: bool,
     has_failed: bool,
     ghost fresh: { has_printed ≡ false → pen_of printer ≡ empty_pen (style_of (options_plain options) (tables_plain tables)) 0 },
-    ghost named: { (pen_of printer).style.tables ≡ tables_plain tables },
 }
 
 impl<'a> Codegen<'a> {
@@ -120,12 +119,13 @@ impl<'a> Codegen<'a> {
     }
 
     /// The same printer by these names of symbols, from here on; `None` for none.
+    #[tactic(auto, unfolding(jsgen_tree::specs::Scoping::tables_plain))]
     pub fn with_scoping(self, scoping: Option<&'a Scoping>) -> Codegen<'a>
         ensures options { options_of result ≡ options_of self.entry }
         ensures tables { tables_of result ≡ record (tables_of self.entry) { scoping = option_map (λ s. scoping_plain s.now) scoping.entry } }
         ensures printed { has_printed result ≡ has_printed self.entry }
         ensures failed { has_failed result ≡ has_failed self.entry }
-        ensures pen { pen_at result ≡ with_tables (tables_of result) (pen_at self.entry) }
+        ensures pen { pen_at result ≡ by_tables (tables_of result) (pen_at self.entry) }
     {
         let tables = Tables {
             scoping,
@@ -135,12 +135,13 @@ impl<'a> Codegen<'a> {
     }
 
     /// The same printer by these new names of private names, from here on; `None` for none. No name is printed by them yet.
+    #[tactic(auto, unfolding(jsgen_tree::specs::Scoping::tables_plain))]
     pub fn with_private_member_mappings(self, mappings: Option<&'a PrivateMappings>) -> Codegen<'a>
         ensures options { options_of result ≡ options_of self.entry }
         ensures tables { tables_of result ≡ record (tables_of self.entry) { private = option_map (λ p. private_plain p.now) mappings.entry } }
         ensures printed { has_printed result ≡ has_printed self.entry }
         ensures failed { has_failed result ≡ has_failed self.entry }
-        ensures pen { pen_at result ≡ with_tables (tables_of result) (pen_at self.entry) }
+        ensures pen { pen_at result ≡ by_tables (tables_of result) (pen_at self.entry) }
     {
         let tables = Tables {
             private: mappings,
@@ -155,7 +156,7 @@ impl<'a> Codegen<'a> {
         ensures tables { tables_of result ≡ tables_plain tables.entry }
         ensures printed { has_printed result ≡ has_printed self.entry }
         ensures failed { has_failed result ≡ has_failed self.entry }
-        ensures pen { pen_at result ≡ with_tables (tables_of result) (pen_at self.entry) }
+        ensures pen { pen_at result ≡ by_tables (tables_of result) (pen_at self.entry) }
     {
         Codegen {
             alloc: self.alloc,
