@@ -1,7 +1,9 @@
 // From the bytes of a job to its text.
+ghost use Rattle.std.specs.Prelude.{◌≡◌, option_map};
+ghost use Rattle.jsgen_tree.specs.Scoping.{scoping_plain, private_plain};
 ghost use Rattle.jsgen_tool.specs.Job.{Answers};
 
-use jsgen::{Codegen, InputFault, Job, TreeFault, read_job};
+use jsgen::{Codegen, InputFault, Job, PrivateMappings, Scoping, TreeFault, read_job};
 use std::alloc::Global;
 
 /// Why there is no text.
@@ -12,6 +14,24 @@ pub enum Fault {
     /// The job breaks a rule.
     Refused(TreeFault),
     Memory,
+}
+
+fn lent_scoping(scoping: &Option<Scoping>) -> Option<&Scoping>
+    ensures { option_map (λ s. scoping_plain s.now) result ≡ option_map scoping_plain scoping.now }
+{
+    match scoping {
+        Some(scoping) => Some(scoping),
+        None => None,
+    }
+}
+
+fn lent_mappings(mappings: &Option<PrivateMappings>) -> Option<&PrivateMappings>
+    ensures { option_map (λ p. private_plain p.now) result ≡ option_map private_plain mappings.now }
+{
+    match mappings {
+        Some(mappings) => Some(mappings),
+        None => None,
+    }
 }
 
 /// The text of a job.
@@ -30,8 +50,8 @@ pub fn answer(alloc: Global, bytes: &[u8]) -> Result<String, Fault>
     };
     let printer = Codegen::new(alloc)
         .with_options(options)
-        .with_scoping(scoping.as_ref())
-        .with_private_member_mappings(private.as_ref());
+        .with_scoping(lent_scoping(&scoping))
+        .with_private_member_mappings(lent_mappings(&private));
     if let Err(fault) = printer.check(&program) {
         return Err(Fault::Refused(fault));
     }
