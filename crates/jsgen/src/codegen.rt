@@ -343,7 +343,7 @@ impl<'a> Codegen<'a> {
 
     /// Prints a program, which `check` has to accept, before anything else is printed: its first line stands at the level
     /// `initial_indent`, where print calls begin at level 0. The only error is want of memory.
-    pub fn build(self, program: &'a Program) -> Result<CodegenReturn, CodegenError>
+    pub fn build(self, program: &Program) -> Result<CodegenReturn, CodegenError>
         requires unprinted { has_printed self ≡ false }
         requires valid { IsValid (job_for self (program_plain program.now)) }
 

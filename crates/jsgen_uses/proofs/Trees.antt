@@ -3,7 +3,7 @@ use Rattle.std.proofs.Common.{◌≡◌, ℕ, Bool, true, false, not, List, [], 
 use Rattle.std.specs.Prelude.{Contains}
 use Rattle.jsgen_syntax.specs.Name.{is_free_name}
 use Rattle.jsgen_tree.specs.Everywhere.{Everywhere}
-use Rattle.jsgen_tree.specs.Job.{JobData, no_tables}
+use Rattle.jsgen_tree.specs.Job.{Tables, JobData, no_tables}
 use Rattle.jsgen_tree.specs.Options.{Options, default_options}
 use Rattle.jsgen_tree.specs.Tree.{Tree}
 use Rattle.jsgen_model.specs.Plain.{is_quiet_row, IsPlain, IsQuiet}
@@ -41,24 +41,24 @@ unfree_where message name f false h found = refl
 
 -- ---- of what the code was handed
 
-abbrev pub job_with : Options → Tree → JobData
-job_with o t = record { options = o; tables = no_tables; program = t }
+abbrev pub job_with : Options → Tables → Tree → JobData
+job_with o n t = record { options = o; tables = n; program = t }
 
-same_job : (o : Options) (t : Tree) (message name : List ℕ) → o ≡ default_options → t ≡ log_program message name → job_with o t ≡ log_job message name
-same_job o t message name options same = rw (options, same)
+same_job : (o : Options) (n : Tables) (t : Tree) (message name : List ℕ) → o ≡ default_options → n ≡ no_tables → t ≡ log_program message name → job_with o n t ≡ log_job message name
+same_job o n t message name options tables same = rw (options, tables, same)
 
-pub read_as_call : (o : Options) (t : Tree) (message name code : List ℕ) → o ≡ default_options → t ≡ log_program message name → IsPlain t → (IsPlain t → IsQuiet (job_with o t) → IsReadAs code (job_with o t)) → ReadsAsLogCall message name code
-read_as_call o t message name code options same plain reads =
+pub read_as_call : (o : Options) (n : Tables) (t : Tree) (message name code : List ℕ) → o ≡ default_options → n ≡ no_tables → t ≡ log_program message name → IsPlain t → (IsPlain t → IsQuiet (job_with o n t) → IsReadAs code (job_with o n t)) → ReadsAsLogCall message name code
+read_as_call o n t message name code options tables same plain reads =
     let P : JobData → Type 0 = λ job. IsReadAs code job in
     let Q : Tree → Type 0 = λ u. Everywhere is_quiet_row u in
-    subst P (same_job o t message name options same) (reads plain (inl (subst Q (sym same) (quiet message name))))
+    subst P (same_job o n t message name options tables same) (reads plain (inl (subst Q (sym same) (quiet message name))))
 
-pub is_free : (o : Options) (t : Tree) (message name : List ℕ) → o ≡ default_options → t ≡ log_program message name → job_breaches (job_with o t) ≡ [] → is_free_name name ≡ true
-is_free o t message name options same none =
+pub is_free : (o : Options) (n : Tables) (t : Tree) (message name : List ℕ) → o ≡ default_options → n ≡ no_tables → t ≡ log_program message name → job_breaches (job_with o n t) ≡ [] → is_free_name name ≡ true
+is_free o n t message name options tables same none =
     let P : JobData → Type 0 = λ job. job_breaches job ≡ [] in
-    free_where message name (is_free_name name) refl (subst P (same_job o t message name options same) none)
+    free_where message name (is_free_name name) refl (subst P (same_job o n t message name options tables same) none)
 
-pub is_unfree : (o : Options) (t : Tree) (message name : List ℕ) (f : TreeFault) → o ≡ default_options → t ≡ log_program message name → Contains (job_breaches (job_with o t)) f → is_free_name name ≡ false
-is_unfree o t message name f options same found =
+pub is_unfree : (o : Options) (n : Tables) (t : Tree) (message name : List ℕ) (f : TreeFault) → o ≡ default_options → n ≡ no_tables → t ≡ log_program message name → Contains (job_breaches (job_with o n t)) f → is_free_name name ≡ false
+is_unfree o n t message name f options tables same found =
     let P : JobData → Type 0 = λ job. Contains (job_breaches job) f in
-    unfree_where message name f (is_free_name name) refl (subst P (same_job o t message name options same) found)
+    unfree_where message name f (is_free_name name) refl (subst P (same_job o n t message name options tables same) found)

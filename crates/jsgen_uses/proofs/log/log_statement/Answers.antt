@@ -4,8 +4,8 @@ use Rattle.jsgen_uses.proofs.log.log_statement.Goals as goal
 
 pub returns-in-Err-clause-refused : goal.returns-in-Err-clause-refused
 returns-in-Err-clause-refused c =
-    λ refused. is_unfree _ _ (chars c.args.message.now) (chars c.args.name.now) c.in-Err.field-0 c.new-printer.ensures.options c.in_ok-program.ensures c.in-Err.ensures
+    λ refused. is_unfree _ _ _ (chars c.args.message.now) (chars c.args.name.now) c.in-Err.field-0 c.new-printer.ensures.options c.new-printer.ensures.tables c.in_ok-program.ensures c.in-Err.ensures
 
 pub returns-clause-code : goal.returns-clause-code
 returns-clause-code c =
-    read_as_call _ _ (chars c.args.message.now) (chars c.args.name.now) _ c.new-printer.ensures.options c.in_ok-program.ensures (c.programs_are_plain.ensures c.in_ok-program.program) c.in_ok-build.ensures.reads
+    read_as_call _ _ _ (chars c.args.message.now) (chars c.args.name.now) _ c.new-printer.ensures.options c.new-printer.ensures.tables c.in_ok-program.ensures (c.programs_are_plain.ensures c.in_ok-program.program) c.in_ok-build.ensures.reads
