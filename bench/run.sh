@@ -1,7 +1,7 @@
 #!/usr/bin/env bash
 # Times jsgen, pretty and minified, on jobs of about 1, 4 and 16 megabytes, ones whose names are all renamed, deeply nested ones,
-# long chains and lists and single strings, and on one of a real program, beside node's JSON.parse of the same file: the best of five runs. Minified text is never
-# longer than pretty text.
+# long chains and lists and single strings, and on one of a real program, beside node's JSON.parse of the same file: the best of
+# five runs. Minified text is never longer than pretty text.
 set -eu
 top=$(cd "$(dirname "$0")/.." && pwd)
 work=$(mktemp -d)
