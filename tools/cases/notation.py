@@ -11,6 +11,7 @@ from table import Table  # noqa: E402
 
 TABLE = Table(Path(__file__).resolve().parents[1] / "nodes" / "table.txt")
 ASSIGNMENT = {word for word, _ in TABLE.words["AssignmentOperator"].words}
+DECLARING = {word for word, _ in TABLE.words["VariableDeclarationKind"].words}
 LOGICAL = ("&&", "||", "??")
 SIGN = re.compile(
     r"""\s*(?:
@@ -94,7 +95,7 @@ class Reader:
                 body.append(self.statement())
             self.take()
             return Child("BlockStatement", body=body)
-        if self.is_here("const"):
+        if self.begins_declaration():
             return self.declaration(self.take())
         node = self.expression()
         if self.is_here(";"):
@@ -102,13 +103,20 @@ class Reader:
             return Child("ExpressionStatement", expression=node)
         return node
 
+    def begins_declaration(self):
+        """Whether a word that declares stands here, and a name behind it."""
+        behind = SIGN.match(self.text, self.at)
+        return self.kind == "word" and self.value in DECLARING and behind is not None and behind["word"] is not None
+
     def declaration(self, kind):
-        declarator = {"id": self.binding()}
+        return Child("VariableDeclaration", kind=kind, declarations=self.several(";", self.declarator))
+
+    def declarator(self):
+        fields = {"id": self.binding()}
         if self.is_here("="):
             self.take()
-            declarator["init"] = self.expression()
-        self.expect(";")
-        return Child("VariableDeclaration", kind=kind, declarations=[Child("VariableDeclarator", **declarator)])
+            fields["init"] = self.expression()
+        return Child("VariableDeclarator", **fields)
 
     # ---- names
 
@@ -250,6 +258,11 @@ class Reader:
         if not is_value and self.is_here("["):
             self.take()
             return self.several("]", self.statement_or_hole)
+        if self.kind == "word" and not self.text[self.at:].lstrip().startswith("("):
+            if field.kind == "BindingPattern":
+                return self.binding()
+            if field.kind == "LabelIdentifier":
+                return Child("LabelIdentifier", name=self.take())
         if not is_value:
             return self.statement()
         if self.is_here("["):

@@ -133,12 +133,80 @@ class Rows {
           alternate: this.maybe(node.alternate, this.statement),
         });
       case "EmptyStatement":
+      case "DebuggerStatement":
         return this.add(node.type, node, {});
+      case "ThrowStatement":
+        return this.add(node.type, node, { argument: this.expression(node.argument) });
+      case "ContinueStatement":
+      case "BreakStatement":
+        return this.add(node.type, node, { label: this.maybe(node.label, this.label) });
+      case "LabeledStatement":
+        return this.add(node.type, node, { label: this.label(node.label), body: this.statement(node.body) });
+      case "SwitchStatement":
+        return this.add(node.type, node, { discriminant: this.expression(node.discriminant), cases: this.several(node.cases, this.case) });
+      case "TryStatement":
+        return this.add(node.type, node, {
+          block: this.statement(node.block),
+          handler: this.maybe(node.handler, this.handler),
+          finalizer: this.maybe(node.finalizer, this.statement),
+        });
       case "VariableDeclaration":
-        return this.add(node.type, node, { kind: node.kind, declarations: this.several(node.declarations, this.declarator) });
+        return this.declaration(node);
+      default:
+        return this.loop(node);
+    }
+  }
+
+  loop(node) {
+    switch (node.type) {
+      case "ForStatement":
+        return this.add(node.type, node, {
+          init: this.maybe(node.init, this.first),
+          test: this.maybe(node.test, this.expression),
+          update: this.maybe(node.update, this.expression),
+          body: this.statement(node.body),
+        });
+      case "ForInStatement":
+      case "ForOfStatement":
+        return this.add(node.type, node, {
+          is_await: node.await, left: this.left(node.left), right: this.expression(node.right), body: this.statement(node.body),
+        });
+      case "WhileStatement":
+      case "DoWhileStatement":
+        return this.add(node.type, node, { test: this.expression(node.test), body: this.statement(node.body) });
       default:
         return this.refuse(node.type, node);
     }
+  }
+
+  // What stands first in the head of a loop.
+  first(node) {
+    return node.type === "VariableDeclaration" ? this.declaration(node) : this.expression(node);
+  }
+
+  // What a loop gives its values.
+  left(node) {
+    return node.type === "VariableDeclaration" ? this.declaration(node) : this.target(node);
+  }
+
+  label(node) {
+    return this.add("LabelIdentifier", node, { name: node.name });
+  }
+
+  case(node) {
+    return this.add(node.type, node, {
+      test: this.maybe(node.test, this.expression), consequent: this.several(node.consequent, this.statement),
+    });
+  }
+
+  handler(node) {
+    return this.add(node.type, node, {
+      param: this.maybe(node.param, this.binding), type_annotation: node.param?.typeAnnotation, body: this.statement(node.body),
+    });
+  }
+
+  declaration(node) {
+    return this.add(node.type, node, { kind: node.kind, declarations: this.several(node.declarations, this.declarator) });
   }
 
   declarator(node) {

@@ -20,6 +20,7 @@ class Draw {
   constructor(seed) {
     this.state = (seed * 2654435761 + 97) >>> 0;
     this.declared = 0;
+    this.around = []; // what jumps may lead to: of each loop, `switch` and label its kind, and its name
   }
 
   // A whole number below the limit (a congruential generator of 32 bits, from its upper half).
@@ -40,17 +41,121 @@ class Draw {
 
   item(depth) {
     if (this.below(5) > 0) return this.statement(depth);
-    const declarators = this.several(1, 2, () => `n${this.declared++} = ${this.assigned(depth)}`);
-    return `const ${declarators.join(", ")};`;
+    return `${this.declaration(this.of(wordsOf("VariableDeclaration", "kind")), depth)};`;
+  }
+
+  // Names of their own, each with a value.
+  declaration(word, depth) {
+    return `${word} ${this.several(1, 2, () => `${this.newName()} = ${this.assigned(depth)}`).join(", ")}`;
+  }
+
+  newName() {
+    return `n${this.declared++}`;
   }
 
   statement(depth) {
-    const kind = depth === 0 ? 9 : this.below(10);
+    const kind = depth === 0 ? 11 : this.below(12);
     if (kind === 0) return `{ ${this.several(0, 3, () => this.item(depth - 1)).join(" ")} }`;
     if (kind < 3) return `if (${this.expression(depth)}) ${this.statement(depth - 1)}`;
     if (kind < 5) return `if (${this.expression(depth)}) ${this.block(depth)} else ${this.statement(depth - 1)}`;
     if (kind === 5) return ";";
+    if (kind < 9) return this.of(this.statements()).call(this, depth);
     return this.begun(this.expression(depth));
+  }
+
+  statements() {
+    const when = (type, make) => (isType(type) ? [make] : []);
+    return [
+      this.variables,
+      ...when("ForStatement", this.forLoop), ...when("ForInStatement", this.forIn), ...when("ForOfStatement", this.forOf),
+      ...when("WhileStatement", this.whileLoop), ...when("DoWhileStatement", this.doLoop), ...when("LabeledStatement", this.labelled),
+      ...when("BreakStatement", this.jump), ...when("BreakStatement", this.jump), ...when("ThrowStatement", this.thrown),
+      ...when("DebuggerStatement", () => "debugger;"), ...when("SwitchStatement", this.choice), ...when("TryStatement", this.handled),
+    ];
+  }
+
+  variables(depth) {
+    return wordsOf("VariableDeclaration", "kind").includes("var") ? `${this.declaration("var", depth)};` : ";";
+  }
+
+  // What this makes, within something that jumps may lead to.
+  within(kind, name, make) {
+    this.around.push({ kind, name });
+    const made = make();
+    this.around.pop();
+    return made;
+  }
+
+  loopBody(depth) {
+    return this.within("loop", null, () => this.statement(depth - 1));
+  }
+
+  // `in` stands in parentheses in what comes first.
+  forLoop(depth) {
+    const first = [() => "", () => `(${this.expression(depth)})`, () => `let ${this.newName()} = (${this.assigned(depth)})`, () => `var ${this.newName()}`];
+    const part = () => (this.below(2) ? this.expression(depth) : "");
+    return `for (${this.of(first)()}; ${part()}; ${part()}) ${this.loopBody(depth)}`;
+  }
+
+  left(depth) {
+    return this.below(2) ? `${this.of(["const", "let", "var"])} ${this.newName()}` : `(${this.target(depth)})`;
+  }
+
+  forIn(depth) {
+    return `for (${this.left(depth)} in ${this.expression(depth)}) ${this.loopBody(depth)}`;
+  }
+
+  forOf(depth) {
+    return `for (${this.left(depth)} of ${this.assigned(depth)}) ${this.loopBody(depth)}`;
+  }
+
+  whileLoop(depth) {
+    return `while (${this.expression(depth)}) ${this.loopBody(depth)}`;
+  }
+
+  doLoop(depth) {
+    return `do ${this.loopBody(depth)} while (${this.expression(depth)});`;
+  }
+
+  // A label of a loop may be what `continue` leads to.
+  labelled(depth) {
+    const name = this.of(NAMES.filter((one) => this.around.every((outer) => outer.name !== one)));
+    if (name === undefined) return ";";
+    if (this.below(2)) return `${name}: ${this.within("label", name, () => this.statement(depth - 1))}`;
+    return `${name}: ${this.within("label of a loop", name, () => this.of([this.forLoop, this.whileLoop, this.doLoop]).call(this, depth))}`;
+  }
+
+  jump() {
+    const isIn = (...kinds) => this.around.some(({ kind }) => kinds.includes(kind));
+    const named = (kinds) => this.around.filter(({ kind }) => kinds.includes(kind)).map(({ name }) => name);
+    const jumps = [
+      ...(isIn("loop", "switch") ? ["break;"] : []),
+      ...(isIn("loop") ? ["continue;"] : []),
+      ...named(["label", "label of a loop"]).map((name) => `break ${name};`),
+      ...(isIn("loop") ? named(["label of a loop"]).map((name) => `continue ${name};`) : []),
+    ];
+    return jumps.length > 0 ? this.of(jumps) : ";";
+  }
+
+  thrown(depth) {
+    return `throw ${this.expression(depth)};`;
+  }
+
+  choice(depth) {
+    const count = this.below(4);
+    const defaultAt = this.below(4);
+    const cases = Array.from({ length: count }, (_, at) => {
+      const test = at === defaultAt ? "default" : `case ${this.expression(depth)}`;
+      return `${test}: ${this.within("switch", null, () => this.several(0, 2, () => this.item(depth - 1))).join(" ")}`;
+    });
+    return `switch (${this.expression(depth)}) { ${cases.join(" ")} }`;
+  }
+
+  handled(depth) {
+    const block = () => `{ ${this.several(0, 2, () => this.item(depth - 1)).join(" ")} }`;
+    const handler = () => `catch ${this.below(2) ? `(${this.newName()}) ` : ""}${block()}`;
+    const ends = this.of([[handler], [() => `finally ${block()}`], [handler, () => `finally ${block()}`]]);
+    return `try ${block()} ${ends.map((end) => end()).join(" ")}`;
   }
 
   // A statement before `else`, whose inner `if` may not take it.

@@ -1,5 +1,5 @@
-// Which binding each name of a program stands for, in what jsgen reads by now: the constants of the module and of its blocks,
-// and the parameters of arrow functions. Each binding is a symbol, and gets a new name.
+// Which binding each name of a program stands for, in what jsgen reads by now: what is declared in the module, its blocks and
+// the heads of its loops, what is caught, and the parameters of arrow functions. Each binding is a symbol, and gets a new name.
 
 const RESERVED = new Set(
   (
@@ -22,7 +22,7 @@ export const SIGNS = ["é", "日本", "größe", "\u{20BB7}", "ñ", "ℵ", "π\u
  */
 export function renaming(program, letters = LETTERS) {
   const scopes = new Scopes();
-  scopes.body(program.body, null);
+  scopes.program(program.body);
   const kept = new Set([...scopes.shorthand].filter((node) => node.name === PROTO).map((node) => scopes.symbolBehind(node)));
   const globals = new Set(scopes.references.filter(({ symbol }) => symbol === null).map(({ name }) => name));
   const fresh = freshNames(letters, globals);
@@ -75,19 +75,48 @@ class Scopes {
 
   // A scope in which these nodes are bound: their symbols by their names.
   scope(nodes, outer) {
-    const names = new Map();
-    for (const node of nodes) {
-      const symbol = this.symbols.push(node.name) - 1;
-      names.set(node.name, symbol);
-      this.symbolOf.set(node, symbol);
-    }
-    return { names, outer };
+    const scope = { names: new Map(), outer };
+    for (const node of nodes) this.bind(node, scope, this.symbols.push(node.name) - 1);
+    return scope;
+  }
+
+  bind(node, scope, symbol) {
+    scope.names.set(node.name, symbol);
+    this.symbolOf.set(node, symbol);
+  }
+
+  // What `var` declares, at whatever depth, is bound in the module, however often: no function has statements of its own yet.
+  program(nodes) {
+    const scope = this.scope(declaredIn(nodes), null);
+    for (const node of variablesIn(nodes)) this.bind(node, scope, scope.names.get(node.name) ?? this.symbols.push(node.name) - 1);
+    for (const node of nodes) this.visit(node, scope);
   }
 
   body(nodes, outer) {
-    const declared = nodes.filter((node) => node.type === "VariableDeclaration").flatMap((node) => node.declarations);
-    const scope = this.scope(declared.map(({ id }) => id).filter(isName), outer);
+    const scope = this.scope(declaredIn(nodes), outer);
     for (const node of nodes) this.visit(node, scope);
+  }
+
+  // What the head of a loop declares is seen in the whole loop.
+  loop(node, outer) {
+    const first = node.init ?? node.left;
+    const scope = this.scope(declaredIn([first]), outer);
+    for (const child of [first, node.right, node.test, node.update, node.body]) if (child) this.visit(child, scope);
+  }
+
+  // The cases of `switch` are one scope.
+  switch(node, outer) {
+    this.visit(node.discriminant, outer);
+    const scope = this.scope(declaredIn(node.cases.flatMap(({ consequent }) => consequent)), outer);
+    for (const one of node.cases) this.visit(one, scope);
+  }
+
+  // A variable by the name of what is caught gets its value there by that name (ECMA-262, B.3.4), so both are one symbol.
+  handler({ param, body }, outer) {
+    const scope = this.scope([], outer);
+    const variable = variablesIn([body]).find(({ name }) => name === param?.name);
+    if (param && isName(param)) this.bind(param, scope, variable ? this.symbolOf.get(variable) : this.symbols.push(param.name) - 1);
+    this.visit(body, scope);
   }
 
   reference(node, scope) {
@@ -102,6 +131,19 @@ class Scopes {
         return this.reference(node, scope);
       case "BlockStatement":
         return this.body(node.body, scope);
+      case "ForStatement":
+      case "ForInStatement":
+      case "ForOfStatement":
+        return this.loop(node, scope);
+      case "SwitchStatement":
+        return this.switch(node, scope);
+      case "CatchClause":
+        return this.handler(node, scope);
+      case "LabeledStatement":
+        return this.visit(node.body, scope);
+      case "ContinueStatement":
+      case "BreakStatement":
+        return null;
       case "VariableDeclarator":
         return node.init && this.visit(node.init, scope);
       case "ArrowFunctionExpression":
@@ -116,7 +158,7 @@ class Scopes {
       case "MetaProperty":
         return null;
       default:
-        for (const child of Object.values(node).flat()) if (typeof child?.type === "string") this.visit(child, scope);
+        for (const child of childrenOf(node)) this.visit(child, scope);
         return null;
     }
   }
@@ -132,4 +174,23 @@ class Scopes {
 
 function isName(node) {
   return node.type === "Identifier";
+}
+
+// The names that these nodes declare in their own scope.
+function declaredIn(nodes) {
+  const declared = nodes.filter((node) => node?.type === "VariableDeclaration" && node.kind !== "var");
+  return declared.flatMap((node) => node.declarations).map(({ id }) => id).filter(isName);
+}
+
+// The names that `var` declares in these nodes, at whatever depth.
+function variablesIn(nodes) {
+  return nodes.flatMap((node) => {
+    const isDeclared = node.type === "VariableDeclaration" && node.kind === "var";
+    const names = isDeclared ? node.declarations.map(({ id }) => id).filter(isName) : [];
+    return [...names, ...variablesIn(childrenOf(node))];
+  });
+}
+
+function childrenOf(node) {
+  return Object.values(node).flat().filter((child) => typeof child?.type === "string");
 }

@@ -5,14 +5,17 @@ use crate::gens::{Gen, GenExpr};
 use jsgen_tree::{
     Argument, ArrayExpression, ArrayExpressionElement, ArrowFunctionExpression,
     AssignmentExpression, AssignmentTarget, BigIntLiteral, BinaryExpression, BindingIdentifier,
-    BindingPattern, BlockStatement, BooleanLiteral, CallExpression, ChainExpression,
-    ComputedMemberExpression, ConditionalExpression, Directive, EmptyStatement, Expression,
-    ExpressionStatement, FormalParameter, FormalParameterRest, FormalParameters, IdentifierName,
-    IdentifierReference, IfStatement, LogicalExpression, NewExpression, NewTarget, NullLiteral,
-    NumericLiteral, ObjectExpression, ObjectProperty, ObjectPropertyKind, ParenthesizedExpression,
-    Program, PropertyKey, SequenceExpression, SimpleAssignmentTarget, SpreadElement, Statement,
-    StaticMemberExpression, StringLiteral, Super, ThisExpression, UnaryExpression,
-    UpdateExpression, VariableDeclaration, VariableDeclarator,
+    BindingPattern, BlockStatement, BooleanLiteral, BreakStatement, CallExpression, CatchClause,
+    ChainExpression, ComputedMemberExpression, ConditionalExpression, ContinueStatement,
+    DebuggerStatement, Directive, DoWhileStatement, EmptyStatement, Expression,
+    ExpressionStatement, ForInStatement, ForOfStatement, ForStatement, ForStatementInit,
+    ForStatementLeft, FormalParameter, FormalParameterRest, FormalParameters, IdentifierName,
+    IdentifierReference, IfStatement, LabelIdentifier, LabeledStatement, LogicalExpression,
+    NewExpression, NewTarget, NullLiteral, NumericLiteral, ObjectExpression, ObjectProperty,
+    ObjectPropertyKind, ParenthesizedExpression, Program, PropertyKey, SequenceExpression,
+    SimpleAssignmentTarget, SpreadElement, Statement, StaticMemberExpression, StringLiteral, Super,
+    SwitchCase, SwitchStatement, ThisExpression, ThrowStatement, TryStatement, UnaryExpression,
+    UpdateExpression, VariableDeclaration, VariableDeclarator, WhileStatement,
 };
 
 impl Gen for Program {}
@@ -95,6 +98,36 @@ impl Gen for FormalParameters {}
 
 impl GenExpr for ArrowFunctionExpression {}
 
+impl Gen for ForStatement {}
+
+impl Gen for ForInStatement {}
+
+impl Gen for ForOfStatement {}
+
+impl Gen for WhileStatement {}
+
+impl Gen for DoWhileStatement {}
+
+impl Gen for LabelIdentifier {}
+
+impl Gen for LabeledStatement {}
+
+impl Gen for ContinueStatement {}
+
+impl Gen for BreakStatement {}
+
+impl Gen for ThrowStatement {}
+
+impl Gen for DebuggerStatement {}
+
+impl Gen for SwitchStatement {}
+
+impl Gen for SwitchCase {}
+
+impl Gen for TryStatement {}
+
+impl Gen for CatchClause {}
+
 impl GenExpr for Expression {}
 
 impl Gen for Argument {}
@@ -104,6 +137,10 @@ impl Gen for ArrayExpressionElement {}
 impl GenExpr for SimpleAssignmentTarget {}
 
 impl Gen for AssignmentTarget {}
+
+impl Gen for ForStatementInit {}
+
+impl Gen for ForStatementLeft {}
 
 impl Gen for ObjectPropertyKind {}
 

@@ -1,4 +1,5 @@
 mod Alone
+pub mod Cases
 pub mod Declarators
 pub mod Keys
 pub mod Numbers

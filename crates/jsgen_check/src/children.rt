@@ -2,10 +2,11 @@
 // Lists, children that may be absent, and sets that don't nest.
 ghost use Rattle.std.specs.Prelude.{◌≡◌, map, option_map};
 ghost use Rattle.jsgen_tree.specs.Tree.{optional, trees, holed};
-ghost use Rattle.jsgen_tree.specs.Rows.{in_expression, in_argument, in_array_expression_element, in_chain_element, in_simple_assignment_target, in_assignment_target, in_arrow_function_body, in_object_property_kind, in_property_key, in_statement, comment_row, directive_row, variable_declarator_row, formal_parameter_row, formal_parameter_rest_row};
+ghost use Rattle.jsgen_tree.specs.Rows.{in_expression, in_argument, in_array_expression_element, in_chain_element, in_simple_assignment_target, in_assignment_target, in_arrow_function_body, in_for_statement_init, in_for_statement_left, in_object_property_kind, in_property_key, in_statement, in_binding_pattern, comment_row, directive_row, variable_declarator_row, block_statement_row, formal_parameter_row, formal_parameter_rest_row, label_identifier_row, switch_case_row, catch_clause_row};
 ghost use Rattle.jsgen_check.specs.Verdict.{child_verdict, maybe_verdict, children_verdict};
 ghost use Rattle.jsgen_tree.specs.declared.types.NodeSet.TheVariants as sets;
 
+use crate::choices::{check_catch_clause, check_switch_case};
 use crate::collections::{check_object_property, check_spread_element};
 use crate::expressions::{
     check_call_expression, check_computed_member_expression, check_identifier_name,
@@ -13,13 +14,19 @@ use crate::expressions::{
 };
 use crate::functions::{check_formal_parameter, check_formal_parameter_rest};
 use crate::heights::higher;
-use crate::statements::{check_comment, check_directive, check_variable_declarator};
+use crate::loops::check_label_identifier;
+use crate::statements::{
+    check_block_statement, check_comment, check_directive, check_variable_declaration,
+    check_variable_declarator,
+};
 use crate::{CheckNode, Surroundings, check_child};
 use jsgen_model::TreeFault;
 use jsgen_tree::{
-    Argument, ArrayExpressionElement, ArrowFunctionBody, AssignmentTarget, ChainElement, Comment,
-    Directive, ExpressionNode, FormalParameter, FormalParameterRest, NodeSet, ObjectPropertyKind,
-    PropertyKey, SimpleAssignmentTarget, StatementNode, VariableDeclarator,
+    Argument, ArrayExpressionElement, ArrowFunctionBody, AssignmentTarget, BindingPatternNode,
+    BlockStatement, CatchClause, ChainElement, Comment, Directive, ExpressionNode,
+    ForStatementInit, ForStatementLeft, FormalParameter, FormalParameterRest, LabelIdentifier,
+    NodeSet, ObjectPropertyKind, PropertyKey, SimpleAssignmentTarget, StatementNode, SwitchCase,
+    VariableDeclarator,
 };
 
 pub fn check_comments(nodes: &[Comment], around: Surroundings<'_>) -> Result<u64, TreeFault>
@@ -128,6 +135,20 @@ pub fn check_each_formal_parameter<N: CheckNode>(
     below
 }
 
+pub fn check_switch_cases<N: CheckNode>(
+    nodes: &[SwitchCase<N>],
+    around: Surroundings<'_>,
+) -> Result<u64, TreeFault>
+    ensures { result ≡ children_verdict around.entry sets.SwitchCase (trees (map (switch_case_row N.plain) nodes.now)) }
+{
+    let mut below = Ok(0);
+    for node in nodes {
+        let found = check_switch_case(node, around);
+        below = higher(below, found);
+    }
+    below
+}
+
 pub fn check_array_expression_elements_or_holes<N: CheckNode>(
     nodes: &[Option<ArrayExpressionElement<N>>],
     around: Surroundings<'_>,
@@ -174,6 +195,66 @@ pub fn check_optional_formal_parameter_rest<N: CheckNode>(
 {
     match node {
         Some(node) => check_formal_parameter_rest(node, around),
+        None => Ok(0),
+    }
+}
+
+pub fn check_optional_for_statement_init<N: CheckNode>(
+    node: &Option<ForStatementInit<N>>,
+    around: Surroundings<'_>,
+) -> Result<u64, TreeFault>
+    ensures { result ≡ maybe_verdict around.entry sets.ForStatementInit (optional (option_map (in_for_statement_init N.plain) node.now)) }
+{
+    match node {
+        Some(node) => check_for_statement_init(node, around),
+        None => Ok(0),
+    }
+}
+
+pub fn check_optional_label_identifier(
+    node: &Option<Box<LabelIdentifier>>,
+    around: Surroundings<'_>,
+) -> Result<u64, TreeFault>
+    ensures { result ≡ maybe_verdict around.entry sets.LabelIdentifier (optional (option_map (λ b. label_identifier_row b.value) node.now)) }
+{
+    match node {
+        Some(node) => check_label_identifier(node, around),
+        None => Ok(0),
+    }
+}
+
+pub fn check_optional_catch_clause<N: CheckNode>(
+    node: &Option<Box<CatchClause<N>>>,
+    around: Surroundings<'_>,
+) -> Result<u64, TreeFault>
+    ensures { result ≡ maybe_verdict around.entry sets.CatchClause (optional (option_map (λ b. catch_clause_row N.plain b.value) node.now)) }
+{
+    match node {
+        Some(node) => check_catch_clause(node, around),
+        None => Ok(0),
+    }
+}
+
+pub fn check_optional_block_statement<N: CheckNode>(
+    node: &Option<Box<BlockStatement<N>>>,
+    around: Surroundings<'_>,
+) -> Result<u64, TreeFault>
+    ensures { result ≡ maybe_verdict around.entry sets.BlockStatement (optional (option_map (λ b. block_statement_row N.plain b.value) node.now)) }
+{
+    match node {
+        Some(node) => check_block_statement(node, around),
+        None => Ok(0),
+    }
+}
+
+pub fn check_optional_binding_pattern<N: CheckNode>(
+    node: &Option<BindingPatternNode<N>>,
+    around: Surroundings<'_>,
+) -> Result<u64, TreeFault>
+    ensures { result ≡ maybe_verdict around.entry sets.BindingPattern (optional (option_map (in_binding_pattern N.plain) node.now)) }
+{
+    match node {
+        Some(node) => check_child(node.get(), NodeSet::BindingPattern, around),
         None => Ok(0),
     }
 }
@@ -280,6 +361,40 @@ pub fn check_arrow_function_body<N: CheckNode>(
             node.get(),
             NodeSet::ArrowFunctionBody,
             around,
+        ),
+    }
+}
+
+pub fn check_for_statement_init<N: CheckNode>(
+    node: &ForStatementInit<N>,
+    around: Surroundings<'_>,
+) -> Result<u64, TreeFault>
+    ensures { result ≡ child_verdict around.entry sets.ForStatementInit (in_for_statement_init N.plain node.now) }
+{
+    match node {
+        ForStatementInit::VariableDeclaration(node) => check_variable_declaration(node, around),
+        ForStatementInit::Expression(node) => check_child(
+            node.get(),
+            NodeSet::ForStatementInit,
+            around,
+        ),
+    }
+}
+
+pub fn check_for_statement_left<N: CheckNode>(
+    node: &ForStatementLeft<N>,
+    around: Surroundings<'_>,
+) -> Result<u64, TreeFault>
+    ensures { result ≡ child_verdict around.entry sets.ForStatementLeft (in_for_statement_left N.plain node.now) }
+{
+    match node {
+        ForStatementLeft::VariableDeclaration(node) => check_variable_declaration(node, around),
+        ForStatementLeft::IdentifierReference(node) => check_identifier_reference(node, around),
+        ForStatementLeft::StaticMemberExpression(node) => check_static_member_expression(
+            node, around,
+        ),
+        ForStatementLeft::ComputedMemberExpression(node) => check_computed_member_expression(
+            node, around,
         ),
     }
 }

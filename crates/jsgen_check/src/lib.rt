@@ -14,11 +14,13 @@ ghost use Rattle.jsgen_check.specs.Verdict.{tables_of, tree_verdict, child_verdi
 
 mod assignments;
 mod children;
+mod choices;
 mod collections;
 mod expressions;
 mod functions;
 mod heights;
 mod links;
+mod loops;
 mod operations;
 mod program;
 mod rules;
@@ -40,7 +42,7 @@ use jsgen_model::TreeFault;
 use jsgen_rules::{check_no_optional_link, check_set, takes_optional_link};
 use jsgen_tree::{
     CodegenOptions, Expression, GetSpan, IdentifierReference, Node, NodeSet, NodeType,
-    PrivateMappings, Program, Scoping, Tables,
+    PrivateMappings, Program, Scoping, Tables, VariableDeclarationKind,
 };
 
 /// What the checks ask of a child. Only `Node` implements it.
@@ -48,7 +50,7 @@ pub trait CheckNode {
     ghost use Rattle.std.specs.Prelude.{option_map};
     ghost use Rattle.std.specs.Str.{chars};
     ghost use Rattle.jsgen_tree.specs.Tree.{Tree};
-    ghost use Rattle.jsgen_tree.specs.Inside.{without_parentheses, has_optional_link, looked_up_in, named_by, written_name_in, is_negative};
+    ghost use Rattle.jsgen_tree.specs.Inside.{without_parentheses, declared_kind, has_optional_link, looked_up_in, named_by, written_name_in, is_negative};
 
     ghost plain: { Self → Tree };
 
@@ -57,6 +59,10 @@ pub trait CheckNode {
 
     fn start(&self) -> u32
         ensures { result ≡ (span_of (plain self.now)).start };
+
+    /// The word that begins it, where it is a declaration of variables.
+    fn declared_kind(&self) -> Option<VariableDeclarationKind>
+        ensures { result ≡ declared_kind (plain self.now) };
 
     /// The reference itself, where it is one, without the parentheses that it may have round it.
     fn looked_up(&self) -> Option<&IdentifierReference>
@@ -174,6 +180,10 @@ impl CheckNode for Node {
 
     fn start(&self) -> u32 {
         self.span().start
+    }
+
+    fn declared_kind(&self) -> Option<VariableDeclarationKind> {
+        self.declared_kind()
     }
 
     fn looked_up(&self) -> Option<&IdentifierReference> {

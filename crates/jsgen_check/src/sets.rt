@@ -7,6 +7,7 @@ ghost use Rattle.jsgen_check.specs.Verdict.{tree_verdict};
 use crate::assignments::{
     check_assignment_expression, check_conditional_expression, check_sequence_expression,
 };
+use crate::choices::{check_switch_statement, check_try_statement};
 use crate::collections::{check_array_expression, check_object_expression};
 use crate::expressions::{
     check_big_int_literal, check_binary_expression, check_boolean_literal, check_call_expression,
@@ -16,6 +17,11 @@ use crate::expressions::{
     check_this_expression,
 };
 use crate::functions::check_arrow_function_expression;
+use crate::loops::{
+    check_break_statement, check_continue_statement, check_debugger_statement,
+    check_do_while_statement, check_for_in_statement, check_for_of_statement, check_for_statement,
+    check_labeled_statement, check_throw_statement, check_while_statement,
+};
 use crate::operations::{
     check_new_expression, check_new_target, check_super, check_unary_expression,
     check_update_expression,
@@ -88,6 +94,18 @@ pub fn check_statement_set<N: CheckNode>(
         Statement::BlockStatement(node) => check_block_statement(node, around),
         Statement::IfStatement(node) => check_if_statement(node, around),
         Statement::EmptyStatement(node) => check_empty_statement(node, around),
+        Statement::ForStatement(node) => check_for_statement(node, around),
+        Statement::ForInStatement(node) => check_for_in_statement(node, around),
+        Statement::ForOfStatement(node) => check_for_of_statement(node, around),
+        Statement::WhileStatement(node) => check_while_statement(node, around),
+        Statement::DoWhileStatement(node) => check_do_while_statement(node, around),
+        Statement::LabeledStatement(node) => check_labeled_statement(node, around),
+        Statement::ContinueStatement(node) => check_continue_statement(node, around),
+        Statement::BreakStatement(node) => check_break_statement(node, around),
+        Statement::ThrowStatement(node) => check_throw_statement(node, around),
+        Statement::DebuggerStatement(node) => check_debugger_statement(node, around),
+        Statement::SwitchStatement(node) => check_switch_statement(node, around),
+        Statement::TryStatement(node) => check_try_statement(node, around),
     }
 }
 

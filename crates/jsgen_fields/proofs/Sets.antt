@@ -3,7 +3,7 @@
 use Rattle.std.proofs.Common.{◌≡◌, Bool, true, false, refl}
 use Rattle.jsgen_tree.specs.Tree.{Tree, type_of}
 use Rattle.jsgen_tree.specs.declared.types.NodeType.{NodeType}
-use Rattle.jsgen_tree.specs.Sets.{is_comment, is_directive, is_statement, is_variable_declarator, is_binding_pattern, is_expression, is_identifier_name, is_argument, is_chain_element, is_array_expression_element, is_property_key, is_object_property_kind, is_simple_assignment_target, is_assignment_target, is_formal_parameter, is_formal_parameter_rest, is_formal_parameters}
+use Rattle.jsgen_tree.specs.Sets.{is_comment, is_directive, is_statement, is_variable_declarator, is_binding_pattern, is_expression, is_identifier_name, is_argument, is_chain_element, is_array_expression_element, is_property_key, is_object_property_kind, is_simple_assignment_target, is_assignment_target, is_formal_parameter, is_formal_parameter_rest, is_formal_parameters, is_for_statement_init, is_for_statement_left, is_label_identifier, is_switch_case, is_block_statement, is_catch_clause}
 use Rattle.jsgen_tree.specs.Rows.{expression_plain, declaration_plain, statement_plain, binding_pattern_plain}
 use Rattle.jsgen_fields.specs.Meaning.{is_program}
 use Rattle.jsgen_tree.specs.declared.sets.Expression.{Expression}
@@ -26,12 +26,24 @@ of_declaration plain f b h0 (declarations.VariableDeclaration r) = h0
 of_binding_pattern : (f : NodeType → Bool) (b : Bool) → f types.BindingIdentifier ≡ b → (r : BindingPattern) → f (type_of (binding_pattern_plain r)) ≡ b
 of_binding_pattern f b h0 (binding_patterns.BindingIdentifier r) = h0
 
-of_statement : {N : Type 0} (plain : N → Tree) (f : NodeType → Bool) (b : Bool) → f types.ExpressionStatement ≡ b → f types.BlockStatement ≡ b → f types.IfStatement ≡ b → f types.EmptyStatement ≡ b → (r : Statement N) → is_other_statement r ≡ true → f (type_of (statement_plain plain r)) ≡ b
-of_statement plain f b h0 h1 h2 h3 (statements.Declaration r) o = cc
-of_statement plain f b h0 h1 h2 h3 (statements.ExpressionStatement r) o = h0
-of_statement plain f b h0 h1 h2 h3 (statements.BlockStatement r) o = h1
-of_statement plain f b h0 h1 h2 h3 (statements.IfStatement r) o = h2
-of_statement plain f b h0 h1 h2 h3 (statements.EmptyStatement r) o = h3
+of_statement : {N : Type 0} (plain : N → Tree) (f : NodeType → Bool) (b : Bool) → f types.ExpressionStatement ≡ b → f types.BlockStatement ≡ b → f types.IfStatement ≡ b → f types.EmptyStatement ≡ b → f types.ForStatement ≡ b → f types.ForInStatement ≡ b → f types.ForOfStatement ≡ b → f types.WhileStatement ≡ b → f types.DoWhileStatement ≡ b → f types.LabeledStatement ≡ b → f types.ContinueStatement ≡ b → f types.BreakStatement ≡ b → f types.ThrowStatement ≡ b → f types.DebuggerStatement ≡ b → f types.SwitchStatement ≡ b → f types.TryStatement ≡ b → (r : Statement N) → is_other_statement r ≡ true → f (type_of (statement_plain plain r)) ≡ b
+of_statement plain f b h0 h1 h2 h3 h4 h5 h6 h7 h8 h9 h10 h11 h12 h13 h14 h15 (statements.Declaration r) o = cc
+of_statement plain f b h0 h1 h2 h3 h4 h5 h6 h7 h8 h9 h10 h11 h12 h13 h14 h15 (statements.ExpressionStatement r) o = h0
+of_statement plain f b h0 h1 h2 h3 h4 h5 h6 h7 h8 h9 h10 h11 h12 h13 h14 h15 (statements.BlockStatement r) o = h1
+of_statement plain f b h0 h1 h2 h3 h4 h5 h6 h7 h8 h9 h10 h11 h12 h13 h14 h15 (statements.IfStatement r) o = h2
+of_statement plain f b h0 h1 h2 h3 h4 h5 h6 h7 h8 h9 h10 h11 h12 h13 h14 h15 (statements.EmptyStatement r) o = h3
+of_statement plain f b h0 h1 h2 h3 h4 h5 h6 h7 h8 h9 h10 h11 h12 h13 h14 h15 (statements.ForStatement r) o = h4
+of_statement plain f b h0 h1 h2 h3 h4 h5 h6 h7 h8 h9 h10 h11 h12 h13 h14 h15 (statements.ForInStatement r) o = h5
+of_statement plain f b h0 h1 h2 h3 h4 h5 h6 h7 h8 h9 h10 h11 h12 h13 h14 h15 (statements.ForOfStatement r) o = h6
+of_statement plain f b h0 h1 h2 h3 h4 h5 h6 h7 h8 h9 h10 h11 h12 h13 h14 h15 (statements.WhileStatement r) o = h7
+of_statement plain f b h0 h1 h2 h3 h4 h5 h6 h7 h8 h9 h10 h11 h12 h13 h14 h15 (statements.DoWhileStatement r) o = h8
+of_statement plain f b h0 h1 h2 h3 h4 h5 h6 h7 h8 h9 h10 h11 h12 h13 h14 h15 (statements.LabeledStatement r) o = h9
+of_statement plain f b h0 h1 h2 h3 h4 h5 h6 h7 h8 h9 h10 h11 h12 h13 h14 h15 (statements.ContinueStatement r) o = h10
+of_statement plain f b h0 h1 h2 h3 h4 h5 h6 h7 h8 h9 h10 h11 h12 h13 h14 h15 (statements.BreakStatement r) o = h11
+of_statement plain f b h0 h1 h2 h3 h4 h5 h6 h7 h8 h9 h10 h11 h12 h13 h14 h15 (statements.ThrowStatement r) o = h12
+of_statement plain f b h0 h1 h2 h3 h4 h5 h6 h7 h8 h9 h10 h11 h12 h13 h14 h15 (statements.DebuggerStatement r) o = h13
+of_statement plain f b h0 h1 h2 h3 h4 h5 h6 h7 h8 h9 h10 h11 h12 h13 h14 h15 (statements.SwitchStatement r) o = h14
+of_statement plain f b h0 h1 h2 h3 h4 h5 h6 h7 h8 h9 h10 h11 h12 h13 h14 h15 (statements.TryStatement r) o = h15
 
 of_expression : {N : Type 0} (plain : N → Tree) (f : NodeType → Bool) (b : Bool) → f types.IdentifierReference ≡ b → f types.ThisExpression ≡ b → f types.NullLiteral ≡ b → f types.BooleanLiteral ≡ b → f types.NumericLiteral ≡ b → f types.BigIntLiteral ≡ b → f types.StringLiteral ≡ b → f types.BinaryExpression ≡ b → f types.LogicalExpression ≡ b → f types.ParenthesizedExpression ≡ b → f types.StaticMemberExpression ≡ b → f types.ComputedMemberExpression ≡ b → f types.CallExpression ≡ b → f types.ChainExpression ≡ b → f types.ArrayExpression ≡ b → f types.ObjectExpression ≡ b → f types.UnaryExpression ≡ b → f types.UpdateExpression ≡ b → f types.NewExpression ≡ b → f types.NewTarget ≡ b → f types.Super ≡ b → f types.ConditionalExpression ≡ b → f types.SequenceExpression ≡ b → f types.AssignmentExpression ≡ b → f types.ArrowFunctionExpression ≡ b → (r : Expression N) → f (type_of (expression_plain plain r)) ≡ b
 of_expression plain f b h0 h1 h2 h3 h4 h5 h6 h7 h8 h9 h10 h11 h12 h13 h14 h15 h16 h17 h18 h19 h20 h21 h22 h23 h24 (expressions.IdentifierReference r) = h0
@@ -69,7 +81,7 @@ pub no_binding_pattern_is_a_program : (r : BindingPattern) → is_program (type_
 no_binding_pattern_is_a_program r = of_binding_pattern is_program false refl r
 
 pub no_statement_is_a_program : {N : Type 0} (plain : N → Tree) (r : OtherStatement N) → is_program (type_of (statement_plain plain r.statement)) ≡ false
-no_statement_is_a_program plain r = of_statement plain is_program false refl refl refl refl r.statement r.other
+no_statement_is_a_program plain r = of_statement plain is_program false refl refl refl refl refl refl refl refl refl refl refl refl refl refl refl refl r.statement r.other
 
 pub no_expression_is_a_program : {N : Type 0} (plain : N → Tree) (r : Expression N) → is_program (type_of (expression_plain plain r)) ≡ false
 no_expression_is_a_program plain r = of_expression plain is_program false refl refl refl refl refl refl refl refl refl refl refl refl refl refl refl refl refl refl refl refl refl refl refl refl refl r
@@ -81,7 +93,7 @@ pub no_binding_pattern_is_a_comment : (r : BindingPattern) → is_comment (type_
 no_binding_pattern_is_a_comment r = of_binding_pattern is_comment false refl r
 
 pub no_statement_is_a_comment : {N : Type 0} (plain : N → Tree) (r : OtherStatement N) → is_comment (type_of (statement_plain plain r.statement)) ≡ false
-no_statement_is_a_comment plain r = of_statement plain is_comment false refl refl refl refl r.statement r.other
+no_statement_is_a_comment plain r = of_statement plain is_comment false refl refl refl refl refl refl refl refl refl refl refl refl refl refl refl refl r.statement r.other
 
 pub no_expression_is_a_comment : {N : Type 0} (plain : N → Tree) (r : Expression N) → is_comment (type_of (expression_plain plain r)) ≡ false
 no_expression_is_a_comment plain r = of_expression plain is_comment false refl refl refl refl refl refl refl refl refl refl refl refl refl refl refl refl refl refl refl refl refl refl refl refl refl r
@@ -93,7 +105,7 @@ pub no_binding_pattern_is_a_directive : (r : BindingPattern) → is_directive (t
 no_binding_pattern_is_a_directive r = of_binding_pattern is_directive false refl r
 
 pub no_statement_is_a_directive : {N : Type 0} (plain : N → Tree) (r : OtherStatement N) → is_directive (type_of (statement_plain plain r.statement)) ≡ false
-no_statement_is_a_directive plain r = of_statement plain is_directive false refl refl refl refl r.statement r.other
+no_statement_is_a_directive plain r = of_statement plain is_directive false refl refl refl refl refl refl refl refl refl refl refl refl refl refl refl refl r.statement r.other
 
 pub no_expression_is_a_directive : {N : Type 0} (plain : N → Tree) (r : Expression N) → is_directive (type_of (expression_plain plain r)) ≡ false
 no_expression_is_a_directive plain r = of_expression plain is_directive false refl refl refl refl refl refl refl refl refl refl refl refl refl refl refl refl refl refl refl refl refl refl refl refl refl r
@@ -105,7 +117,7 @@ pub no_binding_pattern_is_a_statement : (r : BindingPattern) → is_statement (t
 no_binding_pattern_is_a_statement r = of_binding_pattern is_statement false refl r
 
 pub each_statement_is_a_statement : {N : Type 0} (plain : N → Tree) (r : OtherStatement N) → is_statement (type_of (statement_plain plain r.statement)) ≡ true
-each_statement_is_a_statement plain r = of_statement plain is_statement true refl refl refl refl r.statement r.other
+each_statement_is_a_statement plain r = of_statement plain is_statement true refl refl refl refl refl refl refl refl refl refl refl refl refl refl refl refl r.statement r.other
 
 pub no_expression_is_a_statement : {N : Type 0} (plain : N → Tree) (r : Expression N) → is_statement (type_of (expression_plain plain r)) ≡ false
 no_expression_is_a_statement plain r = of_expression plain is_statement false refl refl refl refl refl refl refl refl refl refl refl refl refl refl refl refl refl refl refl refl refl refl refl refl refl r
@@ -117,7 +129,7 @@ pub no_binding_pattern_is_a_variable_declarator : (r : BindingPattern) → is_va
 no_binding_pattern_is_a_variable_declarator r = of_binding_pattern is_variable_declarator false refl r
 
 pub no_statement_is_a_variable_declarator : {N : Type 0} (plain : N → Tree) (r : OtherStatement N) → is_variable_declarator (type_of (statement_plain plain r.statement)) ≡ false
-no_statement_is_a_variable_declarator plain r = of_statement plain is_variable_declarator false refl refl refl refl r.statement r.other
+no_statement_is_a_variable_declarator plain r = of_statement plain is_variable_declarator false refl refl refl refl refl refl refl refl refl refl refl refl refl refl refl refl r.statement r.other
 
 pub no_expression_is_a_variable_declarator : {N : Type 0} (plain : N → Tree) (r : Expression N) → is_variable_declarator (type_of (expression_plain plain r)) ≡ false
 no_expression_is_a_variable_declarator plain r = of_expression plain is_variable_declarator false refl refl refl refl refl refl refl refl refl refl refl refl refl refl refl refl refl refl refl refl refl refl refl refl refl r
@@ -129,7 +141,7 @@ pub each_binding_pattern_is_a_binding_pattern : (r : BindingPattern) → is_bind
 each_binding_pattern_is_a_binding_pattern r = of_binding_pattern is_binding_pattern true refl r
 
 pub no_statement_is_a_binding_pattern : {N : Type 0} (plain : N → Tree) (r : OtherStatement N) → is_binding_pattern (type_of (statement_plain plain r.statement)) ≡ false
-no_statement_is_a_binding_pattern plain r = of_statement plain is_binding_pattern false refl refl refl refl r.statement r.other
+no_statement_is_a_binding_pattern plain r = of_statement plain is_binding_pattern false refl refl refl refl refl refl refl refl refl refl refl refl refl refl refl refl r.statement r.other
 
 pub no_expression_is_a_binding_pattern : {N : Type 0} (plain : N → Tree) (r : Expression N) → is_binding_pattern (type_of (expression_plain plain r)) ≡ false
 no_expression_is_a_binding_pattern plain r = of_expression plain is_binding_pattern false refl refl refl refl refl refl refl refl refl refl refl refl refl refl refl refl refl refl refl refl refl refl refl refl refl r
@@ -141,7 +153,7 @@ pub no_binding_pattern_is_an_expression : (r : BindingPattern) → is_expression
 no_binding_pattern_is_an_expression r = of_binding_pattern is_expression false refl r
 
 pub no_statement_is_an_expression : {N : Type 0} (plain : N → Tree) (r : OtherStatement N) → is_expression (type_of (statement_plain plain r.statement)) ≡ false
-no_statement_is_an_expression plain r = of_statement plain is_expression false refl refl refl refl r.statement r.other
+no_statement_is_an_expression plain r = of_statement plain is_expression false refl refl refl refl refl refl refl refl refl refl refl refl refl refl refl refl r.statement r.other
 
 pub each_expression_is_an_expression : {N : Type 0} (plain : N → Tree) (r : Expression N) → is_expression (type_of (expression_plain plain r)) ≡ true
 each_expression_is_an_expression plain r = of_expression plain is_expression true refl refl refl refl refl refl refl refl refl refl refl refl refl refl refl refl refl refl refl refl refl refl refl refl refl r
@@ -153,7 +165,7 @@ pub no_binding_pattern_is_an_identifier_name : (r : BindingPattern) → is_ident
 no_binding_pattern_is_an_identifier_name r = of_binding_pattern is_identifier_name false refl r
 
 pub no_statement_is_an_identifier_name : {N : Type 0} (plain : N → Tree) (r : OtherStatement N) → is_identifier_name (type_of (statement_plain plain r.statement)) ≡ false
-no_statement_is_an_identifier_name plain r = of_statement plain is_identifier_name false refl refl refl refl r.statement r.other
+no_statement_is_an_identifier_name plain r = of_statement plain is_identifier_name false refl refl refl refl refl refl refl refl refl refl refl refl refl refl refl refl r.statement r.other
 
 pub no_expression_is_an_identifier_name : {N : Type 0} (plain : N → Tree) (r : Expression N) → is_identifier_name (type_of (expression_plain plain r)) ≡ false
 no_expression_is_an_identifier_name plain r = of_expression plain is_identifier_name false refl refl refl refl refl refl refl refl refl refl refl refl refl refl refl refl refl refl refl refl refl refl refl refl refl r
@@ -165,7 +177,7 @@ pub no_binding_pattern_is_an_argument : (r : BindingPattern) → is_argument (ty
 no_binding_pattern_is_an_argument r = of_binding_pattern is_argument false refl r
 
 pub no_statement_is_an_argument : {N : Type 0} (plain : N → Tree) (r : OtherStatement N) → is_argument (type_of (statement_plain plain r.statement)) ≡ false
-no_statement_is_an_argument plain r = of_statement plain is_argument false refl refl refl refl r.statement r.other
+no_statement_is_an_argument plain r = of_statement plain is_argument false refl refl refl refl refl refl refl refl refl refl refl refl refl refl refl refl r.statement r.other
 
 pub each_expression_is_an_argument : {N : Type 0} (plain : N → Tree) (r : Expression N) → is_argument (type_of (expression_plain plain r)) ≡ true
 each_expression_is_an_argument plain r = of_expression plain is_argument true refl refl refl refl refl refl refl refl refl refl refl refl refl refl refl refl refl refl refl refl refl refl refl refl refl r
@@ -177,7 +189,7 @@ pub no_binding_pattern_is_a_chain_element : (r : BindingPattern) → is_chain_el
 no_binding_pattern_is_a_chain_element r = of_binding_pattern is_chain_element false refl r
 
 pub no_statement_is_a_chain_element : {N : Type 0} (plain : N → Tree) (r : OtherStatement N) → is_chain_element (type_of (statement_plain plain r.statement)) ≡ false
-no_statement_is_a_chain_element plain r = of_statement plain is_chain_element false refl refl refl refl r.statement r.other
+no_statement_is_a_chain_element plain r = of_statement plain is_chain_element false refl refl refl refl refl refl refl refl refl refl refl refl refl refl refl refl r.statement r.other
 
 pub no_declaration_is_an_array_expression_element : {N : Type 0} (plain : N → Tree) (r : Declaration N) → is_array_expression_element (type_of (declaration_plain plain r)) ≡ false
 no_declaration_is_an_array_expression_element plain r = of_declaration plain is_array_expression_element false refl r
@@ -186,7 +198,7 @@ pub no_binding_pattern_is_an_array_expression_element : (r : BindingPattern) →
 no_binding_pattern_is_an_array_expression_element r = of_binding_pattern is_array_expression_element false refl r
 
 pub no_statement_is_an_array_expression_element : {N : Type 0} (plain : N → Tree) (r : OtherStatement N) → is_array_expression_element (type_of (statement_plain plain r.statement)) ≡ false
-no_statement_is_an_array_expression_element plain r = of_statement plain is_array_expression_element false refl refl refl refl r.statement r.other
+no_statement_is_an_array_expression_element plain r = of_statement plain is_array_expression_element false refl refl refl refl refl refl refl refl refl refl refl refl refl refl refl refl r.statement r.other
 
 pub each_expression_is_an_array_expression_element : {N : Type 0} (plain : N → Tree) (r : Expression N) → is_array_expression_element (type_of (expression_plain plain r)) ≡ true
 each_expression_is_an_array_expression_element plain r = of_expression plain is_array_expression_element true refl refl refl refl refl refl refl refl refl refl refl refl refl refl refl refl refl refl refl refl refl refl refl refl refl r
@@ -198,7 +210,7 @@ pub no_binding_pattern_is_a_property_key : (r : BindingPattern) → is_property_
 no_binding_pattern_is_a_property_key r = of_binding_pattern is_property_key false refl r
 
 pub no_statement_is_a_property_key : {N : Type 0} (plain : N → Tree) (r : OtherStatement N) → is_property_key (type_of (statement_plain plain r.statement)) ≡ false
-no_statement_is_a_property_key plain r = of_statement plain is_property_key false refl refl refl refl r.statement r.other
+no_statement_is_a_property_key plain r = of_statement plain is_property_key false refl refl refl refl refl refl refl refl refl refl refl refl refl refl refl refl r.statement r.other
 
 pub each_expression_is_a_property_key : {N : Type 0} (plain : N → Tree) (r : Expression N) → is_property_key (type_of (expression_plain plain r)) ≡ true
 each_expression_is_a_property_key plain r = of_expression plain is_property_key true refl refl refl refl refl refl refl refl refl refl refl refl refl refl refl refl refl refl refl refl refl refl refl refl refl r
@@ -210,7 +222,7 @@ pub no_binding_pattern_is_an_object_property_kind : (r : BindingPattern) → is_
 no_binding_pattern_is_an_object_property_kind r = of_binding_pattern is_object_property_kind false refl r
 
 pub no_statement_is_an_object_property_kind : {N : Type 0} (plain : N → Tree) (r : OtherStatement N) → is_object_property_kind (type_of (statement_plain plain r.statement)) ≡ false
-no_statement_is_an_object_property_kind plain r = of_statement plain is_object_property_kind false refl refl refl refl r.statement r.other
+no_statement_is_an_object_property_kind plain r = of_statement plain is_object_property_kind false refl refl refl refl refl refl refl refl refl refl refl refl refl refl refl refl r.statement r.other
 
 pub no_expression_is_an_object_property_kind : {N : Type 0} (plain : N → Tree) (r : Expression N) → is_object_property_kind (type_of (expression_plain plain r)) ≡ false
 no_expression_is_an_object_property_kind plain r = of_expression plain is_object_property_kind false refl refl refl refl refl refl refl refl refl refl refl refl refl refl refl refl refl refl refl refl refl refl refl refl refl r
@@ -222,7 +234,7 @@ pub no_binding_pattern_is_a_simple_assignment_target : (r : BindingPattern) → 
 no_binding_pattern_is_a_simple_assignment_target r = of_binding_pattern is_simple_assignment_target false refl r
 
 pub no_statement_is_a_simple_assignment_target : {N : Type 0} (plain : N → Tree) (r : OtherStatement N) → is_simple_assignment_target (type_of (statement_plain plain r.statement)) ≡ false
-no_statement_is_a_simple_assignment_target plain r = of_statement plain is_simple_assignment_target false refl refl refl refl r.statement r.other
+no_statement_is_a_simple_assignment_target plain r = of_statement plain is_simple_assignment_target false refl refl refl refl refl refl refl refl refl refl refl refl refl refl refl refl r.statement r.other
 
 pub no_declaration_is_an_assignment_target : {N : Type 0} (plain : N → Tree) (r : Declaration N) → is_assignment_target (type_of (declaration_plain plain r)) ≡ false
 no_declaration_is_an_assignment_target plain r = of_declaration plain is_assignment_target false refl r
@@ -231,7 +243,7 @@ pub no_binding_pattern_is_an_assignment_target : (r : BindingPattern) → is_ass
 no_binding_pattern_is_an_assignment_target r = of_binding_pattern is_assignment_target false refl r
 
 pub no_statement_is_an_assignment_target : {N : Type 0} (plain : N → Tree) (r : OtherStatement N) → is_assignment_target (type_of (statement_plain plain r.statement)) ≡ false
-no_statement_is_an_assignment_target plain r = of_statement plain is_assignment_target false refl refl refl refl r.statement r.other
+no_statement_is_an_assignment_target plain r = of_statement plain is_assignment_target false refl refl refl refl refl refl refl refl refl refl refl refl refl refl refl refl r.statement r.other
 
 pub no_declaration_is_a_formal_parameter : {N : Type 0} (plain : N → Tree) (r : Declaration N) → is_formal_parameter (type_of (declaration_plain plain r)) ≡ false
 no_declaration_is_a_formal_parameter plain r = of_declaration plain is_formal_parameter false refl r
@@ -240,7 +252,7 @@ pub no_binding_pattern_is_a_formal_parameter : (r : BindingPattern) → is_forma
 no_binding_pattern_is_a_formal_parameter r = of_binding_pattern is_formal_parameter false refl r
 
 pub no_statement_is_a_formal_parameter : {N : Type 0} (plain : N → Tree) (r : OtherStatement N) → is_formal_parameter (type_of (statement_plain plain r.statement)) ≡ false
-no_statement_is_a_formal_parameter plain r = of_statement plain is_formal_parameter false refl refl refl refl r.statement r.other
+no_statement_is_a_formal_parameter plain r = of_statement plain is_formal_parameter false refl refl refl refl refl refl refl refl refl refl refl refl refl refl refl refl r.statement r.other
 
 pub no_expression_is_a_formal_parameter : {N : Type 0} (plain : N → Tree) (r : Expression N) → is_formal_parameter (type_of (expression_plain plain r)) ≡ false
 no_expression_is_a_formal_parameter plain r = of_expression plain is_formal_parameter false refl refl refl refl refl refl refl refl refl refl refl refl refl refl refl refl refl refl refl refl refl refl refl refl refl r
@@ -252,7 +264,7 @@ pub no_binding_pattern_is_a_formal_parameter_rest : (r : BindingPattern) → is_
 no_binding_pattern_is_a_formal_parameter_rest r = of_binding_pattern is_formal_parameter_rest false refl r
 
 pub no_statement_is_a_formal_parameter_rest : {N : Type 0} (plain : N → Tree) (r : OtherStatement N) → is_formal_parameter_rest (type_of (statement_plain plain r.statement)) ≡ false
-no_statement_is_a_formal_parameter_rest plain r = of_statement plain is_formal_parameter_rest false refl refl refl refl r.statement r.other
+no_statement_is_a_formal_parameter_rest plain r = of_statement plain is_formal_parameter_rest false refl refl refl refl refl refl refl refl refl refl refl refl refl refl refl refl r.statement r.other
 
 pub no_expression_is_a_formal_parameter_rest : {N : Type 0} (plain : N → Tree) (r : Expression N) → is_formal_parameter_rest (type_of (expression_plain plain r)) ≡ false
 no_expression_is_a_formal_parameter_rest plain r = of_expression plain is_formal_parameter_rest false refl refl refl refl refl refl refl refl refl refl refl refl refl refl refl refl refl refl refl refl refl refl refl refl refl r
@@ -264,10 +276,76 @@ pub no_binding_pattern_is_a_formal_parameters : (r : BindingPattern) → is_form
 no_binding_pattern_is_a_formal_parameters r = of_binding_pattern is_formal_parameters false refl r
 
 pub no_statement_is_a_formal_parameters : {N : Type 0} (plain : N → Tree) (r : OtherStatement N) → is_formal_parameters (type_of (statement_plain plain r.statement)) ≡ false
-no_statement_is_a_formal_parameters plain r = of_statement plain is_formal_parameters false refl refl refl refl r.statement r.other
+no_statement_is_a_formal_parameters plain r = of_statement plain is_formal_parameters false refl refl refl refl refl refl refl refl refl refl refl refl refl refl refl refl r.statement r.other
 
 pub no_expression_is_a_formal_parameters : {N : Type 0} (plain : N → Tree) (r : Expression N) → is_formal_parameters (type_of (expression_plain plain r)) ≡ false
 no_expression_is_a_formal_parameters plain r = of_expression plain is_formal_parameters false refl refl refl refl refl refl refl refl refl refl refl refl refl refl refl refl refl refl refl refl refl refl refl refl refl r
+
+pub each_declaration_is_a_for_statement_init : {N : Type 0} (plain : N → Tree) (r : Declaration N) → is_for_statement_init (type_of (declaration_plain plain r)) ≡ true
+each_declaration_is_a_for_statement_init plain r = of_declaration plain is_for_statement_init true refl r
+
+pub no_binding_pattern_is_a_for_statement_init : (r : BindingPattern) → is_for_statement_init (type_of (binding_pattern_plain r)) ≡ false
+no_binding_pattern_is_a_for_statement_init r = of_binding_pattern is_for_statement_init false refl r
+
+pub no_statement_is_a_for_statement_init : {N : Type 0} (plain : N → Tree) (r : OtherStatement N) → is_for_statement_init (type_of (statement_plain plain r.statement)) ≡ false
+no_statement_is_a_for_statement_init plain r = of_statement plain is_for_statement_init false refl refl refl refl refl refl refl refl refl refl refl refl refl refl refl refl r.statement r.other
+
+pub each_expression_is_a_for_statement_init : {N : Type 0} (plain : N → Tree) (r : Expression N) → is_for_statement_init (type_of (expression_plain plain r)) ≡ true
+each_expression_is_a_for_statement_init plain r = of_expression plain is_for_statement_init true refl refl refl refl refl refl refl refl refl refl refl refl refl refl refl refl refl refl refl refl refl refl refl refl refl r
+
+pub each_declaration_is_a_for_statement_left : {N : Type 0} (plain : N → Tree) (r : Declaration N) → is_for_statement_left (type_of (declaration_plain plain r)) ≡ true
+each_declaration_is_a_for_statement_left plain r = of_declaration plain is_for_statement_left true refl r
+
+pub no_binding_pattern_is_a_for_statement_left : (r : BindingPattern) → is_for_statement_left (type_of (binding_pattern_plain r)) ≡ false
+no_binding_pattern_is_a_for_statement_left r = of_binding_pattern is_for_statement_left false refl r
+
+pub no_statement_is_a_for_statement_left : {N : Type 0} (plain : N → Tree) (r : OtherStatement N) → is_for_statement_left (type_of (statement_plain plain r.statement)) ≡ false
+no_statement_is_a_for_statement_left plain r = of_statement plain is_for_statement_left false refl refl refl refl refl refl refl refl refl refl refl refl refl refl refl refl r.statement r.other
+
+pub no_declaration_is_a_label_identifier : {N : Type 0} (plain : N → Tree) (r : Declaration N) → is_label_identifier (type_of (declaration_plain plain r)) ≡ false
+no_declaration_is_a_label_identifier plain r = of_declaration plain is_label_identifier false refl r
+
+pub no_binding_pattern_is_a_label_identifier : (r : BindingPattern) → is_label_identifier (type_of (binding_pattern_plain r)) ≡ false
+no_binding_pattern_is_a_label_identifier r = of_binding_pattern is_label_identifier false refl r
+
+pub no_statement_is_a_label_identifier : {N : Type 0} (plain : N → Tree) (r : OtherStatement N) → is_label_identifier (type_of (statement_plain plain r.statement)) ≡ false
+no_statement_is_a_label_identifier plain r = of_statement plain is_label_identifier false refl refl refl refl refl refl refl refl refl refl refl refl refl refl refl refl r.statement r.other
+
+pub no_expression_is_a_label_identifier : {N : Type 0} (plain : N → Tree) (r : Expression N) → is_label_identifier (type_of (expression_plain plain r)) ≡ false
+no_expression_is_a_label_identifier plain r = of_expression plain is_label_identifier false refl refl refl refl refl refl refl refl refl refl refl refl refl refl refl refl refl refl refl refl refl refl refl refl refl r
+
+pub no_declaration_is_a_switch_case : {N : Type 0} (plain : N → Tree) (r : Declaration N) → is_switch_case (type_of (declaration_plain plain r)) ≡ false
+no_declaration_is_a_switch_case plain r = of_declaration plain is_switch_case false refl r
+
+pub no_binding_pattern_is_a_switch_case : (r : BindingPattern) → is_switch_case (type_of (binding_pattern_plain r)) ≡ false
+no_binding_pattern_is_a_switch_case r = of_binding_pattern is_switch_case false refl r
+
+pub no_statement_is_a_switch_case : {N : Type 0} (plain : N → Tree) (r : OtherStatement N) → is_switch_case (type_of (statement_plain plain r.statement)) ≡ false
+no_statement_is_a_switch_case plain r = of_statement plain is_switch_case false refl refl refl refl refl refl refl refl refl refl refl refl refl refl refl refl r.statement r.other
+
+pub no_expression_is_a_switch_case : {N : Type 0} (plain : N → Tree) (r : Expression N) → is_switch_case (type_of (expression_plain plain r)) ≡ false
+no_expression_is_a_switch_case plain r = of_expression plain is_switch_case false refl refl refl refl refl refl refl refl refl refl refl refl refl refl refl refl refl refl refl refl refl refl refl refl refl r
+
+pub no_declaration_is_a_block_statement : {N : Type 0} (plain : N → Tree) (r : Declaration N) → is_block_statement (type_of (declaration_plain plain r)) ≡ false
+no_declaration_is_a_block_statement plain r = of_declaration plain is_block_statement false refl r
+
+pub no_binding_pattern_is_a_block_statement : (r : BindingPattern) → is_block_statement (type_of (binding_pattern_plain r)) ≡ false
+no_binding_pattern_is_a_block_statement r = of_binding_pattern is_block_statement false refl r
+
+pub no_expression_is_a_block_statement : {N : Type 0} (plain : N → Tree) (r : Expression N) → is_block_statement (type_of (expression_plain plain r)) ≡ false
+no_expression_is_a_block_statement plain r = of_expression plain is_block_statement false refl refl refl refl refl refl refl refl refl refl refl refl refl refl refl refl refl refl refl refl refl refl refl refl refl r
+
+pub no_declaration_is_a_catch_clause : {N : Type 0} (plain : N → Tree) (r : Declaration N) → is_catch_clause (type_of (declaration_plain plain r)) ≡ false
+no_declaration_is_a_catch_clause plain r = of_declaration plain is_catch_clause false refl r
+
+pub no_binding_pattern_is_a_catch_clause : (r : BindingPattern) → is_catch_clause (type_of (binding_pattern_plain r)) ≡ false
+no_binding_pattern_is_a_catch_clause r = of_binding_pattern is_catch_clause false refl r
+
+pub no_statement_is_a_catch_clause : {N : Type 0} (plain : N → Tree) (r : OtherStatement N) → is_catch_clause (type_of (statement_plain plain r.statement)) ≡ false
+no_statement_is_a_catch_clause plain r = of_statement plain is_catch_clause false refl refl refl refl refl refl refl refl refl refl refl refl refl refl refl refl r.statement r.other
+
+pub no_expression_is_a_catch_clause : {N : Type 0} (plain : N → Tree) (r : Expression N) → is_catch_clause (type_of (expression_plain plain r)) ≡ false
+no_expression_is_a_catch_clause plain r = of_expression plain is_catch_clause false refl refl refl refl refl refl refl refl refl refl refl refl refl refl refl refl refl refl refl refl refl refl refl refl refl r
 
 pub program_type : (t : NodeType) → is_program t ≡ true → t ≡ types.Program
 program_type types.Program h = refl
@@ -311,6 +389,21 @@ program_type types.FormalParameter h = cc
 program_type types.FormalParameterRest h = cc
 program_type types.FormalParameters h = cc
 program_type types.ArrowFunctionExpression h = cc
+program_type types.ForStatement h = cc
+program_type types.ForInStatement h = cc
+program_type types.ForOfStatement h = cc
+program_type types.WhileStatement h = cc
+program_type types.DoWhileStatement h = cc
+program_type types.LabelIdentifier h = cc
+program_type types.LabeledStatement h = cc
+program_type types.ContinueStatement h = cc
+program_type types.BreakStatement h = cc
+program_type types.ThrowStatement h = cc
+program_type types.DebuggerStatement h = cc
+program_type types.SwitchStatement h = cc
+program_type types.SwitchCase h = cc
+program_type types.TryStatement h = cc
+program_type types.CatchClause h = cc
 
 -- ---- which rows a place takes
 
@@ -349,3 +442,15 @@ pub ruleset takes_formal_parameters = (no_declaration_is_a_formal_parameter, no_
 pub ruleset takes_formal_parameter_rests = (no_declaration_is_a_formal_parameter_rest, no_binding_pattern_is_a_formal_parameter_rest, no_statement_is_a_formal_parameter_rest, no_expression_is_a_formal_parameter_rest)
 
 pub ruleset takes_formal_parameterss = (no_declaration_is_a_formal_parameters, no_binding_pattern_is_a_formal_parameters, no_statement_is_a_formal_parameters, no_expression_is_a_formal_parameters)
+
+pub ruleset takes_for_statement_inits = (each_declaration_is_a_for_statement_init, no_binding_pattern_is_a_for_statement_init, no_statement_is_a_for_statement_init, each_expression_is_a_for_statement_init)
+
+pub ruleset takes_for_statement_lefts = (each_declaration_is_a_for_statement_left, no_binding_pattern_is_a_for_statement_left, no_statement_is_a_for_statement_left)
+
+pub ruleset takes_label_identifiers = (no_declaration_is_a_label_identifier, no_binding_pattern_is_a_label_identifier, no_statement_is_a_label_identifier, no_expression_is_a_label_identifier)
+
+pub ruleset takes_switch_cases = (no_declaration_is_a_switch_case, no_binding_pattern_is_a_switch_case, no_statement_is_a_switch_case, no_expression_is_a_switch_case)
+
+pub ruleset takes_block_statements = (no_declaration_is_a_block_statement, no_binding_pattern_is_a_block_statement, no_expression_is_a_block_statement)
+
+pub ruleset takes_catch_clauses = (no_declaration_is_a_catch_clause, no_binding_pattern_is_a_catch_clause, no_statement_is_a_catch_clause, no_expression_is_a_catch_clause)

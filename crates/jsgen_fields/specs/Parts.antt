@@ -55,3 +55,24 @@ is_in_assignments types.ConditionalExpression = true
 is_in_assignments types.SequenceExpression = true
 is_in_assignments types.AssignmentExpression = true
 is_in_assignments other = false
+
+abbrev pub is_in_functions : NodeType → Bool
+is_in_functions types.FormalParameter = true
+is_in_functions types.FormalParameterRest = true
+is_in_functions types.FormalParameters = true
+is_in_functions types.ArrowFunctionExpression = true
+is_in_functions other = false
+
+abbrev pub is_in_loops : NodeType → Bool
+is_in_loops types.ForStatement = true
+is_in_loops types.ForInStatement = true
+is_in_loops types.ForOfStatement = true
+is_in_loops types.WhileStatement = true
+is_in_loops types.DoWhileStatement = true
+is_in_loops types.LabelIdentifier = true
+is_in_loops types.LabeledStatement = true
+is_in_loops types.ContinueStatement = true
+is_in_loops types.BreakStatement = true
+is_in_loops types.ThrowStatement = true
+is_in_loops types.DebuggerStatement = true
+is_in_loops other = false

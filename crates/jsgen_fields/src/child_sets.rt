@@ -3,17 +3,20 @@
 ghost use Rattle.std.specs.Prelude.{◌≡◌, IfOk, Some, None, option_map, if◌then◌else◌};
 ghost use Rattle.jsgen_tree.specs.Tree.{type_of};
 ghost use Rattle.jsgen_tree.specs.Sets.{in_set};
-ghost use Rattle.jsgen_tree.specs.Rows.{in_expression, in_argument, in_array_expression_element, in_chain_element, in_simple_assignment_target, in_assignment_target, in_arrow_function_body, in_object_property_kind, in_property_key, in_declaration, in_statement, in_binding_pattern, comment_row, directive_row, variable_declarator_row, identifier_name_row, formal_parameter_row, formal_parameter_rest_row, formal_parameters_row, expression_plain};
+ghost use Rattle.jsgen_tree.specs.Rows.{in_expression, in_argument, in_array_expression_element, in_chain_element, in_simple_assignment_target, in_assignment_target, in_arrow_function_body, in_for_statement_init, in_for_statement_left, in_object_property_kind, in_property_key, in_declaration, in_statement, in_binding_pattern, comment_row, directive_row, variable_declarator_row, block_statement_row, identifier_name_row, formal_parameter_row, formal_parameter_rest_row, formal_parameters_row, label_identifier_row, switch_case_row, catch_clause_row, expression_plain, declaration_plain, statement_plain};
 ghost use Rattle.jsgen_fields.specs.Kept.{row_plain};
 ghost use Rattle.jsgen_tree.specs.declared.types.NodeSet.TheVariants as sets;
 
 use crate::children::Child;
 use crate::kept::{ReadNode, Row};
+use crate::others::OtherStatement;
 use jsgen_tree::{
     Argument, ArrayExpressionElement, ArrowFunctionBody, AssignmentTarget, BindingPatternNode,
-    ChainElement, Comment, DeclarationNode, Directive, Expression, ExpressionNode, FormalParameter,
-    FormalParameterRest, FormalParameters, IdentifierName, NodeSet, ObjectPropertyKind,
-    PropertyKey, SimpleAssignmentTarget, Statement, StatementNode, VariableDeclarator,
+    BlockStatement, CatchClause, ChainElement, Comment, Declaration, DeclarationNode, Directive,
+    Expression, ExpressionNode, ForStatementInit, ForStatementLeft, FormalParameter,
+    FormalParameterRest, FormalParameters, IdentifierName, LabelIdentifier, NodeSet,
+    ObjectPropertyKind, PropertyKey, SimpleAssignmentTarget, Statement, StatementNode, SwitchCase,
+    VariableDeclarator,
 };
 use std::alloc::{AllocError, Global};
 
@@ -433,6 +436,142 @@ impl<N: ReadNode + Drop> Child<N> for ArrowFunctionBody<N> {
     }
 }
 
+impl<N: ReadNode + Drop> Child<N> for ForStatementInit<N> {
+    ghost plain = { λ n. in_for_statement_init N.plain n };
+
+    ghost of_set = { sets.ForStatementInit };
+
+    fn set() -> NodeSet {
+        NodeSet::ForStatementInit
+    }
+
+    #[tactic(auto, using(crate::proofs::Sets::takes_for_statement_inits))]
+    fn from_row(alloc: Global, row: Row<N>) -> Result<Option<ForStatementInit<N>>, AllocError>
+        ensures { IfOk result (λ child. option_map (in_for_statement_init N.plain) child
+            ≡ (if in_set sets.ForStatementInit (type_of (row_plain N.plain row)) then Some (row_plain N.plain row) else None)) }
+    {
+        match row {
+            Row::Declaration(row) => Ok(for_statement_init_of_declaration(Box::into_inner(row))),
+            Row::Expression(row) => for_statement_init_of_expression(
+                alloc,
+                N::expression_node(Box::into_inner(row)),
+            ),
+            _ => Ok(None),
+        }
+    }
+}
+
+impl<N: ReadNode + Drop> Child<N> for ForStatementLeft<N> {
+    ghost plain = { λ n. in_for_statement_left N.plain n };
+
+    ghost of_set = { sets.ForStatementLeft };
+
+    fn set() -> NodeSet {
+        NodeSet::ForStatementLeft
+    }
+
+    #[tactic(auto, using(crate::proofs::Sets::takes_for_statement_lefts))]
+    fn from_row(alloc: Global, row: Row<N>) -> Result<Option<ForStatementLeft<N>>, AllocError>
+        ensures { IfOk result (λ child. option_map (in_for_statement_left N.plain) child
+            ≡ (if in_set sets.ForStatementLeft (type_of (row_plain N.plain row)) then Some (row_plain N.plain row) else None)) }
+    {
+        let _ = alloc;
+        match row {
+            Row::Declaration(row) => Ok(for_statement_left_of_declaration(Box::into_inner(row))),
+            Row::Expression(row) => Ok(for_statement_left_of_expression(Box::into_inner(row))),
+            _ => Ok(None),
+        }
+    }
+}
+
+impl<N: ReadNode + Drop> Child<N> for Box<LabelIdentifier> {
+    ghost plain = { λ n. label_identifier_row n.value };
+
+    ghost of_set = { sets.LabelIdentifier };
+
+    fn set() -> NodeSet {
+        NodeSet::LabelIdentifier
+    }
+
+    #[tactic(auto, using(crate::proofs::Sets::takes_label_identifiers))]
+    fn from_row(alloc: Global, row: Row<N>) -> Result<Option<Box<LabelIdentifier>>, AllocError>
+        ensures { IfOk result (λ child. option_map (λ b. label_identifier_row b.value) child
+            ≡ (if in_set sets.LabelIdentifier (type_of (row_plain N.plain row)) then Some (row_plain N.plain row) else None)) }
+    {
+        let _ = alloc;
+        match row {
+            Row::LabelIdentifier(row) => Ok(Some(row)),
+            _ => Ok(None),
+        }
+    }
+}
+
+impl<N: ReadNode + Drop> Child<N> for SwitchCase<N> {
+    ghost plain = { λ n. switch_case_row N.plain n };
+
+    ghost of_set = { sets.SwitchCase };
+
+    fn set() -> NodeSet {
+        NodeSet::SwitchCase
+    }
+
+    #[tactic(auto, using(crate::proofs::Sets::takes_switch_cases))]
+    fn from_row(alloc: Global, row: Row<N>) -> Result<Option<SwitchCase<N>>, AllocError>
+        ensures { IfOk result (λ child. option_map (switch_case_row N.plain) child
+            ≡ (if in_set sets.SwitchCase (type_of (row_plain N.plain row)) then Some (row_plain N.plain row) else None)) }
+    {
+        let _ = alloc;
+        match row {
+            Row::SwitchCase(row) => Ok(Some(Box::into_inner(row))),
+            _ => Ok(None),
+        }
+    }
+}
+
+impl<N: ReadNode + Drop> Child<N> for Box<BlockStatement<N>> {
+    ghost plain = { λ n. block_statement_row N.plain n.value };
+
+    ghost of_set = { sets.BlockStatement };
+
+    fn set() -> NodeSet {
+        NodeSet::BlockStatement
+    }
+
+    #[tactic(auto, using(crate::proofs::Sets::takes_block_statements))]
+    fn from_row(alloc: Global, row: Row<N>) -> Result<Option<Box<BlockStatement<N>>>, AllocError>
+        ensures { IfOk result (λ child. option_map (λ b. block_statement_row N.plain b.value) child
+            ≡ (if in_set sets.BlockStatement (type_of (row_plain N.plain row)) then Some (row_plain N.plain row) else None)) }
+    {
+        let _ = alloc;
+        match row {
+            Row::Statement(row) => Ok(block_statement_of_statement_in_box(Box::into_inner(row))),
+            _ => Ok(None),
+        }
+    }
+}
+
+impl<N: ReadNode + Drop> Child<N> for Box<CatchClause<N>> {
+    ghost plain = { λ n. catch_clause_row N.plain n.value };
+
+    ghost of_set = { sets.CatchClause };
+
+    fn set() -> NodeSet {
+        NodeSet::CatchClause
+    }
+
+    #[tactic(auto, using(crate::proofs::Sets::takes_catch_clauses))]
+    fn from_row(alloc: Global, row: Row<N>) -> Result<Option<Box<CatchClause<N>>>, AllocError>
+        ensures { IfOk result (λ child. option_map (λ b. catch_clause_row N.plain b.value) child
+            ≡ (if in_set sets.CatchClause (type_of (row_plain N.plain row)) then Some (row_plain N.plain row) else None)) }
+    {
+        let _ = alloc;
+        match row {
+            Row::CatchClause(row) => Ok(Some(row)),
+            _ => Ok(None),
+        }
+    }
+}
+
 // ---- a member of a set within the set, which stands in a box of its own
 
 fn statement_of_declaration<N: ReadNode + Drop>(
@@ -485,6 +624,16 @@ fn arrow_function_body_of_expression<N: ReadNode + Drop>(
     Ok(Some(ArrowFunctionBody::Expression(expression)))
 }
 
+fn for_statement_init_of_expression<N: ReadNode + Drop>(
+    alloc: Global,
+    expression: ExpressionNode<N>,
+) -> Result<Option<ForStatementInit<N>>, AllocError>
+    ensures { IfOk result (λ child. option_map (in_for_statement_init N.plain) child ≡ Some (in_expression N.plain expression)) }
+{
+    let expression = Box::new(alloc, expression)?;
+    Ok(Some(ForStatementInit::Expression(expression)))
+}
+
 // ---- a place that takes some types of a set
 
 fn chain_element_of_expression<N: ReadNode + Drop>(row: Expression<N>) -> Option<ChainElement<N>>
@@ -535,6 +684,59 @@ fn assignment_target_of_expression<N: ReadNode + Drop>(
         Expression::ComputedMemberExpression(row) => Some(
             AssignmentTarget::ComputedMemberExpression(row),
         ),
+        _ => None,
+    }
+}
+
+fn for_statement_init_of_declaration<N: ReadNode + Drop>(
+    row: Declaration<N>,
+) -> Option<ForStatementInit<N>>
+    ensures { option_map (in_for_statement_init N.plain) result
+        ≡ (if in_set sets.ForStatementInit (type_of (declaration_plain N.plain row)) then Some (declaration_plain N.plain row) else None) }
+{
+    match row {
+        Declaration::VariableDeclaration(row) => Some(ForStatementInit::VariableDeclaration(row)),
+    }
+}
+
+fn for_statement_left_of_declaration<N: ReadNode + Drop>(
+    row: Declaration<N>,
+) -> Option<ForStatementLeft<N>>
+    ensures { option_map (in_for_statement_left N.plain) result
+        ≡ (if in_set sets.ForStatementLeft (type_of (declaration_plain N.plain row)) then Some (declaration_plain N.plain row) else None) }
+{
+    match row {
+        Declaration::VariableDeclaration(row) => Some(ForStatementLeft::VariableDeclaration(row)),
+    }
+}
+
+fn for_statement_left_of_expression<N: ReadNode + Drop>(
+    row: Expression<N>,
+) -> Option<ForStatementLeft<N>>
+    ensures { option_map (in_for_statement_left N.plain) result
+        ≡ (if in_set sets.ForStatementLeft (type_of (expression_plain N.plain row)) then Some (expression_plain N.plain row) else None) }
+{
+    match row {
+        Expression::IdentifierReference(row) => Some(ForStatementLeft::IdentifierReference(row)),
+        Expression::StaticMemberExpression(row) => Some(ForStatementLeft::StaticMemberExpression(
+            row,
+        )),
+        Expression::ComputedMemberExpression(row) => Some(
+            ForStatementLeft::ComputedMemberExpression(row),
+        ),
+        _ => None,
+    }
+}
+
+fn block_statement_of_statement_in_box<N: ReadNode + Drop>(
+    row: OtherStatement<N>,
+) -> Option<Box<BlockStatement<N>>>
+    ensures { option_map (λ b. block_statement_row N.plain b.value) result
+        ≡ (if in_set sets.BlockStatement (type_of (statement_plain N.plain row.statement)) then Some (statement_plain N.plain row.statement) else None) }
+{
+    let statement = row.statement;
+    match statement {
+        Statement::BlockStatement(row) => Some(row),
         _ => None,
     }
 }

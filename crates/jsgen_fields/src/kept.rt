@@ -12,10 +12,10 @@ use crate::InputFault;
 use crate::others::OtherStatement;
 use jsgen_pool::Typed;
 use jsgen_tree::{
-    BindingPattern, BindingPatternNode, Comment, Declaration, DeclarationNode, Directive,
-    Expression, ExpressionNode, FormalParameter, FormalParameterRest, FormalParameters,
-    IdentifierName, Node, NodeType, ObjectProperty, Program, SpreadElement, Statement,
-    StatementNode, VariableDeclarator,
+    BindingPattern, BindingPatternNode, CatchClause, Comment, Declaration, DeclarationNode,
+    Directive, Expression, ExpressionNode, FormalParameter, FormalParameterRest, FormalParameters,
+    IdentifierName, LabelIdentifier, Node, NodeType, ObjectProperty, Program, SpreadElement,
+    Statement, StatementNode, SwitchCase, VariableDeclarator,
 };
 use std::alloc::Global;
 
@@ -37,6 +37,9 @@ pub enum Row<N = Node> {
     FormalParameter(Box<FormalParameter<N>>),
     FormalParameterRest(Box<FormalParameterRest<N>>),
     FormalParameters(Box<FormalParameters<N>>),
+    LabelIdentifier(Box<LabelIdentifier>),
+    SwitchCase(Box<SwitchCase<N>>),
+    CatchClause(Box<CatchClause<N>>),
 }
 
 // ---- what becomes of a row
@@ -138,6 +141,9 @@ impl<N: ReadNode> Typed for Row<N> {
             Row::FormalParameter(_) => NodeType::FormalParameter,
             Row::FormalParameterRest(_) => NodeType::FormalParameterRest,
             Row::FormalParameters(_) => NodeType::FormalParameters,
+            Row::LabelIdentifier(_) => NodeType::LabelIdentifier,
+            Row::SwitchCase(_) => NodeType::SwitchCase,
+            Row::CatchClause(_) => NodeType::CatchClause,
         }
     }
 }

@@ -1,11 +1,11 @@
 // Generated from tools/nodes/table.txt; edit that and run tools/nodes/generate.
 // The names of types.
 ghost use Rattle.std.specs.Prelude.{◌≡◌, map};
-ghost use Rattle.jsgen_fields.specs.Names.{first_named, type_named};
+ghost use Rattle.jsgen_fields.specs.Names.{first_named, type_named, in_type_names, in_type_names_2};
 
 use jsgen_tree::NodeType;
 
-const TYPE_NAMES: [(&str, NodeType); 41] = [
+const TYPE_NAMES: [(&str, NodeType); 50] = [
     ("Program", NodeType::Program),
     ("Comment", NodeType::Comment),
     ("Directive", NodeType::Directive),
@@ -50,6 +50,24 @@ const TYPE_NAMES: [(&str, NodeType); 41] = [
     ("FormalParameterRest", NodeType::FormalParameterRest),
     ("FormalParameters", NodeType::FormalParameters),
     ("ArrowFunctionExpression", NodeType::ArrowFunctionExpression),
+    ("ForStatement", NodeType::ForStatement),
+    ("ForInStatement", NodeType::ForInStatement),
+    ("ForOfStatement", NodeType::ForOfStatement),
+    ("WhileStatement", NodeType::WhileStatement),
+    ("DoWhileStatement", NodeType::DoWhileStatement),
+    ("LabelIdentifier", NodeType::LabelIdentifier),
+    ("LabeledStatement", NodeType::LabeledStatement),
+    ("ContinueStatement", NodeType::ContinueStatement),
+    ("BreakStatement", NodeType::BreakStatement),
+];
+
+const TYPE_NAMES_2: [(&str, NodeType); 6] = [
+    ("ThrowStatement", NodeType::ThrowStatement),
+    ("DebuggerStatement", NodeType::DebuggerStatement),
+    ("SwitchStatement", NodeType::SwitchStatement),
+    ("SwitchCase", NodeType::SwitchCase),
+    ("TryStatement", NodeType::TryStatement),
+    ("CatchClause", NodeType::CatchClause),
 ];
 
 fn first_named(names: &[(&str, NodeType)], name: &str) -> Option<NodeType>
@@ -63,10 +81,26 @@ fn first_named(names: &[(&str, NodeType)], name: &str) -> Option<NodeType>
     None
 }
 
+#[tactic(auto, unfolding(crate::specs::Names::in_type_names))]
+fn in_type_names(name: &str) -> Option<NodeType>
+    ensures { result ≡ in_type_names name.now }
+{
+    first_named(&TYPE_NAMES, name)
+}
+
+#[tactic(auto, unfolding(crate::specs::Names::in_type_names_2))]
+fn in_type_names_2(name: &str) -> Option<NodeType>
+    ensures { result ≡ in_type_names_2 name.now }
+{
+    first_named(&TYPE_NAMES_2, name)
+}
+
 /// The type that a name names.
-#[tactic(auto, unfolding(crate::specs::Names::type_named))]
 pub fn type_by_name(name: &str) -> Option<NodeType>
     ensures { result ≡ type_named name.now }
 {
-    first_named(&TYPE_NAMES, name)
+    if let Some(found) = in_type_names(name) {
+        return Some(found);
+    }
+    in_type_names_2(name)
 }

@@ -4,7 +4,7 @@ ghost use Rattle.std.specs.Prelude.{true, false, map, option_map};
 ghost use Rattle.serde_json.specs.View.{view};
 ghost use Rattle.jsgen_tree.specs.Tree.{optional, trees, holed};
 ghost use Rattle.jsgen_tree.specs.Table.{needed, may_be_absent, child, children as many, children_or_holes as many_or_holes};
-ghost use Rattle.jsgen_tree.specs.Rows.{in_expression, in_argument, in_array_expression_element, in_chain_element, in_simple_assignment_target, in_assignment_target, in_arrow_function_body, in_object_property_kind, in_property_key, in_statement, in_binding_pattern, comment_row, directive_row, variable_declarator_row, identifier_name_row, formal_parameter_row, formal_parameter_rest_row, formal_parameters_row};
+ghost use Rattle.jsgen_tree.specs.Rows.{in_expression, in_argument, in_array_expression_element, in_chain_element, in_simple_assignment_target, in_assignment_target, in_arrow_function_body, in_for_statement_init, in_for_statement_left, in_object_property_kind, in_property_key, in_statement, in_binding_pattern, comment_row, directive_row, variable_declarator_row, block_statement_row, identifier_name_row, formal_parameter_row, formal_parameter_rest_row, formal_parameters_row, label_identifier_row, switch_case_row, catch_clause_row};
 ghost use Rattle.jsgen_fields.specs.Values.{at, field as value_under};
 ghost use Rattle.jsgen_fields.specs.Meaning.{a_child, a_maybe, a_list};
 ghost use Rattle.jsgen_fields.specs.Reads.{Gives, read_children};
@@ -17,9 +17,10 @@ use crate::kept::{ReadNode, Row};
 use jsgen_pool::Kept;
 use jsgen_tree::{
     Argument, ArrayExpressionElement, ArrowFunctionBody, AssignmentTarget, BindingPatternNode,
-    ChainElement, Comment, Directive, ExpressionNode, FormalParameter, FormalParameterRest,
-    FormalParameters, IdentifierName, ObjectPropertyKind, PropertyKey, SimpleAssignmentTarget,
-    StatementNode, VariableDeclarator,
+    BlockStatement, CatchClause, ChainElement, Comment, Directive, ExpressionNode,
+    ForStatementInit, ForStatementLeft, FormalParameter, FormalParameterRest, FormalParameters,
+    IdentifierName, LabelIdentifier, ObjectPropertyKind, PropertyKey, SimpleAssignmentTarget,
+    StatementNode, SwitchCase, VariableDeclarator,
 };
 use serde_json::Value;
 use std::alloc::Global;
@@ -330,4 +331,130 @@ pub fn needed_arrow_function_body<N: ReadNode + Drop>(
         (read_children (at number field) true needed (child sets.ArrowFunctionBody) (value_under name.now (view row.now)) (entries N.plain kept.old.items)) }
 {
     needed_child(alloc, kept, number, field, row, name)
+}
+
+pub fn optional_for_statement_init<N: ReadNode + Drop>(
+    alloc: Global,
+    kept: &mut Vec<Kept<Row<N>>>,
+    number: usize,
+    field: usize,
+    row: &Value,
+    name: &str,
+) -> Result<Option<ForStatementInit<N>>, InputFault>
+    ensures { Gives (λ o. a_maybe (optional (option_map (in_for_statement_init N.plain) o))) result (entries N.plain kept.new.items)
+        (read_children (at number field) false may_be_absent (child sets.ForStatementInit) (value_under name.now (view row.now)) (entries N.plain kept.old.items)) }
+{
+    optional_child(alloc, kept, number, field, row, name)
+}
+
+pub fn needed_for_statement_left<N: ReadNode + Drop>(
+    alloc: Global,
+    kept: &mut Vec<Kept<Row<N>>>,
+    number: usize,
+    field: usize,
+    row: &Value,
+    name: &str,
+) -> Result<ForStatementLeft<N>, InputFault>
+    ensures { Gives (λ c. a_child (in_for_statement_left N.plain c)) result (entries N.plain kept.new.items)
+        (read_children (at number field) true needed (child sets.ForStatementLeft) (value_under name.now (view row.now)) (entries N.plain kept.old.items)) }
+{
+    needed_child(alloc, kept, number, field, row, name)
+}
+
+pub fn needed_label_identifier<N: ReadNode + Drop>(
+    alloc: Global,
+    kept: &mut Vec<Kept<Row<N>>>,
+    number: usize,
+    field: usize,
+    row: &Value,
+    name: &str,
+) -> Result<Box<LabelIdentifier>, InputFault>
+    ensures { Gives (λ c. a_child (label_identifier_row c.value)) result (entries N.plain kept.new.items)
+        (read_children (at number field) true needed (child sets.LabelIdentifier) (value_under name.now (view row.now)) (entries N.plain kept.old.items)) }
+{
+    needed_child(alloc, kept, number, field, row, name)
+}
+
+pub fn optional_label_identifier<N: ReadNode + Drop>(
+    alloc: Global,
+    kept: &mut Vec<Kept<Row<N>>>,
+    number: usize,
+    field: usize,
+    row: &Value,
+    name: &str,
+) -> Result<Option<Box<LabelIdentifier>>, InputFault>
+    ensures { Gives (λ o. a_maybe (optional (option_map (λ b. label_identifier_row b.value) o))) result (entries N.plain kept.new.items)
+        (read_children (at number field) false may_be_absent (child sets.LabelIdentifier) (value_under name.now (view row.now)) (entries N.plain kept.old.items)) }
+{
+    optional_child(alloc, kept, number, field, row, name)
+}
+
+pub fn switch_case_list<N: ReadNode + Drop>(
+    alloc: Global,
+    kept: &mut Vec<Kept<Row<N>>>,
+    number: usize,
+    field: usize,
+    row: &Value,
+    name: &str,
+) -> Result<Vec<SwitchCase<N>>, InputFault>
+    ensures { Gives (λ v. a_list (trees (map (switch_case_row N.plain) v.items))) result (entries N.plain kept.new.items)
+        (read_children (at number field) false may_be_absent (many sets.SwitchCase) (value_under name.now (view row.now)) (entries N.plain kept.old.items)) }
+{
+    children(alloc, kept, number, field, row, name)
+}
+
+pub fn needed_block_statement<N: ReadNode + Drop>(
+    alloc: Global,
+    kept: &mut Vec<Kept<Row<N>>>,
+    number: usize,
+    field: usize,
+    row: &Value,
+    name: &str,
+) -> Result<Box<BlockStatement<N>>, InputFault>
+    ensures { Gives (λ c. a_child (block_statement_row N.plain c.value)) result (entries N.plain kept.new.items)
+        (read_children (at number field) true needed (child sets.BlockStatement) (value_under name.now (view row.now)) (entries N.plain kept.old.items)) }
+{
+    needed_child(alloc, kept, number, field, row, name)
+}
+
+pub fn optional_catch_clause<N: ReadNode + Drop>(
+    alloc: Global,
+    kept: &mut Vec<Kept<Row<N>>>,
+    number: usize,
+    field: usize,
+    row: &Value,
+    name: &str,
+) -> Result<Option<Box<CatchClause<N>>>, InputFault>
+    ensures { Gives (λ o. a_maybe (optional (option_map (λ b. catch_clause_row N.plain b.value) o))) result (entries N.plain kept.new.items)
+        (read_children (at number field) false may_be_absent (child sets.CatchClause) (value_under name.now (view row.now)) (entries N.plain kept.old.items)) }
+{
+    optional_child(alloc, kept, number, field, row, name)
+}
+
+pub fn optional_block_statement<N: ReadNode + Drop>(
+    alloc: Global,
+    kept: &mut Vec<Kept<Row<N>>>,
+    number: usize,
+    field: usize,
+    row: &Value,
+    name: &str,
+) -> Result<Option<Box<BlockStatement<N>>>, InputFault>
+    ensures { Gives (λ o. a_maybe (optional (option_map (λ b. block_statement_row N.plain b.value) o))) result (entries N.plain kept.new.items)
+        (read_children (at number field) false may_be_absent (child sets.BlockStatement) (value_under name.now (view row.now)) (entries N.plain kept.old.items)) }
+{
+    optional_child(alloc, kept, number, field, row, name)
+}
+
+pub fn optional_binding_pattern<N: ReadNode + Drop>(
+    alloc: Global,
+    kept: &mut Vec<Kept<Row<N>>>,
+    number: usize,
+    field: usize,
+    row: &Value,
+    name: &str,
+) -> Result<Option<BindingPatternNode<N>>, InputFault>
+    ensures { Gives (λ o. a_maybe (optional (option_map (in_binding_pattern N.plain) o))) result (entries N.plain kept.new.items)
+        (read_children (at number field) false may_be_absent (child sets.BindingPattern) (value_under name.now (view row.now)) (entries N.plain kept.old.items)) }
+{
+    optional_child(alloc, kept, number, field, row, name)
 }

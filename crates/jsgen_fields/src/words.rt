@@ -188,6 +188,8 @@ pub fn needed_declaration_kind(
     let value = needed_value(at, row, name)?;
     match text_in(at, value)? {
         "const" => Ok(VariableDeclarationKind::Const),
+        "let" => Ok(VariableDeclarationKind::Let),
+        "var" => Ok(VariableDeclarationKind::Var),
         _ => Err(InputFault::Wrong(at)),
     }
 }

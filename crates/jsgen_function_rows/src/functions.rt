@@ -1,11 +1,11 @@
 // Generated from tools/nodes/table.txt; edit that and run tools/nodes/generate.
 // Rows of a job: functions and their parameters (ECMA-262, clause 15).
-ghost use Rattle.std.specs.Prelude.{◌≡◌, false};
+ghost use Rattle.std.specs.Prelude.{◌≡◌, true};
 ghost use Rattle.serde_json.specs.View.{view};
 ghost use Rattle.jsgen_tree.specs.Fields.{formal_parameter_fields, formal_parameter_rest_fields, formal_parameters_fields, arrow_function_expression_fields};
 ghost use Rattle.jsgen_fields.specs.Reads.{Gives, read_node, read_typed};
 ghost use Rattle.jsgen_fields.specs.Kept.{entries, row_plain};
-ghost use Rattle.jsgen_fields.specs.Parts.{is_in_statements, is_in_expressions, is_in_collections, is_in_operations, is_in_assignments};
+ghost use Rattle.jsgen_fields.specs.Parts.{is_in_functions};
 ghost use Rattle.jsgen_tree.specs.declared.types.NodeType.TheVariants as types;
 
 use jsgen_fields::InputFault;
@@ -184,11 +184,7 @@ pub fn read_in_functions<N: ReadNode + Drop>(
     span: Span,
     row: &Value,
 ) -> Result<Row<N>, InputFault>
-    requires not_in_statements { is_in_statements node_type ≡ false }
-    requires not_in_expressions { is_in_expressions node_type ≡ false }
-    requires not_in_collections { is_in_collections node_type ≡ false }
-    requires not_in_operations { is_in_operations node_type ≡ false }
-    requires not_in_assignments { is_in_assignments node_type ≡ false }
+    requires { is_in_functions node_type ≡ true }
     ensures { Gives (row_plain N.plain) result (entries N.plain kept.new.items)
         (read_typed number node_type span (view row.now) (entries N.plain kept.old.items)) }
 {

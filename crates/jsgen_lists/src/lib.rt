@@ -1,16 +1,23 @@
-//! Lists, and operands of updates: how members are printed one after another, or beside a sign, whatever they are.
+//! Lists, what may be there or not, and operands of updates: how members are printed one after another, or beside a sign or a
+//! word, whatever they are.
 #![tactic(auto)]
 
 mod arguments;
+mod braces;
 mod elements;
+mod heads;
 mod maybe;
 mod members;
+mod parts;
 mod statements;
 mod updates;
 
 pub use arguments::{PlainQuotes, print_arguments};
+pub use braces::{close_braces, open_braces, print_braces};
 pub use elements::{PrintElement, print_array, print_object};
-pub use maybe::{print_comma_between, print_if_given, print_value};
+pub use heads::{print_behind_spaced_word, print_behind_word, print_head, print_jump};
+pub use maybe::{print_case_test, print_caught, print_comma_between, print_if_given, print_value};
 pub use members::{PrintMember, print_in_brackets, print_more, print_parts};
-pub use statements::{PrintStatement, print_statements, print_whole_body};
+pub use parts::print_loop_parts;
+pub use statements::{PrintStatement, print_deeper_statements, print_statements, print_whole_body};
 pub use updates::print_update;

@@ -3,13 +3,14 @@ ghost use Rattle.std.specs.Prelude.{◌≡◌, map, option_map};
 ghost use Rattle.jsgen_tree.specs.Tree.{Tree, given, trees, optional};
 ghost use Rattle.jsgen_model.specs.Items.{◌⊕◌, soft_space, punctuator};
 ghost use Rattle.jsgen_model.specs.Punctuator.{comma, equal};
-ghost use Rattle.jsgen_model.specs.Layout.{layout};
-ghost use Rattle.jsgen_model.specs.Spell.{spell, spell_value, spell_if_given, comma_between};
+ghost use Rattle.jsgen_model.specs.Layout.{layout, nowhere};
+ghost use Rattle.jsgen_model.specs.Spell.{spell, spell_value, spell_if_given, spell_apart, spell_caught, spell_test, comma_between};
 ghost use Rattle.jsgen_model.specs.Printing.{Reaches};
 ghost use Rattle.jsgen_printer.specs.Printer.{pen_of};
 ghost use Rattle.jsgen_place.specs.Place.{place_of};
 ghost use Rattle.jsgen_lists.specs.Lists.{listed};
 
+use crate::heads::{print_apart_in_parentheses, print_behind_word};
 use crate::members::PrintMember;
 use jsgen_place::Place;
 use jsgen_printer::Printer;
@@ -87,5 +88,60 @@ pub fn print_if_given<E, L: PrintMember<E>>(
     match member {
         Some(member) => L::print_member(member, p, place),
         None => Ok(()),
+    }
+}
+
+/// A member, if there is one, behind a space.
+pub fn print_apart<E, L: PrintMember<E>>(
+    member: &Option<E>,
+    p: &mut Printer<'_>,
+    place: Place,
+) -> Result<(), Memory>
+    requires { (pen_of p.old).start ≡ nowhere }
+    ensures { Reaches result (pen_of p.old) (pen_of p.new) (layout (spell_apart (optional (option_map L.plain member.now)) (listed place)) (pen_of p.old)) }
+{
+    match member {
+        Some(member) => print_behind_space::<E, L>(member, p, place),
+        None => Ok(()),
+    }
+}
+
+pub fn print_behind_space<E, L: PrintMember<E>>(
+    member: &E,
+    p: &mut Printer<'_>,
+    place: Place,
+) -> Result<(), Memory>
+    requires { (pen_of p.old).start ≡ nowhere }
+    ensures { Reaches result (pen_of p.old) (pen_of p.new) (layout (soft_space ⊕ spell (L.plain member.now) (listed place)) (pen_of p.old)) }
+{
+    p.print_soft_space()?;
+    L::print_member(member, p, place)
+}
+
+/// The name of what is caught, if it has one, in parentheses.
+pub fn print_caught<E, L: PrintMember<E>>(
+    param: &Option<E>,
+    p: &mut Printer<'_>,
+    place: Place,
+) -> Result<(), Memory>
+    ensures { Reaches result (pen_of p.old) (pen_of p.new) (layout (spell_caught (optional (option_map L.plain param.now)) (listed place)) (pen_of p.old)) }
+{
+    match param {
+        Some(param) => print_apart_in_parentheses::<E, L>(param, p, place),
+        None => Ok(()),
+    }
+}
+
+/// What a case begins with: its test, or the word of a case that has none.
+pub fn print_case_test<E, L: PrintMember<E>>(
+    test: &Option<E>,
+    p: &mut Printer<'_>,
+    place: Place,
+) -> Result<(), Memory>
+    ensures { Reaches result (pen_of p.old) (pen_of p.new) (layout (spell_test (optional (option_map L.plain test.now)) (listed place)) (pen_of p.old)) }
+{
+    match test {
+        Some(test) => print_behind_word::<E, L>("case", test, p, place),
+        None => p.print_word("default"),
     }
 }

@@ -1,7 +1,7 @@
-// Lists of statements.
+// Lists of statements, or of cases.
 ghost use Rattle.std.specs.Prelude.{map};
 ghost use Rattle.jsgen_tree.specs.Tree.{Tree, trees};
-ghost use Rattle.jsgen_model.specs.Items.{◌⊕◌, due_semicolon};
+ghost use Rattle.jsgen_model.specs.Items.{◌⊕◌, soft_line, deeper, due_semicolon};
 ghost use Rattle.jsgen_model.specs.Layout.{layout};
 ghost use Rattle.jsgen_model.specs.Spell.{spell, spell_body, spell_statements, first_statement};
 ghost use Rattle.jsgen_model.specs.Printing.{Reaches};
@@ -67,5 +67,20 @@ pub fn print_statements<E, S: PrintStatement<E>>(
         p.print_due_semicolon()?;
         S::print_statement(statement, p, Place::among_statements(settings))?;
     }
+    Ok(())
+}
+
+/// On lines of their own, one level deeper.
+pub fn print_deeper_statements<E, S: PrintStatement<E>>(
+    statements: &[E],
+    p: &mut Printer<'_>,
+    settings: Settings,
+) -> Result<(), Memory>
+    ensures { Reaches result (pen_of p.old) (pen_of p.new) (layout (soft_line ⊕ deeper (spell_statements (trees (map S.plain statements.now)) (settings_of settings))) (pen_of p.old)) }
+{
+    p.print_soft_line()?;
+    let depth = p.deepen()?;
+    print_statements::<E, S>(statements, p, settings)?;
+    p.set_depth(depth);
     Ok(())
 }

@@ -1,5 +1,5 @@
 -- Lists of Rust have no hole, and nodes that are plain by their own values.
-use Rattle.std.proofs.Common.{◌≡◌, true, refl, List, [], ◌∷◌, map, Option, Some, None}
+use Rattle.std.proofs.Common.{◌≡◌, true, refl, List, [], ◌∷◌, map, Option, Some, None, option_map}
 use Rattle.jsgen_syntax.proofs.Bytes.{js_units-are_units}
 use Rattle.jsgen_syntax.specs.declared.span.Span.{Span}
 use Rattle.jsgen_syntax.specs.declared.span.SourceKind.{SourceKind}
@@ -7,11 +7,11 @@ use Rattle.jsgen_syntax.specs.declared.span.SourceKind.TheVariants as source_kin
 use Rattle.jsgen_syntax.specs.declared.js_str.JsStr.{JsStr}
 use Rattle.jsgen_syntax.specs.Units.{js_units}
 use Rattle.jsgen_syntax.specs.Wtf8.{are_units}
-use Rattle.jsgen_tree.specs.Tree.{Tree, trees, holed}
+use Rattle.jsgen_tree.specs.Tree.{Tree, trees, holed, optional}
 use Rattle.jsgen_tree.specs.Nodes.{numeric_literal}
 use Rattle.jsgen_tree.specs.Characters.{numeric_values}
 use Rattle.jsgen_tree.specs.Width.{is_wide}
-use Rattle.jsgen_tree.specs.Everywhere.{EverywhereInTrees}
+use Rattle.jsgen_tree.specs.Everywhere.{EverywhereInTrees, EverywhereIfGiven}
 use Rattle.jsgen_tree.specs.declared.numbers.NumericValue.{NumericValue}
 use Rattle.jsgen_tree.specs.declared.numbers.NumericValue.TheVariants as numeric
 use Rattle.jsgen_model.specs.Plain.{IsPlain, is_plain_row, is_module, has_no_hole}
@@ -50,6 +50,12 @@ first_or_hole (Some t) os h k = (h, k)
 pub all_changed_or_holes : {A B C : Type 0} (f : C → Option Tree) (g : B → C) (k : A → B) → ((x : A) → PlainOrHole (f (g (k x)))) → (xs : List A) → EverywhereInTrees is_plain_row (holed (map f (map g (map k xs))))
 all_changed_or_holes f g k h [] = tt
 all_changed_or_holes f g k h (x ∷ xs) = first_or_hole (f (g (k x))) (map f (map g (map k xs))) (h x) (all_changed_or_holes f g k h xs)
+
+-- ---- an optional child in which nothing nests
+
+pub if_given_plain : {A : Type 0} (f : A → Tree) → ((x : A) → IsPlain (f x)) → (o : Option A) → EverywhereIfGiven is_plain_row (optional (option_map f o))
+if_given_plain f h None = tt
+if_given_plain f h (Some x) = h x
 
 -- ---- values
 

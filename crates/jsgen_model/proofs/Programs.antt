@@ -2,7 +2,7 @@
 -- A node of Rust is plain where its children are.
 use Rattle.std.proofs.Common.{refl}
 use Rattle.jsgen_tree.specs.Plain.{node_plain, layer}
-use Rattle.jsgen_tree.proofs.Cases.{with_argument, with_array_expression_element, with_object_property_kind, variable_declarator_by_init, if_statement_by_alternate, chain_expression_by_expression, boxed_object_property_by_key, update_expression_by_argument, assignment_expression_by_left, formal_parameter_by_initializer, boxed_formal_parameters_by_rest, arrow_function_expression_by_params, arrow_function_expression_by_body}
+use Rattle.jsgen_tree.proofs.Cases.{with_argument, with_array_expression_element, with_object_property_kind, variable_declarator_by_init, if_statement_by_alternate, chain_expression_by_expression, boxed_object_property_by_key, update_expression_by_argument, assignment_expression_by_left, formal_parameter_by_initializer, boxed_formal_parameters_by_rest, arrow_function_expression_by_params, arrow_function_expression_by_body, for_statement_by_init, for_statement_by_test, for_statement_by_update, for_in_statement_by_left, for_of_statement_by_left, switch_case_by_test, try_statement_by_handler, try_statement_by_finalizer, boxed_catch_clause_by_param}
 use Rattle.jsgen_tree.specs.declared.nodes.Node.{Node, Node-F, map-Node}
 use Rattle.jsgen_tree.specs.Tree.{Tree}
 use Rattle.jsgen_tree.specs.declared.sets.Expression.{Expression}
@@ -11,7 +11,7 @@ use Rattle.jsgen_tree.specs.declared.sets.Statement.{Statement}
 use Rattle.jsgen_tree.specs.declared.sets.BindingPattern.{BindingPattern}
 use Rattle.jsgen_tree.proofs.Layers.{with_hole}
 use Rattle.jsgen_model.specs.Plain.{IsPlain}
-use Rattle.jsgen_model.proofs.PlainRows.{no_hole_changed, all_changed, all_changed_or_holes, number_is_plain, string_is_plain}
+use Rattle.jsgen_model.proofs.PlainRows.{no_hole_changed, all_changed, all_changed_or_holes, if_given_plain, number_is_plain, string_is_plain}
 use Rattle.jsgen_tree.specs.declared.nodes.Node.TheOpen as opened
 use Rattle.jsgen_tree.specs.declared.sets.Expression.TheVariants as expressions
 use Rattle.jsgen_tree.specs.declared.sets.Declaration.TheVariants as declarations
@@ -55,6 +55,18 @@ module _ {A : Type 0} (f : A → Node) (h : (a : A) → IsPlain (node_plain (f a
   statement_is_plain (statements.BlockStatement b) = (no_hole_changed _ _ _ b.value.body.items, (all_changed _ _ _ (λ n. h n.node) b.value.body.items, tt))
   statement_is_plain (statements.IfStatement b) = (if_statement_by_alternate (λ n. IsPlain (layer (map-Node Node Tree node_plain (map-Node A Node f (opened.Statement (statements.IfStatement (record b { value = n }))))))) (λ n. (refl, (h n.test.node, (h n.consequent.node, (tt, tt))))) (λ n_alternate. (λ n. (refl, (h n.test.node, (h n.consequent.node, (h n_alternate.node, tt))))))) b.value
   statement_is_plain (statements.EmptyStatement b) = (refl, tt)
+  statement_is_plain (statements.ForStatement b) = (for_statement_by_init (λ n. IsPlain (layer (map-Node Node Tree node_plain (map-Node A Node f (opened.Statement (statements.ForStatement (record b { value = n }))))))) (for_statement_by_test _ (for_statement_by_update _ (λ n. (refl, (tt, (tt, (tt, (h n.body.node, tt)))))) (λ n_update. (λ n. (refl, (tt, (tt, (h n_update.node, (h n.body.node, tt)))))))) (λ n_test. (for_statement_by_update _ (λ n. (refl, (tt, (h n_test.node, (tt, (h n.body.node, tt)))))) (λ n_update. (λ n. (refl, (tt, (h n_test.node, (h n_update.node, (h n.body.node, tt)))))))))) (λ n_init. (for_statement_by_test _ (for_statement_by_update _ (λ n. (refl, ((no_hole_changed _ _ _ n_init.value.declarations.items, (all_changed _ _ _ (variable_declarator_by_init _ (λ n. (refl, (h n.id.node, (tt, tt)))) (λ n_init. (λ n. (refl, (h n.id.node, (h n_init.node, tt)))))) n_init.value.declarations.items, tt)), (tt, (tt, (h n.body.node, tt)))))) (λ n_update. (λ n. (refl, ((no_hole_changed _ _ _ n_init.value.declarations.items, (all_changed _ _ _ (variable_declarator_by_init _ (λ n. (refl, (h n.id.node, (tt, tt)))) (λ n_init. (λ n. (refl, (h n.id.node, (h n_init.node, tt)))))) n_init.value.declarations.items, tt)), (tt, (h n_update.node, (h n.body.node, tt)))))))) (λ n_test. (for_statement_by_update _ (λ n. (refl, ((no_hole_changed _ _ _ n_init.value.declarations.items, (all_changed _ _ _ (variable_declarator_by_init _ (λ n. (refl, (h n.id.node, (tt, tt)))) (λ n_init. (λ n. (refl, (h n.id.node, (h n_init.node, tt)))))) n_init.value.declarations.items, tt)), (h n_test.node, (tt, (h n.body.node, tt)))))) (λ n_update. (λ n. (refl, ((no_hole_changed _ _ _ n_init.value.declarations.items, (all_changed _ _ _ (variable_declarator_by_init _ (λ n. (refl, (h n.id.node, (tt, tt)))) (λ n_init. (λ n. (refl, (h n.id.node, (h n_init.node, tt)))))) n_init.value.declarations.items, tt)), (h n_test.node, (h n_update.node, (h n.body.node, tt))))))))))) (λ n_init. (for_statement_by_test _ (for_statement_by_update _ (λ n. (refl, (h n_init.value.node, (tt, (tt, (h n.body.node, tt)))))) (λ n_update. (λ n. (refl, (h n_init.value.node, (tt, (h n_update.node, (h n.body.node, tt)))))))) (λ n_test. (for_statement_by_update _ (λ n. (refl, (h n_init.value.node, (h n_test.node, (tt, (h n.body.node, tt)))))) (λ n_update. (λ n. (refl, (h n_init.value.node, (h n_test.node, (h n_update.node, (h n.body.node, tt)))))))))))) b.value
+  statement_is_plain (statements.ForInStatement b) = (for_in_statement_by_left (λ n. IsPlain (layer (map-Node Node Tree node_plain (map-Node A Node f (opened.Statement (statements.ForInStatement (record b { value = n }))))))) (λ n_left. (λ n. (refl, ((no_hole_changed _ _ _ n_left.value.declarations.items, (all_changed _ _ _ (variable_declarator_by_init _ (λ n. (refl, (h n.id.node, (tt, tt)))) (λ n_init. (λ n. (refl, (h n.id.node, (h n_init.node, tt)))))) n_left.value.declarations.items, tt)), (h n.right.node, (h n.body.node, tt)))))) (λ n_left. (λ n. (refl, ((refl, tt), (h n.right.node, (h n.body.node, tt)))))) (λ n_left. (λ n. (refl, ((refl, (h n_left.value.object.node, ((refl, tt), tt))), (h n.right.node, (h n.body.node, tt)))))) (λ n_left. (λ n. (refl, ((refl, (h n_left.value.object.node, (h n_left.value.expression.node, tt))), (h n.right.node, (h n.body.node, tt))))))) b.value
+  statement_is_plain (statements.ForOfStatement b) = (for_of_statement_by_left (λ n. IsPlain (layer (map-Node Node Tree node_plain (map-Node A Node f (opened.Statement (statements.ForOfStatement (record b { value = n }))))))) (λ n_left. (λ n. (refl, ((no_hole_changed _ _ _ n_left.value.declarations.items, (all_changed _ _ _ (variable_declarator_by_init _ (λ n. (refl, (h n.id.node, (tt, tt)))) (λ n_init. (λ n. (refl, (h n.id.node, (h n_init.node, tt)))))) n_left.value.declarations.items, tt)), (h n.right.node, (h n.body.node, tt)))))) (λ n_left. (λ n. (refl, ((refl, tt), (h n.right.node, (h n.body.node, tt)))))) (λ n_left. (λ n. (refl, ((refl, (h n_left.value.object.node, ((refl, tt), tt))), (h n.right.node, (h n.body.node, tt)))))) (λ n_left. (λ n. (refl, ((refl, (h n_left.value.object.node, (h n_left.value.expression.node, tt))), (h n.right.node, (h n.body.node, tt))))))) b.value
+  statement_is_plain (statements.WhileStatement b) = (refl, (h b.value.test.node, (h b.value.body.node, tt)))
+  statement_is_plain (statements.DoWhileStatement b) = (refl, (h b.value.body.node, (h b.value.test.node, tt)))
+  statement_is_plain (statements.LabeledStatement b) = (refl, ((refl, tt), (h b.value.body.node, tt)))
+  statement_is_plain (statements.ContinueStatement b) = (refl, (if_given_plain _ (λ b. (refl, tt)) b.value.label, tt))
+  statement_is_plain (statements.BreakStatement b) = (refl, (if_given_plain _ (λ b. (refl, tt)) b.value.label, tt))
+  statement_is_plain (statements.ThrowStatement b) = (refl, (h b.value.argument.node, tt))
+  statement_is_plain (statements.DebuggerStatement b) = (refl, tt)
+  statement_is_plain (statements.SwitchStatement b) = (no_hole_changed _ _ _ b.value.cases.items, (h b.value.discriminant.node, (all_changed _ _ _ (switch_case_by_test _ (λ n. (no_hole_changed _ _ _ n.consequent.items, (tt, (all_changed _ _ _ (λ n. h n.node) n.consequent.items, tt)))) (λ n_test. (λ n. (no_hole_changed _ _ _ n.consequent.items, (h n_test.node, (all_changed _ _ _ (λ n. h n.node) n.consequent.items, tt)))))) b.value.cases.items, tt)))
+  statement_is_plain (statements.TryStatement b) = (try_statement_by_handler (λ n. IsPlain (layer (map-Node Node Tree node_plain (map-Node A Node f (opened.Statement (statements.TryStatement (record b { value = n }))))))) (try_statement_by_finalizer _ (λ n. (refl, ((no_hole_changed _ _ _ n.block.value.body.items, (all_changed _ _ _ (λ n. h n.node) n.block.value.body.items, tt)), (tt, (tt, tt))))) (λ n_finalizer. (λ n. (refl, ((no_hole_changed _ _ _ n.block.value.body.items, (all_changed _ _ _ (λ n. h n.node) n.block.value.body.items, tt)), (tt, ((no_hole_changed _ _ _ n_finalizer.value.body.items, (all_changed _ _ _ (λ n. h n.node) n_finalizer.value.body.items, tt)), tt))))))) (boxed_catch_clause_by_param _ (λ n_handler. (try_statement_by_finalizer _ (λ n. (refl, ((no_hole_changed _ _ _ n.block.value.body.items, (all_changed _ _ _ (λ n. h n.node) n.block.value.body.items, tt)), ((refl, (tt, ((no_hole_changed _ _ _ n_handler.value.body.value.body.items, (all_changed _ _ _ (λ n. h n.node) n_handler.value.body.value.body.items, tt)), tt))), (tt, tt))))) (λ n_finalizer. (λ n. (refl, ((no_hole_changed _ _ _ n.block.value.body.items, (all_changed _ _ _ (λ n. h n.node) n.block.value.body.items, tt)), ((refl, (tt, ((no_hole_changed _ _ _ n_handler.value.body.value.body.items, (all_changed _ _ _ (λ n. h n.node) n_handler.value.body.value.body.items, tt)), tt))), ((no_hole_changed _ _ _ n_finalizer.value.body.items, (all_changed _ _ _ (λ n. h n.node) n_finalizer.value.body.items, tt)), tt)))))))) (λ n_handler_param. (λ n_handler. (try_statement_by_finalizer _ (λ n. (refl, ((no_hole_changed _ _ _ n.block.value.body.items, (all_changed _ _ _ (λ n. h n.node) n.block.value.body.items, tt)), ((refl, (h n_handler_param.node, ((no_hole_changed _ _ _ n_handler.value.body.value.body.items, (all_changed _ _ _ (λ n. h n.node) n_handler.value.body.value.body.items, tt)), tt))), (tt, tt))))) (λ n_finalizer. (λ n. (refl, ((no_hole_changed _ _ _ n.block.value.body.items, (all_changed _ _ _ (λ n. h n.node) n.block.value.body.items, tt)), ((refl, (h n_handler_param.node, ((no_hole_changed _ _ _ n_handler.value.body.value.body.items, (all_changed _ _ _ (λ n. h n.node) n_handler.value.body.value.body.items, tt)), tt))), ((no_hole_changed _ _ _ n_finalizer.value.body.items, (all_changed _ _ _ (λ n. h n.node) n_finalizer.value.body.items, tt)), tt))))))))))) b.value
 
   binding_pattern_is_plain : (n : BindingPattern) → IsPlain (layer (map-Node Node Tree node_plain (map-Node A Node f (opened.BindingPattern n))))
   binding_pattern_is_plain (binding_patterns.BindingIdentifier b) = (refl, tt)

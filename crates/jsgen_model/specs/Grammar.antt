@@ -13,7 +13,8 @@ use Rattle.jsgen_syntax.specs.declared.operator.UpdateOperator.{UpdateOperator}
 use Rattle.jsgen_syntax.specs.declared.operator.UpdateOperator.TheVariants as update_operators
 use Rattle.jsgen_syntax.specs.declared.operator.AssignmentOperator.{AssignmentOperator}
 use Rattle.jsgen_syntax.specs.declared.operator.AssignmentOperator.TheVariants as assignment_operators
-use Rattle.jsgen_tree.specs.declared.statements.VariableDeclarationKind.TheVariants.{Const}
+use Rattle.jsgen_tree.specs.declared.statements.VariableDeclarationKind.{VariableDeclarationKind}
+use Rattle.jsgen_tree.specs.declared.statements.VariableDeclarationKind.TheVariants.{Const, Let, Var}
 use Rattle.jsgen_syntax.specs.Name.{is_free_name}
 use Rattle.jsgen_tree.specs.Atom.{units, flag, binary_operator, logical_operator, unary_operator, update_operator, no_value, property_kind, assignment_operator}
 use Rattle.jsgen_model.specs.Numbers.{ends_in}
@@ -39,6 +40,10 @@ in_module = record { in_operator = true; yield_operand = false; await_operand = 
 -- within a group, and in a statement that is no loop's head, `in` may stand
 abbrev pub with_in : Allowed → Allowed
 with_in allowed = record allowed { in_operator = true }
+
+-- and first in the head of a loop it may not (14.7.4)
+abbrev pub without_in : Allowed → Allowed
+without_in allowed = record allowed { in_operator = false }
 
 -- in the body of an arrow function neither `yield` nor `await` is an operator (15.3)
 abbrev pub in_arrow_body : Allowed → Allowed
@@ -211,6 +216,23 @@ starts_with_directive (piece mark (Quoted q w) done) = not (is_backtick q)
 starts_with_directive (piece mark (Quoted q w) (piece next (Sign semicolon) ts)) = not (is_backtick q)
 starts_with_directive ts = false
 
+-- before `of` a target doesn't begin with `let`, and isn't `async` (14.7.5)
+abbrev pub may_precede_of : Tokens → Bool
+may_precede_of (piece mark (Word w) done) = not (bytes_eq w (codes "let")) && not (bytes_eq w (codes "async"))
+may_precede_of (piece mark (Word w) ts) = not (bytes_eq w (codes "let"))
+may_precede_of ts = true
+
+-- the word that begins a declaration (14.3)
+abbrev pub declaring : VariableDeclarationKind → List ℕ
+declaring Const = codes "const"
+declaring Let = codes "let"
+declaring Var = codes "var"
+
+-- `var` begins a statement, and the others a declaration
+abbrev pub is_var : VariableDeclarationKind → Bool
+is_var Var = true
+is_var kind = false
+
 -- a semicolon ends the tokens, or is omitted as the last of a brace group (12.10)
 pub data EndsBy : Bool → Tokens → Tokens → Type 0 where
   a_semicolon : {last : Bool} {ts a : Tokens} (mark : Bool) → ts ≡ a ⧺ piece mark (Sign semicolon) done → EndsBy last ts a
@@ -377,8 +399,8 @@ mutual
     last_declarator : {c : Allowed} {ts : Tokens} {d : Tree} → ReadsDeclarator c ts d → ReadsDeclarators c ts (more d no_trees)
     first_declarator : {c : Allowed} {ts a b : Tokens} {d : Tree} {ds : Trees} (mark : Bool) → ts ≡ a ⧺ piece mark (Sign comma) b → ReadsDeclarator c a d → ReadsDeclarators c b ds → ReadsDeclarators c ts (more d ds)
 
-  pub data ReadsDeclaration : Allowed → Tokens → Tree → Type 0 where
-    a_const : {c : Allowed} {mark : Bool} {ts : Tokens} {ds : Trees} → ReadsDeclarators c ts ds → ReadsDeclaration c (piece mark (Word (codes "const")) ts) (tree.variable_declaration (declared_as Const) ds)
+  pub data ReadsVariables : Allowed → VariableDeclarationKind → Tokens → Tree → Type 0 where
+    some_variables : {c : Allowed} {kind : VariableDeclarationKind} {mark : Bool} {ts : Tokens} {ds : Trees} → ReadsDeclarators c ts ds → ReadsVariables c kind (piece mark (Word (declaring kind)) ts) (tree.variable_declaration (declared_as kind) ds)
 
   -- ---- statements (clause 14)
 
@@ -390,11 +412,69 @@ mutual
     a_block : {c : Allowed} {last before_else mark : Bool} {inside : Tokens} {body : Trees} → ReadsStatements c true inside body → ReadsStatement c last before_else (group mark Brace inside done) (tree.block (nothing_of 0) body)
     an_if : {c : Allowed} {last mark next : Bool} {test ts : Tokens} {t s : Tree} → ReadsExpression (with_in c) Expression test t → ReadsStatement c last false ts s → ReadsStatement c last false (piece mark (Word (codes "if")) (group next Round test ts)) (tree.if_statement (nothing_of 0) t s absent)
     an_if_with_else : {c : Allowed} {last before_else mark next : Bool} {test ts a b : Tokens} {t s u : Tree} (k : Bool) → ts ≡ a ⧺ piece k (Word (codes "else")) b → ReadsExpression (with_in c) Expression test t → ReadsStatement c false true a s → ReadsStatement c last before_else b u → ReadsStatement c last before_else (piece mark (Word (codes "if")) (group next Round test ts)) (tree.if_statement (nothing_of 0) t s (given u))
+    a_variable_statement : {c : Allowed} {last before_else : Bool} {ts a : Tokens} {d : Tree} → EndsBy last ts a → ReadsVariables (with_in c) Var a d → ReadsStatement c last before_else ts d
+    a_for : {c : Allowed} {last before_else mark next : Bool} {head a b d ts : Tokens} {init test update : Maybe} {s : Tree} (k l : Bool) → head ≡ a ⧺ piece k (Sign semicolon) (b ⧺ piece l (Sign semicolon) d) → ReadsInit c a init → ReadsPart (with_in c) b test → ReadsPart (with_in c) d update → ReadsStatement c last before_else ts s → ReadsStatement c last before_else (piece mark (Word (codes "for")) (group next Round head ts)) (tree.for_statement (nothing_of 0) init test update s)
+    a_for_in : {c : Allowed} {last before_else mark next : Bool} {head a b ts : Tokens} {l e s : Tree} (k : Bool) → head ≡ a ⧺ piece k (Word (codes "in")) b → ReadsLeft (with_in c) false a l → ReadsExpression (with_in c) Expression b e → ReadsStatement c last before_else ts s → ReadsStatement c last before_else (piece mark (Word (codes "for")) (group next Round head ts)) (tree.for_in_statement (nothing_of 0) l e s)
+    a_for_of : {c : Allowed} {last before_else mark next : Bool} {head a b ts : Tokens} {l e s : Tree} (k : Bool) → head ≡ a ⧺ piece k (Word (codes "of")) b → ReadsLeft (with_in c) true a l → ReadsExpression (with_in c) Assignment b e → ReadsStatement c last before_else ts s → ReadsStatement c last before_else (piece mark (Word (codes "for")) (group next Round head ts)) (tree.for_of_statement (nothing_of 1) l e s)
+    a_while : {c : Allowed} {last before_else mark next : Bool} {test ts : Tokens} {t s : Tree} → ReadsExpression (with_in c) Expression test t → ReadsStatement c last before_else ts s → ReadsStatement c last before_else (piece mark (Word (codes "while")) (group next Round test ts)) (tree.while_statement (nothing_of 0) t s)
+    a_do_while : {c : Allowed} {last before_else mark : Bool} {ts a b test : Tokens} {s t : Tree} (k next : Bool) → EndsBy last ts a → a ≡ piece mark (Word (codes "do")) (b ⧺ piece k (Word (codes "while")) (group next Round test done)) → ReadsStatement c false false b s → ReadsExpression (with_in c) Expression test t → ReadsStatement c last before_else ts (tree.do_while_statement (nothing_of 0) s t)
+    a_labelled_statement : {c : Allowed} {last before_else mark next : Bool} {w v : List ℕ} {ts : Tokens} {s : Tree} → word_value w ≡ Some v → is_free_name v ≡ true → ReadsStatement c last before_else ts s → ReadsStatement c last before_else (piece mark (Word w) (piece next (Sign colon) ts)) (tree.labeled_statement (nothing_of 0) (tree.label_identifier (named v)) s)
+    a_continue : {c : Allowed} {last before_else mark : Bool} {ts a : Tokens} {l : Maybe} → EndsBy last ts (piece mark (Word (codes "continue")) a) → ReadsLabel a l → ReadsStatement c last before_else ts (tree.continue_statement (nothing_of 0) l)
+    a_break : {c : Allowed} {last before_else mark : Bool} {ts a : Tokens} {l : Maybe} → EndsBy last ts (piece mark (Word (codes "break")) a) → ReadsLabel a l → ReadsStatement c last before_else ts (tree.break_statement (nothing_of 0) l)
+    a_throw : {c : Allowed} {last before_else mark : Bool} {ts a : Tokens} {e : Tree} → EndsBy last ts (piece mark (Word (codes "throw")) a) → on_same_line a ≡ true → ReadsExpression (with_in c) Expression a e → ReadsStatement c last before_else ts (tree.throw_statement (nothing_of 0) e)
+    a_debugger : {c : Allowed} {last before_else mark : Bool} {ts : Tokens} → EndsBy last ts (piece mark (Word (codes "debugger")) done) → ReadsStatement c last before_else ts (tree.debugger_statement (nothing_of 0))
+    a_switch : {c : Allowed} {last before_else mark next third : Bool} {head inside : Tokens} {e : Tree} {cases : Trees} → ReadsExpression (with_in c) Expression head e → ReadsCases c true inside cases → ReadsStatement c last before_else (piece mark (Word (codes "switch")) (group next Round head (group third Brace inside done))) (tree.switch_statement (nothing_of 0) e cases)
+    a_try : {c : Allowed} {last before_else mark next : Bool} {inside ts : Tokens} {body : Trees} {handler finalizer : Maybe} → ReadsStatements c true inside body → ReadsEndsOfTry c ts handler finalizer → ReadsStatement c last before_else (piece mark (Word (codes "try")) (group next Brace inside ts)) (tree.try_statement (nothing_of 0) (tree.block (nothing_of 0) body) handler finalizer)
+
+  -- first in the head of a loop: nothing, a declaration or an expression, all without `in` (14.7.4)
+  pub data ReadsInit : Allowed → Tokens → Maybe → Type 0 where
+    no_init : {c : Allowed} → ReadsInit c done absent
+    first_variables : {c : Allowed} {ts : Tokens} {d : Tree} (kind : VariableDeclarationKind) → ReadsVariables (without_in c) kind ts d → ReadsInit c ts (given d)
+    first_expression : {c : Allowed} {ts : Tokens} {e : Tree} → ReadsExpression (without_in c) Expression ts e → ReadsInit c ts (given e)
+
+  -- behind a semicolon there: nothing, or an expression
+  pub data ReadsPart : Allowed → Tokens → Maybe → Type 0 where
+    nothing_there : {c : Allowed} → ReadsPart c done absent
+    an_expression_there : {c : Allowed} {ts : Tokens} {e : Tree} → ReadsExpression c Expression ts e → ReadsPart c ts (given e)
+
+  -- what a loop gives its values: one name that is declared, or a simple target. The flag tells that `of` follows (14.7.5)
+  pub data ReadsLeft : Allowed → Bool → Tokens → Tree → Type 0 where
+    a_declared_name : {c : Allowed} {before_of mark : Bool} {ts : Tokens} {b : Tree} (kind : VariableDeclarationKind) → ReadsBinding c ts b → ReadsLeft c before_of (piece mark (Word (declaring kind)) ts) (tree.variable_declaration (declared_as kind) (more (tree.variable_declarator (nothing_of 1) b absent) no_trees))
+    a_target : {c : Allowed} {before_of : Bool} {ts : Tokens} {t u : Tree} → (not before_of || may_precede_of ts) ≡ true → ReadsExpression c LeftHandSide ts t → simple_target t ≡ Some u → ReadsLeft c before_of ts u
+
+  -- what a jump leads to, on the line of its word (14.8 and 14.9)
+  pub data ReadsLabel : Tokens → Maybe → Type 0 where
+    no_label : ReadsLabel done absent
+    a_label : {w v : List ℕ} → word_value w ≡ Some v → is_free_name v ≡ true → ReadsLabel (piece false (Word w) done) (given (tree.label_identifier (named v)))
+
+  -- the cases of `switch`. The flag tells that one without a test may come, which it does once (14.12)
+  pub data ReadsCases : Allowed → Bool → Tokens → Trees → Type 0 where
+    no_case : {c : Allowed} {default : Bool} → ReadsCases c default done no_trees
+    last_case : {c : Allowed} {default rest : Bool} {ts : Tokens} {t : Tree} → ReadsCase c true default rest ts t → ReadsCases c default ts (more t no_trees)
+    first_case : {c : Allowed} {default rest : Bool} {ts a b : Tokens} {t : Tree} {us : Trees} → ts ≡ a ⧺ b → ReadsCase c false default rest a t → ReadsCases c rest b us → ReadsCases c default ts (more t us)
+
+  -- a case: whether its tokens are the last of their brace group, and whether one without a test may come, before it and behind it
+  pub data ReadsCase : Allowed → Bool → Bool → Bool → Tokens → Tree → Type 0 where
+    a_case : {c : Allowed} {last default mark : Bool} {ts a b : Tokens} {t : Tree} {ss : Trees} (k : Bool) → ts ≡ a ⧺ piece k (Sign colon) b → ReadsExpression (with_in c) Expression a t → ReadsStatements c last b ss → ReadsCase c last default default (piece mark (Word (codes "case")) ts) (tree.switch_case (nothing_of 0) (given t) ss)
+    a_default : {c : Allowed} {last mark next : Bool} {ts : Tokens} {ss : Trees} → ReadsStatements c last ts ss → ReadsCase c last true false (piece mark (Word (codes "default")) (piece next (Sign colon) ts)) (tree.switch_case (nothing_of 0) absent ss)
+
+  -- behind the block of `try`: a handler, a finalizer or both (14.15)
+  pub data ReadsEndsOfTry : Allowed → Tokens → Maybe → Maybe → Type 0 where
+    a_handler : {c : Allowed} {ts : Tokens} {h : Tree} → ReadsHandler c ts h → ReadsEndsOfTry c ts (given h) absent
+    a_finalizer : {c : Allowed} {ts : Tokens} {f : Tree} → ReadsFinalizer c ts f → ReadsEndsOfTry c ts absent (given f)
+    a_handler_and_a_finalizer : {c : Allowed} {ts a b : Tokens} {h f : Tree} → ts ≡ a ⧺ b → ReadsHandler c a h → ReadsFinalizer c b f → ReadsEndsOfTry c ts (given h) (given f)
+
+  pub data ReadsHandler : Allowed → Tokens → Tree → Type 0 where
+    a_catch : {c : Allowed} {mark next : Bool} {inside : Tokens} {body : Trees} → ReadsStatements c true inside body → ReadsHandler c (piece mark (Word (codes "catch")) (group next Brace inside done)) (tree.catch_clause (nothing_of 0) absent (tree.block (nothing_of 0) body))
+    a_catch_by_name : {c : Allowed} {mark next third : Bool} {name inside : Tokens} {b : Tree} {body : Trees} → ReadsBinding (with_in c) name b → ReadsStatements c true inside body → ReadsHandler c (piece mark (Word (codes "catch")) (group next Round name (group third Brace inside done))) (tree.catch_clause (nothing_of 0) (given b) (tree.block (nothing_of 0) body))
+
+  pub data ReadsFinalizer : Allowed → Tokens → Tree → Type 0 where
+    a_finally : {c : Allowed} {mark next : Bool} {inside : Tokens} {body : Trees} → ReadsStatements c true inside body → ReadsFinalizer c (piece mark (Word (codes "finally")) (group next Brace inside done)) (tree.block (nothing_of 0) body)
 
   -- what stands in a list of statements: a statement or a declaration (14.2)
   pub data ReadsItem : Allowed → Bool → Tokens → Tree → Type 0 where
     a_statement : {c : Allowed} {last : Bool} {ts : Tokens} {s : Tree} → ReadsStatement c last false ts s → ReadsItem c last ts s
-    a_declaration : {c : Allowed} {last : Bool} {ts a : Tokens} {d : Tree} → EndsBy last ts a → ReadsDeclaration (with_in c) a d → ReadsItem c last ts d
+    a_declaration : {c : Allowed} {last : Bool} {ts a : Tokens} {d : Tree} (kind : VariableDeclarationKind) → is_var kind ≡ false → EndsBy last ts a → ReadsVariables (with_in c) kind a d → ReadsItem c last ts d
 
   pub data ReadsStatements : Allowed → Bool → Tokens → Trees → Type 0 where
     no_statement : {c : Allowed} {last : Bool} → ReadsStatements c last done no_trees

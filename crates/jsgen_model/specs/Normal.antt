@@ -6,7 +6,7 @@ use Rattle.jsgen_tree.specs.Number.{NumericKind, Whole, Raw}
 use Rattle.jsgen_tree.specs.Tree.{Tree, node, Slots, no_slots, one, maybe, many, maybe_many, Maybe, absent, given, Trees, no_trees, more, hole, MaybeTrees, no_list, listed, Atoms}
 use Rattle.jsgen_tree.specs.declared.types.NodeType.TheVariants as types
 use Rattle.jsgen_tree.specs.Places.{bare, absent_values}
-use Rattle.jsgen_tree.specs.Values.{directive_directive, variable_declaration_kind, binding_identifier_name, identifier_reference_name, identifier_name_name, boolean_literal_value, numeric_literal_kind, numeric_literal_negative, numeric_literal_digits, numeric_literal_text, big_int_literal_value, string_literal_value, binary_expression_operator, logical_expression_operator, unary_expression_operator, update_expression_operator, update_expression_prefix, variable_declaration_declare, variable_declarator_definite, static_member_expression_optional, computed_member_expression_optional, call_expression_optional, object_property_kind, object_property_method, object_property_shorthand, object_property_computed, assignment_expression_operator, formal_parameter_is_override, formal_parameter_readonly, formal_parameter_optional, arrow_function_expression_is_async}
+use Rattle.jsgen_tree.specs.Values.{directive_directive, variable_declaration_kind, binding_identifier_name, identifier_reference_name, identifier_name_name, label_identifier_name, for_of_statement_is_await, boolean_literal_value, numeric_literal_kind, numeric_literal_negative, numeric_literal_digits, numeric_literal_text, big_int_literal_value, string_literal_value, binary_expression_operator, logical_expression_operator, unary_expression_operator, update_expression_operator, update_expression_prefix, variable_declaration_declare, variable_declarator_definite, static_member_expression_optional, computed_member_expression_optional, call_expression_optional, object_property_kind, object_property_method, object_property_shorthand, object_property_computed, assignment_expression_operator, formal_parameter_is_override, formal_parameter_readonly, formal_parameter_optional, arrow_function_expression_is_async}
 use Rattle.jsgen_syntax.specs.Raw.{directive_value}
 use Rattle.jsgen_syntax.specs.declared.operator.LogicalOperator.{LogicalOperator}
 use Rattle.jsgen_syntax.specs.declared.operator.UnaryOperator.TheVariants.{UnaryNegation}
@@ -139,6 +139,21 @@ abbrev mutual
   normal (tree.block a body) = tree.block (nothing_of 0) (normal_trees body)
   normal (tree.if_statement a test consequent alternate) = tree.if_statement (nothing_of 0) (normal test) (unbraced (normal consequent)) (normal_maybe alternate)
   normal (tree.empty_statement a) = tree.empty_statement (nothing_of 0)
+  normal (tree.for_statement a init test update body) = tree.for_statement (nothing_of 0) (normal_maybe init) (normal_maybe test) (normal_maybe update) (normal body)
+  normal (tree.for_in_statement a left right body) = tree.for_in_statement (nothing_of 0) (normal left) (normal right) (normal body)
+  normal (tree.for_of_statement a left right body) = tree.for_of_statement (bare (for_of_statement_is_await a ∷ [])) (normal left) (normal right) (normal body)
+  normal (tree.while_statement a test body) = tree.while_statement (nothing_of 0) (normal test) (normal body)
+  normal (tree.do_while_statement a body test) = tree.do_while_statement (nothing_of 0) (normal body) (normal test)
+  normal (tree.label_identifier a) = tree.label_identifier (named (label_identifier_name a))
+  normal (tree.labeled_statement a label body) = tree.labeled_statement (nothing_of 0) (normal label) (normal body)
+  normal (tree.continue_statement a label) = tree.continue_statement (nothing_of 0) (normal_maybe label)
+  normal (tree.break_statement a label) = tree.break_statement (nothing_of 0) (normal_maybe label)
+  normal (tree.throw_statement a argument) = tree.throw_statement (nothing_of 0) (normal argument)
+  normal (tree.debugger_statement a) = tree.debugger_statement (nothing_of 0)
+  normal (tree.switch_statement a discriminant cases) = tree.switch_statement (nothing_of 0) (normal discriminant) (normal_trees cases)
+  normal (tree.switch_case a test consequent) = tree.switch_case (nothing_of 0) (normal_maybe test) (normal_trees consequent)
+  normal (tree.try_statement a block handler finalizer) = tree.try_statement (nothing_of 0) (normal block) (normal_maybe handler) (normal_maybe finalizer)
+  normal (tree.catch_clause a param body) = tree.catch_clause (nothing_of 0) (normal_maybe param) (normal body)
   normal (tree.identifier_name a) = tree.identifier_name (named (identifier_name_name a))
   normal (tree.static_member a object property) = tree.static_member (link_values (static_member_expression_optional a)) (normal object) (normal property)
   normal (tree.computed_member a object expression) = tree.computed_member (link_values (computed_member_expression_optional a)) (normal object) (normal expression)

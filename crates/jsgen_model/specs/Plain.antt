@@ -9,7 +9,7 @@ use Rattle.jsgen_tree.specs.Tree.{Tree, node, Trees, no_trees, more, hole, Atoms
 use Rattle.jsgen_tree.specs.Nodes as tree
 use Rattle.jsgen_tree.specs.Table.{value_named}
 use Rattle.jsgen_tree.specs.Fields.{fields}
-use Rattle.jsgen_tree.specs.Values.{as_flag, program_kind, directive_directive, numeric_literal_kind, numeric_literal_digits, string_literal_value, variable_declaration_declare, variable_declarator_definite, object_property_method, formal_parameter_is_override, formal_parameter_readonly, formal_parameter_optional, arrow_function_expression_is_async}
+use Rattle.jsgen_tree.specs.Values.{as_flag, program_kind, directive_directive, numeric_literal_kind, numeric_literal_digits, string_literal_value, variable_declaration_declare, variable_declarator_definite, for_of_statement_is_await, object_property_method, formal_parameter_is_override, formal_parameter_readonly, formal_parameter_optional, arrow_function_expression_is_async}
 use Rattle.jsgen_tree.specs.Everywhere.{Everywhere}
 use Rattle.jsgen_tree.specs.Options.{Comments, is_none}
 use Rattle.jsgen_tree.specs.Job.{JobData}
@@ -59,6 +59,21 @@ is_plain_row (tree.logical a left right) = true
 is_plain_row (tree.block a body) = has_no_hole body
 is_plain_row (tree.if_statement a test consequent alternate) = true
 is_plain_row (tree.empty_statement a) = true
+is_plain_row (tree.for_statement a init test update body) = true
+is_plain_row (tree.for_in_statement a left right body) = true
+is_plain_row (tree.for_of_statement a left right body) = is_absent (for_of_statement_is_await a)
+is_plain_row (tree.while_statement a test body) = true
+is_plain_row (tree.do_while_statement a body test) = true
+is_plain_row (tree.label_identifier a) = true
+is_plain_row (tree.labeled_statement a label body) = true
+is_plain_row (tree.continue_statement a label) = true
+is_plain_row (tree.break_statement a label) = true
+is_plain_row (tree.throw_statement a argument) = true
+is_plain_row (tree.debugger_statement a) = true
+is_plain_row (tree.switch_statement a discriminant cases) = has_no_hole cases
+is_plain_row (tree.switch_case a test consequent) = has_no_hole consequent
+is_plain_row (tree.try_statement a block handler finalizer) = true
+is_plain_row (tree.catch_clause a param body) = true
 is_plain_row (tree.identifier_name a) = true
 is_plain_row (tree.static_member a object property) = true
 is_plain_row (tree.computed_member a object expression) = true

@@ -22,7 +22,7 @@ use Rattle.jsgen_tree.specs.Inside.{without_parentheses, ends_open, reference_na
 use Rattle.jsgen_tree.specs.Words.{declaration_word}
 use Rattle.jsgen_tree.specs.Number.{NumericKind, Whole, Raw}
 use Rattle.jsgen_tree.specs.Tree.{Tree, Maybe, absent, given, Trees, no_trees, more, hole, Atoms, type_of}
-use Rattle.jsgen_tree.specs.Values.{as_text, directive_directive, variable_declaration_kind, identifier_name_name, boolean_literal_value, numeric_literal_kind, numeric_literal_negative, numeric_literal_digits, numeric_literal_text, big_int_literal_value, string_literal_value, binary_expression_operator, logical_expression_operator, unary_expression_operator, update_expression_operator, update_expression_prefix, object_property_shorthand, object_property_computed, assignment_expression_operator, static_member_expression_optional, computed_member_expression_optional, call_expression_optional, arrow_function_expression_pife}
+use Rattle.jsgen_tree.specs.Values.{as_text, directive_directive, variable_declaration_kind, identifier_name_name, label_identifier_name, boolean_literal_value, numeric_literal_kind, numeric_literal_negative, numeric_literal_digits, numeric_literal_text, big_int_literal_value, string_literal_value, binary_expression_operator, logical_expression_operator, unary_expression_operator, update_expression_operator, update_expression_prefix, object_property_shorthand, object_property_computed, assignment_expression_operator, static_member_expression_optional, computed_member_expression_optional, call_expression_optional, arrow_function_expression_pife}
 use Rattle.jsgen_tree.specs.Job.{JobData}
 use Rattle.jsgen_tree.specs.Nodes as tree
 use Rattle.jsgen_model.specs.Numbers.{takes_no_dot}
@@ -87,6 +87,15 @@ left_of level place = record (in_front level place) { left_operand = true }
 -- a child in brackets, where nothing is forbidden
 abbrev pub in_brackets : Precedence → Place → Place
 in_brackets level place = record (behind level place) { context = free }
+
+-- what stands first in the head of a loop, where `in` is forbidden (ECMA-262, 14.7.4)
+abbrev pub loop_head : Place → Place
+loop_head place = record (behind Lowest place) { context = record free { forbids_in = true } }
+
+-- what a loop gives its values: a declaration, or what is given a value, where nothing is forbidden
+abbrev pub left_place : NodeType → Place → Place
+left_place types.VariableDeclaration place = loop_head place
+left_place type place = in_brackets Comma place
 
 -- a part of a choice or of a list, in which calls may stand
 abbrev pub with_calls : Place → Place
@@ -371,12 +380,32 @@ consequent_items an_empty false inner whole else_follows = punctuator semicolon 
 consequent_items s false inner whole else_follows = body_space ⊕ (whole ⊕ body_end else_follows)
 consequent_items s true inner whole else_follows = soft_space ⊕ (filled_braces whole ⊕ braces_end else_follows)
 
+-- what the head of a loop, a label or a case is followed by: a block goes on with the line, and any other statement stands behind one space
+abbrev pub body_items : Shape → Items → Items → Items
+body_items a_block inner whole = soft_space ⊕ (inner ⊕ soft_line)
+body_items an_empty inner whole = punctuator semicolon ⊕ soft_line
+body_items s inner whole = body_space ⊕ whole
+
 -- what `else` is followed by
 abbrev pub alternate_items : Shape → Items → Items → Items
-alternate_items a_block inner whole = soft_space ⊕ (inner ⊕ soft_line)
 alternate_items an_if inner whole = hard_space ⊕ inner
-alternate_items an_empty inner whole = punctuator semicolon ⊕ soft_line
-alternate_items other inner whole = body_space ⊕ whole
+alternate_items s inner whole = body_items s inner whole
+
+-- what stands between `do` and `while`: a statement that is no block stands on a line of its own, with its semicolon
+abbrev pub do_items : Shape → Items → Items → Items
+do_items a_block inner whole = soft_space ⊕ (inner ⊕ soft_space)
+do_items an_empty inner whole = punctuator semicolon ⊕ (soft_line ⊕ indentation)
+do_items s inner whole = soft_line ⊕ (deeper (whole ⊕ due_semicolon) ⊕ indentation)
+
+-- what stands behind the colon of a case: one statement as a body, or any other number on lines of their own
+abbrev pub case_items : Trees → Items → Items → Items
+case_items (more t no_trees) only statements = only
+case_items ts only statements = soft_line ⊕ deeper statements
+
+-- a target `async` stands apart from `of` in parentheses (ECMA-262, 14.7.5)
+abbrev pub apart_from_of : Option Named → Items → Items
+apart_from_of None items = items
+apart_from_of (Some n) items = where_same n (as_written (codes "async")) (brackets Round items) items
 
 abbrev pub is_given : Maybe → Bool
 is_given absent = false
@@ -562,6 +591,40 @@ abbrev mutual
       ⊕ (consequent_items (shape consequent) (ends_open consequent) (spell consequent (within_statement place.settings)) (spell consequent (among_statements place.settings)) (is_given alternate)
       ⊕ spell_alternate alternate place.settings))))
   spell (tree.empty_statement a) place = indentation ⊕ (punctuator semicolon ⊕ soft_line)
+  spell (tree.for_statement a init test update body) place =
+      indentation ⊕ (word (codes "for") ⊕ (soft_space ⊕ (brackets Round (spell_if_given init (loop_head place)
+      ⊕ (punctuator semicolon ⊕ (spell_apart test (in_brackets Lowest place) ⊕ (punctuator semicolon ⊕ spell_apart update (in_brackets Lowest place)))))
+      ⊕ body_items (shape body) (spell body (within_statement place.settings)) (spell body (among_statements place.settings)))))
+  spell (tree.for_in_statement a left right body) place =
+      indentation ⊕ (word (codes "for") ⊕ (soft_space ⊕ (brackets Round (spell left (left_place (type_of left) place)
+      ⊕ (soft_space ⊕ (word (codes "in") ⊕ (soft_space ⊕ spell right (in_brackets Lowest place)))))
+      ⊕ body_items (shape body) (spell body (within_statement place.settings)) (spell body (among_statements place.settings)))))
+  spell (tree.for_of_statement a left right body) place =
+      indentation ⊕ (word (codes "for") ⊕ (soft_space ⊕ (brackets Round (apart_from_of (looked_up_in left) (spell left (left_place (type_of left) place))
+      ⊕ (soft_space ⊕ (word (codes "of") ⊕ (soft_space ⊕ spell right (in_brackets Comma place)))))
+      ⊕ body_items (shape body) (spell body (within_statement place.settings)) (spell body (among_statements place.settings)))))
+  spell (tree.while_statement a test body) place =
+      indentation ⊕ (word (codes "while") ⊕ (soft_space ⊕ (brackets Round (spell test (in_brackets Lowest place))
+      ⊕ body_items (shape body) (spell body (within_statement place.settings)) (spell body (among_statements place.settings)))))
+  spell (tree.do_while_statement a body test) place =
+      indentation ⊕ (word (codes "do") ⊕ (do_items (shape body) (spell body (within_statement place.settings)) (spell body (among_statements place.settings))
+      ⊕ (word (codes "while") ⊕ (soft_space ⊕ (brackets Round (spell test (in_brackets Lowest place)) ⊕ statement_end)))))
+  spell (tree.label_identifier a) place = name (as_written (label_identifier_name a))
+  spell (tree.labeled_statement a label body) place =
+      indentation ⊕ (spell label (behind Lowest place) ⊕ (punctuator colon
+      ⊕ body_items (shape body) (spell body (within_statement place.settings)) (spell body (among_statements place.settings))))
+  spell (tree.continue_statement a label) place = indentation ⊕ (word (codes "continue") ⊕ (spell_apart label (behind Lowest place) ⊕ statement_end))
+  spell (tree.break_statement a label) place = indentation ⊕ (word (codes "break") ⊕ (spell_apart label (behind Lowest place) ⊕ statement_end))
+  spell (tree.throw_statement a argument) place = indentation ⊕ (word (codes "throw") ⊕ (soft_space ⊕ (spell argument (in_brackets Lowest place) ⊕ statement_end)))
+  spell (tree.debugger_statement a) place = indentation ⊕ (word (codes "debugger") ⊕ statement_end)
+  spell (tree.switch_statement a discriminant cases) place =
+      indentation ⊕ (word (codes "switch") ⊕ (soft_space ⊕ (brackets Round (spell discriminant (in_brackets Lowest place))
+      ⊕ (soft_space ⊕ (braces cases (spell_statements cases place.settings) ⊕ soft_line)))))
+  spell (tree.switch_case a test consequent) place =
+      indentation ⊕ (spell_test test (in_brackets Lowest place) ⊕ (punctuator colon ⊕ case_items consequent (spell_only consequent place.settings) (spell_statements consequent place.settings)))
+  spell (tree.try_statement a block handler finalizer) place =
+      indentation ⊕ (word (codes "try") ⊕ (soft_space ⊕ (spell block (within_statement place.settings) ⊕ (spell_if_given handler (within_statement place.settings) ⊕ (spell_finalizer finalizer place.settings ⊕ soft_line)))))
+  spell (tree.catch_clause a param body) place = soft_space ⊕ (word (codes "catch") ⊕ (spell_caught param (behind Lowest place) ⊕ (soft_space ⊕ spell body (within_statement place.settings))))
   spell (tree.identifier_name a) place = name (as_written (identifier_name_name a))
   spell (tree.static_member a object property) place = spell object (linked place) ⊕ (name_link (static_member_expression_optional a) ⊕ spell property (behind Lowest place))
   spell (tree.computed_member a object expression) place = spell object (linked place) ⊕ (bracket_link (computed_member_expression_optional a) ⊕ brackets Square (spell expression (quoted_plainly place.plain_quotes (in_brackets Lowest place))))
@@ -618,7 +681,7 @@ abbrev mutual
   spell_body (more t ts) settings = due_semicolon ⊕ (first_statement t (spell t (among_statements settings)) ⊕ spell_statements ts settings)
   spell_body (hole ts) settings = spell_body ts settings
 
-  -- a list of statements, each after the semicolon that the one before may have left
+  -- a list of statements or of cases, each after the semicolon that the one before may have left
   pub spell_statements : Trees → Settings → Items
   spell_statements no_trees settings = nothing
   spell_statements (more t ts) settings = due_semicolon ⊕ (spell t (among_statements settings) ⊕ spell_statements ts settings)
@@ -667,6 +730,31 @@ abbrev mutual
   pub spell_alternate : Maybe → Settings → Items
   spell_alternate absent settings = nothing
   spell_alternate (given t) settings = due_semicolon ⊕ (word (codes "else") ⊕ alternate_items (shape t) (spell t (within_statement settings)) (spell t (among_statements settings)))
+
+  -- the first statement of a case that has no other
+  pub spell_only : Trees → Settings → Items
+  spell_only no_trees settings = nothing
+  spell_only (more t ts) settings = body_items (shape t) (spell t (within_statement settings)) (spell t (among_statements settings))
+  spell_only (hole ts) settings = nothing
+
+  -- what a case begins with
+  pub spell_test : Maybe → Place → Items
+  spell_test absent place = word (codes "default")
+  spell_test (given t) place = word (codes "case") ⊕ (soft_space ⊕ spell t place)
+
+  -- the name that what is caught has
+  pub spell_caught : Maybe → Place → Items
+  spell_caught absent place = nothing
+  spell_caught (given t) place = soft_space ⊕ brackets Round (spell t place)
+
+  pub spell_finalizer : Maybe → Settings → Items
+  spell_finalizer absent settings = nothing
+  spell_finalizer (given t) settings = soft_space ⊕ (word (codes "finally") ⊕ (soft_space ⊕ spell t (within_statement settings)))
+
+  -- behind a space
+  pub spell_apart : Maybe → Place → Items
+  spell_apart absent place = nothing
+  spell_apart (given t) place = soft_space ⊕ spell t place
 
   pub spell_if_given : Maybe → Place → Items
   spell_if_given absent place = nothing

@@ -11,6 +11,8 @@ use Rattle.jsgen_tree.specs.declared.types.NodeType.{NodeType}
 use Rattle.jsgen_tree.specs.declared.types.NodeType.TheVariants as types
 use Rattle.jsgen_tree.specs.declared.statements.CommentKind.{CommentKind}
 use Rattle.jsgen_tree.specs.declared.statements.CommentKind.TheVariants as comments
+use Rattle.jsgen_tree.specs.declared.statements.VariableDeclarationKind.{VariableDeclarationKind}
+use Rattle.jsgen_tree.specs.declared.statements.VariableDeclarationKind.TheVariants as kinds
 use Rattle.jsgen_tree.specs.Options.{Options}
 use Rattle.jsgen_tree.specs.Job.{Scoping, Tables, JobData}
 use Rattle.jsgen_tree.specs.Named.{Named, looked_up, bound, printed_name}
@@ -18,10 +20,10 @@ use Rattle.jsgen_tree.specs.Table.{child_sets}
 use Rattle.jsgen_tree.specs.Fields.{fields}
 use Rattle.jsgen_tree.specs.Sets.{in_set, is_expression}
 use Rattle.jsgen_tree.specs.Number.{NumericKind, Whole, Raw}
-use Rattle.jsgen_tree.specs.Inside.{without_parentheses, looked_up_in, reference_named, binding_named, written_name_in, is_proto, is_negative_big_integer, has_optional_link}
+use Rattle.jsgen_tree.specs.Inside.{without_parentheses, looked_up_in, reference_named, binding_named, declared_kind, written_name_in, is_proto, is_negative_big_integer, has_optional_link}
 use Rattle.jsgen_tree.specs.Tree.{Tree, node, Slots, no_slots, one, maybe, many, maybe_many, Maybe, absent, given, Trees, no_trees, more, hole, MaybeTrees, no_list, listed, type_of, span_of}
 use Rattle.jsgen_tree.specs.Nodes as tree
-use Rattle.jsgen_tree.specs.Values.{as_text, program_source, comment_kind, directive_directive, identifier_name_name, numeric_literal_kind, numeric_literal_text, big_int_literal_value, object_property_shorthand, object_property_computed, static_member_expression_optional, computed_member_expression_optional, call_expression_optional}
+use Rattle.jsgen_tree.specs.Values.{as_text, program_source, comment_kind, directive_directive, identifier_name_name, label_identifier_name, numeric_literal_kind, numeric_literal_text, big_int_literal_value, object_property_shorthand, object_property_computed, static_member_expression_optional, computed_member_expression_optional, call_expression_optional}
 use Rattle.jsgen_model.specs.Numbers.{is_raw_number, is_big_integer}
 use Rattle.jsgen_model.specs.Tokens.{has_line_end}
 use Rattle.jsgen_model.specs.declared.fault.TreeFault.{TreeFault}
@@ -127,13 +129,13 @@ abbrev pub sequence_faults : Span → Trees → List TreeFault
 sequence_faults s (more t (more u ts)) = []
 sequence_faults s ts = faults.Place s.start ∷ []
 
--- what `if` and `else` are followed by is no lexical declaration (ECMA-262, 14.6)
-abbrev pub is_lexical_type : NodeType → Bool
-is_lexical_type types.VariableDeclaration = true
-is_lexical_type type = false
+-- what `if` and `else`, the head of a loop, `do` or a label are followed by is no lexical declaration (ECMA-262, 14.6, 14.7 and 14.13)
+abbrev pub is_lexical_word : VariableDeclarationKind → Bool
+is_lexical_word kinds.Var = false
+is_lexical_word kind = true
 
 abbrev pub is_lexical : Tree → Bool
-is_lexical t = is_lexical_type (type_of t)
+is_lexical t = option_map_or is_lexical_word (declared_kind t) false
 
 abbrev pub body_faults : Tree → List TreeFault
 body_faults t = fault_if (is_lexical t) (faults.Place (span_of t).start)
@@ -141,6 +143,26 @@ body_faults t = fault_if (is_lexical t) (faults.Place (span_of t).start)
 abbrev pub alternate_faults : Maybe → List TreeFault
 alternate_faults absent = []
 alternate_faults (given t) = body_faults t
+
+-- a label is an identifier in strict code (ECMA-262, 14.13)
+abbrev pub label_faults : Span → List ℕ → List TreeFault
+label_faults s name = fault_if (not (is_free_name name)) (faults.Name s.start)
+
+-- how many cases have no test
+abbrev pub defaults : Trees → ℕ
+defaults no_trees = 0
+defaults (more (tree.switch_case a absent consequent) ts) = suc (defaults ts)
+defaults (more t ts) = defaults ts
+defaults (hole ts) = defaults ts
+
+-- `switch` has one such case at most (ECMA-262, 14.12)
+abbrev pub switch_faults : Span → Trees → List TreeFault
+switch_faults s cases = fault_if (nat_lt 1 (defaults cases)) (faults.Place s.start)
+
+-- `try` has a handler or a finalizer (ECMA-262, 14.15)
+abbrev pub try_faults : Span → Maybe → Maybe → List TreeFault
+try_faults s absent absent = faults.Place s.start ∷ []
+try_faults s handler finalizer = []
 
 -- A key that isn't computed is a name, a string, a number or a big integer (ECMA-262, 13.2.5), and one that is, is an expression.
 -- A negative number is a key all the same, since it is printed as a computed one; a negative big integer isn't
@@ -182,6 +204,15 @@ chain_faults s element = fault_if (not (has_optional_link element)) (faults.Plac
 -- what is changed has none (ECMA-262, 13.3.1.1)
 abbrev pub target_faults : Tree → List TreeFault
 target_faults target = fault_if (has_optional_link target) (faults.Place (span_of target).start)
+
+-- a loop over the values of another binds one name without a value (ECMA-262, 14.7.5)
+abbrev pub is_one_name : Trees → Bool
+is_one_name (more (tree.variable_declarator a id absent) no_trees) = true
+is_one_name ts = false
+
+abbrev pub left_faults : Tree → List TreeFault
+left_faults (tree.variable_declaration a declarations) = fault_if (not (is_one_name declarations)) (faults.Place a.span.start)
+left_faults left = target_faults left
 
 -- ---- comments (ECMA-262, 12.4 and B.1.1)
 
@@ -267,6 +298,15 @@ own_faults around (tree.identifier_reference a) = name_faults around.tables a.sp
 own_faults around (tree.numeric_literal a) = number_faults a.span (numeric_literal_kind a) (numeric_literal_text a)
 own_faults around (tree.big_int_literal a) = big_integer_faults a.span (big_int_literal_value a)
 own_faults around (tree.if_statement a test consequent alternate) = body_faults consequent ++ alternate_faults alternate
+own_faults around (tree.for_statement a init test update body) = body_faults body
+own_faults around (tree.for_in_statement a left right body) = left_faults left ++ body_faults body
+own_faults around (tree.for_of_statement a left right body) = left_faults left ++ body_faults body
+own_faults around (tree.while_statement a test body) = body_faults body
+own_faults around (tree.do_while_statement a body test) = body_faults body
+own_faults around (tree.label_identifier a) = label_faults a.span (label_identifier_name a)
+own_faults around (tree.labeled_statement a label body) = body_faults body
+own_faults around (tree.switch_statement a discriminant cases) = switch_faults a.span cases
+own_faults around (tree.try_statement a block handler finalizer) = try_faults a.span handler finalizer
 own_faults around (tree.identifier_name a) = written_name_faults a.span (identifier_name_name a)
 own_faults around (tree.static_member a object property) = super_faults (static_member_expression_optional a) object
 own_faults around (tree.computed_member a object expression) = super_faults (computed_member_expression_optional a) object
@@ -291,6 +331,7 @@ takes_optional_link sets.Link = true
 takes_optional_link sets.ChainElement = true
 takes_optional_link sets.SimpleAssignmentTarget = true
 takes_optional_link sets.AssignmentTarget = true
+takes_optional_link sets.ForStatementLeft = true
 takes_optional_link set = false
 
 abbrev pub link_faults : NodeSet → Tree → List TreeFault

@@ -81,10 +81,15 @@ pub statement_no_operand : {N : Type 0} (h : N → Tree) (n : Statement N) → I
 statement_no_operand h (statements.Declaration b) no_declaration = absurd (no_declaration b refl)
 statement_no_operand h n no_declaration = refl
 
-pub no_open_statement : {N : Type 0} (h : N → Tree) (n : Statement N) → IsNot n statements.Declaration → IsNot n statements.IfStatement → false ≡ ends_open (statement_plain h n)
-no_open_statement h (statements.Declaration b) no_declaration no_if = absurd (no_declaration b refl)
-no_open_statement h (statements.IfStatement b) no_declaration no_if = absurd (no_if b refl)
-no_open_statement h n no_declaration no_if = refl
+pub no_open_statement : {N : Type 0} (h : N → Tree) (n : Statement N) → IsNot n statements.Declaration → IsNot n statements.IfStatement → IsNot n statements.ForStatement → IsNot n statements.ForInStatement → IsNot n statements.ForOfStatement → IsNot n statements.WhileStatement → IsNot n statements.LabeledStatement → false ≡ ends_open (statement_plain h n)
+no_open_statement h (statements.Declaration b) no_declaration no_if no_for no_for_in no_for_of no_while no_label = absurd (no_declaration b refl)
+no_open_statement h (statements.IfStatement b) no_declaration no_if no_for no_for_in no_for_of no_while no_label = absurd (no_if b refl)
+no_open_statement h (statements.ForStatement b) no_declaration no_if no_for no_for_in no_for_of no_while no_label = absurd (no_for b refl)
+no_open_statement h (statements.ForInStatement b) no_declaration no_if no_for no_for_in no_for_of no_while no_label = absurd (no_for_in b refl)
+no_open_statement h (statements.ForOfStatement b) no_declaration no_if no_for no_for_in no_for_of no_while no_label = absurd (no_for_of b refl)
+no_open_statement h (statements.WhileStatement b) no_declaration no_if no_for no_for_in no_for_of no_while no_label = absurd (no_while b refl)
+no_open_statement h (statements.LabeledStatement b) no_declaration no_if no_for no_for_in no_for_of no_while no_label = absurd (no_label b refl)
+no_open_statement h n no_declaration no_if no_for no_for_in no_for_of no_while no_label = refl
 
 pub no_string_statement : {N : Type 0} (h : N → Tree) (n : Statement N) → IsNot n statements.Declaration → IsNot n statements.ExpressionStatement → None ≡ string_statement (statement_plain h n)
 no_string_statement h (statements.Declaration b) no_declaration no_expression = absurd (no_declaration b refl)

@@ -1,6 +1,10 @@
 pub mod Arrows
 pub mod BlockStops
-pub mod Braces
+pub mod Followed
+pub mod Lefts
+pub mod NotOne
+pub mod Caught
+pub mod DeclarationWords
 pub mod Elsewhere
 pub mod IsNot
 pub mod Keys

@@ -126,9 +126,47 @@ pub statement_past_0 : {N : Type 0} (n : Statement N) → IsNot n statements.Dec
 statement_past_0 (statements.Declaration b) no_0 = absurd (no_0 b refl)
 statement_past_0 n no_0 = refl
 
-pub statement_past_1 : {N : Type 0} (n : Statement N) → nat_le 1 (statement_part n) ≡ true → IsNot n statements.ExpressionStatement → IsNot n statements.BlockStatement → IsNot n statements.IfStatement → IsNot n statements.EmptyStatement → ⊥
+pub statement_past_1 : {N : Type 0} (n : Statement N) → nat_le 1 (statement_part n) ≡ true → IsNot n statements.ExpressionStatement → IsNot n statements.BlockStatement → IsNot n statements.IfStatement → IsNot n statements.EmptyStatement → nat_le 2 (statement_part n) ≡ true
 statement_past_1 (statements.Declaration b) later no_0 no_1 no_2 no_3 = let no : false ≡ true = later in cc
 statement_past_1 (statements.ExpressionStatement b) later no_0 no_1 no_2 no_3 = absurd (no_0 b refl)
 statement_past_1 (statements.BlockStatement b) later no_0 no_1 no_2 no_3 = absurd (no_1 b refl)
 statement_past_1 (statements.IfStatement b) later no_0 no_1 no_2 no_3 = absurd (no_2 b refl)
 statement_past_1 (statements.EmptyStatement b) later no_0 no_1 no_2 no_3 = absurd (no_3 b refl)
+statement_past_1 n later no_0 no_1 no_2 no_3 = refl
+
+pub statement_past_2 : {N : Type 0} (n : Statement N) → nat_le 2 (statement_part n) ≡ true → IsNot n statements.ForStatement → IsNot n statements.ForInStatement → IsNot n statements.ForOfStatement → IsNot n statements.WhileStatement → IsNot n statements.DoWhileStatement → IsNot n statements.LabeledStatement → IsNot n statements.ContinueStatement → IsNot n statements.BreakStatement → IsNot n statements.ThrowStatement → IsNot n statements.DebuggerStatement → nat_le 3 (statement_part n) ≡ true
+statement_past_2 (statements.Declaration b) later no_0 no_1 no_2 no_3 no_4 no_5 no_6 no_7 no_8 no_9 = let no : false ≡ true = later in cc
+statement_past_2 (statements.ExpressionStatement b) later no_0 no_1 no_2 no_3 no_4 no_5 no_6 no_7 no_8 no_9 = let no : false ≡ true = later in cc
+statement_past_2 (statements.BlockStatement b) later no_0 no_1 no_2 no_3 no_4 no_5 no_6 no_7 no_8 no_9 = let no : false ≡ true = later in cc
+statement_past_2 (statements.IfStatement b) later no_0 no_1 no_2 no_3 no_4 no_5 no_6 no_7 no_8 no_9 = let no : false ≡ true = later in cc
+statement_past_2 (statements.EmptyStatement b) later no_0 no_1 no_2 no_3 no_4 no_5 no_6 no_7 no_8 no_9 = let no : false ≡ true = later in cc
+statement_past_2 (statements.ForStatement b) later no_0 no_1 no_2 no_3 no_4 no_5 no_6 no_7 no_8 no_9 = absurd (no_0 b refl)
+statement_past_2 (statements.ForInStatement b) later no_0 no_1 no_2 no_3 no_4 no_5 no_6 no_7 no_8 no_9 = absurd (no_1 b refl)
+statement_past_2 (statements.ForOfStatement b) later no_0 no_1 no_2 no_3 no_4 no_5 no_6 no_7 no_8 no_9 = absurd (no_2 b refl)
+statement_past_2 (statements.WhileStatement b) later no_0 no_1 no_2 no_3 no_4 no_5 no_6 no_7 no_8 no_9 = absurd (no_3 b refl)
+statement_past_2 (statements.DoWhileStatement b) later no_0 no_1 no_2 no_3 no_4 no_5 no_6 no_7 no_8 no_9 = absurd (no_4 b refl)
+statement_past_2 (statements.LabeledStatement b) later no_0 no_1 no_2 no_3 no_4 no_5 no_6 no_7 no_8 no_9 = absurd (no_5 b refl)
+statement_past_2 (statements.ContinueStatement b) later no_0 no_1 no_2 no_3 no_4 no_5 no_6 no_7 no_8 no_9 = absurd (no_6 b refl)
+statement_past_2 (statements.BreakStatement b) later no_0 no_1 no_2 no_3 no_4 no_5 no_6 no_7 no_8 no_9 = absurd (no_7 b refl)
+statement_past_2 (statements.ThrowStatement b) later no_0 no_1 no_2 no_3 no_4 no_5 no_6 no_7 no_8 no_9 = absurd (no_8 b refl)
+statement_past_2 (statements.DebuggerStatement b) later no_0 no_1 no_2 no_3 no_4 no_5 no_6 no_7 no_8 no_9 = absurd (no_9 b refl)
+statement_past_2 n later no_0 no_1 no_2 no_3 no_4 no_5 no_6 no_7 no_8 no_9 = refl
+
+pub statement_past_3 : {N : Type 0} (n : Statement N) → nat_le 3 (statement_part n) ≡ true → IsNot n statements.SwitchStatement → IsNot n statements.TryStatement → ⊥
+statement_past_3 (statements.Declaration b) later no_0 no_1 = let no : false ≡ true = later in cc
+statement_past_3 (statements.ExpressionStatement b) later no_0 no_1 = let no : false ≡ true = later in cc
+statement_past_3 (statements.BlockStatement b) later no_0 no_1 = let no : false ≡ true = later in cc
+statement_past_3 (statements.IfStatement b) later no_0 no_1 = let no : false ≡ true = later in cc
+statement_past_3 (statements.EmptyStatement b) later no_0 no_1 = let no : false ≡ true = later in cc
+statement_past_3 (statements.ForStatement b) later no_0 no_1 = let no : false ≡ true = later in cc
+statement_past_3 (statements.ForInStatement b) later no_0 no_1 = let no : false ≡ true = later in cc
+statement_past_3 (statements.ForOfStatement b) later no_0 no_1 = let no : false ≡ true = later in cc
+statement_past_3 (statements.WhileStatement b) later no_0 no_1 = let no : false ≡ true = later in cc
+statement_past_3 (statements.DoWhileStatement b) later no_0 no_1 = let no : false ≡ true = later in cc
+statement_past_3 (statements.LabeledStatement b) later no_0 no_1 = let no : false ≡ true = later in cc
+statement_past_3 (statements.ContinueStatement b) later no_0 no_1 = let no : false ≡ true = later in cc
+statement_past_3 (statements.BreakStatement b) later no_0 no_1 = let no : false ≡ true = later in cc
+statement_past_3 (statements.ThrowStatement b) later no_0 no_1 = let no : false ≡ true = later in cc
+statement_past_3 (statements.DebuggerStatement b) later no_0 no_1 = let no : false ≡ true = later in cc
+statement_past_3 (statements.SwitchStatement b) later no_0 no_1 = absurd (no_0 b refl)
+statement_past_3 (statements.TryStatement b) later no_0 no_1 = absurd (no_1 b refl)

@@ -2,9 +2,11 @@
 // What is printed by itself, or at a level.
 
 mod assignments;
+mod choices;
 mod collections;
 mod expressions;
 mod functions;
+mod loops;
 mod operations;
 mod sets;
 mod statements;

@@ -1,26 +1,28 @@
 // Blocks, `if` and empty statements (ECMA-262, 14.2, 14.4 and 14.6), one function for each row.
-ghost use Rattle.std.specs.Prelude.{◌≡◌, IfOk, map, option_map, codes};
+ghost use Rattle.std.specs.Prelude.{◌≡◌, option_map, codes};
 ghost use Rattle.jsgen_syntax.specs.declared.precedence.Precedence.TheVariants.{Lowest};
-ghost use Rattle.jsgen_tree.specs.Tree.{trees, optional};
+ghost use Rattle.jsgen_tree.specs.Tree.{optional};
 ghost use Rattle.jsgen_tree.specs.Rows.{block_statement_row, if_statement_row, empty_statement_row, in_expression, in_statement};
-ghost use Rattle.jsgen_model.specs.Punctuator.{semicolon, Brace, Round, opening};
-ghost use Rattle.jsgen_model.specs.Items.{◌⊕◌, nothing, word, punctuator, brackets, soft_space, soft_line, drop_semicolon};
-ghost use Rattle.jsgen_model.specs.Layout.{layout, written, other_end};
-ghost use Rattle.jsgen_model.specs.Spell.{spell, spell_statements, spell_alternate, braces, filled_braces, braces_end, body_end, is_given, in_brackets, among_statements};
+ghost use Rattle.jsgen_model.specs.Punctuator.{semicolon, Round};
+ghost use Rattle.jsgen_model.specs.Items.{◌⊕◌, word, punctuator, brackets, soft_space, soft_line};
+ghost use Rattle.jsgen_model.specs.Layout.{layout, nowhere};
+ghost use Rattle.jsgen_model.specs.Spell.{spell, spell_alternate, filled_braces, braces_end, body_end, is_given, in_brackets, among_statements};
 ghost use Rattle.jsgen_model.specs.Printing.{Reaches};
 ghost use Rattle.jsgen_printer.specs.Printer.{pen_of};
 ghost use Rattle.jsgen_place.specs.Place.{settings_of};
 ghost use Rattle.jsgen_nodes.specs.Place.{pen_after};
-ghost use Rattle.jsgen_nodes.specs.Blocks.{braces_opened, braces_closed, consequent_of, alternate_of, test_ended};
+ghost use Rattle.jsgen_nodes.specs.Blocks.{consequent_of, alternate_of};
 
 use crate::PrintNode;
+use crate::bodies::print_body;
+use crate::sequences::Expressions;
 use crate::shapes::{BodyShape, shape};
 use crate::statements::Statements;
-use jsgen_lists::print_statements;
+use jsgen_lists::{PrintMember, close_braces, open_braces, print_braces, print_head};
 use jsgen_place::{Place, Settings};
-use jsgen_printer::{Bracket, Printer};
+use jsgen_printer::Printer;
 use jsgen_syntax::{Memory, Precedence};
-use jsgen_tree::{BlockStatement, EmptyStatement, ExpressionNode, IfStatement, StatementNode};
+use jsgen_tree::{BlockStatement, EmptyStatement, IfStatement, StatementNode};
 
 /// Among statements a line of its own.
 #[tactic(auto, unfolding(crate::specs::Place::pen_after))]
@@ -33,72 +35,11 @@ pub fn print_block_statement<N: PrintNode>(
 {
     if place.in_list {
         p.print_indentation()?;
-        print_braces(&node.body, p, place.settings)?;
+        print_braces::<_, Statements>(&node.body, p, place.settings)?;
         p.print_soft_line()
     } else {
-        print_braces(&node.body, p, place.settings)
+        print_braces::<_, Statements>(&node.body, p, place.settings)
     }
-}
-
-// Braces round statements.
-#[tactic(auto, unfolding(crate::specs::Place::pen_after))]
-fn print_braces<N: PrintNode>(
-    statements: &[StatementNode<N>],
-    p: &mut Printer<'_>,
-    settings: Settings,
-) -> Result<(), Memory>
-    ensures { Reaches result (pen_of p.old) (pen_of p.new) (layout (braces (trees (map (in_statement N.plain) statements.now))
-        (spell_statements (trees (map (in_statement N.plain) statements.now)) (settings_of settings))) (pen_of p.old)) }
-{
-    if statements.is_empty() {
-        print_empty_braces(p)
-    } else {
-        print_filled_braces(statements, p, settings)
-    }
-}
-
-#[tactic(auto, unfolding(crate::specs::Place::pen_after))]
-fn print_empty_braces(p: &mut Printer<'_>) -> Result<(), Memory>
-    ensures { Reaches result (pen_of p.old) (pen_of p.new) (layout (brackets Brace nothing ⊕ drop_semicolon) (pen_of p.old)) }
-{
-    p.print_opening(Bracket::Brace)?;
-    p.print_closing(Bracket::Brace)?;
-    p.drop_semicolon();
-    Ok(())
-}
-
-#[tactic(auto, unfolding(crate::specs::Place::pen_after))]
-fn print_filled_braces<N: PrintNode>(
-    statements: &[StatementNode<N>],
-    p: &mut Printer<'_>,
-    settings: Settings,
-) -> Result<(), Memory>
-    ensures { Reaches result (pen_of p.old) (pen_of p.new) (layout (filled_braces (spell_statements (trees (map (in_statement N.plain) statements.now)) (settings_of settings))) (pen_of p.old)) }
-{
-    let depth = open_braces(p)?;
-    print_statements::<_, Statements>(statements, p, settings)?;
-    close_braces(p, depth)
-}
-
-// The opening brace, behind which the code is one level deeper; gives the level before.
-fn open_braces(p: &mut Printer<'_>) -> Result<u32, Memory>
-    ensures level { IfOk result (λ depth. depth ≡ (pen_of p.old).depth) }
-    ensures pen { Reaches result (pen_of p.old) (pen_of p.new) (braces_opened (pen_of p.old)) }
-{
-    p.print_opening(Bracket::Brace)?;
-    p.print_soft_line()?;
-    p.deepen()
-}
-
-// The closing brace, at the level before.
-fn close_braces(p: &mut Printer<'_>, depth: u32) -> Result<(), Memory>
-    ensures { Reaches result (pen_of p.old) (pen_of p.new) (braces_closed depth (pen_of p.old)) }
-{
-    p.set_depth(depth);
-    p.print_indentation()?;
-    p.print_closing(Bracket::Brace)?;
-    p.drop_semicolon();
-    Ok(())
 }
 
 #[tactic(auto, unfolding(crate::specs::Place::pen_after))]
@@ -128,7 +69,8 @@ fn print_if<N: PrintNode>(
         ⊕ (consequent_of (in_statement N.plain node.now.consequent) (settings_of settings) (is_given (optional (option_map (in_statement N.plain) node.now.alternate)))
         ⊕ spell_alternate (optional (option_map (in_statement N.plain) node.now.alternate)) (settings_of settings))))) (pen_of p.old)) }
 {
-    print_test(&node.test, p, settings)?;
+    let within = Place::in_brackets(Precedence::Lowest, settings);
+    print_head::<_, Expressions>("if", &node.test, p, within)?;
     print_consequent(node.consequent.get(), p, settings, has_alternate(node))?;
     print_alternate(&node.alternate, p, settings)
 }
@@ -139,24 +81,7 @@ fn has_alternate<N: PrintNode>(node: &IfStatement<N>) -> bool
     node.alternate.is_some()
 }
 
-// The word and the test, up to the bracket that ends it.
-#[tactic(auto, unfolding(crate::specs::Place::pen_after))]
-fn print_test<N: PrintNode>(
-    test: &ExpressionNode<N>,
-    p: &mut Printer<'_>,
-    settings: Settings,
-) -> Result<(), Memory>
-    ensures { Reaches result (pen_of p.old) (pen_of p.new) (layout (spell (in_expression N.plain test.now) (in_brackets Lowest (among_statements (settings_of settings))))
-        (written (opening Round) other_end (layout soft_space (layout (word (codes "if")) (pen_of p.old))))) }
-{
-    p.print_word("if")?;
-    p.print_soft_space()?;
-    p.print_opening(Bracket::Round)?;
-    test.get()
-        .print(p, Place::in_brackets(Precedence::Lowest, settings))
-}
-
-// The bracket that ends the test, and what follows it. An `else` must not go with an `if` within.
+// What follows the test. An `else` must not go with an `if` within.
 #[tactic(auto, unfolding(crate::specs::Place::pen_after))]
 fn print_consequent<N: PrintNode>(
     consequent: &N,
@@ -164,9 +89,9 @@ fn print_consequent<N: PrintNode>(
     settings: Settings,
     else_follows: bool,
 ) -> Result<(), Memory>
-    ensures { Reaches result (pen_of p.old) (pen_of p.new) (layout (consequent_of (N.plain consequent.now) (settings_of settings) else_follows) (test_ended (pen_of p.old))) }
+    requires { (pen_of p.old).start ≡ nowhere }
+    ensures { Reaches result (pen_of p.old) (pen_of p.new) (layout (consequent_of (N.plain consequent.now) (settings_of settings) else_follows) (pen_of p.old)) }
 {
-    p.print_closing(Bracket::Round)?;
     if consequent.ends_open() {
         return print_braced(consequent, p, settings, else_follows);
     }
@@ -258,24 +183,24 @@ fn print_else<N: PrintNode>(
     ensures { Reaches result (pen_of p.old) (pen_of p.new) (layout (word (codes "else") ⊕ alternate_of (N.plain alternate.now) (settings_of settings)) (pen_of p.old)) }
 {
     p.print_word("else")?;
+    print_behind_else(alternate, p, settings)
+}
+
+#[tactic(auto, unfolding(crate::specs::Place::pen_after))]
+fn print_behind_else<N: PrintNode>(
+    alternate: &N,
+    p: &mut Printer<'_>,
+    settings: Settings,
+) -> Result<(), Memory>
+    requires { (pen_of p.old).start ≡ nowhere }
+    ensures { Reaches result (pen_of p.old) (pen_of p.new) (layout (alternate_of (N.plain alternate.now) (settings_of settings)) (pen_of p.old)) }
+{
     match shape(alternate) {
-        BodyShape::Block => {
-            p.print_soft_space()?;
-            alternate.print(p, Place::within_statement(settings))?;
-            p.print_soft_line()
-        }
         BodyShape::If => {
             p.print_hard_space()?;
             alternate.print(p, Place::within_statement(settings))
         }
-        BodyShape::Empty => {
-            p.print_semicolon()?;
-            p.print_soft_line()
-        }
-        BodyShape::Other => {
-            p.begin_body();
-            alternate.print(p, Place::among_statements(settings))
-        }
+        _ => print_body(alternate, p, settings),
     }
 }
 
@@ -292,4 +217,20 @@ pub fn print_empty_statement(
     p.print_indentation()?;
     p.print_semicolon()?;
     p.print_soft_line()
+}
+
+/// Blocks that stand by themselves in other statements.
+pub struct Blocks;
+
+#[tactic(auto, unfolding(crate::specs::Place::pen_after))]
+impl<N: PrintNode> PrintMember<Box<BlockStatement<N>>> for Blocks {
+    ghost plain = { λ b. block_statement_row N.plain b.value };
+
+    fn print_member(
+        block: &Box<BlockStatement<N>>,
+        p: &mut Printer<'_>,
+        place: Place,
+    ) -> Result<(), Memory> {
+        print_block_statement(block, p, place)
+    }
 }

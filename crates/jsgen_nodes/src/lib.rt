@@ -4,11 +4,17 @@
 mod alone;
 mod assignments;
 mod blocks;
+mod bodies;
+mod cases;
 mod choices;
 mod collections;
 mod expressions;
 mod functions;
+mod handlers;
+mod iterations;
+mod jumps;
 mod links;
+mod loops;
 mod names;
 mod operands;
 mod operators;

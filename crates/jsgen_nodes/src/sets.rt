@@ -10,6 +10,7 @@ ghost use Rattle.jsgen_nodes.specs.Parts.{expression_part, statement_part};
 use crate::PrintNode;
 use crate::assignments::print_assignment_expression;
 use crate::blocks::{print_block_statement, print_empty_statement, print_if_statement};
+use crate::cases::print_switch_statement;
 use crate::choices::print_conditional_expression;
 use crate::collections::{print_array_expression, print_object_expression};
 use crate::expressions::{
@@ -19,10 +20,17 @@ use crate::expressions::{
     print_this_expression,
 };
 use crate::functions::print_arrow_function_expression;
+use crate::handlers::print_try_statement;
+use crate::iterations::{print_for_in_statement, print_for_of_statement};
+use crate::jumps::{
+    print_break_statement, print_continue_statement, print_debugger_statement,
+    print_labeled_statement, print_throw_statement,
+};
 use crate::links::{
     print_call_expression, print_chain_expression, print_computed_member_expression,
     print_static_member_expression,
 };
+use crate::loops::{print_do_while_statement, print_for_statement, print_while_statement};
 use crate::operators::{
     print_new_expression, print_new_target, print_super, print_unary_expression,
     print_update_expression,
@@ -167,6 +175,44 @@ fn print_statement_in_statements<N: PrintNode>(
         Statement::BlockStatement(node) => print_block_statement(node, p, place),
         Statement::IfStatement(node) => print_if_statement(node, p, place),
         Statement::EmptyStatement(node) => print_empty_statement(node, p, place),
+        _ => print_statement_in_loops(node, p, place),
+    }
+}
+
+fn print_statement_in_loops<N: PrintNode>(
+    node: &Statement<N>,
+    p: &mut Printer<'_>,
+    place: Place,
+) -> Result<(), Memory>
+    requires { nat_le 2 (statement_part node.now) ≡ true }
+    ensures { Reaches result (pen_of p.old) (pen_of p.new) (pen_after (statement_plain N.plain node.now) place p.old) }
+{
+    match node {
+        Statement::ForStatement(node) => print_for_statement(node, p, place),
+        Statement::ForInStatement(node) => print_for_in_statement(node, p, place),
+        Statement::ForOfStatement(node) => print_for_of_statement(node, p, place),
+        Statement::WhileStatement(node) => print_while_statement(node, p, place),
+        Statement::DoWhileStatement(node) => print_do_while_statement(node, p, place),
+        Statement::LabeledStatement(node) => print_labeled_statement(node, p, place),
+        Statement::ContinueStatement(node) => print_continue_statement(node, p, place),
+        Statement::BreakStatement(node) => print_break_statement(node, p, place),
+        Statement::ThrowStatement(node) => print_throw_statement(node, p, place),
+        Statement::DebuggerStatement(node) => print_debugger_statement(node, p, place),
+        _ => print_statement_in_choices(node, p, place),
+    }
+}
+
+fn print_statement_in_choices<N: PrintNode>(
+    node: &Statement<N>,
+    p: &mut Printer<'_>,
+    place: Place,
+) -> Result<(), Memory>
+    requires { nat_le 3 (statement_part node.now) ≡ true }
+    ensures { Reaches result (pen_of p.old) (pen_of p.new) (pen_after (statement_plain N.plain node.now) place p.old) }
+{
+    match node {
+        Statement::SwitchStatement(node) => print_switch_statement(node, p, place),
+        Statement::TryStatement(node) => print_try_statement(node, p, place),
         _ => unreachable!(),
     }
 }

@@ -1,4 +1,4 @@
-// What a statement is as what `if` or `else` is followed by.
+// What a statement is as what `if`, `else`, a loop or a label is followed by.
 ghost use Rattle.std.specs.Prelude.{◌≡◌, option_map};
 ghost use Rattle.jsgen_tree.specs.Inside.{ends_open};
 ghost use Rattle.jsgen_tree.specs.Rows.{if_statement_row, in_statement, expression_plain, statement_plain, declaration_plain, binding_pattern_plain};
@@ -11,7 +11,7 @@ use jsgen_tree::{
     BindingPattern, Declaration, Expression, IfStatement, NodeType, Statement, StatementNode,
 };
 
-/// What stands on the line of its `if` or `else`, and what is a line of its own.
+/// What stands on the line of what it follows, and what is a line of its own.
 #[derive(Clone, Copy)]
 pub enum BodyShape {
     Block,
@@ -68,6 +68,11 @@ pub fn statement_ends_open<N: PrintNode>(node: &Statement<N>) -> bool
     match node {
         Statement::Declaration(node) => node.get().ends_open(),
         Statement::IfStatement(node) => if_statement_ends_open(node),
+        Statement::ForStatement(node) => node.body.get().ends_open(),
+        Statement::ForInStatement(node) => node.body.get().ends_open(),
+        Statement::ForOfStatement(node) => node.body.get().ends_open(),
+        Statement::WhileStatement(node) => node.body.get().ends_open(),
+        Statement::LabeledStatement(node) => node.body.get().ends_open(),
         _ => false,
     }
 }

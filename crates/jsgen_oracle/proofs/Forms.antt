@@ -1,5 +1,5 @@
 -- The tree of a form.
-use Rattle.std.proofs.Common.{◌≡◌, ◌+◌, ◌<◌, ◌≤◌, ◌++◌, take, Bool, true, false, length, get_or, arith, ℕ, List, [], ◌∷◌, map, option_map, Option, Some, None, refl, sym, ap, ◌∙◌, Vec}
+use Rattle.std.proofs.Common.{◌≡◌, ◌+◌, ◌<◌, ◌≤◌, ◌++◌, take, Bool, true, false, length, get_or, arith, ℕ, List, [], ◌∷◌, map, option_map, Option, Some, None, is_some, ◌-◌, refl, sym, ap, ◌∙◌, Vec}
 use Rattle.std.proofs.lemmas.Bool.{both_ways}
 use Rattle.std.proofs.lemmas.List.{take_all, take_more, map-append}
 use Rattle.jsgen_syntax.specs.declared.operator.LogicalOperator.{LogicalOperator}
@@ -16,7 +16,7 @@ use Rattle.jsgen_tree.specs.Tree.{Trees, Atoms, Tree, node, Slots, no_slots, man
 use Rattle.jsgen_tree.specs.Places.{bare}
 use Rattle.std.specs.declared.alloc.Global.{Global}
 use Rattle.jsgen_tree.proofs.Layers.{map_after, with_hole}
-use Rattle.jsgen_oracle.specs.Form.{form_layer, form_plain, forms_plain, holed_plain, before, slots_by, slots_plain, value_plain, is_one, is_list}
+use Rattle.jsgen_oracle.specs.Form.{form_layer, form_plain, forms_plain, holed_plain, before, slots_by, slots_plain, value_plain, is_one, is_list, body_of}
 use Rattle.jsgen_oracle.specs.declared.form.Slot.{Slot}
 use Rattle.jsgen_oracle.specs.declared.form.Slot.TheVariants as slots
 use Rattle.jsgen_oracle.specs.declared.form.Form.{Form}
@@ -215,6 +215,15 @@ open_slots (slots.One t ∷ slots.One s ∷ slots.Maybe None ∷ []) = true
 open_slots (slots.One t ∷ slots.One s ∷ slots.Maybe (Some f) ∷ []) = ends_open (form_plain f)
 open_slots ss = false
 
+-- whether the body that a statement has, if it has one, ends so
+abbrev open_body : Option Form → Bool
+open_body None = false
+open_body (Some f) = ends_open (form_plain f)
+
+abbrev open_one : Slot Form → Bool
+open_one (slots.One f) = ends_open (form_plain f)
+open_one s = false
+
 if_ends : (a : Atoms) (ss : List (Slot Form)) → ends_open (node types.IfStatement a (slots_plain ss)) ≡ open_slots ss
 if_ends a (slots.One t ∷ slots.One s ∷ slots.Maybe None ∷ []) = refl
 if_ends a (slots.One t ∷ slots.One s ∷ slots.Maybe (Some f) ∷ []) = refl
@@ -228,18 +237,84 @@ if_ends a (slots.One t ∷ slots.One s ∷ slots.Maybe (Some f) ∷ slots.Many u
 if_ends a (slots.One t ∷ slots.One s ∷ slots.Maybe (Some f) ∷ slots.Holed u ∷ ss) = refl
 if_ends a ss = refl
 
-other_ends : (t : NodeType) (a : Atoms) (s : Slots) → (t ≡ types.IfStatement → ⊥) → ends_open (node t a s) ≡ false
-other_ends types.IfStatement a s n = absurd (n refl)
-other_ends t a s n = refl
+for_ends : (a : Atoms) (ss : List (Slot Form)) → ends_open (node types.ForStatement a (slots_plain ss)) ≡ open_body (body_of types.ForStatement ss)
+for_ends a (slots.Maybe p ∷ slots.Maybe q ∷ slots.Maybe r ∷ slots.One f ∷ []) = refl
+for_ends a (slots.Maybe p ∷ slots.Maybe q ∷ slots.Maybe r ∷ slots.One f ∷ slots.One u ∷ ss) = refl
+for_ends a (slots.Maybe p ∷ slots.Maybe q ∷ slots.Maybe r ∷ slots.One f ∷ slots.Maybe u ∷ ss) = refl
+for_ends a (slots.Maybe p ∷ slots.Maybe q ∷ slots.Maybe r ∷ slots.One f ∷ slots.Many u ∷ ss) = refl
+for_ends a (slots.Maybe p ∷ slots.Maybe q ∷ slots.Maybe r ∷ slots.One f ∷ slots.Holed u ∷ ss) = refl
+for_ends a ss = refl
+
+for_in_ends : (a : Atoms) (ss : List (Slot Form)) → ends_open (node types.ForInStatement a (slots_plain ss)) ≡ open_body (body_of types.ForInStatement ss)
+for_in_ends a (slots.One p ∷ slots.One q ∷ slots.One f ∷ []) = refl
+for_in_ends a (slots.One p ∷ slots.One q ∷ slots.One f ∷ slots.One u ∷ ss) = refl
+for_in_ends a (slots.One p ∷ slots.One q ∷ slots.One f ∷ slots.Maybe u ∷ ss) = refl
+for_in_ends a (slots.One p ∷ slots.One q ∷ slots.One f ∷ slots.Many u ∷ ss) = refl
+for_in_ends a (slots.One p ∷ slots.One q ∷ slots.One f ∷ slots.Holed u ∷ ss) = refl
+for_in_ends a ss = refl
+
+for_of_ends : (a : Atoms) (ss : List (Slot Form)) → ends_open (node types.ForOfStatement a (slots_plain ss)) ≡ open_body (body_of types.ForOfStatement ss)
+for_of_ends a (slots.One p ∷ slots.One q ∷ slots.One f ∷ []) = refl
+for_of_ends a (slots.One p ∷ slots.One q ∷ slots.One f ∷ slots.One u ∷ ss) = refl
+for_of_ends a (slots.One p ∷ slots.One q ∷ slots.One f ∷ slots.Maybe u ∷ ss) = refl
+for_of_ends a (slots.One p ∷ slots.One q ∷ slots.One f ∷ slots.Many u ∷ ss) = refl
+for_of_ends a (slots.One p ∷ slots.One q ∷ slots.One f ∷ slots.Holed u ∷ ss) = refl
+for_of_ends a ss = refl
+
+while_ends : (a : Atoms) (ss : List (Slot Form)) → ends_open (node types.WhileStatement a (slots_plain ss)) ≡ open_body (body_of types.WhileStatement ss)
+while_ends a (slots.One p ∷ slots.One f ∷ []) = refl
+while_ends a (slots.One p ∷ slots.One f ∷ slots.One u ∷ ss) = refl
+while_ends a (slots.One p ∷ slots.One f ∷ slots.Maybe u ∷ ss) = refl
+while_ends a (slots.One p ∷ slots.One f ∷ slots.Many u ∷ ss) = refl
+while_ends a (slots.One p ∷ slots.One f ∷ slots.Holed u ∷ ss) = refl
+while_ends a ss = refl
+
+label_ends : (a : Atoms) (ss : List (Slot Form)) → ends_open (node types.LabeledStatement a (slots_plain ss)) ≡ open_body (body_of types.LabeledStatement ss)
+label_ends a (slots.One p ∷ slots.One f ∷ []) = refl
+label_ends a (slots.One p ∷ slots.One f ∷ slots.One u ∷ ss) = refl
+label_ends a (slots.One p ∷ slots.One f ∷ slots.Maybe u ∷ ss) = refl
+label_ends a (slots.One p ∷ slots.One f ∷ slots.Many u ∷ ss) = refl
+label_ends a (slots.One p ∷ slots.One f ∷ slots.Holed u ∷ ss) = refl
+label_ends a ss = refl
+
+other_ends : (t : NodeType) (a : Atoms) (ss : List (Slot Form)) → (t ≡ types.IfStatement → ⊥) → ends_open (node t a (slots_plain ss)) ≡ open_body (body_of t ss)
+other_ends types.IfStatement a ss n = absurd (n refl)
+other_ends types.ForStatement a ss n = for_ends a ss
+other_ends types.ForInStatement a ss n = for_in_ends a ss
+other_ends types.ForOfStatement a ss n = for_of_ends a ss
+other_ends types.WhileStatement a ss n = while_ends a ss
+other_ends types.LabeledStatement a ss n = label_ends a ss
+other_ends t a ss n = refl
+
+-- a body is what stands last
+last_of : (t : NodeType) (ss : List (Slot Form)) (x : Slot Form) → is_some (body_of t ss) ≡ true → x ≡ get_or ss (length ss - 1) x → (f : Form) × (body_of t ss ≡ Some f) × (x ≡ slots.One f)
+last_of types.ForStatement (slots.Maybe p ∷ slots.Maybe q ∷ slots.Maybe r ∷ slots.One f ∷ []) x h e = (f, refl, e)
+last_of types.ForInStatement (slots.One p ∷ slots.One q ∷ slots.One f ∷ []) x h e = (f, refl, e)
+last_of types.ForOfStatement (slots.One p ∷ slots.One q ∷ slots.One f ∷ []) x h e = (f, refl, e)
+last_of types.WhileStatement (slots.One p ∷ slots.One f ∷ []) x h e = (f, refl, e)
+last_of types.LabeledStatement (slots.One p ∷ slots.One f ∷ []) x h e = (f, refl, e)
+last_of t ss x h e = absurd (both_ways false refl h)
+
+other_form : (f : Form) → ((out-Form f).node_type ≡ types.IfStatement → ⊥) → ends_open (form_plain f) ≡ open_body (body_of (out-Form f).node_type (out-Form f).slots.items)
+other_form f n = ap ends_open (plain_out f) ∙ other_ends (out-Form f).node_type (bare (map value_plain (out-Form f).values.items)) (out-Form f).slots.items n
+
+none_open : (o : Option Form) → is_some o ≡ false → open_body o ≡ false
+none_open None h = refl
+none_open (Some f) h = absurd (both_ways true h refl)
+
+pub no_body : (f : Form) → ((out-Form f).node_type ≡ types.IfStatement → ⊥) → is_some (body_of (out-Form f).node_type (out-Form f).slots.items) ≡ false → ends_open (form_plain f) ≡ false
+no_body f n h = other_form f n ∙ none_open (body_of (out-Form f).node_type (out-Form f).slots.items) h
+
+pub body_form : (f : Form) (x : Slot Form) (b : Form) → ((out-Form f).node_type ≡ types.IfStatement → ⊥) → is_some (body_of (out-Form f).node_type (out-Form f).slots.items) ≡ true → x ≡ get_or (out-Form f).slots.items (length (out-Form f).slots.items - 1) x → x ≡ slots.One b → ends_open (form_plain f) ≡ ends_open (form_plain b)
+body_form f x b n h e is =
+    let last = last_of (out-Form f).node_type (out-Form f).slots.items x h e in
+    other_form f n ∙ (ap open_body last.1 ∙ ap open_one (sym last.2 ∙ is))
 
 pub if_form : (f : Form) → (out-Form f).node_type ≡ types.IfStatement → ends_open (form_plain f) ≡ open_slots (out-Form f).slots.items
 if_form f e =
     let a = bare (map value_plain (out-Form f).values.items) in
     let ss = (out-Form f).slots.items in
     ap ends_open (plain_out f) ∙ (ap (λ t. ends_open (node t a (slots_plain ss))) e ∙ if_ends a ss)
-
-pub other_form : (f : Form) → ((out-Form f).node_type ≡ types.IfStatement → ⊥) → ends_open (form_plain f) ≡ false
-other_form f n = ap ends_open (plain_out f) ∙ other_ends (out-Form f).node_type (bare (map value_plain (out-Form f).values.items)) (slots_plain (out-Form f).slots.items) n
 
 pub not_three : (ss : List (Slot Form)) → (length ss ≡ 3 → ⊥) → open_slots ss ≡ false
 not_three (slots.One t ∷ slots.One s ∷ slots.Maybe None ∷ []) n = absurd (n refl)

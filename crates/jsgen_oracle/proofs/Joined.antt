@@ -1,7 +1,8 @@
 -- In each program that is read a name stands behind each dot, an expression in parentheses that need one, and each arrow
 -- behind parameters and before no brace; and texts where that isn't so.
-use Rattle.std.proofs.Common.{◌≡◌, ℕ, Bool, true, false, ◌&&◌, List, [], codes, refl, sym, subst}
-use Rattle.std.proofs.lemmas.Bool.{both_ways, and_parts, and_from}
+use Rattle.std.proofs.Common.{◌≡◌, ℕ, Bool, true, false, ◌&&◌, ◌||◌, List, [], codes, refl, sym, subst}
+use Rattle.std.specs.Str.{bytes_eq}
+use Rattle.std.proofs.lemmas.Bool.{both_ways, and_parts, and_from, or_right}
 use lib.Utf8.{encode}
 use Rattle.unicode_ident.proofs.Computing.{unicode_ident}
 use Rattle.jsgen_syntax.specs.Escapes.{word_value}
@@ -17,16 +18,18 @@ use Rattle.jsgen_syntax.specs.declared.operator.UpdateOperator.TheVariants as up
 use Rattle.jsgen_syntax.specs.declared.operator.AssignmentOperator.{AssignmentOperator}
 use Rattle.jsgen_syntax.specs.declared.operator.AssignmentOperator.TheVariants as assignment_operators
 use Rattle.std.specs.Prelude.{not}
+use Rattle.jsgen_tree.specs.declared.statements.VariableDeclarationKind.{VariableDeclarationKind}
+use Rattle.jsgen_tree.specs.declared.statements.VariableDeclarationKind.TheVariants as kinds
 use Rattle.jsgen_tree.specs.Tree.{Tree, Trees, Maybe}
 use Rattle.jsgen_model.specs.Punctuator.{dot, question_dot, ellipsis, comma, equal, arrow, star_star, and_and, or_or, nullish, question, colon, semicolon, Round, Square, Brace}
 use Rattle.jsgen_model.specs.Tokens.{Tokens, done, piece, group, ◌⧺◌, Word, Quoted, Sign, longer_stands, AreTokensOf}
-use Rattle.jsgen_model.specs.Grammar.{Allowed, Level, operator_piece, ReadsExpression, ReadsParts, ReadsElement, ReadsArguments, ReadsArgumentList, ReadsBinding, ReadsDeclarator, ReadsDeclarators, ReadsDeclaration, EndsBy, ReadsStatement, ReadsItem, ReadsStatements, ReadsBody, ReadsModule, a_module, unary_piece, update_sign, assignment_sign, ReadsChain, ReadsChainBase, starts_in_brace, ReadsArrowParameters, ReadsParameters, ReadsParameter}
+use Rattle.jsgen_model.specs.Grammar.{Allowed, Level, operator_piece, ReadsExpression, ReadsParts, ReadsElement, ReadsArguments, ReadsArgumentList, ReadsBinding, ReadsDeclarator, ReadsDeclarators, ReadsVariables, declaring, EndsBy, ReadsStatement, ReadsLabel, ReadsHandler, ReadsFinalizer, ReadsEndsOfTry, ReadsItem, ReadsStatements, ReadsBody, ReadsModule, a_module, unary_piece, update_sign, assignment_sign, ReadsChain, ReadsChainBase, starts_in_brace, ReadsArrowParameters, ReadsParameters, ReadsParameter}
 use Rattle.jsgen_model.specs.Grammar as grammar
 use Rattle.jsgen_token_laws.proofs.Plain.{all_plain}
 use Rattle.jsgen_token_laws.proofs.OneList.{one_token_list}
 use Rattle.jsgen_oracle.specs.Samples.{IsNotRead}
 use Rattle.jsgen_oracle.proofs.Samples.{word, sign}
-use Rattle.jsgen_oracle.proofs.Refused.{begins_with_name, starts_well, named_further, name_starts, joined, expression_starts}
+use Rattle.jsgen_oracle.proofs.Sound.{begins_with_name, starts_well, named_further, name_starts, joined, expression_starts}
 
 -- an expression's tokens, or three dots before them
 abbrev starts_element : Tokens → Bool
@@ -55,27 +58,31 @@ is_body done = false
 is_body (group m Brace inside ts) = false
 is_body ts = true
 
--- the flag tells that what stands before them may be parameters
-abbrev is_joined_behind : Bool → Tokens → Bool
-is_joined_behind k done = true
-is_joined_behind k (piece m (Sign arrow) ts) = k && (not m && (is_body ts && is_joined_behind false ts))
-is_joined_behind k (piece m (Sign dot) ts) = begins_with_name ts && is_joined_behind false ts
-is_joined_behind k (piece m (Word w) ts) = is_joined_behind true ts
-is_joined_behind k (piece m p ts) = is_joined_behind false ts
-is_joined_behind k (group m Round inside ts) = may_be_given inside && is_joined_behind (are_parameters inside) ts
-is_joined_behind k (group m b inside ts) = is_joined_behind false ts
+-- The flags tell that what stands before them may be parameters, and that it is `for`, whose head may hold anything
+abbrev is_joined_behind : Bool → Bool → Tokens → Bool
+is_joined_behind k f done = true
+is_joined_behind k f (piece m (Sign arrow) ts) = k && (not m && (is_body ts && is_joined_behind false false ts))
+is_joined_behind k f (piece m (Sign dot) ts) = begins_with_name ts && is_joined_behind false false ts
+is_joined_behind k f (piece m (Word w) ts) = is_joined_behind true (bytes_eq w (codes "for")) ts
+is_joined_behind k f (piece m p ts) = is_joined_behind false false ts
+is_joined_behind k f (group m Round inside ts) = (f || may_be_given inside) && is_joined_behind (are_parameters inside) false ts
+is_joined_behind k f (group m b inside ts) = is_joined_behind false false ts
 
 abbrev is_joined : Tokens → Bool
-is_joined ts = is_joined_behind false ts
+is_joined ts = is_joined_behind false false ts
 
--- what may stand behind anything may stand behind parameters
-with_parameters : (k : Bool) (ts : Tokens) → is_joined ts ≡ true → is_joined_behind k ts ≡ true
-with_parameters k done h = h
-with_parameters k (piece m (Sign arrow) ts) h = absurd (both_ways false refl h)
-with_parameters k (piece m p ts) h = h
-with_parameters k (group m Round inside ts) h = h
-with_parameters k (group m Square inside ts) h = h
-with_parameters k (group m Brace inside ts) h = h
+-- where the first of two holds with another test, the second does
+nearer : (p q r : Bool) → (p ≡ true → q ≡ true) → (p && r) ≡ true → (q && r) ≡ true
+nearer p q r f h = let x = and_parts p r h in and_from q r (f x.0) x.1
+
+-- what may stand behind anything may stand behind parameters, and behind `for`
+with_parameters : (k f : Bool) (ts : Tokens) → is_joined ts ≡ true → is_joined_behind k f ts ≡ true
+with_parameters k f done h = h
+with_parameters k f (piece m (Sign arrow) ts) h = absurd (both_ways false refl h)
+with_parameters k f (piece m p ts) h = h
+with_parameters k f (group m Round inside ts) h = nearer (may_be_given inside) (f || may_be_given inside) (is_joined_behind (are_parameters inside) false ts) (λ g. or_right f (may_be_given inside) g) h
+with_parameters k f (group m Square inside ts) h = h
+with_parameters k f (group m Brace inside ts) h = h
 
 body_further : (ts b : Tokens) → is_body ts ≡ true → is_body (ts ⧺ b) ≡ true
 body_further done b h = absurd (both_ways false refl h)
@@ -89,23 +96,23 @@ further : (p q r : Bool) → (q ≡ true → r ≡ true) → (p && q) ≡ true �
 further true q r f h = f h
 further false q r f h = absurd (both_ways false refl h)
 
-behind : (k : Bool) (a b : Tokens) → is_joined_behind k a ≡ true → is_joined b ≡ true → is_joined_behind k (a ⧺ b) ≡ true
-behind k done b h g = with_parameters k b g
-behind k (piece m (Sign arrow) ts) b h g =
-    further k (not m && (is_body ts && is_joined ts)) (not m && (is_body (ts ⧺ b) && is_joined (ts ⧺ b))) (further (not m) (is_body ts && is_joined ts) (is_body (ts ⧺ b) && is_joined (ts ⧺ b)) (λ i. let x = and_parts (is_body ts) (is_joined ts) i in and_from (is_body (ts ⧺ b)) (is_joined (ts ⧺ b)) (body_further ts b x.0) (behind false ts b x.1 g))) h
-behind k (piece m (Sign dot) ts) b h g = let x = and_parts (begins_with_name ts) (is_joined ts) h in and_from _ _ (named_further ts b x.0) (behind false ts b x.1 g)
-behind k (piece m (Word w) ts) b h g = behind true ts b h g
-behind k (piece m p ts) b h g = behind false ts b h g
-behind k (group m Square inside ts) b h g = behind false ts b h g
-behind k (group m Round inside ts) b h g = further (may_be_given inside) (is_joined_behind (are_parameters inside) ts) (is_joined_behind (are_parameters inside) (ts ⧺ b)) (λ i. behind (are_parameters inside) ts b i g) h
-behind k (group m Brace inside ts) b h g = behind false ts b h g
+behind : (k f : Bool) (a b : Tokens) → is_joined_behind k f a ≡ true → is_joined b ≡ true → is_joined_behind k f (a ⧺ b) ≡ true
+behind k f done b h g = with_parameters k f b g
+behind k f (piece m (Sign arrow) ts) b h g =
+    further k (not m && (is_body ts && is_joined ts)) (not m && (is_body (ts ⧺ b) && is_joined (ts ⧺ b))) (further (not m) (is_body ts && is_joined ts) (is_body (ts ⧺ b) && is_joined (ts ⧺ b)) (λ i. let x = and_parts (is_body ts) (is_joined ts) i in and_from (is_body (ts ⧺ b)) (is_joined (ts ⧺ b)) (body_further ts b x.0) (behind false false ts b x.1 g))) h
+behind k f (piece m (Sign dot) ts) b h g = let x = and_parts (begins_with_name ts) (is_joined ts) h in and_from _ _ (named_further ts b x.0) (behind false false ts b x.1 g)
+behind k f (piece m (Word w) ts) b h g = behind true (bytes_eq w (codes "for")) ts b h g
+behind k f (piece m p ts) b h g = behind false false ts b h g
+behind k f (group m Square inside ts) b h g = behind false false ts b h g
+behind k f (group m Round inside ts) b h g = further (f || may_be_given inside) (is_joined_behind (are_parameters inside) false ts) (is_joined_behind (are_parameters inside) false (ts ⧺ b)) (λ i. behind (are_parameters inside) false ts b i g) h
+behind k f (group m Brace inside ts) b h g = behind false false ts b h g
 
 made : (ts a b : Tokens) → ts ≡ a ⧺ b → is_joined a ≡ true → is_joined b ≡ true → is_joined ts ≡ true
-made ts a b e h g = subst (λ x. is_joined x ≡ true) (sym e) (behind false a b h g)
+made ts a b e h g = subst (λ x. is_joined x ≡ true) (sym e) (behind false false a b h g)
 
 operator_joined : (o : BinaryOperator) (m : Bool) (b : Tokens) → is_joined b ≡ true → is_joined (piece m (operator_piece o) b) ≡ true
-operator_joined operators.In m b h = with_parameters true b h
-operator_joined operators.Instanceof m b h = with_parameters true b h
+operator_joined operators.In m b h = with_parameters true false b h
+operator_joined operators.Instanceof m b h = with_parameters true false b h
 operator_joined o m b h = h
 
 element_from : (ts : Tokens) → starts_well ts ≡ true → starts_element ts ≡ true
@@ -117,9 +124,9 @@ given done h = refl
 given ts h = h
 
 unary_joined : (o : UnaryOperator) (m : Bool) (b : Tokens) → is_joined b ≡ true → is_joined (piece m (unary_piece o) b) ≡ true
-unary_joined unary_operators.Typeof m b h = with_parameters true b h
-unary_joined unary_operators.Void m b h = with_parameters true b h
-unary_joined unary_operators.Delete m b h = with_parameters true b h
+unary_joined unary_operators.Typeof m b h = with_parameters true false b h
+unary_joined unary_operators.Void m b h = with_parameters true false b h
+unary_joined unary_operators.Delete m b h = with_parameters true false b h
 unary_joined o m b h = h
 
 update_joined : (o : UpdateOperator) (m : Bool) (b : Tokens) → is_joined b ≡ true → is_joined (piece m (Sign (update_sign o)) b) ≡ true
@@ -243,12 +250,12 @@ mutual
   expression_joined (grammar.a_conjunction m e l r) = made _ _ (piece m (Sign and_and) _) e (expression_joined l) (expression_joined r)
   expression_joined (grammar.a_disjunction m e l r) = made _ _ (piece m (Sign or_or) _) e (expression_joined l) (expression_joined r)
   expression_joined (grammar.a_coalescing m e l r) = made _ _ (piece m (Sign nullish) _) e (expression_joined l) (expression_joined r)
-  expression_joined (grammar.a_choice {b = b} {d = d} m n e r s t) = made _ _ (piece m (Sign question) (b ⧺ piece n (Sign colon) d)) e (expression_joined r) (behind false b (piece n (Sign colon) d) (expression_joined s) (expression_joined t))
+  expression_joined (grammar.a_choice {b = b} {d = d} m n e r s t) = made _ _ (piece m (Sign question) (b ⧺ piece n (Sign colon) d)) e (expression_joined r) (behind false false b (piece n (Sign colon) d) (expression_joined s) (expression_joined t))
   expression_joined (grammar.a_unary_operation {mark = m} o r) = unary_joined o m _ (expression_joined r)
   expression_joined (grammar.an_update_before {mark = m} {ts = ts} o r s) = update_joined o m ts (expression_joined r)
   expression_joined (grammar.an_update_behind {a = a} o e r s) = made _ a (piece false (Sign (update_sign o)) done) e (expression_joined r) (update_joined o false done refl)
-  expression_joined (grammar.new_with_arguments {ts = ts} {a = a} {inside = i} m n e r s) = with_parameters true ts (made _ a (group n Round i done) e (expression_joined r) (and_from (may_be_given i) true (arguments_start s) refl))
-  expression_joined (grammar.new_alone {ts = ts} r) = with_parameters true ts (expression_joined r)
+  expression_joined (grammar.new_with_arguments {ts = ts} {a = a} {inside = i} m n e r s) = with_parameters true false ts (made _ a (group n Round i done) e (expression_joined r) (and_from (may_be_given i) true (arguments_start s) refl))
+  expression_joined (grammar.new_alone {ts = ts} r) = with_parameters true false ts (expression_joined r)
   expression_joined (grammar.a_named_member_of_super w m n l e) = refl
   expression_joined (grammar.a_computed_member_of_super r) = refl
   expression_joined (grammar.a_call_of_super {inside = i} s) = and_from (may_be_given i) true (arguments_start s) refl
@@ -294,23 +301,61 @@ declarators_joined : {c : Allowed} {ts : Tokens} {ds : Trees} → ReadsDeclarato
 declarators_joined (grammar.last_declarator r) = declarator_joined r
 declarators_joined (grammar.first_declarator m e r s) = made _ _ (piece m (Sign comma) _) e (declarator_joined r) (declarators_joined s)
 
-declaration_joined : {c : Allowed} {ts : Tokens} {t : Tree} → ReadsDeclaration c ts t → is_joined ts ≡ true
-declaration_joined (grammar.a_const {ts = ts} r) = with_parameters true ts (declarators_joined r)
+declaring_joined : (kind : VariableDeclarationKind) (m : Bool) (b : Tokens) → is_joined b ≡ true → is_joined (piece m (Word (declaring kind)) b) ≡ true
+declaring_joined kinds.Const m b h = with_parameters true false b h
+declaring_joined kinds.Let m b h = with_parameters true false b h
+declaring_joined kinds.Var m b h = with_parameters true false b h
+
+declaration_joined : {c : Allowed} {kind : VariableDeclarationKind} {ts : Tokens} {t : Tree} → ReadsVariables c kind ts t → is_joined ts ≡ true
+declaration_joined {kind = kind} (grammar.some_variables {mark = m} {ts = ts} r) = declaring_joined kind m ts (declarators_joined r)
 
 ended_joined : {last : Bool} {ts a : Tokens} → EndsBy last ts a → is_joined a ≡ true → is_joined ts ≡ true
 ended_joined (grammar.a_semicolon m e) h = made _ _ (piece m (Sign semicolon) done) e h refl
 ended_joined grammar.the_brace h = h
 
+-- what stands behind a word and a group that holds an expression
+behind_test : (test ts : Tokens) → starts_well test ≡ true → is_joined ts ≡ true → (may_be_given test && is_joined_behind (are_parameters test) false ts) ≡ true
+behind_test test ts h g = and_from (may_be_given test) _ (given_from test h) (with_parameters (are_parameters test) false ts g)
+
+label_joined : {ts : Tokens} {l : Maybe} → ReadsLabel ts l → is_joined ts ≡ true
+label_joined grammar.no_label = refl
+label_joined (grammar.a_label e h) = refl
+
+handler_joined : {c : Allowed} {ts : Tokens} {h : Tree} → ReadsHandler c ts h → is_joined ts ≡ true
+handler_joined (grammar.a_catch r) = refl
+handler_joined (grammar.a_catch_by_name {name = i} r s) = behind_test i (group false Brace done done) (binding_starts r) refl
+
+finalizer_joined : {c : Allowed} {ts : Tokens} {f : Tree} → ReadsFinalizer c ts f → is_joined ts ≡ true
+finalizer_joined (grammar.a_finally r) = refl
+
+end_joined : {c : Allowed} {ts : Tokens} {h f : Maybe} → ReadsEndsOfTry c ts h f → is_joined ts ≡ true
+end_joined (grammar.a_handler r) = handler_joined r
+end_joined (grammar.a_finalizer r) = finalizer_joined r
+end_joined (grammar.a_handler_and_a_finalizer {a = a} {b = b} e r s) = made _ a b e (handler_joined r) (finalizer_joined s)
+
 statement_joined : {c : Allowed} {last before_else : Bool} {ts : Tokens} {s : Tree} → ReadsStatement c last before_else ts s → is_joined ts ≡ true
 statement_joined (grammar.an_expression_statement e h r) = ended_joined e (expression_joined r)
 statement_joined grammar.an_empty_statement = refl
 statement_joined (grammar.a_block r) = refl
-statement_joined (grammar.an_if {test = i} {ts = ts} r s) = and_from (may_be_given i) _ (given_from i (expression_starts r)) (with_parameters (are_parameters i) ts (statement_joined s))
-statement_joined (grammar.an_if_with_else {test = i} {ts = ts} {b = b} k e r s u) = and_from (may_be_given i) _ (given_from i (expression_starts r)) (with_parameters (are_parameters i) ts (made _ _ (piece k (Word (codes "else")) b) e (statement_joined s) (with_parameters true b (statement_joined u))))
+statement_joined (grammar.an_if {test = i} {ts = ts} r s) = behind_test i ts (expression_starts r) (statement_joined s)
+statement_joined (grammar.an_if_with_else {test = i} {ts = ts} {b = b} k e r s u) = behind_test i ts (expression_starts r) (made _ _ (piece k (Word (codes "else")) b) e (statement_joined s) (with_parameters true false b (statement_joined u)))
+statement_joined (grammar.a_variable_statement e r) = ended_joined e (declaration_joined r)
+statement_joined (grammar.a_for {head = h} {ts = ts} k l e i t u s) = with_parameters (are_parameters h) false ts (statement_joined s)
+statement_joined (grammar.a_for_in {head = h} {ts = ts} k e l r s) = with_parameters (are_parameters h) false ts (statement_joined s)
+statement_joined (grammar.a_for_of {head = h} {ts = ts} k e l r s) = with_parameters (are_parameters h) false ts (statement_joined s)
+statement_joined (grammar.a_while {test = i} {ts = ts} r s) = behind_test i ts (expression_starts r) (statement_joined s)
+statement_joined (grammar.a_do_while {b = b} {test = i} k n e f s r) = ended_joined e (subst (λ x. is_joined x ≡ true) (sym f) (with_parameters true false (b ⧺ piece k (Word (codes "while")) (group n Round i done)) (behind false false b (piece k (Word (codes "while")) (group n Round i done)) (statement_joined s) (behind_test i done (expression_starts r) refl))))
+statement_joined (grammar.a_labelled_statement e h s) = statement_joined s
+statement_joined (grammar.a_continue {a = a} e l) = ended_joined e (with_parameters true false a (label_joined l))
+statement_joined (grammar.a_break {a = a} e l) = ended_joined e (with_parameters true false a (label_joined l))
+statement_joined (grammar.a_throw {a = a} e h r) = ended_joined e (with_parameters true false a (expression_joined r))
+statement_joined (grammar.a_debugger e) = ended_joined e refl
+statement_joined (grammar.a_switch {head = i} r cs) = behind_test i (group false Brace done done) (expression_starts r) refl
+statement_joined (grammar.a_try r s) = end_joined s
 
 item_joined : {c : Allowed} {last : Bool} {ts : Tokens} {s : Tree} → ReadsItem c last ts s → is_joined ts ≡ true
 item_joined (grammar.a_statement r) = statement_joined r
-item_joined (grammar.a_declaration e r) = ended_joined e (declaration_joined r)
+item_joined (grammar.a_declaration kind n e r) = ended_joined e (declaration_joined r)
 
 statements_joined : {c : Allowed} {last : Bool} {ts : Tokens} {ss : Trees} → ReadsStatements c last ts ss → is_joined ts ≡ true
 statements_joined grammar.no_statement = refl

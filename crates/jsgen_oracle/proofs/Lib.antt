@@ -10,6 +10,8 @@ pub mod Made
 pub mod Samples
 pub mod Assigned
 pub mod Arrows
+pub mod Sound
+pub mod Looped
 pub mod Refused
 pub mod Joined
 pub mod Negative

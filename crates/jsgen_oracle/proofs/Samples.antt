@@ -9,13 +9,14 @@ use Rattle.jsgen_syntax.specs.declared.quote.Quote.TheVariants.{Single, Double, 
 use Rattle.jsgen_syntax.specs.declared.operator.BinaryOperator.TheVariants.{Addition, Subtraction, Multiplication}
 use Rattle.jsgen_syntax.specs.declared.operator.UnaryOperator.TheVariants.{UnaryNegation, Typeof}
 use Rattle.jsgen_syntax.specs.declared.operator.UpdateOperator.TheVariants.{Increment}
+use Rattle.jsgen_tree.specs.declared.statements.VariableDeclarationKind.TheVariants.{Const}
 use Rattle.jsgen_tree.specs.Tree.{Tree, absent, given, Trees, no_trees, more}
 use Rattle.jsgen_model.specs.Punctuator.{Punctuator, plus, plus_plus, minus, star, star_star, comma, semicolon, dot, equal, Round, Square, Brace}
 use Rattle.jsgen_model.specs.Numbers.{spells_number}
 use Rattle.jsgen_model.specs.Tokens.{Tokens, done, piece, group, ◌⧺◌, Word, Number, Quoted, Sign, longer_stands, longer_number_stands, AreTokensOf}
-use Rattle.jsgen_model.specs.Grammar.{Allowed, Level, Expression, Assignment, ShortCircuit, Multiplicative, Additive, Exponent, Unary, Update, LeftHandSide, Primary, in_module, with_in, ReadsExpression, ReadsBinding, ReadsDeclarator, ReadsDeclarators, ReadsDeclaration, ReadsStatement, ReadsItem, ReadsStatements, ReadsModule, a_module, starts_with_directive, starts_statement}
+use Rattle.jsgen_model.specs.Grammar.{Allowed, Expression, Assignment, ShortCircuit, Multiplicative, Additive, Exponent, Unary, Update, LeftHandSide, Primary, in_module, with_in, ReadsExpression, ReadsStatement, ReadsItem, ReadsStatements, ReadsModule, a_module, starts_with_directive, starts_statement}
 use Rattle.jsgen_model.specs.Grammar as grammar
-use Rattle.jsgen_oracle.specs.Samples.{IsRead, IsNotRead}
+use Rattle.jsgen_oracle.specs.Samples.{IsRead}
 use Rattle.jsgen_oracle.specs.Samples as samples
 
 -- ---- levels
@@ -52,7 +53,7 @@ pub undirected : {ts : Tokens} {body : Trees} → starts_with_directive ts ≡ f
 undirected h r = a_module (grammar.statements h r)
 
 -- an expression with its semicolon, as a statement and in a list of statements
-ended : {c : Allowed} {last before_else : Bool} {a : Tokens} {e : Tree} → starts_statement a ≡ true → ReadsExpression (with_in c) Expression a e → ReadsStatement c last before_else (a ⧺ sign semicolon done) (samples.statement_of e)
+pub ended : {c : Allowed} {last before_else : Bool} {a : Tokens} {e : Tree} → starts_statement a ≡ true → ReadsExpression (with_in c) Expression a e → ReadsStatement c last before_else (a ⧺ sign semicolon done) (samples.statement_of e)
 ended h r = grammar.an_expression_statement (grammar.a_semicolon false refl) h r
 
 pub item : {c : Allowed} {last : Bool} {a : Tokens} {e : Tree} → starts_statement a ≡ true → ReadsExpression (with_in c) Expression a e → ReadsItem c last (a ⧺ sign semicolon done) (samples.statement_of e)
@@ -160,7 +161,7 @@ declarators =
     let second = word (codes "b") (sign equal (word (codes "c") done)) in (
       word (codes "const") ((first ⧺ sign comma second) ⧺ sign semicolon done),
       ([], codes " a=1,b=c;", refl, refl, refl, refl, refl, (codes " ", codes "=1,b=c;", refl, refl, refl, refl, refl, ([], codes "1,b=c;", refl, refl, refl, refl, refl, ([], codes ",b=c;", refl, refl, refl, refl, refl, ([], codes "b=c;", refl, refl, refl, refl, refl, ([], codes "=c;", refl, refl, refl, refl, refl, ([], codes "c;", refl, refl, refl, refl, refl, ([], codes ";", refl, refl, refl, refl, refl, ([], [], refl, refl, refl, refl, refl, refl))))))))),
-      undirected refl (grammar.last_statement (grammar.a_declaration (grammar.a_semicolon {a = word (codes "const") (first ⧺ sign comma second)} false refl) (grammar.a_const (grammar.first_declarator {a = first} {b = second} false refl (grammar.with_value {a = word (codes "a") done} {v = piece false (Number (codes "1")) done} false refl (grammar.a_bound_name value_a free_a) (value (first_of_sum (grammar.a_number refl)))) (grammar.last_declarator (grammar.with_value {a = word (codes "b") done} {v = word (codes "c") done} false refl (grammar.a_bound_name value_b free_b) (value (first_of_sum read_c)))))))),
+      undirected refl (grammar.last_statement (grammar.a_declaration Const refl (grammar.a_semicolon {a = word (codes "const") (first ⧺ sign comma second)} false refl) (grammar.some_variables (grammar.first_declarator {a = first} {b = second} false refl (grammar.with_value {a = word (codes "a") done} {v = piece false (Number (codes "1")) done} false refl (grammar.a_bound_name value_a free_a) (value (first_of_sum (grammar.a_number refl)))) (grammar.last_declarator (grammar.with_value {a = word (codes "b") done} {v = word (codes "c") done} false refl (grammar.a_bound_name value_b free_b) (value (first_of_sum read_c)))))))),
     )
 
 pub without_value : IsRead (codes "const a;") (samples.module_of (more (samples.const_of (more (samples.bound (codes "a") absent) no_trees)) no_trees))
@@ -168,7 +169,7 @@ unfolding unicode_ident longer_stands word_value
 without_value = (
   word (codes "const") (word (codes "a") (sign semicolon done)),
   ([], codes " a;", refl, refl, refl, refl, refl, (codes " ", codes ";", refl, refl, refl, refl, refl, ([], [], refl, refl, refl, refl, refl, refl))),
-  undirected refl (grammar.last_statement (grammar.a_declaration (grammar.a_semicolon {a = word (codes "const") (word (codes "a") done)} false refl) (grammar.a_const (grammar.last_declarator (grammar.without_value (grammar.a_bound_name value_a free_a)))))),
+  undirected refl (grammar.last_statement (grammar.a_declaration Const refl (grammar.a_semicolon {a = word (codes "const") (word (codes "a") done)} false refl) (grammar.some_variables (grammar.last_declarator (grammar.without_value (grammar.a_bound_name value_a free_a)))))),
 )
 
 pub over_lines : IsRead (codes "a\n+b;") (samples.module_of (more (samples.statement_of (samples.sum_of samples.a samples.b)) no_trees))
@@ -378,13 +379,14 @@ last_if = (
 
 -- an `if` without `else` stands before no `else`
 no_open_if : {c : Allowed} {last : Bool} {ts : Tokens} {t s : Tree} → ReadsStatement c last true ts (samples.if_of t s absent) → ⊥
-no_open_if r = elim r [ ]
+no_open_if (grammar.a_variable_statement e r) = elim r [ ]
 
 no_other_statement : {c : Allowed} {last : Bool} {ts : Tokens} → ReadsStatement c last false ts (samples.if_of samples.a (samples.if_of samples.b (samples.statement_of samples.c) absent) (given samples.empty)) → ⊥
 no_other_statement (grammar.an_if_with_else k e t s u) = no_open_if s
+no_other_statement (grammar.a_variable_statement e r) = elim r [ ]
 
 pub no_other_if : (ts : Tokens) → AreTokensOf (codes "if(a)if(b)c;else;") ts → ReadsModule ts (samples.module_of (more (samples.if_of samples.a (samples.if_of samples.b (samples.statement_of samples.c) absent) (given samples.empty)) no_trees)) → ⊥
 no_other_if ts h (a_module (grammar.statements n (grammar.last_statement (grammar.a_statement r)))) = no_other_statement r
 no_other_if ts h (a_module (grammar.statements n (grammar.first_statement e (grammar.a_statement r) s))) = no_other_statement r
-no_other_if ts h (a_module (grammar.statements n (grammar.last_statement (grammar.a_declaration e r)))) = elim r [ ]
-no_other_if ts h (a_module (grammar.statements n (grammar.first_statement e (grammar.a_declaration f r) s))) = elim r [ ]
+no_other_if ts h (a_module (grammar.statements n (grammar.last_statement (grammar.a_declaration kind v e r)))) = elim r [ ]
+no_other_if ts h (a_module (grammar.statements n (grammar.first_statement e (grammar.a_declaration kind v f r) s))) = elim r [ ]

@@ -1,5 +1,5 @@
 -- The program's normal forms as trees.
-use Rattle.std.specs.Prelude.{Bool, true, false, List, [], ◌∷◌, map, Option, option_map}
+use Rattle.std.specs.Prelude.{Bool, true, false, List, [], ◌∷◌, map, Option, Some, None, option_map}
 use Rattle.jsgen_syntax.specs.Units.{js_units}
 use Rattle.jsgen_tree.specs.Atom.{Atom, no_value, text, units, flag, numeric_kind, declaration_kind, binary_operator, logical_operator, unary_operator, update_operator, assignment_operator, property_kind}
 use Rattle.jsgen_tree.specs.Number.{Raw}
@@ -63,6 +63,15 @@ slots_plain ss = slots_by form_plain ss
 abbrev pub is_one : {F : Type 0} → Slot F → Bool
 is_one (slots.One f) = true
 is_one s = false
+
+-- the body of a loop behind its head, or what stands behind a label, in a row that has the slots of its type
+abbrev pub body_of : {F : Type 0} → NodeType → List (Slot F) → Option F
+body_of types.ForStatement (slots.Maybe init ∷ slots.Maybe test ∷ slots.Maybe update ∷ slots.One body ∷ []) = Some body
+body_of types.ForInStatement (slots.One left ∷ slots.One right ∷ slots.One body ∷ []) = Some body
+body_of types.ForOfStatement (slots.One left ∷ slots.One right ∷ slots.One body ∷ []) = Some body
+body_of types.WhileStatement (slots.One test ∷ slots.One body ∷ []) = Some body
+body_of types.LabeledStatement (slots.One label ∷ slots.One body ∷ []) = Some body
+body_of type ss = None
 
 -- whether the slots are one list
 abbrev pub is_list : {F : Type 0} → List (Slot F) → Bool

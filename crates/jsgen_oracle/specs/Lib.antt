@@ -3,6 +3,7 @@ pub mod Plain
 pub mod Law
 pub mod Steps
 pub mod Samples
+pub mod StatementSamples
 pub mod NumberSamples
 pub mod Form
 pub mod Values

@@ -1,10 +1,10 @@
 // Braces that a consequent only has round it because of an `if` without `else`.
-ghost use Rattle.std.specs.Prelude.{◌≡◌, map, IfOk};
+ghost use Rattle.std.specs.Prelude.{◌≡◌, map, is_some, IfOk};
 ghost use Rattle.jsgen_tree.specs.Inside.{ends_open};
 ghost use Rattle.jsgen_tree.specs.Places.{bare};
 ghost use Rattle.jsgen_tree.specs.Nodes.{block};
 ghost use Rattle.jsgen_model.specs.Normal.{unbraced};
-ghost use Rattle.jsgen_oracle.specs.Form.{form_plain, forms_plain, value_plain, is_one};
+ghost use Rattle.jsgen_oracle.specs.Form.{form_plain, forms_plain, value_plain, is_one, body_of};
 
 use crate::form::{Form, Slot, Value};
 use crate::shape::{Only, list, only_list};
@@ -76,7 +76,15 @@ fn ends_open(form: &Form) -> bool
                 _ => false,
             }
         }
-        _ => false,
+        node_type => {
+            if !has_body(node_type, &form.slots) {
+                return false;
+            }
+            match &form.slots[form.slots.len() - 1] {
+                Slot::One(body) => ends_open(body),
+                _ => false,
+            }
+        }
     }
 }
 
@@ -85,6 +93,25 @@ fn is_one(slot: &Slot<Form>) -> bool
 {
     match slot {
         Slot::One(_) => true,
+        _ => false,
+    }
+}
+
+// Whether a node of this type with these slots is a loop with a body behind its head, or a statement with a label.
+fn has_body(node_type: NodeType, slots: &[Slot<Form>]) -> bool
+    ensures { result ≡ is_some (body_of node_type slots.now) }
+{
+    match node_type {
+        NodeType::ForStatement => matches!(
+            slots,
+            [Slot::Maybe(_), Slot::Maybe(_), Slot::Maybe(_), Slot::One(_)]
+        ),
+        NodeType::ForInStatement | NodeType::ForOfStatement => {
+            matches!(slots, [Slot::One(_), Slot::One(_), Slot::One(_)])
+        }
+        NodeType::WhileStatement | NodeType::LabeledStatement => {
+            matches!(slots, [Slot::One(_), Slot::One(_)])
+        }
         _ => false,
     }
 }

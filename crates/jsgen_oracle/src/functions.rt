@@ -9,7 +9,7 @@ ghost use Rattle.jsgen_oracle.specs.Form.{form_plain, forms_plain, optional_plai
 ghost use Rattle.jsgen_oracle.specs.declared.form.Value.TheVariants.{Nothing};
 
 use crate::form::{Form, Slot, Value};
-use crate::normal::{NormalNode, init_form};
+use crate::normal::{NormalNode, optional_expression_form};
 use crate::shape::{row_of_two, single};
 use jsgen_syntax::Memory;
 use jsgen_tree::{
@@ -97,7 +97,7 @@ fn parameter_form<N: NormalNode>(
 {
     let values = three_of_nothing(alloc)?;
     let pattern = node.pattern.get().normal_form(alloc, tables)?;
-    let initializer = init_form(alloc, tables, &node.initializer)?;
+    let initializer = optional_expression_form(alloc, tables, &node.initializer)?;
     row_of_two(
         alloc,
         NodeType::FormalParameter,

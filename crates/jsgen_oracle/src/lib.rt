@@ -12,14 +12,17 @@ ghost use Rattle.jsgen_oracle.specs.Plain.{tokens_plain};
 ghost use Rattle.jsgen_oracle.specs.Form.{form_plain};
 ghost use Rattle.jsgen_oracle.specs.Law.{HasNoTokens};
 ghost use Rattle.jsgen_oracle.specs.Samples.{GrammarSamples, NormalSamples};
+ghost use Rattle.jsgen_oracle.specs.StatementSamples.{StatementSamples};
 ghost use Rattle.jsgen_oracle.specs.NumberSamples.{NumberSamples};
 
 mod braces;
 mod chain;
 mod characters;
+mod choices;
 mod directive;
 mod form;
 mod functions;
+mod loops;
 mod names;
 mod normal;
 mod number;
@@ -78,6 +81,11 @@ pub fn number_samples()
 /// The grammar of the model reads a few texts as ECMA-262 does.
 pub fn grammar_samples()
     ensures { GrammarSamples }
+{}
+
+/// It reads loops, labels, jumps, choices between cases and handlers so too.
+pub fn statement_samples()
+    ensures { StatementSamples }
 {}
 
 /// The normal form keeps what a program means, and drops parentheses, spans and how a number is held.

@@ -12,15 +12,20 @@ ghost use Rattle.jsgen_oracle.specs.declared.form.Value.TheVariants.{Nothing};
 use crate::braces::unbraced;
 use crate::chain::{joined, links, parts};
 use crate::characters::characters_of;
+use crate::choices::{switch_statement_form, try_statement_form};
 use crate::directive::directive_units;
 use crate::form::{Form, Slot, Value};
 use crate::functions::arrow_function_form;
+use crate::loops::{
+    break_statement_form, continue_statement_form, do_while_statement_form, for_in_statement_form,
+    for_of_statement_form, for_statement_form, labeled_statement_form, while_statement_form,
+};
 use crate::names::{binding_form, reference_form};
 use crate::number_forms::{big_int_literal_form, is_negative_number, numeric_literal_form};
 use crate::objects::object_expression_form;
 use crate::shape::{
-    holed_list, leaf, list, literal, one_value, pair, row, row_of_two, single, single_by,
-    two_values,
+    holed_list, leaf, list, literal, one_value, pair, row, row_of_three, row_of_two, single,
+    single_by, two_values,
 };
 use jsgen_syntax::{JsStr, LogicalOperator, Memory};
 use jsgen_tree::{
@@ -116,7 +121,7 @@ fn directive_form(alloc: Global, node: &Directive) -> Result<Form, Memory>
     literal(alloc, NodeType::Directive, Value::Units(value))
 }
 
-fn statement_forms<N: NormalNode>(
+pub(crate) fn statement_forms<N: NormalNode>(
     alloc: Global,
     tables: Tables<'_>,
     statements: &[StatementNode<N>],
@@ -130,7 +135,7 @@ fn statement_forms<N: NormalNode>(
     Ok(forms)
 }
 
-fn block_statement_form<N: NormalNode>(
+pub(crate) fn block_statement_form<N: NormalNode>(
     alloc: Global,
     tables: Tables<'_>,
     node: &BlockStatement<N>,
@@ -141,7 +146,6 @@ fn block_statement_form<N: NormalNode>(
     list(alloc, NodeType::BlockStatement, Vec::new(alloc), body)
 }
 
-#[tactic(auto, using(crate::proofs::Forms::forms))]
 fn if_statement_form<N: NormalNode>(
     alloc: Global,
     tables: Tables<'_>,
@@ -152,15 +156,14 @@ fn if_statement_form<N: NormalNode>(
     let test = node.test.get().normal_form(alloc, tables)?;
     let consequent = consequent_form(alloc, tables, &node.consequent)?;
     let alternate = alternate_form(alloc, tables, &node.alternate)?;
-    Ok(Form {
-        node_type: NodeType::IfStatement,
-        values: Vec::new(alloc),
-        slots: vec![in alloc;
-            Slot::One(test),
-            Slot::One(consequent),
-            Slot::Maybe(alternate),
-        ]?,
-    })
+    row_of_three(
+        alloc,
+        NodeType::IfStatement,
+        Vec::new(alloc),
+        Slot::One(test),
+        Slot::One(consequent),
+        Slot::Maybe(alternate),
+    )
 }
 
 fn consequent_form<N: NormalNode>(
@@ -187,7 +190,7 @@ fn alternate_form<N: NormalNode>(
     }
 }
 
-fn variable_declaration_form<N: NormalNode>(
+pub(crate) fn variable_declaration_form<N: NormalNode>(
     alloc: Global,
     tables: Tables<'_>,
     node: &VariableDeclaration<N>,
@@ -222,7 +225,7 @@ fn variable_declarator_form<N: NormalNode>(
 {
     let values = one_value(alloc, Value::Nothing)?;
     let id = node.id.get().normal_form(alloc, tables)?;
-    let init = init_form(alloc, tables, &node.init)?;
+    let init = optional_expression_form(alloc, tables, &node.init)?;
     row_of_two(
         alloc,
         NodeType::VariableDeclarator,
@@ -232,7 +235,7 @@ fn variable_declarator_form<N: NormalNode>(
     )
 }
 
-pub(crate) fn init_form<N: NormalNode>(
+pub(crate) fn optional_expression_form<N: NormalNode>(
     alloc: Global,
     tables: Tables<'_>,
     init: &Option<ExpressionNode<N>>,
@@ -288,7 +291,7 @@ pub(crate) fn identifier_name_form(alloc: Global, node: &IdentifierName) -> Resu
     literal(alloc, NodeType::IdentifierName, Value::Text(name))
 }
 
-fn static_member_expression_form<N: NormalNode>(
+pub(crate) fn static_member_expression_form<N: NormalNode>(
     alloc: Global,
     tables: Tables<'_>,
     node: &StaticMemberExpression<N>,
@@ -326,7 +329,6 @@ fn call_expression_form<N: NormalNode>(
     )
 }
 
-#[tactic(auto, using(crate::proofs::Forms::forms))]
 fn conditional_expression_form<N: NormalNode>(
     alloc: Global,
     tables: Tables<'_>,
@@ -337,15 +339,14 @@ fn conditional_expression_form<N: NormalNode>(
     let test = node.test.get().normal_form(alloc, tables)?;
     let consequent = node.consequent.get().normal_form(alloc, tables)?;
     let alternate = node.alternate.get().normal_form(alloc, tables)?;
-    Ok(Form {
-        node_type: NodeType::ConditionalExpression,
-        values: Vec::new(alloc),
-        slots: vec![in alloc;
-            Slot::One(test),
-            Slot::One(consequent),
-            Slot::One(alternate),
-        ]?,
-    })
+    row_of_three(
+        alloc,
+        NodeType::ConditionalExpression,
+        Vec::new(alloc),
+        Slot::One(test),
+        Slot::One(consequent),
+        Slot::One(alternate),
+    )
 }
 
 fn sequence_expression_form<N: NormalNode>(
@@ -375,7 +376,7 @@ fn part_forms<N: NormalNode>(
     Ok(forms)
 }
 
-fn computed_member_expression_form<N: NormalNode>(
+pub(crate) fn computed_member_expression_form<N: NormalNode>(
     alloc: Global,
     tables: Tables<'_>,
     node: &ComputedMemberExpression<N>,
@@ -707,6 +708,24 @@ fn statement_form<N: NormalNode>(
         Statement::BlockStatement(node) => block_statement_form(alloc, tables, node),
         Statement::IfStatement(node) => if_statement_form(alloc, tables, node),
         Statement::EmptyStatement(_) => Ok(leaf(alloc, NodeType::EmptyStatement, Vec::new(alloc))),
+        Statement::ForStatement(node) => for_statement_form(alloc, tables, node),
+        Statement::ForInStatement(node) => for_in_statement_form(alloc, tables, node),
+        Statement::ForOfStatement(node) => for_of_statement_form(alloc, tables, node),
+        Statement::WhileStatement(node) => while_statement_form(alloc, tables, node),
+        Statement::DoWhileStatement(node) => do_while_statement_form(alloc, tables, node),
+        Statement::LabeledStatement(node) => labeled_statement_form(alloc, tables, node),
+        Statement::ContinueStatement(node) => continue_statement_form(alloc, tables, node),
+        Statement::BreakStatement(node) => break_statement_form(alloc, tables, node),
+        Statement::ThrowStatement(node) => {
+            single(alloc, tables, NodeType::ThrowStatement, node.argument.get())
+        }
+        Statement::DebuggerStatement(_) => Ok(leaf(
+            alloc,
+            NodeType::DebuggerStatement,
+            Vec::new(alloc),
+        )),
+        Statement::SwitchStatement(node) => switch_statement_form(alloc, tables, node),
+        Statement::TryStatement(node) => try_statement_form(alloc, tables, node),
     }
 }
 

@@ -85,6 +85,26 @@ pub(crate) fn row_of_two(
     })
 }
 
+/// A row of three fields of children.
+#[tactic(auto, using(crate::proofs::Forms::forms))]
+pub(crate) fn row_of_three(
+    alloc: Global,
+    node_type: NodeType,
+    values: Vec<Value>,
+    first: Slot<Form>,
+    second: Slot<Form>,
+    third: Slot<Form>,
+) -> Result<Form, Memory>
+    ensures { IfOk result (λ f. form_plain f ≡ node node_type (bare (map value_plain values.items)) (before form_plain first (before form_plain second (before form_plain third no_slots)))) }
+{
+    let slots = vec![in alloc; first, second, third]?;
+    Ok(Form {
+        node_type,
+        values,
+        slots,
+    })
+}
+
 /// A row of one child.
 pub(crate) fn single<N: NormalNode>(
     alloc: Global,

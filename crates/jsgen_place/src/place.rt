@@ -126,6 +126,17 @@ impl Place {
         }
     }
 
+    /// The place of what stands first in the head of a loop, where `in` is forbidden (ECMA-262, 14.7.4).
+    pub fn loop_head(settings: Settings) -> Place
+        ensures { result ≡ record { settings = settings; level = Precedence.Lowest; context = record { forbids_in = true; forbids_call = false }; in_list = false; left_operand = false; plain_quotes = false } }
+    {
+        let context = Context {
+            forbids_in: true,
+            ..Context::FREE
+        };
+        Place::at_level(Precedence::Lowest, settings, context)
+    }
+
     /// The place of what is called: calls may stand in it.
     pub fn called(self) -> Place
         ensures { (pen : Pen) → place_of result pen ≡ called (place_of self pen) }

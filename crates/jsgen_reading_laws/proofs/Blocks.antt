@@ -10,12 +10,12 @@ use Rattle.jsgen_model.specs.Layout.{Pen, other_end, layout, written, deeper_lev
 use Rattle.jsgen_model.specs.Grammar.{Allowed, ReadsStatements}
 use Rattle.jsgen_model.specs.Grammar as grammar
 use Rattle.jsgen_model.specs.Normal.{nothing_of}
-use Rattle.jsgen_model.specs.Spell.{Settings, spell_statements, filled_braces, braces, block_items}
+use Rattle.jsgen_model.specs.Spell.{Settings, spell_statements, filled_braces, braces}
 use Rattle.jsgen_token_laws.proofs.Last.{Last, Open, line_of, Knows}
 use Rattle.jsgen_token_laws.proofs.Writes.{Writes, wrote_none, wrote_both, wrote_and_none, same_writes}
 use Rattle.jsgen_token_laws.proofs.Steps.{Gap, gap, soft_line_written, indentation_written, within_brackets, brackets_written}
 use Rattle.jsgen_reading_laws.proofs.Ends.{ends_itself, at_brace}
-use Rattle.jsgen_reading_laws.proofs.Stands.{Stands, StandsAt, ReadsClosed, Stated, SameTree, SameTrees, before_blank, indented_line}
+use Rattle.jsgen_reading_laws.proofs.Stands.{Stands, StandsAt, ReadsClosed, StatedAt, Stated, SameTrees, before_blank, indented_line}
 use Rattle.jsgen_reading_laws.proofs.Rows.{RowAt}
 
 -- between two pens stands a brace group, and what is in it is read so
@@ -28,7 +28,7 @@ pub record GoodBraces (names : Tables) {X : Type 0} (R : Bool → Tokens → X �
   pub same : Same reading
 
 -- the depth doesn't matter
-at_depth : {names : Tables} {p : Pen} {l : Last} (depth : ℕ) → Knows names p l → Knows names (record p { depth = depth }) l
+pub at_depth : {names : Tables} {p : Pen} {l : Last} (depth : ℕ) → Knows names p l → Knows names (record p { depth = depth }) l
 at_depth depth k = record { indent = k.indent; tables = k.tables; ending = k.ending }
 
 -- the semicolon that is left is dropped
@@ -58,22 +58,23 @@ filled_written items f p l z k =
     filled_parts p2.depth n refl g (gap (indentation_written (record p4 { depth = p2.depth }) g.last (at_depth p2.depth g.writes.knows)))
 
 -- round nothing
-empty_written : {names : Tables} (c : Allowed) (p : Pen) (l : Last) → Knows names p l → GoodBraces names (ReadsStatements c) (SameTrees names no_trees) p l (layout (brackets Brace nothing ⊕ drop_semicolon) p)
-empty_written c p l k =
+empty_written : {names : Tables} {R : Bool → Tokens → Trees → Type 0} → R true done no_trees → (p : Pen) (l : Last) → Knows names p l → GoodBraces names R (SameTrees names no_trees) p l (layout (brackets Brace nothing ⊕ drop_semicolon) p)
+empty_written n p l k =
     let p1 : Pen = written (opening Brace) other_end p in
     record {
       tokens = done;
       writes = dropped (brackets_written Brace p p1 l (Open false) done (wrote_none p1 p1 (Open false) refl (within_brackets Brace p l k)));
       semicolon = refl;
       reading = no_trees;
-      reads = grammar.no_statement;
+      reads = n;
       same = refl;
     }
 
-braces_written : {names : Tables} (c : Allowed) (ss : Trees) (settings : Settings) → RowAt names c (spell_statements ss settings) ss → (p : Pen) (l : Last) → p.pending_semicolon ≡ false → Knows names p l → GoodBraces names (ReadsStatements c) (SameTrees names ss) p l (layout (braces ss (spell_statements ss settings)) p)
-braces_written c no_trees settings row p l z k = empty_written c p l k
-braces_written c (more s ss) settings row p l z k = filled_written (spell_statements (more s ss) settings) row p l z k
-braces_written c (hole ss) settings row p l z k = filled_written (spell_statements (hole ss) settings) row p l z k
+-- round any row, the empty one too
+pub braces_written : {names : Tables} {R : Bool → Tokens → Trees → Type 0} → R true done no_trees → (ss : Trees) (settings : Settings) → StandsAt names R (SameTrees names ss) (spell_statements ss settings) → (p : Pen) (l : Last) → p.pending_semicolon ≡ false → Knows names p l → GoodBraces names R (SameTrees names ss) p l (layout (braces ss (spell_statements ss settings)) p)
+braces_written n no_trees settings row p l z k = empty_written n p l k
+braces_written n (more s ss) settings row p l z k = filled_written (spell_statements (more s ss) settings) row p l z k
+braces_written n (hole ss) settings row p l z k = filled_written (spell_statements (hole ss) settings) row p l z k
 
 -- ---- blocks
 
@@ -90,14 +91,10 @@ block_of {l = l} is_open h g = record {
 }
 
 pub good_block : {names : Tables} (c : Allowed) (a : Atoms) (ss : Trees) → ((settings : Settings) → RowAt names c (spell_statements ss settings) ss) → Stated names c (tree.block a ss)
-good_block {names} c a ss row place = by place.in_list
+good_block {names} c a ss row = record { among = λ settings. indented_line (items settings ⊕ soft_line) (before_blank (items settings) soft_line (alone settings) soft_line_written); within = λ h settings. alone settings }
   where
-    items : Items
-    items = braces ss (spell_statements ss place.settings)
+    items : Settings → Items
+    items settings = braces ss (spell_statements ss settings)
 
-    alone : StandsAt names (ReadsClosed c false) (SameTree names (tree.block a ss)) items
-    alone p l z y k = block_of false (λ us e. ap (λ ts. tree.block (nothing_of 0) ts) e) (braces_written c ss place.settings (row place.settings) p l z k)
-
-    by : (in_list : Bool) → StandsAt names (ReadsClosed c false) (SameTree names (tree.block a ss)) (block_items in_list items)
-    by false = alone
-    by true = indented_line (items ⊕ soft_line) (before_blank items soft_line alone soft_line_written)
+    alone : (settings : Settings) → StatedAt names c (tree.block a ss) (items settings)
+    alone settings p l z y k = block_of false (λ us e. ap (λ ts. tree.block (nothing_of 0) ts) e) (braces_written grammar.no_statement ss settings (row settings) p l z k)

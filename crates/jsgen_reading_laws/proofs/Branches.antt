@@ -1,62 +1,36 @@
--- Empty statements, `if` and `else`.
-use Rattle.std.proofs.Common.{◌≡◌, ℕ, Bool, true, false, cond, codes, List, refl, sym, ap, ◌∙◌, subst}
+-- `if` and `else`.
+use Rattle.std.proofs.Common.{◌≡◌, Bool, true, false, cond, codes, refl, sym, ap, ◌∙◌, subst}
 use Rattle.std.proofs.lemmas.Bool.{both_ways}
 use Rattle.jsgen_syntax.specs.declared.precedence.Precedence.TheVariants as levels
-use Rattle.jsgen_syntax.specs.Name.{spells_name}
 use Rattle.jsgen_tree.specs.Job.{Tables}
 use Rattle.jsgen_tree.specs.Inside.{ends_open}
 use Rattle.jsgen_tree.specs.Tree.{Tree, absent, given, Trees, no_trees, more, Atoms}
 use Rattle.jsgen_tree.specs.Nodes as tree
-use Rattle.jsgen_model.specs.Punctuator.{semicolon, Round, opening}
-use Rattle.jsgen_model.specs.Tokens.{Tokens, done, piece, group, ◌⧺◌, Word, Sign}
+use Rattle.jsgen_model.specs.Punctuator.{semicolon, Round}
+use Rattle.jsgen_model.specs.Tokens.{Tokens, done, piece, group, ◌⧺◌, Word}
 use Rattle.jsgen_model.specs.Items.{Items, nothing, ◌⊕◌, word, punctuator, brackets, soft_space, soft_line, hard_space, body_space, due_semicolon}
-use Rattle.jsgen_model.specs.Layout.{Pen, other_end, layout, written}
+use Rattle.jsgen_model.specs.Layout.{Pen, layout}
 use Rattle.jsgen_model.specs.Grammar.{Allowed, ReadsExpression, ReadsStatement, with_in}
 use Rattle.jsgen_model.specs.Grammar as grammar
 use Rattle.jsgen_model.specs.Normal.{normal, normal_trees, unbraced, nothing_of}
 use Rattle.jsgen_model.specs.Renamed.{renamed}
-use Rattle.jsgen_model.specs.Spell.{Settings, Place, spell, among_statements, within_statement, in_brackets, filled_braces, Shape, a_block, an_if, an_empty, other, shape, braces_end, body_end, consequent_items, alternate_items, among_or_within, spell_alternate}
+use Rattle.jsgen_model.specs.Spell.{Settings, Place, spell, among_statements, within_statement, in_brackets, filled_braces, Shape, a_block, an_if, an_empty, shape, braces_end, body_end, consequent_items, body_items, alternate_items, spell_alternate}
 use Rattle.jsgen_token_laws.proofs.Characters.{letters_spelled}
 use Rattle.jsgen_token_laws.proofs.Last.{Last, Open, After, line_of, Knows}
 use Rattle.jsgen_token_laws.proofs.Writes.{Writes, wrote_both, then_assoc}
-use Rattle.jsgen_token_laws.proofs.Steps.{gap, wrote_word, wrote_semicolon, soft_space_written, soft_line_written, hard_space_written, body_space_written, indentation_written, no_gap, within_brackets, brackets_written}
+use Rattle.jsgen_token_laws.proofs.Steps.{gap, wrote_word, soft_line_written, hard_space_written, indentation_written, no_gap}
 use Rattle.jsgen_reading_laws.proofs.Good.{Printed}
-use Rattle.jsgen_reading_laws.proofs.Ends.{Due, ends_itself, due_ends}
-use Rattle.jsgen_reading_laws.proofs.Stands.{Stands, StandsAt, BlankAt, ReadsClosed, Stated, SameTree, stands_since, behind_tokens, behind_blank, before_blank, indented_line, listed_statement}
-use Rattle.jsgen_reading_laws.proofs.Rows.{RowAt, row_alone}
+use Rattle.jsgen_reading_laws.proofs.Ends.{Due, due_ends}
+use Rattle.jsgen_reading_laws.proofs.Stands.{Stands, StandsAt, BlankAt, ReadsClosed, StatedAt, goes_on, Stated, SameTree, stands_since, behind_tokens, behind_blank, before_blank, indented_line, listed_statement}
+use Rattle.jsgen_reading_laws.proofs.Rows.{RowAt, statements_join, row_alone}
 use Rattle.jsgen_reading_laws.proofs.Blocks.{block_of, filled_written}
-
--- ---- empty statements
-
--- the semicolon of an empty statement, which is printed at once
-good_semicolon : {names : Tables} {Same : Tree → Type 0} (c : Allowed) (is_open : Bool) → Same (tree.empty_statement (nothing_of 0)) → StandsAt names (ReadsClosed c is_open) Same (punctuator semicolon)
-good_semicolon c is_open h p l z y k = record {
-  last = After (Sign semicolon);
-  tokens = piece (line_of l) (Sign semicolon) done;
-  writes = wrote_semicolon p (layout (punctuator semicolon) p) l refl refl k;
-  ready = tt;
-  reading = tree.empty_statement (nothing_of 0);
-  reads = ends_itself z (λ e before_else n. grammar.an_empty_statement);
-  same = h;
-}
-
-pub good_empty : {names : Tables} (c : Allowed) (a : Atoms) → Stated names c (tree.empty_statement a)
-good_empty c a place = indented_line (punctuator semicolon ⊕ soft_line) (before_blank (punctuator semicolon) soft_line (good_semicolon c false refl) soft_line_written)
-
--- what is spelled as an empty statement is one
-abbrev pub EmptyAlone : Tables → Tree → Type 0
-EmptyAlone names t = shape t ≡ an_empty → normal (renamed names t) ≡ tree.empty_statement (nothing_of 0)
+use Rattle.jsgen_reading_laws.proofs.Bodies.{good_semicolon, EmptyAlone, soft_blank, body_blank, good_body}
+use Rattle.jsgen_reading_laws.proofs.Heads.{GoodHead, head_items, good_head}
 
 -- ---- blanks round a body
 
-soft_blank : {names : Tables} → BlankAt names soft_space
-soft_blank p l k = gap (soft_space_written p l k)
-
 hard_blank : {names : Tables} → BlankAt names hard_space
 hard_blank p l k = gap (hard_space_written p l k)
-
-body_blank : {names : Tables} → BlankAt names body_space
-body_blank p l k = gap (body_space_written p l k)
 
 braces_end_blank : {names : Tables} (else_follows : Bool) → BlankAt names (braces_end else_follows)
 braces_end_blank true = soft_blank
@@ -102,25 +76,25 @@ good_consequent {names} c t settings e n m f = by (ends_open t) refl
     whole : Items
     whole = spell t (among_statements settings)
 
-    as_it_is : (items : Items) → ends_open t ≡ false → StandsAt names (ReadsClosed c (ends_open t)) (SameTree names t) items → ConsequentAt names c e t items
+    as_it_is : (items : Items) → ends_open t ≡ false → StatedAt names c t items → ConsequentAt names c e t items
     as_it_is items o g p l z y k = stands_since (λ last ts u s r. r e (λ h. o)) (λ u s. ap unbraced s) (g p l z y k)
 
     by_shape : (s : Shape) → shape t ≡ s → ends_open t ≡ false → ConsequentAt names c e t (consequent_items s false inner whole e)
-    by_shape a_block i o = behind_blank soft_space (inner ⊕ braces_end e) soft_blank (before_blank inner (braces_end e) (as_it_is inner o (f (within_statement settings))) (braces_end_blank e))
+    by_shape a_block i o = behind_blank soft_space (inner ⊕ braces_end e) soft_blank (before_blank inner (braces_end e) (as_it_is inner o (f.within (ap goes_on i) settings)) (braces_end_blank e))
     by_shape an_empty i o =
         let g = before_blank (punctuator semicolon) soft_line (good_semicolon c (ends_open t) (sym (m i))) soft_line_written in
         before_blank (punctuator semicolon ⊕ soft_line) (body_end e) (as_it_is (punctuator semicolon ⊕ soft_line) o g) (body_end_blank e)
-    by_shape s i o = behind_blank body_space (whole ⊕ body_end e) body_blank (before_blank whole (body_end e) (as_it_is whole o (f (among_statements settings))) (body_end_blank e))
+    by_shape s i o = behind_blank body_space (whole ⊕ body_end e) body_blank (before_blank whole (body_end e) (as_it_is whole o (f.among settings)) (body_end_blank e))
 
     by : (is_open : Bool) → ends_open t ≡ is_open → ConsequentAt names c e t (consequent_items (shape t) is_open inner whole e)
     by false o = by_shape (shape t) refl o
     by true o =
         subst (λ items. ConsequentAt names c e t items) (sym (braced (shape t) inner whole e))
-        (behind_blank soft_space (filled_braces whole ⊕ braces_end e) soft_blank (before_blank (filled_braces whole) (braces_end e) (added_braces c t e whole (n ∙ o) (row_alone c t whole (listed_statement t f settings))) (braces_end_blank e)))
+        (behind_blank soft_space (filled_braces whole ⊕ braces_end e) soft_blank (before_blank (filled_braces whole) (braces_end e) (added_braces c t e whole (n ∙ o) (row_alone (statements_join c) t whole (listed_statement t f settings))) (braces_end_blank e)))
 
 -- ---- alternates
 
-good_alternate : {names : Tables} (c : Allowed) (t : Tree) (settings : Settings) → EmptyAlone names t → Stated names c t → StandsAt names (ReadsClosed c (ends_open t)) (SameTree names t) (alternate_items (shape t) (spell t (within_statement settings)) (spell t (among_statements settings)))
+good_alternate : {names : Tables} (c : Allowed) (t : Tree) (settings : Settings) → EmptyAlone names t → Stated names c t → StatedAt names c t (alternate_items (shape t) (spell t (within_statement settings)) (spell t (among_statements settings)))
 good_alternate {names} c t settings m f = by_shape (shape t) refl
   where
     inner : Items
@@ -129,50 +103,11 @@ good_alternate {names} c t settings m f = by_shape (shape t) refl
     whole : Items
     whole = spell t (among_statements settings)
 
-    by_shape : (s : Shape) → shape t ≡ s → StandsAt names (ReadsClosed c (ends_open t)) (SameTree names t) (alternate_items s inner whole)
-    by_shape a_block i = behind_blank soft_space (inner ⊕ soft_line) soft_blank (before_blank inner soft_line (f (within_statement settings)) soft_line_written)
-    by_shape an_if i = behind_blank hard_space inner hard_blank (f (within_statement settings))
-    by_shape an_empty i = before_blank (punctuator semicolon) soft_line (good_semicolon c (ends_open t) (sym (m i))) soft_line_written
-    by_shape other i = behind_blank body_space whole body_blank (f (among_statements settings))
-
--- ---- a keyword, and an expression in parentheses
-
-record GoodHead (names : Tables) (w : List ℕ) (p : Pen) (l : Last) (q : Pen) (c : Allowed) (t : Tree) : Type 0 where
-  next : Bool
-  tokens : Tokens
-  writes : Writes names p l q (Open false) (piece (line_of l) (Word w) (group next Round tokens done))
-  semicolon : q.pending_semicolon ≡ false
-  tree : Tree
-  reads : ReadsExpression (with_in c) grammar.Expression tokens tree
-  same : normal tree ≡ normal (renamed names t)
-
-abbrev head_items : List ℕ → Tree → Place → Items
-head_items w t place = word w ⊕ (soft_space ⊕ brackets Round (spell t (in_brackets levels.Lowest place)))
-
-good_head : {names : Tables} (w : List ℕ) → spells_name w ≡ true → (c : Allowed) (t : Tree) → Printed names c t → (place : Place) (p : Pen) (l : Last) → p.pending_semicolon ≡ false → Knows names p l → GoodHead names w p l (layout (head_items w t place) p) c t
-good_head w n c t f place p l z k =
-    let p1 : Pen = layout (word w) p in
-    let p2 : Pen = layout soft_space p1 in
-    let p3 : Pen = written (opening Round) other_end p2 in
-    let o = wrote_word w p l n k in
-    let s = soft_space_written p1 (After (Word w)) o.knows in
-    let a = f (in_brackets levels.Lowest place) p3 (Open false) (s.semicolon ∙ z) tt (within_brackets Round p2 s.last s.writes.knows) in
-    record {
-      next = line_of s.last;
-      tokens = a.tokens;
-      writes = wrote_both o (wrote_both s.writes (brackets_written Round p2 (layout (spell t (in_brackets levels.Lowest place)) p3) s.last a.last a.tokens a.writes));
-      semicolon = a.semicolon;
-      tree = a.tree;
-      reads = a.reads;
-      same = a.same;
-    }
+    by_shape : (s : Shape) → shape t ≡ s → StatedAt names c t (alternate_items s inner whole)
+    by_shape an_if i = behind_blank hard_space inner hard_blank (f.within (ap goes_on i) settings)
+    by_shape s i = subst (λ x. StatedAt names c t (body_items x inner whole)) i (good_body c t settings m f)
 
 -- ---- `if`
-
--- among statements it has indentation
-among_or_not : {names : Tables} {X : Type 0} {R : Bool → Tokens → X → Type 0} {Same : X → Type 0} (in_list : Bool) (items : Items) → StandsAt names R Same items → StandsAt names R Same (among_or_within in_list items)
-among_or_not true items f = indented_line items f
-among_or_not false items f = f
 
 if_reads : {c : Allowed} {last mark next : Bool} {test ts : Tokens} {t s : Tree} → ReadsExpression (with_in c) grammar.Expression test t → ReadsStatement c last false ts s → ReadsClosed c true last (piece mark (Word (codes "if")) (group next Round test ts)) (tree.if_statement (nothing_of 0) t s absent)
 if_reads r s false n = grammar.an_if r s
@@ -186,12 +121,12 @@ if_head : {names : Tables} (c : Allowed) (t : Tree) → Printed names c t → (p
 if_head = good_head (codes "if") (letters_spelled 105 (codes "f") refl)
 
 pub good_if : {names : Tables} (c : Allowed) (a : Atoms) (t s : Tree) → Printed names c t → ends_open (normal (renamed names s)) ≡ ends_open s → EmptyAlone names s → Stated names c s → Stated names c (tree.if_statement a t s absent)
-good_if {names} c a t s f n o g place = among_or_not place.in_list (if_items t s false place nothing) inside
+good_if {names} c a t s f n o g = record { among = λ settings. indented_line (if_items t s false (among_statements settings) nothing) (inside (among_statements settings)); within = λ h settings. inside (within_statement settings) }
   where
-    inside : StandsAt names (ReadsClosed c true) (SameTree names (tree.if_statement a t s absent)) (if_items t s false place nothing)
-    inside p l z y k =
+    inside : (place : Place) → StatedAt names c (tree.if_statement a t s absent) (if_items t s false place nothing)
+    inside place p l z y k =
         let h = if_head c t f place p l z k in
-        behind_tokens (piece (line_of l) (Word (codes "if")) (group h.next Round h.tokens done)) (λ u. tree.if_statement (nothing_of 0) h.tree u absent) h.writes (λ e ts u r. if_reads h.reads r) (λ u m i. tree.if_statement (nothing_of 0) (h.same i) (m i) absent)
+        behind_tokens (piece (line_of l) (Word (codes "if")) (group h.next Round h.tokens done)) (λ u. tree.if_statement (nothing_of 0) h.reading u absent) h.writes (λ e ts u r. if_reads h.reads r) (λ u m i. tree.if_statement (nothing_of 0) (h.same i) (m i) absent)
         (good_consequent c s place.settings false n o g (layout (head_items (codes "if") t place) p) (Open false) h.semicolon tt h.writes.knows)
 
 -- ---- `else`
@@ -200,14 +135,17 @@ good_if {names} c a t s f n o g place = among_or_not place.in_list (if_items t s
 else_parts : {names : Tables} {p p1 p2 p3 p4 q : Pen} {l : Last} (c : Allowed) (a : Atoms) (t s u : Tree) → (h : GoodHead names (codes "if") p l p1 c t) (b : Stands names (λ e ts v. ReadsStatement c e true ts v) (SameUnbraced names s) p1 (Open false) p2) (d : Due names p2 b.last p3) → Writes names p3 d.last p4 (After (Word (codes "else"))) (piece (line_of d.last) (Word (codes "else")) done) → Stands names (ReadsClosed c (ends_open u)) (SameTree names u) p4 (After (Word (codes "else"))) q
     → Stands names (ReadsClosed c (ends_open u)) (SameTree names (tree.if_statement a t s (given u))) p l q
 else_parts {l = l} c a t s u h b d o r =
-    behind_tokens (piece (line_of l) (Word (codes "if")) (group h.next Round h.tokens ((b.tokens ⧺ d.tokens) ⧺ piece (line_of d.last) (Word (codes "else")) done))) (λ v. tree.if_statement (nothing_of 0) h.tree b.reading (given v)) (wrote_both h.writes (wrote_both (wrote_both b.writes d.writes) o))
+    behind_tokens (piece (line_of l) (Word (codes "if")) (group h.next Round h.tokens ((b.tokens ⧺ d.tokens) ⧺ piece (line_of d.last) (Word (codes "else")) done))) (λ v. tree.if_statement (nothing_of 0) h.reading b.reading (given v)) (wrote_both h.writes (wrote_both (wrote_both b.writes d.writes) o))
     (λ e ts v x before_else n. grammar.an_if_with_else (line_of d.last) (then_assoc (b.tokens ⧺ d.tokens) (piece (line_of d.last) (Word (codes "else")) done) ts) h.reads (b.reads.read false (b.tokens ⧺ d.tokens) (d.ends b.tokens)) (x before_else n)) (λ v m i. tree.if_statement (nothing_of 0) (h.same i) (b.same i) (given (m i))) r
 
 pub good_if_with_else : {names : Tables} (c : Allowed) (a : Atoms) (t s u : Tree) → Printed names c t → ends_open (normal (renamed names s)) ≡ ends_open s → EmptyAlone names s → Stated names c s → EmptyAlone names u → Stated names c u → Stated names c (tree.if_statement a t s (given u))
-good_if_with_else {names} c a t s u f n m g w v place = among_or_not place.in_list (if_items t s true place (spell_alternate (given u) place.settings)) inside
+good_if_with_else {names} c a t s u f n m g w v = record { among = λ settings. indented_line (items (among_statements settings)) (inside (among_statements settings)); within = λ h settings. inside (within_statement settings) }
   where
-    inside : StandsAt names (ReadsClosed c (ends_open u)) (SameTree names (tree.if_statement a t s (given u))) (if_items t s true place (spell_alternate (given u) place.settings))
-    inside p l z y k =
+    items : Place → Items
+    items place = if_items t s true place (spell_alternate (given u) place.settings)
+
+    inside : (place : Place) → StatedAt names c (tree.if_statement a t s (given u)) (items place)
+    inside place p l z y k =
         let p1 : Pen = layout (if_items t s true place nothing) p in
         let p2 : Pen = layout due_semicolon p1 in
         let h = if_head c t f place p l z k in

@@ -1,5 +1,6 @@
 -- Declarators and declarations.
-use Rattle.std.proofs.Common.{◌≡◌, ℕ, Bool, true, codes, List, [], ◌∷◌, refl, sym, ◌∙◌}
+use Rattle.std.proofs.Common.{◌≡◌, ℕ, Bool, true, false, codes, List, [], ◌∷◌, refl, sym, ◌∙◌, subst}
+use Rattle.std.proofs.lemmas.Bool.{both_ways}
 use Rattle.jsgen_syntax.specs.declared.precedence.Precedence.TheVariants as levels
 use Rattle.jsgen_syntax.specs.Name.{spells_name}
 use Rattle.jsgen_tree.specs.Job.{Tables}
@@ -14,23 +15,24 @@ use Rattle.jsgen_tree.specs.Nodes as tree
 use Rattle.jsgen_model.specs.Tokens.{Tokens, done, piece, Word}
 use Rattle.jsgen_model.specs.Items.{Items, ◌⊕◌, word, soft_space}
 use Rattle.jsgen_model.specs.Layout.{Pen, layout}
-use Rattle.jsgen_model.specs.Grammar.{Allowed, ReadsBinding, ReadsDeclarator, ReadsDeclarators, ReadsDeclaration, ReadsItem, with_in}
+use Rattle.jsgen_model.specs.Grammar.{Allowed, ReadsDeclarator, ReadsDeclarators, ReadsVariables, EndsBy, is_var, with_in}
 use Rattle.jsgen_model.specs.Grammar as grammar
 use Rattle.jsgen_model.specs.Normal.{normal, normal_maybe, nothing_of, declared_as}
 use Rattle.jsgen_model.specs.Renamed.{renamed, renamed_maybe}
 use Rattle.jsgen_model.specs.Spell.{Settings, Place, spell_list, among_statements, behind}
+use Rattle.jsgen_model.specs.Valid.{is_lexical_word}
 use Rattle.jsgen_token_laws.proofs.Characters.{letters_spelled}
-use Rattle.jsgen_token_laws.proofs.Last.{Last, After, line_of}
+use Rattle.jsgen_token_laws.proofs.Last.{Last, After, line_of, Knows}
 use Rattle.jsgen_token_laws.proofs.Writes.{Writes, wrote_both}
 use Rattle.jsgen_token_laws.proofs.Steps.{Soft, wrote_word, soft_space_written}
 use Rattle.jsgen_reading_laws.proofs.Levels.{under}
-use Rattle.jsgen_reading_laws.proofs.Families.{IsBinding, IsValue, IsDeclarator, AreDeclarators}
+use Rattle.jsgen_reading_laws.proofs.Families.{IsDeclarator, AreDeclarators}
 use Rattle.jsgen_reading_laws.proofs.Families as family
 use Rattle.jsgen_reading_laws.proofs.Good.{operand_ready}
-use Rattle.jsgen_reading_laws.proofs.Lists.{Elements, ElementAt, ElementsAt, MoreAt, Joins, no_more, one_more, whole_list}
+use Rattle.jsgen_reading_laws.proofs.Lists.{Element, Elements, ElementAt, ElementsAt, MoreAt, Joins, no_more, one_more, whole_list}
 use Rattle.jsgen_reading_laws.proofs.Bindings.{Holds, good_held, bound}
 use Rattle.jsgen_reading_laws.proofs.Expressions.{printed_value}
-use Rattle.jsgen_reading_laws.proofs.Stands.{Unended, UnendedAt, Listed, SameTree, whole_line}
+use Rattle.jsgen_reading_laws.proofs.Stands.{Unended, UnendedAt, ReadsClosed, Stated, stated_among, Listed, SameTree, whole_line}
 
 -- ---- declarators
 
@@ -61,40 +63,57 @@ declared {names} {c} (family.a_declarator {a} {b} {m} h v w) place = good_held c
 declarators_join : (c : Allowed) → Joins (ReadsDeclarator c) (ReadsDeclarators c)
 declarators_join c = record { one = λ ts d r. grammar.last_declarator r; first = λ mark a b d ds r s. grammar.first_declarator mark refl r s }
 
--- ---- declarations
+-- ---- declarations without their end
 
 -- the kind's word is a name, and the declaration is read with it
-kind_spelled : (k : VariableDeclarationKind) → spells_name (declaration_word k) ≡ true
+pub kind_spelled : (k : VariableDeclarationKind) → spells_name (declaration_word k) ≡ true
 kind_spelled kinds.Const = letters_spelled 99 (codes "onst") refl
+kind_spelled kinds.Let = letters_spelled 108 (codes "et") refl
+kind_spelled kinds.Var = letters_spelled 118 (codes "ar") refl
 
-kind_reads : (k : VariableDeclarationKind) (c : Allowed) (line : Bool) (ts : Tokens) (ds : Trees) → ReadsDeclarators c ts ds → ReadsDeclaration c (piece line (Word (declaration_word k)) ts) (tree.variable_declaration (declared_as k) ds)
-kind_reads kinds.Const c line ts ds r = grammar.a_const r
+kind_reads : (k : VariableDeclarationKind) (c : Allowed) (line : Bool) (ts : Tokens) (ds : Trees) → ReadsDeclarators c ts ds → ReadsVariables c k (piece line (Word (declaration_word k)) ts) (tree.variable_declaration (declared_as k) ds)
+kind_reads kinds.Const c line ts ds r = grammar.some_variables r
+kind_reads kinds.Let c line ts ds r = grammar.some_variables r
+kind_reads kinds.Var c line ts ds r = grammar.some_variables r
 
-declaration_parts : {names : Tables} (c : Allowed) (a : Atoms) (ds : Trees) (p p1 p2 q : Pen) (l : Last) → variable_declaration_declare a ≡ no_value → Writes names p l p1 (After (Word (declaration_word (variable_declaration_kind a)))) (piece (line_of l) (Word (declaration_word (variable_declaration_kind a))) done) → (n : Soft names p1 (After (Word (declaration_word (variable_declaration_kind a)))) p2) → Elements names (ReadsDeclarators (with_in c)) p2 n.last q ds
-    → Unended names (ReadsItem c) (SameTree names (tree.variable_declaration a ds)) p l q
-declaration_parts c a ds p p1 p2 q l m o n g = record {
+-- one kind alone is not lexical
+lexical_is_no_var : (k : VariableDeclarationKind) → is_lexical_word k ≡ true → is_var k ≡ false
+lexical_is_no_var kinds.Var h = absurd (both_ways false refl h)
+lexical_is_no_var k h = refl
+
+other_is_var : (k : VariableDeclarationKind) → is_lexical_word k ≡ false → k ≡ kinds.Var
+other_is_var kinds.Var h = refl
+other_is_var k h = absurd (both_ways true h refl)
+
+variables_parts : {names : Tables} (c : Allowed) (a : Atoms) (ds : Trees) (p p1 p2 q : Pen) (l : Last) → variable_declaration_declare a ≡ no_value → Writes names p l p1 (After (Word (declaration_word (variable_declaration_kind a)))) (piece (line_of l) (Word (declaration_word (variable_declaration_kind a))) done) → (n : Soft names p1 (After (Word (declaration_word (variable_declaration_kind a)))) p2) → Elements names (ReadsDeclarators c) p2 n.last q ds
+    → Element names (ReadsVariables c (variable_declaration_kind a)) p l q (tree.variable_declaration a ds)
+variables_parts c a ds p p1 p2 q l m o n g = record {
   last = g.last;
   tokens = piece (line_of l) (Word (declaration_word (variable_declaration_kind a))) g.tokens;
   writes = wrote_both o (wrote_both n.writes g.writes);
-  ready = operand_ready g.last g.operand;
+  operand = g.operand;
   semicolon = g.semicolon;
-  reading = tree.variable_declaration (declared_as (variable_declaration_kind a)) g.trees;
-  reads = record { read = λ e ts h. grammar.a_declaration h (kind_reads (variable_declaration_kind a) (with_in c) (line_of l) g.tokens g.trees g.reads) };
+  tree = tree.variable_declaration (declared_as (variable_declaration_kind a)) g.trees;
+  reads = kind_reads (variable_declaration_kind a) c (line_of l) g.tokens g.trees g.reads;
   same = λ i. tree.variable_declaration (bare (declaration_kind (variable_declaration_kind a) ∷ sym m i ∷ [])) (g.same i);
 }
 
-abbrev declaration_items : Atoms → Trees → Place → Items
+abbrev pub declaration_items : Atoms → Trees → Place → Items
 declaration_items a ds place = word (declaration_word (variable_declaration_kind a)) ⊕ (soft_space ⊕ spell_list ds (behind levels.Lowest place))
 
-declaration_unended : {names : Tables} (c : Allowed) (a : Atoms) (ds : Trees) (settings : Settings) → variable_declaration_declare a ≡ no_value → ListDeclaredAt names c (behind levels.Lowest (among_statements settings)) ds → UnendedAt names (ReadsItem c) (SameTree names (tree.variable_declaration a ds)) (declaration_items a ds (among_statements settings))
-declaration_unended c a ds settings m f p l z y k =
+-- printed at one place, in a loop's head or among statements, and read with its kind
+abbrev pub VariablesAt : Tables → Allowed → Place → Atoms → Trees → Type 0
+VariablesAt names c place a ds = (p : Pen) (l : Last) → p.pending_semicolon ≡ false → Knows names p l → Element names (ReadsVariables (under place c) (variable_declaration_kind a)) p l (layout (declaration_items a ds place) p) (tree.variable_declaration a ds)
+
+good_variables : {names : Tables} (c : Allowed) (a : Atoms) (ds : Trees) (place : Place) → variable_declaration_declare a ≡ no_value → ListDeclaredAt names c (behind levels.Lowest place) ds → VariablesAt names c place a ds
+good_variables c a ds place m f p l z k =
     let w : List ℕ = declaration_word (variable_declaration_kind a) in
     let p1 : Pen = layout (word w) p in
     let p2 : Pen = layout soft_space p1 in
     let o = wrote_word w p l (kind_spelled (variable_declaration_kind a)) k in
     let n = soft_space_written p1 (After (Word w)) o.knows in
     let g = f p2 n.last (n.semicolon ∙ z) (n.begun tt) n.writes.knows in
-    declaration_parts c a ds p p1 p2 (layout (spell_list ds (behind levels.Lowest (among_statements settings))) p2) l m o n g
+    variables_parts (under place c) a ds p p1 p2 (layout (spell_list ds (behind levels.Lowest place)) p2) l m o n g
 
 -- ---- the families
 
@@ -111,5 +130,32 @@ list_declared {names} {c} (family.first_declarator {d} {e} {ds} v w) place =
     let m = (list_declared w place).1 in
     (whole_list (ReadsDeclarator d1) (ReadsDeclarators d1) place d (more e ds) f m, one_more (ReadsDeclarator d1) (ReadsDeclarators d1) (declarators_join d1) place d (more e ds) f m)
 
-pub listed_declaration : {names : Tables} {c : Allowed} {ds : Trees} (a : Atoms) → variable_declaration_declare a ≡ no_value → AreDeclarators names c ds → Listed names c (tree.variable_declaration a ds)
-listed_declaration {names} {c} {ds} a m v settings = whole_line (declaration_items a ds (among_statements settings)) (declaration_unended c a ds settings m (list_declared v (behind levels.Lowest (among_statements settings))).0)
+pub variables_stated : {names : Tables} {c : Allowed} {ds : Trees} (a : Atoms) → variable_declaration_declare a ≡ no_value → AreDeclarators names c ds → (place : Place) → VariablesAt names c place a ds
+variables_stated {c = c} {ds} a m v place = good_variables c a ds place m (list_declared v (behind levels.Lowest place)).0
+
+-- ---- declarations and `var` among statements
+
+unended_variables : {names : Tables} {R : Bool → Tokens → Tree → Type 0} {p q : Pen} {l : Last} (c : Allowed) (a : Atoms) (ds : Trees) → ((last : Bool) (ts b : Tokens) (t : Tree) → EndsBy last ts b → ReadsVariables (with_in c) (variable_declaration_kind a) b t → R last ts t) → Element names (ReadsVariables (with_in c) (variable_declaration_kind a)) p l q (tree.variable_declaration a ds) → Unended names R (SameTree names (tree.variable_declaration a ds)) p l q
+unended_variables c a ds f g = record {
+  last = g.last;
+  tokens = g.tokens;
+  writes = g.writes;
+  ready = operand_ready g.last g.operand;
+  semicolon = g.semicolon;
+  reading = g.tree;
+  reads = record { read = λ last ts h. f last ts g.tokens g.tree h g.reads };
+  same = g.same;
+}
+
+pub listed_declaration : {names : Tables} {c : Allowed} {ds : Trees} (a : Atoms) → is_lexical_word (variable_declaration_kind a) ≡ true → variable_declaration_declare a ≡ no_value → AreDeclarators names c ds → Listed names c (tree.variable_declaration a ds)
+listed_declaration {names} {c} {ds} a h m v settings =
+    let place : Place = among_statements settings in
+    let kind : VariableDeclarationKind = variable_declaration_kind a in
+    whole_line (declaration_items a ds place) (λ p l z y k. unended_variables c a ds (λ last ts b t e r. grammar.a_declaration kind (lexical_is_no_var kind h) e r) (variables_stated a m v place p l z k))
+
+pub good_variable_statement : {names : Tables} {c : Allowed} {ds : Trees} (a : Atoms) → is_lexical_word (variable_declaration_kind a) ≡ false → variable_declaration_declare a ≡ no_value → AreDeclarators names c ds → Stated names c (tree.variable_declaration a ds)
+good_variable_statement {names} {c} {ds} a h m v = stated_among refl (λ settings. whole_line (declaration_items a ds (among_statements settings)) (inside settings))
+  where
+    inside : (settings : Settings) → UnendedAt names (ReadsClosed c false) (SameTree names (tree.variable_declaration a ds)) (declaration_items a ds (among_statements settings))
+    inside settings p l z y k =
+        unended_variables c a ds (λ last ts b t e r before_else n. grammar.a_variable_statement e (subst (λ kind. ReadsVariables (with_in c) kind b t) (other_is_var (variable_declaration_kind a) h) r)) (variables_stated a m v (among_statements settings) p l z k)

@@ -5,14 +5,6 @@ use Rattle.jsgen_syntax.specs.Strings.{quoted, escaped, string_value}
 use Rattle.jsgen_syntax.specs.Wtf8.{are_units}
 use Rattle.jsgen_syntax.specs.declared.quote.Quote.{Quote}
 use Rattle.jsgen_syntax.specs.declared.quote.Quote.TheVariants.{Backtick}
-use Rattle.jsgen_syntax.specs.declared.operator.BinaryOperator.{BinaryOperator}
-use Rattle.jsgen_syntax.specs.declared.operator.BinaryOperator.TheVariants as operators
-use Rattle.jsgen_syntax.specs.declared.operator.UnaryOperator.{UnaryOperator}
-use Rattle.jsgen_syntax.specs.declared.operator.UnaryOperator.TheVariants as unary_operators
-use Rattle.jsgen_syntax.specs.declared.operator.UpdateOperator.{UpdateOperator}
-use Rattle.jsgen_syntax.specs.declared.operator.UpdateOperator.TheVariants as update_operators
-use Rattle.jsgen_syntax.specs.declared.operator.AssignmentOperator.{AssignmentOperator}
-use Rattle.jsgen_syntax.specs.declared.operator.AssignmentOperator.TheVariants as assignment_operators
 use Rattle.jsgen_syntax.proofs.Strings.{escaped_value}
 use Rattle.jsgen_tree.specs.Job.{Tables}
 use Rattle.jsgen_tree.specs.Inside.{without_parentheses}
@@ -20,11 +12,11 @@ use Rattle.jsgen_tree.specs.Atom.{units}
 use Rattle.jsgen_tree.specs.Tree.{Tree, Trees, no_trees, more, Atoms}
 use Rattle.jsgen_tree.specs.Places.{bare}
 use Rattle.jsgen_tree.specs.Nodes as tree
-use Rattle.jsgen_model.specs.Punctuator.{dot, question_dot, comma, star_star, and_and, or_or, nullish, question, arrow, semicolon, Round, Square, opening, closing}
+use Rattle.jsgen_model.specs.Punctuator.{semicolon, Round, opening, closing}
 use Rattle.jsgen_model.specs.Tokens.{Tokens, done, piece, group, ◌⧺◌, Quoted, Sign}
 use Rattle.jsgen_model.specs.Items.{Items, first_string, due_semicolon}
 use Rattle.jsgen_model.specs.Layout.{Pen, layout, written, other_end}
-use Rattle.jsgen_model.specs.Grammar.{Allowed, Level, EndsBy, ReadsExpression, ReadsArrowParameters, ReadsChain, ReadsChainBase, ReadsStatement, ReadsItem, ReadsBody, operator_piece, unary_piece, update_sign, assignment_sign, starts_with_directive}
+use Rattle.jsgen_model.specs.Grammar.{Allowed, EndsBy, ReadsStatement, ReadsItem, ReadsBody, starts_with_directive}
 use Rattle.jsgen_model.specs.Grammar as grammar
 use Rattle.jsgen_model.specs.Normal.{normal, nothing_of}
 use Rattle.jsgen_model.specs.Renamed.{renamed, renamed_trees}
@@ -33,142 +25,17 @@ use Rattle.jsgen_token_laws.proofs.Last.{Last, Open, After, line_of}
 use Rattle.jsgen_token_laws.proofs.Writes.{wrote_none, wrote_both, wrote_brackets, then_assoc}
 use Rattle.jsgen_token_laws.proofs.Steps.{gap, none_due, wrote_quoted, within_brackets}
 use Rattle.jsgen_reading_laws.proofs.Levels.{from_primary}
-use Rattle.jsgen_reading_laws.proofs.Families.{IsExpression, IsItem, AreStatements}
+use Rattle.jsgen_reading_laws.proofs.Families.{IsItem, AreStatements}
 use Rattle.jsgen_reading_laws.proofs.Families as family
 use Rattle.jsgen_reading_laws.proofs.Asked.{is_string, asked}
+use Rattle.jsgen_reading_laws.proofs.Openings.{Opens, opens}
 use Rattle.jsgen_reading_laws.proofs.Lists.{same_more}
 use Rattle.jsgen_reading_laws.proofs.Ends.{Ended, at_brace, ends_itself, ends_since, ended_more}
 use Rattle.jsgen_reading_laws.proofs.Stands.{Stands, Unended, StandsAt, UnendedAt, Listed, SameTree, SameTrees, stands_since, blank_before, whole_line}
 use Rattle.jsgen_reading_laws.proofs.Rows.{GoodRest}
 use Rattle.jsgen_reading_laws.proofs.Statements.{listed, rows}
 
--- ---- what an expression begins with
-
--- no expression is without tokens, and what is a string alone is read as one
-abbrev Opens : Tokens → Tree → Type 0
-Opens done t = ⊥
-Opens (piece m (Quoted q w) done) t = is_string (normal t) ≡ true
-Opens (piece m (Quoted q w) (piece n (Sign semicolon) ts)) t = ⊥
-Opens ts t = Unit {0}
-
--- what may stand behind an operand: neither nothing nor a semicolon
-abbrev Goes : Tokens → Type 0
-Goes done = ⊥
-Goes (piece m (Sign semicolon) ts) = ⊥
-Goes ts = Unit {0}
-
-quoted_goes : (m : Bool) (q : Quote) (w : List ℕ) (b : Tokens) (u : Tree) → Goes b → Opens (piece m (Quoted q w) b) u
-quoted_goes m q w done u g = absurd g
-quoted_goes m q w (piece n (Sign semicolon) ts) u g = absurd g
-quoted_goes m q w b u g = tt
-
-opens_more : (a b : Tokens) (t u : Tree) → Opens a t → Goes b → Opens (a ⧺ b) u
-opens_more done b t u h g = absurd h
-opens_more (piece m (Quoted q w) done) b t u h g = quoted_goes m q w b u g
-opens_more (piece m (Quoted q w) (piece n (Sign semicolon) ts)) b t u h g = absurd h
-opens_more a b t u h g = tt
-
-operator_goes : (o : BinaryOperator) (m : Bool) (b : Tokens) → Goes (piece m (operator_piece o) b)
-operator_goes operators.Equality m b = tt
-operator_goes o m b = tt
-
-opens_behind : (ts a b : Tokens) (t u : Tree) → ts ≡ a ⧺ b → Opens a t → Goes b → Opens ts u
-opens_behind ts a b t u e h g = subst (λ x. Opens x u) (sym e) (opens_more a b t u h g)
-
-unary_opens : (o : UnaryOperator) (m : Bool) (b : Tokens) (t : Tree) → Opens (piece m (unary_piece o) b) t
-unary_opens unary_operators.UnaryPlus m b t = tt
-unary_opens o m b t = tt
-
-update_goes : (o : UpdateOperator) (m : Bool) (b : Tokens) → Goes (piece m (Sign (update_sign o)) b)
-update_goes update_operators.Increment m b = tt
-update_goes update_operators.Decrement m b = tt
-
-assignment_goes : (o : AssignmentOperator) (m : Bool) (b : Tokens) → Goes (piece m (Sign (assignment_sign o)) b)
-assignment_goes assignment_operators.Assign m b = tt
-assignment_goes o m b = tt
-
-parameters_open : {c : Allowed} {ts : Tokens} {t : Tree} → ReadsArrowParameters c ts t → Opens ts t
-parameters_open (grammar.a_parameter_name e h) = tt
-parameters_open (grammar.grouped_parameters r) = tt
-
--- what a chain begins with is what it goes on from
-mutual
-  opens : {c : Allowed} {g : Level} {ts : Tokens} {t : Tree} → ReadsExpression c g ts t → Opens ts t
-  opens (grammar.an_assignment r) = opens r
-  opens (grammar.a_sequence {a = a} {t = t} m e r s) = opens_behind _ a (piece m (Sign comma) _) t _ e (opens r) tt
-  opens (grammar.an_assignment_to {a = a} {t = t} o m e r s w) = opens_behind _ a (piece m (Sign (assignment_sign o)) _) t _ e (opens r) (assignment_goes o m _)
-  opens (grammar.a_conditional r) = opens r
-  opens (grammar.a_short_circuit r) = opens r
-  opens (grammar.a_logical_or r) = opens r
-  opens (grammar.a_logical_and r) = opens r
-  opens (grammar.a_bit_or r) = opens r
-  opens (grammar.a_bit_xor r) = opens r
-  opens (grammar.a_bit_and r) = opens r
-  opens (grammar.an_equality r) = opens r
-  opens (grammar.a_relation r) = opens r
-  opens (grammar.a_shift r) = opens r
-  opens (grammar.an_additive r) = opens r
-  opens (grammar.a_multiplicative r) = opens r
-  opens (grammar.an_exponent r) = opens r
-  opens (grammar.a_unary r) = opens r
-  opens (grammar.an_update r) = opens r
-  opens (grammar.a_left_hand_side r) = opens r
-  opens (grammar.a_new r) = opens r
-  opens (grammar.a_call r) = opens r
-  opens (grammar.a_member r) = opens r
-  opens (grammar.a_primary r) = opens r
-  opens (grammar.a_called_member r) = opens r
-  opens (grammar.a_called_call r) = opens r
-  opens (grammar.a_coalesce r) = opens r
-  opens (grammar.a_coalesced_head r) = opens r
-  opens (grammar.a_bit_or_head r) = opens r
-  opens (grammar.an_operation {a = a} {l = l} o m p q e r s) = opens_behind _ a (piece m (operator_piece o) _) l _ e (opens r) (operator_goes o m _)
-  opens (grammar.a_power {a = a} {l = l} m e r s) = opens_behind _ a (piece m (Sign star_star) _) l _ e (opens r) tt
-  opens (grammar.a_conjunction {a = a} {l = l} m e r s) = opens_behind _ a (piece m (Sign and_and) _) l _ e (opens r) tt
-  opens (grammar.a_disjunction {a = a} {l = l} m e r s) = opens_behind _ a (piece m (Sign or_or) _) l _ e (opens r) tt
-  opens (grammar.a_coalescing {a = a} {l = l} m e r s) = opens_behind _ a (piece m (Sign nullish) _) l _ e (opens r) tt
-  opens (grammar.a_choice {a = a} {x = x} m n e r s t) = opens_behind _ a (piece m (Sign question) _) x _ e (opens r) tt
-  opens (grammar.a_named_member {a = a} {o = o} w m n e v r) = opens_behind _ a (piece m (Sign dot) _) o _ e (opens r) tt
-  opens (grammar.a_computed_member {a = a} {o = o} m e r s) = opens_behind _ a (group m Square _ done) o _ e (opens r) tt
-  opens (grammar.with_arguments {a = a} {f = f} m e r s) = opens_behind _ a (group m Round _ done) f _ e (opens r) tt
-  opens (grammar.a_named_member_of_call {a = a} {o = o} w m n e v r) = opens_behind _ a (piece m (Sign dot) _) o _ e (opens r) tt
-  opens (grammar.a_computed_member_of_call {a = a} {o = o} m e r s) = opens_behind _ a (group m Square _ done) o _ e (opens r) tt
-  opens (grammar.a_unary_operation {mark = m} o r) = unary_opens o m _ _
-  opens (grammar.an_update_before o r s) = tt
-  opens (grammar.an_update_behind {a = a} {t = t} o e r s) = opens_behind _ a (piece false (Sign (update_sign o)) done) t _ e (opens r) (update_goes o false done)
-  opens (grammar.new_with_arguments m n e r s) = tt
-  opens (grammar.new_alone r) = tt
-  opens (grammar.a_named_member_of_super w m n l e) = tt
-  opens (grammar.a_computed_member_of_super r) = tt
-  opens (grammar.a_call_of_super r) = tt
-  opens grammar.a_new_target = tt
-  opens (grammar.a_reference e h) = tt
-  opens grammar.a_this = tt
-  opens grammar.a_null = tt
-  opens grammar.a_true = tt
-  opens grammar.a_false = tt
-  opens (grammar.a_number h) = tt
-  opens (grammar.a_big_integer e) = tt
-  opens (grammar.a_string e) = refl
-  opens (grammar.in_parentheses r) = tt
-  opens (grammar.an_optional_chain r) = chain_opens _ r
-  opens (grammar.an_array r) = tt
-  opens (grammar.an_object r) = tt
-  opens (grammar.an_arrow_function {a = a} {ps = ps} e r n s) = opens_behind _ a (piece false (Sign arrow) _) ps _ e (parameters_open r) tt
-
-  chain_opens : {c : Allowed} {ts : Tokens} {t : Tree} (u : Tree) → ReadsChain c ts t → Opens ts u
-  chain_opens u (grammar.an_optional_named_member {a = a} {o = o} w m n e v r) = opens_behind _ a (piece m (Sign question_dot) _) o _ e (base_opens r) tt
-  chain_opens u (grammar.an_optional_computed_member {a = a} {o = o} m n e r s) = opens_behind _ a (piece m (Sign question_dot) _) o _ e (base_opens r) tt
-  chain_opens u (grammar.an_optional_call {a = a} {f = f} m n e r s) = opens_behind _ a (piece m (Sign question_dot) _) f _ e (base_opens r) tt
-  chain_opens u (grammar.a_further_named_member {a = a} {o = o} w m n e v r) = opens_behind _ a (piece m (Sign dot) _) o _ e (chain_opens _ r) tt
-  chain_opens u (grammar.a_further_computed_member {a = a} {o = o} m e r s) = opens_behind _ a (group m Square _ done) o _ e (chain_opens _ r) tt
-  chain_opens u (grammar.a_further_call {a = a} {f = f} m e r s) = opens_behind _ a (group m Round _ done) f _ e (chain_opens _ r) tt
-
-  base_opens : {c : Allowed} {ts : Tokens} {t : Tree} → ReadsChainBase c ts t → Opens ts t
-  base_opens (grammar.a_first_link r) = opens r
-  base_opens (grammar.a_further_link r) = chain_opens _ r
-
--- whatever follows
+-- read as no directive, whatever follows
 abbrev pub Apart : Tokens → Type 0
 Apart ts = (r : Tokens) → starts_with_directive (ts ⧺ r) ≡ false
 
@@ -195,10 +62,23 @@ statement_apart grammar.an_empty_statement n = λ r. refl
 statement_apart (grammar.a_block r) n = λ x. refl
 statement_apart (grammar.an_if r s) n = λ x. refl
 statement_apart (grammar.an_if_with_else k e r s u) n = λ x. refl
+statement_apart (grammar.a_variable_statement h (grammar.some_variables r)) n = end_apart h (λ x. refl)
+statement_apart (grammar.a_for k l e r s t u) n = λ x. refl
+statement_apart (grammar.a_for_in k e r s t) n = λ x. refl
+statement_apart (grammar.a_for_of k e r s t) n = λ x. refl
+statement_apart (grammar.a_while r s) n = λ x. refl
+statement_apart (grammar.a_do_while k l h e r s) n = end_apart h (subst Apart (sym e) (λ x. refl))
+statement_apart (grammar.a_labelled_statement e h r) n = λ x. refl
+statement_apart (grammar.a_continue h r) n = end_apart h (λ x. refl)
+statement_apart (grammar.a_break h r) n = end_apart h (λ x. refl)
+statement_apart (grammar.a_throw h o r) n = end_apart h (λ x. refl)
+statement_apart (grammar.a_debugger h) n = end_apart h (λ x. refl)
+statement_apart (grammar.a_switch r s) n = λ x. refl
+statement_apart (grammar.a_try r s) n = λ x. refl
 
 item_apart : {c : Allowed} {last : Bool} {ts : Tokens} {u : Tree} → ReadsItem c last ts u → is_string_statement (normal u) ≡ false → Apart ts
 item_apart (grammar.a_statement r) n = statement_apart r n
-item_apart (grammar.a_declaration h (grammar.a_const r)) n = end_apart h (λ x. refl)
+item_apart (grammar.a_declaration kind k h (grammar.some_variables r)) n = end_apart h (λ x. refl)
 
 -- an item that is read as no directive
 abbrev pub First : Allowed → Bool → Tokens → Tree → Type 0
@@ -267,7 +147,7 @@ first_stated {names} {c} (family.a_statement (family.an_expression_statement {a}
     go (Some us) s = let k = (asked v).inside us s in whole_line (first_string us) (string_written c a e us settings k.0 k.1)
     go None s = no_string_first (tree.expression_statement a e) (listed (family.a_statement (family.an_expression_statement {a = a} v))) ((asked v).string ∙ ap is_some s) settings
 first_stated {t = t} (family.a_statement v) settings = no_string_first t (listed (family.a_statement v)) refl settings
-first_stated {t = t} (family.a_declaration {a} m v) settings = no_string_first t (listed (family.a_declaration {a = a} m v)) refl settings
+first_stated {t = t} (family.a_declaration {a} h m v) settings = no_string_first t (listed (family.a_declaration {a = a} h m v)) refl settings
 
 -- ---- the statements of a body
 

@@ -1,5 +1,5 @@
 -- One lemma for each type of expression.
-use Rattle.std.proofs.Common.{◌≡◌, ℕ, Bool, true, false, not, codes, Some, List, [], ◌∷◌, refl, ap}
+use Rattle.std.proofs.Common.{◌≡◌, ℕ, Bool, true, false, not, codes, Some, is_some, List, [], ◌∷◌, refl, sym, ap}
 use Rattle.std.proofs.lemmas.Bool.{both_ways}
 use Rattle.jsgen_syntax.specs.Escapes.{name_text, word_value}
 use Rattle.jsgen_syntax.specs.Name.{spells_name, is_free_name}
@@ -74,6 +74,7 @@ reference_target {names} c a h place p l z y k =
       refl,
       refl,
       grammar.a_new (grammar.a_member (grammar.a_primary (grammar.a_reference e h))),
+      λ n. absurd (both_ways false refl (ap is_some (sym n))),
     )
 
 pub good_reference : {names : Tables} (c : Allowed) (a : Atoms) → is_free_name (printed_name names (reference_named a)) ≡ true → Printed names c (tree.identifier_reference a)
@@ -260,7 +261,7 @@ mutual
   printed_parts {names} {c} family.no_part = no_more_parts c
   printed_parts {names} {c} (family.first_part {t} {ts} v w) = one_more_part c t ts (printed_expression v) (printed_parts w)
 
-  printed_target : {names : Tables} {c : Allowed} {t : Tree} → IsExpression names c t → is_simple_assignment_target (type_of t) ≡ true → TargetPrinted names c t
+  pub printed_target : {names : Tables} {c : Allowed} {t : Tree} → IsExpression names c t → is_simple_assignment_target (type_of t) ≡ true → TargetPrinted names c t
   printed_target {names} {c} (family.a_reference {a} h) s = reference_target c a h
   printed_target {names} {c} (family.a_named_member {a} {b} {o} m v h) s = named_target c a b o m h (printed_link v)
   printed_target {names} {c} (family.a_computed_member {a} {o} {e} m v w) s = computed_target c a o e m (printed_link v) (printed_expression w)

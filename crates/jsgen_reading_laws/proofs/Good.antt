@@ -1,7 +1,8 @@
 -- What is carried through the induction for expressions.
-use Rattle.std.proofs.Common.{◌≡◌, Bool, true, false, not, Some, codes, refl, sym, ap, ◌∙◌, subst}
+use Rattle.std.proofs.Common.{◌≡◌, Bool, true, false, not, Some, None, codes, refl, sym, ap, ◌∙◌, subst}
 use Rattle.std.proofs.lemmas.Bool.{both_ways}
 use Rattle.jsgen_tree.specs.Job.{Tables}
+use Rattle.jsgen_tree.specs.Inside.{looked_up_in}
 use Rattle.jsgen_tree.specs.Tree.{Tree}
 use Rattle.jsgen_tree.specs.Nodes as tree
 use Rattle.jsgen_model.specs.Punctuator.{plus_plus, minus_minus, Round, Brace, opening, closing}
@@ -56,9 +57,17 @@ Good names p l q c level start t = GoodAs names (ReadsExpression c level) p l q 
 abbrev pub Printed : Tables → Allowed → Tree → Type 0
 Printed names c t = (place : Place) (p : Pen) (l : Last) → p.pending_semicolon ≡ false → Ready l → Knows names p l → Good names p l (layout (spell t place) p) (under place c) (level_of place) place.start t
 
--- and read as a simple target, which no line end follows; it is a left-hand side at any level
+-- the tokens are one word
+abbrev pub is_word_alone : Tokens → Bool
+is_word_alone (piece mark (Word w) done) = true
+is_word_alone ts = false
+
+-- Between two pens stands a simple target, which no line end follows; it is a left-hand side at any level, and one word only where it is a name.
+abbrev pub TargetAt : Tables → Pen → Last → Pen → Allowed → Place → Tree → Type 0
+TargetAt names p l q c place t = (g : Good names p l q (under place c) (level_of place) place.start t) × (simple_target g.tree ≡ Some g.tree) × (line_of g.last ≡ false) × ReadsExpression (under place c) grammar.LeftHandSide g.tokens g.tree × (looked_up_in t ≡ None → is_word_alone g.tokens ≡ false)
+
 abbrev pub TargetPrinted : Tables → Allowed → Tree → Type 0
-TargetPrinted names c t = (place : Place) (p : Pen) (l : Last) → p.pending_semicolon ≡ false → Ready l → Knows names p l → (g : Good names p l (layout (spell t place) p) (under place c) (level_of place) place.start t) × (simple_target g.tree ≡ Some g.tree) × (line_of g.last ≡ false) × ReadsExpression (under place c) grammar.LeftHandSide g.tokens g.tree
+TargetPrinted names c t = (place : Place) (p : Pen) (l : Last) → p.pending_semicolon ≡ false → Ready l → Knows names p l → TargetAt names p l (layout (spell t place) p) c place t
 
 pub operand_ready : (l : Last) → Operand l → Ready l
 operand_ready (Open line) o = tt

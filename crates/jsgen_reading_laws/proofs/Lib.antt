@@ -1,5 +1,6 @@
 pub mod Levels
 pub mod Families
+pub mod Valid
 pub mod Numbers
 pub mod Freed
 pub mod Good
@@ -7,6 +8,7 @@ pub mod Names
 pub mod Lists
 pub mod Elements
 pub mod Asked
+pub mod Openings
 pub mod Operations
 pub mod Joined
 pub mod Chains
@@ -31,7 +33,15 @@ pub mod Stands
 pub mod Declarations
 pub mod Rows
 pub mod Blocks
+pub mod Bodies
+pub mod Heads
+pub mod Whiles
+pub mod Jumps
+pub mod Parentheses
 pub mod Branches
+pub mod Loops
+pub mod Switches
+pub mod Tries
 pub mod Statements
 pub mod Directives
 pub mod Prologue

@@ -14,7 +14,7 @@ use Rattle.jsgen_model.specs.Punctuator.{dot, ellipsis, Round, Square, opening, 
 use Rattle.jsgen_model.specs.Tokens.{Tokens, done, piece, group, ◌⧺◌, Word, Sign}
 use Rattle.jsgen_model.specs.Items.{Items, ◌⊕◌, brackets, member_dot, name, punctuator}
 use Rattle.jsgen_model.specs.Layout.{Pen, Start, other_end, layout, written, unless_printed}
-use Rattle.jsgen_model.specs.Grammar.{Allowed, Level, ReadsExpression, ReadsElement, ReadsArguments, ReadsArgumentList, with_in, is_word, on_same_line, simple_target}
+use Rattle.jsgen_model.specs.Grammar.{Allowed, Level, ReadsExpression, ReadsElement, ReadsArguments, ReadsArgumentList, with_in, is_word, on_same_line}
 use Rattle.jsgen_model.specs.Grammar as grammar
 use Rattle.jsgen_model.specs.Normal.{normal, normal_trees, nothing_of, named, link_values, call_values}
 use Rattle.jsgen_model.specs.Renamed.{renamed, renamed_trees}
@@ -25,7 +25,7 @@ use Rattle.jsgen_token_laws.proofs.Last.{Last, Open, After, line_of, Operand, Re
 use Rattle.jsgen_token_laws.proofs.Writes.{Writes, wrote_none, wrote_both}
 use Rattle.jsgen_token_laws.proofs.Steps.{wrote_word, wrote_written_name, wrote_dot, wrote_dots, within_brackets, brackets_written}
 use Rattle.jsgen_reading_laws.proofs.Levels.{number_of, operation_number, left_hand_side, level_of, under, weaken_member, read_left, lifted, unwrapped, from_left}
-use Rattle.jsgen_reading_laws.proofs.Good.{Good, Printed, TargetPrinted, may_begin, begins_then, line_then, good_wrapped}
+use Rattle.jsgen_reading_laws.proofs.Good.{Good, Printed, TargetAt, TargetPrinted, is_word_alone, may_begin, begins_then, line_then, good_wrapped}
 use Rattle.jsgen_reading_laws.proofs.Prefixes.{word_begins}
 use Rattle.jsgen_reading_laws.proofs.Lists.{Elements, ElementAt, GivesMore, MoreAt, Joins, none_behind, one_behind, no_more, one_more, first_and_others}
 
@@ -99,9 +99,16 @@ link_super c a place p l z y k =
 
 -- ---- members
 
--- what stands between the pens may be changed, and no line end follows it
-abbrev TargetAt : Tables → Pen → Last → Pen → Allowed → Place → Tree → Type 0
-TargetAt names p l q c place t = (g : Good names p l q (under place c) (level_of place) place.start t) × (simple_target g.tree ≡ Some g.tree) × (line_of g.last ≡ false) × ReadsExpression (under place c) grammar.LeftHandSide g.tokens g.tree
+-- with a link behind it, nothing is one word
+with_name_behind : (a : Tokens) (mark : Bool) (b : Tokens) → is_word_alone (a ⧺ piece mark (Sign dot) b) ≡ false
+with_name_behind done mark b = refl
+with_name_behind (piece m (Word w) done) mark b = refl
+with_name_behind a mark b = refl
+
+with_group_behind : (a : Tokens) (mark : Bool) (inside : Tokens) → is_word_alone (a ⧺ group mark Square inside done) ≡ false
+with_group_behind done mark inside = refl
+with_group_behind (piece m (Word w) done) mark inside = refl
+with_group_behind a mark inside = refl
 
 pub named_target : {names : Tables} (c : Allowed) (a b : Atoms) (o : Tree) → static_member_expression_optional a ≡ false → spells_name (identifier_name_name b) ≡ true → LinkPrinted names c o → TargetPrinted names c (tree.static_member a o (tree.identifier_name b))
 named_target {names} c a b o m h f place p l z y k =
@@ -129,6 +136,7 @@ named_target {names} c a b o m h f place p l z y k =
       refl,
       refl,
       read_left place.context.forbids_call (g.named w v (line_of g.last) false x),
+      λ e. with_name_behind g.tokens (line_of g.last) (piece false (Word w) done),
     )
 
 pub good_named_member : {names : Tables} (c : Allowed) (a b : Atoms) (o : Tree) → static_member_expression_optional a ≡ false → spells_name (identifier_name_name b) ≡ true → LinkPrinted names c o → Printed names c (tree.static_member a o (tree.identifier_name b))
@@ -141,7 +149,7 @@ key_place place = quoted_plainly place.plain_quotes (in_brackets levels.Lowest p
 same_member : (a : Atoms) (u v x y : Tree) → computed_member_expression_optional a ≡ false → normal u ≡ normal x → normal v ≡ normal y → normal (tree.computed_member (link_values false) u v) ≡ normal (tree.computed_member a x y)
 same_member a u v x y m e f = λ i. tree.computed_member (link_values (sym m i)) (e i) (f i)
 
-computed_parts : {names : Tables} (c : Allowed) (a : Atoms) (o x : Tree) (place : Place) (p p1 q : Pen) (l : Last) → computed_member_expression_optional a ≡ false → (g : Linkable names p l p1 (under place c) place.context.forbids_call place.start o) → Good names (written (opening Square) other_end p1) (Open false) q (with_in c) grammar.Expression (key_place place).start x → (r : Good names p l (written (closing Square) other_end q) (under place c) (level_of place) place.start (tree.computed_member a o x)) × (simple_target r.tree ≡ Some r.tree) × (line_of r.last ≡ false) × ReadsExpression (under place c) grammar.LeftHandSide r.tokens r.tree
+computed_parts : {names : Tables} (c : Allowed) (a : Atoms) (o x : Tree) (place : Place) (p p1 q : Pen) (l : Last) → computed_member_expression_optional a ≡ false → (g : Linkable names p l p1 (under place c) place.context.forbids_call place.start o) → Good names (written (opening Square) other_end p1) (Open false) q (with_in c) grammar.Expression (key_place place).start x → TargetAt names p l (written (closing Square) other_end q) c place (tree.computed_member a o x)
 computed_parts {names} c a o x place p p1 q l m g h = (
   record {
     last = Open false;
@@ -158,6 +166,7 @@ computed_parts {names} c a o x place p p1 q l m g h = (
   refl,
   refl,
   read_left place.context.forbids_call (g.computed (line_of g.last) h.tokens h.tree h.reads),
+  λ e. with_group_behind g.tokens (line_of g.last) h.tokens,
 )
 
 pub computed_target : {names : Tables} (c : Allowed) (a : Atoms) (o x : Tree) → computed_member_expression_optional a ≡ false → LinkPrinted names c o → Printed names c x → TargetPrinted names c (tree.computed_member a o x)

@@ -5,7 +5,7 @@ use Rattle.jsgen_syntax.specs.declared.operator.LogicalOperator.{LogicalOperator
 use Rattle.jsgen_tree.specs.Atom.{no_value, declaration_kind, binary_operator, logical_operator, unary_operator, update_operator, assignment_operator, flag, property_kind}
 use Rattle.jsgen_tree.specs.Tree.{Tree, node, Slots, no_slots, one, maybe, many, maybe_many, Maybe, absent, given, Trees, no_trees, more, hole, MaybeTrees, no_list, listed}
 use Rattle.jsgen_tree.specs.Places.{bare}
-use Rattle.jsgen_tree.specs.Values.{variable_declaration_kind, variable_declaration_declare, variable_declarator_definite, static_member_expression_optional, computed_member_expression_optional, call_expression_optional, binary_expression_operator, logical_expression_operator, unary_expression_operator, update_expression_operator, update_expression_prefix, identifier_name_name, numeric_literal_kind, numeric_literal_negative, big_int_literal_value, object_property_kind, object_property_method, object_property_shorthand, object_property_computed, assignment_expression_operator, formal_parameter_is_override, formal_parameter_readonly, formal_parameter_optional, arrow_function_expression_is_async}
+use Rattle.jsgen_tree.specs.Values.{variable_declaration_kind, variable_declaration_declare, variable_declarator_definite, for_of_statement_is_await, static_member_expression_optional, computed_member_expression_optional, call_expression_optional, binary_expression_operator, logical_expression_operator, unary_expression_operator, update_expression_operator, update_expression_prefix, identifier_name_name, numeric_literal_kind, numeric_literal_negative, big_int_literal_value, object_property_kind, object_property_method, object_property_shorthand, object_property_computed, assignment_expression_operator, formal_parameter_is_override, formal_parameter_readonly, formal_parameter_optional, arrow_function_expression_is_async}
 use Rattle.jsgen_tree.specs.Inside.{ends_open, written_name_in, is_proto, after_minus, unless_minus, behind_minus, is_negative_number}
 use Rattle.jsgen_tree.specs.Nodes as tree
 use Rattle.std.proofs.lemmas.Bool.{both_ways}
@@ -150,6 +150,21 @@ mutual
   normal_again (tree.block a body) = ap (λ ts. tree.block (nothing_of 0) ts) (normal_trees_again body)
   normal_again (tree.if_statement a test consequent alternate) = let e = normal_again test in let f = unbraced_again (normal consequent) (normal_again consequent) in let g = normal_maybe_again alternate in λ i. tree.if_statement (nothing_of 0) (e i) (f i) (g i)
   normal_again (tree.empty_statement a) = refl
+  normal_again (tree.for_statement a init test update_child body) = let e = normal_maybe_again init in let f = normal_maybe_again test in let g = normal_maybe_again update_child in let h = normal_again body in λ i. tree.for_statement (nothing_of 0) (e i) (f i) (g i) (h i)
+  normal_again (tree.for_in_statement a left right body) = let e = normal_again left in let f = normal_again right in let g = normal_again body in λ i. tree.for_in_statement (nothing_of 0) (e i) (f i) (g i)
+  normal_again (tree.for_of_statement a left right body) = let e = normal_again left in let f = normal_again right in let g = normal_again body in λ i. tree.for_of_statement (bare (for_of_statement_is_await a ∷ [])) (e i) (f i) (g i)
+  normal_again (tree.while_statement a test body) = let e = normal_again test in let f = normal_again body in λ i. tree.while_statement (nothing_of 0) (e i) (f i)
+  normal_again (tree.do_while_statement a body test) = let e = normal_again body in let f = normal_again test in λ i. tree.do_while_statement (nothing_of 0) (e i) (f i)
+  normal_again (tree.label_identifier a) = refl
+  normal_again (tree.labeled_statement a label body) = let e = normal_again label in let f = normal_again body in λ i. tree.labeled_statement (nothing_of 0) (e i) (f i)
+  normal_again (tree.continue_statement a label) = ap (λ m. tree.continue_statement (nothing_of 0) m) (normal_maybe_again label)
+  normal_again (tree.break_statement a label) = ap (λ m. tree.break_statement (nothing_of 0) m) (normal_maybe_again label)
+  normal_again (tree.throw_statement a argument) = ap (λ e. tree.throw_statement (nothing_of 0) e) (normal_again argument)
+  normal_again (tree.debugger_statement a) = refl
+  normal_again (tree.switch_statement a discriminant cases) = let e = normal_again discriminant in let f = normal_trees_again cases in λ i. tree.switch_statement (nothing_of 0) (e i) (f i)
+  normal_again (tree.switch_case a test consequent) = let e = normal_maybe_again test in let f = normal_trees_again consequent in λ i. tree.switch_case (nothing_of 0) (e i) (f i)
+  normal_again (tree.try_statement a block_child handler finalizer) = let e = normal_again block_child in let f = normal_maybe_again handler in let g = normal_maybe_again finalizer in λ i. tree.try_statement (nothing_of 0) (e i) (f i) (g i)
+  normal_again (tree.catch_clause a param body) = let e = normal_maybe_again param in let f = normal_again body in λ i. tree.catch_clause (nothing_of 0) (e i) (f i)
   normal_again (tree.identifier_name a) = refl
   normal_again (tree.static_member a object property) = let e = normal_again object in let f = normal_again property in λ i. tree.static_member (link_values (static_member_expression_optional a)) (e i) (f i)
   normal_again (tree.computed_member a object expression) = let e = normal_again object in let f = normal_again expression in λ i. tree.computed_member (link_values (computed_member_expression_optional a)) (e i) (f i)

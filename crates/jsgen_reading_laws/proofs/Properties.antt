@@ -39,7 +39,8 @@ use Rattle.jsgen_model.specs.Valid.{named_faults, shorthand_faults}
 use Rattle.jsgen_token_laws.proofs.Last.{Last, Open, After, line_of, Operand, Begun, begun_ready, Knows}
 use Rattle.jsgen_token_laws.proofs.Writes.{Writes, wrote_both}
 use Rattle.jsgen_token_laws.proofs.Steps.{printed_as_written, wrote_name, wrote_written_name, wrote_quoted, wrote_punctuator, wrote_dots, within_brackets, brackets_written, soft_space_written}
-use Rattle.jsgen_reading_laws.proofs.Families.{IsExpression, IsKey, none_unless, has_value}
+use Rattle.jsgen_reading_laws.proofs.Families.{IsExpression, IsKey, has_value}
+use Rattle.jsgen_reading_laws.proofs.Valid.{none_unless}
 use Rattle.jsgen_reading_laws.proofs.Families as family
 use Rattle.jsgen_reading_laws.proofs.Names.{free_spelled}
 use Rattle.jsgen_reading_laws.proofs.Literals.{Numeral, whole_numeral, raw_numeral, big_numeral, big_whole, good_number}
@@ -237,7 +238,7 @@ abbrev is_short : Tables → Bool → Tree → Tree → Bool
 is_short names shorthand key value = option_map_or (λ w. says_name shorthand w (printed_in names value)) (written_name_in key) false
 
 -- where the names are printed the same
-same_laid : {names : Tables} (p : Pen) (w : List ℕ) (value : Named) (alone whole : Items) → p.style.tables ≡ names → layout (where_same value (as_written w) alone whole) p ≡ layout (if bytes_eq (printed_name names value) w then alone else whole) p
+pub same_laid : {names : Tables} (p : Pen) (w : List ℕ) (value : Named) (alone whole : Items) → p.style.tables ≡ names → layout (where_same value (as_written w) alone whole) p ≡ layout (if bytes_eq (printed_name names value) w then alone else whole) p
 same_laid {names} p w value alone whole t = ap (λ b. if b then layout alone p else layout whole p) told ∙ go (bytes_eq (printed_name names value) w)
   where
     told : are_same p.style.tables value (as_written w) ≡ bytes_eq (printed_name names value) w

@@ -23,7 +23,8 @@ use Rattle.jsgen_token_laws.proofs.Last.{Open, is_indent}
 use Rattle.jsgen_token_laws.proofs.Writes.{wrote_both, all_tokens}
 use Rattle.jsgen_token_laws.proofs.Plain.{all_plain}
 use Rattle.jsgen_token_laws.proofs.Scalars.{tokens_scalars}
-use Rattle.jsgen_reading_laws.proofs.Families.{IsProgram, is_program, program_valid}
+use Rattle.jsgen_reading_laws.proofs.Families.{IsProgram}
+use Rattle.jsgen_reading_laws.proofs.Valid.{is_program, program_valid}
 use Rattle.jsgen_reading_laws.proofs.Families as family
 use Rattle.jsgen_reading_laws.proofs.Ends.{due_ends}
 use Rattle.jsgen_reading_laws.proofs.Prologue.{whole_body}

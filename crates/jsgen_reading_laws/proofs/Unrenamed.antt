@@ -4,7 +4,7 @@ use Rattle.std.proofs.Common.{◌≡◌, false, ◌&&◌, ◌||◌, [], ◌∷�
 use Rattle.jsgen_tree.specs.Atom.{no_value, declaration_kind, binary_operator, logical_operator, unary_operator, update_operator, assignment_operator, flag, property_kind}
 use Rattle.jsgen_tree.specs.Tree.{Tree, node, Slots, no_slots, one, maybe, many, maybe_many, Maybe, absent, given, Trees, no_trees, more, hole, MaybeTrees, no_list, listed}
 use Rattle.jsgen_tree.specs.Places.{bare}
-use Rattle.jsgen_tree.specs.Values.{variable_declaration_kind, variable_declaration_declare, variable_declarator_definite, static_member_expression_optional, computed_member_expression_optional, call_expression_optional, binary_expression_operator, logical_expression_operator, unary_expression_operator, update_expression_operator, update_expression_prefix, object_property_kind, object_property_method, object_property_shorthand, object_property_computed, assignment_expression_operator, formal_parameter_is_override, formal_parameter_readonly, formal_parameter_optional, arrow_function_expression_is_async}
+use Rattle.jsgen_tree.specs.Values.{variable_declaration_kind, variable_declaration_declare, variable_declarator_definite, for_of_statement_is_await, static_member_expression_optional, computed_member_expression_optional, call_expression_optional, binary_expression_operator, logical_expression_operator, unary_expression_operator, update_expression_operator, update_expression_prefix, object_property_kind, object_property_method, object_property_shorthand, object_property_computed, assignment_expression_operator, formal_parameter_is_override, formal_parameter_readonly, formal_parameter_optional, arrow_function_expression_is_async}
 use Rattle.jsgen_tree.specs.Inside.{written_name_in, is_proto, is_negative_number}
 use Rattle.jsgen_tree.specs.Job.{Tables, no_tables}
 use Rattle.jsgen_tree.specs.Nodes as tree
@@ -49,6 +49,21 @@ mutual
   unrenamed (tree.block a body) = ap (λ ts. tree.block (nothing_of 0) ts) (unrenamed_trees body)
   unrenamed (tree.if_statement a test consequent alternate) = let e = unrenamed test in let f = ap unbraced (unrenamed consequent) in let g = unrenamed_maybe alternate in λ i. tree.if_statement (nothing_of 0) (e i) (f i) (g i)
   unrenamed (tree.empty_statement a) = refl
+  unrenamed (tree.for_statement a init test update_child body) = let e = unrenamed_maybe init in let f = unrenamed_maybe test in let g = unrenamed_maybe update_child in let h = unrenamed body in λ i. tree.for_statement (nothing_of 0) (e i) (f i) (g i) (h i)
+  unrenamed (tree.for_in_statement a left right body) = let e = unrenamed left in let f = unrenamed right in let g = unrenamed body in λ i. tree.for_in_statement (nothing_of 0) (e i) (f i) (g i)
+  unrenamed (tree.for_of_statement a left right body) = let e = unrenamed left in let f = unrenamed right in let g = unrenamed body in λ i. tree.for_of_statement (bare (for_of_statement_is_await a ∷ [])) (e i) (f i) (g i)
+  unrenamed (tree.while_statement a test body) = let e = unrenamed test in let f = unrenamed body in λ i. tree.while_statement (nothing_of 0) (e i) (f i)
+  unrenamed (tree.do_while_statement a body test) = let e = unrenamed body in let f = unrenamed test in λ i. tree.do_while_statement (nothing_of 0) (e i) (f i)
+  unrenamed (tree.label_identifier a) = refl
+  unrenamed (tree.labeled_statement a label body) = let e = unrenamed label in let f = unrenamed body in λ i. tree.labeled_statement (nothing_of 0) (e i) (f i)
+  unrenamed (tree.continue_statement a label) = ap (λ m. tree.continue_statement (nothing_of 0) m) (unrenamed_maybe label)
+  unrenamed (tree.break_statement a label) = ap (λ m. tree.break_statement (nothing_of 0) m) (unrenamed_maybe label)
+  unrenamed (tree.throw_statement a argument) = ap (λ e. tree.throw_statement (nothing_of 0) e) (unrenamed argument)
+  unrenamed (tree.debugger_statement a) = refl
+  unrenamed (tree.switch_statement a discriminant cases) = let e = unrenamed discriminant in let f = unrenamed_trees cases in λ i. tree.switch_statement (nothing_of 0) (e i) (f i)
+  unrenamed (tree.switch_case a test consequent) = let e = unrenamed_maybe test in let f = unrenamed_trees consequent in λ i. tree.switch_case (nothing_of 0) (e i) (f i)
+  unrenamed (tree.try_statement a block_child handler finalizer) = let e = unrenamed block_child in let f = unrenamed_maybe handler in let g = unrenamed_maybe finalizer in λ i. tree.try_statement (nothing_of 0) (e i) (f i) (g i)
+  unrenamed (tree.catch_clause a param body) = let e = unrenamed_maybe param in let f = unrenamed body in λ i. tree.catch_clause (nothing_of 0) (e i) (f i)
   unrenamed (tree.identifier_name a) = refl
   unrenamed (tree.static_member a object property) = let e = unrenamed object in let f = unrenamed property in λ i. tree.static_member (link_values (static_member_expression_optional a)) (e i) (f i)
   unrenamed (tree.computed_member a object expression) = let e = unrenamed object in let f = unrenamed expression in λ i. tree.computed_member (link_values (computed_member_expression_optional a)) (e i) (f i)

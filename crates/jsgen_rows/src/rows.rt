@@ -4,14 +4,16 @@ ghost use Rattle.std.specs.Prelude.{◌≡◌};
 ghost use Rattle.serde_json.specs.View.{view};
 ghost use Rattle.jsgen_fields.specs.Reads.{Gives, read_typed};
 ghost use Rattle.jsgen_fields.specs.Kept.{entries, row_plain};
-ghost use Rattle.jsgen_fields.specs.Parts.{is_in_statements, is_in_expressions, is_in_collections, is_in_operations, is_in_assignments};
+ghost use Rattle.jsgen_fields.specs.Parts.{is_in_statements, is_in_expressions, is_in_collections, is_in_operations, is_in_assignments, is_in_functions, is_in_loops};
 
 use jsgen_assignment_rows::assignments::read_in_assignments;
+use jsgen_choice_rows::choices::read_in_choices;
 use jsgen_collection_rows::collections::read_in_collections;
 use jsgen_expression_rows::expressions::read_in_expressions;
 use jsgen_fields::InputFault;
 use jsgen_fields::kept::{ReadNode, Row};
 use jsgen_function_rows::functions::read_in_functions;
+use jsgen_loop_rows::loops::read_in_loops;
 use jsgen_operation_rows::operations::read_in_operations;
 use jsgen_pool::Kept;
 use jsgen_statement_rows::statements::read_in_statements;
@@ -97,6 +99,37 @@ fn is_in_assignments(node_type: NodeType) -> bool
     )
 }
 
+fn is_in_functions(node_type: NodeType) -> bool
+    ensures { result ≡ is_in_functions node_type }
+{
+    matches!(
+        &node_type,
+        NodeType::FormalParameter
+            | NodeType::FormalParameterRest
+            | NodeType::FormalParameters
+            | NodeType::ArrowFunctionExpression
+    )
+}
+
+fn is_in_loops(node_type: NodeType) -> bool
+    ensures { result ≡ is_in_loops node_type }
+{
+    matches!(
+        &node_type,
+        NodeType::ForStatement
+            | NodeType::ForInStatement
+            | NodeType::ForOfStatement
+            | NodeType::WhileStatement
+            | NodeType::DoWhileStatement
+            | NodeType::LabelIdentifier
+            | NodeType::LabeledStatement
+            | NodeType::ContinueStatement
+            | NodeType::BreakStatement
+            | NodeType::ThrowStatement
+            | NodeType::DebuggerStatement
+    )
+}
+
 /// The row of a type.
 pub fn read_typed<N: ReadNode + Drop>(
     alloc: Global,
@@ -124,5 +157,11 @@ pub fn read_typed<N: ReadNode + Drop>(
     if is_in_assignments(node_type) {
         return read_in_assignments(alloc, kept, node_type, number, span, row);
     }
-    read_in_functions(alloc, kept, node_type, number, span, row)
+    if is_in_functions(node_type) {
+        return read_in_functions(alloc, kept, node_type, number, span, row);
+    }
+    if is_in_loops(node_type) {
+        return read_in_loops(alloc, kept, node_type, number, span, row);
+    }
+    read_in_choices(alloc, kept, node_type, number, span, row)
 }

@@ -10,6 +10,7 @@ ghost use Rattle.jsgen_rules.specs.Verdict.{verdict};
 mod comments;
 mod names;
 mod spans;
+mod statements;
 
 pub use comments::check_comment;
 use jsgen_model::TreeFault;
@@ -17,8 +18,9 @@ use jsgen_numbers::{is_big_integer, is_raw_number};
 use jsgen_syntax::{Quote, Span};
 use jsgen_text::spells_string;
 use jsgen_tree::{NodeSet, NodeType};
-pub use names::{check_binding, check_reference, check_written_name};
+pub use names::{check_binding, check_label, check_reference, check_written_name};
 pub use spans::{check_source, check_span};
+pub use statements::{check_body, check_defaults, check_ends, check_one_name};
 
 /// A directive's raw text spells a string, in the one quote or the other.
 pub fn check_raw(raw: &str, span: Span) -> Result<(), TreeFault>
@@ -79,6 +81,7 @@ pub fn takes_optional_link(set: NodeSet) -> bool
             | NodeSet::ChainElement
             | NodeSet::SimpleAssignmentTarget
             | NodeSet::AssignmentTarget
+            | NodeSet::ForStatementLeft
     )
 }
 

@@ -5,7 +5,7 @@ ghost use Rattle.std.specs.Str.{chars};
 ghost use Rattle.jsgen_syntax.specs.Name.{is_free_name};
 ghost use Rattle.jsgen_tree.specs.Named.{looked_up, bound, printed_name};
 ghost use Rattle.jsgen_tree.specs.Scoping.{scoping_plain, tables_plain};
-ghost use Rattle.jsgen_model.specs.Valid.{names_a_symbol, is_in_tables, name_faults, written_name_faults, fault_if};
+ghost use Rattle.jsgen_model.specs.Valid.{names_a_symbol, is_in_tables, name_faults, written_name_faults, label_faults, fault_if};
 ghost use Rattle.jsgen_model.specs.declared.fault.TreeFault.TheVariants as faults;
 ghost use Rattle.jsgen_rules.specs.Verdict.{verdict};
 
@@ -98,6 +98,16 @@ pub fn check_written_name(name: &str, span: Span) -> Result<(), TreeFault>
     ensures { result ≡ verdict (written_name_faults span (chars name.now)) }
 {
     if !is_name(name) {
+        return Err(TreeFault::Name { start: span.start });
+    }
+    Ok(())
+}
+
+/// A label is a name that isn't reserved: none of the tables knows it.
+pub fn check_label(name: &str, span: Span) -> Result<(), TreeFault>
+    ensures { result ≡ verdict (label_faults span (chars name.now)) }
+{
+    if !is_free_name(name) {
         return Err(TreeFault::Name { start: span.start });
     }
     Ok(())

@@ -8,11 +8,16 @@ use Rattle.jsgen_tree.specs.declared.sets.ChainElement.{ChainElement}
 use Rattle.jsgen_tree.specs.declared.sets.SimpleAssignmentTarget.{SimpleAssignmentTarget}
 use Rattle.jsgen_tree.specs.declared.sets.AssignmentTarget.{AssignmentTarget}
 use Rattle.jsgen_tree.specs.declared.sets.ArrowFunctionBody.{ArrowFunctionBody}
+use Rattle.jsgen_tree.specs.declared.sets.ForStatementInit.{ForStatementInit}
+use Rattle.jsgen_tree.specs.declared.sets.ForStatementLeft.{ForStatementLeft}
 use Rattle.jsgen_tree.specs.declared.sets.ObjectPropertyKind.{ObjectPropertyKind}
 use Rattle.jsgen_tree.specs.declared.sets.PropertyKey.{PropertyKey}
 use Rattle.jsgen_tree.specs.declared.nodes.ExpressionNode.{ExpressionNode}
 use Rattle.jsgen_tree.specs.declared.nodes.StatementNode.{StatementNode}
+use Rattle.jsgen_tree.specs.declared.nodes.BindingPatternNode.{BindingPatternNode}
+use Rattle.jsgen_tree.specs.declared.statements.VariableDeclaration.{VariableDeclaration}
 use Rattle.jsgen_tree.specs.declared.statements.VariableDeclarator.{VariableDeclarator}
+use Rattle.jsgen_tree.specs.declared.statements.BlockStatement.{BlockStatement}
 use Rattle.jsgen_tree.specs.declared.statements.IfStatement.{IfStatement}
 use Rattle.jsgen_tree.specs.declared.expressions.IdentifierReference.{IdentifierReference}
 use Rattle.jsgen_tree.specs.declared.expressions.IdentifierName.{IdentifierName}
@@ -28,12 +33,20 @@ use Rattle.jsgen_tree.specs.declared.functions.FormalParameter.{FormalParameter}
 use Rattle.jsgen_tree.specs.declared.functions.FormalParameterRest.{FormalParameterRest}
 use Rattle.jsgen_tree.specs.declared.functions.FormalParameters.{FormalParameters}
 use Rattle.jsgen_tree.specs.declared.functions.ArrowFunctionExpression.{ArrowFunctionExpression}
+use Rattle.jsgen_tree.specs.declared.loops.ForStatement.{ForStatement}
+use Rattle.jsgen_tree.specs.declared.loops.ForInStatement.{ForInStatement}
+use Rattle.jsgen_tree.specs.declared.loops.ForOfStatement.{ForOfStatement}
+use Rattle.jsgen_tree.specs.declared.choices.SwitchCase.{SwitchCase}
+use Rattle.jsgen_tree.specs.declared.choices.TryStatement.{TryStatement}
+use Rattle.jsgen_tree.specs.declared.choices.CatchClause.{CatchClause}
 use Rattle.jsgen_tree.specs.declared.sets.Argument.TheVariants as arguments
 use Rattle.jsgen_tree.specs.declared.sets.ArrayExpressionElement.TheVariants as array_expression_elements
 use Rattle.jsgen_tree.specs.declared.sets.ChainElement.TheVariants as chain_elements
 use Rattle.jsgen_tree.specs.declared.sets.SimpleAssignmentTarget.TheVariants as simple_assignment_targets
 use Rattle.jsgen_tree.specs.declared.sets.AssignmentTarget.TheVariants as assignment_targets
 use Rattle.jsgen_tree.specs.declared.sets.ArrowFunctionBody.TheVariants as arrow_function_bodys
+use Rattle.jsgen_tree.specs.declared.sets.ForStatementInit.TheVariants as for_statement_inits
+use Rattle.jsgen_tree.specs.declared.sets.ForStatementLeft.TheVariants as for_statement_lefts
 use Rattle.jsgen_tree.specs.declared.sets.ObjectPropertyKind.TheVariants as object_property_kinds
 use Rattle.jsgen_tree.specs.declared.sets.PropertyKey.TheVariants as property_keys
 
@@ -64,6 +77,16 @@ with_assignment_target P of_identifier_reference of_static_member_expression of_
 
 pub with_arrow_function_body : {N : Type 0} (P : ArrowFunctionBody N → Type 0) → ((b : Box (ExpressionNode N) Global) → P (arrow_function_bodys.Expression b)) → (n : ArrowFunctionBody N) → P n
 with_arrow_function_body P of_expression (arrow_function_bodys.Expression b) = of_expression b
+
+pub with_for_statement_init : {N : Type 0} (P : ForStatementInit N → Type 0) → ((b : Box (VariableDeclaration N) Global) → P (for_statement_inits.VariableDeclaration b)) → ((b : Box (ExpressionNode N) Global) → P (for_statement_inits.Expression b)) → (n : ForStatementInit N) → P n
+with_for_statement_init P of_variable_declaration of_expression (for_statement_inits.VariableDeclaration b) = of_variable_declaration b
+with_for_statement_init P of_variable_declaration of_expression (for_statement_inits.Expression b) = of_expression b
+
+pub with_for_statement_left : {N : Type 0} (P : ForStatementLeft N → Type 0) → ((b : Box (VariableDeclaration N) Global) → P (for_statement_lefts.VariableDeclaration b)) → ((b : Box IdentifierReference Global) → P (for_statement_lefts.IdentifierReference b)) → ((b : Box (StaticMemberExpression N) Global) → P (for_statement_lefts.StaticMemberExpression b)) → ((b : Box (ComputedMemberExpression N) Global) → P (for_statement_lefts.ComputedMemberExpression b)) → (n : ForStatementLeft N) → P n
+with_for_statement_left P of_variable_declaration of_identifier_reference of_static_member_expression of_computed_member_expression (for_statement_lefts.VariableDeclaration b) = of_variable_declaration b
+with_for_statement_left P of_variable_declaration of_identifier_reference of_static_member_expression of_computed_member_expression (for_statement_lefts.IdentifierReference b) = of_identifier_reference b
+with_for_statement_left P of_variable_declaration of_identifier_reference of_static_member_expression of_computed_member_expression (for_statement_lefts.StaticMemberExpression b) = of_static_member_expression b
+with_for_statement_left P of_variable_declaration of_identifier_reference of_static_member_expression of_computed_member_expression (for_statement_lefts.ComputedMemberExpression b) = of_computed_member_expression b
 
 pub with_object_property_kind : {N : Type 0} (P : ObjectPropertyKind N → Type 0) → ((b : Box (ObjectProperty N) Global) → P (object_property_kinds.ObjectProperty b)) → ((b : Box (SpreadElement N) Global) → P (object_property_kinds.SpreadElement b)) → (n : ObjectPropertyKind N) → P n
 with_object_property_kind P of_object_property of_spread_element (object_property_kinds.ObjectProperty b) = of_object_property b
@@ -110,3 +133,33 @@ arrow_function_expression_by_params P all n = all n.params n
 
 pub arrow_function_expression_by_body : {N : Type 0} (P : ArrowFunctionExpression N → Type 0) → ((b : Box (ExpressionNode N) Global) (n : ArrowFunctionExpression N) → P (record n { body = (arrow_function_bodys.Expression b) })) → (n : ArrowFunctionExpression N) → P n
 arrow_function_expression_by_body P of_expression n = elim n.body as (λ o. P (record n { body = o })) [ arrow_function_bodys.Expression b ↦ of_expression b n ]
+
+pub for_statement_by_init : {N : Type 0} (P : ForStatement N → Type 0) → ((n : ForStatement N) → P (record n { init = None })) → ((b : Box (VariableDeclaration N) Global) (n : ForStatement N) → P (record n { init = (Some (for_statement_inits.VariableDeclaration b)) })) → ((b : Box (ExpressionNode N) Global) (n : ForStatement N) → P (record n { init = (Some (for_statement_inits.Expression b)) })) → (n : ForStatement N) → P n
+for_statement_by_init P none of_variable_declaration of_expression n = elim n.init as (λ o. P (record n { init = o })) [ None ↦ none n | Some c ↦ elim c as (λ o. P (record n { init = (Some o) })) [ for_statement_inits.VariableDeclaration b ↦ of_variable_declaration b n | for_statement_inits.Expression b ↦ of_expression b n ] ]
+
+pub for_statement_by_test : {N : Type 0} (P : ForStatement N → Type 0) → ((n : ForStatement N) → P (record n { test = None })) → ((c : ExpressionNode N) (n : ForStatement N) → P (record n { test = Some c })) → (n : ForStatement N) → P n
+for_statement_by_test P none some n = elim n.test as (λ o. P (record n { test = o })) [ None ↦ none n | Some c ↦ some c n ]
+
+pub for_statement_by_update : {N : Type 0} (P : ForStatement N → Type 0) → ((n : ForStatement N) → P (record n { update = None })) → ((c : ExpressionNode N) (n : ForStatement N) → P (record n { update = Some c })) → (n : ForStatement N) → P n
+for_statement_by_update P none some n = elim n.update as (λ o. P (record n { update = o })) [ None ↦ none n | Some c ↦ some c n ]
+
+pub for_in_statement_by_left : {N : Type 0} (P : ForInStatement N → Type 0) → ((b : Box (VariableDeclaration N) Global) (n : ForInStatement N) → P (record n { left = (for_statement_lefts.VariableDeclaration b) })) → ((b : Box IdentifierReference Global) (n : ForInStatement N) → P (record n { left = (for_statement_lefts.IdentifierReference b) })) → ((b : Box (StaticMemberExpression N) Global) (n : ForInStatement N) → P (record n { left = (for_statement_lefts.StaticMemberExpression b) })) → ((b : Box (ComputedMemberExpression N) Global) (n : ForInStatement N) → P (record n { left = (for_statement_lefts.ComputedMemberExpression b) })) → (n : ForInStatement N) → P n
+for_in_statement_by_left P of_variable_declaration of_identifier_reference of_static_member_expression of_computed_member_expression n = elim n.left as (λ o. P (record n { left = o })) [ for_statement_lefts.VariableDeclaration b ↦ of_variable_declaration b n | for_statement_lefts.IdentifierReference b ↦ of_identifier_reference b n | for_statement_lefts.StaticMemberExpression b ↦ of_static_member_expression b n | for_statement_lefts.ComputedMemberExpression b ↦ of_computed_member_expression b n ]
+
+pub for_of_statement_by_left : {N : Type 0} (P : ForOfStatement N → Type 0) → ((b : Box (VariableDeclaration N) Global) (n : ForOfStatement N) → P (record n { left = (for_statement_lefts.VariableDeclaration b) })) → ((b : Box IdentifierReference Global) (n : ForOfStatement N) → P (record n { left = (for_statement_lefts.IdentifierReference b) })) → ((b : Box (StaticMemberExpression N) Global) (n : ForOfStatement N) → P (record n { left = (for_statement_lefts.StaticMemberExpression b) })) → ((b : Box (ComputedMemberExpression N) Global) (n : ForOfStatement N) → P (record n { left = (for_statement_lefts.ComputedMemberExpression b) })) → (n : ForOfStatement N) → P n
+for_of_statement_by_left P of_variable_declaration of_identifier_reference of_static_member_expression of_computed_member_expression n = elim n.left as (λ o. P (record n { left = o })) [ for_statement_lefts.VariableDeclaration b ↦ of_variable_declaration b n | for_statement_lefts.IdentifierReference b ↦ of_identifier_reference b n | for_statement_lefts.StaticMemberExpression b ↦ of_static_member_expression b n | for_statement_lefts.ComputedMemberExpression b ↦ of_computed_member_expression b n ]
+
+pub switch_case_by_test : {N : Type 0} (P : SwitchCase N → Type 0) → ((n : SwitchCase N) → P (record n { test = None })) → ((c : ExpressionNode N) (n : SwitchCase N) → P (record n { test = Some c })) → (n : SwitchCase N) → P n
+switch_case_by_test P none some n = elim n.test as (λ o. P (record n { test = o })) [ None ↦ none n | Some c ↦ some c n ]
+
+pub try_statement_by_handler : {N : Type 0} (P : TryStatement N → Type 0) → ((n : TryStatement N) → P (record n { handler = None })) → ((c : Box (CatchClause N) Global) (n : TryStatement N) → P (record n { handler = Some c })) → (n : TryStatement N) → P n
+try_statement_by_handler P none some n = elim n.handler as (λ o. P (record n { handler = o })) [ None ↦ none n | Some c ↦ some c n ]
+
+pub try_statement_by_finalizer : {N : Type 0} (P : TryStatement N → Type 0) → ((n : TryStatement N) → P (record n { finalizer = None })) → ((c : Box (BlockStatement N) Global) (n : TryStatement N) → P (record n { finalizer = Some c })) → (n : TryStatement N) → P n
+try_statement_by_finalizer P none some n = elim n.finalizer as (λ o. P (record n { finalizer = o })) [ None ↦ none n | Some c ↦ some c n ]
+
+pub catch_clause_by_param : {N : Type 0} (P : CatchClause N → Type 0) → ((n : CatchClause N) → P (record n { param = None })) → ((c : BindingPatternNode N) (n : CatchClause N) → P (record n { param = Some c })) → (n : CatchClause N) → P n
+catch_clause_by_param P none some n = elim n.param as (λ o. P (record n { param = o })) [ None ↦ none n | Some c ↦ some c n ]
+
+pub boxed_catch_clause_by_param : {N : Type 0} (P : Box (CatchClause N) Global → Type 0) → ((n : Box (CatchClause N) Global) → P (record n { value = record n.value { param = None } })) → ((c : BindingPatternNode N) (n : Box (CatchClause N) Global) → P (record n { value = record n.value { param = Some c } })) → (n : Box (CatchClause N) Global) → P n
+boxed_catch_clause_by_param P none some n = elim n.value.param as (λ o. P (record n { value = record n.value { param = o } })) [ None ↦ none n | Some c ↦ some c n ]

@@ -1,10 +1,10 @@
 -- Generated from tools/nodes/table.txt; edit that and run tools/nodes/generate.
 -- The plain data of the recursive type is, set by set, that of what it holds.
 use Rattle.std.proofs.Common.{◌≡◌, refl, sym, ap, ◌∙◌}
-use Rattle.jsgen_tree.proofs.Cases.{with_argument, with_array_expression_element, with_object_property_kind, variable_declarator_by_init, if_statement_by_alternate, chain_expression_by_expression, boxed_object_property_by_key, update_expression_by_argument, assignment_expression_by_left, formal_parameter_by_initializer, boxed_formal_parameters_by_rest, arrow_function_expression_by_params, arrow_function_expression_by_body}
+use Rattle.jsgen_tree.proofs.Cases.{with_argument, with_array_expression_element, with_object_property_kind, variable_declarator_by_init, if_statement_by_alternate, chain_expression_by_expression, boxed_object_property_by_key, update_expression_by_argument, assignment_expression_by_left, formal_parameter_by_initializer, boxed_formal_parameters_by_rest, arrow_function_expression_by_params, arrow_function_expression_by_body, for_statement_by_init, for_statement_by_test, for_statement_by_update, for_in_statement_by_left, for_of_statement_by_left, switch_case_by_test, try_statement_by_handler, try_statement_by_finalizer, boxed_catch_clause_by_param}
 use Rattle.jsgen_tree.specs.Plain.{node_plain, layer}
 use Rattle.jsgen_tree.specs.Spans.{expression_span, declaration_span, statement_span, binding_pattern_span}
-use Rattle.jsgen_tree.specs.Tree.{Tree, trees, holed, span_of}
+use Rattle.jsgen_tree.specs.Tree.{Tree, given, trees, holed, span_of}
 use Rattle.jsgen_tree.specs.Rows.{expression_plain, declaration_plain, statement_plain, binding_pattern_plain}
 use Rattle.jsgen_tree.proofs.Layers.{map_after, with_hole, same_slots, same_one, same_maybe, same_many}
 use Rattle.jsgen_tree.specs.declared.nodes.Node.{Node, out-Node, map-Node, fold_out-Node}
@@ -62,6 +62,18 @@ natural_statement h (statements.ExpressionStatement b) = refl
 natural_statement h (statements.BlockStatement b) = same_slots (same_many (ap trees (map_after _ _ _ (λ n. refl) b.value.body.items)) refl)
 natural_statement h (statements.IfStatement b) = (if_statement_by_alternate (λ n. layer (map-Node Node Tree h (opened.Statement (statements.IfStatement (record b { value = n })))) ≡ statement_plain h (statements.IfStatement (record b { value = n }))) (λ n. refl) (λ n_alternate. (λ n. refl))) b.value
 natural_statement h (statements.EmptyStatement b) = refl
+natural_statement h (statements.ForStatement b) = (for_statement_by_init (λ n. layer (map-Node Node Tree h (opened.Statement (statements.ForStatement (record b { value = n })))) ≡ statement_plain h (statements.ForStatement (record b { value = n }))) (for_statement_by_test _ (for_statement_by_update _ (λ n. refl) (λ n_update. (λ n. refl))) (λ n_test. (for_statement_by_update _ (λ n. refl) (λ n_update. (λ n. refl))))) (λ n_init. (for_statement_by_test _ (for_statement_by_update _ (λ n. same_slots (same_maybe (ap (λ t. given t) (same_slots (same_many (ap trees (map_after _ _ _ (variable_declarator_by_init _ (λ n. refl) (λ n_init. (λ n. refl))) n_init.value.declarations.items)) refl))) (same_maybe refl (same_maybe refl (same_one refl refl))))) (λ n_update. (λ n. same_slots (same_maybe (ap (λ t. given t) (same_slots (same_many (ap trees (map_after _ _ _ (variable_declarator_by_init _ (λ n. refl) (λ n_init. (λ n. refl))) n_init.value.declarations.items)) refl))) (same_maybe refl (same_maybe refl (same_one refl refl))))))) (λ n_test. (for_statement_by_update _ (λ n. same_slots (same_maybe (ap (λ t. given t) (same_slots (same_many (ap trees (map_after _ _ _ (variable_declarator_by_init _ (λ n. refl) (λ n_init. (λ n. refl))) n_init.value.declarations.items)) refl))) (same_maybe refl (same_maybe refl (same_one refl refl))))) (λ n_update. (λ n. same_slots (same_maybe (ap (λ t. given t) (same_slots (same_many (ap trees (map_after _ _ _ (variable_declarator_by_init _ (λ n. refl) (λ n_init. (λ n. refl))) n_init.value.declarations.items)) refl))) (same_maybe refl (same_maybe refl (same_one refl refl)))))))))) (λ n_init. (for_statement_by_test _ (for_statement_by_update _ (λ n. refl) (λ n_update. (λ n. refl))) (λ n_test. (for_statement_by_update _ (λ n. refl) (λ n_update. (λ n. refl))))))) b.value
+natural_statement h (statements.ForInStatement b) = (for_in_statement_by_left (λ n. layer (map-Node Node Tree h (opened.Statement (statements.ForInStatement (record b { value = n })))) ≡ statement_plain h (statements.ForInStatement (record b { value = n }))) (λ n_left. (λ n. same_slots (same_one (same_slots (same_many (ap trees (map_after _ _ _ (variable_declarator_by_init _ (λ n. refl) (λ n_init. (λ n. refl))) n_left.value.declarations.items)) refl)) (same_one refl (same_one refl refl))))) (λ n_left. (λ n. refl)) (λ n_left. (λ n. refl)) (λ n_left. (λ n. refl))) b.value
+natural_statement h (statements.ForOfStatement b) = (for_of_statement_by_left (λ n. layer (map-Node Node Tree h (opened.Statement (statements.ForOfStatement (record b { value = n })))) ≡ statement_plain h (statements.ForOfStatement (record b { value = n }))) (λ n_left. (λ n. same_slots (same_one (same_slots (same_many (ap trees (map_after _ _ _ (variable_declarator_by_init _ (λ n. refl) (λ n_init. (λ n. refl))) n_left.value.declarations.items)) refl)) (same_one refl (same_one refl refl))))) (λ n_left. (λ n. refl)) (λ n_left. (λ n. refl)) (λ n_left. (λ n. refl))) b.value
+natural_statement h (statements.WhileStatement b) = refl
+natural_statement h (statements.DoWhileStatement b) = refl
+natural_statement h (statements.LabeledStatement b) = refl
+natural_statement h (statements.ContinueStatement b) = refl
+natural_statement h (statements.BreakStatement b) = refl
+natural_statement h (statements.ThrowStatement b) = refl
+natural_statement h (statements.DebuggerStatement b) = refl
+natural_statement h (statements.SwitchStatement b) = same_slots (same_one refl (same_many (ap trees (map_after _ _ _ (switch_case_by_test _ (λ n. same_slots (same_maybe refl (same_many (ap trees (map_after _ _ _ (λ n. refl) n.consequent.items)) refl))) (λ n_test. (λ n. same_slots (same_maybe refl (same_many (ap trees (map_after _ _ _ (λ n. refl) n.consequent.items)) refl))))) b.value.cases.items)) refl))
+natural_statement h (statements.TryStatement b) = (try_statement_by_handler (λ n. layer (map-Node Node Tree h (opened.Statement (statements.TryStatement (record b { value = n })))) ≡ statement_plain h (statements.TryStatement (record b { value = n }))) (try_statement_by_finalizer _ (λ n. same_slots (same_one (same_slots (same_many (ap trees (map_after _ _ _ (λ n. refl) n.block.value.body.items)) refl)) (same_maybe refl (same_maybe refl refl)))) (λ n_finalizer. (λ n. same_slots (same_one (same_slots (same_many (ap trees (map_after _ _ _ (λ n. refl) n.block.value.body.items)) refl)) (same_maybe refl (same_maybe (ap (λ t. given t) (same_slots (same_many (ap trees (map_after _ _ _ (λ n. refl) n_finalizer.value.body.items)) refl))) refl)))))) (boxed_catch_clause_by_param _ (λ n_handler. (try_statement_by_finalizer _ (λ n. same_slots (same_one (same_slots (same_many (ap trees (map_after _ _ _ (λ n. refl) n.block.value.body.items)) refl)) (same_maybe (ap (λ t. given t) (same_slots (same_maybe refl (same_one (same_slots (same_many (ap trees (map_after _ _ _ (λ n. refl) n_handler.value.body.value.body.items)) refl)) refl)))) (same_maybe refl refl)))) (λ n_finalizer. (λ n. same_slots (same_one (same_slots (same_many (ap trees (map_after _ _ _ (λ n. refl) n.block.value.body.items)) refl)) (same_maybe (ap (λ t. given t) (same_slots (same_maybe refl (same_one (same_slots (same_many (ap trees (map_after _ _ _ (λ n. refl) n_handler.value.body.value.body.items)) refl)) refl)))) (same_maybe (ap (λ t. given t) (same_slots (same_many (ap trees (map_after _ _ _ (λ n. refl) n_finalizer.value.body.items)) refl))) refl))))))) (λ n_handler_param. (λ n_handler. (try_statement_by_finalizer _ (λ n. same_slots (same_one (same_slots (same_many (ap trees (map_after _ _ _ (λ n. refl) n.block.value.body.items)) refl)) (same_maybe (ap (λ t. given t) (same_slots (same_maybe refl (same_one (same_slots (same_many (ap trees (map_after _ _ _ (λ n. refl) n_handler.value.body.value.body.items)) refl)) refl)))) (same_maybe refl refl)))) (λ n_finalizer. (λ n. same_slots (same_one (same_slots (same_many (ap trees (map_after _ _ _ (λ n. refl) n.block.value.body.items)) refl)) (same_maybe (ap (λ t. given t) (same_slots (same_maybe refl (same_one (same_slots (same_many (ap trees (map_after _ _ _ (λ n. refl) n_handler.value.body.value.body.items)) refl)) refl)))) (same_maybe (ap (λ t. given t) (same_slots (same_many (ap trees (map_after _ _ _ (λ n. refl) n_finalizer.value.body.items)) refl))) refl)))))))))) b.value
 
 pub plain_expression : (n : Expression Node) → node_plain (nodes.Expression n) ≡ expression_plain node_plain n
 plain_expression n = plain_out (nodes.Expression n) ∙ ap (λ o. layer (map-Node Node Tree node_plain o)) (outs-Expression n) ∙ natural_expression node_plain n
@@ -119,6 +131,18 @@ of_statement h (statements.ExpressionStatement b) = refl
 of_statement h (statements.BlockStatement b) = refl
 of_statement h (statements.IfStatement b) = refl
 of_statement h (statements.EmptyStatement b) = refl
+of_statement h (statements.ForStatement b) = refl
+of_statement h (statements.ForInStatement b) = refl
+of_statement h (statements.ForOfStatement b) = refl
+of_statement h (statements.WhileStatement b) = refl
+of_statement h (statements.DoWhileStatement b) = refl
+of_statement h (statements.LabeledStatement b) = refl
+of_statement h (statements.ContinueStatement b) = refl
+of_statement h (statements.BreakStatement b) = refl
+of_statement h (statements.ThrowStatement b) = refl
+of_statement h (statements.DebuggerStatement b) = refl
+of_statement h (statements.SwitchStatement b) = refl
+of_statement h (statements.TryStatement b) = refl
 
 pub statement_spans : (n : Statement Node) → statement_span (λ n. span_of (node_plain n)) n ≡ span_of (node_plain (nodes.Statement n))
 statement_spans n = of_statement node_plain n ∙ ap span_of (sym (plain_statement n))

@@ -31,7 +31,7 @@ abbrev pub source_kind_words : List Word
 source_kind_words = means (codes "module") (atoms.source_kind source_kinds.Module) ∷ []
 
 abbrev pub declaration_kind_words : List Word
-declaration_kind_words = means (codes "const") (atoms.declaration_kind declaration_kinds.Const) ∷ []
+declaration_kind_words = means (codes "const") (atoms.declaration_kind declaration_kinds.Const) ∷ means (codes "let") (atoms.declaration_kind declaration_kinds.Let) ∷ means (codes "var") (atoms.declaration_kind declaration_kinds.Var) ∷ []
 
 abbrev pub numeric_kind_words : List Word
 numeric_kind_words = means (codes "whole") (atoms.numeric_kind numeric_kinds.Whole) ∷ means (codes "raw") (atoms.numeric_kind numeric_kinds.Raw) ∷ []
@@ -179,6 +179,51 @@ formal_parameters_fields = may_have (codes "items") (sorts.children sets.FormalP
 abbrev pub arrow_function_expression_fields : List Field
 arrow_function_expression_fields = not_yet (codes "is_async") sorts.flag ∷ has_by_default (atoms.flag false) (codes "pure") sorts.flag ∷ has_by_default (atoms.flag false) (codes "pife") sorts.flag ∷ not_yet (codes "type_parameters") sorts.unread_child ∷ needs (codes "params") (sorts.child sets.FormalParameters) ∷ not_yet (codes "return_type") sorts.unread_child ∷ needs (codes "body") (sorts.child sets.ArrowFunctionBody) ∷ []
 
+abbrev pub for_statement_fields : List Field
+for_statement_fields = may_have (codes "init") (sorts.child sets.ForStatementInit) ∷ may_have (codes "test") (sorts.child sets.Expression) ∷ may_have (codes "update") (sorts.child sets.Expression) ∷ needs (codes "body") (sorts.child sets.Statement) ∷ []
+
+abbrev pub for_in_statement_fields : List Field
+for_in_statement_fields = needs (codes "left") (sorts.child sets.ForStatementLeft) ∷ needs (codes "right") (sorts.child sets.Expression) ∷ needs (codes "body") (sorts.child sets.Statement) ∷ []
+
+abbrev pub for_of_statement_fields : List Field
+for_of_statement_fields = not_yet (codes "is_await") sorts.flag ∷ needs (codes "left") (sorts.child sets.ForStatementLeft) ∷ needs (codes "right") (sorts.child sets.Expression) ∷ needs (codes "body") (sorts.child sets.Statement) ∷ []
+
+abbrev pub while_statement_fields : List Field
+while_statement_fields = needs (codes "test") (sorts.child sets.Expression) ∷ needs (codes "body") (sorts.child sets.Statement) ∷ []
+
+abbrev pub do_while_statement_fields : List Field
+do_while_statement_fields = needs (codes "body") (sorts.child sets.Statement) ∷ needs (codes "test") (sorts.child sets.Expression) ∷ []
+
+abbrev pub label_identifier_fields : List Field
+label_identifier_fields = needs (codes "name") sorts.text ∷ []
+
+abbrev pub labeled_statement_fields : List Field
+labeled_statement_fields = needs (codes "label") (sorts.child sets.LabelIdentifier) ∷ needs (codes "body") (sorts.child sets.Statement) ∷ []
+
+abbrev pub continue_statement_fields : List Field
+continue_statement_fields = may_have (codes "label") (sorts.child sets.LabelIdentifier) ∷ []
+
+abbrev pub break_statement_fields : List Field
+break_statement_fields = may_have (codes "label") (sorts.child sets.LabelIdentifier) ∷ []
+
+abbrev pub throw_statement_fields : List Field
+throw_statement_fields = needs (codes "argument") (sorts.child sets.Expression) ∷ []
+
+abbrev pub debugger_statement_fields : List Field
+debugger_statement_fields = []
+
+abbrev pub switch_statement_fields : List Field
+switch_statement_fields = needs (codes "discriminant") (sorts.child sets.Expression) ∷ may_have (codes "cases") (sorts.children sets.SwitchCase) ∷ []
+
+abbrev pub switch_case_fields : List Field
+switch_case_fields = may_have (codes "test") (sorts.child sets.Expression) ∷ may_have (codes "consequent") (sorts.children sets.Statement) ∷ []
+
+abbrev pub try_statement_fields : List Field
+try_statement_fields = needs (codes "block") (sorts.child sets.BlockStatement) ∷ may_have (codes "handler") (sorts.child sets.CatchClause) ∷ may_have (codes "finalizer") (sorts.child sets.BlockStatement) ∷ []
+
+abbrev pub catch_clause_fields : List Field
+catch_clause_fields = may_have (codes "param") (sorts.child sets.BindingPattern) ∷ not_yet (codes "type_annotation") sorts.unread_child ∷ needs (codes "body") (sorts.child sets.BlockStatement) ∷ []
+
 abbrev pub fields : NodeType → List Field
 fields types.Program = program_fields
 fields types.Comment = comment_fields
@@ -221,3 +266,18 @@ fields types.FormalParameter = formal_parameter_fields
 fields types.FormalParameterRest = formal_parameter_rest_fields
 fields types.FormalParameters = formal_parameters_fields
 fields types.ArrowFunctionExpression = arrow_function_expression_fields
+fields types.ForStatement = for_statement_fields
+fields types.ForInStatement = for_in_statement_fields
+fields types.ForOfStatement = for_of_statement_fields
+fields types.WhileStatement = while_statement_fields
+fields types.DoWhileStatement = do_while_statement_fields
+fields types.LabelIdentifier = label_identifier_fields
+fields types.LabeledStatement = labeled_statement_fields
+fields types.ContinueStatement = continue_statement_fields
+fields types.BreakStatement = break_statement_fields
+fields types.ThrowStatement = throw_statement_fields
+fields types.DebuggerStatement = debugger_statement_fields
+fields types.SwitchStatement = switch_statement_fields
+fields types.SwitchCase = switch_case_fields
+fields types.TryStatement = try_statement_fields
+fields types.CatchClause = catch_clause_fields

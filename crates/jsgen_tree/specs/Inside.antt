@@ -1,19 +1,30 @@
--- What a statement ends in, what stands within the parentheses of an expression, what a link goes on from, which name a node is, and whether a number is negative.
+-- What a statement ends in, what a declaration declares by, what stands within the parentheses of an expression, what a link goes on from, which name a node is, and whether a number is negative.
 use Rattle.std.specs.Prelude.{◌≡◌, ◌==◌, ℕ, List, [], ◌∷◌, Bool, true, false, Option, Some, None, is_some, option_and_then, codes, if◌then◌else◌, ◌||◌}
 use Rattle.std.specs.Str.{bytes_eq}
 use Rattle.jsgen_tree.specs.Tree.{Tree, Atoms, absent, given, type_of}
-use Rattle.jsgen_tree.specs.Nodes.{parenthesized, if_statement, identifier_reference, identifier_name, numeric_literal, big_int_literal, static_member, computed_member, call}
+use Rattle.jsgen_tree.specs.Nodes.{parenthesized, if_statement, for_statement, for_in_statement, for_of_statement, while_statement, labeled_statement, variable_declaration, identifier_reference, identifier_name, numeric_literal, big_int_literal, static_member, computed_member, call}
 use Rattle.jsgen_tree.specs.Named.{Named, looked_up, bound}
-use Rattle.jsgen_tree.specs.Values.{identifier_reference_name, identifier_reference_reference, binding_identifier_name, binding_identifier_symbol, identifier_name_name, numeric_literal_negative, big_int_literal_value, static_member_expression_optional, computed_member_expression_optional, call_expression_optional}
+use Rattle.jsgen_tree.specs.Values.{variable_declaration_kind, identifier_reference_name, identifier_reference_reference, binding_identifier_name, binding_identifier_symbol, identifier_name_name, numeric_literal_negative, big_int_literal_value, static_member_expression_optional, computed_member_expression_optional, call_expression_optional}
 use Rattle.jsgen_tree.specs.Sets.{is_expression}
 use Rattle.jsgen_tree.specs.Characters.{characters}
 use Rattle.jsgen_tree.specs.declared.expressions.IdentifierReference.{IdentifierReference}
+use Rattle.jsgen_tree.specs.declared.statements.VariableDeclarationKind.{VariableDeclarationKind}
 
--- a statement ends in an `if` without `else`
+-- a statement ends in an `if` without `else`: by itself, or by what it ends in
 abbrev pub ends_open : Tree → Bool
 ends_open (if_statement a test consequent absent) = true
 ends_open (if_statement a test consequent (given alternate)) = ends_open alternate
+ends_open (for_statement a init test _ body) = ends_open body
+ends_open (for_in_statement a left right body) = ends_open body
+ends_open (for_of_statement a left right body) = ends_open body
+ends_open (while_statement a test body) = ends_open body
+ends_open (labeled_statement a label body) = ends_open body
 ends_open t = false
+
+-- the word that begins a declaration of variables
+abbrev pub declared_kind : Tree → Option VariableDeclarationKind
+declared_kind (variable_declaration a declarations) = Some (variable_declaration_kind a)
+declared_kind t = None
 
 -- what stands within the parentheses that an expression may have round it
 abbrev pub without_parentheses : Tree → Tree

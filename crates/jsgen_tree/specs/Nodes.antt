@@ -125,3 +125,48 @@ formal_parameters a items rest = node types.FormalParameters a (many items (mayb
 
 pattern abbrev pub arrow_function : Atoms → Tree → Tree → Tree
 arrow_function a params body = node types.ArrowFunctionExpression a (one params (one body no_slots))
+
+pattern abbrev pub for_statement : Atoms → Maybe → Maybe → Maybe → Tree → Tree
+for_statement a init test update_child body = node types.ForStatement a (maybe init (maybe test (maybe update_child (one body no_slots))))
+
+pattern abbrev pub for_in_statement : Atoms → Tree → Tree → Tree → Tree
+for_in_statement a left right body = node types.ForInStatement a (one left (one right (one body no_slots)))
+
+pattern abbrev pub for_of_statement : Atoms → Tree → Tree → Tree → Tree
+for_of_statement a left right body = node types.ForOfStatement a (one left (one right (one body no_slots)))
+
+pattern abbrev pub while_statement : Atoms → Tree → Tree → Tree
+while_statement a test body = node types.WhileStatement a (one test (one body no_slots))
+
+pattern abbrev pub do_while_statement : Atoms → Tree → Tree → Tree
+do_while_statement a body test = node types.DoWhileStatement a (one body (one test no_slots))
+
+pattern abbrev pub label_identifier : Atoms → Tree
+label_identifier a = node types.LabelIdentifier a no_slots
+
+pattern abbrev pub labeled_statement : Atoms → Tree → Tree → Tree
+labeled_statement a label body = node types.LabeledStatement a (one label (one body no_slots))
+
+pattern abbrev pub continue_statement : Atoms → Maybe → Tree
+continue_statement a label = node types.ContinueStatement a (maybe label no_slots)
+
+pattern abbrev pub break_statement : Atoms → Maybe → Tree
+break_statement a label = node types.BreakStatement a (maybe label no_slots)
+
+pattern abbrev pub throw_statement : Atoms → Tree → Tree
+throw_statement a argument = node types.ThrowStatement a (one argument no_slots)
+
+pattern abbrev pub debugger_statement : Atoms → Tree
+debugger_statement a = node types.DebuggerStatement a no_slots
+
+pattern abbrev pub switch_statement : Atoms → Tree → Trees → Tree
+switch_statement a discriminant cases = node types.SwitchStatement a (one discriminant (many cases no_slots))
+
+pattern abbrev pub switch_case : Atoms → Maybe → Trees → Tree
+switch_case a test consequent = node types.SwitchCase a (maybe test (many consequent no_slots))
+
+pattern abbrev pub try_statement : Atoms → Tree → Maybe → Maybe → Tree
+try_statement a block_child handler finalizer = node types.TryStatement a (one block_child (maybe handler (maybe finalizer no_slots)))
+
+pattern abbrev pub catch_clause : Atoms → Maybe → Tree → Tree
+catch_clause a param body = node types.CatchClause a (maybe param (one body no_slots))

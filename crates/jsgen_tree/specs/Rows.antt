@@ -5,7 +5,7 @@ use Rattle.jsgen_syntax.specs.Units.{js_units}
 use Rattle.jsgen_tree.specs.Characters.{characters, number_if_given, numeric_values}
 use Rattle.jsgen_tree.specs.Tree.{Tree, optional, trees, holed}
 use Rattle.jsgen_tree.specs.Atom.{no_value, text, units, number, flag, kind_of_comment, content_of_comment, source_kind, declaration_kind, binary_operator, logical_operator, property_kind, unary_operator, update_operator, assignment_operator}
-use Rattle.jsgen_tree.specs.Nodes.{program, comment, directive, variable_declaration, variable_declarator, binding_identifier, expression_statement, block, if_statement, empty_statement, identifier_reference, this_expression, null_literal, boolean_literal, numeric_literal, big_int_literal, string_literal, parenthesized, binary, logical, identifier_name, static_member, computed_member, call, chain, spread, array, object_property, object_expression, unary, new_target, update, new_expression, super, conditional, sequence, assignment, formal_parameter, formal_parameter_rest, formal_parameters, arrow_function}
+use Rattle.jsgen_tree.specs.Nodes.{program, comment, directive, variable_declaration, variable_declarator, binding_identifier, expression_statement, block, if_statement, empty_statement, identifier_reference, this_expression, null_literal, boolean_literal, numeric_literal, big_int_literal, string_literal, parenthesized, binary, logical, identifier_name, static_member, computed_member, call, chain, spread, array, object_property, object_expression, unary, new_target, update, new_expression, super, conditional, sequence, assignment, formal_parameter, formal_parameter_rest, formal_parameters, arrow_function, for_statement, for_in_statement, for_of_statement, while_statement, do_while_statement, label_identifier, labeled_statement, continue_statement, break_statement, throw_statement, debugger_statement, switch_statement, switch_case, try_statement, catch_clause}
 use Rattle.jsgen_tree.specs.declared.nodes.ExpressionNode.{ExpressionNode}
 use Rattle.jsgen_tree.specs.declared.nodes.DeclarationNode.{DeclarationNode}
 use Rattle.jsgen_tree.specs.declared.nodes.StatementNode.{StatementNode}
@@ -51,6 +51,21 @@ use Rattle.jsgen_tree.specs.declared.functions.FormalParameter.{FormalParameter}
 use Rattle.jsgen_tree.specs.declared.functions.FormalParameterRest.{FormalParameterRest}
 use Rattle.jsgen_tree.specs.declared.functions.FormalParameters.{FormalParameters}
 use Rattle.jsgen_tree.specs.declared.functions.ArrowFunctionExpression.{ArrowFunctionExpression}
+use Rattle.jsgen_tree.specs.declared.loops.ForStatement.{ForStatement}
+use Rattle.jsgen_tree.specs.declared.loops.ForInStatement.{ForInStatement}
+use Rattle.jsgen_tree.specs.declared.loops.ForOfStatement.{ForOfStatement}
+use Rattle.jsgen_tree.specs.declared.loops.WhileStatement.{WhileStatement}
+use Rattle.jsgen_tree.specs.declared.loops.DoWhileStatement.{DoWhileStatement}
+use Rattle.jsgen_tree.specs.declared.loops.LabelIdentifier.{LabelIdentifier}
+use Rattle.jsgen_tree.specs.declared.loops.LabeledStatement.{LabeledStatement}
+use Rattle.jsgen_tree.specs.declared.loops.ContinueStatement.{ContinueStatement}
+use Rattle.jsgen_tree.specs.declared.loops.BreakStatement.{BreakStatement}
+use Rattle.jsgen_tree.specs.declared.loops.ThrowStatement.{ThrowStatement}
+use Rattle.jsgen_tree.specs.declared.loops.DebuggerStatement.{DebuggerStatement}
+use Rattle.jsgen_tree.specs.declared.choices.SwitchStatement.{SwitchStatement}
+use Rattle.jsgen_tree.specs.declared.choices.SwitchCase.{SwitchCase}
+use Rattle.jsgen_tree.specs.declared.choices.TryStatement.{TryStatement}
+use Rattle.jsgen_tree.specs.declared.choices.CatchClause.{CatchClause}
 use Rattle.jsgen_tree.specs.declared.sets.Expression.{Expression}
 use Rattle.jsgen_tree.specs.declared.sets.Argument.{Argument}
 use Rattle.jsgen_tree.specs.declared.sets.ArrayExpressionElement.{ArrayExpressionElement}
@@ -58,6 +73,8 @@ use Rattle.jsgen_tree.specs.declared.sets.ChainElement.{ChainElement}
 use Rattle.jsgen_tree.specs.declared.sets.SimpleAssignmentTarget.{SimpleAssignmentTarget}
 use Rattle.jsgen_tree.specs.declared.sets.AssignmentTarget.{AssignmentTarget}
 use Rattle.jsgen_tree.specs.declared.sets.ArrowFunctionBody.{ArrowFunctionBody}
+use Rattle.jsgen_tree.specs.declared.sets.ForStatementInit.{ForStatementInit}
+use Rattle.jsgen_tree.specs.declared.sets.ForStatementLeft.{ForStatementLeft}
 use Rattle.jsgen_tree.specs.declared.sets.ObjectPropertyKind.{ObjectPropertyKind}
 use Rattle.jsgen_tree.specs.declared.sets.PropertyKey.{PropertyKey}
 use Rattle.jsgen_tree.specs.declared.sets.Declaration.{Declaration}
@@ -70,6 +87,8 @@ use Rattle.jsgen_tree.specs.declared.sets.ChainElement.TheVariants as chain_elem
 use Rattle.jsgen_tree.specs.declared.sets.SimpleAssignmentTarget.TheVariants as simple_assignment_target
 use Rattle.jsgen_tree.specs.declared.sets.AssignmentTarget.TheVariants as assignment_target
 use Rattle.jsgen_tree.specs.declared.sets.ArrowFunctionBody.TheVariants as arrow_function_body
+use Rattle.jsgen_tree.specs.declared.sets.ForStatementInit.TheVariants as for_statement_init
+use Rattle.jsgen_tree.specs.declared.sets.ForStatementLeft.TheVariants as for_statement_left
 use Rattle.jsgen_tree.specs.declared.sets.ObjectPropertyKind.TheVariants as object_property_kind
 use Rattle.jsgen_tree.specs.declared.sets.PropertyKey.TheVariants as property_key
 use Rattle.jsgen_tree.specs.declared.sets.Declaration.TheVariants as declaration
@@ -249,6 +268,61 @@ in_arrow_function_body plain (arrow_function_body.Expression b) = in_expression 
 abbrev pub arrow_function_expression_row : {N : Type 0} → (N → Tree) → ArrowFunctionExpression N → Tree
 arrow_function_expression_row plain n = arrow_function (record { span = n.span; values = no_value ∷ flag n.pure ∷ flag n.pife ∷ [] }) (formal_parameters_row plain n.params.value) (in_arrow_function_body plain n.body)
 
+abbrev pub in_for_statement_init : {N : Type 0} → (N → Tree) → ForStatementInit N → Tree
+in_for_statement_init plain (for_statement_init.VariableDeclaration b) = variable_declaration_row plain b.value
+in_for_statement_init plain (for_statement_init.Expression b) = in_expression plain b.value
+
+abbrev pub for_statement_row : {N : Type 0} → (N → Tree) → ForStatement N → Tree
+for_statement_row plain n = for_statement (record { span = n.span; values = [] }) (optional (option_map (in_for_statement_init plain) n.init)) (optional (option_map (in_expression plain) n.test)) (optional (option_map (in_expression plain) n.update)) (in_statement plain n.body)
+
+abbrev pub in_for_statement_left : {N : Type 0} → (N → Tree) → ForStatementLeft N → Tree
+in_for_statement_left plain (for_statement_left.VariableDeclaration b) = variable_declaration_row plain b.value
+in_for_statement_left plain (for_statement_left.IdentifierReference b) = identifier_reference_row b.value
+in_for_statement_left plain (for_statement_left.StaticMemberExpression b) = static_member_expression_row plain b.value
+in_for_statement_left plain (for_statement_left.ComputedMemberExpression b) = computed_member_expression_row plain b.value
+
+abbrev pub for_in_statement_row : {N : Type 0} → (N → Tree) → ForInStatement N → Tree
+for_in_statement_row plain n = for_in_statement (record { span = n.span; values = [] }) (in_for_statement_left plain n.left) (in_expression plain n.right) (in_statement plain n.body)
+
+abbrev pub for_of_statement_row : {N : Type 0} → (N → Tree) → ForOfStatement N → Tree
+for_of_statement_row plain n = for_of_statement (record { span = n.span; values = no_value ∷ [] }) (in_for_statement_left plain n.left) (in_expression plain n.right) (in_statement plain n.body)
+
+abbrev pub while_statement_row : {N : Type 0} → (N → Tree) → WhileStatement N → Tree
+while_statement_row plain n = while_statement (record { span = n.span; values = [] }) (in_expression plain n.test) (in_statement plain n.body)
+
+abbrev pub do_while_statement_row : {N : Type 0} → (N → Tree) → DoWhileStatement N → Tree
+do_while_statement_row plain n = do_while_statement (record { span = n.span; values = [] }) (in_statement plain n.body) (in_expression plain n.test)
+
+abbrev pub label_identifier_row : LabelIdentifier → Tree
+label_identifier_row n = label_identifier (record { span = n.span; values = text (characters n.name) ∷ [] })
+
+abbrev pub labeled_statement_row : {N : Type 0} → (N → Tree) → LabeledStatement N → Tree
+labeled_statement_row plain n = labeled_statement (record { span = n.span; values = [] }) (label_identifier_row n.label.value) (in_statement plain n.body)
+
+abbrev pub continue_statement_row : ContinueStatement → Tree
+continue_statement_row n = continue_statement (record { span = n.span; values = [] }) (optional (option_map (λ b. label_identifier_row b.value) n.label))
+
+abbrev pub break_statement_row : BreakStatement → Tree
+break_statement_row n = break_statement (record { span = n.span; values = [] }) (optional (option_map (λ b. label_identifier_row b.value) n.label))
+
+abbrev pub throw_statement_row : {N : Type 0} → (N → Tree) → ThrowStatement N → Tree
+throw_statement_row plain n = throw_statement (record { span = n.span; values = [] }) (in_expression plain n.argument)
+
+abbrev pub debugger_statement_row : DebuggerStatement → Tree
+debugger_statement_row n = debugger_statement (record { span = n.span; values = [] })
+
+abbrev pub switch_case_row : {N : Type 0} → (N → Tree) → SwitchCase N → Tree
+switch_case_row plain n = switch_case (record { span = n.span; values = [] }) (optional (option_map (in_expression plain) n.test)) (trees (map (in_statement plain) n.consequent.items))
+
+abbrev pub switch_statement_row : {N : Type 0} → (N → Tree) → SwitchStatement N → Tree
+switch_statement_row plain n = switch_statement (record { span = n.span; values = [] }) (in_expression plain n.discriminant) (trees (map (switch_case_row plain) n.cases.items))
+
+abbrev pub catch_clause_row : {N : Type 0} → (N → Tree) → CatchClause N → Tree
+catch_clause_row plain n = catch_clause (record { span = n.span; values = [] }) (optional (option_map (in_binding_pattern plain) n.param)) (block_statement_row plain n.body.value)
+
+abbrev pub try_statement_row : {N : Type 0} → (N → Tree) → TryStatement N → Tree
+try_statement_row plain n = try_statement (record { span = n.span; values = [] }) (block_statement_row plain n.block.value) (optional (option_map (λ b. catch_clause_row plain b.value) n.handler)) (optional (option_map (λ b. block_statement_row plain b.value) n.finalizer))
+
 -- ---- sets that nest
 
 abbrev pub expression_plain : {N : Type 0} → (N → Tree) → Expression N → Tree
@@ -287,6 +361,18 @@ statement_plain plain (statement.ExpressionStatement b) = expression_statement_r
 statement_plain plain (statement.BlockStatement b) = block_statement_row plain b.value
 statement_plain plain (statement.IfStatement b) = if_statement_row plain b.value
 statement_plain plain (statement.EmptyStatement b) = empty_statement_row b.value
+statement_plain plain (statement.ForStatement b) = for_statement_row plain b.value
+statement_plain plain (statement.ForInStatement b) = for_in_statement_row plain b.value
+statement_plain plain (statement.ForOfStatement b) = for_of_statement_row plain b.value
+statement_plain plain (statement.WhileStatement b) = while_statement_row plain b.value
+statement_plain plain (statement.DoWhileStatement b) = do_while_statement_row plain b.value
+statement_plain plain (statement.LabeledStatement b) = labeled_statement_row plain b.value
+statement_plain plain (statement.ContinueStatement b) = continue_statement_row b.value
+statement_plain plain (statement.BreakStatement b) = break_statement_row b.value
+statement_plain plain (statement.ThrowStatement b) = throw_statement_row plain b.value
+statement_plain plain (statement.DebuggerStatement b) = debugger_statement_row b.value
+statement_plain plain (statement.SwitchStatement b) = switch_statement_row plain b.value
+statement_plain plain (statement.TryStatement b) = try_statement_row plain b.value
 
 abbrev pub binding_pattern_plain : BindingPattern → Tree
 binding_pattern_plain (binding_pattern.BindingIdentifier b) = binding_identifier_row b.value

@@ -110,6 +110,42 @@ is_assignment_target types.StaticMemberExpression = true
 is_assignment_target types.ComputedMemberExpression = true
 is_assignment_target other = false
 
+abbrev pub is_for_statement_init : NodeType → Bool
+is_for_statement_init types.VariableDeclaration = true
+is_for_statement_init types.IdentifierReference = true
+is_for_statement_init types.ThisExpression = true
+is_for_statement_init types.NullLiteral = true
+is_for_statement_init types.BooleanLiteral = true
+is_for_statement_init types.NumericLiteral = true
+is_for_statement_init types.BigIntLiteral = true
+is_for_statement_init types.StringLiteral = true
+is_for_statement_init types.BinaryExpression = true
+is_for_statement_init types.LogicalExpression = true
+is_for_statement_init types.ParenthesizedExpression = true
+is_for_statement_init types.StaticMemberExpression = true
+is_for_statement_init types.ComputedMemberExpression = true
+is_for_statement_init types.CallExpression = true
+is_for_statement_init types.ChainExpression = true
+is_for_statement_init types.ArrayExpression = true
+is_for_statement_init types.ObjectExpression = true
+is_for_statement_init types.UnaryExpression = true
+is_for_statement_init types.UpdateExpression = true
+is_for_statement_init types.NewExpression = true
+is_for_statement_init types.NewTarget = true
+is_for_statement_init types.Super = true
+is_for_statement_init types.ConditionalExpression = true
+is_for_statement_init types.SequenceExpression = true
+is_for_statement_init types.AssignmentExpression = true
+is_for_statement_init types.ArrowFunctionExpression = true
+is_for_statement_init other = false
+
+abbrev pub is_for_statement_left : NodeType → Bool
+is_for_statement_left types.VariableDeclaration = true
+is_for_statement_left types.IdentifierReference = true
+is_for_statement_left types.StaticMemberExpression = true
+is_for_statement_left types.ComputedMemberExpression = true
+is_for_statement_left other = false
+
 abbrev pub is_object_property_kind : NodeType → Bool
 is_object_property_kind types.ObjectProperty = true
 is_object_property_kind types.SpreadElement = true
@@ -154,6 +190,18 @@ is_statement types.ExpressionStatement = true
 is_statement types.BlockStatement = true
 is_statement types.IfStatement = true
 is_statement types.EmptyStatement = true
+is_statement types.ForStatement = true
+is_statement types.ForInStatement = true
+is_statement types.ForOfStatement = true
+is_statement types.WhileStatement = true
+is_statement types.DoWhileStatement = true
+is_statement types.LabeledStatement = true
+is_statement types.ContinueStatement = true
+is_statement types.BreakStatement = true
+is_statement types.ThrowStatement = true
+is_statement types.DebuggerStatement = true
+is_statement types.SwitchStatement = true
+is_statement types.TryStatement = true
 is_statement other = false
 
 abbrev pub is_binding_pattern : NodeType → Bool
@@ -188,6 +236,22 @@ abbrev pub is_formal_parameters : NodeType → Bool
 is_formal_parameters types.FormalParameters = true
 is_formal_parameters other = false
 
+abbrev pub is_label_identifier : NodeType → Bool
+is_label_identifier types.LabelIdentifier = true
+is_label_identifier other = false
+
+abbrev pub is_switch_case : NodeType → Bool
+is_switch_case types.SwitchCase = true
+is_switch_case other = false
+
+abbrev pub is_block_statement : NodeType → Bool
+is_block_statement types.BlockStatement = true
+is_block_statement other = false
+
+abbrev pub is_catch_clause : NodeType → Bool
+is_catch_clause types.CatchClause = true
+is_catch_clause other = false
+
 abbrev pub in_set : NodeSet → NodeType → Bool
 in_set sets.Comment t = is_comment t
 in_set sets.Directive t = is_directive t
@@ -207,4 +271,10 @@ in_set sets.FormalParameter t = is_formal_parameter t
 in_set sets.FormalParameterRest t = is_formal_parameter_rest t
 in_set sets.FormalParameters t = is_formal_parameters t
 in_set sets.ArrowFunctionBody t = is_expression t
+in_set sets.ForStatementInit t = is_for_statement_init t
+in_set sets.ForStatementLeft t = is_for_statement_left t
+in_set sets.LabelIdentifier t = is_label_identifier t
+in_set sets.SwitchCase t = is_switch_case t
+in_set sets.BlockStatement t = is_block_statement t
+in_set sets.CatchClause t = is_catch_clause t
 in_set sets.Link t = is_expression t

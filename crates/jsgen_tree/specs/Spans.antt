@@ -8,6 +8,8 @@ use Rattle.jsgen_tree.specs.declared.sets.ChainElement.{ChainElement}
 use Rattle.jsgen_tree.specs.declared.sets.SimpleAssignmentTarget.{SimpleAssignmentTarget}
 use Rattle.jsgen_tree.specs.declared.sets.AssignmentTarget.{AssignmentTarget}
 use Rattle.jsgen_tree.specs.declared.sets.ArrowFunctionBody.{ArrowFunctionBody}
+use Rattle.jsgen_tree.specs.declared.sets.ForStatementInit.{ForStatementInit}
+use Rattle.jsgen_tree.specs.declared.sets.ForStatementLeft.{ForStatementLeft}
 use Rattle.jsgen_tree.specs.declared.sets.ObjectPropertyKind.{ObjectPropertyKind}
 use Rattle.jsgen_tree.specs.declared.sets.PropertyKey.{PropertyKey}
 use Rattle.jsgen_tree.specs.declared.sets.Declaration.{Declaration}
@@ -20,6 +22,8 @@ use Rattle.jsgen_tree.specs.declared.sets.ChainElement.TheVariants as chain_elem
 use Rattle.jsgen_tree.specs.declared.sets.SimpleAssignmentTarget.TheVariants as simple_assignment_target
 use Rattle.jsgen_tree.specs.declared.sets.AssignmentTarget.TheVariants as assignment_target
 use Rattle.jsgen_tree.specs.declared.sets.ArrowFunctionBody.TheVariants as arrow_function_body
+use Rattle.jsgen_tree.specs.declared.sets.ForStatementInit.TheVariants as for_statement_init
+use Rattle.jsgen_tree.specs.declared.sets.ForStatementLeft.TheVariants as for_statement_left
 use Rattle.jsgen_tree.specs.declared.sets.ObjectPropertyKind.TheVariants as object_property_kind
 use Rattle.jsgen_tree.specs.declared.sets.PropertyKey.TheVariants as property_key
 use Rattle.jsgen_tree.specs.declared.sets.Declaration.TheVariants as declaration
@@ -79,6 +83,16 @@ assignment_target_span (assignment_target.ComputedMemberExpression b) = b.value.
 abbrev pub arrow_function_body_span : {N : Type 0} → (N → Span) → ArrowFunctionBody N → Span
 arrow_function_body_span own (arrow_function_body.Expression b) = own b.value.node
 
+abbrev pub for_statement_init_span : {N : Type 0} → (N → Span) → ForStatementInit N → Span
+for_statement_init_span own (for_statement_init.VariableDeclaration b) = b.value.span
+for_statement_init_span own (for_statement_init.Expression b) = own b.value.node
+
+abbrev pub for_statement_left_span : {N : Type 0} → ForStatementLeft N → Span
+for_statement_left_span (for_statement_left.VariableDeclaration b) = b.value.span
+for_statement_left_span (for_statement_left.IdentifierReference b) = b.value.span
+for_statement_left_span (for_statement_left.StaticMemberExpression b) = b.value.span
+for_statement_left_span (for_statement_left.ComputedMemberExpression b) = b.value.span
+
 abbrev pub object_property_kind_span : {N : Type 0} → ObjectPropertyKind N → Span
 object_property_kind_span (object_property_kind.ObjectProperty b) = b.value.span
 object_property_kind_span (object_property_kind.SpreadElement b) = b.value.span
@@ -96,6 +110,18 @@ statement_span own (statement.ExpressionStatement b) = b.value.span
 statement_span own (statement.BlockStatement b) = b.value.span
 statement_span own (statement.IfStatement b) = b.value.span
 statement_span own (statement.EmptyStatement b) = b.value.span
+statement_span own (statement.ForStatement b) = b.value.span
+statement_span own (statement.ForInStatement b) = b.value.span
+statement_span own (statement.ForOfStatement b) = b.value.span
+statement_span own (statement.WhileStatement b) = b.value.span
+statement_span own (statement.DoWhileStatement b) = b.value.span
+statement_span own (statement.LabeledStatement b) = b.value.span
+statement_span own (statement.ContinueStatement b) = b.value.span
+statement_span own (statement.BreakStatement b) = b.value.span
+statement_span own (statement.ThrowStatement b) = b.value.span
+statement_span own (statement.DebuggerStatement b) = b.value.span
+statement_span own (statement.SwitchStatement b) = b.value.span
+statement_span own (statement.TryStatement b) = b.value.span
 
 abbrev pub binding_pattern_span : BindingPattern → Span
 binding_pattern_span (binding_pattern.BindingIdentifier b) = b.value.span

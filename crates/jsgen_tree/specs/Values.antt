@@ -249,3 +249,10 @@ arrow_function_expression_pure a = as_flag (value_at 1 a.values)
 
 abbrev pub arrow_function_expression_pife : Atoms → Bool
 arrow_function_expression_pife a = as_flag (value_at 2 a.values)
+
+-- not read yet
+abbrev pub for_of_statement_is_await : Atoms → Atom
+for_of_statement_is_await a = value_at 0 a.values
+
+abbrev pub label_identifier_name : Atoms → List ℕ
+label_identifier_name a = as_text (value_at 0 a.values)

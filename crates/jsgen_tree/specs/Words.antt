@@ -32,6 +32,8 @@ content_of_comment_word content_of_comments.CoverageIgnoreFile = codes "coverage
 
 abbrev pub declaration_word : VariableDeclarationKind → List ℕ
 declaration_word declaration_kinds.Const = codes "const"
+declaration_word declaration_kinds.Let = codes "let"
+declaration_word declaration_kinds.Var = codes "var"
 
 abbrev pub property_word : PropertyKind → List ℕ
 property_word property_kinds.Init = codes "init"

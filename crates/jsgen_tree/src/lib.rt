@@ -7,11 +7,14 @@
 #![tactic(auto)]
 
 mod assignments;
+mod choices;
 mod collections;
 mod expressions;
 mod functions;
 mod inside;
+mod kinds;
 mod laws;
+mod loops;
 mod names;
 mod node_type;
 mod nodes;
@@ -25,6 +28,7 @@ mod statements;
 mod types;
 
 pub use assignments::{AssignmentExpression, ConditionalExpression, SequenceExpression};
+pub use choices::{CatchClause, SwitchCase, SwitchStatement, TryStatement};
 pub use collections::{
     ArrayExpression, ObjectExpression, ObjectProperty, PropertyKind, SpreadElement,
 };
@@ -37,6 +41,11 @@ pub use functions::{
     ArrowFunctionExpression, FormalParameter, FormalParameterRest, FormalParameters,
 };
 pub use laws::fields_are_named;
+pub use loops::{
+    BreakStatement, ContinueStatement, DebuggerStatement, DoWhileStatement, ForInStatement,
+    ForOfStatement, ForStatement, LabelIdentifier, LabeledStatement, ThrowStatement,
+    WhileStatement,
+};
 pub use names::is_proto;
 pub use nodes::{BindingPatternNode, DeclarationNode, ExpressionNode, Node, StatementNode};
 pub use numbers::{NumericValue, behind_minus};
@@ -45,8 +54,8 @@ pub use options::{CodegenOptions, CommentOptions, LegalComment};
 pub use scoping::{PrivateMappings, Scoping, Tables};
 pub use sets::{
     Argument, ArrayExpressionElement, ArrowFunctionBody, AssignmentTarget, BindingPattern,
-    ChainElement, Declaration, Expression, ObjectPropertyKind, PropertyKey, SimpleAssignmentTarget,
-    Statement,
+    ChainElement, Declaration, Expression, ForStatementInit, ForStatementLeft, ObjectPropertyKind,
+    PropertyKey, SimpleAssignmentTarget, Statement,
 };
 pub use span::GetSpan;
 pub use statements::{

@@ -2,14 +2,14 @@
 // The type of a member of each set.
 ghost use Rattle.std.specs.Prelude.{◌≡◌};
 ghost use Rattle.jsgen_tree.specs.Tree.{type_of};
-ghost use Rattle.jsgen_tree.specs.Rows.{expression_plain, declaration_plain, statement_plain, binding_pattern_plain, in_argument, in_array_expression_element, in_chain_element, in_simple_assignment_target, in_assignment_target, in_arrow_function_body, in_object_property_kind, in_property_key};
+ghost use Rattle.jsgen_tree.specs.Rows.{expression_plain, declaration_plain, statement_plain, binding_pattern_plain, in_argument, in_array_expression_element, in_chain_element, in_simple_assignment_target, in_assignment_target, in_arrow_function_body, in_for_statement_init, in_for_statement_left, in_object_property_kind, in_property_key};
 ghost use Rattle.jsgen_tree.specs.Plain.{node_plain};
 
 use crate::nodes::Node;
 use crate::sets::{
     Argument, ArrayExpressionElement, ArrowFunctionBody, AssignmentTarget, BindingPattern,
-    ChainElement, Declaration, Expression, ObjectPropertyKind, PropertyKey, SimpleAssignmentTarget,
-    Statement,
+    ChainElement, Declaration, Expression, ForStatementInit, ForStatementLeft, ObjectPropertyKind,
+    PropertyKey, SimpleAssignmentTarget, Statement,
 };
 use crate::types::NodeType;
 
@@ -123,6 +123,32 @@ impl ArrowFunctionBody {
     }
 }
 
+impl ForStatementInit {
+    /// The type of the node.
+    pub fn node_type(&self) -> NodeType
+        ensures { result ≡ type_of (in_for_statement_init node_plain self.now) }
+    {
+        match self {
+            ForStatementInit::VariableDeclaration(_) => NodeType::VariableDeclaration,
+            ForStatementInit::Expression(node) => node.get().node_type(),
+        }
+    }
+}
+
+impl ForStatementLeft {
+    /// The type of the node.
+    pub fn node_type(&self) -> NodeType
+        ensures { result ≡ type_of (in_for_statement_left node_plain self.now) }
+    {
+        match self {
+            ForStatementLeft::VariableDeclaration(_) => NodeType::VariableDeclaration,
+            ForStatementLeft::IdentifierReference(_) => NodeType::IdentifierReference,
+            ForStatementLeft::StaticMemberExpression(_) => NodeType::StaticMemberExpression,
+            ForStatementLeft::ComputedMemberExpression(_) => NodeType::ComputedMemberExpression,
+        }
+    }
+}
+
 impl ObjectPropertyKind {
     /// The type of the node.
     pub fn node_type(&self) -> NodeType
@@ -170,6 +196,18 @@ impl Statement {
             Statement::BlockStatement(_) => NodeType::BlockStatement,
             Statement::IfStatement(_) => NodeType::IfStatement,
             Statement::EmptyStatement(_) => NodeType::EmptyStatement,
+            Statement::ForStatement(_) => NodeType::ForStatement,
+            Statement::ForInStatement(_) => NodeType::ForInStatement,
+            Statement::ForOfStatement(_) => NodeType::ForOfStatement,
+            Statement::WhileStatement(_) => NodeType::WhileStatement,
+            Statement::DoWhileStatement(_) => NodeType::DoWhileStatement,
+            Statement::LabeledStatement(_) => NodeType::LabeledStatement,
+            Statement::ContinueStatement(_) => NodeType::ContinueStatement,
+            Statement::BreakStatement(_) => NodeType::BreakStatement,
+            Statement::ThrowStatement(_) => NodeType::ThrowStatement,
+            Statement::DebuggerStatement(_) => NodeType::DebuggerStatement,
+            Statement::SwitchStatement(_) => NodeType::SwitchStatement,
+            Statement::TryStatement(_) => NodeType::TryStatement,
         }
     }
 }

@@ -2,6 +2,7 @@
 // Sets: what may stand in one place. A set within a set is one variant of the inner one's name.
 
 use crate::assignments::{AssignmentExpression, ConditionalExpression, SequenceExpression};
+use crate::choices::{SwitchStatement, TryStatement};
 use crate::collections::{ArrayExpression, ObjectExpression, ObjectProperty, SpreadElement};
 use crate::expressions::{
     BigIntLiteral, BinaryExpression, BooleanLiteral, CallExpression, ChainExpression,
@@ -9,6 +10,10 @@ use crate::expressions::{
     NumericLiteral, ParenthesizedExpression, StaticMemberExpression, StringLiteral, ThisExpression,
 };
 use crate::functions::ArrowFunctionExpression;
+use crate::loops::{
+    BreakStatement, ContinueStatement, DebuggerStatement, DoWhileStatement, ForInStatement,
+    ForOfStatement, ForStatement, LabeledStatement, ThrowStatement, WhileStatement,
+};
 use crate::nodes::{DeclarationNode, ExpressionNode, Node};
 use crate::operations::{NewExpression, NewTarget, Super, UnaryExpression, UpdateExpression};
 use crate::statements::{
@@ -89,6 +94,22 @@ pub enum ArrowFunctionBody<N = Node> {
     Expression(Box<ExpressionNode<N>>),
 }
 
+/// What is done before a loop.
+#[derive(Drop)]
+pub enum ForStatementInit<N = Node> {
+    VariableDeclaration(Box<VariableDeclaration<N>>),
+    Expression(Box<ExpressionNode<N>>),
+}
+
+/// What a loop gives each of its values: a binding, or what may be given a value.
+#[derive(Drop)]
+pub enum ForStatementLeft<N = Node> {
+    VariableDeclaration(Box<VariableDeclaration<N>>),
+    IdentifierReference(Box<IdentifierReference>),
+    StaticMemberExpression(Box<StaticMemberExpression<N>>),
+    ComputedMemberExpression(Box<ComputedMemberExpression<N>>),
+}
+
 /// What may stand in an object.
 #[derive(Drop)]
 pub enum ObjectPropertyKind<N = Node> {
@@ -115,6 +136,18 @@ pub enum Statement<N = Node> {
     BlockStatement(Box<BlockStatement<N>>),
     IfStatement(Box<IfStatement<N>>),
     EmptyStatement(Box<EmptyStatement>),
+    ForStatement(Box<ForStatement<N>>),
+    ForInStatement(Box<ForInStatement<N>>),
+    ForOfStatement(Box<ForOfStatement<N>>),
+    WhileStatement(Box<WhileStatement<N>>),
+    DoWhileStatement(Box<DoWhileStatement<N>>),
+    LabeledStatement(Box<LabeledStatement<N>>),
+    ContinueStatement(Box<ContinueStatement>),
+    BreakStatement(Box<BreakStatement>),
+    ThrowStatement(Box<ThrowStatement<N>>),
+    DebuggerStatement(Box<DebuggerStatement>),
+    SwitchStatement(Box<SwitchStatement<N>>),
+    TryStatement(Box<TryStatement<N>>),
 }
 
 #[derive(Drop)]

@@ -3,9 +3,10 @@
 ghost use Rattle.std.specs.Prelude.{◌≡◌};
 ghost use Rattle.jsgen_tree.specs.Tree.{span_of};
 ghost use Rattle.jsgen_tree.specs.Plain.{node_plain};
-ghost use Rattle.jsgen_tree.specs.Spans.{expression_span, argument_span, array_expression_element_span, chain_element_span, simple_assignment_target_span, assignment_target_span, arrow_function_body_span, object_property_kind_span, property_key_span, declaration_span, statement_span, binding_pattern_span};
+ghost use Rattle.jsgen_tree.specs.Spans.{expression_span, argument_span, array_expression_element_span, chain_element_span, simple_assignment_target_span, assignment_target_span, arrow_function_body_span, for_statement_init_span, for_statement_left_span, object_property_kind_span, property_key_span, declaration_span, statement_span, binding_pattern_span};
 
 use crate::assignments::{AssignmentExpression, ConditionalExpression, SequenceExpression};
+use crate::choices::{CatchClause, SwitchCase, SwitchStatement, TryStatement};
 use crate::collections::{ArrayExpression, ObjectExpression, ObjectProperty, SpreadElement};
 use crate::expressions::{
     BigIntLiteral, BinaryExpression, BooleanLiteral, CallExpression, ChainExpression,
@@ -15,12 +16,17 @@ use crate::expressions::{
 use crate::functions::{
     ArrowFunctionExpression, FormalParameter, FormalParameterRest, FormalParameters,
 };
+use crate::loops::{
+    BreakStatement, ContinueStatement, DebuggerStatement, DoWhileStatement, ForInStatement,
+    ForOfStatement, ForStatement, LabelIdentifier, LabeledStatement, ThrowStatement,
+    WhileStatement,
+};
 use crate::nodes::Node;
 use crate::operations::{NewExpression, NewTarget, Super, UnaryExpression, UpdateExpression};
 use crate::sets::{
     Argument, ArrayExpressionElement, ArrowFunctionBody, AssignmentTarget, BindingPattern,
-    ChainElement, Declaration, Expression, ObjectPropertyKind, PropertyKey, SimpleAssignmentTarget,
-    Statement,
+    ChainElement, Declaration, Expression, ForStatementInit, ForStatementLeft, ObjectPropertyKind,
+    PropertyKey, SimpleAssignmentTarget, Statement,
 };
 use crate::statements::{
     BindingIdentifier, BlockStatement, Comment, Directive, EmptyStatement, ExpressionStatement,
@@ -366,6 +372,126 @@ impl<N> GetSpan for ArrowFunctionExpression<N> {
     }
 }
 
+impl<N> GetSpan for ForStatement<N> {
+    ghost own_span = { λ n. n.span };
+
+    fn span(&self) -> Span {
+        self.span
+    }
+}
+
+impl<N> GetSpan for ForInStatement<N> {
+    ghost own_span = { λ n. n.span };
+
+    fn span(&self) -> Span {
+        self.span
+    }
+}
+
+impl<N> GetSpan for ForOfStatement<N> {
+    ghost own_span = { λ n. n.span };
+
+    fn span(&self) -> Span {
+        self.span
+    }
+}
+
+impl<N> GetSpan for WhileStatement<N> {
+    ghost own_span = { λ n. n.span };
+
+    fn span(&self) -> Span {
+        self.span
+    }
+}
+
+impl<N> GetSpan for DoWhileStatement<N> {
+    ghost own_span = { λ n. n.span };
+
+    fn span(&self) -> Span {
+        self.span
+    }
+}
+
+impl GetSpan for LabelIdentifier {
+    ghost own_span = { λ n. n.span };
+
+    fn span(&self) -> Span {
+        self.span
+    }
+}
+
+impl<N> GetSpan for LabeledStatement<N> {
+    ghost own_span = { λ n. n.span };
+
+    fn span(&self) -> Span {
+        self.span
+    }
+}
+
+impl GetSpan for ContinueStatement {
+    ghost own_span = { λ n. n.span };
+
+    fn span(&self) -> Span {
+        self.span
+    }
+}
+
+impl GetSpan for BreakStatement {
+    ghost own_span = { λ n. n.span };
+
+    fn span(&self) -> Span {
+        self.span
+    }
+}
+
+impl<N> GetSpan for ThrowStatement<N> {
+    ghost own_span = { λ n. n.span };
+
+    fn span(&self) -> Span {
+        self.span
+    }
+}
+
+impl GetSpan for DebuggerStatement {
+    ghost own_span = { λ n. n.span };
+
+    fn span(&self) -> Span {
+        self.span
+    }
+}
+
+impl<N> GetSpan for SwitchStatement<N> {
+    ghost own_span = { λ n. n.span };
+
+    fn span(&self) -> Span {
+        self.span
+    }
+}
+
+impl<N> GetSpan for SwitchCase<N> {
+    ghost own_span = { λ n. n.span };
+
+    fn span(&self) -> Span {
+        self.span
+    }
+}
+
+impl<N> GetSpan for TryStatement<N> {
+    ghost own_span = { λ n. n.span };
+
+    fn span(&self) -> Span {
+        self.span
+    }
+}
+
+impl<N> GetSpan for CatchClause<N> {
+    ghost own_span = { λ n. n.span };
+
+    fn span(&self) -> Span {
+        self.span
+    }
+}
+
 impl<N> GetSpan for Expression<N> {
     ghost own_span = { λ n. expression_span n };
 
@@ -468,6 +594,30 @@ impl<N: GetSpan> GetSpan for ArrowFunctionBody<N> {
     }
 }
 
+impl<N: GetSpan> GetSpan for ForStatementInit<N> {
+    ghost own_span = { λ n. for_statement_init_span N.own_span n };
+
+    fn span(&self) -> Span {
+        match self {
+            ForStatementInit::VariableDeclaration(node) => node.span,
+            ForStatementInit::Expression(node) => node.get().span(),
+        }
+    }
+}
+
+impl<N> GetSpan for ForStatementLeft<N> {
+    ghost own_span = { λ n. for_statement_left_span n };
+
+    fn span(&self) -> Span {
+        match self {
+            ForStatementLeft::VariableDeclaration(node) => node.span,
+            ForStatementLeft::IdentifierReference(node) => node.span,
+            ForStatementLeft::StaticMemberExpression(node) => node.span,
+            ForStatementLeft::ComputedMemberExpression(node) => node.span,
+        }
+    }
+}
+
 impl<N> GetSpan for ObjectPropertyKind<N> {
     ghost own_span = { λ n. object_property_kind_span n };
 
@@ -510,6 +660,18 @@ impl<N: GetSpan> GetSpan for Statement<N> {
             Statement::BlockStatement(node) => node.span,
             Statement::IfStatement(node) => node.span,
             Statement::EmptyStatement(node) => node.span,
+            Statement::ForStatement(node) => node.span,
+            Statement::ForInStatement(node) => node.span,
+            Statement::ForOfStatement(node) => node.span,
+            Statement::WhileStatement(node) => node.span,
+            Statement::DoWhileStatement(node) => node.span,
+            Statement::LabeledStatement(node) => node.span,
+            Statement::ContinueStatement(node) => node.span,
+            Statement::BreakStatement(node) => node.span,
+            Statement::ThrowStatement(node) => node.span,
+            Statement::DebuggerStatement(node) => node.span,
+            Statement::SwitchStatement(node) => node.span,
+            Statement::TryStatement(node) => node.span,
         }
     }
 }

@@ -73,6 +73,8 @@ impl CommentContent {
 #[derive(Clone, Copy, Debug, PartialEq, Eq)]
 pub enum VariableDeclarationKind {
     Const,
+    Let,
+    Var,
 }
 
 impl VariableDeclarationKind {
@@ -82,6 +84,8 @@ impl VariableDeclarationKind {
     {
         match self {
             VariableDeclarationKind::Const => "const",
+            VariableDeclarationKind::Let => "let",
+            VariableDeclarationKind::Var => "var",
         }
     }
 }

@@ -1,7 +1,7 @@
 // Generated from tools/nodes/table.txt; edit that and run tools/nodes/generate.
 // The types of nodes, and the sets that a field's child may be of.
 ghost use Rattle.std.specs.Prelude.{◌≡◌};
-ghost use Rattle.jsgen_tree.specs.Sets.{in_set, is_expression, is_argument, is_array_expression_element, is_chain_element, is_simple_assignment_target, is_assignment_target, is_object_property_kind, is_property_key, is_statement};
+ghost use Rattle.jsgen_tree.specs.Sets.{in_set, is_expression, is_argument, is_array_expression_element, is_chain_element, is_simple_assignment_target, is_assignment_target, is_for_statement_init, is_for_statement_left, is_object_property_kind, is_property_key, is_statement};
 
 /// The type of a node.
 #[derive(Clone, Copy, Debug, PartialEq, Eq)]
@@ -47,6 +47,21 @@ pub enum NodeType {
     FormalParameterRest,
     FormalParameters,
     ArrowFunctionExpression,
+    ForStatement,
+    ForInStatement,
+    ForOfStatement,
+    WhileStatement,
+    DoWhileStatement,
+    LabelIdentifier,
+    LabeledStatement,
+    ContinueStatement,
+    BreakStatement,
+    ThrowStatement,
+    DebuggerStatement,
+    SwitchStatement,
+    SwitchCase,
+    TryStatement,
+    CatchClause,
 }
 
 /// What the child of a field may be: a member of a set, or a node of one type.
@@ -70,6 +85,12 @@ pub enum NodeSet {
     FormalParameterRest,
     FormalParameters,
     ArrowFunctionBody,
+    ForStatementInit,
+    ForStatementLeft,
+    LabelIdentifier,
+    SwitchCase,
+    BlockStatement,
+    CatchClause,
     Link,
 }
 
@@ -97,6 +118,12 @@ impl NodeType {
             NodeSet::FormalParameterRest => matches!(&self, NodeType::FormalParameterRest),
             NodeSet::FormalParameters => matches!(&self, NodeType::FormalParameters),
             NodeSet::ArrowFunctionBody => self.is_expression(),
+            NodeSet::ForStatementInit => self.is_for_statement_init(),
+            NodeSet::ForStatementLeft => self.is_for_statement_left(),
+            NodeSet::LabelIdentifier => matches!(&self, NodeType::LabelIdentifier),
+            NodeSet::SwitchCase => matches!(&self, NodeType::SwitchCase),
+            NodeSet::BlockStatement => matches!(&self, NodeType::BlockStatement),
+            NodeSet::CatchClause => matches!(&self, NodeType::CatchClause),
             NodeSet::Link => self.is_expression(),
         }
     }
@@ -241,6 +268,54 @@ impl NodeType {
         )
     }
 
+    /// Whether nodes of this type are in `ForStatementInit`.
+    pub fn is_for_statement_init(self) -> bool
+        ensures { result ≡ is_for_statement_init self }
+    {
+        matches!(
+            &self,
+            NodeType::VariableDeclaration
+                | NodeType::IdentifierReference
+                | NodeType::ThisExpression
+                | NodeType::NullLiteral
+                | NodeType::BooleanLiteral
+                | NodeType::NumericLiteral
+                | NodeType::BigIntLiteral
+                | NodeType::StringLiteral
+                | NodeType::BinaryExpression
+                | NodeType::LogicalExpression
+                | NodeType::ParenthesizedExpression
+                | NodeType::StaticMemberExpression
+                | NodeType::ComputedMemberExpression
+                | NodeType::CallExpression
+                | NodeType::ChainExpression
+                | NodeType::ArrayExpression
+                | NodeType::ObjectExpression
+                | NodeType::UnaryExpression
+                | NodeType::UpdateExpression
+                | NodeType::NewExpression
+                | NodeType::NewTarget
+                | NodeType::Super
+                | NodeType::ConditionalExpression
+                | NodeType::SequenceExpression
+                | NodeType::AssignmentExpression
+                | NodeType::ArrowFunctionExpression
+        )
+    }
+
+    /// Whether nodes of this type are in `ForStatementLeft`.
+    pub fn is_for_statement_left(self) -> bool
+        ensures { result ≡ is_for_statement_left self }
+    {
+        matches!(
+            &self,
+            NodeType::VariableDeclaration
+                | NodeType::IdentifierReference
+                | NodeType::StaticMemberExpression
+                | NodeType::ComputedMemberExpression
+        )
+    }
+
     /// Whether nodes of this type are in `ObjectPropertyKind`.
     pub fn is_object_property_kind(self) -> bool
         ensures { result ≡ is_object_property_kind self }
@@ -294,6 +369,18 @@ impl NodeType {
                 | NodeType::BlockStatement
                 | NodeType::IfStatement
                 | NodeType::EmptyStatement
+                | NodeType::ForStatement
+                | NodeType::ForInStatement
+                | NodeType::ForOfStatement
+                | NodeType::WhileStatement
+                | NodeType::DoWhileStatement
+                | NodeType::LabeledStatement
+                | NodeType::ContinueStatement
+                | NodeType::BreakStatement
+                | NodeType::ThrowStatement
+                | NodeType::DebuggerStatement
+                | NodeType::SwitchStatement
+                | NodeType::TryStatement
         )
     }
 }

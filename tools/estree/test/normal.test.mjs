@@ -21,6 +21,15 @@ const SAME = [
   ["((a) => (a))", "a => a"],
   ["(a, b = (1), ...c) => ((a, b), c)", "(a, b = 1, ...c) => (a, b, c)"],
   ["require('x')", "require(`x`)"],
+  ["for (let a = (b), c; (d); (e, f)) g", "for (let a = b, c; d; e, f) g;"],
+  ["for ((a) in (b)) c", "for (a in b) c;"],
+  ["for ((async) of a) b", "for ((async) of (a)) (b)"],
+  ["while ((a)) b", "while (a) b;"],
+  ["if (a) { while (b) if (c) d }", "if (a) while (b) if (c) d"],
+  ["if (a) { b: for (;;) if (c) break b }", "if (a) b: for (;;) if (c) break b"],
+  ["switch (a) { case (b): c }", "switch ((a)) { case b: c; }"],
+  ["try { (a) } catch (b) { } finally { c }", "try { a; } catch (b) {} finally { c; }"],
+  ["throw (a)", "throw a;"],
 ];
 
 const OTHER = [
@@ -38,6 +47,20 @@ const OTHER = [
   ["(...a) => b", "(a) => b"],
   ["(a = 1) => b", "(a) => b"],
   ["async () => a", "() => a"],
+  ["let a", "var a"],
+  ["for (a in b) c", "for (a of b) c"],
+  ["for (;a;) b", "while (a) b"],
+  ["while (a) b", "do b; while (a)"],
+  ["while (a) { b }", "while (a) b"],
+  ["while (a) { if (b) c }", "while (a) if (b) c"],
+  ["if (a) { do if (b) c; while (d) }", "if (a) do if (b) c; while (d)"],
+  ["a: b", "c: b"],
+  ["a: for (;;) break a", "a: for (;;) break"],
+  ["for (;;) break", "for (;;) continue"],
+  ["switch (a) { case b: c }", "switch (a) { default: c }"],
+  ["switch (a) { case b: case c: d }", "switch (a) { case b: d; case c: }"],
+  ["try {} catch (a) {}", "try {} catch {}"],
+  ["try {} catch { a }", "try {} finally { a }"],
 ];
 
 for (const [one, other] of SAME) {

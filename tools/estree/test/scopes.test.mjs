@@ -23,6 +23,20 @@ const RENAMED = [
   ["const __proto__ = 1; f({ __proto__: __proto__ })", "const a = 1; f({ __proto__: a })"],
   ["const \\u0061b = 1; f(ab)", "const a = 1; f(a)"],
   ["if (x) { const x = y } else y => x = y", "if (x) { const a = y } else b => x = b"],
+  ["let x; { let x = 1; f(x) } f(x)", "let a; { let b = 1; f(b) } f(a)"],
+  ["{ var x = 1; var x } f(x)", "{ var a = 1; var a } f(a)"],
+  ["var x; let y; { let x; var y2 = x } f(x, y, y2)", "var b; let a; { let d; var c = d } f(b, a, c)"],
+  ["for (let x = 0; x < y; x++) f(x); f(x)", "for (let a = 0; a < y; a++) f(a); f(x)"],
+  ["for (var x = 0; x < y; x++) f(x); f(x)", "for (var a = 0; a < y; a++) f(a); f(a)"],
+  ["for (const x of x) { const x = y }", "for (const a of a) { const b = y }"],
+  ["for (x in y) f(x)", "for (x in y) f(x)"],
+  ["let x; for (x of y) f(x)", "let a; for (a of y) f(a)"],
+  ["x: for (;;) { const x = y; continue x }", "x: for (;;) { const a = y; continue x }"],
+  ["switch (x) { case x: let x = 1; default: f(x) } f(x)", "switch (x) { case a: let a = 1; default: f(a) } f(x)"],
+  ["try { f(x) } catch (x) { f(x) } finally { f(x) }", "try { f(x) } catch (a) { f(a) } finally { f(x) }"],
+  ["try {} catch (x) { let y = x; { let x = y } }", "try {} catch (a) { let b = a; { let c = b } }"],
+  ["try {} catch (x) { var x = 1; var y = x } f(x, y)", "try {} catch (a) { var a = 1; var b = a } f(a, b)"],
+  ["while (x) { let x = y; do var z = x; while (z) }", "while (x) { let b = y; do var a = b; while (a) }"],
 ];
 
 for (const [source, wanted] of RENAMED) {

@@ -1,6 +1,6 @@
 """jsgen_check's check functions: what is found of a row, its first fault or its height, from its span, its own rules and
-its children, each at its place. What a row's own rules are stands by hand in crates/jsgen_check/src/rules.rt, for each
-type that has `rules` in the table."""
+its children, each at its place. What a row's own rules are stands by hand in crates/jsgen_check/src/rules.rt and
+its folder, for each type that has `rules` in the table."""
 
 import layout
 from children import child_type, each, kinds_of, nests, plain, plural, typed

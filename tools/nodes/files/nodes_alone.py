@@ -1,5 +1,5 @@
 """The crate of print functions: src/alone.rt and the files of its folder, where each type and set is printed by itself, or at a
-level. Which of the two is said by its name."""
+level, which is said by its name; and the answers of statements that have children, which a search finds too late."""
 
 import layout
 from files.nodes_sets import CRATE, printed, print_functions
@@ -43,7 +43,19 @@ def write(table):
                                                             "\n".join(f"mod {name};" for name in sorted(files)))}
     for name, types in files.items():
         given[f"crates/jsgen_nodes/src/alone/{name}.rt"] = of_file(table, [t for t in types if t not in NEVER])
+        for t in types:
+            if t in table.nodes and t.endswith(STATEMENTS) and table.generic(t):
+                given[f"crates/jsgen_nodes/proofs/alone/{name}/{t}PrintAlone/print_alone/Answers.antt"] = answers(name, t)
     return given
+
+
+def answers(file, name):
+    """A statement is printed by itself as it stands among statements."""
+    home = f"Rattle.jsgen_nodes.proofs.alone.{file}.{name}PrintAlone.print_alone.Goals"
+    line = "pub returns : goal.returns\nunfolding pen_after\n"
+    line += f"returns g c = rw c.among_statements.ensures at c.print_{snake(name)}.ensures"
+    homes = [("Rattle.jsgen_nodes.specs.Place", ["pen_after"])]
+    return layout.antt("A statement is printed by itself as it stands among statements.", homes, [(home, "goal")], line)
 
 
 def of_file(table, types):

@@ -12,6 +12,8 @@ def write(table):
             answers(table, "+node_type", "nodes::Node::node_type-returns-in-{s.name}", "plain_{name}"),
         "proofs/+written_name/Answers.antt":
             answers(table, "+written_name", "nodes::Node::written_name-returns-in-{s.name}", "plain_{name}"),
+        "proofs/+declared_kind/Answers.antt":
+            answers(table, "+declared_kind", "nodes::Node::declared_kind-returns-in-{s.name}", "plain_{name}"),
     }
 
 

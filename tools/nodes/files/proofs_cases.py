@@ -85,9 +85,13 @@ def opening(table, n, f, boxed):
 
     if is_inner_set(table, f.kind):
         members = table.sets[f.kind].members
-        steps = "".join(f"((b : {box_of(table, m)}) (n : {of}) → {case(variant(table.sets[f.kind], m))}) → " for m in members)
+        there = "(Some {})" if f.many == "?" else "{}"
+        steps = "".join(f"((b : {box_of(table, m)}) (n : {of}) → {case(there.format(variant(table.sets[f.kind], m)))}) → " for m in members)
         names = "".join(f" of_{snake(m)}" for m in members)
         cases = " | ".join(f"{variant(table.sets[f.kind], m)[1:-1]} ↦ of_{snake(m)} b n" for m in members)
+        if f.many == "?":
+            steps, names = f"((n : {of}) → {case('None')}) → {steps}", f" none{names}"
+            cases = f"None ↦ none n | Some c ↦ elim c as (λ o. {case('(Some o)')}) [ {cases} ]"
         return f"""pub {name} : {{N : Type 0}} (P : {of} → Type 0) → {steps}(n : {of}) → P n
 {name} P{names} n = elim {n_child} as (λ o. {case('o')}) [ {cases} ]"""
     if f.many == "":
@@ -119,8 +123,9 @@ def opened(table, n, name, boxed, motive, there, then):
             return f"(λ {child}. {step(i + 1, there | {child: child})})"
 
         if is_inner_set(table, f.kind):
+            none = f" {step(i + 1, there | {child: None})}" if f.many == "?" else ""
             cases = "".join(f" (λ {child}. {step(i + 1, there | {child: (child, m)})})" for m in table.sets[f.kind].members)
-            return f"({by}{cases})"
+            return f"({by}{none}{cases})"
 
         given = opened(table, table.nodes[f.kind], child, True, "_", there, each) if f.kind in table.nodes else each(there)
         return f"({by} {step(i + 1, there | {child: None})} {given})" if f.many == "?" else f"({by} {given})"

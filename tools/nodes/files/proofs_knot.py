@@ -75,14 +75,13 @@ def same_child(table, f, at, name, there):
         return f"ap trees (map_after _ _ _ {same_member(table, f.kind)} {at}.items)"
     if f.many == "?*":
         return f"ap holed (map_after _ _ _ (with_hole _ refl {same_member(table, f.kind)}) {at}.items)"
+    if f.many == "?" and not there[name]:
+        return "refl"
     if is_inner_set(table, f.kind):
         child, member = there[name]
-        if member in table.sets:
-            return "refl"
-        return same_slots(table, table.nodes[member], child + ".value", child, there)
+        proof = "refl" if member in table.sets else same_slots(table, table.nodes[member], child + ".value", child, there)
+        return f"ap (λ t. given t) ({proof})" if f.many == "?" and proof != "refl" else proof
     if f.kind in table.nodes:
-        if f.many == "?" and not there[name]:
-            return "refl"
         proof = same_slots(table, table.nodes[f.kind], there.get(name, at) + ".value", name, there)
         return f"ap (λ t. given t) ({proof})" if f.many == "?" and proof != "refl" else proof
     return "refl"

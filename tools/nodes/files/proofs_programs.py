@@ -2,7 +2,7 @@
 particular to a type is proved by hand, in PlainRows.antt."""
 
 import layout
-from files.proofs_cases import CASES, aliases, is_inner_set, lemma_names, opened, to_open, variant
+from files.proofs_cases import CASES, aliases, is_inner_set, lemma_names, needs_steps, opened, to_open, variant
 from names import DECLARED, MODEL, SPECS, TREE, sets_in_antt
 from table import snake
 
@@ -18,7 +18,7 @@ def write(table):
   pub layer_is_plain : (y : Node-F A) → IsPlain (layer (map-Node Node Tree node_plain (map-Node A Node f y))){layer}"""
     homes = [("Rattle.std.proofs.Common", ["refl"]), (f"{SPECS}.Plain", ["node_plain", "layer"]), (CASES, lemma_names(table)),
              (f"{DECLARED}.nodes.Node", ["Node", "Node-F", "map-Node"])] + TREE + sets_in_antt(table)
-    homes += [("Rattle.jsgen_tree.proofs.Layers", ["with_hole"]), (f"{MODEL}.specs.Plain", ["IsPlain"]), (f"{MODEL}.proofs.PlainRows", ["no_hole_changed", "all_changed", "all_changed_or_holes", "number_is_plain", "string_is_plain"])]
+    homes += [("Rattle.jsgen_tree.proofs.Layers", ["with_hole"]), (f"{MODEL}.specs.Plain", ["IsPlain"]), (f"{MODEL}.proofs.PlainRows", ["no_hole_changed", "all_changed", "all_changed_or_holes", "if_given_plain", "number_is_plain", "string_is_plain"])]
     every = [(f"{DECLARED}.nodes.Node.TheOpen", "opened")] + aliases(table)
     about = "A node of Rust is plain where its children are."
     return {"crates/jsgen_model/proofs/Programs.antt": layout.antt(about, homes, every, body)}
@@ -71,13 +71,15 @@ def child(table, f, at, name, there):
         return f"all_changed _ _ _ {one_of_many(table, f.kind)} {at}.items"
     if f.many == "?*":
         return f"all_changed_or_holes _ _ _ (with_hole _ tt {one_of_many(table, f.kind)}) {at}.items"
+    if f.many == "?" and not needs_steps(table, f):
+        return f"if_given_plain _ (λ b. {row(table, table.nodes[f.kind], 'b.value', name, {})}) {at}"
+    if f.many == "?" and not there[name]:
+        return "tt"
     if is_inner_set(table, f.kind):
         here, member = there[name] if name in there else (None, None)
         if here is None:
             raise SystemExit(f"{f.name}: {f.kind}: a set without any that nests, as a child alone, has no form yet")
         return in_box(table, member, here)
-    if f.many == "?" and not there[name]:
-        return "tt"
     here = there.get(name) or at
     return row(table, table.nodes[f.kind], f"{here}.value", name, there) if f.kind in table.nodes else f"h {here}.node"
 

@@ -72,7 +72,7 @@ def law(table):
             lines += f"  pub {snake(n.name)} : (a : Atoms) → {said}\n"
     body = f"-- each value is that of the field of its name\npub record FieldsAreNamed : Type 0 where\n{lines}"
     readers = [reader(n, f) for n in table.nodes.values() for f in table.values(n)]
-    homes = [("Rattle.std.specs.Prelude", ["◌≡◌", "codes"])] + TREE
+    homes = [("Rattle.std.specs.Prelude", ["◌≡◌", "codes"]), (f"{SPECS}.Tree", ["Atoms"])]
     homes += [(f"{SPECS}.Table", ["value_named"]), (f"{SPECS}.Fields", ["fields"]),
               (f"{SPECS}.Values", [f"as_{k}" for k, _, _ in kinds(table)] + [IF_GIVEN] + readers)]
     return layout.antt("What is promised of the names of fields.", homes, TYPES, body)

@@ -1,6 +1,6 @@
 // Generated from tools/nodes/table.txt; edit that and run tools/nodes/generate.
 // What is printed by itself, or at a level.
-ghost use Rattle.jsgen_tree.specs.Rows.{in_argument, in_array_expression_element, in_simple_assignment_target, in_assignment_target, in_object_property_kind, in_property_key, expression_plain, statement_plain, binding_pattern_plain};
+ghost use Rattle.jsgen_tree.specs.Rows.{in_argument, in_array_expression_element, in_simple_assignment_target, in_assignment_target, in_for_statement_init, in_for_statement_left, in_object_property_kind, in_property_key, expression_plain, statement_plain, binding_pattern_plain};
 ghost use Rattle.jsgen_model.specs.Spell.{spell, key_text};
 ghost use Rattle.jsgen_nodes.specs.Alone.{by_itself, as_member, as_statement};
 
@@ -8,13 +8,15 @@ use crate::collections::{print_key_text, print_object_property, print_spread_ele
 use crate::expressions::print_identifier_reference;
 use crate::links::{print_computed_member_expression, print_static_member_expression};
 use crate::sets::{print_binding_pattern, print_expression, print_statement};
+use crate::statements::print_variable_declaration;
 use crate::{PrintAlone, PrintAtLevel, PrintNode};
 use jsgen_place::{Context, Place, Settings};
 use jsgen_printer::Printer;
 use jsgen_syntax::{Memory, Precedence};
 use jsgen_tree::{
     Argument, ArrayExpressionElement, AssignmentTarget, BindingPattern, Expression,
-    ObjectPropertyKind, PropertyKey, SimpleAssignmentTarget, Statement,
+    ForStatementInit, ForStatementLeft, ObjectPropertyKind, PropertyKey, SimpleAssignmentTarget,
+    Statement,
 };
 
 #[tactic(auto, unfolding(crate::specs::Place::pen_after))]
@@ -102,6 +104,54 @@ impl<N: PrintNode> PrintAlone for AssignmentTarget<N> {
                 node, p, place,
             ),
             AssignmentTarget::ComputedMemberExpression(node) => print_computed_member_expression(
+                node, p, place,
+            ),
+        }
+    }
+}
+
+#[tactic(auto, unfolding(crate::specs::Place::pen_after))]
+impl<N: PrintNode> PrintAlone for ForStatementInit<N> {
+    ghost alone = { λ n settings context start. spell (in_for_statement_init N.plain n) (by_itself settings context start) };
+
+    fn print_alone(
+        &self,
+        p: &mut Printer<'_>,
+        settings: Settings,
+        context: Context,
+    ) -> Result<(), Memory> {
+        let place = Place::by_itself(settings, context);
+        match self {
+            ForStatementInit::VariableDeclaration(node) => print_variable_declaration(
+                node, p, place,
+            ),
+            ForStatementInit::Expression(node) => node.get().print(p, place),
+        }
+    }
+}
+
+#[tactic(auto, unfolding(crate::specs::Place::pen_after))]
+impl<N: PrintNode> PrintAlone for ForStatementLeft<N> {
+    ghost alone = { λ n settings context start. spell (in_for_statement_left N.plain n) (by_itself settings context start) };
+
+    fn print_alone(
+        &self,
+        p: &mut Printer<'_>,
+        settings: Settings,
+        context: Context,
+    ) -> Result<(), Memory> {
+        let place = Place::by_itself(settings, context);
+        match self {
+            ForStatementLeft::VariableDeclaration(node) => print_variable_declaration(
+                node, p, place,
+            ),
+            ForStatementLeft::IdentifierReference(node) => print_identifier_reference(
+                node, p, place,
+            ),
+            ForStatementLeft::StaticMemberExpression(node) => print_static_member_expression(
+                node, p, place,
+            ),
+            ForStatementLeft::ComputedMemberExpression(node) => print_computed_member_expression(
                 node, p, place,
             ),
         }

@@ -5,7 +5,8 @@ use Rattle.jsgen_printer.specs.Printer.{pen_of}
 use Rattle.jsgen_place.specs.Place.{settings_of}
 use Rattle.jsgen_nodes.specs.Place.{pen_after}
 use Rattle.jsgen_printer.proofs.Stops.{appends, stopped, stops_within, reaches_last, layout_appends}
-use Rattle.jsgen_nodes.proofs.BlockStops.{stops_opening, stops_in_braces, stops_in_braced}
+use Rattle.jsgen_lists.proofs.Braced.{stops_opening, stops_in_braces}
+use Rattle.jsgen_nodes.proofs.BlockStops.{stops_in_braced}
 use Rattle.jsgen_nodes.proofs.blocks.print_braced.Goals as goal
 
 pub returns-in_err-print_soft_space : goal.returns-in_err-print_soft_space

@@ -12,7 +12,12 @@ use Rattle.jsgen_printer.proofs.Stops.{stopped, stops_first, stops_second}
 use Rattle.jsgen_place.specs.Place.{place_of}
 use Rattle.jsgen_nodes.specs.Place.{pen_after}
 use Rattle.jsgen_lists.proofs.Turns.{last_reaches, part_stopped, spaced_member, spaced_stopped}
+use Rattle.jsgen_nodes.proofs.DeclarationWords.{word_is_ascii}
 use Rattle.jsgen_nodes.proofs.statements.print_declarators.Goals as goal
+
+pub print_word-requires : goal.print_word-requires
+unfolding pen_after
+print_word-requires g c = rw c.as_str.ensures (word_is_ascii c.args.node.now.kind)
 
 pub returns-in_err-print_word : goal.returns-in_err-print_word
 unfolding pen_after

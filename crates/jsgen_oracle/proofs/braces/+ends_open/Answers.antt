@@ -1,5 +1,6 @@
-use Rattle.std.proofs.Common.{sym, ap, ◌∙◌, rules, Some, None}
-use Rattle.jsgen_oracle.proofs.Forms.{if_form, other_form, not_three, not_first, not_second, not_third, open_slots, three, third}
+use Rattle.std.proofs.Common.{◌≡◌, ◌-◌, true, length, get_or, sym, ap, ◌∙◌, rules, Some, None, is_some}
+use Rattle.jsgen_oracle.specs.Form.{body_of}
+use Rattle.jsgen_oracle.proofs.Forms.{if_form, not_three, not_first, not_second, not_third, open_slots, three, third, no_body, body_form}
 use Rattle.jsgen_oracle.proofs.braces.+ends_open.Goals as goal
 use Rattle.jsgen_oracle.specs.declared.form.Form.TheViews.{out-Form}
 
@@ -25,5 +26,15 @@ returns-in-None t c =
 pub returns-in_default-index : goal.returns-in_default-index
 returns-in_default-index t c = sym (if_form c.args.form.now c.in-IfStatement.is ∙ not_third (out-Form c.args.form.now).slots.items c.index-in-IfStatement-2.result.now c.index-in-IfStatement-2.ensures c.in_default-index.not-Maybe)
 
-pub returns-in_default : goal.returns-in_default
-returns-in_default t c = sym (other_form c.args.form.now c.in_default.not-IfStatement)
+pub returns-then-not-has_body : goal.returns-then-not-has_body
+returns-then-not-has_body t c =
+    let f = out-Form c.args.form.now in
+    sym (no_body c.args.form.now c.in_default.not-IfStatement (sym (c.has_body.ensures ∙ ap (λ ss. is_some (body_of f.node_type ss)) c.deref.ensures.value) ∙ c.if-not-has_body.true))
+
+pub returns-in-One : goal.returns-in-One
+returns-in-One t c =
+    let f = out-Form c.args.form.now in
+    let last = c.index-in_default.result.now in
+    let there : is_some (body_of f.node_type f.slots.items) ≡ true = sym (c.has_body.ensures ∙ ap (λ ss. is_some (body_of f.node_type ss)) c.deref.ensures.value) ∙ c.if-not-has_body.false in
+    let is : last ≡ get_or f.slots.items (length f.slots.items - 1) last = c.index-in_default.ensures ∙ ap (λ n. get_or f.slots.items (n - 1) last) (c.len-in_default.ensures ∙ (sym c.deref.ensures.len ∙ ap length c.deref.ensures.value)) in
+    c.ends_open-in-One.ensures ∙ sym (body_form c.args.form.now last c.in-One.body c.in_default.not-IfStatement there is c.in-One.is)

@@ -29,4 +29,6 @@ returns c = record {
   assignment_expression = λ a. refl;
   formal_parameter = λ a. (refl, refl, refl);
   arrow_function_expression = λ a. (refl, refl, refl);
+  for_of_statement = λ a. refl;
+  label_identifier = λ a. refl;
 }

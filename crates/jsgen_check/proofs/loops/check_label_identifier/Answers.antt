@@ -1,0 +1,8 @@
+-- Generated from tools/nodes/table.txt; edit that and run tools/nodes/generate.
+-- What is found of a row, from its parts.
+use Rattle.std.proofs.Common.{refl}
+use Rattle.jsgen_check.proofs.Steps.{of_row}
+use Rattle.jsgen_check.proofs.loops.check_label_identifier.Goals as goal
+
+pub returns : goal.returns
+returns c = of_row _ _ _ _ c.check_node.ensures c.check_label_identifier_rules-rules.ensures refl

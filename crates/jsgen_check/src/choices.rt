@@ -1,0 +1,68 @@
+// Generated from tools/nodes/table.txt; edit that and run tools/nodes/generate.
+// Choices between cases, and handlers (ECMA-262, 14.12 and 14.15).
+ghost use Rattle.std.specs.Prelude.{◌≡◌};
+ghost use Rattle.jsgen_tree.specs.Rows.{switch_statement_row, switch_case_row, try_statement_row, catch_clause_row};
+ghost use Rattle.jsgen_check.specs.Verdict.{tree_verdict};
+
+use crate::children::{
+    check_optional_binding_pattern, check_optional_block_statement, check_optional_catch_clause,
+    check_optional_expression, check_statements, check_switch_cases,
+};
+use crate::heights::{check_node, higher};
+use crate::rules::{check_switch_statement_rules, check_try_statement_rules};
+use crate::statements::check_block_statement;
+use crate::{CheckNode, Surroundings, check_child};
+use jsgen_model::TreeFault;
+use jsgen_tree::{CatchClause, NodeSet, SwitchCase, SwitchStatement, TryStatement};
+
+pub fn check_switch_statement<N: CheckNode>(
+    node: &SwitchStatement<N>,
+    around: Surroundings<'_>,
+) -> Result<u64, TreeFault>
+    ensures { result ≡ tree_verdict around.entry (switch_statement_row N.plain node.now) }
+{
+    let rules = check_switch_statement_rules(node, around);
+    let discriminant = check_child(node.discriminant.get(), NodeSet::Expression, around);
+    let cases = check_switch_cases(&node.cases, around);
+    check_node(around, node.span, rules, higher(discriminant, cases))
+}
+
+pub fn check_switch_case<N: CheckNode>(
+    node: &SwitchCase<N>,
+    around: Surroundings<'_>,
+) -> Result<u64, TreeFault>
+    ensures { result ≡ tree_verdict around.entry (switch_case_row N.plain node.now) }
+{
+    let test = check_optional_expression(&node.test, around);
+    let consequent = check_statements(&node.consequent, around);
+    check_node(around, node.span, Ok(()), higher(test, consequent))
+}
+
+pub fn check_try_statement<N: CheckNode>(
+    node: &TryStatement<N>,
+    around: Surroundings<'_>,
+) -> Result<u64, TreeFault>
+    ensures { result ≡ tree_verdict around.entry (try_statement_row N.plain node.now) }
+{
+    let rules = check_try_statement_rules(node, around);
+    let block = check_block_statement(&node.block, around);
+    let handler = check_optional_catch_clause(&node.handler, around);
+    let finalizer = check_optional_block_statement(&node.finalizer, around);
+    check_node(
+        around,
+        node.span,
+        rules,
+        higher(block, higher(handler, finalizer)),
+    )
+}
+
+pub fn check_catch_clause<N: CheckNode>(
+    node: &CatchClause<N>,
+    around: Surroundings<'_>,
+) -> Result<u64, TreeFault>
+    ensures { result ≡ tree_verdict around.entry (catch_clause_row N.plain node.now) }
+{
+    let param = check_optional_binding_pattern(&node.param, around);
+    let body = check_block_statement(&node.body, around);
+    check_node(around, node.span, Ok(()), higher(param, body))
+}

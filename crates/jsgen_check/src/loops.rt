@@ -1,0 +1,153 @@
+// Generated from tools/nodes/table.txt; edit that and run tools/nodes/generate.
+// Loops, labels and jumps (ECMA-262, 14.7 to 14.9, 14.13, 14.14 and 14.16).
+ghost use Rattle.std.specs.Prelude.{◌≡◌};
+ghost use Rattle.jsgen_tree.specs.Rows.{for_statement_row, for_in_statement_row, for_of_statement_row, while_statement_row, do_while_statement_row, label_identifier_row, labeled_statement_row, continue_statement_row, break_statement_row, throw_statement_row, debugger_statement_row};
+ghost use Rattle.jsgen_check.specs.Verdict.{tree_verdict};
+
+use crate::children::{
+    check_for_statement_left, check_optional_expression, check_optional_for_statement_init,
+    check_optional_label_identifier,
+};
+use crate::heights::{check_node, higher};
+use crate::rules::{
+    check_do_while_statement_rules, check_for_in_statement_rules, check_for_of_statement_rules,
+    check_for_statement_rules, check_label_identifier_rules, check_labeled_statement_rules,
+    check_while_statement_rules,
+};
+use crate::{CheckNode, Surroundings, check_child};
+use jsgen_model::TreeFault;
+use jsgen_tree::{
+    BreakStatement, ContinueStatement, DebuggerStatement, DoWhileStatement, ForInStatement,
+    ForOfStatement, ForStatement, LabelIdentifier, LabeledStatement, NodeSet, ThrowStatement,
+    WhileStatement,
+};
+
+pub fn check_for_statement<N: CheckNode>(
+    node: &ForStatement<N>,
+    around: Surroundings<'_>,
+) -> Result<u64, TreeFault>
+    ensures { result ≡ tree_verdict around.entry (for_statement_row N.plain node.now) }
+{
+    let rules = check_for_statement_rules(node, around);
+    let init = check_optional_for_statement_init(&node.init, around);
+    let test = check_optional_expression(&node.test, around);
+    let update = check_optional_expression(&node.update, around);
+    let body = check_child(node.body.get(), NodeSet::Statement, around);
+    check_node(
+        around,
+        node.span,
+        rules,
+        higher(init, higher(test, higher(update, body))),
+    )
+}
+
+pub fn check_for_in_statement<N: CheckNode>(
+    node: &ForInStatement<N>,
+    around: Surroundings<'_>,
+) -> Result<u64, TreeFault>
+    ensures { result ≡ tree_verdict around.entry (for_in_statement_row N.plain node.now) }
+{
+    let rules = check_for_in_statement_rules(node, around);
+    let left = check_for_statement_left(&node.left, around);
+    let right = check_child(node.right.get(), NodeSet::Expression, around);
+    let body = check_child(node.body.get(), NodeSet::Statement, around);
+    check_node(around, node.span, rules, higher(left, higher(right, body)))
+}
+
+pub fn check_for_of_statement<N: CheckNode>(
+    node: &ForOfStatement<N>,
+    around: Surroundings<'_>,
+) -> Result<u64, TreeFault>
+    ensures { result ≡ tree_verdict around.entry (for_of_statement_row N.plain node.now) }
+{
+    let rules = check_for_of_statement_rules(node, around);
+    let left = check_for_statement_left(&node.left, around);
+    let right = check_child(node.right.get(), NodeSet::Expression, around);
+    let body = check_child(node.body.get(), NodeSet::Statement, around);
+    check_node(around, node.span, rules, higher(left, higher(right, body)))
+}
+
+pub fn check_while_statement<N: CheckNode>(
+    node: &WhileStatement<N>,
+    around: Surroundings<'_>,
+) -> Result<u64, TreeFault>
+    ensures { result ≡ tree_verdict around.entry (while_statement_row N.plain node.now) }
+{
+    let rules = check_while_statement_rules(node, around);
+    let test = check_child(node.test.get(), NodeSet::Expression, around);
+    let body = check_child(node.body.get(), NodeSet::Statement, around);
+    check_node(around, node.span, rules, higher(test, body))
+}
+
+pub fn check_do_while_statement<N: CheckNode>(
+    node: &DoWhileStatement<N>,
+    around: Surroundings<'_>,
+) -> Result<u64, TreeFault>
+    ensures { result ≡ tree_verdict around.entry (do_while_statement_row N.plain node.now) }
+{
+    let rules = check_do_while_statement_rules(node, around);
+    let body = check_child(node.body.get(), NodeSet::Statement, around);
+    let test = check_child(node.test.get(), NodeSet::Expression, around);
+    check_node(around, node.span, rules, higher(body, test))
+}
+
+pub fn check_label_identifier(
+    node: &LabelIdentifier,
+    around: Surroundings<'_>,
+) -> Result<u64, TreeFault>
+    ensures { result ≡ tree_verdict around.entry (label_identifier_row node.now) }
+{
+    let rules = check_label_identifier_rules(node, around);
+    check_node(around, node.span, rules, Ok(0))
+}
+
+pub fn check_labeled_statement<N: CheckNode>(
+    node: &LabeledStatement<N>,
+    around: Surroundings<'_>,
+) -> Result<u64, TreeFault>
+    ensures { result ≡ tree_verdict around.entry (labeled_statement_row N.plain node.now) }
+{
+    let rules = check_labeled_statement_rules(node, around);
+    let label = check_label_identifier(&node.label, around);
+    let body = check_child(node.body.get(), NodeSet::Statement, around);
+    check_node(around, node.span, rules, higher(label, body))
+}
+
+pub fn check_continue_statement(
+    node: &ContinueStatement,
+    around: Surroundings<'_>,
+) -> Result<u64, TreeFault>
+    ensures { result ≡ tree_verdict around.entry (continue_statement_row node.now) }
+{
+    let label = check_optional_label_identifier(&node.label, around);
+    check_node(around, node.span, Ok(()), label)
+}
+
+pub fn check_break_statement(
+    node: &BreakStatement,
+    around: Surroundings<'_>,
+) -> Result<u64, TreeFault>
+    ensures { result ≡ tree_verdict around.entry (break_statement_row node.now) }
+{
+    let label = check_optional_label_identifier(&node.label, around);
+    check_node(around, node.span, Ok(()), label)
+}
+
+pub fn check_throw_statement<N: CheckNode>(
+    node: &ThrowStatement<N>,
+    around: Surroundings<'_>,
+) -> Result<u64, TreeFault>
+    ensures { result ≡ tree_verdict around.entry (throw_statement_row N.plain node.now) }
+{
+    let argument = check_child(node.argument.get(), NodeSet::Expression, around);
+    check_node(around, node.span, Ok(()), argument)
+}
+
+pub fn check_debugger_statement(
+    node: &DebuggerStatement,
+    around: Surroundings<'_>,
+) -> Result<u64, TreeFault>
+    ensures { result ≡ tree_verdict around.entry (debugger_statement_row node.now) }
+{
+    check_node(around, node.span, Ok(()), Ok(0))
+}

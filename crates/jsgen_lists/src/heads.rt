@@ -1,0 +1,97 @@
+// What stands behind a word.
+ghost use Rattle.std.specs.Prelude.{IsTrue, option_map};
+ghost use Rattle.jsgen_tree.specs.Tree.{optional};
+ghost use Rattle.jsgen_model.specs.Punctuator.{Round};
+ghost use Rattle.jsgen_model.specs.Items.{◌⊕◌, word, brackets, soft_space, statement_end};
+ghost use Rattle.jsgen_model.specs.Layout.{layout};
+ghost use Rattle.jsgen_model.specs.Spell.{spell, spell_apart};
+ghost use Rattle.jsgen_model.specs.Printing.{Reaches};
+ghost use Rattle.jsgen_printer.specs.Printer.{pen_of, is_ascii};
+ghost use Rattle.jsgen_lists.specs.Lists.{listed};
+
+use crate::maybe::{print_apart, print_behind_space};
+use crate::members::PrintMember;
+use jsgen_place::Place;
+use jsgen_printer::{Bracket, Printer};
+use jsgen_syntax::Memory;
+
+/// A word, and something behind it.
+pub fn print_behind_word<E, L: PrintMember<E>>(
+    text: &str,
+    member: &E,
+    p: &mut Printer<'_>,
+    place: Place,
+) -> Result<(), Memory>
+    requires { IsTrue (is_ascii text.now) }
+    ensures { Reaches result (pen_of p.old) (pen_of p.new) (layout (word text.now ⊕ (soft_space ⊕ spell (L.plain member.now) (listed place))) (pen_of p.old)) }
+{
+    p.print_word(text)?;
+    print_behind_space::<E, L>(member, p, place)
+}
+
+/// A word between spaces, and something behind it.
+pub fn print_behind_spaced_word<E, L: PrintMember<E>>(
+    text: &str,
+    member: &E,
+    p: &mut Printer<'_>,
+    place: Place,
+) -> Result<(), Memory>
+    requires { IsTrue (is_ascii text.now) }
+    ensures { Reaches result (pen_of p.old) (pen_of p.new) (layout (soft_space ⊕ (word text.now ⊕ (soft_space ⊕ spell (L.plain member.now) (listed place)))) (pen_of p.old)) }
+{
+    p.print_soft_space()?;
+    print_behind_word::<E, L>(text, member, p, place)
+}
+
+/// A word, and something behind it in parentheses.
+pub fn print_head<E, L: PrintMember<E>>(
+    text: &str,
+    member: &E,
+    p: &mut Printer<'_>,
+    place: Place,
+) -> Result<(), Memory>
+    requires { IsTrue (is_ascii text.now) }
+    ensures { Reaches result (pen_of p.old) (pen_of p.new) (layout (word text.now ⊕ (soft_space ⊕ brackets Round (spell (L.plain member.now) (listed place)))) (pen_of p.old)) }
+{
+    p.print_word(text)?;
+    print_apart_in_parentheses::<E, L>(member, p, place)
+}
+
+/// Behind a space, in parentheses.
+pub fn print_apart_in_parentheses<E, L: PrintMember<E>>(
+    member: &E,
+    p: &mut Printer<'_>,
+    place: Place,
+) -> Result<(), Memory>
+    ensures { Reaches result (pen_of p.old) (pen_of p.new) (layout (soft_space ⊕ brackets Round (spell (L.plain member.now) (listed place))) (pen_of p.old)) }
+{
+    p.print_soft_space()?;
+    print_in_parentheses::<E, L>(member, p, place)
+}
+
+fn print_in_parentheses<E, L: PrintMember<E>>(
+    member: &E,
+    p: &mut Printer<'_>,
+    place: Place,
+) -> Result<(), Memory>
+    ensures { Reaches result (pen_of p.old) (pen_of p.new) (layout (brackets Round (spell (L.plain member.now) (listed place))) (pen_of p.old)) }
+{
+    p.print_opening(Bracket::Round)?;
+    L::print_member(member, p, place)?;
+    p.print_closing(Bracket::Round)
+}
+
+/// A word, and behind it what it may name, up to the end of a statement.
+pub fn print_jump<E, L: PrintMember<E>>(
+    text: &str,
+    label: &Option<E>,
+    p: &mut Printer<'_>,
+    place: Place,
+) -> Result<(), Memory>
+    requires { IsTrue (is_ascii text.now) }
+    ensures { Reaches result (pen_of p.old) (pen_of p.new) (layout (word text.now ⊕ (spell_apart (optional (option_map L.plain label.now)) (listed place) ⊕ statement_end)) (pen_of p.old)) }
+{
+    p.print_word(text)?;
+    print_apart::<E, L>(label, p, place)?;
+    p.print_statement_end()
+}

@@ -1,0 +1,37 @@
+use Rattle.std.proofs.Common.{subst}
+use Rattle.jsgen_tree.specs.Rows.{variable_declaration_row, static_member_expression_row, computed_member_expression_row}
+use Rattle.jsgen_model.specs.Layout.{layout}
+use Rattle.jsgen_model.specs.Spell.{spell}
+use Rattle.jsgen_model.specs.Printing.{Reaches}
+use Rattle.jsgen_printer.specs.Printer.{pen_of}
+use Rattle.jsgen_lists.proofs.Turns.{begun_nowhere}
+use Rattle.jsgen_nodes.specs.Place.{pen_after}
+use Rattle.jsgen_nodes.proofs.iterations.print_left.Goals as goal
+
+pub returns-in-VariableDeclaration : goal.returns-in-VariableDeclaration
+unfolding pen_after
+returns-in-VariableDeclaration g c =
+    let before = pen_of c.args.p.now in
+    let there = begun_nowhere c.loop_head.result before c.requires in
+    let row = variable_declaration_row g.N.PrintNode.plain c.deref.result.now in
+    rw c.in-VariableDeclaration.is (rw (c.loop_head.ensures, c.deref.ensures) at (subst (λ q. Reaches c.print_variable_declaration.result before (pen_of c.print_variable_declaration.new.p) (layout (spell row q) before)) there c.print_variable_declaration.ensures))
+
+pub returns-in-IdentifierReference : goal.returns-in-IdentifierReference
+unfolding pen_after
+returns-in-IdentifierReference g c = rw c.in-IdentifierReference.is (rw c.deref-in-IdentifierReference.ensures at c.print_identifier_reference.ensures)
+
+pub returns-in-StaticMemberExpression : goal.returns-in-StaticMemberExpression
+unfolding pen_after
+returns-in-StaticMemberExpression g c =
+    let before = pen_of c.args.p.now in
+    let there = begun_nowhere c.in_brackets-target.result before c.requires in
+    let row = static_member_expression_row g.N.PrintNode.plain c.deref-in-StaticMemberExpression.result.now in
+    rw c.in-StaticMemberExpression.is (rw (c.in_brackets-target.ensures, c.deref-in-StaticMemberExpression.ensures) at (subst (λ q. Reaches c.print_static_member_expression.result before (pen_of c.print_static_member_expression.new.p) (layout (spell row q) before)) there c.print_static_member_expression.ensures))
+
+pub returns-in-ComputedMemberExpression : goal.returns-in-ComputedMemberExpression
+unfolding pen_after
+returns-in-ComputedMemberExpression g c =
+    let before = pen_of c.args.p.now in
+    let there = begun_nowhere c.in_brackets-target.result before c.requires in
+    let row = computed_member_expression_row g.N.PrintNode.plain c.deref-in-ComputedMemberExpression.result.now in
+    rw c.in-ComputedMemberExpression.is (rw (c.in_brackets-target.ensures, c.deref-in-ComputedMemberExpression.ensures) at (subst (λ q. Reaches c.print_computed_member_expression.result before (pen_of c.print_computed_member_expression.new.p) (layout (spell row q) before)) there c.print_computed_member_expression.ensures))

@@ -1,0 +1,123 @@
+// Choices between cases (ECMA-262, 14.12), one function for each row.
+ghost use Rattle.std.specs.Prelude.{◌≡◌, map, option_map};
+ghost use Rattle.jsgen_syntax.specs.declared.precedence.Precedence.TheVariants.{Lowest};
+ghost use Rattle.jsgen_tree.specs.Tree.{trees, optional};
+ghost use Rattle.jsgen_tree.specs.Rows.{switch_statement_row, switch_case_row, in_expression, in_statement};
+ghost use Rattle.jsgen_model.specs.Punctuator.{colon};
+ghost use Rattle.jsgen_model.specs.Items.{◌⊕◌, punctuator, soft_space, soft_line};
+ghost use Rattle.jsgen_model.specs.Layout.{layout, nowhere};
+ghost use Rattle.jsgen_model.specs.Spell.{spell_statements, spell_only, spell_test, braces, case_items, in_brackets, among_statements};
+ghost use Rattle.jsgen_model.specs.Printing.{Reaches};
+ghost use Rattle.jsgen_printer.specs.Printer.{pen_of};
+ghost use Rattle.jsgen_place.specs.Place.{settings_of};
+ghost use Rattle.jsgen_nodes.specs.Place.{pen_after};
+
+use crate::PrintNode;
+use crate::bodies::print_body;
+use crate::sequences::Expressions;
+use crate::statements::Statements;
+use jsgen_lists::{
+    PrintStatement, print_braces, print_case_test, print_deeper_statements, print_head,
+};
+use jsgen_place::{Place, Settings};
+use jsgen_printer::Printer;
+use jsgen_syntax::{Memory, Precedence};
+use jsgen_tree::{ExpressionNode, StatementNode, SwitchCase, SwitchStatement};
+
+#[tactic(auto, unfolding(crate::specs::Place::pen_after))]
+pub fn print_switch_statement<N: PrintNode>(
+    node: &SwitchStatement<N>,
+    p: &mut Printer<'_>,
+    place: Place,
+) -> Result<(), Memory>
+    ensures { Reaches result (pen_of p.old) (pen_of p.new) (pen_after (switch_statement_row N.plain node.now) place p.old) }
+{
+    let within = Place::in_brackets(Precedence::Lowest, place.settings);
+    p.print_indentation()?;
+    print_head::<_, Expressions>("switch", &node.discriminant, p, within)?;
+    print_cases(&node.cases, p, place.settings)
+}
+
+// In braces, up to the end of the line.
+#[tactic(auto, unfolding(crate::specs::Place::pen_after))]
+fn print_cases<N: PrintNode>(
+    cases: &[SwitchCase<N>],
+    p: &mut Printer<'_>,
+    settings: Settings,
+) -> Result<(), Memory>
+    ensures { Reaches result (pen_of p.old) (pen_of p.new) (layout (soft_space ⊕ (braces (trees (map (switch_case_row N.plain) cases.now))
+        (spell_statements (trees (map (switch_case_row N.plain) cases.now)) (settings_of settings)) ⊕ soft_line)) (pen_of p.old)) }
+{
+    p.print_soft_space()?;
+    print_braces::<_, Cases>(cases, p, settings)?;
+    p.print_soft_line()
+}
+
+/// Cases, one after another. None of them can become a directive.
+struct Cases;
+
+#[tactic(auto, unfolding(crate::specs::Place::pen_after))]
+impl<N: PrintNode> PrintStatement<SwitchCase<N>> for Cases {
+    ghost plain = { switch_case_row N.plain };
+
+    fn print_statement(
+        case: &SwitchCase<N>,
+        p: &mut Printer<'_>,
+        place: Place,
+    ) -> Result<(), Memory> {
+        print_switch_case(case, p, place)
+    }
+
+    fn print_first_statement(
+        case: &SwitchCase<N>,
+        p: &mut Printer<'_>,
+        place: Place,
+    ) -> Result<(), Memory> {
+        print_switch_case(case, p, place)
+    }
+}
+
+#[tactic(auto, unfolding(crate::specs::Place::pen_after))]
+pub fn print_switch_case<N: PrintNode>(
+    node: &SwitchCase<N>,
+    p: &mut Printer<'_>,
+    place: Place,
+) -> Result<(), Memory>
+    ensures { Reaches result (pen_of p.old) (pen_of p.new) (pen_after (switch_case_row N.plain node.now) place p.old) }
+{
+    p.print_indentation()?;
+    print_case_head(&node.test, p, place.settings)?;
+    print_consequent(&node.consequent, p, place.settings)
+}
+
+// The test and its colon.
+#[tactic(auto, unfolding(crate::specs::Place::pen_after))]
+fn print_case_head<N: PrintNode>(
+    test: &Option<ExpressionNode<N>>,
+    p: &mut Printer<'_>,
+    settings: Settings,
+) -> Result<(), Memory>
+    ensures { Reaches result (pen_of p.old) (pen_of p.new) (layout (spell_test (optional (option_map (in_expression N.plain) test.now)) (in_brackets Lowest (among_statements (settings_of settings))) ⊕ punctuator colon) (pen_of p.old)) }
+{
+    let within = Place::in_brackets(Precedence::Lowest, settings);
+    print_case_test::<_, Expressions>(test, p, within)?;
+    p.print_colon()
+}
+
+// One statement as a body, or any other number on lines of their own.
+#[tactic(auto, unfolding(crate::specs::Place::pen_after))]
+fn print_consequent<N: PrintNode>(
+    statements: &[StatementNode<N>],
+    p: &mut Printer<'_>,
+    settings: Settings,
+) -> Result<(), Memory>
+    requires { (pen_of p.old).start ≡ nowhere }
+    ensures { Reaches result (pen_of p.old) (pen_of p.new) (layout (case_items (trees (map (in_statement N.plain) statements.now))
+        (spell_only (trees (map (in_statement N.plain) statements.now)) (settings_of settings)) (spell_statements (trees (map (in_statement N.plain) statements.now)) (settings_of settings))) (pen_of p.old)) }
+{
+    if statements.len() == 1 {
+        print_body(statements[0].get(), p, settings)
+    } else {
+        print_deeper_statements::<_, Statements>(statements, p, settings)
+    }
+}

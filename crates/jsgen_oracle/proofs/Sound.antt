@@ -1,0 +1,692 @@
+-- What every program that the grammar reads has in common: how its statements begin, and what stands last.
+use Rattle.std.proofs.Common.{◌≡◌, ℕ, Bool, true, false, ◌&&◌, ◌||◌, ◌⊎◌, inl, inr, Some, List, [], ◌∷◌, codes, refl, sym, ap, ◌∙◌, subst}
+use Rattle.std.specs.Prelude.{not}
+use Rattle.std.specs.List.{list_any}
+use Rattle.std.specs.Option.{option_map_or}
+use Rattle.std.specs.Str.{bytes_eq}
+use Rattle.std.proofs.lemmas.Slice.Eq.{bytes_eq-Decides}
+use Rattle.std.proofs.lemmas.Bool.{both_ways, and_parts, and_from, or_cases, or_left, or_right}
+use lib.Utf8.{encode}
+use Rattle.unicode_ident.proofs.Computing.{unicode_ident}
+use Rattle.jsgen_syntax.specs.Escapes.{word_value}
+use Rattle.jsgen_syntax.specs.Name.{is_reserved, is_strict_reserved, is_free_name}
+use Rattle.jsgen_syntax.specs.declared.operator.BinaryOperator.{BinaryOperator}
+use Rattle.jsgen_syntax.specs.declared.operator.BinaryOperator.TheVariants as operators
+use Rattle.jsgen_syntax.specs.declared.operator.UnaryOperator.{UnaryOperator}
+use Rattle.jsgen_syntax.specs.declared.operator.UnaryOperator.TheVariants as unary_operators
+use Rattle.jsgen_syntax.specs.declared.operator.UpdateOperator.{UpdateOperator}
+use Rattle.jsgen_syntax.specs.declared.operator.UpdateOperator.TheVariants as update_operators
+use Rattle.jsgen_syntax.specs.declared.operator.AssignmentOperator.{AssignmentOperator}
+use Rattle.jsgen_syntax.specs.declared.operator.AssignmentOperator.TheVariants as assignment_operators
+use Rattle.jsgen_tree.specs.declared.statements.VariableDeclarationKind.{VariableDeclarationKind}
+use Rattle.jsgen_tree.specs.declared.statements.VariableDeclarationKind.TheVariants as kinds
+use Rattle.jsgen_tree.specs.Tree.{Tree, Trees, Maybe}
+use Rattle.jsgen_model.specs.Punctuator.{Punctuator, dot, question_dot, plus, minus, plus_plus, minus_minus, bang, tilde, comma, star_star, and_and, or_or, nullish, question, colon, arrow, semicolon, Round, Square, Brace}
+use Rattle.jsgen_model.specs.Tokens.{Tokens, done, piece, group, ◌⧺◌, Piece, Word, Number, Quoted, Sign, AreTokensOf}
+use Rattle.jsgen_model.specs.Grammar.{Allowed, Level, operator_piece, unary_piece, update_sign, assignment_sign, ReadsExpression, ReadsBinding, ReadsDeclarator, ReadsDeclarators, ReadsVariables, declaring, on_same_line, may_precede_of, EndsBy, ReadsStatement, ReadsInit, ReadsLeft, ReadsHandler, ReadsFinalizer, ReadsEndsOfTry, ReadsItem, ReadsStatements, ReadsBody, ReadsModule, a_module, ReadsChain, ReadsChainBase, ReadsArrowParameters}
+use Rattle.jsgen_model.specs.Grammar as grammar
+use Rattle.jsgen_token_laws.proofs.Plain.{all_plain}
+use Rattle.jsgen_token_laws.proofs.OneList.{one_token_list}
+use Rattle.jsgen_oracle.specs.Samples.{IsNotRead}
+use Rattle.jsgen_oracle.proofs.Samples.{word, sign}
+
+-- ---- a program's last token
+
+-- a semicolon or a brace group stands at the end; of no tokens, as the flag says
+abbrev ends_so : Bool → Tokens → Bool
+ends_so last done = last
+ends_so last (piece m (Sign semicolon) ts) = ends_so true ts
+ends_so last (piece m p ts) = ends_so false ts
+ends_so last (group m Brace inside ts) = ends_so true ts
+ends_so last (group m b inside ts) = ends_so false ts
+
+ends_behind : (v m : Bool) (a b : Tokens) → ends_so true b ≡ true → ends_so v (a ⧺ piece m (Sign semicolon) b) ≡ true
+ends_behind v m done b h = h
+ends_behind v m (piece n (Sign semicolon) a) b h = ends_behind true m a b h
+ends_behind v m (piece n p a) b h = ends_behind false m a b h
+ends_behind v m (group n Brace inside a) b h = ends_behind true m a b h
+ends_behind v m (group n d inside a) b h = ends_behind false m a b h
+
+ends_past : (k : Bool) (w : List ℕ) (a b : Tokens) → ends_so false b ≡ true → (v : Bool) → ends_so v (a ⧺ piece k (Word w) b) ≡ true
+ends_past k w done b h v = h
+ends_past k w (piece n (Sign semicolon) a) b h v = ends_past k w a b h true
+ends_past k w (piece n p a) b h v = ends_past k w a b h false
+ends_past k w (group n Brace inside a) b h v = ends_past k w a b h true
+ends_past k w (group n d inside a) b h v = ends_past k w a b h false
+
+one_more : (m : Bool) (p : Piece) (a b : Tokens) → (a ⧺ piece m p done) ⧺ b ≡ a ⧺ piece m p b
+one_more m p done b = refl
+one_more m p (piece n q a) b = ap (piece n q) (one_more m p a b)
+one_more m p (group n d inside a) b = ap (group n d inside) (one_more m p a b)
+
+in_a_row : (a b d : Tokens) → (a ⧺ b) ⧺ d ≡ a ⧺ (b ⧺ d)
+in_a_row done b d = refl
+in_a_row (piece n q a) b d = ap (piece n q) (in_a_row a b d)
+in_a_row (group n e inside a) b d = ap (group n e inside) (in_a_row a b d)
+
+-- ---- its first two tokens
+
+-- these tokens may stand behind the first operand of an expression
+abbrev joins : Piece → Bool
+joins (Sign plus_plus) = false
+joins (Sign minus_minus) = false
+joins (Sign colon) = false
+joins (Sign s) = true
+joins (Number w) = false
+joins (Quoted q w) = false
+joins (Word w) = bytes_eq w (codes "in") || bytes_eq w (codes "instanceof")
+
+-- the sign of an update may stand between
+abbrev goes_on : Tokens → Bool
+goes_on done = true
+goes_on (piece m (Sign plus_plus) ts) = goes_on ts
+goes_on (piece m (Sign minus_minus) ts) = goes_on ts
+goes_on (piece m p ts) = joins p
+goes_on (group m Brace inside ts) = false
+goes_on (group m Square done ts) = false
+goes_on (group m b inside ts) = true
+
+abbrev pub begins_with_name : Tokens → Bool
+begins_with_name (piece m (Word w) ts) = true
+begins_with_name ts = false
+
+-- a keyword that is an operand
+abbrev is_keyword : List ℕ → Bool
+is_keyword w = list_any (bytes_eq w) (codes "this" ∷ codes "null" ∷ codes "true" ∷ codes "false" ∷ codes "super" ∷ codes "new" ∷ [])
+
+-- the word may be an operand: a keyword, or a reference
+abbrev is_operand_word : List ℕ → Bool
+is_operand_word w = is_keyword w || option_map_or is_free_name (word_value w) false
+
+-- an operator, or `new`, stands before its operand
+abbrev is_prefix_word : List ℕ → Bool
+is_prefix_word w = list_any (bytes_eq w) (codes "typeof" ∷ codes "void" ∷ codes "delete" ∷ codes "new" ∷ [])
+
+abbrev is_prefix_sign : Punctuator → Bool
+is_prefix_sign plus = true
+is_prefix_sign minus = true
+is_prefix_sign bang = true
+is_prefix_sign tilde = true
+is_prefix_sign plus_plus = true
+is_prefix_sign minus_minus = true
+is_prefix_sign s = false
+
+-- an operand that a sign, a bracket or nothing follows, maybe behind operators of its own
+abbrev pub starts_well : Tokens → Bool
+starts_well (piece m (Word w) ts) = (is_operand_word w && goes_on ts) || (is_prefix_word w && starts_well ts)
+starts_well (piece m (Sign s) ts) = is_prefix_sign s && starts_well ts
+starts_well (piece m (Number w) ts) = goes_on ts
+starts_well (piece m (Quoted q w) ts) = goes_on ts
+starts_well (group m Round inside ts) = goes_on ts
+starts_well (group m Square inside ts) = goes_on ts
+starts_well (group m Brace inside ts) = goes_on ts
+starts_well ts = false
+
+-- a lexical declaration begins with it
+abbrev is_lexical_word : List ℕ → Bool
+is_lexical_word w = bytes_eq w (codes "const") || bytes_eq w (codes "let")
+
+abbrev is_declaring : List ℕ → Bool
+is_declaring w = is_lexical_word w || bytes_eq w (codes "var")
+
+abbrev begins_lexically : Tokens → Bool
+begins_lexically (piece m (Word w) ts) = is_lexical_word w
+begins_lexically ts = false
+
+-- a group in parentheses, and something behind it that begins no lexical declaration
+abbrev goes_to_body : Tokens → Bool
+goes_to_body (group m Round inside done) = false
+goes_to_body (group m Round inside ts) = not (begins_lexically ts)
+goes_to_body ts = false
+
+-- the same behind the colon of a label
+abbrev goes_to_labelled : Tokens → Bool
+goes_to_labelled (piece m (Sign colon) ts) = not (begins_lexically ts)
+goes_to_labelled ts = false
+
+-- no `async of` stands first
+abbrev is_head : Tokens → Bool
+is_head (piece m (Word w) (piece n (Word v) ts)) = not (bytes_eq w (codes "async") && bytes_eq v (codes "of"))
+is_head ts = true
+
+abbrev goes_to_head : Tokens → Bool
+goes_to_head (group m Round inside ts) = is_head inside
+goes_to_head ts = false
+
+abbrev is_end_word : List ℕ → Bool
+is_end_word w = bytes_eq w (codes "catch") || bytes_eq w (codes "finally")
+
+-- braces, and behind them one of the words that `try` needs
+abbrev goes_to_end : Tokens → Bool
+goes_to_end (group m Brace inside (piece n (Word w) ts)) = is_end_word w
+goes_to_end ts = false
+
+-- a statement begins so, whatever follows
+abbrev begins_alone : List ℕ → Bool
+begins_alone w = list_any (bytes_eq w) (codes "do" ∷ codes "continue" ∷ codes "break" ∷ codes "debugger" ∷ codes "switch" ∷ [])
+
+-- a word that a statement without an operand in front begins with, and what it needs
+abbrev begins_statement : List ℕ → Tokens → Bool
+begins_statement w ts = goes_to_labelled ts || (begins_alone w || ((bytes_eq w (codes "if") && goes_to_body ts) || ((bytes_eq w (codes "while") && goes_to_body ts) || ((bytes_eq w (codes "for") && goes_to_head ts) || ((bytes_eq w (codes "throw") && on_same_line ts) || (bytes_eq w (codes "try") && goes_to_end ts))))))
+
+-- a word that an expression begins with, one that declares and a name, or one that begins a statement
+abbrev word_begins_well : List ℕ → Tokens → Bool
+word_begins_well w ts = starts_well (piece false (Word w) ts) || ((is_declaring w && begins_with_name ts) || begins_statement w ts)
+
+-- a statement begins so: with an operand, a word, a semicolon or a brace group
+abbrev begins_well : Tokens → Bool
+begins_well (piece m (Word w) ts) = word_begins_well w ts
+begins_well (piece m (Sign semicolon) ts) = true
+begins_well (group m Brace inside ts) = true
+begins_well ts = starts_well ts
+
+goes_further : (ts b : Tokens) → goes_on b ≡ true → goes_on ts ≡ true → goes_on (ts ⧺ b) ≡ true
+goes_further done b j h = j
+goes_further (piece n (Sign plus_plus) ts) b j h = goes_further ts b j h
+goes_further (piece n (Sign minus_minus) ts) b j h = goes_further ts b j h
+goes_further (piece n q ts) b j h = h
+goes_further (group n Round inside ts) b j h = refl
+goes_further (group n Square done ts) b j h = absurd (both_ways false refl h)
+goes_further (group n Square inside ts) b j h = refl
+goes_further (group n Brace inside ts) b j h = absurd (both_ways false refl h)
+
+pub named_further : (ts b : Tokens) → begins_with_name ts ≡ true → begins_with_name (ts ⧺ b) ≡ true
+named_further done b h = absurd (both_ways false refl h)
+named_further (piece n (Word w) ts) b h = refl
+named_further (piece n (Number w) ts) b h = absurd (both_ways false refl h)
+named_further (piece n (Quoted q w) ts) b h = absurd (both_ways false refl h)
+named_further (piece n (Sign s) ts) b h = absurd (both_ways false refl h)
+named_further (group n d inside ts) b h = absurd (both_ways false refl h)
+
+-- the word begins an expression, and so it does before other tokens
+word_further : (w : List ℕ) (m : Bool) (ts us : Tokens) → (goes_on ts ≡ true → goes_on us ≡ true) → (starts_well ts ≡ true → starts_well us ≡ true) → starts_well (piece m (Word w) ts) ≡ true → starts_well (piece m (Word w) us) ≡ true
+word_further w m ts us f g h = by (or_cases (is_operand_word w && goes_on ts) (is_prefix_word w && starts_well ts) h)
+  where
+    by : ((is_operand_word w && goes_on ts) ≡ true) ⊎ ((is_prefix_word w && starts_well ts) ≡ true) → starts_well (piece m (Word w) us) ≡ true
+    by (inl e) = let k = and_parts (is_operand_word w) (goes_on ts) e in or_left _ _ (and_from _ _ k.0 (f k.1))
+    by (inr e) = let k = and_parts (is_prefix_word w) (starts_well ts) e in or_right _ _ (and_from _ _ k.0 (g k.1))
+
+starts_further : (ts b : Tokens) → goes_on b ≡ true → starts_well ts ≡ true → starts_well (ts ⧺ b) ≡ true
+starts_further done b j h = absurd (both_ways false refl h)
+starts_further (piece n (Word w) ts) b j h = word_further w n ts (ts ⧺ b) (goes_further ts b j) (starts_further ts b j) h
+starts_further (piece n (Number w) ts) b j h = goes_further ts b j h
+starts_further (piece n (Quoted q w) ts) b j h = goes_further ts b j h
+starts_further (piece n (Sign r) ts) b j h = let k = and_parts (is_prefix_sign r) (starts_well ts) h in and_from _ _ k.0 (starts_further ts b j k.1)
+starts_further (group n Round inside ts) b j h = goes_further ts b j h
+starts_further (group n Square inside ts) b j h = goes_further ts b j h
+starts_further (group n Brace inside ts) b j h = goes_further ts b j h
+
+operator_joins : (o : BinaryOperator) (m : Bool) (b : Tokens) → goes_on (piece m (operator_piece o) b) ≡ true
+operator_joins operators.BitwiseOR m b = refl
+operator_joins operators.BitwiseXOR m b = refl
+operator_joins operators.BitwiseAnd m b = refl
+operator_joins operators.Equality m b = refl
+operator_joins operators.Inequality m b = refl
+operator_joins operators.StrictEquality m b = refl
+operator_joins operators.StrictInequality m b = refl
+operator_joins operators.LessThan m b = refl
+operator_joins operators.LessEqualThan m b = refl
+operator_joins operators.GreaterThan m b = refl
+operator_joins operators.GreaterEqualThan m b = refl
+operator_joins operators.In m b = refl
+operator_joins operators.Instanceof m b = refl
+operator_joins operators.ShiftLeft m b = refl
+operator_joins operators.ShiftRight m b = refl
+operator_joins operators.ShiftRightZeroFill m b = refl
+operator_joins operators.Addition m b = refl
+operator_joins operators.Subtraction m b = refl
+operator_joins operators.Multiplication m b = refl
+operator_joins operators.Division m b = refl
+operator_joins operators.Remainder m b = refl
+operator_joins operators.Exponential m b = refl
+
+unary_starts : (o : UnaryOperator) (m : Bool) (ts : Tokens) → starts_well ts ≡ true → starts_well (piece m (unary_piece o) ts) ≡ true
+unary_starts unary_operators.UnaryPlus m ts h = h
+unary_starts unary_operators.UnaryNegation m ts h = h
+unary_starts unary_operators.LogicalNot m ts h = h
+unary_starts unary_operators.BitwiseNot m ts h = h
+unary_starts unary_operators.Typeof m ts h = or_right (is_operand_word (codes "typeof") && goes_on ts) _ h
+unary_starts unary_operators.Void m ts h = or_right (is_operand_word (codes "void") && goes_on ts) _ h
+unary_starts unary_operators.Delete m ts h = or_right (is_operand_word (codes "delete") && goes_on ts) _ h
+
+update_starts : (o : UpdateOperator) (m : Bool) (ts : Tokens) → starts_well ts ≡ true → starts_well (piece m (Sign (update_sign o)) ts) ≡ true
+update_starts update_operators.Increment m ts h = h
+update_starts update_operators.Decrement m ts h = h
+
+update_goes : (o : UpdateOperator) (m : Bool) → goes_on (piece m (Sign (update_sign o)) done) ≡ true
+update_goes update_operators.Increment m = refl
+update_goes update_operators.Decrement m = refl
+
+assignment_joins : (o : AssignmentOperator) (m : Bool) (b : Tokens) → goes_on (piece m (Sign (assignment_sign o)) b) ≡ true
+assignment_joins assignment_operators.Assign m b = refl
+assignment_joins assignment_operators.Addition m b = refl
+assignment_joins assignment_operators.Subtraction m b = refl
+assignment_joins assignment_operators.Multiplication m b = refl
+assignment_joins assignment_operators.Division m b = refl
+assignment_joins assignment_operators.Remainder m b = refl
+assignment_joins assignment_operators.Exponential m b = refl
+assignment_joins assignment_operators.ShiftLeft m b = refl
+assignment_joins assignment_operators.ShiftRight m b = refl
+assignment_joins assignment_operators.ShiftRightZeroFill m b = refl
+assignment_joins assignment_operators.BitwiseOR m b = refl
+assignment_joins assignment_operators.BitwiseXOR m b = refl
+assignment_joins assignment_operators.BitwiseAnd m b = refl
+assignment_joins assignment_operators.LogicalOr m b = refl
+assignment_joins assignment_operators.LogicalAnd m b = refl
+assignment_joins assignment_operators.LogicalNullish m b = refl
+
+-- what goes on behind an operand
+pub joined : (ts a b : Tokens) → goes_on b ≡ true → ts ≡ a ⧺ b → starts_well a ≡ true → starts_well ts ≡ true
+joined ts a b j e h = subst (λ x. starts_well x ≡ true) (sym e) (starts_further a b j h)
+
+-- a member's brackets aren't empty
+element_goes : (m : Bool) (inside ts : Tokens) → starts_well inside ≡ true → goes_on (group m Square inside ts) ≡ true
+element_goes m done ts h = absurd (both_ways false refl h)
+element_goes m (piece n p us) ts h = refl
+element_goes m (group n b i us) ts h = refl
+
+-- a name
+pub name_starts : (m : Bool) (w v : List ℕ) (ts : Tokens) → word_value w ≡ Some v → is_free_name v ≡ true → goes_on ts ≡ true → starts_well (piece m (Word w) ts) ≡ true
+name_starts m w v ts e h g = or_left _ _ (and_from (is_operand_word w) (goes_on ts) (or_right (is_keyword w) _ (ap (λ o. option_map_or is_free_name o false) e ∙ h)) g)
+
+arrow_parameters_start : {c : Allowed} {ts : Tokens} {t : Tree} → ReadsArrowParameters c ts t → starts_well ts ≡ true
+arrow_parameters_start (grammar.a_parameter_name {mark = m} {w = w} {v = v} e h) = name_starts m w v done e h refl
+arrow_parameters_start (grammar.grouped_parameters r) = refl
+
+mutual
+  pub expression_starts : {c : Allowed} {l : Level} {ts : Tokens} {t : Tree} → ReadsExpression c l ts t → starts_well ts ≡ true
+  expression_starts (grammar.an_assignment r) = expression_starts r
+  expression_starts (grammar.a_sequence m e r s) = joined _ _ (piece m (Sign comma) _) refl e (expression_starts r)
+  expression_starts (grammar.an_assignment_to o m e r s w) = joined _ _ (piece m (Sign (assignment_sign o)) _) (assignment_joins o m _) e (expression_starts r)
+  expression_starts (grammar.a_conditional r) = expression_starts r
+  expression_starts (grammar.a_short_circuit r) = expression_starts r
+  expression_starts (grammar.a_logical_or r) = expression_starts r
+  expression_starts (grammar.a_logical_and r) = expression_starts r
+  expression_starts (grammar.a_bit_or r) = expression_starts r
+  expression_starts (grammar.a_bit_xor r) = expression_starts r
+  expression_starts (grammar.a_bit_and r) = expression_starts r
+  expression_starts (grammar.an_equality r) = expression_starts r
+  expression_starts (grammar.a_relation r) = expression_starts r
+  expression_starts (grammar.a_shift r) = expression_starts r
+  expression_starts (grammar.an_additive r) = expression_starts r
+  expression_starts (grammar.a_multiplicative r) = expression_starts r
+  expression_starts (grammar.an_exponent r) = expression_starts r
+  expression_starts (grammar.a_unary r) = expression_starts r
+  expression_starts (grammar.an_update r) = expression_starts r
+  expression_starts (grammar.a_left_hand_side r) = expression_starts r
+  expression_starts (grammar.a_new r) = expression_starts r
+  expression_starts (grammar.a_call r) = expression_starts r
+  expression_starts (grammar.a_member r) = expression_starts r
+  expression_starts (grammar.a_primary r) = expression_starts r
+  expression_starts (grammar.a_called_member r) = expression_starts r
+  expression_starts (grammar.a_called_call r) = expression_starts r
+  expression_starts (grammar.a_named_member w m n e v r) = joined _ _ (piece m (Sign dot) _) refl e (expression_starts r)
+  expression_starts (grammar.a_computed_member {inside = i} m e r s) = joined _ _ (group m Square i done) (element_goes m i done (expression_starts s)) e (expression_starts r)
+  expression_starts (grammar.with_arguments m e r s) = joined _ _ (group m Round _ done) refl e (expression_starts r)
+  expression_starts (grammar.a_named_member_of_call w m n e v r) = joined _ _ (piece m (Sign dot) _) refl e (expression_starts r)
+  expression_starts (grammar.a_computed_member_of_call {inside = i} m e r s) = joined _ _ (group m Square i done) (element_goes m i done (expression_starts s)) e (expression_starts r)
+  expression_starts (grammar.an_operation o m p q e l r) = joined _ _ (piece m (operator_piece o) _) (operator_joins o m _) e (expression_starts l)
+  expression_starts (grammar.a_power m e l r) = joined _ _ (piece m (Sign star_star) _) refl e (expression_starts l)
+  expression_starts (grammar.a_conjunction m e l r) = joined _ _ (piece m (Sign and_and) _) refl e (expression_starts l)
+  expression_starts (grammar.a_disjunction m e l r) = joined _ _ (piece m (Sign or_or) _) refl e (expression_starts l)
+  expression_starts (grammar.a_coalesce r) = expression_starts r
+  expression_starts (grammar.a_coalescing m e l r) = joined _ _ (piece m (Sign nullish) _) refl e (expression_starts l)
+  expression_starts (grammar.a_coalesced_head r) = expression_starts r
+  expression_starts (grammar.a_bit_or_head r) = expression_starts r
+  expression_starts (grammar.a_choice m n e r s t) = joined _ _ (piece m (Sign question) _) refl e (expression_starts r)
+  expression_starts (grammar.a_unary_operation {mark = m} o r) = unary_starts o m _ (expression_starts r)
+  expression_starts (grammar.an_update_before {mark = m} {ts = ts} o r s) = update_starts o m ts (expression_starts r)
+  expression_starts (grammar.an_update_behind {a = a} o e r s) = joined _ a (piece false (Sign (update_sign o)) done) (update_goes o false) e (expression_starts r)
+  expression_starts (grammar.new_with_arguments {a = a} m n e r s) = or_right _ _ (joined _ a (group n Round _ done) refl e (expression_starts r))
+  expression_starts (grammar.new_alone r) = or_right _ _ (expression_starts r)
+  expression_starts (grammar.a_named_member_of_super w m n l e) = refl
+  expression_starts (grammar.a_computed_member_of_super {next = n} {inside = i} r) = or_left (goes_on (group n Square i done)) false (element_goes n i done (expression_starts r))
+  expression_starts (grammar.a_call_of_super r) = refl
+  expression_starts grammar.a_new_target = refl
+  expression_starts (grammar.a_reference {mark = m} {w = w} {v = v} e h) = name_starts m w v done e h refl
+  expression_starts grammar.a_this = refl
+  expression_starts grammar.a_null = refl
+  expression_starts grammar.a_true = refl
+  expression_starts grammar.a_false = refl
+  expression_starts (grammar.a_number h) = refl
+  expression_starts (grammar.a_big_integer e) = refl
+  expression_starts (grammar.a_string e) = refl
+  expression_starts (grammar.in_parentheses r) = refl
+  expression_starts (grammar.an_optional_chain r) = chain_starts r
+  expression_starts (grammar.an_array r) = refl
+  expression_starts (grammar.an_object r) = refl
+  expression_starts (grammar.an_arrow_function e r n s) = joined _ _ (piece false (Sign arrow) _) refl e (arrow_parameters_start r)
+
+  chain_starts : {c : Allowed} {ts : Tokens} {t : Tree} → ReadsChain c ts t → starts_well ts ≡ true
+  chain_starts (grammar.an_optional_named_member w m n e v r) = joined _ _ (piece m (Sign question_dot) _) refl e (base_starts r)
+  chain_starts (grammar.an_optional_computed_member m n e r s) = joined _ _ (piece m (Sign question_dot) _) refl e (base_starts r)
+  chain_starts (grammar.an_optional_call m n e r s) = joined _ _ (piece m (Sign question_dot) _) refl e (base_starts r)
+  chain_starts (grammar.a_further_named_member w m n e v r) = joined _ _ (piece m (Sign dot) _) refl e (chain_starts r)
+  chain_starts (grammar.a_further_computed_member {inside = i} m e r s) = joined _ _ (group m Square i done) (element_goes m i done (expression_starts s)) e (chain_starts r)
+  chain_starts (grammar.a_further_call m e r s) = joined _ _ (group m Round _ done) refl e (chain_starts r)
+
+  base_starts : {c : Allowed} {ts : Tokens} {t : Tree} → ReadsChainBase c ts t → starts_well ts ≡ true
+  base_starts (grammar.a_first_link r) = expression_starts r
+  base_starts (grammar.a_further_link r) = chain_starts r
+
+binding_starts : {c : Allowed} {ts : Tokens} {t : Tree} → ReadsBinding c ts t → begins_with_name ts ≡ true
+binding_starts (grammar.a_bound_name e h) = refl
+
+declarator_starts : {c : Allowed} {ts : Tokens} {t : Tree} → ReadsDeclarator c ts t → begins_with_name ts ≡ true
+declarator_starts (grammar.without_value r) = binding_starts r
+declarator_starts (grammar.with_value {a = a} m e r v) = subst (λ x. begins_with_name x ≡ true) (sym e) (named_further a _ (binding_starts r))
+
+declarators_start : {c : Allowed} {ts : Tokens} {ds : Trees} → ReadsDeclarators c ts ds → begins_with_name ts ≡ true
+declarators_start (grammar.last_declarator r) = declarator_starts r
+declarators_start (grammar.first_declarator {a = a} m e r s) = subst (λ x. begins_with_name x ≡ true) (sym e) (named_further a _ (declarator_starts r))
+
+-- ---- a statement's first tokens
+
+operand_begins : (ts : Tokens) → starts_well ts ≡ true → begins_well ts ≡ true
+operand_begins done h = absurd (both_ways false refl h)
+operand_begins (piece m (Word w) ts) h = or_left _ _ h
+operand_begins (piece m (Number w) ts) h = h
+operand_begins (piece m (Quoted q w) ts) h = h
+operand_begins (piece m (Sign semicolon) ts) h = refl
+operand_begins (piece m (Sign r) ts) h = h
+operand_begins (group m Round inside ts) h = h
+operand_begins (group m Square inside ts) h = h
+operand_begins (group m Brace inside ts) h = refl
+
+declares : (kind : VariableDeclarationKind) → is_declaring (declaring kind) ≡ true
+declares kinds.Const = refl
+declares kinds.Let = refl
+declares kinds.Var = refl
+
+declaration_begins : {c : Allowed} {kind : VariableDeclarationKind} {ts : Tokens} {t : Tree} → ReadsVariables c kind ts t → (b : Tokens) → begins_well (ts ⧺ b) ≡ true
+declaration_begins {kind = kind} (grammar.some_variables {ts = ts} r) b = or_right _ _ (or_left _ _ (and_from _ _ (declares kind) (named_further ts b (declarators_start r))))
+
+expression_begins : {c : Allowed} {l : Level} {ts : Tokens} {t : Tree} → ReadsExpression c l ts t → (b : Tokens) → goes_on b ≡ true → begins_well (ts ⧺ b) ≡ true
+expression_begins {ts = ts} r b j = operand_begins (ts ⧺ b) (starts_further ts b j (expression_starts r))
+
+-- ---- a statement is no lexical declaration
+
+-- the word may begin an expression
+abbrev is_start_word : List ℕ → Bool
+is_start_word w = is_operand_word w || is_prefix_word w
+
+word_starts : (w : List ℕ) (m : Bool) (ts : Tokens) → starts_well (piece m (Word w) ts) ≡ true → is_start_word w ≡ true
+word_starts w m ts h = by (or_cases (is_operand_word w && goes_on ts) (is_prefix_word w && starts_well ts) h)
+  where
+    by : ((is_operand_word w && goes_on ts) ≡ true) ⊎ ((is_prefix_word w && starts_well ts) ≡ true) → is_start_word w ≡ true
+    by (inl e) = or_left _ _ (and_parts (is_operand_word w) (goes_on ts) e).0
+    by (inr e) = or_right _ _ (and_parts (is_prefix_word w) (starts_well ts) e).0
+
+const_is_reserved : is_start_word (codes "const") ≡ false
+unfolding unicode_ident word_value is_reserved is_strict_reserved encode
+const_is_reserved = refl
+
+let_is_reserved : is_start_word (codes "let") ≡ false
+unfolding unicode_ident word_value is_reserved is_strict_reserved encode
+let_is_reserved = refl
+
+-- a word that begins an expression or stands as a name is none that isn't free
+other_than : (w v : List ℕ) (x : Bool) → bytes_eq w v ≡ x → is_start_word v ≡ false → is_start_word w ≡ true → x ≡ false
+other_than w v true e n h = absurd (both_ways (is_start_word v) n (subst (λ u. is_start_word u ≡ true) ((bytes_eq-Decides w v).0 e) h))
+other_than w v false e n h = refl
+
+neither : (x y : Bool) → x ≡ false → y ≡ false → (x || y) ≡ false
+neither true y e f = absurd (both_ways true e refl)
+neither false y e f = f
+
+no_lexical_word : (w : List ℕ) → is_start_word w ≡ true → is_lexical_word w ≡ false
+no_lexical_word w h = neither (bytes_eq w (codes "const")) (bytes_eq w (codes "let")) (other_than w (codes "const") _ refl const_is_reserved h) (other_than w (codes "let") _ refl let_is_reserved h)
+
+name_is_start : (w v : List ℕ) → word_value w ≡ Some v → is_free_name v ≡ true → is_start_word w ≡ true
+name_is_start w v e h = or_left _ _ (or_right (is_keyword w) _ (ap (λ o. option_map_or is_free_name o false) e ∙ h))
+
+operand_is_no_declaration : (ts b : Tokens) → starts_well ts ≡ true → begins_lexically (ts ⧺ b) ≡ false
+operand_is_no_declaration done b h = absurd (both_ways false refl h)
+operand_is_no_declaration (piece m (Word w) ts) b h = no_lexical_word w (word_starts w m ts h)
+operand_is_no_declaration (piece m (Number w) ts) b h = refl
+operand_is_no_declaration (piece m (Quoted q w) ts) b h = refl
+operand_is_no_declaration (piece m (Sign r) ts) b h = refl
+operand_is_no_declaration (group m d inside ts) b h = refl
+
+-- nor with the semicolon that ends it
+with_end : {last : Bool} {ts a : Tokens} → EndsBy last ts a → ((d : Tokens) → begins_lexically (a ⧺ d) ≡ false) → (b : Tokens) → begins_lexically (ts ⧺ b) ≡ false
+with_end {a = a} (grammar.a_semicolon m e) h b = subst (λ x. begins_lexically (x ⧺ b) ≡ false) (sym e) (subst (λ x. begins_lexically x ≡ false) (sym (one_more m (Sign semicolon) a b)) (h (piece m (Sign semicolon) b)))
+with_end grammar.the_brace h b = h b
+
+var_is_no_lexical_word : {c : Allowed} {a : Tokens} {t : Tree} → ReadsVariables c kinds.Var a t → (d : Tokens) → begins_lexically (a ⧺ d) ≡ false
+var_is_no_lexical_word (grammar.some_variables r) d = refl
+
+do_is_no_lexical_word : {a x : Tokens} {m : Bool} → a ≡ piece m (Word (codes "do")) x → (d : Tokens) → begins_lexically (a ⧺ d) ≡ false
+do_is_no_lexical_word e d = subst (λ y. begins_lexically (y ⧺ d) ≡ false) (sym e) refl
+
+statement_is_no_declaration : {c : Allowed} {last before_else : Bool} {ts : Tokens} {s : Tree} → ReadsStatement c last before_else ts s → (b : Tokens) → begins_lexically (ts ⧺ b) ≡ false
+statement_is_no_declaration (grammar.an_expression_statement {a = a} e h r) b = with_end e (λ d. operand_is_no_declaration a d (expression_starts r)) b
+statement_is_no_declaration grammar.an_empty_statement b = refl
+statement_is_no_declaration (grammar.a_block r) b = refl
+statement_is_no_declaration (grammar.an_if r s) b = refl
+statement_is_no_declaration (grammar.an_if_with_else k e r s u) b = refl
+statement_is_no_declaration (grammar.a_variable_statement e r) b = with_end e (λ d. var_is_no_lexical_word r d) b
+statement_is_no_declaration (grammar.a_for k l e i t u s) b = refl
+statement_is_no_declaration (grammar.a_for_in k e l r s) b = refl
+statement_is_no_declaration (grammar.a_for_of k e l r s) b = refl
+statement_is_no_declaration (grammar.a_while r s) b = refl
+statement_is_no_declaration (grammar.a_do_while k n e f s r) b = with_end e (λ d. do_is_no_lexical_word f d) b
+statement_is_no_declaration (grammar.a_labelled_statement {w = w} {v = v} e h s) b = no_lexical_word w (name_is_start w v e h)
+statement_is_no_declaration (grammar.a_continue e l) b = with_end e (λ d. refl) b
+statement_is_no_declaration (grammar.a_break e l) b = with_end e (λ d. refl) b
+statement_is_no_declaration (grammar.a_throw e h r) b = with_end e (λ d. refl) b
+statement_is_no_declaration (grammar.a_debugger e) b = with_end e (λ d. refl) b
+statement_is_no_declaration (grammar.a_switch r cs) b = refl
+statement_is_no_declaration (grammar.a_try r s) b = refl
+
+-- ---- the heads of loops
+
+other_word_head : (m : Bool) (w : List ℕ) (ts : Tokens) → bytes_eq w (codes "async") ≡ false → is_head (piece m (Word w) ts) ≡ true
+other_word_head m w (piece n (Word v) ts) h = ap (λ x. not (x && bytes_eq v (codes "of"))) h
+other_word_head m w ts h = refl
+
+declaring_head : (kind : VariableDeclarationKind) → bytes_eq (declaring kind) (codes "async") ≡ false
+declaring_head kinds.Const = refl
+declaring_head kinds.Let = refl
+declaring_head kinds.Var = refl
+
+-- behind a name `of` goes on with no operand
+no_operand : (w v : List ℕ) (m : Bool) (ts : Tokens) (x y : Bool) → bytes_eq w (codes "async") ≡ x → bytes_eq v (codes "of") ≡ y → ((is_operand_word w && goes_on (piece m (Word v) ts)) || (is_prefix_word w && starts_well (piece m (Word v) ts))) ≡ true → (x && y) ≡ false
+no_operand w v m ts false y e f h = refl
+no_operand w v m ts true false e f h = refl
+no_operand w v m ts true true e f h = by (or_cases (is_operand_word w && goes_on (piece m (Word v) ts)) (is_prefix_word w && starts_well (piece m (Word v) ts)) h)
+  where
+    by : ((is_operand_word w && goes_on (piece m (Word v) ts)) ≡ true) ⊎ ((is_prefix_word w && starts_well (piece m (Word v) ts)) ≡ true) → true ≡ false
+    by (inl i) = absurd (both_ways (joins (Word v)) (subst (λ u. joins (Word u) ≡ false) (sym ((bytes_eq-Decides v (codes "of")).0 f)) refl) (and_parts (is_operand_word w) (joins (Word v)) i).1)
+    by (inr i) = absurd (both_ways (is_prefix_word w) (subst (λ u. is_prefix_word u ≡ false) (sym ((bytes_eq-Decides w (codes "async")).0 e)) refl) (and_parts (is_prefix_word w) _ i).0)
+
+operand_head : (ts : Tokens) → starts_well ts ≡ true → is_head ts ≡ true
+operand_head (piece m (Word w) (piece n (Word v) ts)) h = ap not (no_operand w v n ts (bytes_eq w (codes "async")) (bytes_eq v (codes "of")) refl refl h)
+operand_head ts h = refl
+
+operand_head_further : (ts b : Tokens) → goes_on b ≡ true → starts_well ts ≡ true → is_head (ts ⧺ b) ≡ true
+operand_head_further ts b j h = operand_head (ts ⧺ b) (starts_further ts b j h)
+
+-- what stands before `of`
+target_head : (ts b : Tokens) → may_precede_of ts ≡ true → starts_well ts ≡ true → is_head (ts ⧺ b) ≡ true
+target_head done b m h = absurd (both_ways false refl h)
+target_head (piece n (Word w) done) b m h = other_word_head n w b (by (bytes_eq w (codes "async")) (and_parts (not (bytes_eq w (codes "let"))) _ m).1)
+  where
+    by : (x : Bool) → not x ≡ true → x ≡ false
+    by true e = absurd (both_ways false refl e)
+    by false e = refl
+target_head (piece n (Word w) (piece k (Word v) ts)) b m h = operand_head (piece n (Word w) (piece k (Word v) ts)) h
+target_head (piece n (Word w) (piece k p ts)) b m h = refl
+target_head (piece n (Word w) (group k d inside ts)) b m h = refl
+target_head (piece n p ts) b m h = refl
+target_head (group n d inside ts) b m h = refl
+
+init_head : {c : Allowed} {a : Tokens} {i : Maybe} → ReadsInit c a i → (k : Bool) (b : Tokens) → is_head (a ⧺ piece k (Sign semicolon) b) ≡ true
+init_head grammar.no_init k b = refl
+init_head (grammar.first_variables kind (grammar.some_variables {mark = m} {ts = ts} r)) k b = other_word_head m (declaring kind) (ts ⧺ piece k (Sign semicolon) b) (declaring_head kind)
+init_head (grammar.first_expression {ts = ts} r) k b = operand_head_further ts (piece k (Sign semicolon) b) refl (expression_starts r)
+
+in_head : {c : Allowed} {a : Tokens} {l : Tree} → ReadsLeft c false a l → (k : Bool) (b : Tokens) → is_head (a ⧺ piece k (Word (codes "in")) b) ≡ true
+in_head (grammar.a_declared_name {mark = m} {ts = ts} kind r) k b = other_word_head m (declaring kind) (ts ⧺ piece k (Word (codes "in")) b) (declaring_head kind)
+in_head (grammar.a_target {ts = ts} h r s) k b = operand_head_further ts (piece k (Word (codes "in")) b) refl (expression_starts r)
+
+of_head : {c : Allowed} {a : Tokens} {l : Tree} → ReadsLeft c true a l → (k : Bool) (b : Tokens) → is_head (a ⧺ piece k (Word (codes "of")) b) ≡ true
+of_head (grammar.a_declared_name {mark = m} {ts = ts} kind r) k b = other_word_head m (declaring kind) (ts ⧺ piece k (Word (codes "of")) b) (declaring_head kind)
+of_head (grammar.a_target {ts = ts} h r s) k b = target_head ts (piece k (Word (codes "of")) b) h (expression_starts r)
+
+-- ---- what `try` needs
+
+handler_begins : {c : Allowed} {ts : Tokens} {h : Tree} → ReadsHandler c ts h → (n : Bool) (inside b : Tokens) → goes_to_end (group n Brace inside (ts ⧺ b)) ≡ true
+handler_begins (grammar.a_catch r) n inside b = refl
+handler_begins (grammar.a_catch_by_name r s) n inside b = refl
+
+finalizer_begins : {c : Allowed} {ts : Tokens} {f : Tree} → ReadsFinalizer c ts f → (n : Bool) (inside b : Tokens) → goes_to_end (group n Brace inside (ts ⧺ b)) ≡ true
+finalizer_begins (grammar.a_finally r) n inside b = refl
+
+end_begins : {c : Allowed} {ts : Tokens} {h f : Maybe} → ReadsEndsOfTry c ts h f → (n : Bool) (inside b : Tokens) → goes_to_end (group n Brace inside (ts ⧺ b)) ≡ true
+end_begins (grammar.a_handler r) n inside b = handler_begins r n inside b
+end_begins (grammar.a_finalizer r) n inside b = finalizer_begins r n inside b
+end_begins (grammar.a_handler_and_a_finalizer {a = a} {b = d} e r s) n inside b = subst (λ x. goes_to_end (group n Brace inside (x ⧺ b)) ≡ true) (sym e) (subst (λ x. goes_to_end (group n Brace inside x) ≡ true) (sym (in_a_row a d b)) (handler_begins r n inside (d ⧺ b)))
+
+handler_ends : {c : Allowed} {ts : Tokens} {h : Tree} → ReadsHandler c ts h → (v : Bool) (b : Tokens) → ends_so true b ≡ true → ends_so v (ts ⧺ b) ≡ true
+handler_ends (grammar.a_catch r) v b h = h
+handler_ends (grammar.a_catch_by_name r s) v b h = h
+
+finalizer_ends : {c : Allowed} {ts : Tokens} {f : Tree} → ReadsFinalizer c ts f → (v : Bool) (b : Tokens) → ends_so true b ≡ true → ends_so v (ts ⧺ b) ≡ true
+finalizer_ends (grammar.a_finally r) v b h = h
+
+end_ends : {c : Allowed} {ts : Tokens} {h f : Maybe} → ReadsEndsOfTry c ts h f → (v : Bool) (b : Tokens) → ends_so true b ≡ true → ends_so v (ts ⧺ b) ≡ true
+end_ends (grammar.a_handler r) v b h = handler_ends r v b h
+end_ends (grammar.a_finalizer r) v b h = finalizer_ends r v b h
+end_ends (grammar.a_handler_and_a_finalizer {a = a} {b = d} e r s) v b h = subst (λ x. ends_so v (x ⧺ b) ≡ true) (sym e) (subst (λ x. ends_so v x ≡ true) (sym (in_a_row a d b)) (handler_ends r v (d ⧺ b) (finalizer_ends s true b h)))
+
+-- ---- a program
+
+abbrev is_sound : Tokens → Bool
+is_sound done = true
+is_sound ts = begins_well ts && ends_so true ts
+
+sound_from : (ts : Tokens) → begins_well ts ≡ true → ends_so true ts ≡ true → is_sound ts ≡ true
+sound_from done h g = refl
+sound_from (piece m p ts) h g = and_from _ _ h g
+sound_from (group m b inside ts) h g = and_from _ _ h g
+
+sound_ends : (ts : Tokens) → is_sound ts ≡ true → ends_so true ts ≡ true
+sound_ends done h = refl
+sound_ends (piece m p ts) h = (and_parts _ _ h).1
+sound_ends (group m b inside ts) h = (and_parts _ _ h).1
+
+-- what a semicolon ends, before others or at the end of a module
+semicolon_ends : {ts a : Tokens} → EndsBy false ts a → (v : Bool) (b : Tokens) → ends_so true b ≡ true → ends_so v (ts ⧺ b) ≡ true
+semicolon_ends {a = a} (grammar.a_semicolon m e) v b h = subst (λ x. ends_so v (x ⧺ b) ≡ true) (sym e) (subst (λ x. ends_so v x ≡ true) (sym (one_more m (Sign semicolon) a b)) (ends_behind v m a b h))
+
+statement_ends : {c : Allowed} {before_else : Bool} {a : Tokens} {s : Tree} → ReadsStatement c false before_else a s → (v : Bool) (b : Tokens) → ends_so true b ≡ true → ends_so v (a ⧺ b) ≡ true
+statement_ends (grammar.an_expression_statement e h r) v b g = semicolon_ends e v b g
+statement_ends grammar.an_empty_statement v b h = h
+statement_ends (grammar.a_block r) v b h = h
+statement_ends (grammar.an_if r s) v b h = statement_ends s false b h
+statement_ends (grammar.an_if_with_else {a = a} {b = d} k e r s u) v b h =
+    let w : List ℕ = codes "else" in
+    subst (λ x. ends_so false (x ⧺ b) ≡ true) (sym e) (subst (λ x. ends_so false x ≡ true) (sym (in_a_row a (piece k (Word w) d) b)) (ends_past k w a (d ⧺ b) (statement_ends u false b h) false))
+statement_ends (grammar.a_variable_statement e r) v b h = semicolon_ends e v b h
+statement_ends (grammar.a_for k l e i t u s) v b h = statement_ends s false b h
+statement_ends (grammar.a_for_in k e l r s) v b h = statement_ends s false b h
+statement_ends (grammar.a_for_of k e l r s) v b h = statement_ends s false b h
+statement_ends (grammar.a_while r s) v b h = statement_ends s false b h
+statement_ends (grammar.a_do_while k n e f s r) v b h = semicolon_ends e v b h
+statement_ends (grammar.a_labelled_statement e h s) v b g = statement_ends s false b g
+statement_ends (grammar.a_continue e l) v b h = semicolon_ends e v b h
+statement_ends (grammar.a_break e l) v b h = semicolon_ends e v b h
+statement_ends (grammar.a_throw e h r) v b g = semicolon_ends e v b g
+statement_ends (grammar.a_debugger e) v b h = semicolon_ends e v b h
+statement_ends (grammar.a_switch r cs) v b h = h
+statement_ends (grammar.a_try r s) v b h = end_ends s true b h
+
+-- what stands behind `if` or `while` and its test
+body_begins : (next : Bool) (test ts : Tokens) → begins_lexically ts ≡ false → ends_so false ts ≡ true → goes_to_body (group next Round test ts) ≡ true
+body_begins next test done n h = absurd (both_ways false refl h)
+body_begins next test (piece m p ts) n h = ap not n
+body_begins next test (group m d inside ts) n h = ap not n
+
+statement_word : (w : List ℕ) (ts : Tokens) → begins_statement w ts ≡ true → word_begins_well w ts ≡ true
+statement_word w ts h = or_right (starts_well (piece false (Word w) ts)) _ (or_right (is_declaring w && begins_with_name ts) _ h)
+
+alone_begins : (w : List ℕ) (ts : Tokens) → begins_alone w ≡ true → word_begins_well w ts ≡ true
+alone_begins w ts h = statement_word w ts (or_right (goes_to_labelled ts) _ (or_left _ _ h))
+
+if_begins : (next : Bool) (test ts : Tokens) → goes_to_body (group next Round test ts) ≡ true → word_begins_well (codes "if") (group next Round test ts) ≡ true
+if_begins next test ts h = statement_word (codes "if") (group next Round test ts) (or_left _ _ h)
+
+while_begins : (next : Bool) (test ts : Tokens) → goes_to_body (group next Round test ts) ≡ true → word_begins_well (codes "while") (group next Round test ts) ≡ true
+while_begins next test ts h = statement_word (codes "while") (group next Round test ts) (or_left _ _ h)
+
+for_begins : (next : Bool) (head ts : Tokens) → is_head head ≡ true → word_begins_well (codes "for") (group next Round head ts) ≡ true
+for_begins next head ts h = statement_word (codes "for") (group next Round head ts) (or_left _ _ h)
+
+throw_begins : (ts : Tokens) → on_same_line ts ≡ true → word_begins_well (codes "throw") ts ≡ true
+throw_begins ts h = statement_word (codes "throw") ts (or_right (goes_to_labelled ts) _ (or_left _ _ h))
+
+label_begins : (next : Bool) (w : List ℕ) (ts : Tokens) → begins_lexically ts ≡ false → word_begins_well w (piece next (Sign colon) ts) ≡ true
+label_begins next w ts n = statement_word w (piece next (Sign colon) ts) (or_left (goes_to_labelled (piece next (Sign colon) ts)) _ (ap not n))
+
+line_further : (ts b : Tokens) → on_same_line ts ≡ true → on_same_line (ts ⧺ b) ≡ true
+line_further done b h = absurd (both_ways false refl h)
+line_further (piece m p ts) b h = h
+line_further (group m d inside ts) b h = h
+
+-- before a semicolon
+semicolon_begins : {ts a : Tokens} → EndsBy false ts a → ((d : Tokens) → goes_on d ≡ true → begins_well (a ⧺ d) ≡ true) → (b : Tokens) → begins_well (ts ⧺ b) ≡ true
+semicolon_begins {a = a} (grammar.a_semicolon m e) h b = subst (λ x. begins_well (x ⧺ b) ≡ true) (sym e) (subst (λ x. begins_well x ≡ true) (sym (one_more m (Sign semicolon) a b)) (h (piece m (Sign semicolon) b) refl))
+
+statement_begins : {c : Allowed} {before_else : Bool} {a : Tokens} {s : Tree} → ReadsStatement c false before_else a s → (b : Tokens) → ends_so true b ≡ true → begins_well (a ⧺ b) ≡ true
+statement_begins (grammar.an_expression_statement e h r) b g = semicolon_begins e (expression_begins r) b
+statement_begins grammar.an_empty_statement b h = refl
+statement_begins (grammar.a_block r) b h = refl
+statement_begins (grammar.an_if {next = next} {test = test} {ts = ts} r s) b h = if_begins next test (ts ⧺ b) (body_begins next test (ts ⧺ b) (statement_is_no_declaration s b) (statement_ends s false b h))
+statement_begins (grammar.an_if_with_else {next = next} {test = test} {ts = ts} {a = a} {b = d} k e r s u) b h =
+    let w : List ℕ = codes "else" in
+    if_begins next test (ts ⧺ b) (body_begins next test (ts ⧺ b) (subst (λ x. begins_lexically (x ⧺ b) ≡ false) (sym e) (subst (λ x. begins_lexically x ≡ false) (sym (in_a_row a (piece k (Word w) d) b)) (statement_is_no_declaration s (piece k (Word w) (d ⧺ b))))) (subst (λ x. ends_so false (x ⧺ b) ≡ true) (sym e) (subst (λ x. ends_so false x ≡ true) (sym (in_a_row a (piece k (Word w) d) b)) (ends_past k w a (d ⧺ b) (statement_ends u false b h) false))))
+statement_begins (grammar.a_variable_statement e r) b h = semicolon_begins e (λ d j. declaration_begins r d) b
+statement_begins (grammar.a_for {next = next} {head = head} {ts = ts} k l e i t u s) b h = for_begins next head (ts ⧺ b) (subst (λ x. is_head x ≡ true) (sym e) (init_head i k _))
+statement_begins (grammar.a_for_in {next = next} {head = head} {ts = ts} k e l r s) b h = for_begins next head (ts ⧺ b) (subst (λ x. is_head x ≡ true) (sym e) (in_head l k _))
+statement_begins (grammar.a_for_of {next = next} {head = head} {ts = ts} k e l r s) b h = for_begins next head (ts ⧺ b) (subst (λ x. is_head x ≡ true) (sym e) (of_head l k _))
+statement_begins (grammar.a_while {next = next} {test = test} {ts = ts} r s) b h = while_begins next test (ts ⧺ b) (body_begins next test (ts ⧺ b) (statement_is_no_declaration s b) (statement_ends s false b h))
+statement_begins (grammar.a_do_while {b = a} {test = test} k n e f s r) b h = semicolon_begins e (λ d j. subst (λ x. begins_well (x ⧺ d) ≡ true) (sym f) (alone_begins (codes "do") ((a ⧺ piece k (Word (codes "while")) (group n Round test done)) ⧺ d) refl)) b
+statement_begins (grammar.a_labelled_statement {next = next} {w = w} {ts = ts} e h s) b g = label_begins next w (ts ⧺ b) (statement_is_no_declaration s b)
+statement_begins (grammar.a_continue {a = a} e l) b h = semicolon_begins e (λ d j. alone_begins (codes "continue") (a ⧺ d) refl) b
+statement_begins (grammar.a_break {a = a} e l) b h = semicolon_begins e (λ d j. alone_begins (codes "break") (a ⧺ d) refl) b
+statement_begins (grammar.a_throw {a = a} e h r) b g = semicolon_begins e (λ d j. throw_begins (a ⧺ d) (line_further a d h)) b
+statement_begins (grammar.a_debugger e) b h = semicolon_begins e (λ d j. alone_begins (codes "debugger") d refl) b
+statement_begins (grammar.a_switch {next = next} {third = third} {head = head} {inside = inside} r cs) b h = alone_begins (codes "switch") (group next Round head (group third Brace inside b)) refl
+statement_begins (grammar.a_try {next = next} {inside = i} {ts = ts} r s) b h = statement_word (codes "try") (group next Brace i (ts ⧺ b)) (end_begins s next i b)
+
+item_begins : {c : Allowed} {a : Tokens} {s : Tree} → ReadsItem c false a s → (b : Tokens) → ends_so true b ≡ true → begins_well (a ⧺ b) ≡ true
+item_begins (grammar.a_statement r) b h = statement_begins r b h
+item_begins (grammar.a_declaration kind n e r) b h = semicolon_begins e (λ d j. declaration_begins r d) b
+
+item_ends : {c : Allowed} {a : Tokens} {s : Tree} → ReadsItem c false a s → (v : Bool) (b : Tokens) → ends_so true b ≡ true → ends_so v (a ⧺ b) ≡ true
+item_ends (grammar.a_statement r) v b h = statement_ends r v b h
+item_ends (grammar.a_declaration kind n e r) v b h = semicolon_ends e v b h
+
+item_sound : {c : Allowed} (a : Tokens) {s : Tree} → ReadsItem c false a s → (b : Tokens) → ends_so true b ≡ true → is_sound (a ⧺ b) ≡ true
+item_sound a r b h = sound_from (a ⧺ b) (item_begins r b h) (item_ends r true b h)
+
+end_nothing : (a : Tokens) → a ⧺ done ≡ a
+end_nothing done = refl
+end_nothing (piece m p a) = ap (piece m p) (end_nothing a)
+end_nothing (group m b inside a) = ap (group m b inside) (end_nothing a)
+
+statements_sound : {c : Allowed} {ts : Tokens} {ss : Trees} → ReadsStatements c false ts ss → is_sound ts ≡ true
+statements_sound grammar.no_statement = refl
+statements_sound (grammar.last_statement {ts = ts} r) = subst (λ x. is_sound x ≡ true) (end_nothing ts) (item_sound ts r done refl)
+statements_sound (grammar.first_statement {a = a} {b = b} e r s) = subst (λ x. is_sound x ≡ true) (sym e) (item_sound a r b (sound_ends b (statements_sound s)))
+
+body_sound : {c : Allowed} {ts : Tokens} {ds ss : Trees} → ReadsBody c false ts ds ss → is_sound ts ≡ true
+body_sound (grammar.a_directive {ts = ts} q e r) = sound_ends ts (body_sound r)
+body_sound (grammar.statements h r) = statements_sound r
+
+module_sound : {ts : Tokens} {t : Tree} → ReadsModule ts t → is_sound ts ≡ true
+module_sound (a_module r) = body_sound r
+
+pub refused : (source : List ℕ) (ts : Tokens) → AreTokensOf source ts → is_sound ts ≡ false → IsNotRead source
+refused source ts h f us t g r = both_ways (is_sound ts) f (subst (λ x. is_sound x ≡ true) (one_token_list source us ts g (all_plain us) h (all_plain ts)) (module_sound r))
