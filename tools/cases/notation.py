@@ -84,19 +84,27 @@ class Reader:
             (directives if statement.node_type == "Directive" else body).append(statement)
         return Child("Program", kind="module", directives=directives, body=body)
 
+    def braced(self):
+        """The statements in braces."""
+        self.expect("{")
+        body = []
+        while not self.is_here("}"):
+            body.append(self.statement())
+        self.take()
+        return body
+
     def statement(self):
         if self.is_here(";"):
             self.take()
             return Child("EmptyStatement")
         if self.is_here("{"):
-            self.take()
-            body = []
-            while not self.is_here("}"):
-                body.append(self.statement())
-            self.take()
-            return Child("BlockStatement", body=body)
+            return Child("BlockStatement", body=self.braced())
         if self.begins_declaration():
             return self.declaration(self.take())
+        if self.is_here("function"):
+            return self.function("declaration")
+        if self.is_here("return"):
+            return self.result()
         node = self.expression()
         if self.is_here(";"):
             self.take()
@@ -117,6 +125,31 @@ class Reader:
             self.take()
             fields["init"] = self.expression()
         return Child("VariableDeclarator", **fields)
+
+    def result(self):
+        self.take()
+        argument = {} if self.is_here(";") else {"argument": self.expression()}
+        self.expect(";")
+        return Child("ReturnStatement", **argument)
+
+    # ---- functions
+
+    def function(self, kind):
+        self.take()
+        name = {} if self.is_here("(") else {"id": self.binding()}
+        self.expect("(")
+        params = self.parameters()
+        return Child("Function", kind=kind, **name, params=params, body=self.function_body())
+
+    def parameters(self):
+        items = self.several(")", self.parameter)
+        rest = {"rest": items.pop()} if items and items[-1].node_type == "FormalParameterRest" else {}
+        return Child("FormalParameters", items=items, **rest)
+
+    def function_body(self):
+        body = self.braced()
+        directives = [it for it in body if it.node_type == "Directive"]
+        return Child("FunctionBody", directives=directives, statements=body[len(directives):])
 
     # ---- names
 
@@ -152,6 +185,8 @@ class Reader:
     def primary(self):
         if self.is_here("("):
             return self.operation()
+        if self.is_here("function"):
+            return self.function("expression")
         kind, value = self.kind, self.take()
         if kind == "string":
             return Child("StringLiteral", value=json.loads(value))
@@ -206,12 +241,11 @@ class Reader:
 
     def arrow(self):
         self.take()
-        items = self.several(")", self.parameter)
-        rest = {"rest": items.pop()} if items and items[-1].node_type == "FormalParameterRest" else {}
+        params = self.parameters()
         self.expect("=>")
-        body = self.expression()
+        body = self.function_body() if self.is_here("{") else self.expression()
         self.expect(")")
-        return Child("ArrowFunctionExpression", params=Child("FormalParameters", items=items, **rest), body=body)
+        return Child("ArrowFunctionExpression", params=params, body=body)
 
     def parameter(self):
         is_rest = self.is_here("...")
@@ -257,14 +291,14 @@ class Reader:
         is_value = TABLE.is_value(field)
         if not is_value and self.is_here("["):
             self.take()
-            return self.several("]", self.statement_or_hole)
+            return self.several("]", lambda: self.child_or_hole(field))
         if self.kind == "word" and not self.text[self.at:].lstrip().startswith("("):
             if field.kind == "BindingPattern":
                 return self.binding()
             if field.kind == "LabelIdentifier":
                 return Child("LabelIdentifier", name=self.take())
         if not is_value:
-            return self.statement()
+            return self.child(field)
         if self.is_here("["):
             self.take()
             return self.several("]", lambda: int(self.take(), 0))
@@ -275,12 +309,17 @@ class Reader:
             return int(value)
         return {"true": True, "false": False}.get(value, value)
 
-    def statement_or_hole(self):
+    def child_or_hole(self, field):
         """A member of a list, or None where it is left out."""
         if self.is_here("null"):
             self.take()
             return None
-        return self.statement()
+        return self.child(field)
+
+    def child(self, field):
+        """A function is a declaration where a statement may stand, and else an expression."""
+        is_function = self.is_here("function") and field.kind != "Statement"
+        return self.expression() if is_function else self.statement()
 
 
 # ---- jobs

@@ -91,9 +91,9 @@ class Rows {
 
   program(node, comments, hasSource) {
     const rows = this.comments(comments);
-    const fields = this.body(node.body);
+    const { directives, statements } = this.body(node.body);
     if (node.sourceType === "script") this.refuse("a script", node);
-    this.add("Program", node, { source: hasSource ? this.source : null, kind: "module", comments: rows, ...fields });
+    this.add("Program", node, { source: hasSource ? this.source : null, kind: "module", comments: rows, directives, body: statements });
   }
 
   // Comments have their spans in any case.
@@ -116,7 +116,7 @@ class Rows {
     const directives = count < 0 ? nodes : nodes.slice(0, count);
     return {
       directives: directives.map((node) => this.add("Directive", node, { directive: node.directive }, "directive")),
-      body: this.several(nodes.slice(directives.length), this.statement),
+      statements: this.several(nodes.slice(directives.length), this.statement),
     };
   }
 
@@ -135,23 +135,29 @@ class Rows {
       case "EmptyStatement":
       case "DebuggerStatement":
         return this.add(node.type, node, {});
+      case "VariableDeclaration":
+        return this.add(node.type, node, { kind: node.kind, declarations: this.several(node.declarations, this.declarator) });
+      case "FunctionDeclaration":
+        return this.function(node, "declaration");
+      case "ReturnStatement":
+        return this.add(node.type, node, { argument: this.maybe(node.argument, this.expression) });
       case "ThrowStatement":
         return this.add(node.type, node, { argument: this.expression(node.argument) });
-      case "ContinueStatement":
       case "BreakStatement":
+      case "ContinueStatement":
         return this.add(node.type, node, { label: this.maybe(node.label, this.label) });
       case "LabeledStatement":
         return this.add(node.type, node, { label: this.label(node.label), body: this.statement(node.body) });
       case "SwitchStatement":
-        return this.add(node.type, node, { discriminant: this.expression(node.discriminant), cases: this.several(node.cases, this.case) });
+        return this.add(node.type, node, {
+          discriminant: this.expression(node.discriminant), cases: this.several(node.cases, this.switchCase),
+        });
       case "TryStatement":
         return this.add(node.type, node, {
           block: this.statement(node.block),
           handler: this.maybe(node.handler, this.handler),
           finalizer: this.maybe(node.finalizer, this.statement),
         });
-      case "VariableDeclaration":
-        return this.declaration(node);
       default:
         return this.loop(node);
     }
@@ -159,9 +165,13 @@ class Rows {
 
   loop(node) {
     switch (node.type) {
+      case "WhileStatement":
+        return this.add(node.type, node, { test: this.expression(node.test), body: this.statement(node.body) });
+      case "DoWhileStatement":
+        return this.add(node.type, node, { body: this.statement(node.body), test: this.expression(node.test) });
       case "ForStatement":
         return this.add(node.type, node, {
-          init: this.maybe(node.init, this.first),
+          init: this.maybe(node.init, this.declarationOr(this.expression)),
           test: this.maybe(node.test, this.expression),
           update: this.maybe(node.update, this.expression),
           body: this.statement(node.body),
@@ -169,31 +179,22 @@ class Rows {
       case "ForInStatement":
       case "ForOfStatement":
         return this.add(node.type, node, {
-          is_await: node.await, left: this.left(node.left), right: this.expression(node.right), body: this.statement(node.body),
+          is_await: node.await,
+          left: this.declarationOr(this.target).call(this, node.left),
+          right: this.expression(node.right),
+          body: this.statement(node.body),
         });
-      case "WhileStatement":
-      case "DoWhileStatement":
-        return this.add(node.type, node, { test: this.expression(node.test), body: this.statement(node.body) });
       default:
         return this.refuse(node.type, node);
     }
   }
 
-  // What stands first in the head of a loop.
-  first(node) {
-    return node.type === "VariableDeclaration" ? this.declaration(node) : this.expression(node);
+  // What stands first in the head of a loop: a declaration, or what is converted so.
+  declarationOr(convert) {
+    return (node) => (node.type === "VariableDeclaration" ? this.statement(node) : convert.call(this, node));
   }
 
-  // What a loop gives its values.
-  left(node) {
-    return node.type === "VariableDeclaration" ? this.declaration(node) : this.target(node);
-  }
-
-  label(node) {
-    return this.add("LabelIdentifier", node, { name: node.name });
-  }
-
-  case(node) {
+  switchCase(node) {
     return this.add(node.type, node, {
       test: this.maybe(node.test, this.expression), consequent: this.several(node.consequent, this.statement),
     });
@@ -205,8 +206,8 @@ class Rows {
     });
   }
 
-  declaration(node) {
-    return this.add(node.type, node, { kind: node.kind, declarations: this.several(node.declarations, this.declarator) });
+  label(node) {
+    return this.add("LabelIdentifier", node, { name: node.name });
   }
 
   declarator(node) {
@@ -273,6 +274,8 @@ class Rows {
         return this.add(node.type, node, { properties: this.several(node.properties, this.property) });
       case "ArrowFunctionExpression":
         return this.arrow(node);
+      case "FunctionExpression":
+        return this.function(node, "expression");
       default:
         return this.refuse(node.type, node);
     }
@@ -346,15 +349,31 @@ class Rows {
   // ---- functions
 
   arrow(node) {
-    const params = this.parameters(node.params);
-    if (node.body.type === "BlockStatement") this.refuse("FunctionBody", node.body);
     return this.add(node.type, node, {
       is_async: node.async,
       type_parameters: node.typeParameters,
-      params,
+      params: this.parameters(node.params),
       return_type: node.returnType,
-      body: this.expression(node.body),
+      body: node.body.type === "BlockStatement" ? this.functionBody(node.body) : this.expression(node.body),
     });
+  }
+
+  function(node, kind) {
+    return this.add("Function", node, {
+      kind,
+      id: this.maybe(node.id, this.binding),
+      is_async: node.async,
+      generator: node.generator,
+      declare: node.declare,
+      type_parameters: node.typeParameters,
+      params: this.parameters(node.params),
+      return_type: node.returnType,
+      body: this.maybe(node.body, this.functionBody),
+    });
+  }
+
+  functionBody(node) {
+    return this.add("FunctionBody", node, this.body(node.body));
   }
 
   parameters(nodes) {

@@ -20,7 +20,8 @@ class Draw {
   constructor(seed) {
     this.state = (seed * 2654435761 + 97) >>> 0;
     this.declared = 0;
-    this.around = []; // what jumps may lead to: of each loop, `switch` and label its kind, and its name
+    this.loops = 0; // round what is drawn, up to the next function
+    this.functions = 0;
   }
 
   // A whole number below the limit (a congruential generator of 32 bits, from its upper half).
@@ -41,121 +42,133 @@ class Draw {
 
   item(depth) {
     if (this.below(5) > 0) return this.statement(depth);
-    return `${this.declaration(this.of(wordsOf("VariableDeclaration", "kind")), depth)};`;
+    if (isType("Function") && this.below(4) === 0) return this.function(depth - 1, `n${this.declared++}`);
+    return `${this.variables(depth, this.of(wordsOf("VariableDeclaration", "kind")))};`;
   }
 
-  // Names of their own, each with a value.
-  declaration(word, depth) {
-    return `${word} ${this.several(1, 2, () => `${this.newName()} = ${this.assigned(depth)}`).join(", ")}`;
-  }
-
-  newName() {
-    return `n${this.declared++}`;
+  variables(depth, kind) {
+    const needsValue = () => kind === "const" || this.below(3) > 0;
+    const declarators = this.several(1, 2, () => `n${this.declared++}${needsValue() ? ` = ${this.assigned(depth)}` : ""}`);
+    return `${kind} ${declarators.join(", ")}`;
   }
 
   statement(depth) {
-    const kind = depth === 0 ? 11 : this.below(12);
+    if (depth > 0 && this.below(3) === 0) {
+      const makers = this.statements().filter((maker) => maker !== null);
+      if (makers.length > 0) return this.of(makers).call(this, depth - 1);
+    }
+    const kind = depth === 0 ? 9 : this.below(10);
     if (kind === 0) return `{ ${this.several(0, 3, () => this.item(depth - 1)).join(" ")} }`;
     if (kind < 3) return `if (${this.expression(depth)}) ${this.statement(depth - 1)}`;
     if (kind < 5) return `if (${this.expression(depth)}) ${this.block(depth)} else ${this.statement(depth - 1)}`;
     if (kind === 5) return ";";
-    if (kind < 9) return this.of(this.statements()).call(this, depth);
     return this.begun(this.expression(depth));
   }
 
   statements() {
-    const when = (type, make) => (isType(type) ? [make] : []);
+    const when = (type, make) => (isType(type) ? make : null);
     return [
-      this.variables,
-      ...when("ForStatement", this.forLoop), ...when("ForInStatement", this.forIn), ...when("ForOfStatement", this.forOf),
-      ...when("WhileStatement", this.whileLoop), ...when("DoWhileStatement", this.doLoop), ...when("LabeledStatement", this.labelled),
-      ...when("BreakStatement", this.jump), ...when("BreakStatement", this.jump), ...when("ThrowStatement", this.thrown),
-      ...when("DebuggerStatement", () => "debugger;"), ...when("SwitchStatement", this.choice), ...when("TryStatement", this.handled),
+      when("WhileStatement", (depth) => this.round(() => `while (${this.expression(depth)}) ${this.statement(depth)}`)),
+      when("DoWhileStatement", (depth) => this.round(() => `do ${this.statement(depth)} while (${this.expression(depth)});`)),
+      when("ForStatement", (depth) => this.round(() => `for (${this.first(depth)}; ${this.part(depth)}; ${this.part(depth)}) ${this.statement(depth)}`)),
+      when("ForInStatement", (depth) => this.round(() => `for (${this.left(depth)} in ${this.expression(depth)}) ${this.statement(depth)}`)),
+      when("ForOfStatement", (depth) => this.round(() => `for (${this.left(depth)} of ${this.assigned(depth)}) ${this.statement(depth)}`)),
+      when("LabeledStatement", (depth) => this.labelled(depth)),
+      when("SwitchStatement", (depth) => this.round(() => this.cases(depth))),
+      when("TryStatement", (depth) => this.attempt(depth)),
+      when("ThrowStatement", (depth) => `throw ${this.expression(depth)};`),
+      when("DebuggerStatement", () => "debugger;"),
+      this.loops > 0 ? () => "break;" : null,
+      this.functions > 0 ? (depth) => (this.below(4) ? `return ${this.expression(depth)};` : "return;") : null,
     ];
   }
 
-  variables(depth) {
-    return wordsOf("VariableDeclaration", "kind").includes("var") ? `${this.declaration("var", depth)};` : ";";
+  // What may be left by `break`.
+  round(make) {
+    this.loops++;
+    const text = make();
+    this.loops--;
+    return text;
   }
 
-  // What this makes, within something that jumps may lead to.
-  within(kind, name, make) {
-    this.around.push({ kind, name });
-    const made = make();
-    this.around.pop();
-    return made;
+  // In the first part `in` stands in brackets.
+  first(depth) {
+    const kinds = wordsOf("VariableDeclaration", "kind");
+    switch (this.below(3)) {
+      case 0:
+        return "";
+      case 1:
+        return `${this.of(kinds)} n${this.declared++} = (${this.expression(depth)})`;
+      default:
+        return `(${this.expression(depth)})`;
+    }
   }
 
-  loopBody(depth) {
-    return this.within("loop", null, () => this.statement(depth - 1));
-  }
-
-  // `in` stands in parentheses in what comes first.
-  forLoop(depth) {
-    const first = [() => "", () => `(${this.expression(depth)})`, () => `let ${this.newName()} = (${this.assigned(depth)})`, () => `var ${this.newName()}`];
-    const part = () => (this.below(2) ? this.expression(depth) : "");
-    return `for (${this.of(first)()}; ${part()}; ${part()}) ${this.loopBody(depth)}`;
+  part(depth) {
+    return this.below(3) ? this.expression(depth) : "";
   }
 
   left(depth) {
-    return this.below(2) ? `${this.of(["const", "let", "var"])} ${this.newName()}` : `(${this.target(depth)})`;
+    if (this.below(2)) return `${this.of(wordsOf("VariableDeclaration", "kind"))} n${this.declared++}`;
+    const target = this.target(depth);
+    return /^(async|let)$/.test(target) ? `(${target})` : target;
   }
 
-  forIn(depth) {
-    return `for (${this.left(depth)} in ${this.expression(depth)}) ${this.loopBody(depth)}`;
-  }
-
-  forOf(depth) {
-    return `for (${this.left(depth)} of ${this.assigned(depth)}) ${this.loopBody(depth)}`;
-  }
-
-  whileLoop(depth) {
-    return `while (${this.expression(depth)}) ${this.loopBody(depth)}`;
-  }
-
-  doLoop(depth) {
-    return `do ${this.loopBody(depth)} while (${this.expression(depth)});`;
-  }
-
-  // A label of a loop may be what `continue` leads to.
   labelled(depth) {
-    const name = this.of(NAMES.filter((one) => this.around.every((outer) => outer.name !== one)));
-    if (name === undefined) return ";";
-    if (this.below(2)) return `${name}: ${this.within("label", name, () => this.statement(depth - 1))}`;
-    return `${name}: ${this.within("label of a loop", name, () => this.of([this.forLoop, this.whileLoop, this.doLoop]).call(this, depth))}`;
+    const name = `l${this.declared++}`;
+    switch (this.below(3)) {
+      case 0:
+        return `${name}: while (${this.expression(depth)}) continue ${name};`;
+      case 1:
+        return `${name}: { ${this.statement(depth)} break ${name}; }`;
+      default:
+        return `${name}: ${this.statement(depth)}`;
+    }
   }
 
-  jump() {
-    const isIn = (...kinds) => this.around.some(({ kind }) => kinds.includes(kind));
-    const named = (kinds) => this.around.filter(({ kind }) => kinds.includes(kind)).map(({ name }) => name);
-    const jumps = [
-      ...(isIn("loop", "switch") ? ["break;"] : []),
-      ...(isIn("loop") ? ["continue;"] : []),
-      ...named(["label", "label of a loop"]).map((name) => `break ${name};`),
-      ...(isIn("loop") ? named(["label of a loop"]).map((name) => `continue ${name};`) : []),
-    ];
-    return jumps.length > 0 ? this.of(jumps) : ";";
+  cases(depth) {
+    const tests = this.several(0, 3, () => `case ${this.expression(depth)}:`);
+    if (this.below(2)) tests.splice(this.below(tests.length + 1), 0, "default:");
+    const bodies = tests.map((test) => `${test} ${this.several(0, 2, () => this.item(depth)).join(" ")}`);
+    return `switch (${this.expression(depth)}) { ${bodies.join(" ")} }`;
   }
 
-  thrown(depth) {
-    return `throw ${this.expression(depth)};`;
+  attempt(depth) {
+    const braces = () => `{ ${this.several(0, 2, () => this.item(depth)).join(" ")} }`;
+    const handler = this.below(3) ? ` catch ${this.below(2) ? `(n${this.declared++}) ` : ""}${braces()}` : "";
+    return `try ${braces()}${handler}${handler === "" || this.below(2) ? ` finally ${braces()}` : ""}`;
   }
 
-  choice(depth) {
-    const count = this.below(4);
-    const defaultAt = this.below(4);
-    const cases = Array.from({ length: count }, (_, at) => {
-      const test = at === defaultAt ? "default" : `case ${this.expression(depth)}`;
-      return `${test}: ${this.within("switch", null, () => this.several(0, 2, () => this.item(depth - 1))).join(" ")}`;
-    });
-    return `switch (${this.expression(depth)}) { ${cases.join(" ")} }`;
+  // ---- functions
+
+  function(depth, name) {
+    return `function ${name}${this.parameters(depth)} ${this.functionBody(depth)}`;
   }
 
-  handled(depth) {
-    const block = () => `{ ${this.several(0, 2, () => this.item(depth - 1)).join(" ")} }`;
-    const handler = () => `catch ${this.below(2) ? `(${this.newName()}) ` : ""}${block()}`;
-    const ends = this.of([[handler], [() => `finally ${block()}`], [handler, () => `finally ${block()}`]]);
-    return `try ${block()} ${ends.map((end) => end()).join(" ")}`;
+  functionBody(depth) {
+    const { loops } = this;
+    this.loops = 0;
+    this.functions++;
+    const directives = this.below(6) === 0 ? ['"use asm";', "'a';"].slice(0, 1 + this.below(2)) : [];
+    const text = `{ ${[...directives, ...this.several(0, 3, () => this.item(depth))].join(" ")} }`;
+    this.functions--;
+    this.loops = loops;
+    return text;
+  }
+
+  functionExpression(depth) {
+    return `(${this.function(depth, this.below(2) ? `n${this.declared++}` : "")})`;
+  }
+
+  parameters(depth) {
+    const { items, rest } = this.parameterList(depth);
+    return `(${[...items, ...rest].join(", ")})`;
+  }
+
+  parameterList(depth) {
+    const names = this.several(0, 3, () => this.of(NAMES)).filter((name, at, all) => all.indexOf(name) === at);
+    const rest = names.length > 0 && this.below(4) === 0 ? [`...${names.pop()}`] : [];
+    return { names, items: names.map((name) => (this.below(4) ? name : `${name} = ${this.assigned(depth)}`)), rest };
   }
 
   // A statement before `else`, whose inner `if` may not take it.
@@ -200,6 +213,7 @@ class Draw {
       when("AssignmentExpression", this.assignment),
       when("ChainExpression", this.chain),
       when("ArrowFunctionExpression", this.arrow),
+      when("Function", this.functionExpression),
       this.quoted,
     ];
   }
@@ -280,7 +294,13 @@ class Draw {
   }
 
   property(depth) {
-    switch (this.below(6)) {
+    switch (this.below(isType("Function") ? 8 : 6)) {
+      case 6:
+        return `${this.key(depth)}${this.parameters(depth)} ${this.functionBody(depth)}`;
+      case 7:
+        return this.below(2)
+          ? `get ${this.key(depth)}() ${this.functionBody(depth)}`
+          : `set ${this.key(depth)}(${this.of(NAMES)}) ${this.functionBody(depth)}`;
       case 0:
         return this.name();
       case 1:
@@ -292,6 +312,11 @@ class Draw {
       default:
         return `${this.of(KEYS.filter((key) => key !== "__proto__"))}: ${this.assigned(depth)}`;
     }
+  }
+
+  // Of a method or an accessor.
+  key(depth) {
+    return this.of([() => this.of(KEYS), () => this.of(["'key'", ...WHOLE]), () => `[${this.assigned(depth)}]`])();
   }
 
   conditional(depth) {
@@ -309,16 +334,17 @@ class Draw {
   }
 
   arrow(depth) {
-    const names = this.several(0, 3, () => this.of(NAMES)).filter((name, at, all) => all.indexOf(name) === at);
-    const rest = names.length > 0 && this.below(4) === 0 ? [`...${names.pop()}`] : [];
-    const items = names.map((name) => (this.below(4) ? name : `${name} = ${this.assigned(depth)}`));
+    const { names, items, rest } = this.parameterList(depth);
     const isBare = items.length + rest.length === 1 && items[0] === names[0] && this.below(2) === 0;
     return `${isBare ? names[0] : `(${[...items, ...rest].join(", ")})`} => ${this.arrowBody(depth)}`;
   }
 
   // Some have an object at their start, which stands in parentheses.
   arrowBody(depth) {
-    switch (this.below(8)) {
+    switch (this.below(isType("FunctionBody") ? 10 : 8)) {
+      case 8:
+      case 9:
+        return this.functionBody(depth);
       case 0:
         return `(${this.expression(depth)})`;
       case 1:

@@ -1,5 +1,5 @@
-// Which binding each name of a program stands for, in what jsgen reads by now: what is declared in the module, its blocks and
-// the heads of its loops, what is caught, and the parameters of arrow functions. Each binding is a symbol, and gets a new name.
+// Which binding each name of a program stands for, in what jsgen reads by now: declarations of the module, of functions and of
+// blocks, parameters, and what a handler catches. Each binding is a symbol, and gets a new name. A label is none.
 
 const RESERVED = new Set(
   (
@@ -22,7 +22,7 @@ export const SIGNS = ["é", "日本", "größe", "\u{20BB7}", "ñ", "ℵ", "π\u
  */
 export function renaming(program, letters = LETTERS) {
   const scopes = new Scopes();
-  scopes.program(program.body);
+  scopes.body(program.body, null);
   const kept = new Set([...scopes.shorthand].filter((node) => node.name === PROTO).map((node) => scopes.symbolBehind(node)));
   const globals = new Set(scopes.references.filter(({ symbol }) => symbol === null).map(({ name }) => name));
   const fresh = freshNames(letters, globals);
@@ -73,81 +73,69 @@ class Scopes {
     return this.references[this.referenceOf.get(node)].symbol;
   }
 
-  // A scope in which these nodes are bound: their symbols by their names.
+  // A scope in which these nodes are bound: their symbols by their names. A name that is bound twice is one symbol.
   scope(nodes, outer) {
-    const scope = { names: new Map(), outer };
-    for (const node of nodes) this.bind(node, scope, this.symbols.push(node.name) - 1);
+    const names = new Map();
+    for (const node of nodes.filter(isName)) {
+      if (!names.has(node.name)) names.set(node.name, this.symbols.push(node.name) - 1);
+      this.symbolOf.set(node, names.get(node.name));
+    }
+    return { names, outer };
+  }
+
+  // The body of a module, where `var` is bound from anywhere in it.
+  body(nodes, outer) {
+    const scope = this.scope([...nodes.flatMap(variablesIn), ...nodes.flatMap(declaredBy)], outer);
+    for (const node of nodes) this.visit(node, scope);
+  }
+
+  // Statements, or the head of a loop, with what they declare themselves.
+  block(nodes, outer) {
+    const scope = this.scope(nodes.flatMap(declaredBy), outer);
+    for (const node of nodes) this.visit(node, scope);
     return scope;
   }
 
-  bind(node, scope, symbol) {
-    scope.names.set(node.name, symbol);
-    this.symbolOf.set(node, symbol);
-  }
-
-  // What `var` declares, at whatever depth, is bound in the module, however often: no function has statements of its own yet.
-  program(nodes) {
-    const scope = this.scope(declaredIn(nodes), null);
-    for (const node of variablesIn(nodes)) this.bind(node, scope, scope.names.get(node.name) ?? this.symbols.push(node.name) - 1);
-    for (const node of nodes) this.visit(node, scope);
-  }
-
-  body(nodes, outer) {
-    const scope = this.scope(declaredIn(nodes), outer);
-    for (const node of nodes) this.visit(node, scope);
-  }
-
-  // What the head of a loop declares is seen in the whole loop.
-  loop(node, outer) {
-    const first = node.init ?? node.left;
-    const scope = this.scope(declaredIn([first]), outer);
-    for (const child of [first, node.right, node.test, node.update, node.body]) if (child) this.visit(child, scope);
-  }
-
-  // The cases of `switch` are one scope.
-  switch(node, outer) {
-    this.visit(node.discriminant, outer);
-    const scope = this.scope(declaredIn(node.cases.flatMap(({ consequent }) => consequent)), outer);
-    for (const one of node.cases) this.visit(one, scope);
-  }
-
-  // A variable by the name of what is caught gets its value there by that name (ECMA-262, B.3.4), so both are one symbol.
-  handler({ param, body }, outer) {
-    const scope = this.scope([], outer);
-    const variable = variablesIn([body]).find(({ name }) => name === param?.name);
-    if (param && isName(param)) this.bind(param, scope, variable ? this.symbolOf.get(variable) : this.symbols.push(param.name) - 1);
-    this.visit(body, scope);
+  symbolNamed(name, scope) {
+    let at = scope;
+    while (at && !at.names.has(name)) at = at.outer;
+    return at ? at.names.get(name) : null;
   }
 
   reference(node, scope) {
-    let at = scope;
-    while (at && !at.names.has(node.name)) at = at.outer;
-    this.referenceOf.set(node, this.references.push({ name: node.name, symbol: at ? at.names.get(node.name) : null }) - 1);
+    this.referenceOf.set(node, this.references.push({ name: node.name, symbol: this.symbolNamed(node.name, scope) }) - 1);
   }
 
   visit(node, scope) {
-    switch (node.type) {
+    switch (node?.type) {
       case "Identifier":
         return this.reference(node, scope);
       case "BlockStatement":
-        return this.body(node.body, scope);
+        return this.block(node.body, scope);
+      case "VariableDeclarator":
+        return this.visit(node.init, scope);
+      case "FunctionDeclaration":
+        return this.function(node, scope);
+      case "FunctionExpression":
+        return this.function(node, this.scope(node.id ? [node.id] : [], scope));
+      case "ArrowFunctionExpression":
+        return this.function(node, scope);
       case "ForStatement":
+        return this.loop([node.init], [node.test, node.update, node.body], scope);
       case "ForInStatement":
       case "ForOfStatement":
-        return this.loop(node, scope);
+        return this.loop([node.left], [node.right, node.body], scope);
       case "SwitchStatement":
-        return this.switch(node, scope);
+        this.visit(node.discriminant, scope);
+        return this.cases(node.cases, scope);
       case "CatchClause":
-        return this.handler(node, scope);
+        return this.visit(node.body, this.caught(node, scope));
       case "LabeledStatement":
         return this.visit(node.body, scope);
-      case "ContinueStatement":
       case "BreakStatement":
+      case "ContinueStatement":
+      case "MetaProperty":
         return null;
-      case "VariableDeclarator":
-        return node.init && this.visit(node.init, scope);
-      case "ArrowFunctionExpression":
-        return this.arrow(node, scope);
       case "MemberExpression":
         this.visit(node.object, scope);
         return node.computed && this.visit(node.property, scope);
@@ -155,42 +143,59 @@ class Scopes {
         if (node.computed) this.visit(node.key, scope);
         if (node.shorthand) this.shorthand.add(node.value);
         return this.visit(node.value, scope);
-      case "MetaProperty":
-        return null;
       default:
-        for (const child of childrenOf(node)) this.visit(child, scope);
+        for (const child of Object.values(node ?? {}).flat()) if (typeof child?.type === "string") this.visit(child, scope);
         return null;
     }
   }
 
-  // What a parameter is where none is given may name any of them.
-  arrow(node, outer) {
-    const patterns = node.params.map((param) => param.left ?? param.argument ?? param);
-    const scope = this.scope(patterns.filter(isName), outer);
-    for (const param of node.params) if (param.type === "AssignmentPattern") this.visit(param.right, scope);
-    this.visit(node.body, scope);
+  loop(head, rest, outer) {
+    const scope = this.block(head.filter((node) => node), outer);
+    for (const node of rest) this.visit(node, scope);
   }
+
+  // A variable of the same name that the handler's block declares takes its value by the name that is caught, so both are one.
+  caught({ param, body }, outer) {
+    const isVariable = param && variablesIn(body).some(({ name }) => name === param.name);
+    if (!isVariable) return this.scope(param ? [param] : [], outer);
+    this.symbolOf.set(param, this.symbolNamed(param.name, outer));
+    return outer;
+  }
+
+  // All cases are one block.
+  cases(nodes, outer) {
+    const scope = this.scope(nodes.flatMap((node) => node.consequent).flatMap(declaredBy), outer);
+    for (const node of nodes) {
+      this.visit(node.test, scope);
+      for (const statement of node.consequent) this.visit(statement, scope);
+    }
+  }
+
+  // What a parameter is where none is given may name any of them. The name of a declaration is bound outside.
+  function(node, outer) {
+    const patterns = node.params.map((param) => param.left ?? param.argument ?? param);
+    const statements = node.body.type === "BlockStatement" ? node.body.body : [];
+    const scope = this.scope([...patterns, ...statements.flatMap(variablesIn), ...statements.flatMap(declaredBy)], outer);
+    for (const param of node.params) if (param.type === "AssignmentPattern") this.visit(param.right, scope);
+    if (statements !== node.body.body) return this.visit(node.body, scope);
+    for (const statement of statements) this.visit(statement, scope);
+    return null;
+  }
+}
+
+// The names that a statement declares in the block that it stands in.
+function declaredBy(node) {
+  if (node.type === "FunctionDeclaration") return [node.id];
+  return node.type === "VariableDeclaration" && node.kind !== "var" ? node.declarations.map(({ id }) => id) : [];
+}
+
+// The names that it declares by `var`, in whatever block within it, but in no function.
+function variablesIn(node) {
+  if (typeof node?.type !== "string" || /Function/.test(node.type)) return [];
+  const own = node.type === "VariableDeclaration" && node.kind === "var" ? node.declarations.map(({ id }) => id) : [];
+  return [...own, ...Object.values(node).flat().flatMap(variablesIn)];
 }
 
 function isName(node) {
   return node.type === "Identifier";
-}
-
-// The names that these nodes declare in their own scope.
-function declaredIn(nodes) {
-  const declared = nodes.filter((node) => node?.type === "VariableDeclaration" && node.kind !== "var");
-  return declared.flatMap((node) => node.declarations).map(({ id }) => id).filter(isName);
-}
-
-// The names that `var` declares in these nodes, at whatever depth.
-function variablesIn(nodes) {
-  return nodes.flatMap((node) => {
-    const isDeclared = node.type === "VariableDeclaration" && node.kind === "var";
-    const names = isDeclared ? node.declarations.map(({ id }) => id).filter(isName) : [];
-    return [...names, ...variablesIn(childrenOf(node))];
-  });
-}
-
-function childrenOf(node) {
-  return Object.values(node).flat().filter((child) => typeof child?.type === "string");
 }

@@ -9,13 +9,14 @@ use jsgen_tree::{
     ChainExpression, ComputedMemberExpression, ConditionalExpression, ContinueStatement,
     DebuggerStatement, Directive, DoWhileStatement, EmptyStatement, Expression,
     ExpressionStatement, ForInStatement, ForOfStatement, ForStatement, ForStatementInit,
-    ForStatementLeft, FormalParameter, FormalParameterRest, FormalParameters, IdentifierName,
-    IdentifierReference, IfStatement, LabelIdentifier, LabeledStatement, LogicalExpression,
-    NewExpression, NewTarget, NullLiteral, NumericLiteral, ObjectExpression, ObjectProperty,
-    ObjectPropertyKind, ParenthesizedExpression, Program, PropertyKey, SequenceExpression,
-    SimpleAssignmentTarget, SpreadElement, Statement, StaticMemberExpression, StringLiteral, Super,
-    SwitchCase, SwitchStatement, ThisExpression, ThrowStatement, TryStatement, UnaryExpression,
-    UpdateExpression, VariableDeclaration, VariableDeclarator, WhileStatement,
+    ForStatementLeft, FormalParameter, FormalParameterRest, FormalParameters, Function,
+    FunctionBody, IdentifierName, IdentifierReference, IfStatement, LabelIdentifier,
+    LabeledStatement, LogicalExpression, NewExpression, NewTarget, NullLiteral, NumericLiteral,
+    ObjectExpression, ObjectProperty, ObjectPropertyKind, ParenthesizedExpression, Program,
+    PropertyKey, ReturnStatement, SequenceExpression, SimpleAssignmentTarget, SpreadElement,
+    Statement, StaticMemberExpression, StringLiteral, Super, SwitchCase, SwitchStatement,
+    ThisExpression, ThrowStatement, TryStatement, UnaryExpression, UpdateExpression,
+    VariableDeclaration, VariableDeclarator, WhileStatement,
 };
 
 impl Gen for Program {}
@@ -96,6 +97,10 @@ impl Gen for FormalParameterRest {}
 
 impl Gen for FormalParameters {}
 
+impl Gen for Function {}
+
+impl Gen for FunctionBody {}
+
 impl GenExpr for ArrowFunctionExpression {}
 
 impl Gen for ForStatement {}
@@ -115,6 +120,8 @@ impl Gen for LabeledStatement {}
 impl Gen for ContinueStatement {}
 
 impl Gen for BreakStatement {}
+
+impl Gen for ReturnStatement {}
 
 impl Gen for ThrowStatement {}
 

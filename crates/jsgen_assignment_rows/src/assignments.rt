@@ -2,7 +2,7 @@
 // Rows of a job: conditional expressions, sequences and assignments (ECMA-262, 13.14 to 13.16).
 ghost use Rattle.std.specs.Prelude.{◌≡◌, true};
 ghost use Rattle.serde_json.specs.View.{view};
-ghost use Rattle.jsgen_tree.specs.Fields.{conditional_expression_fields, sequence_expression_fields, assignment_expression_fields};
+ghost use Rattle.jsgen_tree.specs.RowFields.{conditional_expression_fields, sequence_expression_fields, assignment_expression_fields};
 ghost use Rattle.jsgen_fields.specs.Reads.{Gives, read_node, read_typed};
 ghost use Rattle.jsgen_fields.specs.Kept.{entries, row_plain};
 ghost use Rattle.jsgen_fields.specs.Parts.{is_in_assignments};
@@ -11,6 +11,7 @@ ghost use Rattle.jsgen_tree.specs.declared.types.NodeType.TheVariants as types;
 use jsgen_fields::InputFault;
 use jsgen_fields::fields::boxed;
 use jsgen_fields::kept::{ReadNode, Row, expression_row};
+use jsgen_fields::others::OtherExpression;
 use jsgen_fields::set_fields::{expression_list, needed_assignment_target, needed_expression};
 use jsgen_fields::words::needed_assignment_operator;
 use jsgen_pool::Kept;
@@ -51,7 +52,12 @@ fn read_conditional_expression<N: ReadNode + Drop>(
         alternate,
     };
     match boxed(alloc, node) {
-        Ok(node) => expression_row(alloc, Expression::ConditionalExpression(node)),
+        Ok(node) => expression_row(
+            alloc,
+            OtherExpression {
+                expression: Expression::ConditionalExpression(node),
+            },
+        ),
         Err(fault) => Err(fault),
     }
 }
@@ -73,7 +79,12 @@ fn read_sequence_expression<N: ReadNode + Drop>(
     };
     let node = SequenceExpression { span, expressions };
     match boxed(alloc, node) {
-        Ok(node) => expression_row(alloc, Expression::SequenceExpression(node)),
+        Ok(node) => expression_row(
+            alloc,
+            OtherExpression {
+                expression: Expression::SequenceExpression(node),
+            },
+        ),
         Err(fault) => Err(fault),
     }
 }
@@ -108,7 +119,12 @@ fn read_assignment_expression<N: ReadNode + Drop>(
         right,
     };
     match boxed(alloc, node) {
-        Ok(node) => expression_row(alloc, Expression::AssignmentExpression(node)),
+        Ok(node) => expression_row(
+            alloc,
+            OtherExpression {
+                expression: Expression::AssignmentExpression(node),
+            },
+        ),
         Err(fault) => Err(fault),
     }
 }

@@ -73,6 +73,7 @@ fn holds_of_a_run(alloc: Global, name: &str) -> Result<Option<bool>, Memory> {
         "bytes are no job" => run_checks::bytes_are_no_job(alloc)?,
         "failed reads write nothing" => run_checks::failed_reads_write_nothing(alloc)?,
         "failed writes are told" => run_checks::failed_writes_are_told(alloc)?,
+        "verdicts write nothing" => run_checks::verdicts_write_nothing(alloc)?,
         "the limit is exact" => run_checks::the_limit_is_exact(alloc)?,
         "readers and writers of std serve" => run_checks::readers_and_writers_of_std_serve(alloc)?,
         _ => return Ok(None),

@@ -3,17 +3,24 @@ ghost use Rattle.std.specs.Prelude.{◌≡◌, false};
 ghost use Rattle.jsgen.specs.Codegen.{has_printed};
 
 use crate::line::push_shown;
-use crate::runs::run_over;
+use crate::runs::{Seen, run_over};
 use jsgen::{Codegen, Job, read_job};
 use jsgen_syntax::Memory;
 use jsgen_tree::Program;
 use std::alloc::Global;
 
-/// The status and the text that the program ends with; and what the library prints, where that is another text.
+/// The status and the text that the program ends with; and what the library prints, where that is another text, and whether
+/// the program's verdict is another.
 pub fn push_printed(alloc: Global, job: &str, answer: &mut String) -> Result<(), Memory> {
-    let by_program = program_text(alloc, job)?;
+    let printed = run_over(alloc, &["print"], job.as_bytes(), &[], &[])?;
+    let checked = run_over(alloc, &["check"], job.as_bytes(), &[], &[])?;
+    let by_program = text_of(alloc, &printed)?;
     let by_library = library_text(alloc, job)?;
     push_shown(answer, &by_program)?;
+    if !is_verdict_on(&checked, &printed) {
+        answer.push_str(" but check: ")?;
+        push_shown(answer, &text_of(alloc, &checked)?)?;
+    }
     let is_printed = by_program.starts_with("0 ");
     if (is_printed || by_library.starts_with("0 ")) && by_library != by_program {
         answer.push_str(" but the library: ")?;
@@ -22,8 +29,14 @@ pub fn push_printed(alloc: Global, job: &str, answer: &mut String) -> Result<(),
     Ok(())
 }
 
-fn program_text(alloc: Global, job: &str) -> Result<String, Memory> {
-    let seen = run_over(alloc, &["print"], job.as_bytes(), &[], &[])?;
+// Whether it has the same status and the same line, and no text.
+fn is_verdict_on(checked: &Seen, printed: &Seen) -> bool {
+    checked.status == printed.status
+        && checked.out.is_empty()
+        && checked.err.as_slice() == printed.err.as_slice()
+}
+
+fn text_of(alloc: Global, seen: &Seen) -> Result<String, Memory> {
     let mut text = format!(in alloc; "{} ", seen.status.code())?;
     push_bytes(&mut text, &seen.out)?;
     push_bytes(&mut text, &seen.err)?;

@@ -1,6 +1,7 @@
 // Checks of the program from bytes to bytes, over devices in memory.
 ghost use Rattle.std.specs.Prelude.{◌≡◌, ◌⊎◌, Some};
-ghost use Rattle.jsgen_tool.specs.Answers.{IsPrint, IsSomeJob};
+ghost use Rattle.jsgen_tool.specs.Answers.{IsPrint};
+ghost use Rattle.jsgen_tool.specs.Job.{IsSomeJob};
 ghost use Rattle.jsgen_device.specs.Memory.{source_left, source_faults};
 ghost use Rattle.jsgen_device.specs.Transfer.{IsWithin};
 
@@ -19,7 +20,7 @@ const JOB: &str = "{\"rows\":[\
     {\"type\":\"VariableDeclaration\",\"kind\":\"const\",\"declarations\":[4]},\
     {\"type\":\"Program\",\"kind\":\"module\",\"body\":[5]}]}";
 
-const OTHER_WORDS: [&[&str]; 3] = [&["frob"], &[], &["print", "print"]];
+const OTHER_WORDS: [&[&str]; 4] = [&["frob"], &[], &["print", "print"], &["check", "print"]];
 
 fn are_no_commands(alloc: Global, rows: &[&[&str]]) -> Result<bool, Memory> {
     for texts in rows {
@@ -91,6 +92,19 @@ pub fn failed_reads_write_nothing(alloc: Global) -> Result<bool, Memory> {
             && trickled(alloc, JOB, 1, 100)?.is(4, "", "read failed\n")
             && trickled(alloc, JOB, 5, 100)?.is(4, "", "read failed\n")
             && trickled(alloc, JOB, 1000, 100)?.is(0, "const a = 1 + 2;\n", ""),
+    )
+}
+
+/// A verdict writes nothing, be there room or none, and a failed read is told.
+pub fn verdicts_write_nothing(alloc: Global) -> Result<bool, Memory> {
+    Ok(
+        run_over(alloc, &["check"], JOB.as_bytes(), &[], &[(1, 0)])?.is(0, "", "")
+            && run_over(alloc, &["check"], b"{}", &[], &[])?.is(
+                3,
+                "",
+                "not a job: Missing head field 4\n",
+            )
+            && run_over(alloc, &["check"], JOB.as_bytes(), &[1], &[])?.is(4, "", "read failed\n"),
     )
 }
 

@@ -35,7 +35,7 @@ unfolding verdict
 judged [] = refl
 judged (f ∷ a) = (0, omega arith, refl)
 
-pub of_expression : {r : Result (Unit {0}) TreeFault} {q : Result ℕ TreeFault} (around : Surroundings) (options : Options) (handed : Tables) (s : Span) (t : Tree) → surroundings_plain around ≡ record { options = options; tables = handed; source = []; is_mapped = false } → s ≡ span_of t → r ≡ topped options s q → q ≡ child_verdict around sets.Expression t → Judges (expression_breaches options handed t) r
+pub of_expression : {r : Result (Unit {0}) TreeFault} {q : Result ℕ TreeFault} (around : Surroundings) (options : Options) (handed : Tables) (s : Span) (t : Tree) → surroundings_plain around ≡ record { options = options; tables = handed; source = []; is_mapped = false; in_function = false } → s ≡ span_of t → r ≡ topped options s q → q ≡ child_verdict around sets.Expression t → Judges (expression_breaches options handed t) r
 unfolding child_verdict
 of_expression {r} {q} around options handed s t same is top below =
     let rules = set_faults sets.Expression t ++ breaches (surroundings_plain around) t in

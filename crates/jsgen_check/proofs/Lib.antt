@@ -1,7 +1,6 @@
 mod Alone
 pub mod Cases
 pub mod Declarators
-pub mod Keys
 pub mod Numbers
 pub mod Programs
 pub mod Steps

@@ -37,16 +37,17 @@ judged_behind (f ∷ a) b c d = (0, omega arith, refl)
 abbrev pub program_slots : {N : Type 0} → (N → Tree) → Program N → Slots
 program_slots plain p = many (trees (map comment_row p.comments.items)) (many (trees (map directive_row p.directives.items)) (many (trees (map (in_statement plain) p.body.items)) no_slots))
 
-pub of_program : {N : Type 0} {r source : Result (Unit {0}) TreeFault} {q : Result ℕ TreeFault} (around : Surroundings) (plain : N → Tree) (p : Program N) → r ≡ both (verdict (span_faults (surroundings_plain around) p.span)) (both source (ended (options_plain around.options.now) p.span q)) → source ≡ verdict (source_faults p.span (chars around.source.now)) → q ≡ slots_verdict around (sets.Comment ∷ sets.Directive ∷ sets.Statement ∷ []) (program_slots plain p) → Judges (breaches (surroundings_plain around) (program_row plain p)) r
+pub of_program : {N : Type 0} {r source : Result (Unit {0}) TreeFault} {q : Result ℕ TreeFault} (around : Surroundings) (plain : N → Tree) (p : Program N) → r ≡ both (verdict (span_faults (surroundings_plain around) p.span)) (both source (ended (options_plain around.options.now) p.span q)) → source ≡ verdict (source_faults p.span (chars around.source.now)) → q ≡ slots_verdict (surroundings_plain around) around (sets.Comment ∷ sets.Directive ∷ sets.Statement ∷ []) (program_slots plain p) → Judges (breaches (surroundings_plain around) (program_row plain p)) r
 unfolding surroundings_plain
 of_program {N} {r} {source} {q} around plain p parts own children =
     let options = options_plain around.options.now in
     let span = span_faults (surroundings_plain around) p.span in
     let rule = source_faults p.span (chars around.source.now) in
+    let asked = sets.Comment ∷ sets.Directive ∷ sets.Statement ∷ [] in
     let slots = program_slots plain p in
-    let below = in_slots (surroundings_plain around) (place around sets.Comment ∷ place around sets.Directive ∷ place around sets.Statement ∷ []) slots in
+    let below = in_slots (surroundings_plain around) (map (place (surroundings_plain around)) asked) slots in
     let indent = indent_faults options (program_row plain p) in
-    let end = ap (ended options p.span) (children ∙ sym (of_slots around (sets.Comment ∷ sets.Directive ∷ sets.Statement ∷ []) slots)) ∙ of_ended options p.span (height_of_slots slots) below in
+    let end = ap (ended options p.span) (children ∙ sym (of_slots (surroundings_plain around) around asked slots)) ∙ of_ended options p.span (height_of_slots slots) below in
     let behind = ap (λ x. both x (ended options p.span q)) own ∙ (ap (both (verdict rule)) end ∙ sym (of_both rule (below ++ indent))) in
     let first = parts ∙ (ap (both (verdict span)) behind ∙ sym (of_both span (rule ++ (below ++ indent)))) in
     rw first (judged_behind span rule below indent)

@@ -1,5 +1,5 @@
 -- What a check answers, from the answers of its steps.
-use Rattle.std.proofs.Common.{◌≡◌, ℕ, ◌+◌, ◌<◌, ◌≤◌, List, [], ◌∷◌, ◌++◌, map, drop, length, Option, Some, None, option_map, Result, Ok, Err, sym, ap, refl, ◌∙◌, arith}
+use Rattle.std.proofs.Common.{◌≡◌, ℕ, ◌+◌, ◌<◌, ◌≤◌, List, [], ◌∷◌, ◌++◌, map, drop, length, Bool, true, false, if◌then◌else◌, Option, Some, None, option_map, Result, Ok, Err, sym, ap, refl, ◌∙◌, arith}
 use Rattle.std.specs.Result.{IsErrAnd}
 use Rattle.std.proofs.Math.ListN.{get_or}
 use Rattle.std.proofs.lemmas.List.{at_drop_all, at_drop_more, get_or_default}
@@ -7,7 +7,7 @@ use Rattle.std.proofs.lemmas.Result.{err_from_is_err_and}
 use Rattle.jsgen_tree.specs.declared.types.NodeSet.{NodeSet}
 use Rattle.jsgen_tree.specs.declared.types.NodeType.{NodeType}
 use Rattle.jsgen_tree.specs.Tree.{Tree, node, Atoms, Slots, optional, trees, holed}
-use Rattle.jsgen_model.specs.Valid.{asked_sets, span_faults, own_faults, set_faults}
+use Rattle.jsgen_model.specs.Valid.{asked_sets, around_children, span_faults, own_faults, set_faults}
 use Rattle.jsgen_model.specs.declared.fault.TreeFault.{TreeFault}
 use Rattle.jsgen_rules.specs.Verdict.{verdict}
 use Rattle.jsgen_check.specs.declared.surroundings.Surroundings.{Surroundings}
@@ -34,6 +34,13 @@ kept {A} {r} {b} h behind = behind ∙ ap (λ q. both q b) h
 pub two_rules : {r : Result (Unit {0}) TreeFault} (a b : List TreeFault) → r ≡ both (verdict a) (verdict b) → r ≡ verdict (a ++ b)
 two_rules a b h = h ∙ sym (of_both a b)
 
+-- one of two lists of rules, by a test
+pub of_then : {b : Bool} {r : Result (Unit {0}) TreeFault} (x y : List TreeFault) → b ≡ true → r ≡ verdict x → r ≡ verdict (if b then x else y)
+of_then x y h e = e ∙ sym (ap (λ q. verdict (if q then x else y)) h)
+
+pub of_else : {b : Bool} {r : Result (Unit {0}) TreeFault} (x y : List TreeFault) → b ≡ false → r ≡ verdict y → r ≡ verdict (if b then x else y)
+of_else x y h e = e ∙ sym (ap (λ q. verdict (if q then x else y)) h)
+
 -- ---- rows
 
 -- a row without rules of its own
@@ -53,12 +60,12 @@ none_behind (Err e) = refl
 pub last_child : {r a : Result ℕ TreeFault} → r ≡ a → r ≡ higher a (Ok 0)
 last_child {r} {a} h = h ∙ none_behind a
 
--- a row: its span, its own rules, and its children
-pub of_row : {r q : Result ℕ TreeFault} {p : Result (Unit {0}) TreeFault} (around : Surroundings) (type : NodeType) (a : Atoms) (slots : Slots) → r ≡ both (verdict (span_faults (surroundings_plain around) a.span)) (both p (raised q)) → p ≡ verdict (own_faults (surroundings_plain around) (node type a slots)) → q ≡ slots_verdict around (asked_sets type) slots → r ≡ tree_verdict around (node type a slots)
-of_row {r} {q} around type a slots h own below =
+-- a row: its span, its own rules, and its children, in what surrounds these
+pub of_row : {r q : Result ℕ TreeFault} {p : Result (Unit {0}) TreeFault} (within around : Surroundings) (type : NodeType) (a : Atoms) (slots : Slots) → surroundings_plain within ≡ around_children (surroundings_plain around) type → r ≡ both (verdict (span_faults (surroundings_plain around) a.span)) (both p (raised q)) → p ≡ verdict (own_faults (surroundings_plain around) (node type a slots)) → q ≡ slots_verdict (surroundings_plain around) within (asked_sets type) slots → r ≡ tree_verdict around (node type a slots)
+of_row {r} {q} within around type a slots same h own below =
     let span = verdict (span_faults (surroundings_plain around) a.span) in
     let rules = verdict (own_faults (surroundings_plain around) (node type a slots)) in
-    h ∙ (ap (λ x. both span (both x (raised q))) own ∙ ap (λ x. both span (both rules (raised x))) below) ∙ sym (of_node around type a slots)
+    h ∙ (ap (λ x. both span (both x (raised q))) own ∙ ap (λ x. both span (both rules (raised x))) below) ∙ sym (of_node within around type a slots same)
 
 -- a child: its set, and what it is by itself
 pub of_child_of_set : {r : Result ℕ TreeFault} (around : Surroundings) (set : NodeSet) (t : Tree) → r ≡ both (verdict (set_faults set t)) (tree_verdict around t) → r ≡ child_verdict around set t

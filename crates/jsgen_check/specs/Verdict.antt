@@ -22,7 +22,7 @@ abbrev pub tables_of : Option (Bor Scoping) → Option (Bor PrivateMappings) →
 tables_of scoping private = tables_plain (record { scoping = scoping; private = private })
 
 unfoldable pub surroundings_plain : Surroundings → valid.Surroundings
-surroundings_plain around = record { options = options_plain around.options.now; tables = tables_plain around.tables; source = chars around.source.now; is_mapped = around.is_mapped }
+surroundings_plain around = record { options = options_plain around.options.now; tables = tables_plain around.tables; source = chars around.source.now; is_mapped = around.is_mapped; in_function = around.in_function }
 
 -- a height, counted up to what 64 bits hold
 abbrev pub capped : ℕ → ℕ

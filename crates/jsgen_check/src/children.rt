@@ -2,7 +2,7 @@
 // Lists, children that may be absent, and sets that don't nest.
 ghost use Rattle.std.specs.Prelude.{◌≡◌, map, option_map};
 ghost use Rattle.jsgen_tree.specs.Tree.{optional, trees, holed};
-ghost use Rattle.jsgen_tree.specs.Rows.{in_expression, in_argument, in_array_expression_element, in_chain_element, in_simple_assignment_target, in_assignment_target, in_arrow_function_body, in_for_statement_init, in_for_statement_left, in_object_property_kind, in_property_key, in_statement, in_binding_pattern, comment_row, directive_row, variable_declarator_row, block_statement_row, formal_parameter_row, formal_parameter_rest_row, label_identifier_row, switch_case_row, catch_clause_row};
+ghost use Rattle.jsgen_tree.specs.Rows.{in_expression, in_argument, in_array_expression_element, in_chain_element, in_simple_assignment_target, in_assignment_target, in_arrow_function_body, in_for_statement_init, in_for_statement_left, in_object_property_kind, in_property_key, in_statement, in_binding_pattern, comment_row, directive_row, variable_declarator_row, binding_identifier_row, block_statement_row, formal_parameter_row, formal_parameter_rest_row, function_body_row, label_identifier_row, switch_case_row, catch_clause_row};
 ghost use Rattle.jsgen_check.specs.Verdict.{child_verdict, maybe_verdict, children_verdict};
 ghost use Rattle.jsgen_tree.specs.declared.types.NodeSet.TheVariants as sets;
 
@@ -12,21 +12,21 @@ use crate::expressions::{
     check_call_expression, check_computed_member_expression, check_identifier_name,
     check_identifier_reference, check_static_member_expression,
 };
-use crate::functions::{check_formal_parameter, check_formal_parameter_rest};
+use crate::functions::{check_formal_parameter, check_formal_parameter_rest, check_function_body};
 use crate::heights::higher;
 use crate::loops::check_label_identifier;
 use crate::statements::{
-    check_block_statement, check_comment, check_directive, check_variable_declaration,
-    check_variable_declarator,
+    check_binding_identifier, check_block_statement, check_comment, check_directive,
+    check_variable_declaration, check_variable_declarator,
 };
 use crate::{CheckNode, Surroundings, check_child};
 use jsgen_model::TreeFault;
 use jsgen_tree::{
-    Argument, ArrayExpressionElement, ArrowFunctionBody, AssignmentTarget, BindingPatternNode,
-    BlockStatement, CatchClause, ChainElement, Comment, Directive, ExpressionNode,
-    ForStatementInit, ForStatementLeft, FormalParameter, FormalParameterRest, LabelIdentifier,
-    NodeSet, ObjectPropertyKind, PropertyKey, SimpleAssignmentTarget, StatementNode, SwitchCase,
-    VariableDeclarator,
+    Argument, ArrayExpressionElement, ArrowFunctionBody, AssignmentTarget, BindingIdentifier,
+    BindingPatternNode, BlockStatement, CatchClause, ChainElement, Comment, Directive,
+    ExpressionNode, ForStatementInit, ForStatementLeft, FormalParameter, FormalParameterRest,
+    FunctionBody, LabelIdentifier, NodeSet, ObjectPropertyKind, PropertyKey,
+    SimpleAssignmentTarget, StatementNode, SwitchCase, VariableDeclarator,
 };
 
 pub fn check_comments(nodes: &[Comment], around: Surroundings<'_>) -> Result<u64, TreeFault>
@@ -199,6 +199,30 @@ pub fn check_optional_formal_parameter_rest<N: CheckNode>(
     }
 }
 
+pub fn check_optional_binding_identifier(
+    node: &Option<Box<BindingIdentifier>>,
+    around: Surroundings<'_>,
+) -> Result<u64, TreeFault>
+    ensures { result ≡ maybe_verdict around.entry sets.BindingIdentifier (optional (option_map (λ b. binding_identifier_row b.value) node.now)) }
+{
+    match node {
+        Some(node) => check_binding_identifier(node, around),
+        None => Ok(0),
+    }
+}
+
+pub fn check_optional_function_body<N: CheckNode>(
+    node: &Option<Box<FunctionBody<N>>>,
+    around: Surroundings<'_>,
+) -> Result<u64, TreeFault>
+    ensures { result ≡ maybe_verdict around.entry sets.FunctionBody (optional (option_map (λ b. function_body_row N.plain b.value) node.now)) }
+{
+    match node {
+        Some(node) => check_function_body(node, around),
+        None => Ok(0),
+    }
+}
+
 pub fn check_optional_for_statement_init<N: CheckNode>(
     node: &Option<ForStatementInit<N>>,
     around: Surroundings<'_>,
@@ -357,6 +381,7 @@ pub fn check_arrow_function_body<N: CheckNode>(
     ensures { result ≡ child_verdict around.entry sets.ArrowFunctionBody (in_arrow_function_body N.plain node.now) }
 {
     match node {
+        ArrowFunctionBody::FunctionBody(node) => check_function_body(node, around),
         ArrowFunctionBody::Expression(node) => check_child(
             node.get(),
             NodeSet::ArrowFunctionBody,

@@ -19,6 +19,7 @@ mod collections;
 mod expressions;
 mod functions;
 mod heights;
+mod kinds;
 mod links;
 mod loops;
 mod operations;
@@ -29,6 +30,7 @@ mod statements;
 mod surroundings;
 
 use crate::heights::check_top;
+use crate::kinds::{expression_fits_kind, method_fits};
 use crate::links::{
     binding_pattern_has_optional_link, declaration_has_optional_link, expression_has_optional_link,
     statement_has_optional_link,
@@ -39,10 +41,12 @@ use crate::sets::{
 };
 pub use crate::surroundings::Surroundings;
 use jsgen_model::TreeFault;
-use jsgen_rules::{check_no_optional_link, check_set, takes_optional_link};
+use jsgen_rules::{
+    check_no_optional_link, check_set, function_fits, is_declaration, takes_optional_link,
+};
 use jsgen_tree::{
     CodegenOptions, Expression, GetSpan, IdentifierReference, Node, NodeSet, NodeType,
-    PrivateMappings, Program, Scoping, Tables, VariableDeclarationKind,
+    PrivateMappings, Program, PropertyKind, Scoping, Tables,
 };
 
 /// What the checks ask of a child. Only `Node` implements it.
@@ -50,7 +54,8 @@ pub trait CheckNode {
     ghost use Rattle.std.specs.Prelude.{option_map};
     ghost use Rattle.std.specs.Str.{chars};
     ghost use Rattle.jsgen_tree.specs.Tree.{Tree};
-    ghost use Rattle.jsgen_tree.specs.Inside.{without_parentheses, declared_kind, has_optional_link, looked_up_in, named_by, written_name_in, is_negative};
+    ghost use Rattle.jsgen_tree.specs.Inside.{without_parentheses, has_optional_link, looked_up_in, named_by, written_name_in, is_negative};
+    ghost use Rattle.jsgen_model.specs.Valid.{is_declaration, fits_kind, fits_method};
 
     ghost plain: { Self → Tree };
 
@@ -60,9 +65,17 @@ pub trait CheckNode {
     fn start(&self) -> u32
         ensures { result ≡ (span_of (plain self.now)).start };
 
-    /// The word that begins it, where it is a declaration of variables.
-    fn declared_kind(&self) -> Option<VariableDeclarationKind>
-        ensures { result ≡ declared_kind (plain self.now) };
+    /// Whether it is a declaration, which stands in a list of statements only.
+    fn is_declaration(&self) -> bool
+        ensures { result ≡ is_declaration (plain self.now) };
+
+    /// Whether it may stand at a place that asks for this set, as far as it is a function.
+    fn fits_kind(&self, set: NodeSet) -> bool
+        ensures { result ≡ fits_kind set (plain self.now) };
+
+    /// Whether it is a function that may follow the key of a method or an accessor.
+    fn fits_method(&self, kind: PropertyKind) -> bool
+        ensures { result ≡ fits_method kind (plain self.now) };
 
     /// The reference itself, where it is one, without the parentheses that it may have round it.
     fn looked_up(&self) -> Option<&IdentifierReference>
@@ -100,6 +113,7 @@ pub fn check_program(
         tables: Tables { scoping, private },
         source: program.source.as_str(),
         is_mapped: options.source_map_path.is_some(),
+        in_function: false,
     };
     check_program_row(program, around)
 }
@@ -119,6 +133,7 @@ pub fn check_expression(
         tables: Tables { scoping, private },
         source: "",
         is_mapped: false,
+        in_function: false,
     };
     let found = check_alone(expression, around);
     check_top(options, expression.span(), found)
@@ -132,12 +147,18 @@ fn check_alone(expression: &Expression, around: Surroundings<'_>) -> Result<u64,
     check_expression_set(expression, around)
 }
 
-// Neither `super` nor an optional link outside a chain stands there by itself.
+// Neither `super` nor a declaration nor an optional link outside a chain stands there by itself.
 fn check_place_alone(expression: &Expression) -> Result<(), TreeFault>
     ensures { result ≡ verdict (set_faults sets.Expression (expression_plain node_plain expression.now)) }
 {
     let start = expression.span().start;
-    check_set(expression.node_type(), NodeSet::Expression, start)?;
+    let fits_kind = expression_fits_kind(expression, NodeSet::Expression);
+    check_set(
+        expression.node_type(),
+        NodeSet::Expression,
+        fits_kind,
+        start,
+    )?;
     check_no_optional_link(expression_has_optional_link(expression), start)
 }
 
@@ -156,7 +177,7 @@ fn check_child<N: CheckNode>(
 fn check_place<N: CheckNode>(child: &N, set: NodeSet) -> Result<(), TreeFault>
     ensures { result ≡ verdict (set_faults set (N.plain child.now)) }
 {
-    check_set(child.node_type(), set, child.start())?;
+    check_set(child.node_type(), set, child.fits_kind(set), child.start())?;
     check_links(child, set)
 }
 
@@ -182,8 +203,22 @@ impl CheckNode for Node {
         self.span().start
     }
 
-    fn declared_kind(&self) -> Option<VariableDeclarationKind> {
-        self.declared_kind()
+    fn is_declaration(&self) -> bool {
+        is_declaration(self.declared_kind(), self.as_function().is_some())
+    }
+
+    fn fits_kind(&self, set: NodeSet) -> bool {
+        match self.as_function() {
+            Some(function) => function_fits(function.kind, set),
+            None => true,
+        }
+    }
+
+    fn fits_method(&self, kind: PropertyKind) -> bool {
+        match self.as_function() {
+            Some(function) => method_fits(function, kind),
+            None => false,
+        }
     }
 
     fn looked_up(&self) -> Option<&IdentifierReference> {

@@ -1,7 +1,7 @@
 // Generated from tools/nodes/table.txt; edit that and run tools/nodes/generate.
-// Loops, labels and jumps (ECMA-262, 14.7 to 14.9, 14.13, 14.14 and 14.16).
+// Loops, labels and jumps (ECMA-262, 14.7 to 14.10, 14.13, 14.14 and 14.16).
 ghost use Rattle.std.specs.Prelude.{◌≡◌};
-ghost use Rattle.jsgen_tree.specs.Rows.{for_statement_row, for_in_statement_row, for_of_statement_row, while_statement_row, do_while_statement_row, label_identifier_row, labeled_statement_row, continue_statement_row, break_statement_row, throw_statement_row, debugger_statement_row};
+ghost use Rattle.jsgen_tree.specs.Rows.{for_statement_row, for_in_statement_row, for_of_statement_row, while_statement_row, do_while_statement_row, label_identifier_row, labeled_statement_row, continue_statement_row, break_statement_row, return_statement_row, throw_statement_row, debugger_statement_row};
 ghost use Rattle.jsgen_check.specs.Verdict.{tree_verdict};
 
 use crate::children::{
@@ -12,14 +12,14 @@ use crate::heights::{check_node, higher};
 use crate::rules::{
     check_do_while_statement_rules, check_for_in_statement_rules, check_for_of_statement_rules,
     check_for_statement_rules, check_label_identifier_rules, check_labeled_statement_rules,
-    check_while_statement_rules,
+    check_return_statement_rules, check_while_statement_rules,
 };
 use crate::{CheckNode, Surroundings, check_child};
 use jsgen_model::TreeFault;
 use jsgen_tree::{
     BreakStatement, ContinueStatement, DebuggerStatement, DoWhileStatement, ForInStatement,
-    ForOfStatement, ForStatement, LabelIdentifier, LabeledStatement, NodeSet, ThrowStatement,
-    WhileStatement,
+    ForOfStatement, ForStatement, LabelIdentifier, LabeledStatement, NodeSet, ReturnStatement,
+    ThrowStatement, WhileStatement,
 };
 
 pub fn check_for_statement<N: CheckNode>(
@@ -131,6 +131,17 @@ pub fn check_break_statement(
 {
     let label = check_optional_label_identifier(&node.label, around);
     check_node(around, node.span, Ok(()), label)
+}
+
+pub fn check_return_statement<N: CheckNode>(
+    node: &ReturnStatement<N>,
+    around: Surroundings<'_>,
+) -> Result<u64, TreeFault>
+    ensures { result ≡ tree_verdict around.entry (return_statement_row N.plain node.now) }
+{
+    let rules = check_return_statement_rules(node, around);
+    let argument = check_optional_expression(&node.argument, around);
+    check_node(around, node.span, rules, argument)
 }
 
 pub fn check_throw_statement<N: CheckNode>(

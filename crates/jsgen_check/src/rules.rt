@@ -8,11 +8,13 @@ ghost use Rattle.jsgen_model.specs.Valid.{own_faults, declaration_faults, sequen
 ghost use Rattle.jsgen_rules.specs.Verdict.{verdict};
 ghost use Rattle.jsgen_check.specs.Verdict.{surroundings_plain};
 
+mod functions;
 mod keys;
 mod links;
 mod statements;
 
 use crate::{CheckNode, Surroundings};
+pub use functions::{check_function_rules, check_return_statement_rules};
 use jsgen_model::TreeFault;
 use jsgen_rules::{
     check_big_integer, check_binding, check_comment, check_label, check_raw, check_raw_number,

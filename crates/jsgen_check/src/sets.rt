@@ -16,11 +16,11 @@ use crate::expressions::{
     check_parenthesized_expression, check_static_member_expression, check_string_literal,
     check_this_expression,
 };
-use crate::functions::check_arrow_function_expression;
+use crate::functions::{check_arrow_function_expression, check_function};
 use crate::loops::{
     check_break_statement, check_continue_statement, check_debugger_statement,
     check_do_while_statement, check_for_in_statement, check_for_of_statement, check_for_statement,
-    check_labeled_statement, check_throw_statement, check_while_statement,
+    check_labeled_statement, check_return_statement, check_throw_statement, check_while_statement,
 };
 use crate::operations::{
     check_new_expression, check_new_target, check_super, check_unary_expression,
@@ -67,6 +67,7 @@ pub fn check_expression_set<N: CheckNode>(
         Expression::ConditionalExpression(node) => check_conditional_expression(node, around),
         Expression::SequenceExpression(node) => check_sequence_expression(node, around),
         Expression::AssignmentExpression(node) => check_assignment_expression(node, around),
+        Expression::Function(node) => check_function(node, around),
         Expression::ArrowFunctionExpression(node) => check_arrow_function_expression(node, around),
     }
 }
@@ -79,6 +80,7 @@ pub fn check_declaration_set<N: CheckNode>(
 {
     match node {
         Declaration::VariableDeclaration(node) => check_variable_declaration(node, around),
+        Declaration::Function(node) => check_function(node, around),
     }
 }
 
@@ -102,6 +104,7 @@ pub fn check_statement_set<N: CheckNode>(
         Statement::LabeledStatement(node) => check_labeled_statement(node, around),
         Statement::ContinueStatement(node) => check_continue_statement(node, around),
         Statement::BreakStatement(node) => check_break_statement(node, around),
+        Statement::ReturnStatement(node) => check_return_statement(node, around),
         Statement::ThrowStatement(node) => check_throw_statement(node, around),
         Statement::DebuggerStatement(node) => check_debugger_statement(node, around),
         Statement::SwitchStatement(node) => check_switch_statement(node, around),

@@ -2,7 +2,7 @@
 // Rows of a job: choices between cases, and handlers (ECMA-262, 14.12 and 14.15).
 ghost use Rattle.std.specs.Prelude.{◌≡◌, false};
 ghost use Rattle.serde_json.specs.View.{view};
-ghost use Rattle.jsgen_tree.specs.Fields.{switch_statement_fields, switch_case_fields, try_statement_fields, catch_clause_fields};
+ghost use Rattle.jsgen_tree.specs.RowFields.{switch_statement_fields, switch_case_fields, try_statement_fields, catch_clause_fields};
 ghost use Rattle.jsgen_fields.specs.Reads.{Gives, read_node, read_typed};
 ghost use Rattle.jsgen_fields.specs.Kept.{entries, row_plain};
 ghost use Rattle.jsgen_fields.specs.Parts.{is_in_statements, is_in_expressions, is_in_collections, is_in_operations, is_in_assignments, is_in_functions, is_in_loops};

@@ -2,7 +2,7 @@
 // Rows of a job: arrays and objects (ECMA-262, 13.2.4 and 13.2.5), and what is spread in them and in arguments.
 ghost use Rattle.std.specs.Prelude.{◌≡◌, true};
 ghost use Rattle.serde_json.specs.View.{view};
-ghost use Rattle.jsgen_tree.specs.Fields.{spread_element_fields, array_expression_fields, object_property_fields, object_expression_fields};
+ghost use Rattle.jsgen_tree.specs.RowFields.{spread_element_fields, array_expression_fields, object_property_fields, object_expression_fields};
 ghost use Rattle.jsgen_fields.specs.Reads.{Gives, read_node, read_typed};
 ghost use Rattle.jsgen_fields.specs.Kept.{entries, row_plain};
 ghost use Rattle.jsgen_fields.specs.Parts.{is_in_collections};
@@ -11,11 +11,12 @@ ghost use Rattle.jsgen_tree.specs.declared.types.NodeType.TheVariants as types;
 use jsgen_fields::InputFault;
 use jsgen_fields::fields::boxed;
 use jsgen_fields::kept::{ReadNode, Row, expression_row};
+use jsgen_fields::others::OtherExpression;
 use jsgen_fields::set_fields::{
     array_expression_element_or_hole_list, needed_expression, needed_property_key,
     object_property_kind_list,
 };
-use jsgen_fields::values::{field_not_given, optional_flag};
+use jsgen_fields::values::optional_flag;
 use jsgen_fields::words::needed_property_kind;
 use jsgen_pool::Kept;
 use jsgen_syntax::Span;
@@ -66,7 +67,12 @@ fn read_array_expression<N: ReadNode + Drop>(
     };
     let node = ArrayExpression { span, elements };
     match boxed(alloc, node) {
-        Ok(node) => expression_row(alloc, Expression::ArrayExpression(node)),
+        Ok(node) => expression_row(
+            alloc,
+            OtherExpression {
+                expression: Expression::ArrayExpression(node),
+            },
+        ),
         Err(fault) => Err(fault),
     }
 }
@@ -94,10 +100,10 @@ fn read_object_property<N: ReadNode + Drop>(
         Ok(value) => value,
         Err(fault) => return Err(fault),
     };
-    match field_not_given(number, 5, row, "method") {
-        Ok(()) => {}
+    let method = match optional_flag(number, 5, row, "method") {
+        Ok(method) => method,
         Err(fault) => return Err(fault),
-    }
+    };
     let shorthand = match optional_flag(number, 6, row, "shorthand") {
         Ok(shorthand) => shorthand,
         Err(fault) => return Err(fault),
@@ -111,6 +117,7 @@ fn read_object_property<N: ReadNode + Drop>(
         kind,
         key,
         value,
+        method,
         shorthand,
         computed,
     };
@@ -137,7 +144,12 @@ fn read_object_expression<N: ReadNode + Drop>(
     };
     let node = ObjectExpression { span, properties };
     match boxed(alloc, node) {
-        Ok(node) => expression_row(alloc, Expression::ObjectExpression(node)),
+        Ok(node) => expression_row(
+            alloc,
+            OtherExpression {
+                expression: Expression::ObjectExpression(node),
+            },
+        ),
         Err(fault) => Err(fault),
     }
 }

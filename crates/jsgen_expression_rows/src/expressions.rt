@@ -2,7 +2,7 @@
 // Rows of a job: expressions (ECMA-262, clause 13).
 ghost use Rattle.std.specs.Prelude.{◌≡◌, true};
 ghost use Rattle.serde_json.specs.View.{view};
-ghost use Rattle.jsgen_tree.specs.Fields.{identifier_reference_fields, this_expression_fields, null_literal_fields, boolean_literal_fields, big_int_literal_fields, string_literal_fields, parenthesized_expression_fields, binary_expression_fields, logical_expression_fields, identifier_name_fields, static_member_expression_fields, computed_member_expression_fields, call_expression_fields, chain_expression_fields};
+ghost use Rattle.jsgen_tree.specs.RowFields.{identifier_reference_fields, this_expression_fields, null_literal_fields, boolean_literal_fields, big_int_literal_fields, string_literal_fields, parenthesized_expression_fields, binary_expression_fields, logical_expression_fields, identifier_name_fields, static_member_expression_fields, computed_member_expression_fields, call_expression_fields, chain_expression_fields};
 ghost use Rattle.jsgen_fields.specs.Reads.{Gives, read_node, read_typed};
 ghost use Rattle.jsgen_fields.specs.Kept.{entries, row_plain};
 ghost use Rattle.jsgen_fields.specs.Parts.{is_in_expressions};
@@ -12,6 +12,7 @@ use crate::literals::read_numeric_literal;
 use jsgen_fields::InputFault;
 use jsgen_fields::fields::boxed;
 use jsgen_fields::kept::{ReadNode, Row, expression_row};
+use jsgen_fields::others::OtherExpression;
 use jsgen_fields::set_fields::{
     argument_list, needed_chain_element, needed_expression, needed_identifier_name,
 };
@@ -57,7 +58,12 @@ fn read_identifier_reference<N: ReadNode + Drop>(
         reference,
     };
     match boxed(alloc, node) {
-        Ok(node) => expression_row(alloc, Expression::IdentifierReference(node)),
+        Ok(node) => expression_row(
+            alloc,
+            OtherExpression {
+                expression: Expression::IdentifierReference(node),
+            },
+        ),
         Err(fault) => Err(fault),
     }
 }
@@ -78,7 +84,12 @@ fn read_this_expression<N: ReadNode + Drop>(
     let _ = row;
     let node = ThisExpression { span };
     match boxed(alloc, node) {
-        Ok(node) => expression_row(alloc, Expression::ThisExpression(node)),
+        Ok(node) => expression_row(
+            alloc,
+            OtherExpression {
+                expression: Expression::ThisExpression(node),
+            },
+        ),
         Err(fault) => Err(fault),
     }
 }
@@ -99,7 +110,12 @@ fn read_null_literal<N: ReadNode + Drop>(
     let _ = row;
     let node = NullLiteral { span };
     match boxed(alloc, node) {
-        Ok(node) => expression_row(alloc, Expression::NullLiteral(node)),
+        Ok(node) => expression_row(
+            alloc,
+            OtherExpression {
+                expression: Expression::NullLiteral(node),
+            },
+        ),
         Err(fault) => Err(fault),
     }
 }
@@ -122,7 +138,12 @@ fn read_boolean_literal<N: ReadNode + Drop>(
     };
     let node = BooleanLiteral { span, value };
     match boxed(alloc, node) {
-        Ok(node) => expression_row(alloc, Expression::BooleanLiteral(node)),
+        Ok(node) => expression_row(
+            alloc,
+            OtherExpression {
+                expression: Expression::BooleanLiteral(node),
+            },
+        ),
         Err(fault) => Err(fault),
     }
 }
@@ -145,7 +166,12 @@ fn read_big_int_literal<N: ReadNode + Drop>(
     };
     let node = BigIntLiteral { span, value };
     match boxed(alloc, node) {
-        Ok(node) => expression_row(alloc, Expression::BigIntLiteral(node)),
+        Ok(node) => expression_row(
+            alloc,
+            OtherExpression {
+                expression: Expression::BigIntLiteral(node),
+            },
+        ),
         Err(fault) => Err(fault),
     }
 }
@@ -168,7 +194,12 @@ fn read_string_literal<N: ReadNode + Drop>(
     };
     let node = StringLiteral { span, value };
     match boxed(alloc, node) {
-        Ok(node) => expression_row(alloc, Expression::StringLiteral(node)),
+        Ok(node) => expression_row(
+            alloc,
+            OtherExpression {
+                expression: Expression::StringLiteral(node),
+            },
+        ),
         Err(fault) => Err(fault),
     }
 }
@@ -190,7 +221,12 @@ fn read_parenthesized_expression<N: ReadNode + Drop>(
     };
     let node = ParenthesizedExpression { span, expression };
     match boxed(alloc, node) {
-        Ok(node) => expression_row(alloc, Expression::ParenthesizedExpression(node)),
+        Ok(node) => expression_row(
+            alloc,
+            OtherExpression {
+                expression: Expression::ParenthesizedExpression(node),
+            },
+        ),
         Err(fault) => Err(fault),
     }
 }
@@ -225,7 +261,12 @@ fn read_binary_expression<N: ReadNode + Drop>(
         right,
     };
     match boxed(alloc, node) {
-        Ok(node) => expression_row(alloc, Expression::BinaryExpression(node)),
+        Ok(node) => expression_row(
+            alloc,
+            OtherExpression {
+                expression: Expression::BinaryExpression(node),
+            },
+        ),
         Err(fault) => Err(fault),
     }
 }
@@ -260,7 +301,12 @@ fn read_logical_expression<N: ReadNode + Drop>(
         right,
     };
     match boxed(alloc, node) {
-        Ok(node) => expression_row(alloc, Expression::LogicalExpression(node)),
+        Ok(node) => expression_row(
+            alloc,
+            OtherExpression {
+                expression: Expression::LogicalExpression(node),
+            },
+        ),
         Err(fault) => Err(fault),
     }
 }
@@ -318,7 +364,12 @@ fn read_static_member_expression<N: ReadNode + Drop>(
         property,
     };
     match boxed(alloc, node) {
-        Ok(node) => expression_row(alloc, Expression::StaticMemberExpression(node)),
+        Ok(node) => expression_row(
+            alloc,
+            OtherExpression {
+                expression: Expression::StaticMemberExpression(node),
+            },
+        ),
         Err(fault) => Err(fault),
     }
 }
@@ -353,7 +404,12 @@ fn read_computed_member_expression<N: ReadNode + Drop>(
         expression,
     };
     match boxed(alloc, node) {
-        Ok(node) => expression_row(alloc, Expression::ComputedMemberExpression(node)),
+        Ok(node) => expression_row(
+            alloc,
+            OtherExpression {
+                expression: Expression::ComputedMemberExpression(node),
+            },
+        ),
         Err(fault) => Err(fault),
     }
 }
@@ -397,7 +453,12 @@ fn read_call_expression<N: ReadNode + Drop>(
         pure,
     };
     match boxed(alloc, node) {
-        Ok(node) => expression_row(alloc, Expression::CallExpression(node)),
+        Ok(node) => expression_row(
+            alloc,
+            OtherExpression {
+                expression: Expression::CallExpression(node),
+            },
+        ),
         Err(fault) => Err(fault),
     }
 }
@@ -419,7 +480,12 @@ fn read_chain_expression<N: ReadNode + Drop>(
     };
     let node = ChainExpression { span, expression };
     match boxed(alloc, node) {
-        Ok(node) => expression_row(alloc, Expression::ChainExpression(node)),
+        Ok(node) => expression_row(
+            alloc,
+            OtherExpression {
+                expression: Expression::ChainExpression(node),
+            },
+        ),
         Err(fault) => Err(fault),
     }
 }

@@ -5,13 +5,15 @@ ghost use Rattle.jsgen_tree.specs.declared.types.NodeType.TheVariants as types;
 ghost use Rattle.jsgen_tree.specs.Atom.{no_value, numeric_kind};
 ghost use Rattle.jsgen_tree.specs.Number.{Whole, Raw};
 ghost use Rattle.jsgen_tree.specs.Table.{word};
-ghost use Rattle.jsgen_tree.specs.Fields.{numeric_kind_words, numeric_literal_fields};
+ghost use Rattle.jsgen_tree.specs.Fields.{numeric_kind_words};
+ghost use Rattle.jsgen_tree.specs.RowFields.{numeric_literal_fields};
 ghost use Rattle.jsgen_fields.specs.Reads.{Gives, read_node, read_value};
 ghost use Rattle.jsgen_fields.specs.Values.{Same, at, field as value_under, is_of_kind};
 ghost use Rattle.jsgen_fields.specs.Kept.{entries, row_plain};
 
 use jsgen_fields::fields::boxed;
 use jsgen_fields::kept::{ReadNode, Row, expression_row};
+use jsgen_fields::others::OtherExpression;
 use jsgen_fields::values::{
     needed_digits, needed_text, needed_value, optional_flag, passed_over_digits, passed_over_text,
     text_in, unset_flag,
@@ -88,7 +90,12 @@ fn read_whole_number<N: ReadNode + Drop>(
     let value = NumericValue::Whole { negative, digits };
     let node = NumericLiteral { span, value };
     match boxed(alloc, node) {
-        Ok(node) => expression_row(alloc, Expression::NumericLiteral(node)),
+        Ok(node) => expression_row(
+            alloc,
+            OtherExpression {
+                expression: Expression::NumericLiteral(node),
+            },
+        ),
         Err(fault) => Err(fault),
     }
 }
@@ -122,7 +129,12 @@ fn read_raw_number<N: ReadNode + Drop>(
     let value = NumericValue::Raw(text);
     let node = NumericLiteral { span, value };
     match boxed(alloc, node) {
-        Ok(node) => expression_row(alloc, Expression::NumericLiteral(node)),
+        Ok(node) => expression_row(
+            alloc,
+            OtherExpression {
+                expression: Expression::NumericLiteral(node),
+            },
+        ),
         Err(fault) => Err(fault),
     }
 }

@@ -3,15 +3,17 @@
 use Rattle.std.proofs.Common.{◌≡◌, Bool, true, false, refl}
 use Rattle.jsgen_tree.specs.Tree.{Tree, type_of}
 use Rattle.jsgen_tree.specs.declared.types.NodeType.{NodeType}
-use Rattle.jsgen_tree.specs.Sets.{is_comment, is_directive, is_statement, is_variable_declarator, is_binding_pattern, is_expression, is_identifier_name, is_argument, is_chain_element, is_array_expression_element, is_property_key, is_object_property_kind, is_simple_assignment_target, is_assignment_target, is_formal_parameter, is_formal_parameter_rest, is_formal_parameters, is_for_statement_init, is_for_statement_left, is_label_identifier, is_switch_case, is_block_statement, is_catch_clause}
+use Rattle.jsgen_tree.specs.Sets.{is_comment, is_directive, is_statement, is_variable_declarator, is_binding_pattern, is_expression, is_identifier_name, is_argument, is_chain_element, is_array_expression_element, is_property_key, is_object_property_kind, is_simple_assignment_target, is_assignment_target, is_formal_parameter, is_formal_parameter_rest, is_binding_identifier, is_formal_parameters, is_function_body, is_arrow_function_body, is_for_statement_init, is_for_statement_left, is_label_identifier, is_switch_case, is_block_statement, is_catch_clause}
 use Rattle.jsgen_tree.specs.Rows.{expression_plain, declaration_plain, statement_plain, binding_pattern_plain}
 use Rattle.jsgen_fields.specs.Meaning.{is_program}
 use Rattle.jsgen_tree.specs.declared.sets.Expression.{Expression}
 use Rattle.jsgen_tree.specs.declared.sets.Declaration.{Declaration}
 use Rattle.jsgen_tree.specs.declared.sets.Statement.{Statement}
 use Rattle.jsgen_tree.specs.declared.sets.BindingPattern.{BindingPattern}
-use Rattle.jsgen_fields.specs.Others.{is_other_statement}
+use Rattle.jsgen_fields.specs.Others.{is_other_declaration, is_other_statement, is_other_expression}
+use Rattle.jsgen_fields.specs.declared.others.OtherDeclaration.{OtherDeclaration}
 use Rattle.jsgen_fields.specs.declared.others.OtherStatement.{OtherStatement}
+use Rattle.jsgen_fields.specs.declared.others.OtherExpression.{OtherExpression}
 use Rattle.jsgen_tree.specs.declared.types.NodeType.TheVariants as types
 use Rattle.jsgen_tree.specs.declared.sets.Declaration.TheVariants as declarations
 use Rattle.jsgen_tree.specs.declared.sets.BindingPattern.TheVariants as binding_patterns
@@ -20,332 +22,371 @@ use Rattle.jsgen_tree.specs.declared.sets.Expression.TheVariants as expressions
 
 -- ---- what is so of each type of a set is so of each row of it
 
-of_declaration : {N : Type 0} (plain : N → Tree) (f : NodeType → Bool) (b : Bool) → f types.VariableDeclaration ≡ b → (r : Declaration N) → f (type_of (declaration_plain plain r)) ≡ b
-of_declaration plain f b h0 (declarations.VariableDeclaration r) = h0
+of_declaration : {N : Type 0} (plain : N → Tree) (f : NodeType → Bool) (b : Bool) → f types.VariableDeclaration ≡ b → (r : Declaration N) → is_other_declaration r ≡ true → f (type_of (declaration_plain plain r)) ≡ b
+of_declaration plain f b h0 (declarations.Function r) o = cc
+of_declaration plain f b h0 (declarations.VariableDeclaration r) o = h0
 
 of_binding_pattern : (f : NodeType → Bool) (b : Bool) → f types.BindingIdentifier ≡ b → (r : BindingPattern) → f (type_of (binding_pattern_plain r)) ≡ b
 of_binding_pattern f b h0 (binding_patterns.BindingIdentifier r) = h0
 
-of_statement : {N : Type 0} (plain : N → Tree) (f : NodeType → Bool) (b : Bool) → f types.ExpressionStatement ≡ b → f types.BlockStatement ≡ b → f types.IfStatement ≡ b → f types.EmptyStatement ≡ b → f types.ForStatement ≡ b → f types.ForInStatement ≡ b → f types.ForOfStatement ≡ b → f types.WhileStatement ≡ b → f types.DoWhileStatement ≡ b → f types.LabeledStatement ≡ b → f types.ContinueStatement ≡ b → f types.BreakStatement ≡ b → f types.ThrowStatement ≡ b → f types.DebuggerStatement ≡ b → f types.SwitchStatement ≡ b → f types.TryStatement ≡ b → (r : Statement N) → is_other_statement r ≡ true → f (type_of (statement_plain plain r)) ≡ b
-of_statement plain f b h0 h1 h2 h3 h4 h5 h6 h7 h8 h9 h10 h11 h12 h13 h14 h15 (statements.Declaration r) o = cc
-of_statement plain f b h0 h1 h2 h3 h4 h5 h6 h7 h8 h9 h10 h11 h12 h13 h14 h15 (statements.ExpressionStatement r) o = h0
-of_statement plain f b h0 h1 h2 h3 h4 h5 h6 h7 h8 h9 h10 h11 h12 h13 h14 h15 (statements.BlockStatement r) o = h1
-of_statement plain f b h0 h1 h2 h3 h4 h5 h6 h7 h8 h9 h10 h11 h12 h13 h14 h15 (statements.IfStatement r) o = h2
-of_statement plain f b h0 h1 h2 h3 h4 h5 h6 h7 h8 h9 h10 h11 h12 h13 h14 h15 (statements.EmptyStatement r) o = h3
-of_statement plain f b h0 h1 h2 h3 h4 h5 h6 h7 h8 h9 h10 h11 h12 h13 h14 h15 (statements.ForStatement r) o = h4
-of_statement plain f b h0 h1 h2 h3 h4 h5 h6 h7 h8 h9 h10 h11 h12 h13 h14 h15 (statements.ForInStatement r) o = h5
-of_statement plain f b h0 h1 h2 h3 h4 h5 h6 h7 h8 h9 h10 h11 h12 h13 h14 h15 (statements.ForOfStatement r) o = h6
-of_statement plain f b h0 h1 h2 h3 h4 h5 h6 h7 h8 h9 h10 h11 h12 h13 h14 h15 (statements.WhileStatement r) o = h7
-of_statement plain f b h0 h1 h2 h3 h4 h5 h6 h7 h8 h9 h10 h11 h12 h13 h14 h15 (statements.DoWhileStatement r) o = h8
-of_statement plain f b h0 h1 h2 h3 h4 h5 h6 h7 h8 h9 h10 h11 h12 h13 h14 h15 (statements.LabeledStatement r) o = h9
-of_statement plain f b h0 h1 h2 h3 h4 h5 h6 h7 h8 h9 h10 h11 h12 h13 h14 h15 (statements.ContinueStatement r) o = h10
-of_statement plain f b h0 h1 h2 h3 h4 h5 h6 h7 h8 h9 h10 h11 h12 h13 h14 h15 (statements.BreakStatement r) o = h11
-of_statement plain f b h0 h1 h2 h3 h4 h5 h6 h7 h8 h9 h10 h11 h12 h13 h14 h15 (statements.ThrowStatement r) o = h12
-of_statement plain f b h0 h1 h2 h3 h4 h5 h6 h7 h8 h9 h10 h11 h12 h13 h14 h15 (statements.DebuggerStatement r) o = h13
-of_statement plain f b h0 h1 h2 h3 h4 h5 h6 h7 h8 h9 h10 h11 h12 h13 h14 h15 (statements.SwitchStatement r) o = h14
-of_statement plain f b h0 h1 h2 h3 h4 h5 h6 h7 h8 h9 h10 h11 h12 h13 h14 h15 (statements.TryStatement r) o = h15
+of_statement : {N : Type 0} (plain : N → Tree) (f : NodeType → Bool) (b : Bool) → f types.ExpressionStatement ≡ b → f types.BlockStatement ≡ b → f types.IfStatement ≡ b → f types.EmptyStatement ≡ b → f types.ForStatement ≡ b → f types.ForInStatement ≡ b → f types.ForOfStatement ≡ b → f types.WhileStatement ≡ b → f types.DoWhileStatement ≡ b → f types.LabeledStatement ≡ b → f types.ContinueStatement ≡ b → f types.BreakStatement ≡ b → f types.ReturnStatement ≡ b → f types.ThrowStatement ≡ b → f types.DebuggerStatement ≡ b → f types.SwitchStatement ≡ b → f types.TryStatement ≡ b → (r : Statement N) → is_other_statement r ≡ true → f (type_of (statement_plain plain r)) ≡ b
+of_statement plain f b h0 h1 h2 h3 h4 h5 h6 h7 h8 h9 h10 h11 h12 h13 h14 h15 h16 (statements.Declaration r) o = cc
+of_statement plain f b h0 h1 h2 h3 h4 h5 h6 h7 h8 h9 h10 h11 h12 h13 h14 h15 h16 (statements.ExpressionStatement r) o = h0
+of_statement plain f b h0 h1 h2 h3 h4 h5 h6 h7 h8 h9 h10 h11 h12 h13 h14 h15 h16 (statements.BlockStatement r) o = h1
+of_statement plain f b h0 h1 h2 h3 h4 h5 h6 h7 h8 h9 h10 h11 h12 h13 h14 h15 h16 (statements.IfStatement r) o = h2
+of_statement plain f b h0 h1 h2 h3 h4 h5 h6 h7 h8 h9 h10 h11 h12 h13 h14 h15 h16 (statements.EmptyStatement r) o = h3
+of_statement plain f b h0 h1 h2 h3 h4 h5 h6 h7 h8 h9 h10 h11 h12 h13 h14 h15 h16 (statements.ForStatement r) o = h4
+of_statement plain f b h0 h1 h2 h3 h4 h5 h6 h7 h8 h9 h10 h11 h12 h13 h14 h15 h16 (statements.ForInStatement r) o = h5
+of_statement plain f b h0 h1 h2 h3 h4 h5 h6 h7 h8 h9 h10 h11 h12 h13 h14 h15 h16 (statements.ForOfStatement r) o = h6
+of_statement plain f b h0 h1 h2 h3 h4 h5 h6 h7 h8 h9 h10 h11 h12 h13 h14 h15 h16 (statements.WhileStatement r) o = h7
+of_statement plain f b h0 h1 h2 h3 h4 h5 h6 h7 h8 h9 h10 h11 h12 h13 h14 h15 h16 (statements.DoWhileStatement r) o = h8
+of_statement plain f b h0 h1 h2 h3 h4 h5 h6 h7 h8 h9 h10 h11 h12 h13 h14 h15 h16 (statements.LabeledStatement r) o = h9
+of_statement plain f b h0 h1 h2 h3 h4 h5 h6 h7 h8 h9 h10 h11 h12 h13 h14 h15 h16 (statements.ContinueStatement r) o = h10
+of_statement plain f b h0 h1 h2 h3 h4 h5 h6 h7 h8 h9 h10 h11 h12 h13 h14 h15 h16 (statements.BreakStatement r) o = h11
+of_statement plain f b h0 h1 h2 h3 h4 h5 h6 h7 h8 h9 h10 h11 h12 h13 h14 h15 h16 (statements.ReturnStatement r) o = h12
+of_statement plain f b h0 h1 h2 h3 h4 h5 h6 h7 h8 h9 h10 h11 h12 h13 h14 h15 h16 (statements.ThrowStatement r) o = h13
+of_statement plain f b h0 h1 h2 h3 h4 h5 h6 h7 h8 h9 h10 h11 h12 h13 h14 h15 h16 (statements.DebuggerStatement r) o = h14
+of_statement plain f b h0 h1 h2 h3 h4 h5 h6 h7 h8 h9 h10 h11 h12 h13 h14 h15 h16 (statements.SwitchStatement r) o = h15
+of_statement plain f b h0 h1 h2 h3 h4 h5 h6 h7 h8 h9 h10 h11 h12 h13 h14 h15 h16 (statements.TryStatement r) o = h16
 
-of_expression : {N : Type 0} (plain : N → Tree) (f : NodeType → Bool) (b : Bool) → f types.IdentifierReference ≡ b → f types.ThisExpression ≡ b → f types.NullLiteral ≡ b → f types.BooleanLiteral ≡ b → f types.NumericLiteral ≡ b → f types.BigIntLiteral ≡ b → f types.StringLiteral ≡ b → f types.BinaryExpression ≡ b → f types.LogicalExpression ≡ b → f types.ParenthesizedExpression ≡ b → f types.StaticMemberExpression ≡ b → f types.ComputedMemberExpression ≡ b → f types.CallExpression ≡ b → f types.ChainExpression ≡ b → f types.ArrayExpression ≡ b → f types.ObjectExpression ≡ b → f types.UnaryExpression ≡ b → f types.UpdateExpression ≡ b → f types.NewExpression ≡ b → f types.NewTarget ≡ b → f types.Super ≡ b → f types.ConditionalExpression ≡ b → f types.SequenceExpression ≡ b → f types.AssignmentExpression ≡ b → f types.ArrowFunctionExpression ≡ b → (r : Expression N) → f (type_of (expression_plain plain r)) ≡ b
-of_expression plain f b h0 h1 h2 h3 h4 h5 h6 h7 h8 h9 h10 h11 h12 h13 h14 h15 h16 h17 h18 h19 h20 h21 h22 h23 h24 (expressions.IdentifierReference r) = h0
-of_expression plain f b h0 h1 h2 h3 h4 h5 h6 h7 h8 h9 h10 h11 h12 h13 h14 h15 h16 h17 h18 h19 h20 h21 h22 h23 h24 (expressions.ThisExpression r) = h1
-of_expression plain f b h0 h1 h2 h3 h4 h5 h6 h7 h8 h9 h10 h11 h12 h13 h14 h15 h16 h17 h18 h19 h20 h21 h22 h23 h24 (expressions.NullLiteral r) = h2
-of_expression plain f b h0 h1 h2 h3 h4 h5 h6 h7 h8 h9 h10 h11 h12 h13 h14 h15 h16 h17 h18 h19 h20 h21 h22 h23 h24 (expressions.BooleanLiteral r) = h3
-of_expression plain f b h0 h1 h2 h3 h4 h5 h6 h7 h8 h9 h10 h11 h12 h13 h14 h15 h16 h17 h18 h19 h20 h21 h22 h23 h24 (expressions.NumericLiteral r) = h4
-of_expression plain f b h0 h1 h2 h3 h4 h5 h6 h7 h8 h9 h10 h11 h12 h13 h14 h15 h16 h17 h18 h19 h20 h21 h22 h23 h24 (expressions.BigIntLiteral r) = h5
-of_expression plain f b h0 h1 h2 h3 h4 h5 h6 h7 h8 h9 h10 h11 h12 h13 h14 h15 h16 h17 h18 h19 h20 h21 h22 h23 h24 (expressions.StringLiteral r) = h6
-of_expression plain f b h0 h1 h2 h3 h4 h5 h6 h7 h8 h9 h10 h11 h12 h13 h14 h15 h16 h17 h18 h19 h20 h21 h22 h23 h24 (expressions.BinaryExpression r) = h7
-of_expression plain f b h0 h1 h2 h3 h4 h5 h6 h7 h8 h9 h10 h11 h12 h13 h14 h15 h16 h17 h18 h19 h20 h21 h22 h23 h24 (expressions.LogicalExpression r) = h8
-of_expression plain f b h0 h1 h2 h3 h4 h5 h6 h7 h8 h9 h10 h11 h12 h13 h14 h15 h16 h17 h18 h19 h20 h21 h22 h23 h24 (expressions.ParenthesizedExpression r) = h9
-of_expression plain f b h0 h1 h2 h3 h4 h5 h6 h7 h8 h9 h10 h11 h12 h13 h14 h15 h16 h17 h18 h19 h20 h21 h22 h23 h24 (expressions.StaticMemberExpression r) = h10
-of_expression plain f b h0 h1 h2 h3 h4 h5 h6 h7 h8 h9 h10 h11 h12 h13 h14 h15 h16 h17 h18 h19 h20 h21 h22 h23 h24 (expressions.ComputedMemberExpression r) = h11
-of_expression plain f b h0 h1 h2 h3 h4 h5 h6 h7 h8 h9 h10 h11 h12 h13 h14 h15 h16 h17 h18 h19 h20 h21 h22 h23 h24 (expressions.CallExpression r) = h12
-of_expression plain f b h0 h1 h2 h3 h4 h5 h6 h7 h8 h9 h10 h11 h12 h13 h14 h15 h16 h17 h18 h19 h20 h21 h22 h23 h24 (expressions.ChainExpression r) = h13
-of_expression plain f b h0 h1 h2 h3 h4 h5 h6 h7 h8 h9 h10 h11 h12 h13 h14 h15 h16 h17 h18 h19 h20 h21 h22 h23 h24 (expressions.ArrayExpression r) = h14
-of_expression plain f b h0 h1 h2 h3 h4 h5 h6 h7 h8 h9 h10 h11 h12 h13 h14 h15 h16 h17 h18 h19 h20 h21 h22 h23 h24 (expressions.ObjectExpression r) = h15
-of_expression plain f b h0 h1 h2 h3 h4 h5 h6 h7 h8 h9 h10 h11 h12 h13 h14 h15 h16 h17 h18 h19 h20 h21 h22 h23 h24 (expressions.UnaryExpression r) = h16
-of_expression plain f b h0 h1 h2 h3 h4 h5 h6 h7 h8 h9 h10 h11 h12 h13 h14 h15 h16 h17 h18 h19 h20 h21 h22 h23 h24 (expressions.UpdateExpression r) = h17
-of_expression plain f b h0 h1 h2 h3 h4 h5 h6 h7 h8 h9 h10 h11 h12 h13 h14 h15 h16 h17 h18 h19 h20 h21 h22 h23 h24 (expressions.NewExpression r) = h18
-of_expression plain f b h0 h1 h2 h3 h4 h5 h6 h7 h8 h9 h10 h11 h12 h13 h14 h15 h16 h17 h18 h19 h20 h21 h22 h23 h24 (expressions.NewTarget r) = h19
-of_expression plain f b h0 h1 h2 h3 h4 h5 h6 h7 h8 h9 h10 h11 h12 h13 h14 h15 h16 h17 h18 h19 h20 h21 h22 h23 h24 (expressions.Super r) = h20
-of_expression plain f b h0 h1 h2 h3 h4 h5 h6 h7 h8 h9 h10 h11 h12 h13 h14 h15 h16 h17 h18 h19 h20 h21 h22 h23 h24 (expressions.ConditionalExpression r) = h21
-of_expression plain f b h0 h1 h2 h3 h4 h5 h6 h7 h8 h9 h10 h11 h12 h13 h14 h15 h16 h17 h18 h19 h20 h21 h22 h23 h24 (expressions.SequenceExpression r) = h22
-of_expression plain f b h0 h1 h2 h3 h4 h5 h6 h7 h8 h9 h10 h11 h12 h13 h14 h15 h16 h17 h18 h19 h20 h21 h22 h23 h24 (expressions.AssignmentExpression r) = h23
-of_expression plain f b h0 h1 h2 h3 h4 h5 h6 h7 h8 h9 h10 h11 h12 h13 h14 h15 h16 h17 h18 h19 h20 h21 h22 h23 h24 (expressions.ArrowFunctionExpression r) = h24
+of_expression : {N : Type 0} (plain : N → Tree) (f : NodeType → Bool) (b : Bool) → f types.IdentifierReference ≡ b → f types.ThisExpression ≡ b → f types.NullLiteral ≡ b → f types.BooleanLiteral ≡ b → f types.NumericLiteral ≡ b → f types.BigIntLiteral ≡ b → f types.StringLiteral ≡ b → f types.BinaryExpression ≡ b → f types.LogicalExpression ≡ b → f types.ParenthesizedExpression ≡ b → f types.StaticMemberExpression ≡ b → f types.ComputedMemberExpression ≡ b → f types.CallExpression ≡ b → f types.ChainExpression ≡ b → f types.ArrayExpression ≡ b → f types.ObjectExpression ≡ b → f types.UnaryExpression ≡ b → f types.UpdateExpression ≡ b → f types.NewExpression ≡ b → f types.NewTarget ≡ b → f types.Super ≡ b → f types.ConditionalExpression ≡ b → f types.SequenceExpression ≡ b → f types.AssignmentExpression ≡ b → f types.ArrowFunctionExpression ≡ b → (r : Expression N) → is_other_expression r ≡ true → f (type_of (expression_plain plain r)) ≡ b
+of_expression plain f b h0 h1 h2 h3 h4 h5 h6 h7 h8 h9 h10 h11 h12 h13 h14 h15 h16 h17 h18 h19 h20 h21 h22 h23 h24 (expressions.Function r) o = cc
+of_expression plain f b h0 h1 h2 h3 h4 h5 h6 h7 h8 h9 h10 h11 h12 h13 h14 h15 h16 h17 h18 h19 h20 h21 h22 h23 h24 (expressions.IdentifierReference r) o = h0
+of_expression plain f b h0 h1 h2 h3 h4 h5 h6 h7 h8 h9 h10 h11 h12 h13 h14 h15 h16 h17 h18 h19 h20 h21 h22 h23 h24 (expressions.ThisExpression r) o = h1
+of_expression plain f b h0 h1 h2 h3 h4 h5 h6 h7 h8 h9 h10 h11 h12 h13 h14 h15 h16 h17 h18 h19 h20 h21 h22 h23 h24 (expressions.NullLiteral r) o = h2
+of_expression plain f b h0 h1 h2 h3 h4 h5 h6 h7 h8 h9 h10 h11 h12 h13 h14 h15 h16 h17 h18 h19 h20 h21 h22 h23 h24 (expressions.BooleanLiteral r) o = h3
+of_expression plain f b h0 h1 h2 h3 h4 h5 h6 h7 h8 h9 h10 h11 h12 h13 h14 h15 h16 h17 h18 h19 h20 h21 h22 h23 h24 (expressions.NumericLiteral r) o = h4
+of_expression plain f b h0 h1 h2 h3 h4 h5 h6 h7 h8 h9 h10 h11 h12 h13 h14 h15 h16 h17 h18 h19 h20 h21 h22 h23 h24 (expressions.BigIntLiteral r) o = h5
+of_expression plain f b h0 h1 h2 h3 h4 h5 h6 h7 h8 h9 h10 h11 h12 h13 h14 h15 h16 h17 h18 h19 h20 h21 h22 h23 h24 (expressions.StringLiteral r) o = h6
+of_expression plain f b h0 h1 h2 h3 h4 h5 h6 h7 h8 h9 h10 h11 h12 h13 h14 h15 h16 h17 h18 h19 h20 h21 h22 h23 h24 (expressions.BinaryExpression r) o = h7
+of_expression plain f b h0 h1 h2 h3 h4 h5 h6 h7 h8 h9 h10 h11 h12 h13 h14 h15 h16 h17 h18 h19 h20 h21 h22 h23 h24 (expressions.LogicalExpression r) o = h8
+of_expression plain f b h0 h1 h2 h3 h4 h5 h6 h7 h8 h9 h10 h11 h12 h13 h14 h15 h16 h17 h18 h19 h20 h21 h22 h23 h24 (expressions.ParenthesizedExpression r) o = h9
+of_expression plain f b h0 h1 h2 h3 h4 h5 h6 h7 h8 h9 h10 h11 h12 h13 h14 h15 h16 h17 h18 h19 h20 h21 h22 h23 h24 (expressions.StaticMemberExpression r) o = h10
+of_expression plain f b h0 h1 h2 h3 h4 h5 h6 h7 h8 h9 h10 h11 h12 h13 h14 h15 h16 h17 h18 h19 h20 h21 h22 h23 h24 (expressions.ComputedMemberExpression r) o = h11
+of_expression plain f b h0 h1 h2 h3 h4 h5 h6 h7 h8 h9 h10 h11 h12 h13 h14 h15 h16 h17 h18 h19 h20 h21 h22 h23 h24 (expressions.CallExpression r) o = h12
+of_expression plain f b h0 h1 h2 h3 h4 h5 h6 h7 h8 h9 h10 h11 h12 h13 h14 h15 h16 h17 h18 h19 h20 h21 h22 h23 h24 (expressions.ChainExpression r) o = h13
+of_expression plain f b h0 h1 h2 h3 h4 h5 h6 h7 h8 h9 h10 h11 h12 h13 h14 h15 h16 h17 h18 h19 h20 h21 h22 h23 h24 (expressions.ArrayExpression r) o = h14
+of_expression plain f b h0 h1 h2 h3 h4 h5 h6 h7 h8 h9 h10 h11 h12 h13 h14 h15 h16 h17 h18 h19 h20 h21 h22 h23 h24 (expressions.ObjectExpression r) o = h15
+of_expression plain f b h0 h1 h2 h3 h4 h5 h6 h7 h8 h9 h10 h11 h12 h13 h14 h15 h16 h17 h18 h19 h20 h21 h22 h23 h24 (expressions.UnaryExpression r) o = h16
+of_expression plain f b h0 h1 h2 h3 h4 h5 h6 h7 h8 h9 h10 h11 h12 h13 h14 h15 h16 h17 h18 h19 h20 h21 h22 h23 h24 (expressions.UpdateExpression r) o = h17
+of_expression plain f b h0 h1 h2 h3 h4 h5 h6 h7 h8 h9 h10 h11 h12 h13 h14 h15 h16 h17 h18 h19 h20 h21 h22 h23 h24 (expressions.NewExpression r) o = h18
+of_expression plain f b h0 h1 h2 h3 h4 h5 h6 h7 h8 h9 h10 h11 h12 h13 h14 h15 h16 h17 h18 h19 h20 h21 h22 h23 h24 (expressions.NewTarget r) o = h19
+of_expression plain f b h0 h1 h2 h3 h4 h5 h6 h7 h8 h9 h10 h11 h12 h13 h14 h15 h16 h17 h18 h19 h20 h21 h22 h23 h24 (expressions.Super r) o = h20
+of_expression plain f b h0 h1 h2 h3 h4 h5 h6 h7 h8 h9 h10 h11 h12 h13 h14 h15 h16 h17 h18 h19 h20 h21 h22 h23 h24 (expressions.ConditionalExpression r) o = h21
+of_expression plain f b h0 h1 h2 h3 h4 h5 h6 h7 h8 h9 h10 h11 h12 h13 h14 h15 h16 h17 h18 h19 h20 h21 h22 h23 h24 (expressions.SequenceExpression r) o = h22
+of_expression plain f b h0 h1 h2 h3 h4 h5 h6 h7 h8 h9 h10 h11 h12 h13 h14 h15 h16 h17 h18 h19 h20 h21 h22 h23 h24 (expressions.AssignmentExpression r) o = h23
+of_expression plain f b h0 h1 h2 h3 h4 h5 h6 h7 h8 h9 h10 h11 h12 h13 h14 h15 h16 h17 h18 h19 h20 h21 h22 h23 h24 (expressions.ArrowFunctionExpression r) o = h24
 
 -- ---- set by set
 
-pub no_declaration_is_a_program : {N : Type 0} (plain : N → Tree) (r : Declaration N) → is_program (type_of (declaration_plain plain r)) ≡ false
-no_declaration_is_a_program plain r = of_declaration plain is_program false refl r
+pub no_declaration_is_a_program : {N : Type 0} (plain : N → Tree) (r : OtherDeclaration N) → is_program (type_of (declaration_plain plain r.declaration)) ≡ false
+no_declaration_is_a_program plain r = of_declaration plain is_program false refl r.declaration r.other
 
 pub no_binding_pattern_is_a_program : (r : BindingPattern) → is_program (type_of (binding_pattern_plain r)) ≡ false
 no_binding_pattern_is_a_program r = of_binding_pattern is_program false refl r
 
 pub no_statement_is_a_program : {N : Type 0} (plain : N → Tree) (r : OtherStatement N) → is_program (type_of (statement_plain plain r.statement)) ≡ false
-no_statement_is_a_program plain r = of_statement plain is_program false refl refl refl refl refl refl refl refl refl refl refl refl refl refl refl refl r.statement r.other
+no_statement_is_a_program plain r = of_statement plain is_program false refl refl refl refl refl refl refl refl refl refl refl refl refl refl refl refl refl r.statement r.other
 
-pub no_expression_is_a_program : {N : Type 0} (plain : N → Tree) (r : Expression N) → is_program (type_of (expression_plain plain r)) ≡ false
-no_expression_is_a_program plain r = of_expression plain is_program false refl refl refl refl refl refl refl refl refl refl refl refl refl refl refl refl refl refl refl refl refl refl refl refl refl r
+pub no_expression_is_a_program : {N : Type 0} (plain : N → Tree) (r : OtherExpression N) → is_program (type_of (expression_plain plain r.expression)) ≡ false
+no_expression_is_a_program plain r = of_expression plain is_program false refl refl refl refl refl refl refl refl refl refl refl refl refl refl refl refl refl refl refl refl refl refl refl refl refl r.expression r.other
 
-pub no_declaration_is_a_comment : {N : Type 0} (plain : N → Tree) (r : Declaration N) → is_comment (type_of (declaration_plain plain r)) ≡ false
-no_declaration_is_a_comment plain r = of_declaration plain is_comment false refl r
+pub no_declaration_is_a_comment : {N : Type 0} (plain : N → Tree) (r : OtherDeclaration N) → is_comment (type_of (declaration_plain plain r.declaration)) ≡ false
+no_declaration_is_a_comment plain r = of_declaration plain is_comment false refl r.declaration r.other
 
 pub no_binding_pattern_is_a_comment : (r : BindingPattern) → is_comment (type_of (binding_pattern_plain r)) ≡ false
 no_binding_pattern_is_a_comment r = of_binding_pattern is_comment false refl r
 
 pub no_statement_is_a_comment : {N : Type 0} (plain : N → Tree) (r : OtherStatement N) → is_comment (type_of (statement_plain plain r.statement)) ≡ false
-no_statement_is_a_comment plain r = of_statement plain is_comment false refl refl refl refl refl refl refl refl refl refl refl refl refl refl refl refl r.statement r.other
+no_statement_is_a_comment plain r = of_statement plain is_comment false refl refl refl refl refl refl refl refl refl refl refl refl refl refl refl refl refl r.statement r.other
 
-pub no_expression_is_a_comment : {N : Type 0} (plain : N → Tree) (r : Expression N) → is_comment (type_of (expression_plain plain r)) ≡ false
-no_expression_is_a_comment plain r = of_expression plain is_comment false refl refl refl refl refl refl refl refl refl refl refl refl refl refl refl refl refl refl refl refl refl refl refl refl refl r
+pub no_expression_is_a_comment : {N : Type 0} (plain : N → Tree) (r : OtherExpression N) → is_comment (type_of (expression_plain plain r.expression)) ≡ false
+no_expression_is_a_comment plain r = of_expression plain is_comment false refl refl refl refl refl refl refl refl refl refl refl refl refl refl refl refl refl refl refl refl refl refl refl refl refl r.expression r.other
 
-pub no_declaration_is_a_directive : {N : Type 0} (plain : N → Tree) (r : Declaration N) → is_directive (type_of (declaration_plain plain r)) ≡ false
-no_declaration_is_a_directive plain r = of_declaration plain is_directive false refl r
+pub no_declaration_is_a_directive : {N : Type 0} (plain : N → Tree) (r : OtherDeclaration N) → is_directive (type_of (declaration_plain plain r.declaration)) ≡ false
+no_declaration_is_a_directive plain r = of_declaration plain is_directive false refl r.declaration r.other
 
 pub no_binding_pattern_is_a_directive : (r : BindingPattern) → is_directive (type_of (binding_pattern_plain r)) ≡ false
 no_binding_pattern_is_a_directive r = of_binding_pattern is_directive false refl r
 
 pub no_statement_is_a_directive : {N : Type 0} (plain : N → Tree) (r : OtherStatement N) → is_directive (type_of (statement_plain plain r.statement)) ≡ false
-no_statement_is_a_directive plain r = of_statement plain is_directive false refl refl refl refl refl refl refl refl refl refl refl refl refl refl refl refl r.statement r.other
+no_statement_is_a_directive plain r = of_statement plain is_directive false refl refl refl refl refl refl refl refl refl refl refl refl refl refl refl refl refl r.statement r.other
 
-pub no_expression_is_a_directive : {N : Type 0} (plain : N → Tree) (r : Expression N) → is_directive (type_of (expression_plain plain r)) ≡ false
-no_expression_is_a_directive plain r = of_expression plain is_directive false refl refl refl refl refl refl refl refl refl refl refl refl refl refl refl refl refl refl refl refl refl refl refl refl refl r
+pub no_expression_is_a_directive : {N : Type 0} (plain : N → Tree) (r : OtherExpression N) → is_directive (type_of (expression_plain plain r.expression)) ≡ false
+no_expression_is_a_directive plain r = of_expression plain is_directive false refl refl refl refl refl refl refl refl refl refl refl refl refl refl refl refl refl refl refl refl refl refl refl refl refl r.expression r.other
 
-pub each_declaration_is_a_statement : {N : Type 0} (plain : N → Tree) (r : Declaration N) → is_statement (type_of (declaration_plain plain r)) ≡ true
-each_declaration_is_a_statement plain r = of_declaration plain is_statement true refl r
+pub each_declaration_is_a_statement : {N : Type 0} (plain : N → Tree) (r : OtherDeclaration N) → is_statement (type_of (declaration_plain plain r.declaration)) ≡ true
+each_declaration_is_a_statement plain r = of_declaration plain is_statement true refl r.declaration r.other
 
 pub no_binding_pattern_is_a_statement : (r : BindingPattern) → is_statement (type_of (binding_pattern_plain r)) ≡ false
 no_binding_pattern_is_a_statement r = of_binding_pattern is_statement false refl r
 
 pub each_statement_is_a_statement : {N : Type 0} (plain : N → Tree) (r : OtherStatement N) → is_statement (type_of (statement_plain plain r.statement)) ≡ true
-each_statement_is_a_statement plain r = of_statement plain is_statement true refl refl refl refl refl refl refl refl refl refl refl refl refl refl refl refl r.statement r.other
+each_statement_is_a_statement plain r = of_statement plain is_statement true refl refl refl refl refl refl refl refl refl refl refl refl refl refl refl refl refl r.statement r.other
 
-pub no_expression_is_a_statement : {N : Type 0} (plain : N → Tree) (r : Expression N) → is_statement (type_of (expression_plain plain r)) ≡ false
-no_expression_is_a_statement plain r = of_expression plain is_statement false refl refl refl refl refl refl refl refl refl refl refl refl refl refl refl refl refl refl refl refl refl refl refl refl refl r
+pub no_expression_is_a_statement : {N : Type 0} (plain : N → Tree) (r : OtherExpression N) → is_statement (type_of (expression_plain plain r.expression)) ≡ false
+no_expression_is_a_statement plain r = of_expression plain is_statement false refl refl refl refl refl refl refl refl refl refl refl refl refl refl refl refl refl refl refl refl refl refl refl refl refl r.expression r.other
 
-pub no_declaration_is_a_variable_declarator : {N : Type 0} (plain : N → Tree) (r : Declaration N) → is_variable_declarator (type_of (declaration_plain plain r)) ≡ false
-no_declaration_is_a_variable_declarator plain r = of_declaration plain is_variable_declarator false refl r
+pub no_declaration_is_a_variable_declarator : {N : Type 0} (plain : N → Tree) (r : OtherDeclaration N) → is_variable_declarator (type_of (declaration_plain plain r.declaration)) ≡ false
+no_declaration_is_a_variable_declarator plain r = of_declaration plain is_variable_declarator false refl r.declaration r.other
 
 pub no_binding_pattern_is_a_variable_declarator : (r : BindingPattern) → is_variable_declarator (type_of (binding_pattern_plain r)) ≡ false
 no_binding_pattern_is_a_variable_declarator r = of_binding_pattern is_variable_declarator false refl r
 
 pub no_statement_is_a_variable_declarator : {N : Type 0} (plain : N → Tree) (r : OtherStatement N) → is_variable_declarator (type_of (statement_plain plain r.statement)) ≡ false
-no_statement_is_a_variable_declarator plain r = of_statement plain is_variable_declarator false refl refl refl refl refl refl refl refl refl refl refl refl refl refl refl refl r.statement r.other
+no_statement_is_a_variable_declarator plain r = of_statement plain is_variable_declarator false refl refl refl refl refl refl refl refl refl refl refl refl refl refl refl refl refl r.statement r.other
 
-pub no_expression_is_a_variable_declarator : {N : Type 0} (plain : N → Tree) (r : Expression N) → is_variable_declarator (type_of (expression_plain plain r)) ≡ false
-no_expression_is_a_variable_declarator plain r = of_expression plain is_variable_declarator false refl refl refl refl refl refl refl refl refl refl refl refl refl refl refl refl refl refl refl refl refl refl refl refl refl r
+pub no_expression_is_a_variable_declarator : {N : Type 0} (plain : N → Tree) (r : OtherExpression N) → is_variable_declarator (type_of (expression_plain plain r.expression)) ≡ false
+no_expression_is_a_variable_declarator plain r = of_expression plain is_variable_declarator false refl refl refl refl refl refl refl refl refl refl refl refl refl refl refl refl refl refl refl refl refl refl refl refl refl r.expression r.other
 
-pub no_declaration_is_a_binding_pattern : {N : Type 0} (plain : N → Tree) (r : Declaration N) → is_binding_pattern (type_of (declaration_plain plain r)) ≡ false
-no_declaration_is_a_binding_pattern plain r = of_declaration plain is_binding_pattern false refl r
+pub no_declaration_is_a_binding_pattern : {N : Type 0} (plain : N → Tree) (r : OtherDeclaration N) → is_binding_pattern (type_of (declaration_plain plain r.declaration)) ≡ false
+no_declaration_is_a_binding_pattern plain r = of_declaration plain is_binding_pattern false refl r.declaration r.other
 
 pub each_binding_pattern_is_a_binding_pattern : (r : BindingPattern) → is_binding_pattern (type_of (binding_pattern_plain r)) ≡ true
 each_binding_pattern_is_a_binding_pattern r = of_binding_pattern is_binding_pattern true refl r
 
 pub no_statement_is_a_binding_pattern : {N : Type 0} (plain : N → Tree) (r : OtherStatement N) → is_binding_pattern (type_of (statement_plain plain r.statement)) ≡ false
-no_statement_is_a_binding_pattern plain r = of_statement plain is_binding_pattern false refl refl refl refl refl refl refl refl refl refl refl refl refl refl refl refl r.statement r.other
+no_statement_is_a_binding_pattern plain r = of_statement plain is_binding_pattern false refl refl refl refl refl refl refl refl refl refl refl refl refl refl refl refl refl r.statement r.other
 
-pub no_expression_is_a_binding_pattern : {N : Type 0} (plain : N → Tree) (r : Expression N) → is_binding_pattern (type_of (expression_plain plain r)) ≡ false
-no_expression_is_a_binding_pattern plain r = of_expression plain is_binding_pattern false refl refl refl refl refl refl refl refl refl refl refl refl refl refl refl refl refl refl refl refl refl refl refl refl refl r
+pub no_expression_is_a_binding_pattern : {N : Type 0} (plain : N → Tree) (r : OtherExpression N) → is_binding_pattern (type_of (expression_plain plain r.expression)) ≡ false
+no_expression_is_a_binding_pattern plain r = of_expression plain is_binding_pattern false refl refl refl refl refl refl refl refl refl refl refl refl refl refl refl refl refl refl refl refl refl refl refl refl refl r.expression r.other
 
-pub no_declaration_is_an_expression : {N : Type 0} (plain : N → Tree) (r : Declaration N) → is_expression (type_of (declaration_plain plain r)) ≡ false
-no_declaration_is_an_expression plain r = of_declaration plain is_expression false refl r
+pub no_declaration_is_an_expression : {N : Type 0} (plain : N → Tree) (r : OtherDeclaration N) → is_expression (type_of (declaration_plain plain r.declaration)) ≡ false
+no_declaration_is_an_expression plain r = of_declaration plain is_expression false refl r.declaration r.other
 
 pub no_binding_pattern_is_an_expression : (r : BindingPattern) → is_expression (type_of (binding_pattern_plain r)) ≡ false
 no_binding_pattern_is_an_expression r = of_binding_pattern is_expression false refl r
 
 pub no_statement_is_an_expression : {N : Type 0} (plain : N → Tree) (r : OtherStatement N) → is_expression (type_of (statement_plain plain r.statement)) ≡ false
-no_statement_is_an_expression plain r = of_statement plain is_expression false refl refl refl refl refl refl refl refl refl refl refl refl refl refl refl refl r.statement r.other
+no_statement_is_an_expression plain r = of_statement plain is_expression false refl refl refl refl refl refl refl refl refl refl refl refl refl refl refl refl refl r.statement r.other
 
-pub each_expression_is_an_expression : {N : Type 0} (plain : N → Tree) (r : Expression N) → is_expression (type_of (expression_plain plain r)) ≡ true
-each_expression_is_an_expression plain r = of_expression plain is_expression true refl refl refl refl refl refl refl refl refl refl refl refl refl refl refl refl refl refl refl refl refl refl refl refl refl r
+pub each_expression_is_an_expression : {N : Type 0} (plain : N → Tree) (r : OtherExpression N) → is_expression (type_of (expression_plain plain r.expression)) ≡ true
+each_expression_is_an_expression plain r = of_expression plain is_expression true refl refl refl refl refl refl refl refl refl refl refl refl refl refl refl refl refl refl refl refl refl refl refl refl refl r.expression r.other
 
-pub no_declaration_is_an_identifier_name : {N : Type 0} (plain : N → Tree) (r : Declaration N) → is_identifier_name (type_of (declaration_plain plain r)) ≡ false
-no_declaration_is_an_identifier_name plain r = of_declaration plain is_identifier_name false refl r
+pub no_declaration_is_an_identifier_name : {N : Type 0} (plain : N → Tree) (r : OtherDeclaration N) → is_identifier_name (type_of (declaration_plain plain r.declaration)) ≡ false
+no_declaration_is_an_identifier_name plain r = of_declaration plain is_identifier_name false refl r.declaration r.other
 
 pub no_binding_pattern_is_an_identifier_name : (r : BindingPattern) → is_identifier_name (type_of (binding_pattern_plain r)) ≡ false
 no_binding_pattern_is_an_identifier_name r = of_binding_pattern is_identifier_name false refl r
 
 pub no_statement_is_an_identifier_name : {N : Type 0} (plain : N → Tree) (r : OtherStatement N) → is_identifier_name (type_of (statement_plain plain r.statement)) ≡ false
-no_statement_is_an_identifier_name plain r = of_statement plain is_identifier_name false refl refl refl refl refl refl refl refl refl refl refl refl refl refl refl refl r.statement r.other
+no_statement_is_an_identifier_name plain r = of_statement plain is_identifier_name false refl refl refl refl refl refl refl refl refl refl refl refl refl refl refl refl refl r.statement r.other
 
-pub no_expression_is_an_identifier_name : {N : Type 0} (plain : N → Tree) (r : Expression N) → is_identifier_name (type_of (expression_plain plain r)) ≡ false
-no_expression_is_an_identifier_name plain r = of_expression plain is_identifier_name false refl refl refl refl refl refl refl refl refl refl refl refl refl refl refl refl refl refl refl refl refl refl refl refl refl r
+pub no_expression_is_an_identifier_name : {N : Type 0} (plain : N → Tree) (r : OtherExpression N) → is_identifier_name (type_of (expression_plain plain r.expression)) ≡ false
+no_expression_is_an_identifier_name plain r = of_expression plain is_identifier_name false refl refl refl refl refl refl refl refl refl refl refl refl refl refl refl refl refl refl refl refl refl refl refl refl refl r.expression r.other
 
-pub no_declaration_is_an_argument : {N : Type 0} (plain : N → Tree) (r : Declaration N) → is_argument (type_of (declaration_plain plain r)) ≡ false
-no_declaration_is_an_argument plain r = of_declaration plain is_argument false refl r
+pub no_declaration_is_an_argument : {N : Type 0} (plain : N → Tree) (r : OtherDeclaration N) → is_argument (type_of (declaration_plain plain r.declaration)) ≡ false
+no_declaration_is_an_argument plain r = of_declaration plain is_argument false refl r.declaration r.other
 
 pub no_binding_pattern_is_an_argument : (r : BindingPattern) → is_argument (type_of (binding_pattern_plain r)) ≡ false
 no_binding_pattern_is_an_argument r = of_binding_pattern is_argument false refl r
 
 pub no_statement_is_an_argument : {N : Type 0} (plain : N → Tree) (r : OtherStatement N) → is_argument (type_of (statement_plain plain r.statement)) ≡ false
-no_statement_is_an_argument plain r = of_statement plain is_argument false refl refl refl refl refl refl refl refl refl refl refl refl refl refl refl refl r.statement r.other
+no_statement_is_an_argument plain r = of_statement plain is_argument false refl refl refl refl refl refl refl refl refl refl refl refl refl refl refl refl refl r.statement r.other
 
-pub each_expression_is_an_argument : {N : Type 0} (plain : N → Tree) (r : Expression N) → is_argument (type_of (expression_plain plain r)) ≡ true
-each_expression_is_an_argument plain r = of_expression plain is_argument true refl refl refl refl refl refl refl refl refl refl refl refl refl refl refl refl refl refl refl refl refl refl refl refl refl r
+pub each_expression_is_an_argument : {N : Type 0} (plain : N → Tree) (r : OtherExpression N) → is_argument (type_of (expression_plain plain r.expression)) ≡ true
+each_expression_is_an_argument plain r = of_expression plain is_argument true refl refl refl refl refl refl refl refl refl refl refl refl refl refl refl refl refl refl refl refl refl refl refl refl refl r.expression r.other
 
-pub no_declaration_is_a_chain_element : {N : Type 0} (plain : N → Tree) (r : Declaration N) → is_chain_element (type_of (declaration_plain plain r)) ≡ false
-no_declaration_is_a_chain_element plain r = of_declaration plain is_chain_element false refl r
+pub no_declaration_is_a_chain_element : {N : Type 0} (plain : N → Tree) (r : OtherDeclaration N) → is_chain_element (type_of (declaration_plain plain r.declaration)) ≡ false
+no_declaration_is_a_chain_element plain r = of_declaration plain is_chain_element false refl r.declaration r.other
 
 pub no_binding_pattern_is_a_chain_element : (r : BindingPattern) → is_chain_element (type_of (binding_pattern_plain r)) ≡ false
 no_binding_pattern_is_a_chain_element r = of_binding_pattern is_chain_element false refl r
 
 pub no_statement_is_a_chain_element : {N : Type 0} (plain : N → Tree) (r : OtherStatement N) → is_chain_element (type_of (statement_plain plain r.statement)) ≡ false
-no_statement_is_a_chain_element plain r = of_statement plain is_chain_element false refl refl refl refl refl refl refl refl refl refl refl refl refl refl refl refl r.statement r.other
+no_statement_is_a_chain_element plain r = of_statement plain is_chain_element false refl refl refl refl refl refl refl refl refl refl refl refl refl refl refl refl refl r.statement r.other
 
-pub no_declaration_is_an_array_expression_element : {N : Type 0} (plain : N → Tree) (r : Declaration N) → is_array_expression_element (type_of (declaration_plain plain r)) ≡ false
-no_declaration_is_an_array_expression_element plain r = of_declaration plain is_array_expression_element false refl r
+pub no_declaration_is_an_array_expression_element : {N : Type 0} (plain : N → Tree) (r : OtherDeclaration N) → is_array_expression_element (type_of (declaration_plain plain r.declaration)) ≡ false
+no_declaration_is_an_array_expression_element plain r = of_declaration plain is_array_expression_element false refl r.declaration r.other
 
 pub no_binding_pattern_is_an_array_expression_element : (r : BindingPattern) → is_array_expression_element (type_of (binding_pattern_plain r)) ≡ false
 no_binding_pattern_is_an_array_expression_element r = of_binding_pattern is_array_expression_element false refl r
 
 pub no_statement_is_an_array_expression_element : {N : Type 0} (plain : N → Tree) (r : OtherStatement N) → is_array_expression_element (type_of (statement_plain plain r.statement)) ≡ false
-no_statement_is_an_array_expression_element plain r = of_statement plain is_array_expression_element false refl refl refl refl refl refl refl refl refl refl refl refl refl refl refl refl r.statement r.other
+no_statement_is_an_array_expression_element plain r = of_statement plain is_array_expression_element false refl refl refl refl refl refl refl refl refl refl refl refl refl refl refl refl refl r.statement r.other
 
-pub each_expression_is_an_array_expression_element : {N : Type 0} (plain : N → Tree) (r : Expression N) → is_array_expression_element (type_of (expression_plain plain r)) ≡ true
-each_expression_is_an_array_expression_element plain r = of_expression plain is_array_expression_element true refl refl refl refl refl refl refl refl refl refl refl refl refl refl refl refl refl refl refl refl refl refl refl refl refl r
+pub each_expression_is_an_array_expression_element : {N : Type 0} (plain : N → Tree) (r : OtherExpression N) → is_array_expression_element (type_of (expression_plain plain r.expression)) ≡ true
+each_expression_is_an_array_expression_element plain r = of_expression plain is_array_expression_element true refl refl refl refl refl refl refl refl refl refl refl refl refl refl refl refl refl refl refl refl refl refl refl refl refl r.expression r.other
 
-pub no_declaration_is_a_property_key : {N : Type 0} (plain : N → Tree) (r : Declaration N) → is_property_key (type_of (declaration_plain plain r)) ≡ false
-no_declaration_is_a_property_key plain r = of_declaration plain is_property_key false refl r
+pub no_declaration_is_a_property_key : {N : Type 0} (plain : N → Tree) (r : OtherDeclaration N) → is_property_key (type_of (declaration_plain plain r.declaration)) ≡ false
+no_declaration_is_a_property_key plain r = of_declaration plain is_property_key false refl r.declaration r.other
 
 pub no_binding_pattern_is_a_property_key : (r : BindingPattern) → is_property_key (type_of (binding_pattern_plain r)) ≡ false
 no_binding_pattern_is_a_property_key r = of_binding_pattern is_property_key false refl r
 
 pub no_statement_is_a_property_key : {N : Type 0} (plain : N → Tree) (r : OtherStatement N) → is_property_key (type_of (statement_plain plain r.statement)) ≡ false
-no_statement_is_a_property_key plain r = of_statement plain is_property_key false refl refl refl refl refl refl refl refl refl refl refl refl refl refl refl refl r.statement r.other
+no_statement_is_a_property_key plain r = of_statement plain is_property_key false refl refl refl refl refl refl refl refl refl refl refl refl refl refl refl refl refl r.statement r.other
 
-pub each_expression_is_a_property_key : {N : Type 0} (plain : N → Tree) (r : Expression N) → is_property_key (type_of (expression_plain plain r)) ≡ true
-each_expression_is_a_property_key plain r = of_expression plain is_property_key true refl refl refl refl refl refl refl refl refl refl refl refl refl refl refl refl refl refl refl refl refl refl refl refl refl r
+pub each_expression_is_a_property_key : {N : Type 0} (plain : N → Tree) (r : OtherExpression N) → is_property_key (type_of (expression_plain plain r.expression)) ≡ true
+each_expression_is_a_property_key plain r = of_expression plain is_property_key true refl refl refl refl refl refl refl refl refl refl refl refl refl refl refl refl refl refl refl refl refl refl refl refl refl r.expression r.other
 
-pub no_declaration_is_an_object_property_kind : {N : Type 0} (plain : N → Tree) (r : Declaration N) → is_object_property_kind (type_of (declaration_plain plain r)) ≡ false
-no_declaration_is_an_object_property_kind plain r = of_declaration plain is_object_property_kind false refl r
+pub no_declaration_is_an_object_property_kind : {N : Type 0} (plain : N → Tree) (r : OtherDeclaration N) → is_object_property_kind (type_of (declaration_plain plain r.declaration)) ≡ false
+no_declaration_is_an_object_property_kind plain r = of_declaration plain is_object_property_kind false refl r.declaration r.other
 
 pub no_binding_pattern_is_an_object_property_kind : (r : BindingPattern) → is_object_property_kind (type_of (binding_pattern_plain r)) ≡ false
 no_binding_pattern_is_an_object_property_kind r = of_binding_pattern is_object_property_kind false refl r
 
 pub no_statement_is_an_object_property_kind : {N : Type 0} (plain : N → Tree) (r : OtherStatement N) → is_object_property_kind (type_of (statement_plain plain r.statement)) ≡ false
-no_statement_is_an_object_property_kind plain r = of_statement plain is_object_property_kind false refl refl refl refl refl refl refl refl refl refl refl refl refl refl refl refl r.statement r.other
+no_statement_is_an_object_property_kind plain r = of_statement plain is_object_property_kind false refl refl refl refl refl refl refl refl refl refl refl refl refl refl refl refl refl r.statement r.other
 
-pub no_expression_is_an_object_property_kind : {N : Type 0} (plain : N → Tree) (r : Expression N) → is_object_property_kind (type_of (expression_plain plain r)) ≡ false
-no_expression_is_an_object_property_kind plain r = of_expression plain is_object_property_kind false refl refl refl refl refl refl refl refl refl refl refl refl refl refl refl refl refl refl refl refl refl refl refl refl refl r
+pub no_expression_is_an_object_property_kind : {N : Type 0} (plain : N → Tree) (r : OtherExpression N) → is_object_property_kind (type_of (expression_plain plain r.expression)) ≡ false
+no_expression_is_an_object_property_kind plain r = of_expression plain is_object_property_kind false refl refl refl refl refl refl refl refl refl refl refl refl refl refl refl refl refl refl refl refl refl refl refl refl refl r.expression r.other
 
-pub no_declaration_is_a_simple_assignment_target : {N : Type 0} (plain : N → Tree) (r : Declaration N) → is_simple_assignment_target (type_of (declaration_plain plain r)) ≡ false
-no_declaration_is_a_simple_assignment_target plain r = of_declaration plain is_simple_assignment_target false refl r
+pub no_declaration_is_a_simple_assignment_target : {N : Type 0} (plain : N → Tree) (r : OtherDeclaration N) → is_simple_assignment_target (type_of (declaration_plain plain r.declaration)) ≡ false
+no_declaration_is_a_simple_assignment_target plain r = of_declaration plain is_simple_assignment_target false refl r.declaration r.other
 
 pub no_binding_pattern_is_a_simple_assignment_target : (r : BindingPattern) → is_simple_assignment_target (type_of (binding_pattern_plain r)) ≡ false
 no_binding_pattern_is_a_simple_assignment_target r = of_binding_pattern is_simple_assignment_target false refl r
 
 pub no_statement_is_a_simple_assignment_target : {N : Type 0} (plain : N → Tree) (r : OtherStatement N) → is_simple_assignment_target (type_of (statement_plain plain r.statement)) ≡ false
-no_statement_is_a_simple_assignment_target plain r = of_statement plain is_simple_assignment_target false refl refl refl refl refl refl refl refl refl refl refl refl refl refl refl refl r.statement r.other
+no_statement_is_a_simple_assignment_target plain r = of_statement plain is_simple_assignment_target false refl refl refl refl refl refl refl refl refl refl refl refl refl refl refl refl refl r.statement r.other
 
-pub no_declaration_is_an_assignment_target : {N : Type 0} (plain : N → Tree) (r : Declaration N) → is_assignment_target (type_of (declaration_plain plain r)) ≡ false
-no_declaration_is_an_assignment_target plain r = of_declaration plain is_assignment_target false refl r
+pub no_declaration_is_an_assignment_target : {N : Type 0} (plain : N → Tree) (r : OtherDeclaration N) → is_assignment_target (type_of (declaration_plain plain r.declaration)) ≡ false
+no_declaration_is_an_assignment_target plain r = of_declaration plain is_assignment_target false refl r.declaration r.other
 
 pub no_binding_pattern_is_an_assignment_target : (r : BindingPattern) → is_assignment_target (type_of (binding_pattern_plain r)) ≡ false
 no_binding_pattern_is_an_assignment_target r = of_binding_pattern is_assignment_target false refl r
 
 pub no_statement_is_an_assignment_target : {N : Type 0} (plain : N → Tree) (r : OtherStatement N) → is_assignment_target (type_of (statement_plain plain r.statement)) ≡ false
-no_statement_is_an_assignment_target plain r = of_statement plain is_assignment_target false refl refl refl refl refl refl refl refl refl refl refl refl refl refl refl refl r.statement r.other
+no_statement_is_an_assignment_target plain r = of_statement plain is_assignment_target false refl refl refl refl refl refl refl refl refl refl refl refl refl refl refl refl refl r.statement r.other
 
-pub no_declaration_is_a_formal_parameter : {N : Type 0} (plain : N → Tree) (r : Declaration N) → is_formal_parameter (type_of (declaration_plain plain r)) ≡ false
-no_declaration_is_a_formal_parameter plain r = of_declaration plain is_formal_parameter false refl r
+pub no_declaration_is_a_formal_parameter : {N : Type 0} (plain : N → Tree) (r : OtherDeclaration N) → is_formal_parameter (type_of (declaration_plain plain r.declaration)) ≡ false
+no_declaration_is_a_formal_parameter plain r = of_declaration plain is_formal_parameter false refl r.declaration r.other
 
 pub no_binding_pattern_is_a_formal_parameter : (r : BindingPattern) → is_formal_parameter (type_of (binding_pattern_plain r)) ≡ false
 no_binding_pattern_is_a_formal_parameter r = of_binding_pattern is_formal_parameter false refl r
 
 pub no_statement_is_a_formal_parameter : {N : Type 0} (plain : N → Tree) (r : OtherStatement N) → is_formal_parameter (type_of (statement_plain plain r.statement)) ≡ false
-no_statement_is_a_formal_parameter plain r = of_statement plain is_formal_parameter false refl refl refl refl refl refl refl refl refl refl refl refl refl refl refl refl r.statement r.other
+no_statement_is_a_formal_parameter plain r = of_statement plain is_formal_parameter false refl refl refl refl refl refl refl refl refl refl refl refl refl refl refl refl refl r.statement r.other
 
-pub no_expression_is_a_formal_parameter : {N : Type 0} (plain : N → Tree) (r : Expression N) → is_formal_parameter (type_of (expression_plain plain r)) ≡ false
-no_expression_is_a_formal_parameter plain r = of_expression plain is_formal_parameter false refl refl refl refl refl refl refl refl refl refl refl refl refl refl refl refl refl refl refl refl refl refl refl refl refl r
+pub no_expression_is_a_formal_parameter : {N : Type 0} (plain : N → Tree) (r : OtherExpression N) → is_formal_parameter (type_of (expression_plain plain r.expression)) ≡ false
+no_expression_is_a_formal_parameter plain r = of_expression plain is_formal_parameter false refl refl refl refl refl refl refl refl refl refl refl refl refl refl refl refl refl refl refl refl refl refl refl refl refl r.expression r.other
 
-pub no_declaration_is_a_formal_parameter_rest : {N : Type 0} (plain : N → Tree) (r : Declaration N) → is_formal_parameter_rest (type_of (declaration_plain plain r)) ≡ false
-no_declaration_is_a_formal_parameter_rest plain r = of_declaration plain is_formal_parameter_rest false refl r
+pub no_declaration_is_a_formal_parameter_rest : {N : Type 0} (plain : N → Tree) (r : OtherDeclaration N) → is_formal_parameter_rest (type_of (declaration_plain plain r.declaration)) ≡ false
+no_declaration_is_a_formal_parameter_rest plain r = of_declaration plain is_formal_parameter_rest false refl r.declaration r.other
 
 pub no_binding_pattern_is_a_formal_parameter_rest : (r : BindingPattern) → is_formal_parameter_rest (type_of (binding_pattern_plain r)) ≡ false
 no_binding_pattern_is_a_formal_parameter_rest r = of_binding_pattern is_formal_parameter_rest false refl r
 
 pub no_statement_is_a_formal_parameter_rest : {N : Type 0} (plain : N → Tree) (r : OtherStatement N) → is_formal_parameter_rest (type_of (statement_plain plain r.statement)) ≡ false
-no_statement_is_a_formal_parameter_rest plain r = of_statement plain is_formal_parameter_rest false refl refl refl refl refl refl refl refl refl refl refl refl refl refl refl refl r.statement r.other
+no_statement_is_a_formal_parameter_rest plain r = of_statement plain is_formal_parameter_rest false refl refl refl refl refl refl refl refl refl refl refl refl refl refl refl refl refl r.statement r.other
 
-pub no_expression_is_a_formal_parameter_rest : {N : Type 0} (plain : N → Tree) (r : Expression N) → is_formal_parameter_rest (type_of (expression_plain plain r)) ≡ false
-no_expression_is_a_formal_parameter_rest plain r = of_expression plain is_formal_parameter_rest false refl refl refl refl refl refl refl refl refl refl refl refl refl refl refl refl refl refl refl refl refl refl refl refl refl r
+pub no_expression_is_a_formal_parameter_rest : {N : Type 0} (plain : N → Tree) (r : OtherExpression N) → is_formal_parameter_rest (type_of (expression_plain plain r.expression)) ≡ false
+no_expression_is_a_formal_parameter_rest plain r = of_expression plain is_formal_parameter_rest false refl refl refl refl refl refl refl refl refl refl refl refl refl refl refl refl refl refl refl refl refl refl refl refl refl r.expression r.other
 
-pub no_declaration_is_a_formal_parameters : {N : Type 0} (plain : N → Tree) (r : Declaration N) → is_formal_parameters (type_of (declaration_plain plain r)) ≡ false
-no_declaration_is_a_formal_parameters plain r = of_declaration plain is_formal_parameters false refl r
+pub no_declaration_is_a_binding_identifier : {N : Type 0} (plain : N → Tree) (r : OtherDeclaration N) → is_binding_identifier (type_of (declaration_plain plain r.declaration)) ≡ false
+no_declaration_is_a_binding_identifier plain r = of_declaration plain is_binding_identifier false refl r.declaration r.other
+
+pub each_binding_pattern_is_a_binding_identifier : (r : BindingPattern) → is_binding_identifier (type_of (binding_pattern_plain r)) ≡ true
+each_binding_pattern_is_a_binding_identifier r = of_binding_pattern is_binding_identifier true refl r
+
+pub no_statement_is_a_binding_identifier : {N : Type 0} (plain : N → Tree) (r : OtherStatement N) → is_binding_identifier (type_of (statement_plain plain r.statement)) ≡ false
+no_statement_is_a_binding_identifier plain r = of_statement plain is_binding_identifier false refl refl refl refl refl refl refl refl refl refl refl refl refl refl refl refl refl r.statement r.other
+
+pub no_expression_is_a_binding_identifier : {N : Type 0} (plain : N → Tree) (r : OtherExpression N) → is_binding_identifier (type_of (expression_plain plain r.expression)) ≡ false
+no_expression_is_a_binding_identifier plain r = of_expression plain is_binding_identifier false refl refl refl refl refl refl refl refl refl refl refl refl refl refl refl refl refl refl refl refl refl refl refl refl refl r.expression r.other
+
+pub no_declaration_is_a_formal_parameters : {N : Type 0} (plain : N → Tree) (r : OtherDeclaration N) → is_formal_parameters (type_of (declaration_plain plain r.declaration)) ≡ false
+no_declaration_is_a_formal_parameters plain r = of_declaration plain is_formal_parameters false refl r.declaration r.other
 
 pub no_binding_pattern_is_a_formal_parameters : (r : BindingPattern) → is_formal_parameters (type_of (binding_pattern_plain r)) ≡ false
 no_binding_pattern_is_a_formal_parameters r = of_binding_pattern is_formal_parameters false refl r
 
 pub no_statement_is_a_formal_parameters : {N : Type 0} (plain : N → Tree) (r : OtherStatement N) → is_formal_parameters (type_of (statement_plain plain r.statement)) ≡ false
-no_statement_is_a_formal_parameters plain r = of_statement plain is_formal_parameters false refl refl refl refl refl refl refl refl refl refl refl refl refl refl refl refl r.statement r.other
+no_statement_is_a_formal_parameters plain r = of_statement plain is_formal_parameters false refl refl refl refl refl refl refl refl refl refl refl refl refl refl refl refl refl r.statement r.other
 
-pub no_expression_is_a_formal_parameters : {N : Type 0} (plain : N → Tree) (r : Expression N) → is_formal_parameters (type_of (expression_plain plain r)) ≡ false
-no_expression_is_a_formal_parameters plain r = of_expression plain is_formal_parameters false refl refl refl refl refl refl refl refl refl refl refl refl refl refl refl refl refl refl refl refl refl refl refl refl refl r
+pub no_expression_is_a_formal_parameters : {N : Type 0} (plain : N → Tree) (r : OtherExpression N) → is_formal_parameters (type_of (expression_plain plain r.expression)) ≡ false
+no_expression_is_a_formal_parameters plain r = of_expression plain is_formal_parameters false refl refl refl refl refl refl refl refl refl refl refl refl refl refl refl refl refl refl refl refl refl refl refl refl refl r.expression r.other
 
-pub each_declaration_is_a_for_statement_init : {N : Type 0} (plain : N → Tree) (r : Declaration N) → is_for_statement_init (type_of (declaration_plain plain r)) ≡ true
-each_declaration_is_a_for_statement_init plain r = of_declaration plain is_for_statement_init true refl r
+pub no_declaration_is_a_function_body : {N : Type 0} (plain : N → Tree) (r : OtherDeclaration N) → is_function_body (type_of (declaration_plain plain r.declaration)) ≡ false
+no_declaration_is_a_function_body plain r = of_declaration plain is_function_body false refl r.declaration r.other
+
+pub no_binding_pattern_is_a_function_body : (r : BindingPattern) → is_function_body (type_of (binding_pattern_plain r)) ≡ false
+no_binding_pattern_is_a_function_body r = of_binding_pattern is_function_body false refl r
+
+pub no_statement_is_a_function_body : {N : Type 0} (plain : N → Tree) (r : OtherStatement N) → is_function_body (type_of (statement_plain plain r.statement)) ≡ false
+no_statement_is_a_function_body plain r = of_statement plain is_function_body false refl refl refl refl refl refl refl refl refl refl refl refl refl refl refl refl refl r.statement r.other
+
+pub no_expression_is_a_function_body : {N : Type 0} (plain : N → Tree) (r : OtherExpression N) → is_function_body (type_of (expression_plain plain r.expression)) ≡ false
+no_expression_is_a_function_body plain r = of_expression plain is_function_body false refl refl refl refl refl refl refl refl refl refl refl refl refl refl refl refl refl refl refl refl refl refl refl refl refl r.expression r.other
+
+pub no_declaration_is_an_arrow_function_body : {N : Type 0} (plain : N → Tree) (r : OtherDeclaration N) → is_arrow_function_body (type_of (declaration_plain plain r.declaration)) ≡ false
+no_declaration_is_an_arrow_function_body plain r = of_declaration plain is_arrow_function_body false refl r.declaration r.other
+
+pub no_binding_pattern_is_an_arrow_function_body : (r : BindingPattern) → is_arrow_function_body (type_of (binding_pattern_plain r)) ≡ false
+no_binding_pattern_is_an_arrow_function_body r = of_binding_pattern is_arrow_function_body false refl r
+
+pub no_statement_is_an_arrow_function_body : {N : Type 0} (plain : N → Tree) (r : OtherStatement N) → is_arrow_function_body (type_of (statement_plain plain r.statement)) ≡ false
+no_statement_is_an_arrow_function_body plain r = of_statement plain is_arrow_function_body false refl refl refl refl refl refl refl refl refl refl refl refl refl refl refl refl refl r.statement r.other
+
+pub each_expression_is_an_arrow_function_body : {N : Type 0} (plain : N → Tree) (r : OtherExpression N) → is_arrow_function_body (type_of (expression_plain plain r.expression)) ≡ true
+each_expression_is_an_arrow_function_body plain r = of_expression plain is_arrow_function_body true refl refl refl refl refl refl refl refl refl refl refl refl refl refl refl refl refl refl refl refl refl refl refl refl refl r.expression r.other
+
+pub each_declaration_is_a_for_statement_init : {N : Type 0} (plain : N → Tree) (r : OtherDeclaration N) → is_for_statement_init (type_of (declaration_plain plain r.declaration)) ≡ true
+each_declaration_is_a_for_statement_init plain r = of_declaration plain is_for_statement_init true refl r.declaration r.other
 
 pub no_binding_pattern_is_a_for_statement_init : (r : BindingPattern) → is_for_statement_init (type_of (binding_pattern_plain r)) ≡ false
 no_binding_pattern_is_a_for_statement_init r = of_binding_pattern is_for_statement_init false refl r
 
 pub no_statement_is_a_for_statement_init : {N : Type 0} (plain : N → Tree) (r : OtherStatement N) → is_for_statement_init (type_of (statement_plain plain r.statement)) ≡ false
-no_statement_is_a_for_statement_init plain r = of_statement plain is_for_statement_init false refl refl refl refl refl refl refl refl refl refl refl refl refl refl refl refl r.statement r.other
+no_statement_is_a_for_statement_init plain r = of_statement plain is_for_statement_init false refl refl refl refl refl refl refl refl refl refl refl refl refl refl refl refl refl r.statement r.other
 
-pub each_expression_is_a_for_statement_init : {N : Type 0} (plain : N → Tree) (r : Expression N) → is_for_statement_init (type_of (expression_plain plain r)) ≡ true
-each_expression_is_a_for_statement_init plain r = of_expression plain is_for_statement_init true refl refl refl refl refl refl refl refl refl refl refl refl refl refl refl refl refl refl refl refl refl refl refl refl refl r
+pub each_expression_is_a_for_statement_init : {N : Type 0} (plain : N → Tree) (r : OtherExpression N) → is_for_statement_init (type_of (expression_plain plain r.expression)) ≡ true
+each_expression_is_a_for_statement_init plain r = of_expression plain is_for_statement_init true refl refl refl refl refl refl refl refl refl refl refl refl refl refl refl refl refl refl refl refl refl refl refl refl refl r.expression r.other
 
-pub each_declaration_is_a_for_statement_left : {N : Type 0} (plain : N → Tree) (r : Declaration N) → is_for_statement_left (type_of (declaration_plain plain r)) ≡ true
-each_declaration_is_a_for_statement_left plain r = of_declaration plain is_for_statement_left true refl r
+pub each_declaration_is_a_for_statement_left : {N : Type 0} (plain : N → Tree) (r : OtherDeclaration N) → is_for_statement_left (type_of (declaration_plain plain r.declaration)) ≡ true
+each_declaration_is_a_for_statement_left plain r = of_declaration plain is_for_statement_left true refl r.declaration r.other
 
 pub no_binding_pattern_is_a_for_statement_left : (r : BindingPattern) → is_for_statement_left (type_of (binding_pattern_plain r)) ≡ false
 no_binding_pattern_is_a_for_statement_left r = of_binding_pattern is_for_statement_left false refl r
 
 pub no_statement_is_a_for_statement_left : {N : Type 0} (plain : N → Tree) (r : OtherStatement N) → is_for_statement_left (type_of (statement_plain plain r.statement)) ≡ false
-no_statement_is_a_for_statement_left plain r = of_statement plain is_for_statement_left false refl refl refl refl refl refl refl refl refl refl refl refl refl refl refl refl r.statement r.other
+no_statement_is_a_for_statement_left plain r = of_statement plain is_for_statement_left false refl refl refl refl refl refl refl refl refl refl refl refl refl refl refl refl refl r.statement r.other
 
-pub no_declaration_is_a_label_identifier : {N : Type 0} (plain : N → Tree) (r : Declaration N) → is_label_identifier (type_of (declaration_plain plain r)) ≡ false
-no_declaration_is_a_label_identifier plain r = of_declaration plain is_label_identifier false refl r
+pub no_declaration_is_a_label_identifier : {N : Type 0} (plain : N → Tree) (r : OtherDeclaration N) → is_label_identifier (type_of (declaration_plain plain r.declaration)) ≡ false
+no_declaration_is_a_label_identifier plain r = of_declaration plain is_label_identifier false refl r.declaration r.other
 
 pub no_binding_pattern_is_a_label_identifier : (r : BindingPattern) → is_label_identifier (type_of (binding_pattern_plain r)) ≡ false
 no_binding_pattern_is_a_label_identifier r = of_binding_pattern is_label_identifier false refl r
 
 pub no_statement_is_a_label_identifier : {N : Type 0} (plain : N → Tree) (r : OtherStatement N) → is_label_identifier (type_of (statement_plain plain r.statement)) ≡ false
-no_statement_is_a_label_identifier plain r = of_statement plain is_label_identifier false refl refl refl refl refl refl refl refl refl refl refl refl refl refl refl refl r.statement r.other
+no_statement_is_a_label_identifier plain r = of_statement plain is_label_identifier false refl refl refl refl refl refl refl refl refl refl refl refl refl refl refl refl refl r.statement r.other
 
-pub no_expression_is_a_label_identifier : {N : Type 0} (plain : N → Tree) (r : Expression N) → is_label_identifier (type_of (expression_plain plain r)) ≡ false
-no_expression_is_a_label_identifier plain r = of_expression plain is_label_identifier false refl refl refl refl refl refl refl refl refl refl refl refl refl refl refl refl refl refl refl refl refl refl refl refl refl r
+pub no_expression_is_a_label_identifier : {N : Type 0} (plain : N → Tree) (r : OtherExpression N) → is_label_identifier (type_of (expression_plain plain r.expression)) ≡ false
+no_expression_is_a_label_identifier plain r = of_expression plain is_label_identifier false refl refl refl refl refl refl refl refl refl refl refl refl refl refl refl refl refl refl refl refl refl refl refl refl refl r.expression r.other
 
-pub no_declaration_is_a_switch_case : {N : Type 0} (plain : N → Tree) (r : Declaration N) → is_switch_case (type_of (declaration_plain plain r)) ≡ false
-no_declaration_is_a_switch_case plain r = of_declaration plain is_switch_case false refl r
+pub no_declaration_is_a_switch_case : {N : Type 0} (plain : N → Tree) (r : OtherDeclaration N) → is_switch_case (type_of (declaration_plain plain r.declaration)) ≡ false
+no_declaration_is_a_switch_case plain r = of_declaration plain is_switch_case false refl r.declaration r.other
 
 pub no_binding_pattern_is_a_switch_case : (r : BindingPattern) → is_switch_case (type_of (binding_pattern_plain r)) ≡ false
 no_binding_pattern_is_a_switch_case r = of_binding_pattern is_switch_case false refl r
 
 pub no_statement_is_a_switch_case : {N : Type 0} (plain : N → Tree) (r : OtherStatement N) → is_switch_case (type_of (statement_plain plain r.statement)) ≡ false
-no_statement_is_a_switch_case plain r = of_statement plain is_switch_case false refl refl refl refl refl refl refl refl refl refl refl refl refl refl refl refl r.statement r.other
+no_statement_is_a_switch_case plain r = of_statement plain is_switch_case false refl refl refl refl refl refl refl refl refl refl refl refl refl refl refl refl refl r.statement r.other
 
-pub no_expression_is_a_switch_case : {N : Type 0} (plain : N → Tree) (r : Expression N) → is_switch_case (type_of (expression_plain plain r)) ≡ false
-no_expression_is_a_switch_case plain r = of_expression plain is_switch_case false refl refl refl refl refl refl refl refl refl refl refl refl refl refl refl refl refl refl refl refl refl refl refl refl refl r
+pub no_expression_is_a_switch_case : {N : Type 0} (plain : N → Tree) (r : OtherExpression N) → is_switch_case (type_of (expression_plain plain r.expression)) ≡ false
+no_expression_is_a_switch_case plain r = of_expression plain is_switch_case false refl refl refl refl refl refl refl refl refl refl refl refl refl refl refl refl refl refl refl refl refl refl refl refl refl r.expression r.other
 
-pub no_declaration_is_a_block_statement : {N : Type 0} (plain : N → Tree) (r : Declaration N) → is_block_statement (type_of (declaration_plain plain r)) ≡ false
-no_declaration_is_a_block_statement plain r = of_declaration plain is_block_statement false refl r
+pub no_declaration_is_a_block_statement : {N : Type 0} (plain : N → Tree) (r : OtherDeclaration N) → is_block_statement (type_of (declaration_plain plain r.declaration)) ≡ false
+no_declaration_is_a_block_statement plain r = of_declaration plain is_block_statement false refl r.declaration r.other
 
 pub no_binding_pattern_is_a_block_statement : (r : BindingPattern) → is_block_statement (type_of (binding_pattern_plain r)) ≡ false
 no_binding_pattern_is_a_block_statement r = of_binding_pattern is_block_statement false refl r
 
-pub no_expression_is_a_block_statement : {N : Type 0} (plain : N → Tree) (r : Expression N) → is_block_statement (type_of (expression_plain plain r)) ≡ false
-no_expression_is_a_block_statement plain r = of_expression plain is_block_statement false refl refl refl refl refl refl refl refl refl refl refl refl refl refl refl refl refl refl refl refl refl refl refl refl refl r
+pub no_expression_is_a_block_statement : {N : Type 0} (plain : N → Tree) (r : OtherExpression N) → is_block_statement (type_of (expression_plain plain r.expression)) ≡ false
+no_expression_is_a_block_statement plain r = of_expression plain is_block_statement false refl refl refl refl refl refl refl refl refl refl refl refl refl refl refl refl refl refl refl refl refl refl refl refl refl r.expression r.other
 
-pub no_declaration_is_a_catch_clause : {N : Type 0} (plain : N → Tree) (r : Declaration N) → is_catch_clause (type_of (declaration_plain plain r)) ≡ false
-no_declaration_is_a_catch_clause plain r = of_declaration plain is_catch_clause false refl r
+pub no_declaration_is_a_catch_clause : {N : Type 0} (plain : N → Tree) (r : OtherDeclaration N) → is_catch_clause (type_of (declaration_plain plain r.declaration)) ≡ false
+no_declaration_is_a_catch_clause plain r = of_declaration plain is_catch_clause false refl r.declaration r.other
 
 pub no_binding_pattern_is_a_catch_clause : (r : BindingPattern) → is_catch_clause (type_of (binding_pattern_plain r)) ≡ false
 no_binding_pattern_is_a_catch_clause r = of_binding_pattern is_catch_clause false refl r
 
 pub no_statement_is_a_catch_clause : {N : Type 0} (plain : N → Tree) (r : OtherStatement N) → is_catch_clause (type_of (statement_plain plain r.statement)) ≡ false
-no_statement_is_a_catch_clause plain r = of_statement plain is_catch_clause false refl refl refl refl refl refl refl refl refl refl refl refl refl refl refl refl r.statement r.other
+no_statement_is_a_catch_clause plain r = of_statement plain is_catch_clause false refl refl refl refl refl refl refl refl refl refl refl refl refl refl refl refl refl r.statement r.other
 
-pub no_expression_is_a_catch_clause : {N : Type 0} (plain : N → Tree) (r : Expression N) → is_catch_clause (type_of (expression_plain plain r)) ≡ false
-no_expression_is_a_catch_clause plain r = of_expression plain is_catch_clause false refl refl refl refl refl refl refl refl refl refl refl refl refl refl refl refl refl refl refl refl refl refl refl refl refl r
+pub no_expression_is_a_catch_clause : {N : Type 0} (plain : N → Tree) (r : OtherExpression N) → is_catch_clause (type_of (expression_plain plain r.expression)) ≡ false
+no_expression_is_a_catch_clause plain r = of_expression plain is_catch_clause false refl refl refl refl refl refl refl refl refl refl refl refl refl refl refl refl refl refl refl refl refl refl refl refl refl r.expression r.other
 
 pub program_type : (t : NodeType) → is_program t ≡ true → t ≡ types.Program
 program_type types.Program h = refl
@@ -388,6 +429,8 @@ program_type types.AssignmentExpression h = cc
 program_type types.FormalParameter h = cc
 program_type types.FormalParameterRest h = cc
 program_type types.FormalParameters h = cc
+program_type types.Function h = cc
+program_type types.FunctionBody h = cc
 program_type types.ArrowFunctionExpression h = cc
 program_type types.ForStatement h = cc
 program_type types.ForInStatement h = cc
@@ -398,6 +441,7 @@ program_type types.LabelIdentifier h = cc
 program_type types.LabeledStatement h = cc
 program_type types.ContinueStatement h = cc
 program_type types.BreakStatement h = cc
+program_type types.ReturnStatement h = cc
 program_type types.ThrowStatement h = cc
 program_type types.DebuggerStatement h = cc
 program_type types.SwitchStatement h = cc
@@ -441,7 +485,13 @@ pub ruleset takes_formal_parameters = (no_declaration_is_a_formal_parameter, no_
 
 pub ruleset takes_formal_parameter_rests = (no_declaration_is_a_formal_parameter_rest, no_binding_pattern_is_a_formal_parameter_rest, no_statement_is_a_formal_parameter_rest, no_expression_is_a_formal_parameter_rest)
 
+pub ruleset takes_binding_identifiers = (no_declaration_is_a_binding_identifier, each_binding_pattern_is_a_binding_identifier, no_statement_is_a_binding_identifier, no_expression_is_a_binding_identifier)
+
 pub ruleset takes_formal_parameterss = (no_declaration_is_a_formal_parameters, no_binding_pattern_is_a_formal_parameters, no_statement_is_a_formal_parameters, no_expression_is_a_formal_parameters)
+
+pub ruleset takes_function_bodys = (no_declaration_is_a_function_body, no_binding_pattern_is_a_function_body, no_statement_is_a_function_body, no_expression_is_a_function_body)
+
+pub ruleset takes_arrow_function_bodys = (no_declaration_is_an_arrow_function_body, no_binding_pattern_is_an_arrow_function_body, no_statement_is_an_arrow_function_body, each_expression_is_an_arrow_function_body)
 
 pub ruleset takes_for_statement_inits = (each_declaration_is_a_for_statement_init, no_binding_pattern_is_a_for_statement_init, no_statement_is_a_for_statement_init, each_expression_is_a_for_statement_init)
 

@@ -2,7 +2,7 @@
 -- The plain data of what the reader keeps.
 use Rattle.std.specs.Prelude.{List}
 use Rattle.jsgen_tree.specs.Tree.{Tree}
-use Rattle.jsgen_tree.specs.Rows.{program_row, comment_row, directive_row, variable_declarator_row, identifier_name_row, spread_element_row, object_property_row, formal_parameter_row, formal_parameter_rest_row, formal_parameters_row, label_identifier_row, switch_case_row, catch_clause_row, expression_plain, declaration_plain, statement_plain, binding_pattern_plain}
+use Rattle.jsgen_tree.specs.Rows.{program_row, comment_row, directive_row, variable_declarator_row, identifier_name_row, spread_element_row, object_property_row, formal_parameter_row, formal_parameter_rest_row, formal_parameters_row, function_row, function_body_row, label_identifier_row, switch_case_row, catch_clause_row, expression_plain, declaration_plain, statement_plain, binding_pattern_plain}
 use Rattle.jsgen_pool.specs.Pool.{Entry}
 use Rattle.jsgen_pool.specs.declared.Kept.{Kept}
 use Rattle.jsgen_fields.specs.declared.kept.Row.{Row}
@@ -13,17 +13,19 @@ abbrev pub row_plain : {N : Type 0} → (N → Tree) → Row N → Tree
 row_plain plain (rows.Program b) = program_row plain b.value
 row_plain plain (rows.Comment b) = comment_row b.value
 row_plain plain (rows.Directive b) = directive_row b.value
-row_plain plain (rows.Declaration b) = declaration_plain plain b.value
+row_plain plain (rows.Declaration b) = declaration_plain plain b.value.declaration
 row_plain plain (rows.VariableDeclarator b) = variable_declarator_row plain b.value
 row_plain plain (rows.BindingPattern b) = binding_pattern_plain b.value
 row_plain plain (rows.Statement b) = statement_plain plain b.value.statement
-row_plain plain (rows.Expression b) = expression_plain plain b.value
+row_plain plain (rows.Expression b) = expression_plain plain b.value.expression
 row_plain plain (rows.IdentifierName b) = identifier_name_row b.value
 row_plain plain (rows.SpreadElement b) = spread_element_row plain b.value
 row_plain plain (rows.ObjectProperty b) = object_property_row plain b.value
 row_plain plain (rows.FormalParameter b) = formal_parameter_row plain b.value
 row_plain plain (rows.FormalParameterRest b) = formal_parameter_rest_row plain b.value
 row_plain plain (rows.FormalParameters b) = formal_parameters_row plain b.value
+row_plain plain (rows.Function b) = function_row plain b.value
+row_plain plain (rows.FunctionBody b) = function_body_row plain b.value
 row_plain plain (rows.LabelIdentifier b) = label_identifier_row b.value
 row_plain plain (rows.SwitchCase b) = switch_case_row plain b.value
 row_plain plain (rows.CatchClause b) = catch_clause_row plain b.value

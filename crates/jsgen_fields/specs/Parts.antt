@@ -60,6 +60,8 @@ abbrev pub is_in_functions : NodeType → Bool
 is_in_functions types.FormalParameter = true
 is_in_functions types.FormalParameterRest = true
 is_in_functions types.FormalParameters = true
+is_in_functions types.Function = true
+is_in_functions types.FunctionBody = true
 is_in_functions types.ArrowFunctionExpression = true
 is_in_functions other = false
 
@@ -73,6 +75,7 @@ is_in_loops types.LabelIdentifier = true
 is_in_loops types.LabeledStatement = true
 is_in_loops types.ContinueStatement = true
 is_in_loops types.BreakStatement = true
+is_in_loops types.ReturnStatement = true
 is_in_loops types.ThrowStatement = true
 is_in_loops types.DebuggerStatement = true
 is_in_loops other = false

@@ -3,19 +3,27 @@
 ghost use Rattle.std.specs.Prelude.{◌≡◌, IfOk, Some, None, option_map, if◌then◌else◌};
 ghost use Rattle.jsgen_tree.specs.Tree.{type_of};
 ghost use Rattle.jsgen_tree.specs.Sets.{in_set};
-ghost use Rattle.jsgen_tree.specs.Rows.{in_expression, in_argument, in_array_expression_element, in_chain_element, in_simple_assignment_target, in_assignment_target, in_arrow_function_body, in_for_statement_init, in_for_statement_left, in_object_property_kind, in_property_key, in_declaration, in_statement, in_binding_pattern, comment_row, directive_row, variable_declarator_row, block_statement_row, identifier_name_row, formal_parameter_row, formal_parameter_rest_row, formal_parameters_row, label_identifier_row, switch_case_row, catch_clause_row, expression_plain, declaration_plain, statement_plain};
+ghost use Rattle.jsgen_tree.specs.Rows.{in_expression, in_argument, in_array_expression_element, in_chain_element, in_simple_assignment_target, in_assignment_target, in_arrow_function_body, in_for_statement_init, in_for_statement_left, in_object_property_kind, in_property_key, in_statement, in_binding_pattern, comment_row, directive_row, variable_declarator_row, binding_identifier_row, block_statement_row, identifier_name_row, formal_parameter_row, formal_parameter_rest_row, formal_parameters_row, function_body_row, label_identifier_row, switch_case_row, catch_clause_row};
 ghost use Rattle.jsgen_fields.specs.Kept.{row_plain};
 ghost use Rattle.jsgen_tree.specs.declared.types.NodeSet.TheVariants as sets;
 
 use crate::children::Child;
 use crate::kept::{ReadNode, Row};
-use crate::others::OtherStatement;
+use crate::members::{
+    argument_of_expression, array_expression_element_of_expression,
+    arrow_function_body_of_expression, assignment_target_of_expression,
+    binding_identifier_of_binding_pattern_in_box, block_statement_of_statement_in_box,
+    chain_element_of_expression, for_statement_init_of_declaration,
+    for_statement_init_of_expression, for_statement_left_of_declaration,
+    for_statement_left_of_expression, property_key_of_expression,
+    simple_assignment_target_of_expression, statement_of_declaration,
+};
 use jsgen_tree::{
-    Argument, ArrayExpressionElement, ArrowFunctionBody, AssignmentTarget, BindingPatternNode,
-    BlockStatement, CatchClause, ChainElement, Comment, Declaration, DeclarationNode, Directive,
+    Argument, ArrayExpressionElement, ArrowFunctionBody, AssignmentTarget, BindingIdentifier,
+    BindingPatternNode, BlockStatement, CatchClause, ChainElement, Comment, Declaration, Directive,
     Expression, ExpressionNode, ForStatementInit, ForStatementLeft, FormalParameter,
-    FormalParameterRest, FormalParameters, IdentifierName, LabelIdentifier, NodeSet,
-    ObjectPropertyKind, PropertyKey, SimpleAssignmentTarget, Statement, StatementNode, SwitchCase,
+    FormalParameterRest, FormalParameters, FunctionBody, IdentifierName, LabelIdentifier, NodeSet,
+    ObjectPropertyKind, PropertyKey, SimpleAssignmentTarget, StatementNode, SwitchCase,
     VariableDeclarator,
 };
 use std::alloc::{AllocError, Global};
@@ -81,9 +89,13 @@ impl<N: ReadNode + Drop> Child<N> for StatementNode<N> {
         match row {
             Row::Declaration(row) => statement_of_declaration(
                 alloc,
-                N::declaration_node(Box::into_inner(row)),
+                N::declaration_node(Box::into_inner(row).declaration),
             ),
             Row::Statement(row) => Ok(Some(N::statement_node(Box::into_inner(row).statement))),
+            Row::Function(row) => statement_of_declaration(
+                alloc,
+                N::declaration_node(Declaration::Function(row)),
+            ),
             _ => Ok(None),
         }
     }
@@ -149,7 +161,8 @@ impl<N: ReadNode + Drop> Child<N> for ExpressionNode<N> {
     {
         let _ = alloc;
         match row {
-            Row::Expression(row) => Ok(Some(N::expression_node(Box::into_inner(row)))),
+            Row::Expression(row) => Ok(Some(N::expression_node(Box::into_inner(row).expression))),
+            Row::Function(row) => Ok(Some(N::expression_node(Expression::Function(row)))),
             _ => Ok(None),
         }
     }
@@ -194,9 +207,13 @@ impl<N: ReadNode + Drop> Child<N> for Argument<N> {
         match row {
             Row::Expression(row) => argument_of_expression(
                 alloc,
-                N::expression_node(Box::into_inner(row)),
+                N::expression_node(Box::into_inner(row).expression),
             ),
             Row::SpreadElement(row) => Ok(Some(Argument::SpreadElement(row))),
+            Row::Function(row) => argument_of_expression(
+                alloc,
+                N::expression_node(Expression::Function(row)),
+            ),
             _ => Ok(None),
         }
     }
@@ -241,9 +258,13 @@ impl<N: ReadNode + Drop> Child<N> for ArrayExpressionElement<N> {
         match row {
             Row::Expression(row) => array_expression_element_of_expression(
                 alloc,
-                N::expression_node(Box::into_inner(row)),
+                N::expression_node(Box::into_inner(row).expression),
             ),
             Row::SpreadElement(row) => Ok(Some(ArrayExpressionElement::SpreadElement(row))),
+            Row::Function(row) => array_expression_element_of_expression(
+                alloc,
+                N::expression_node(Expression::Function(row)),
+            ),
             _ => Ok(None),
         }
     }
@@ -266,9 +287,13 @@ impl<N: ReadNode + Drop> Child<N> for PropertyKey<N> {
         match row {
             Row::Expression(row) => property_key_of_expression(
                 alloc,
-                N::expression_node(Box::into_inner(row)),
+                N::expression_node(Box::into_inner(row).expression),
             ),
             Row::IdentifierName(row) => Ok(Some(PropertyKey::IdentifierName(row))),
+            Row::Function(row) => property_key_of_expression(
+                alloc,
+                N::expression_node(Expression::Function(row)),
+            ),
             _ => Ok(None),
         }
     }
@@ -390,6 +415,30 @@ impl<N: ReadNode + Drop> Child<N> for Box<FormalParameterRest<N>> {
     }
 }
 
+impl<N: ReadNode + Drop> Child<N> for Box<BindingIdentifier> {
+    ghost plain = { λ n. binding_identifier_row n.value };
+
+    ghost of_set = { sets.BindingIdentifier };
+
+    fn set() -> NodeSet {
+        NodeSet::BindingIdentifier
+    }
+
+    #[tactic(auto, using(crate::proofs::Sets::takes_binding_identifiers))]
+    fn from_row(alloc: Global, row: Row<N>) -> Result<Option<Box<BindingIdentifier>>, AllocError>
+        ensures { IfOk result (λ child. option_map (λ b. binding_identifier_row b.value) child
+            ≡ (if in_set sets.BindingIdentifier (type_of (row_plain N.plain row)) then Some (row_plain N.plain row) else None)) }
+    {
+        let _ = alloc;
+        match row {
+            Row::BindingPattern(row) => Ok(binding_identifier_of_binding_pattern_in_box(
+                Box::into_inner(row),
+            )),
+            _ => Ok(None),
+        }
+    }
+}
+
 impl<N: ReadNode + Drop> Child<N> for Box<FormalParameters<N>> {
     ghost plain = { λ n. formal_parameters_row N.plain n.value };
 
@@ -412,6 +461,28 @@ impl<N: ReadNode + Drop> Child<N> for Box<FormalParameters<N>> {
     }
 }
 
+impl<N: ReadNode + Drop> Child<N> for Box<FunctionBody<N>> {
+    ghost plain = { λ n. function_body_row N.plain n.value };
+
+    ghost of_set = { sets.FunctionBody };
+
+    fn set() -> NodeSet {
+        NodeSet::FunctionBody
+    }
+
+    #[tactic(auto, using(crate::proofs::Sets::takes_function_bodys))]
+    fn from_row(alloc: Global, row: Row<N>) -> Result<Option<Box<FunctionBody<N>>>, AllocError>
+        ensures { IfOk result (λ child. option_map (λ b. function_body_row N.plain b.value) child
+            ≡ (if in_set sets.FunctionBody (type_of (row_plain N.plain row)) then Some (row_plain N.plain row) else None)) }
+    {
+        let _ = alloc;
+        match row {
+            Row::FunctionBody(row) => Ok(Some(row)),
+            _ => Ok(None),
+        }
+    }
+}
+
 impl<N: ReadNode + Drop> Child<N> for ArrowFunctionBody<N> {
     ghost plain = { λ n. in_arrow_function_body N.plain n };
 
@@ -421,7 +492,7 @@ impl<N: ReadNode + Drop> Child<N> for ArrowFunctionBody<N> {
         NodeSet::ArrowFunctionBody
     }
 
-    #[tactic(auto, using(crate::proofs::Sets::takes_expressions))]
+    #[tactic(auto, using(crate::proofs::Sets::takes_arrow_function_bodys))]
     fn from_row(alloc: Global, row: Row<N>) -> Result<Option<ArrowFunctionBody<N>>, AllocError>
         ensures { IfOk result (λ child. option_map (in_arrow_function_body N.plain) child
             ≡ (if in_set sets.ArrowFunctionBody (type_of (row_plain N.plain row)) then Some (row_plain N.plain row) else None)) }
@@ -429,8 +500,13 @@ impl<N: ReadNode + Drop> Child<N> for ArrowFunctionBody<N> {
         match row {
             Row::Expression(row) => arrow_function_body_of_expression(
                 alloc,
-                N::expression_node(Box::into_inner(row)),
+                N::expression_node(Box::into_inner(row).expression),
             ),
+            Row::Function(row) => arrow_function_body_of_expression(
+                alloc,
+                N::expression_node(Expression::Function(row)),
+            ),
+            Row::FunctionBody(row) => Ok(Some(ArrowFunctionBody::FunctionBody(row))),
             _ => Ok(None),
         }
     }
@@ -454,7 +530,11 @@ impl<N: ReadNode + Drop> Child<N> for ForStatementInit<N> {
             Row::Declaration(row) => Ok(for_statement_init_of_declaration(Box::into_inner(row))),
             Row::Expression(row) => for_statement_init_of_expression(
                 alloc,
-                N::expression_node(Box::into_inner(row)),
+                N::expression_node(Box::into_inner(row).expression),
+            ),
+            Row::Function(row) => for_statement_init_of_expression(
+                alloc,
+                N::expression_node(Expression::Function(row)),
             ),
             _ => Ok(None),
         }
@@ -569,174 +649,5 @@ impl<N: ReadNode + Drop> Child<N> for Box<CatchClause<N>> {
             Row::CatchClause(row) => Ok(Some(row)),
             _ => Ok(None),
         }
-    }
-}
-
-// ---- a member of a set within the set, which stands in a box of its own
-
-fn statement_of_declaration<N: ReadNode + Drop>(
-    alloc: Global,
-    declaration: DeclarationNode<N>,
-) -> Result<Option<StatementNode<N>>, AllocError>
-    ensures { IfOk result (λ child. option_map (in_statement N.plain) child ≡ Some (in_declaration N.plain declaration)) }
-{
-    let declaration = Box::new(alloc, declaration)?;
-    Ok(Some(N::statement_node(Statement::Declaration(declaration))))
-}
-
-fn argument_of_expression<N: ReadNode + Drop>(
-    alloc: Global,
-    expression: ExpressionNode<N>,
-) -> Result<Option<Argument<N>>, AllocError>
-    ensures { IfOk result (λ child. option_map (in_argument N.plain) child ≡ Some (in_expression N.plain expression)) }
-{
-    let expression = Box::new(alloc, expression)?;
-    Ok(Some(Argument::Expression(expression)))
-}
-
-fn array_expression_element_of_expression<N: ReadNode + Drop>(
-    alloc: Global,
-    expression: ExpressionNode<N>,
-) -> Result<Option<ArrayExpressionElement<N>>, AllocError>
-    ensures { IfOk result (λ child. option_map (in_array_expression_element N.plain) child ≡ Some (in_expression N.plain expression)) }
-{
-    let expression = Box::new(alloc, expression)?;
-    Ok(Some(ArrayExpressionElement::Expression(expression)))
-}
-
-fn property_key_of_expression<N: ReadNode + Drop>(
-    alloc: Global,
-    expression: ExpressionNode<N>,
-) -> Result<Option<PropertyKey<N>>, AllocError>
-    ensures { IfOk result (λ child. option_map (in_property_key N.plain) child ≡ Some (in_expression N.plain expression)) }
-{
-    let expression = Box::new(alloc, expression)?;
-    Ok(Some(PropertyKey::Expression(expression)))
-}
-
-fn arrow_function_body_of_expression<N: ReadNode + Drop>(
-    alloc: Global,
-    expression: ExpressionNode<N>,
-) -> Result<Option<ArrowFunctionBody<N>>, AllocError>
-    ensures { IfOk result (λ child. option_map (in_arrow_function_body N.plain) child ≡ Some (in_expression N.plain expression)) }
-{
-    let expression = Box::new(alloc, expression)?;
-    Ok(Some(ArrowFunctionBody::Expression(expression)))
-}
-
-fn for_statement_init_of_expression<N: ReadNode + Drop>(
-    alloc: Global,
-    expression: ExpressionNode<N>,
-) -> Result<Option<ForStatementInit<N>>, AllocError>
-    ensures { IfOk result (λ child. option_map (in_for_statement_init N.plain) child ≡ Some (in_expression N.plain expression)) }
-{
-    let expression = Box::new(alloc, expression)?;
-    Ok(Some(ForStatementInit::Expression(expression)))
-}
-
-// ---- a place that takes some types of a set
-
-fn chain_element_of_expression<N: ReadNode + Drop>(row: Expression<N>) -> Option<ChainElement<N>>
-    ensures { option_map (in_chain_element N.plain) result
-        ≡ (if in_set sets.ChainElement (type_of (expression_plain N.plain row)) then Some (expression_plain N.plain row) else None) }
-{
-    match row {
-        Expression::StaticMemberExpression(row) => Some(ChainElement::StaticMemberExpression(row)),
-        Expression::ComputedMemberExpression(row) => Some(ChainElement::ComputedMemberExpression(
-            row,
-        )),
-        Expression::CallExpression(row) => Some(ChainElement::CallExpression(row)),
-        _ => None,
-    }
-}
-
-fn simple_assignment_target_of_expression<N: ReadNode + Drop>(
-    row: Expression<N>,
-) -> Option<SimpleAssignmentTarget<N>>
-    ensures { option_map (in_simple_assignment_target N.plain) result
-        ≡ (if in_set sets.SimpleAssignmentTarget (type_of (expression_plain N.plain row)) then Some (expression_plain N.plain row) else None) }
-{
-    match row {
-        Expression::IdentifierReference(row) => Some(SimpleAssignmentTarget::IdentifierReference(
-            row,
-        )),
-        Expression::StaticMemberExpression(row) => Some(
-            SimpleAssignmentTarget::StaticMemberExpression(row),
-        ),
-        Expression::ComputedMemberExpression(row) => Some(
-            SimpleAssignmentTarget::ComputedMemberExpression(row),
-        ),
-        _ => None,
-    }
-}
-
-fn assignment_target_of_expression<N: ReadNode + Drop>(
-    row: Expression<N>,
-) -> Option<AssignmentTarget<N>>
-    ensures { option_map (in_assignment_target N.plain) result
-        ≡ (if in_set sets.AssignmentTarget (type_of (expression_plain N.plain row)) then Some (expression_plain N.plain row) else None) }
-{
-    match row {
-        Expression::IdentifierReference(row) => Some(AssignmentTarget::IdentifierReference(row)),
-        Expression::StaticMemberExpression(row) => Some(AssignmentTarget::StaticMemberExpression(
-            row,
-        )),
-        Expression::ComputedMemberExpression(row) => Some(
-            AssignmentTarget::ComputedMemberExpression(row),
-        ),
-        _ => None,
-    }
-}
-
-fn for_statement_init_of_declaration<N: ReadNode + Drop>(
-    row: Declaration<N>,
-) -> Option<ForStatementInit<N>>
-    ensures { option_map (in_for_statement_init N.plain) result
-        ≡ (if in_set sets.ForStatementInit (type_of (declaration_plain N.plain row)) then Some (declaration_plain N.plain row) else None) }
-{
-    match row {
-        Declaration::VariableDeclaration(row) => Some(ForStatementInit::VariableDeclaration(row)),
-    }
-}
-
-fn for_statement_left_of_declaration<N: ReadNode + Drop>(
-    row: Declaration<N>,
-) -> Option<ForStatementLeft<N>>
-    ensures { option_map (in_for_statement_left N.plain) result
-        ≡ (if in_set sets.ForStatementLeft (type_of (declaration_plain N.plain row)) then Some (declaration_plain N.plain row) else None) }
-{
-    match row {
-        Declaration::VariableDeclaration(row) => Some(ForStatementLeft::VariableDeclaration(row)),
-    }
-}
-
-fn for_statement_left_of_expression<N: ReadNode + Drop>(
-    row: Expression<N>,
-) -> Option<ForStatementLeft<N>>
-    ensures { option_map (in_for_statement_left N.plain) result
-        ≡ (if in_set sets.ForStatementLeft (type_of (expression_plain N.plain row)) then Some (expression_plain N.plain row) else None) }
-{
-    match row {
-        Expression::IdentifierReference(row) => Some(ForStatementLeft::IdentifierReference(row)),
-        Expression::StaticMemberExpression(row) => Some(ForStatementLeft::StaticMemberExpression(
-            row,
-        )),
-        Expression::ComputedMemberExpression(row) => Some(
-            ForStatementLeft::ComputedMemberExpression(row),
-        ),
-        _ => None,
-    }
-}
-
-fn block_statement_of_statement_in_box<N: ReadNode + Drop>(
-    row: OtherStatement<N>,
-) -> Option<Box<BlockStatement<N>>>
-    ensures { option_map (λ b. block_statement_row N.plain b.value) result
-        ≡ (if in_set sets.BlockStatement (type_of (statement_plain N.plain row.statement)) then Some (statement_plain N.plain row.statement) else None) }
-{
-    let statement = row.statement;
-    match statement {
-        Statement::BlockStatement(row) => Some(row),
-        _ => None,
     }
 }

@@ -9,13 +9,13 @@ ghost use Rattle.jsgen_fields.specs.Meaning.{is_program};
 ghost use Rattle.jsgen_fields.specs.Kept.{row_plain};
 
 use crate::InputFault;
-use crate::others::OtherStatement;
+use crate::others::{OtherDeclaration, OtherExpression, OtherStatement};
 use jsgen_pool::Typed;
 use jsgen_tree::{
     BindingPattern, BindingPatternNode, CatchClause, Comment, Declaration, DeclarationNode,
     Directive, Expression, ExpressionNode, FormalParameter, FormalParameterRest, FormalParameters,
-    IdentifierName, LabelIdentifier, Node, NodeType, ObjectProperty, Program, SpreadElement,
-    Statement, StatementNode, SwitchCase, VariableDeclarator,
+    Function, FunctionBody, IdentifierName, LabelIdentifier, Node, NodeType, ObjectProperty,
+    Program, SpreadElement, Statement, StatementNode, SwitchCase, VariableDeclarator,
 };
 use std::alloc::Global;
 
@@ -26,17 +26,19 @@ pub enum Row<N = Node> {
     Program(Box<Program<N>>),
     Comment(Box<Comment>),
     Directive(Box<Directive>),
-    Declaration(Box<Declaration<N>>),
+    Declaration(Box<OtherDeclaration<N>>),
     VariableDeclarator(Box<VariableDeclarator<N>>),
     BindingPattern(Box<BindingPattern>),
     Statement(Box<OtherStatement<N>>),
-    Expression(Box<Expression<N>>),
+    Expression(Box<OtherExpression<N>>),
     IdentifierName(Box<IdentifierName>),
     SpreadElement(Box<SpreadElement<N>>),
     ObjectProperty(Box<ObjectProperty<N>>),
     FormalParameter(Box<FormalParameter<N>>),
     FormalParameterRest(Box<FormalParameterRest<N>>),
     FormalParameters(Box<FormalParameters<N>>),
+    Function(Box<Function<N>>),
+    FunctionBody(Box<FunctionBody<N>>),
     LabelIdentifier(Box<LabelIdentifier>),
     SwitchCase(Box<SwitchCase<N>>),
     CatchClause(Box<CatchClause<N>>),
@@ -130,17 +132,19 @@ impl<N: ReadNode> Typed for Row<N> {
             Row::Program(_) => NodeType::Program,
             Row::Comment(_) => NodeType::Comment,
             Row::Directive(_) => NodeType::Directive,
-            Row::Declaration(row) => N::declaration_type(&**row),
+            Row::Declaration(row) => N::declaration_type(&(**row).declaration),
             Row::VariableDeclarator(_) => NodeType::VariableDeclarator,
             Row::BindingPattern(row) => (**row).node_type(),
             Row::Statement(row) => N::statement_type(&(**row).statement),
-            Row::Expression(row) => N::expression_type(&**row),
+            Row::Expression(row) => N::expression_type(&(**row).expression),
             Row::IdentifierName(_) => NodeType::IdentifierName,
             Row::SpreadElement(_) => NodeType::SpreadElement,
             Row::ObjectProperty(_) => NodeType::ObjectProperty,
             Row::FormalParameter(_) => NodeType::FormalParameter,
             Row::FormalParameterRest(_) => NodeType::FormalParameterRest,
             Row::FormalParameters(_) => NodeType::FormalParameters,
+            Row::Function(_) => NodeType::Function,
+            Row::FunctionBody(_) => NodeType::FunctionBody,
             Row::LabelIdentifier(_) => NodeType::LabelIdentifier,
             Row::SwitchCase(_) => NodeType::SwitchCase,
             Row::CatchClause(_) => NodeType::CatchClause,
@@ -164,11 +168,11 @@ impl<N: ReadNode + Drop> Row<N> {
 /// A declaration as a row.
 pub fn declaration_row<N: ReadNode + Drop>(
     alloc: Global,
-    declaration: Declaration<N>,
+    other: OtherDeclaration<N>,
 ) -> Result<Row<N>, InputFault>
-    ensures { Same (row_plain N.plain) result (Ok (declaration_plain N.plain declaration)) }
+    ensures { Same (row_plain N.plain) result (Ok (declaration_plain N.plain other.declaration)) }
 {
-    Ok(Row::Declaration(Box::new(alloc, declaration)?))
+    Ok(Row::Declaration(Box::new(alloc, other)?))
 }
 
 /// A binding pattern as a row.
@@ -194,9 +198,9 @@ pub fn statement_row<N: ReadNode + Drop>(
 /// An expression as a row.
 pub fn expression_row<N: ReadNode + Drop>(
     alloc: Global,
-    expression: Expression<N>,
+    other: OtherExpression<N>,
 ) -> Result<Row<N>, InputFault>
-    ensures { Same (row_plain N.plain) result (Ok (expression_plain N.plain expression)) }
+    ensures { Same (row_plain N.plain) result (Ok (expression_plain N.plain other.expression)) }
 {
-    Ok(Row::Expression(Box::new(alloc, expression)?))
+    Ok(Row::Expression(Box::new(alloc, other)?))
 }

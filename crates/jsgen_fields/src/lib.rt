@@ -11,6 +11,7 @@ mod children;
 pub mod fields;
 pub mod floats;
 pub mod kept;
+mod members;
 mod names;
 pub mod others;
 pub mod set_fields;

@@ -49,6 +49,8 @@ const TYPE_NAMES: [(&str, NodeType); 50] = [
     ("FormalParameter", NodeType::FormalParameter),
     ("FormalParameterRest", NodeType::FormalParameterRest),
     ("FormalParameters", NodeType::FormalParameters),
+    ("Function", NodeType::Function),
+    ("FunctionBody", NodeType::FunctionBody),
     ("ArrowFunctionExpression", NodeType::ArrowFunctionExpression),
     ("ForStatement", NodeType::ForStatement),
     ("ForInStatement", NodeType::ForInStatement),
@@ -57,11 +59,12 @@ const TYPE_NAMES: [(&str, NodeType); 50] = [
     ("DoWhileStatement", NodeType::DoWhileStatement),
     ("LabelIdentifier", NodeType::LabelIdentifier),
     ("LabeledStatement", NodeType::LabeledStatement),
-    ("ContinueStatement", NodeType::ContinueStatement),
-    ("BreakStatement", NodeType::BreakStatement),
 ];
 
-const TYPE_NAMES_2: [(&str, NodeType); 6] = [
+const TYPE_NAMES_2: [(&str, NodeType); 9] = [
+    ("ContinueStatement", NodeType::ContinueStatement),
+    ("BreakStatement", NodeType::BreakStatement),
+    ("ReturnStatement", NodeType::ReturnStatement),
     ("ThrowStatement", NodeType::ThrowStatement),
     ("DebuggerStatement", NodeType::DebuggerStatement),
     ("SwitchStatement", NodeType::SwitchStatement),

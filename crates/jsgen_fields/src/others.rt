@@ -1,13 +1,27 @@
 // Generated from tools/nodes/table.txt; edit that and run tools/nodes/generate.
-// The members of a set that are in no set within it.
+// The members of a set whose rows are kept by it.
 ghost use Rattle.std.specs.Prelude.{◌≡◌, true};
-ghost use Rattle.jsgen_fields.specs.Others.{is_other_statement};
+ghost use Rattle.jsgen_fields.specs.Others.{is_other_declaration, is_other_statement, is_other_expression};
 
-use jsgen_tree::{Node, Statement};
+use jsgen_tree::{Declaration, Expression, Node, Statement};
+
+/// A declaration that is no function.
+#[derive(Drop)]
+pub struct OtherDeclaration<N = Node> {
+    pub declaration: Declaration<N>,
+    pub ghost other: { is_other_declaration declaration ≡ true },
+}
 
 /// A statement that is no declaration.
 #[derive(Drop)]
 pub struct OtherStatement<N = Node> {
     pub statement: Statement<N>,
     pub ghost other: { is_other_statement statement ≡ true },
+}
+
+/// An expression that is no function.
+#[derive(Drop)]
+pub struct OtherExpression<N = Node> {
+    pub expression: Expression<N>,
+    pub ghost other: { is_other_expression expression ≡ true },
 }

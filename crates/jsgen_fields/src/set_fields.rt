@@ -4,7 +4,7 @@ ghost use Rattle.std.specs.Prelude.{true, false, map, option_map};
 ghost use Rattle.serde_json.specs.View.{view};
 ghost use Rattle.jsgen_tree.specs.Tree.{optional, trees, holed};
 ghost use Rattle.jsgen_tree.specs.Table.{needed, may_be_absent, child, children as many, children_or_holes as many_or_holes};
-ghost use Rattle.jsgen_tree.specs.Rows.{in_expression, in_argument, in_array_expression_element, in_chain_element, in_simple_assignment_target, in_assignment_target, in_arrow_function_body, in_for_statement_init, in_for_statement_left, in_object_property_kind, in_property_key, in_statement, in_binding_pattern, comment_row, directive_row, variable_declarator_row, block_statement_row, identifier_name_row, formal_parameter_row, formal_parameter_rest_row, formal_parameters_row, label_identifier_row, switch_case_row, catch_clause_row};
+ghost use Rattle.jsgen_tree.specs.Rows.{in_expression, in_argument, in_array_expression_element, in_chain_element, in_simple_assignment_target, in_assignment_target, in_arrow_function_body, in_for_statement_init, in_for_statement_left, in_object_property_kind, in_property_key, in_statement, in_binding_pattern, comment_row, directive_row, variable_declarator_row, binding_identifier_row, block_statement_row, identifier_name_row, formal_parameter_row, formal_parameter_rest_row, formal_parameters_row, function_body_row, label_identifier_row, switch_case_row, catch_clause_row};
 ghost use Rattle.jsgen_fields.specs.Values.{at, field as value_under};
 ghost use Rattle.jsgen_fields.specs.Meaning.{a_child, a_maybe, a_list};
 ghost use Rattle.jsgen_fields.specs.Reads.{Gives, read_children};
@@ -16,11 +16,11 @@ use crate::fields::{children, children_or_holes, needed_child, optional_child};
 use crate::kept::{ReadNode, Row};
 use jsgen_pool::Kept;
 use jsgen_tree::{
-    Argument, ArrayExpressionElement, ArrowFunctionBody, AssignmentTarget, BindingPatternNode,
-    BlockStatement, CatchClause, ChainElement, Comment, Directive, ExpressionNode,
-    ForStatementInit, ForStatementLeft, FormalParameter, FormalParameterRest, FormalParameters,
-    IdentifierName, LabelIdentifier, ObjectPropertyKind, PropertyKey, SimpleAssignmentTarget,
-    StatementNode, SwitchCase, VariableDeclarator,
+    Argument, ArrayExpressionElement, ArrowFunctionBody, AssignmentTarget, BindingIdentifier,
+    BindingPatternNode, BlockStatement, CatchClause, ChainElement, Comment, Directive,
+    ExpressionNode, ForStatementInit, ForStatementLeft, FormalParameter, FormalParameterRest,
+    FormalParameters, FunctionBody, IdentifierName, LabelIdentifier, ObjectPropertyKind,
+    PropertyKey, SimpleAssignmentTarget, StatementNode, SwitchCase, VariableDeclarator,
 };
 use serde_json::Value;
 use std::alloc::Global;
@@ -305,6 +305,20 @@ pub fn optional_formal_parameter_rest<N: ReadNode + Drop>(
     optional_child(alloc, kept, number, field, row, name)
 }
 
+pub fn optional_binding_identifier<N: ReadNode + Drop>(
+    alloc: Global,
+    kept: &mut Vec<Kept<Row<N>>>,
+    number: usize,
+    field: usize,
+    row: &Value,
+    name: &str,
+) -> Result<Option<Box<BindingIdentifier>>, InputFault>
+    ensures { Gives (λ o. a_maybe (optional (option_map (λ b. binding_identifier_row b.value) o))) result (entries N.plain kept.new.items)
+        (read_children (at number field) false may_be_absent (child sets.BindingIdentifier) (value_under name.now (view row.now)) (entries N.plain kept.old.items)) }
+{
+    optional_child(alloc, kept, number, field, row, name)
+}
+
 pub fn needed_formal_parameters<N: ReadNode + Drop>(
     alloc: Global,
     kept: &mut Vec<Kept<Row<N>>>,
@@ -317,6 +331,20 @@ pub fn needed_formal_parameters<N: ReadNode + Drop>(
         (read_children (at number field) true needed (child sets.FormalParameters) (value_under name.now (view row.now)) (entries N.plain kept.old.items)) }
 {
     needed_child(alloc, kept, number, field, row, name)
+}
+
+pub fn optional_function_body<N: ReadNode + Drop>(
+    alloc: Global,
+    kept: &mut Vec<Kept<Row<N>>>,
+    number: usize,
+    field: usize,
+    row: &Value,
+    name: &str,
+) -> Result<Option<Box<FunctionBody<N>>>, InputFault>
+    ensures { Gives (λ o. a_maybe (optional (option_map (λ b. function_body_row N.plain b.value) o))) result (entries N.plain kept.new.items)
+        (read_children (at number field) false may_be_absent (child sets.FunctionBody) (value_under name.now (view row.now)) (entries N.plain kept.old.items)) }
+{
+    optional_child(alloc, kept, number, field, row, name)
 }
 
 pub fn needed_arrow_function_body<N: ReadNode + Drop>(

@@ -2,9 +2,9 @@
 // Fields that hold a word.
 ghost use Rattle.std.specs.Prelude.{◌≡◌, true, option_map};
 ghost use Rattle.serde_json.specs.View.{view};
-ghost use Rattle.jsgen_tree.specs.Atom.{no_value, kind_of_comment, content_of_comment, source_kind, declaration_kind, binary_operator, logical_operator, property_kind, unary_operator, update_operator, assignment_operator};
+ghost use Rattle.jsgen_tree.specs.Atom.{no_value, kind_of_comment, content_of_comment, source_kind, declaration_kind, binary_operator, logical_operator, property_kind, unary_operator, update_operator, assignment_operator, kind_of_function};
 ghost use Rattle.jsgen_tree.specs.Table.{word};
-ghost use Rattle.jsgen_tree.specs.Fields.{kind_of_comment_words, content_of_comment_words, source_kind_words, declaration_kind_words, binary_operator_words, logical_operator_words, property_kind_words, unary_operator_words, update_operator_words, assignment_operator_words};
+ghost use Rattle.jsgen_tree.specs.Fields.{kind_of_comment_words, content_of_comment_words, source_kind_words, declaration_kind_words, binary_operator_words, logical_operator_words, property_kind_words, unary_operator_words, update_operator_words, assignment_operator_words, kind_of_function_words};
 ghost use Rattle.jsgen_fields.specs.Reads.{read_value};
 ghost use Rattle.jsgen_fields.specs.Values.{Same, at, field as value_under, word_meaning, words_of_length};
 
@@ -13,7 +13,9 @@ use crate::{At, InputFault};
 use jsgen_syntax::{
     AssignmentOperator, BinaryOperator, LogicalOperator, SourceKind, UnaryOperator, UpdateOperator,
 };
-use jsgen_tree::{CommentContent, CommentKind, PropertyKind, VariableDeclarationKind};
+use jsgen_tree::{
+    CommentContent, CommentKind, FunctionKind, PropertyKind, VariableDeclarationKind,
+};
 use serde_json::Value;
 
 #[tactic(auto, unfolding(crate::specs::Reads::read_value))]
@@ -312,6 +314,8 @@ pub fn needed_property_kind(
     let value = needed_value(at, row, name)?;
     match text_in(at, value)? {
         "init" => Ok(PropertyKind::Init),
+        "get" => Ok(PropertyKind::Get),
+        "set" => Ok(PropertyKind::Set),
         _ => Err(InputFault::Wrong(at)),
     }
 }
@@ -470,5 +474,24 @@ pub fn needed_assignment_operator(
     match assignment_operator_by_word(text_in(at, value)?) {
         Some(found) => Ok(found),
         None => Err(InputFault::Wrong(at)),
+    }
+}
+
+#[tactic(auto, unfolding(crate::specs::Reads::read_value))]
+pub fn needed_kind_of_function(
+    number: usize,
+    field: usize,
+    row: &Value,
+    name: &str,
+) -> Result<FunctionKind, InputFault>
+    ensures { Same (λ o. kind_of_function o) result
+        (read_value (at number field) true no_value (word kind_of_function_words) (value_under name.now (view row.now))) }
+{
+    let at = At::of_row(number, field);
+    let value = needed_value(at, row, name)?;
+    match text_in(at, value)? {
+        "declaration" => Ok(FunctionKind::Declaration),
+        "expression" => Ok(FunctionKind::Expression),
+        _ => Err(InputFault::Wrong(at)),
     }
 }

@@ -2,7 +2,7 @@
 // Rows of a job: functions and their parameters (ECMA-262, clause 15).
 ghost use Rattle.std.specs.Prelude.{◌≡◌, true};
 ghost use Rattle.serde_json.specs.View.{view};
-ghost use Rattle.jsgen_tree.specs.Fields.{formal_parameter_fields, formal_parameter_rest_fields, formal_parameters_fields, arrow_function_expression_fields};
+ghost use Rattle.jsgen_tree.specs.RowFields.{formal_parameter_fields, formal_parameter_rest_fields, formal_parameters_fields, function_fields, function_body_fields, arrow_function_expression_fields};
 ghost use Rattle.jsgen_fields.specs.Reads.{Gives, read_node, read_typed};
 ghost use Rattle.jsgen_fields.specs.Kept.{entries, row_plain};
 ghost use Rattle.jsgen_fields.specs.Parts.{is_in_functions};
@@ -11,16 +11,19 @@ ghost use Rattle.jsgen_tree.specs.declared.types.NodeType.TheVariants as types;
 use jsgen_fields::InputFault;
 use jsgen_fields::fields::boxed;
 use jsgen_fields::kept::{ReadNode, Row, expression_row};
+use jsgen_fields::others::OtherExpression;
 use jsgen_fields::set_fields::{
-    formal_parameter_list, needed_arrow_function_body, needed_binding_pattern,
-    needed_formal_parameters, optional_expression, optional_formal_parameter_rest,
+    directive_list, formal_parameter_list, needed_arrow_function_body, needed_binding_pattern,
+    needed_formal_parameters, optional_binding_identifier, optional_expression,
+    optional_formal_parameter_rest, optional_function_body, statement_list,
 };
 use jsgen_fields::values::{field_not_given, neither_given, optional_flag};
+use jsgen_fields::words::needed_kind_of_function;
 use jsgen_pool::Kept;
 use jsgen_syntax::Span;
 use jsgen_tree::{
     ArrowFunctionExpression, Expression, FormalParameter, FormalParameterRest, FormalParameters,
-    NodeType,
+    Function, FunctionBody, NodeType,
 };
 use serde_json::Value;
 use std::alloc::Global;
@@ -124,6 +127,102 @@ fn read_formal_parameters<N: ReadNode + Drop>(
 }
 
 #[tactic(auto, unfolding(jsgen_fields::specs::Reads::read_node))]
+fn read_function<N: ReadNode + Drop>(
+    alloc: Global,
+    kept: &mut Vec<Kept<Row<N>>>,
+    number: usize,
+    span: Span,
+    row: &Value,
+) -> Result<Row<N>, InputFault>
+    ensures { Gives (row_plain N.plain) result (entries N.plain kept.new.items)
+        (read_node number types.Function function_fields span (view row.now) (entries N.plain kept.old.items)) }
+{
+    let kind = match needed_kind_of_function(number, 2, row, "kind") {
+        Ok(kind) => kind,
+        Err(fault) => return Err(fault),
+    };
+    let id = match optional_binding_identifier(alloc, kept, number, 3, row, "id") {
+        Ok(id) => id,
+        Err(fault) => return Err(fault),
+    };
+    match neither_given(number, 4, row, "is_async", "generator") {
+        Ok(()) => {}
+        Err(fault) => return Err(fault),
+    }
+    match field_not_given(number, 6, row, "declare") {
+        Ok(()) => {}
+        Err(fault) => return Err(fault),
+    }
+    let pure = match optional_flag(number, 7, row, "pure") {
+        Ok(pure) => pure,
+        Err(fault) => return Err(fault),
+    };
+    let pife = match optional_flag(number, 8, row, "pife") {
+        Ok(pife) => pife,
+        Err(fault) => return Err(fault),
+    };
+    match neither_given(number, 9, row, "type_parameters", "this_param") {
+        Ok(()) => {}
+        Err(fault) => return Err(fault),
+    }
+    let params = match needed_formal_parameters(alloc, kept, number, 11, row, "params") {
+        Ok(params) => params,
+        Err(fault) => return Err(fault),
+    };
+    match field_not_given(number, 12, row, "return_type") {
+        Ok(()) => {}
+        Err(fault) => return Err(fault),
+    }
+    let body = match optional_function_body(alloc, kept, number, 13, row, "body") {
+        Ok(body) => body,
+        Err(fault) => return Err(fault),
+    };
+    let node = Function {
+        span,
+        kind,
+        id,
+        pure,
+        pife,
+        params,
+        body,
+    };
+    match boxed(alloc, node) {
+        Ok(node) => Ok(Row::Function(node)),
+        Err(fault) => Err(fault),
+    }
+}
+
+#[tactic(auto, unfolding(jsgen_fields::specs::Reads::read_node))]
+fn read_function_body<N: ReadNode + Drop>(
+    alloc: Global,
+    kept: &mut Vec<Kept<Row<N>>>,
+    number: usize,
+    span: Span,
+    row: &Value,
+) -> Result<Row<N>, InputFault>
+    ensures { Gives (row_plain N.plain) result (entries N.plain kept.new.items)
+        (read_node number types.FunctionBody function_body_fields span (view row.now) (entries N.plain kept.old.items)) }
+{
+    let directives = match directive_list(alloc, kept, number, 2, row, "directives") {
+        Ok(directives) => directives,
+        Err(fault) => return Err(fault),
+    };
+    let statements = match statement_list(alloc, kept, number, 3, row, "statements") {
+        Ok(statements) => statements,
+        Err(fault) => return Err(fault),
+    };
+    let node = FunctionBody {
+        span,
+        directives,
+        statements,
+    };
+    match boxed(alloc, node) {
+        Ok(node) => Ok(Row::FunctionBody(node)),
+        Err(fault) => Err(fault),
+    }
+}
+
+#[tactic(auto, unfolding(jsgen_fields::specs::Reads::read_node))]
 fn read_arrow_function_expression<N: ReadNode + Drop>(
     alloc: Global,
     kept: &mut Vec<Kept<Row<N>>>,
@@ -170,7 +269,12 @@ fn read_arrow_function_expression<N: ReadNode + Drop>(
         body,
     };
     match boxed(alloc, node) {
-        Ok(node) => expression_row(alloc, Expression::ArrowFunctionExpression(node)),
+        Ok(node) => expression_row(
+            alloc,
+            OtherExpression {
+                expression: Expression::ArrowFunctionExpression(node),
+            },
+        ),
         Err(fault) => Err(fault),
     }
 }
@@ -192,6 +296,8 @@ pub fn read_in_functions<N: ReadNode + Drop>(
         NodeType::FormalParameter => read_formal_parameter(alloc, kept, number, span, row),
         NodeType::FormalParameterRest => read_formal_parameter_rest(alloc, kept, number, span, row),
         NodeType::FormalParameters => read_formal_parameters(alloc, kept, number, span, row),
+        NodeType::Function => read_function(alloc, kept, number, span, row),
+        NodeType::FunctionBody => read_function_body(alloc, kept, number, span, row),
         NodeType::ArrowFunctionExpression => read_arrow_function_expression(
             alloc, kept, number, span, row,
         ),

@@ -1,14 +1,14 @@
 -- Braces round statements, on Ok and where memory runs out.
-use Rattle.std.proofs.Common.{◌≡◌, ℕ, List, [], ◌∷◌, map, length, false, ◌==◌, refl}
+use Rattle.std.proofs.Common.{◌≡◌, ℕ, List, [], ◌∷◌, map, length, false, ◌==◌, Result, refl, ap, sym, subst}
 use Rattle.jsgen_tree.specs.Tree.{Tree, trees}
 use Rattle.jsgen_model.specs.Punctuator.{Brace, opening, closing}
 use Rattle.jsgen_model.specs.Items.{Items, soft_line, indentation}
 use Rattle.jsgen_model.specs.Layout.{Pen, layout, written, other_end}
 use Rattle.jsgen_model.specs.Spell.{braces, filled_braces}
-use Rattle.jsgen_model.specs.Printing.{IsPrefix, Stops}
+use Rattle.jsgen_model.specs.Printing.{IsPrefix, Stops, Reaches}
 use Rattle.jsgen_printer.specs.Printer.{at_depth}
 use Rattle.jsgen_printer.proofs.Prefixes.{whole_prefix, prefix_append, more_prefix, prefix_of_prefix}
-use Rattle.jsgen_printer.proofs.Stops.{layout_appends, layout_more, stops_within}
+use Rattle.jsgen_printer.proofs.Stops.{layout_appends, layout_more, stops_within, reaches_last}
 use Rattle.jsgen_lists.specs.Lists.{braces_opened, braces_closed}
 
 -- where there is a statement, braces aren't empty
@@ -29,3 +29,7 @@ stops_opening items {old} s =
 
 pub stops_in_braces : (items : Items) {old new : Pen} → Stops (braces_opened old) new (layout items (braces_opened old)) → Stops old new (layout (filled_braces items) old)
 stops_in_braces items {old} s = stops_within s (opened_appends old) (closed_appends old.depth (layout items (braces_opened old)))
+
+-- at the closing brace
+pub braces_reach : {T E : Type 0} (r : Result T E) (items : Items) (old mid new : Pen) → mid ≡ layout items (braces_opened old) → Reaches r mid new (braces_closed old.depth mid) → Reaches r old new (layout (filled_braces items) old)
+braces_reach r items old mid new e h = reaches_last r old mid new (braces_closed old.depth mid) (layout (filled_braces items) old) h (subst (λ p. IsPrefix old.code p.code) (sym e) (layout_more items (braces_opened old) (opened_appends old))) (ap (λ p. braces_closed old.depth p) e)

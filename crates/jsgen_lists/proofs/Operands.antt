@@ -4,7 +4,8 @@ use Rattle.jsgen_syntax.specs.declared.operator.UpdateOperator.{UpdateOperator}
 use Rattle.jsgen_syntax.specs.declared.operator.UpdateOperator.TheVariants as operators
 use Rattle.jsgen_syntax.specs.declared.precedence.Precedence.TheVariants.{Prefix}
 use Rattle.jsgen_model.specs.Layout.{Pen, nowhere, layout}
-use Rattle.jsgen_model.specs.Spell.{behind, update_item}
+use Rattle.jsgen_model.specs.Spell.{behind}
+use Rattle.jsgen_model.specs.Operators.{update_item}
 use Rattle.jsgen_place.specs.declared.place.Place.{Place}
 use Rattle.jsgen_place.specs.Place.{settings_of, context_of, place_of}
 

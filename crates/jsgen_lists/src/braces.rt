@@ -31,7 +31,8 @@ pub fn print_braces<E, S: PrintStatement<E>>(
     }
 }
 
-fn print_empty_braces(p: &mut Printer<'_>) -> Result<(), Memory>
+/// Braces in which nothing stands.
+pub fn print_empty_braces(p: &mut Printer<'_>) -> Result<(), Memory>
     ensures { Reaches result (pen_of p.old) (pen_of p.new) (layout (brackets Brace nothing ⊕ drop_semicolon) (pen_of p.old)) }
 {
     p.print_opening(Bracket::Brace)?;

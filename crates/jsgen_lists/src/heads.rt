@@ -1,10 +1,10 @@
-// What stands behind a word.
+// Words before members, and what stands behind a word.
 ghost use Rattle.std.specs.Prelude.{IsTrue, option_map};
 ghost use Rattle.jsgen_tree.specs.Tree.{optional};
 ghost use Rattle.jsgen_model.specs.Punctuator.{Round};
 ghost use Rattle.jsgen_model.specs.Items.{◌⊕◌, word, brackets, soft_space, statement_end};
 ghost use Rattle.jsgen_model.specs.Layout.{layout};
-ghost use Rattle.jsgen_model.specs.Spell.{spell, spell_apart};
+ghost use Rattle.jsgen_model.specs.Spell.{spell, spell_apart, accessor_word};
 ghost use Rattle.jsgen_model.specs.Printing.{Reaches};
 ghost use Rattle.jsgen_printer.specs.Printer.{pen_of, is_ascii};
 ghost use Rattle.jsgen_lists.specs.Lists.{listed};
@@ -14,6 +14,7 @@ use crate::members::PrintMember;
 use jsgen_place::Place;
 use jsgen_printer::{Bracket, Printer};
 use jsgen_syntax::Memory;
+use jsgen_tree::PropertyKind;
 
 /// A word, and something behind it.
 pub fn print_behind_word<E, L: PrintMember<E>>(
@@ -69,7 +70,7 @@ pub fn print_apart_in_parentheses<E, L: PrintMember<E>>(
     print_in_parentheses::<E, L>(member, p, place)
 }
 
-fn print_in_parentheses<E, L: PrintMember<E>>(
+pub fn print_in_parentheses<E, L: PrintMember<E>>(
     member: &E,
     p: &mut Printer<'_>,
     place: Place,
@@ -94,4 +95,23 @@ pub fn print_jump<E, L: PrintMember<E>>(
     p.print_word(text)?;
     print_apart::<E, L>(label, p, place)?;
     p.print_statement_end()
+}
+
+/// What stands before the key of an accessor (ECMA-262, 15.4), and nothing before that of a method.
+pub fn print_accessor_word(kind: PropertyKind, p: &mut Printer<'_>) -> Result<(), Memory>
+    ensures { Reaches result (pen_of p.old) (pen_of p.new) (layout (accessor_word kind) (pen_of p.old)) }
+{
+    match kind {
+        PropertyKind::Init => Ok(()),
+        PropertyKind::Get => print_word_before_key("get", p),
+        PropertyKind::Set => print_word_before_key("set", p),
+    }
+}
+
+fn print_word_before_key(text: &str, p: &mut Printer<'_>) -> Result<(), Memory>
+    requires { IsTrue (is_ascii text.now) }
+    ensures { Reaches result (pen_of p.old) (pen_of p.new) (layout (word text.now ⊕ soft_space) (pen_of p.old)) }
+{
+    p.print_word(text)?;
+    p.print_soft_space()
 }

@@ -37,8 +37,8 @@ pub fn print_whole_body<E, S: PrintStatement<E>>(
     p.print_due_semicolon()
 }
 
-// The statements of a body, of which the first may not become a directive.
-fn print_body<E, S: PrintStatement<E>>(
+/// The statements of a body, of which the first may not become a directive.
+pub fn print_body<E, S: PrintStatement<E>>(
     statements: &[E],
     p: &mut Printer<'_>,
     settings: Settings,

@@ -1,8 +1,8 @@
 // Generated from tools/nodes/table.txt; edit that and run tools/nodes/generate.
-// Rows of a job: loops, labels and jumps (ECMA-262, 14.7 to 14.9, 14.13, 14.14 and 14.16).
+// Rows of a job: loops, labels and jumps (ECMA-262, 14.7 to 14.10, 14.13, 14.14 and 14.16).
 ghost use Rattle.std.specs.Prelude.{◌≡◌, true};
 ghost use Rattle.serde_json.specs.View.{view};
-ghost use Rattle.jsgen_tree.specs.Fields.{for_statement_fields, for_in_statement_fields, for_of_statement_fields, while_statement_fields, do_while_statement_fields, label_identifier_fields, labeled_statement_fields, continue_statement_fields, break_statement_fields, throw_statement_fields, debugger_statement_fields};
+ghost use Rattle.jsgen_tree.specs.RowFields.{for_statement_fields, for_in_statement_fields, for_of_statement_fields, while_statement_fields, do_while_statement_fields, label_identifier_fields, labeled_statement_fields, continue_statement_fields, break_statement_fields, return_statement_fields, throw_statement_fields, debugger_statement_fields};
 ghost use Rattle.jsgen_fields.specs.Reads.{Gives, read_node, read_typed};
 ghost use Rattle.jsgen_fields.specs.Kept.{entries, row_plain};
 ghost use Rattle.jsgen_fields.specs.Parts.{is_in_loops};
@@ -21,8 +21,8 @@ use jsgen_pool::Kept;
 use jsgen_syntax::Span;
 use jsgen_tree::{
     BreakStatement, ContinueStatement, DebuggerStatement, DoWhileStatement, ForInStatement,
-    ForOfStatement, ForStatement, LabelIdentifier, LabeledStatement, NodeType, Statement,
-    ThrowStatement, WhileStatement,
+    ForOfStatement, ForStatement, LabelIdentifier, LabeledStatement, NodeType, ReturnStatement,
+    Statement, ThrowStatement, WhileStatement,
 };
 use serde_json::Value;
 use std::alloc::Global;
@@ -327,6 +327,33 @@ fn read_break_statement<N: ReadNode + Drop>(
 }
 
 #[tactic(auto, unfolding(jsgen_fields::specs::Reads::read_node))]
+fn read_return_statement<N: ReadNode + Drop>(
+    alloc: Global,
+    kept: &mut Vec<Kept<Row<N>>>,
+    number: usize,
+    span: Span,
+    row: &Value,
+) -> Result<Row<N>, InputFault>
+    ensures { Gives (row_plain N.plain) result (entries N.plain kept.new.items)
+        (read_node number types.ReturnStatement return_statement_fields span (view row.now) (entries N.plain kept.old.items)) }
+{
+    let argument = match optional_expression(alloc, kept, number, 2, row, "argument") {
+        Ok(argument) => argument,
+        Err(fault) => return Err(fault),
+    };
+    let node = ReturnStatement { span, argument };
+    match boxed(alloc, node) {
+        Ok(node) => statement_row(
+            alloc,
+            OtherStatement {
+                statement: Statement::ReturnStatement(node),
+            },
+        ),
+        Err(fault) => Err(fault),
+    }
+}
+
+#[tactic(auto, unfolding(jsgen_fields::specs::Reads::read_node))]
 fn read_throw_statement<N: ReadNode + Drop>(
     alloc: Global,
     kept: &mut Vec<Kept<Row<N>>>,
@@ -402,6 +429,7 @@ pub fn read_in_loops<N: ReadNode + Drop>(
         NodeType::LabeledStatement => read_labeled_statement(alloc, kept, number, span, row),
         NodeType::ContinueStatement => read_continue_statement(alloc, kept, number, span, row),
         NodeType::BreakStatement => read_break_statement(alloc, kept, number, span, row),
+        NodeType::ReturnStatement => read_return_statement(alloc, kept, number, span, row),
         NodeType::ThrowStatement => read_throw_statement(alloc, kept, number, span, row),
         NodeType::DebuggerStatement => read_debugger_statement(alloc, kept, number, span, row),
         _ => unreachable!(),

@@ -15,16 +15,18 @@ use Rattle.jsgen_syntax.specs.declared.operator.AssignmentOperator.{AssignmentOp
 use Rattle.jsgen_syntax.specs.declared.operator.AssignmentOperator.TheVariants as assignment_operators
 use Rattle.jsgen_tree.specs.declared.statements.VariableDeclarationKind.{VariableDeclarationKind}
 use Rattle.jsgen_tree.specs.declared.statements.VariableDeclarationKind.TheVariants.{Const, Let, Var}
+use Rattle.jsgen_tree.specs.declared.functions.FunctionKind.{FunctionKind}
+use Rattle.jsgen_tree.specs.declared.functions.FunctionKind.TheVariants as kinds
 use Rattle.jsgen_syntax.specs.Name.{is_free_name}
-use Rattle.jsgen_tree.specs.Atom.{units, flag, binary_operator, logical_operator, unary_operator, update_operator, no_value, property_kind, assignment_operator}
+use Rattle.jsgen_tree.specs.Atom.{units, flag, binary_operator, logical_operator, unary_operator, update_operator, assignment_operator}
 use Rattle.jsgen_model.specs.Numbers.{ends_in}
-use Rattle.jsgen_tree.specs.Tree.{Tree, Maybe, absent, given, Trees, no_trees, more, hole, Atoms}
+use Rattle.jsgen_tree.specs.Tree.{Tree, Maybe, absent, given, Trees, no_trees, more, hole}
 use Rattle.jsgen_tree.specs.Places.{bare}
 use Rattle.jsgen_tree.specs.Nodes as tree
 use Rattle.jsgen_model.specs.Punctuator.{plus, minus, star, slash, percent, star_star, equal_equal, not_equal, equal_equal_equal, not_equal_equal, less, less_equal, greater, greater_equal, shift_left, shift_right, shift_right_zero, bit_and, bit_or, bit_xor, and_and, or_or, nullish, dot, ellipsis, comma, semicolon, equal, Round, Square, Brace, bang, tilde, Punctuator, plus_plus, minus_minus, colon, question, plus_equal, minus_equal, star_equal, slash_equal, percent_equal, star_star_equal, shift_left_equal, shift_right_equal, shift_right_zero_equal, bit_or_equal, bit_xor_equal, bit_and_equal, or_or_equal, and_and_equal, nullish_equal, question_dot, arrow}
-use Rattle.jsgen_tree.specs.declared.collections.PropertyKind.TheVariants.{Init}
+use Rattle.jsgen_tree.specs.declared.collections.PropertyKind.TheVariants.{Init, Get, Set}
 use Rattle.jsgen_model.specs.Tokens.{Piece, Tokens, done, piece, group, ◌⧺◌, Word, Number, Quoted, Sign}
-use Rattle.jsgen_model.specs.Normal.{nothing_of, named, unnumbered, link_values, call_values, by_text, declared_as}
+use Rattle.jsgen_model.specs.Normal.{nothing_of, named, unnumbered, link_values, call_values, by_text, declared_as, function_as, property_values}
 
 -- what may stand: the operator `in`, and the operand or statement of each other word (5.1.5, grammatical parameters)
 pub record Allowed : Type 0 where
@@ -49,9 +51,9 @@ without_in allowed = record allowed { in_operator = false }
 abbrev pub in_arrow_body : Allowed → Allowed
 in_arrow_body allowed = record allowed { yield_operand = false; await_operand = false }
 
--- of a property with a value: whether its name alone says it, and whether its key is computed
-abbrev pub property_values : Bool → Bool → Atoms
-property_values shorthand computed = bare (property_kind Init ∷ no_value ∷ flag shorthand ∷ flag computed ∷ [])
+-- a function's parameters and body are read alike wherever it stands: in them neither `yield` nor `await` is an operator, and the body may return (15.2)
+abbrev pub in_function : Allowed
+in_function = record { in_operator = true; yield_operand = false; await_operand = false; return_statement = true }
 
 -- the levels of expressions, from the loosest to the tightest. A callee is what arguments may follow: a member or a call (13.3)
 pub data Level : Type 0 where
@@ -233,6 +235,14 @@ abbrev pub is_var : VariableDeclarationKind → Bool
 is_var Var = true
 is_var kind = false
 
+-- a function with a body in braces
+abbrev pub function_of : FunctionKind → Maybe → Trees → Maybe → Trees → Trees → Tree
+function_of kind id ps rest ds ss = tree.function (function_as kind) id (tree.formal_parameters (nothing_of 0) ps rest) (given (tree.function_body (nothing_of 0) ds ss))
+
+-- the function of a method or an accessor has no name
+abbrev pub method_of : Trees → Maybe → Trees → Trees → Tree
+method_of ps rest ds ss = function_of kinds.Expression absent ps rest ds ss
+
 -- a semicolon ends the tokens, or is omitted as the last of a brace group (12.10)
 pub data EndsBy : Bool → Tokens → Tokens → Type 0 where
   a_semicolon : {last : Bool} {ts a : Tokens} (mark : Bool) → ts ≡ a ⧺ piece mark (Sign semicolon) done → EndsBy last ts a
@@ -305,8 +315,16 @@ mutual
     an_optional_chain : {c : Allowed} {ts : Tokens} {t : Tree} → ReadsChain c ts t → ReadsExpression c LeftHandSide ts (tree.chain (nothing_of 0) t)
     an_array : {c : Allowed} {mark : Bool} {inside : Tokens} {es : Trees} → ReadsElements (with_in c) inside es → ReadsExpression c Primary (group mark Square inside done) (tree.array (nothing_of 0) es)
     an_object : {c : Allowed} {mark : Bool} {inside : Tokens} {ps : Trees} → ReadsProperties (with_in c) inside ps → ReadsExpression c Primary (group mark Brace inside done) (tree.object_expression (nothing_of 0) ps)
+    a_function : {c : Allowed} {mark : Bool} {ts : Tokens} {t : Tree} → ReadsFunction kinds.Expression ts t → ReadsExpression c Primary (piece mark (Word (codes "function")) ts) t
     -- on the line of its parameters; its body is an expression that begins with no brace (15.3)
     an_arrow_function : {c : Allowed} {ts a b : Tokens} {ps e : Tree} → ts ≡ a ⧺ piece false (Sign arrow) b → ReadsArrowParameters c a ps → starts_in_brace b ≡ false → ReadsExpression (in_arrow_body c) Assignment b e → ReadsExpression c Assignment ts (tree.arrow_function (nothing_of 3) ps e)
+    -- or stands in braces
+    an_arrow_with_body : {c : Allowed} {ts a inside : Tokens} {ps : Tree} {ds ss : Trees} (mark : Bool) → ts ≡ a ⧺ piece false (Sign arrow) (group mark Brace inside done) → ReadsArrowParameters c a ps → ReadsBody in_function true inside ds ss → ReadsExpression c Assignment ts (tree.arrow_function (nothing_of 3) ps (tree.function_body (nothing_of 0) ds ss))
+
+  -- behind the word `function`: a name, which may be omitted in an expression, parameters and a body (15.2)
+  pub data ReadsFunction : FunctionKind → Tokens → Tree → Type 0 where
+    a_named_function : {kind : FunctionKind} {mark next third : Bool} {w v : List ℕ} {head inside : Tokens} {ps ds ss : Trees} {rest : Maybe} → word_value w ≡ Some v → is_free_name v ≡ true → ReadsParameters in_function head ps rest → ReadsBody in_function true inside ds ss → ReadsFunction kind (piece mark (Word w) (group next Round head (group third Brace inside done))) (function_of kind (given (tree.binding_identifier (unnumbered v))) ps rest ds ss)
+    a_nameless_function : {next third : Bool} {head inside : Tokens} {ps ds ss : Trees} {rest : Maybe} → ReadsParameters in_function head ps rest → ReadsBody in_function true inside ds ss → ReadsFunction kinds.Expression (group next Round head (group third Brace inside done)) (function_of kinds.Expression absent ps rest ds ss)
 
   -- before an arrow: a name alone, or parameters in parentheses (15.3)
   pub data ReadsArrowParameters : Allowed → Tokens → Tree → Type 0 where
@@ -352,8 +370,12 @@ mutual
 
   -- a property (13.2.5): a name that is its key and its value, a key with a value, or an object whose properties are spread
   pub data ReadsProperty : Allowed → Tokens → Tree → Type 0 where
-    a_shorthand : {c : Allowed} {mark : Bool} {w v : List ℕ} → word_value w ≡ Some v → is_free_name v ≡ true → ReadsProperty c (piece mark (Word w) done) (tree.object_property (property_values true false) (tree.identifier_name (named v)) (tree.identifier_reference (unnumbered v)))
-    a_property : {c : Allowed} {computed : Bool} {ts a b : Tokens} {k e : Tree} (mark : Bool) → ts ≡ a ⧺ piece mark (Sign colon) b → ReadsKey c computed a k → ReadsExpression c Assignment b e → ReadsProperty c ts (tree.object_property (property_values false computed) k e)
+    a_shorthand : {c : Allowed} {mark : Bool} {w v : List ℕ} → word_value w ≡ Some v → is_free_name v ≡ true → ReadsProperty c (piece mark (Word w) done) (tree.object_property (property_values Init false true false) (tree.identifier_name (named v)) (tree.identifier_reference (unnumbered v)))
+    a_property : {c : Allowed} {computed : Bool} {ts a b : Tokens} {k e : Tree} (mark : Bool) → ts ≡ a ⧺ piece mark (Sign colon) b → ReadsKey c computed a k → ReadsExpression c Assignment b e → ReadsProperty c ts (tree.object_property (property_values Init false false computed) k e)
+    -- methods and accessors (15.4); what a setter takes is one parameter
+    a_method : {c : Allowed} {computed : Bool} {ts a head inside : Tokens} {k : Tree} {ps ds ss : Trees} {rest : Maybe} (next third : Bool) → ts ≡ a ⧺ group next Round head (group third Brace inside done) → ReadsKey c computed a k → ReadsParameters in_function head ps rest → ReadsBody in_function true inside ds ss → ReadsProperty c ts (tree.object_property (property_values Init true false computed) k (method_of ps rest ds ss))
+    a_getter : {c : Allowed} {computed mark : Bool} {ts a inside : Tokens} {k : Tree} {ds ss : Trees} (next third : Bool) → ts ≡ a ⧺ group next Round done (group third Brace inside done) → ReadsKey c computed a k → ReadsBody in_function true inside ds ss → ReadsProperty c (piece mark (Word (codes "get")) ts) (tree.object_property (property_values Get false false computed) k (method_of no_trees absent ds ss))
+    a_setter : {c : Allowed} {computed mark : Bool} {ts a head inside : Tokens} {k p : Tree} {ds ss : Trees} (next third : Bool) → ts ≡ a ⧺ group next Round head (group third Brace inside done) → ReadsKey c computed a k → ReadsParameter in_function head p → ReadsBody in_function true inside ds ss → ReadsProperty c (piece mark (Word (codes "set")) ts) (tree.object_property (property_values Set false false computed) k (method_of (more p no_trees) absent ds ss))
     a_spread_property : {c : Allowed} {mark : Bool} {ts : Tokens} {e : Tree} → ReadsExpression c Assignment ts e → ReadsProperty c (piece mark (Sign ellipsis) ts) (tree.spread (nothing_of 0) e)
 
   -- a property's name (13.2.5); the flag tells that it is computed
@@ -425,6 +447,12 @@ mutual
     a_debugger : {c : Allowed} {last before_else mark : Bool} {ts : Tokens} → EndsBy last ts (piece mark (Word (codes "debugger")) done) → ReadsStatement c last before_else ts (tree.debugger_statement (nothing_of 0))
     a_switch : {c : Allowed} {last before_else mark next third : Bool} {head inside : Tokens} {e : Tree} {cases : Trees} → ReadsExpression (with_in c) Expression head e → ReadsCases c true inside cases → ReadsStatement c last before_else (piece mark (Word (codes "switch")) (group next Round head (group third Brace inside done))) (tree.switch_statement (nothing_of 0) e cases)
     a_try : {c : Allowed} {last before_else mark next : Bool} {inside ts : Tokens} {body : Trees} {handler finalizer : Maybe} → ReadsStatements c true inside body → ReadsEndsOfTry c ts handler finalizer → ReadsStatement c last before_else (piece mark (Word (codes "try")) (group next Brace inside ts)) (tree.try_statement (nothing_of 0) (tree.block (nothing_of 0) body) handler finalizer)
+    a_return : {c : Allowed} {last before_else mark : Bool} {ts a : Tokens} {m : Maybe} → c.return_statement ≡ true → EndsBy last ts (piece mark (Word (codes "return")) a) → ReadsReturned c a m → ReadsStatement c last before_else ts (tree.return_statement (nothing_of 0) m)
+
+  -- what `return` gives back, on the line of its word (14.10)
+  pub data ReadsReturned : Allowed → Tokens → Maybe → Type 0 where
+    nothing_returned : {c : Allowed} → ReadsReturned c done absent
+    a_returned_value : {c : Allowed} {ts : Tokens} {e : Tree} → on_same_line ts ≡ true → ReadsExpression (with_in c) Expression ts e → ReadsReturned c ts (given e)
 
   -- first in the head of a loop: nothing, a declaration or an expression, all without `in` (14.7.4)
   pub data ReadsInit : Allowed → Tokens → Maybe → Type 0 where
@@ -474,6 +502,7 @@ mutual
   -- what stands in a list of statements: a statement or a declaration (14.2)
   pub data ReadsItem : Allowed → Bool → Tokens → Tree → Type 0 where
     a_statement : {c : Allowed} {last : Bool} {ts : Tokens} {s : Tree} → ReadsStatement c last false ts s → ReadsItem c last ts s
+    a_function_declaration : {c : Allowed} {last mark : Bool} {ts : Tokens} {t : Tree} → ReadsFunction kinds.Declaration ts t → ReadsItem c last (piece mark (Word (codes "function")) ts) t
     a_declaration : {c : Allowed} {last : Bool} {ts a : Tokens} {d : Tree} (kind : VariableDeclarationKind) → is_var kind ≡ false → EndsBy last ts a → ReadsVariables (with_in c) kind a d → ReadsItem c last ts d
 
   pub data ReadsStatements : Allowed → Bool → Tokens → Trees → Type 0 where

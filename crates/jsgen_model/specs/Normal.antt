@@ -1,18 +1,21 @@
 -- What two trees of one meaning have in common.
-use Rattle.std.specs.Prelude.{ℕ, List, [], ◌∷◌, Bool, true, false, Option, Some, None, decimal, if◌then◌else◌, ◌&&◌, ◌||◌}
-use Rattle.jsgen_tree.specs.Atom.{Atom, no_value, text, units, flag, numeric_kind, declaration_kind, binary_operator, logical_operator, unary_operator, update_operator, property_kind, assignment_operator}
+use Rattle.std.specs.Prelude.{ℕ, List, [], ◌∷◌, Bool, true, false, not, Option, Some, None, decimal, if◌then◌else◌, ◌&&◌, ◌||◌}
+use Rattle.jsgen_tree.specs.Atom.{Atom, no_value, text, units, flag, numeric_kind, declaration_kind, kind_of_function, binary_operator, logical_operator, unary_operator, update_operator, property_kind, assignment_operator}
 use Rattle.std.specs.Option.{option_map_or}
 use Rattle.jsgen_tree.specs.Number.{NumericKind, Whole, Raw}
 use Rattle.jsgen_tree.specs.Tree.{Tree, node, Slots, no_slots, one, maybe, many, maybe_many, Maybe, absent, given, Trees, no_trees, more, hole, MaybeTrees, no_list, listed, Atoms}
 use Rattle.jsgen_tree.specs.declared.types.NodeType.TheVariants as types
 use Rattle.jsgen_tree.specs.Places.{bare, absent_values}
-use Rattle.jsgen_tree.specs.Values.{directive_directive, variable_declaration_kind, binding_identifier_name, identifier_reference_name, identifier_name_name, label_identifier_name, for_of_statement_is_await, boolean_literal_value, numeric_literal_kind, numeric_literal_negative, numeric_literal_digits, numeric_literal_text, big_int_literal_value, string_literal_value, binary_expression_operator, logical_expression_operator, unary_expression_operator, update_expression_operator, update_expression_prefix, variable_declaration_declare, variable_declarator_definite, static_member_expression_optional, computed_member_expression_optional, call_expression_optional, object_property_kind, object_property_method, object_property_shorthand, object_property_computed, assignment_expression_operator, formal_parameter_is_override, formal_parameter_readonly, formal_parameter_optional, arrow_function_expression_is_async}
+use Rattle.jsgen_tree.specs.Values.{directive_directive, variable_declaration_kind, binding_identifier_name, identifier_reference_name, identifier_name_name, label_identifier_name, for_of_statement_is_await, boolean_literal_value, numeric_literal_kind, numeric_literal_negative, numeric_literal_digits, numeric_literal_text, big_int_literal_value, string_literal_value, binary_expression_operator, logical_expression_operator, unary_expression_operator, update_expression_operator, update_expression_prefix, variable_declaration_declare, variable_declarator_definite, static_member_expression_optional, computed_member_expression_optional, call_expression_optional, object_property_kind, object_property_method, object_property_shorthand, object_property_computed, assignment_expression_operator, function_kind, function_is_async, function_generator, function_declare, formal_parameter_is_override, formal_parameter_readonly, formal_parameter_optional, arrow_function_expression_is_async}
 use Rattle.jsgen_syntax.specs.Raw.{directive_value}
 use Rattle.jsgen_syntax.specs.declared.operator.LogicalOperator.{LogicalOperator}
 use Rattle.jsgen_syntax.specs.declared.operator.UnaryOperator.TheVariants.{UnaryNegation}
 use Rattle.jsgen_syntax.specs.declared.operator.LogicalOperator.TheVariants.{Or, And, Coalesce}
 use Rattle.jsgen_tree.specs.declared.statements.VariableDeclarationKind.{VariableDeclarationKind}
-use Rattle.jsgen_tree.specs.Inside.{ends_open, written_name_in, is_proto, behind_minus, is_negative_number}
+use Rattle.jsgen_tree.specs.declared.collections.PropertyKind.{PropertyKind}
+use Rattle.jsgen_tree.specs.declared.collections.PropertyKind.TheVariants as property_kinds
+use Rattle.jsgen_tree.specs.declared.functions.FunctionKind.{FunctionKind}
+use Rattle.jsgen_tree.specs.Inside.{ends_open, written_name_in, is_proto, is_method, behind_minus, is_negative_number}
 use Rattle.jsgen_tree.specs.Nodes as tree
 
 -- ---- what a normal form holds: one value for each field, and none of a field that doesn't count
@@ -43,6 +46,14 @@ by_text w = bare (numeric_kind Raw ∷ no_value ∷ no_value ∷ text w ∷ [])
 
 abbrev pub declared_as : VariableDeclarationKind → Atoms
 declared_as kind = bare (declaration_kind kind ∷ no_value ∷ [])
+
+-- a function by where it stands; whether it is pure or marked as called doesn't count
+abbrev pub function_values : FunctionKind → Atom → Atom → Atom → Atoms
+function_values kind is_async generator declare = bare (kind_of_function kind ∷ is_async ∷ generator ∷ declare ∷ no_value ∷ no_value ∷ [])
+
+-- of one that is neither `async` nor a generator
+abbrev pub function_as : FunctionKind → Atoms
+function_as kind = function_values kind no_value no_value no_value
 
 abbrev pub number_text : NumericKind → Atoms → List ℕ
 number_text Whole a = decimal (numeric_literal_digits a)
@@ -107,13 +118,27 @@ abbrev pub unbraced : Tree → Tree
 unbraced (tree.block a (more s no_trees)) = if ends_open s then s else tree.block a (more s no_trees)
 unbraced t = t
 
--- the property `__proto__` that its value alone says, which is another thing than `__proto__: __proto__`
-abbrev pub is_proto_shorthand : Bool → Tree → Bool
-is_proto_shorthand shorthand key = option_map_or is_proto (written_name_in key) false && shorthand
+-- of a property: what it is, whether it is written as a method, whether its name alone says it, and whether its key is computed
+abbrev pub property_values : PropertyKind → Bool → Bool → Bool → Atoms
+property_values kind method shorthand computed = bare (property_kind kind ∷ flag method ∷ flag shorthand ∷ flag computed ∷ [])
+
+-- of an accessor the flag doesn't count
+abbrev pub is_written_as_method : PropertyKind → Bool → Bool
+is_written_as_method property_kinds.Init method = method
+is_written_as_method kind method = false
+
+-- the property `__proto__` that its value alone says, which is another thing than `__proto__: __proto__`; no method is one
+abbrev pub is_proto_shorthand : Bool → Bool → Tree → Bool
+is_proto_shorthand method shorthand key = not method && option_map_or is_proto (written_name_in key) false && shorthand
 
 -- a key that is computed, or stands in brackets since it is a negative number
 abbrev pub is_computed : Bool → Tree → Bool
 is_computed computed key = computed || is_negative_number key
+
+-- what counts of a property
+abbrev pub property_form : Atoms → Tree → Atoms
+property_form a key = property_values (object_property_kind a) (is_written_as_method (object_property_kind a) (object_property_method a))
+    (is_proto_shorthand (is_method (object_property_kind a) (object_property_method a)) (object_property_shorthand a) key) (is_computed (object_property_computed a) key)
 
 -- Parentheses, spans, the source and the kind of a program are away, and whether a call, `new` or a function is pure, or is marked as called; a directive is its value; a
 -- whole number is its digits, and a minus before a number is an operation; a negative number that is a key is a computed one; a chain of one logical operator is one list, however it was grouped, and so is a sequence; braces round a consequent
@@ -167,7 +192,7 @@ abbrev mutual
   normal (tree.super a) = tree.super (nothing_of 0)
   normal (tree.new_target a) = tree.new_target (nothing_of 0)
   normal (tree.object_expression a properties) = tree.object_expression (nothing_of 0) (normal_trees properties)
-  normal (tree.object_property a key value) = tree.object_property (bare (property_kind (object_property_kind a) ∷ object_property_method a ∷ flag (is_proto_shorthand (object_property_shorthand a) key) ∷ flag (is_computed (object_property_computed a) key) ∷ [])) (normal key) (normal value)
+  normal (tree.object_property a key value) = tree.object_property (property_form a key) (normal key) (normal value)
   normal (tree.conditional a test consequent alternate) = tree.conditional (nothing_of 0) (normal test) (normal consequent) (normal alternate)
   normal (tree.sequence a expressions) = tree.sequence (nothing_of 0) (flattened (normal_trees expressions))
   normal (tree.assignment a left right) = tree.assignment (bare (assignment_operator (assignment_expression_operator a) ∷ [])) (normal left) (normal right)
@@ -175,6 +200,9 @@ abbrev mutual
   normal (tree.formal_parameter_rest a argument) = tree.formal_parameter_rest (nothing_of 0) (normal argument)
   normal (tree.formal_parameters a items rest) = tree.formal_parameters (nothing_of 0) (normal_trees items) (normal_maybe rest)
   normal (tree.arrow_function a params body) = tree.arrow_function (bare (arrow_function_expression_is_async a ∷ no_value ∷ no_value ∷ [])) (normal params) (normal body)
+  normal (tree.function a id params body) = tree.function (function_values (function_kind a) (function_is_async a) (function_generator a) (function_declare a)) (normal_maybe id) (normal params) (normal_maybe body)
+  normal (tree.function_body a directives statements) = tree.function_body (nothing_of 0) (normal_trees directives) (normal_trees statements)
+  normal (tree.return_statement a argument) = tree.return_statement (nothing_of 0) (normal_maybe argument)
   normal (node type a slots) = node type (bare a.values) (normal_slots slots)
 
   pub normal_slots : Slots → Slots

@@ -9,7 +9,7 @@ use Rattle.jsgen_tree.specs.Tree.{Tree, node, Trees, no_trees, more, hole, Atoms
 use Rattle.jsgen_tree.specs.Nodes as tree
 use Rattle.jsgen_tree.specs.Table.{value_named}
 use Rattle.jsgen_tree.specs.Fields.{fields}
-use Rattle.jsgen_tree.specs.Values.{as_flag, program_kind, directive_directive, numeric_literal_kind, numeric_literal_digits, string_literal_value, variable_declaration_declare, variable_declarator_definite, for_of_statement_is_await, object_property_method, formal_parameter_is_override, formal_parameter_readonly, formal_parameter_optional, arrow_function_expression_is_async}
+use Rattle.jsgen_tree.specs.Values.{as_flag, program_kind, directive_directive, numeric_literal_kind, numeric_literal_digits, string_literal_value, variable_declaration_declare, variable_declarator_definite, for_of_statement_is_await, function_is_async, function_generator, function_declare, formal_parameter_is_override, formal_parameter_readonly, formal_parameter_optional, arrow_function_expression_is_async}
 use Rattle.jsgen_tree.specs.Everywhere.{Everywhere}
 use Rattle.jsgen_tree.specs.Options.{Comments, is_none}
 use Rattle.jsgen_tree.specs.Job.{JobData}
@@ -87,7 +87,7 @@ is_plain_row (tree.new_expression a callee arguments) = has_no_hole arguments
 is_plain_row (tree.super a) = true
 is_plain_row (tree.new_target a) = true
 is_plain_row (tree.object_expression a properties) = has_no_hole properties
-is_plain_row (tree.object_property a key value) = is_absent (object_property_method a)
+is_plain_row (tree.object_property a key value) = true
 is_plain_row (tree.conditional a test consequent alternate) = true
 is_plain_row (tree.sequence a expressions) = has_no_hole expressions
 is_plain_row (tree.assignment a left right) = true
@@ -95,6 +95,9 @@ is_plain_row (tree.formal_parameter a pattern initializer) = is_absent (formal_p
 is_plain_row (tree.formal_parameter_rest a argument) = true
 is_plain_row (tree.formal_parameters a items rest) = has_no_hole items
 is_plain_row (tree.arrow_function a params body) = is_absent (arrow_function_expression_is_async a)
+is_plain_row (tree.function a id params body) = is_absent (function_is_async a) && is_absent (function_generator a) && is_absent (function_declare a)
+is_plain_row (tree.function_body a directives statements) = has_no_hole directives && has_no_hole statements
+is_plain_row (tree.return_statement a argument) = true
 is_plain_row t = false
 
 abbrev pub IsPlain : Tree → Type 0

@@ -9,27 +9,26 @@ use Rattle.jsgen_syntax.specs.declared.operator.BinaryOperator.{BinaryOperator}
 use Rattle.jsgen_syntax.specs.declared.operator.BinaryOperator.TheVariants as operators
 use Rattle.jsgen_syntax.specs.declared.operator.LogicalOperator.{LogicalOperator}
 use Rattle.jsgen_syntax.specs.declared.operator.LogicalOperator.TheVariants as logical_operators
-use Rattle.jsgen_syntax.specs.declared.operator.UnaryOperator.{UnaryOperator}
-use Rattle.jsgen_syntax.specs.declared.operator.UnaryOperator.TheVariants as unary_operators
-use Rattle.jsgen_syntax.specs.declared.operator.UpdateOperator.{UpdateOperator}
-use Rattle.jsgen_syntax.specs.declared.operator.UpdateOperator.TheVariants as update_operators
-use Rattle.jsgen_syntax.specs.declared.operator.AssignmentOperator.{AssignmentOperator}
-use Rattle.jsgen_syntax.specs.declared.operator.AssignmentOperator.TheVariants as assignment_operators
+use Rattle.jsgen_tree.specs.declared.collections.PropertyKind.{PropertyKind}
+use Rattle.jsgen_tree.specs.declared.collections.PropertyKind.TheVariants as property_kinds
+use Rattle.jsgen_tree.specs.declared.functions.FunctionKind.{FunctionKind}
+use Rattle.jsgen_tree.specs.declared.functions.FunctionKind.TheVariants as function_kinds
 use Rattle.jsgen_tree.specs.declared.types.NodeType.{NodeType}
 use Rattle.jsgen_tree.specs.declared.types.NodeType.TheVariants as types
 use Rattle.jsgen_tree.specs.Named.{Named, as_written}
-use Rattle.jsgen_tree.specs.Inside.{without_parentheses, ends_open, reference_named, binding_named, looked_up_in, written_name_in, is_proto, behind_minus, is_negative_number}
+use Rattle.jsgen_tree.specs.Inside.{without_parentheses, ends_open, reference_named, binding_named, looked_up_in, written_name_in, is_proto, is_method, behind_minus, is_negative_number}
 use Rattle.jsgen_tree.specs.Words.{declaration_word}
 use Rattle.jsgen_tree.specs.Number.{NumericKind, Whole, Raw}
 use Rattle.jsgen_tree.specs.Tree.{Tree, Maybe, absent, given, Trees, no_trees, more, hole, Atoms, type_of}
-use Rattle.jsgen_tree.specs.Values.{as_text, directive_directive, variable_declaration_kind, identifier_name_name, label_identifier_name, boolean_literal_value, numeric_literal_kind, numeric_literal_negative, numeric_literal_digits, numeric_literal_text, big_int_literal_value, string_literal_value, binary_expression_operator, logical_expression_operator, unary_expression_operator, update_expression_operator, update_expression_prefix, object_property_shorthand, object_property_computed, assignment_expression_operator, static_member_expression_optional, computed_member_expression_optional, call_expression_optional, arrow_function_expression_pife}
+use Rattle.jsgen_tree.specs.Values.{as_text, directive_directive, variable_declaration_kind, identifier_name_name, label_identifier_name, boolean_literal_value, numeric_literal_kind, numeric_literal_negative, numeric_literal_digits, numeric_literal_text, big_int_literal_value, string_literal_value, binary_expression_operator, logical_expression_operator, unary_expression_operator, update_expression_operator, update_expression_prefix, object_property_kind, object_property_method, object_property_shorthand, object_property_computed, function_kind, function_pife, assignment_expression_operator, static_member_expression_optional, computed_member_expression_optional, call_expression_optional, arrow_function_expression_pife}
 use Rattle.jsgen_tree.specs.Job.{JobData}
 use Rattle.jsgen_tree.specs.Nodes as tree
 use Rattle.jsgen_model.specs.Numbers.{takes_no_dot}
-use Rattle.jsgen_model.specs.Punctuator.{ellipsis, comma, semicolon, equal, plus, minus, star, slash, percent, star_star, equal_equal, not_equal, equal_equal_equal, not_equal_equal, less, less_equal, greater, greater_equal, shift_left, shift_right, shift_right_zero, bit_and, bit_or, bit_xor, and_and, or_or, nullish, Round, Square, Brace, bang, tilde, plus_plus, minus_minus, colon, question, plus_equal, minus_equal, star_equal, slash_equal, percent_equal, star_star_equal, shift_left_equal, shift_right_equal, shift_right_zero_equal, bit_or_equal, bit_xor_equal, bit_and_equal, or_or_equal, and_and_equal, nullish_equal, question_dot, arrow}
+use Rattle.jsgen_model.specs.Punctuator.{ellipsis, comma, semicolon, equal, minus, Round, Square, Brace, colon, question, question_dot, arrow}
 use Rattle.jsgen_model.specs.Quotes.{is_require_call, is_definition_call, is_export_target, is_export_mark}
 use Rattle.jsgen_model.specs.Items.{Items, nothing, ◌⊕◌, word, name, number, string, first_string, directive, punctuator, operator, member_dot, brackets, soft_space, soft_line, hard_space, body_space, deeper, indentation, wrapped, where_same, statement_end, due_semicolon, drop_semicolon, statement_begins, arrow_body_begins}
-use Rattle.jsgen_model.specs.Layout.{Start, nowhere, statement, arrow_body, unless_printed, layout, empty_pen, style_of}
+use Rattle.jsgen_model.specs.Layout.{Start, nowhere, statement, arrow_body, default_export, unless_printed, layout, empty_pen, style_of}
+use Rattle.jsgen_model.specs.Operators.{operator_item, logical_item, unary_sign, behind_unary, update_item, assignment_item}
 
 -- what an expression's surroundings forbid
 pub record Context : Type 0 where
@@ -138,77 +137,6 @@ abbrev pub wraps : Precedence → Place → Bool
 wraps own place = nat_le (rank own) (rank place.level)
 
 -- ---- operations
-
--- a word operator stands apart from words; a sign stands apart from a sign that it would join
-abbrev pub operator_item : BinaryOperator → Items
-operator_item operators.In = word (codes "in")
-operator_item operators.Instanceof = word (codes "instanceof")
-operator_item operators.Equality = operator equal_equal
-operator_item operators.Inequality = operator not_equal
-operator_item operators.StrictEquality = operator equal_equal_equal
-operator_item operators.StrictInequality = operator not_equal_equal
-operator_item operators.LessThan = operator less
-operator_item operators.LessEqualThan = operator less_equal
-operator_item operators.GreaterThan = operator greater
-operator_item operators.GreaterEqualThan = operator greater_equal
-operator_item operators.Addition = operator plus
-operator_item operators.Subtraction = operator minus
-operator_item operators.Multiplication = operator star
-operator_item operators.Division = operator slash
-operator_item operators.Remainder = operator percent
-operator_item operators.Exponential = operator star_star
-operator_item operators.ShiftLeft = operator shift_left
-operator_item operators.ShiftRight = operator shift_right
-operator_item operators.ShiftRightZeroFill = operator shift_right_zero
-operator_item operators.BitwiseOR = operator bit_or
-operator_item operators.BitwiseXOR = operator bit_xor
-operator_item operators.BitwiseAnd = operator bit_and
-
--- a logical sign joins no sign before it
-abbrev pub logical_item : LogicalOperator → Items
-logical_item logical_operators.Or = punctuator or_or
-logical_item logical_operators.And = punctuator and_and
-logical_item logical_operators.Coalesce = punctuator nullish
-
--- an operator before its operand: a word or a sign, as between two operands
-abbrev pub unary_sign : UnaryOperator → Items
-unary_sign unary_operators.UnaryPlus = operator plus
-unary_sign unary_operators.UnaryNegation = operator minus
-unary_sign unary_operators.LogicalNot = operator bang
-unary_sign unary_operators.BitwiseNot = operator tilde
-unary_sign unary_operators.Typeof = word (codes "typeof")
-unary_sign unary_operators.Void = word (codes "void")
-unary_sign unary_operators.Delete = word (codes "delete")
-
--- what stands between it and the operand
-abbrev pub behind_unary : UnaryOperator → Items
-behind_unary unary_operators.Typeof = soft_space
-behind_unary unary_operators.Void = soft_space
-behind_unary unary_operators.Delete = soft_space
-behind_unary o = nothing
-
-abbrev pub update_item : UpdateOperator → Items
-update_item update_operators.Increment = operator plus_plus
-update_item update_operators.Decrement = operator minus_minus
-
--- the sign of an assignment joins no sign before it
-abbrev pub assignment_item : AssignmentOperator → Items
-assignment_item assignment_operators.Assign = punctuator equal
-assignment_item assignment_operators.Addition = punctuator plus_equal
-assignment_item assignment_operators.Subtraction = punctuator minus_equal
-assignment_item assignment_operators.Multiplication = punctuator star_equal
-assignment_item assignment_operators.Division = punctuator slash_equal
-assignment_item assignment_operators.Remainder = punctuator percent_equal
-assignment_item assignment_operators.Exponential = punctuator star_star_equal
-assignment_item assignment_operators.ShiftLeft = punctuator shift_left_equal
-assignment_item assignment_operators.ShiftRight = punctuator shift_right_equal
-assignment_item assignment_operators.ShiftRightZeroFill = punctuator shift_right_zero_equal
-assignment_item assignment_operators.BitwiseOR = punctuator bit_or_equal
-assignment_item assignment_operators.BitwiseXOR = punctuator bit_xor_equal
-assignment_item assignment_operators.BitwiseAnd = punctuator bit_and_equal
-assignment_item assignment_operators.LogicalOr = punctuator or_or_equal
-assignment_item assignment_operators.LogicalAnd = punctuator and_and_equal
-assignment_item assignment_operators.LogicalNullish = punctuator nullish_equal
 
 -- the operator stands before the operand, where the test holds, or behind it
 abbrev pub update_level : Bool → Precedence
@@ -499,6 +427,22 @@ abbrev pub property_items : Bool → Option (List ℕ) → Option Named → Item
 property_items shorthand None value alone whole = whole
 property_items shorthand (Some w) value alone whole = by_key shorthand w value alone whole
 
+-- the word before the key of an accessor
+abbrev pub accessor_word : PropertyKind → Items
+accessor_word property_kinds.Init = nothing
+accessor_word property_kinds.Get = word (codes "get") ⊕ soft_space
+accessor_word property_kinds.Set = word (codes "set") ⊕ soft_space
+
+-- the key of an accessor stands behind its word, and that of a method where the method begins
+abbrev pub key_place : PropertyKind → Place → Place
+key_place property_kinds.Init place = in_front Comma place
+key_place kind place = behind Comma place
+
+-- what a method or an accessor is spelled by, or any other property
+abbrev pub method_or_property : Bool → Items → Items → Items
+method_or_property true method property = method
+method_or_property false method property = property
+
 -- ECMA-262, 12.9.2
 abbrev pub truth_word : Bool → List ℕ
 truth_word true = codes "true"
@@ -544,6 +488,35 @@ parameter_items false items = brackets Round items
 -- an arrow function stands in parentheses where something tighter is asked for, and where it is marked so
 abbrev pub arrow_wraps : Bool → Place → Bool
 arrow_wraps pife place = pife || wraps Assign place
+
+-- a function expression stands in parentheses where it is marked so, and where a statement or a default export begins with it
+-- (ECMA-262, 14.5 and 16.2.3)
+abbrev pub bars_function : Start → Bool
+bars_function statement = true
+bars_function default_export = true
+bars_function start = false
+
+abbrev pub function_wraps : Bool → Place → Bool
+function_wraps pife place = pife || bars_function place.start
+
+-- a declaration among statements is a line of its own, and is never in parentheses
+abbrev pub function_items : FunctionKind → Bool → Place → Items → Items
+function_items function_kinds.Declaration pife place items = block_items place.in_list items
+function_items function_kinds.Expression pife place items = wrapped (function_wraps pife place) items
+
+-- a function's parameters, where calls may stand
+abbrev pub function_parameters : Place → Place
+function_parameters place = with_calls (behind Comma place)
+
+-- the braces of a function's body, in which an empty one has nothing
+abbrev pub body_braces : Trees → Trees → Items → Items
+body_braces no_trees no_trees items = brackets Brace nothing ⊕ drop_semicolon
+body_braces directives statements items = filled_braces items
+
+-- where an arrow function's body is an expression, it begins behind the arrow
+abbrev pub body_begins : NodeType → Items
+body_begins types.FunctionBody = nothing
+body_begins type = arrow_body_begins
 
 -- parameters stand in brackets, in which `in` may stand
 abbrev pub parameters_place : Place → Place
@@ -648,8 +621,10 @@ abbrev mutual
   -- up to one property stands on one line; as in an array, a comma would stand behind a last one that is left out, but none is
   spell (tree.object_expression a properties) place = wrapped (bars_brace place.start) (brackets Brace (object_inside properties (spell_elements (are_more 1 properties) properties (in_brackets Comma place) ⊕ comma_if (ends_in_hole properties))))
   spell (tree.object_property a key value) place =
-      property_items (object_property_shorthand a) (written_name_in key) (looked_up_in (without_parentheses value)) (spell value (in_front Comma place))
-      (with_key (key_items (needs_brackets (object_property_computed a) key) key (spell key (in_brackets Comma place)) (spell key (in_front Comma place))) (spell value (in_brackets Comma place)))
+      method_or_property (is_method (object_property_kind a) (object_property_method a))
+      (accessor_word (object_property_kind a) ⊕ (key_items (needs_brackets (object_property_computed a) key) key (spell key (in_brackets Comma place)) (spell key (key_place (object_property_kind a) place)) ⊕ spell_method value place))
+      (property_items (object_property_shorthand a) (written_name_in key) (looked_up_in (without_parentheses value)) (spell value (in_front Comma place))
+      (with_key (key_items (needs_brackets (object_property_computed a) key) key (spell key (in_brackets Comma place)) (spell key (in_front Comma place))) (spell value (in_brackets Comma place))))
   -- a choice binds to the right: what follows `?` and `:` may be an assignment
   spell (tree.conditional a test consequent alternate) place =
       wrapped (wraps Conditional place) (choice
@@ -666,8 +641,19 @@ abbrev mutual
   -- no line end stands before the arrow (ECMA-262, 15.3)
   spell (tree.arrow_function a params body) place =
       wrapped (arrow_wraps (arrow_function_expression_pife a) place) (parameter_items (is_bare place.settings params) (spell params (parameters_place place))
-      ⊕ (soft_space ⊕ (punctuator arrow ⊕ (soft_space ⊕ (arrow_body_begins ⊕ spell body (arrow_body_place (within (arrow_wraps (arrow_function_expression_pife a) place) place)))))))
+      ⊕ (soft_space ⊕ (punctuator arrow ⊕ (soft_space ⊕ (body_begins (type_of body) ⊕ spell body (arrow_body_place (within (arrow_wraps (arrow_function_expression_pife a) place) place)))))))
+  spell (tree.function a id params body) place =
+      function_items (function_kind a) (function_pife a) place (word (codes "function") ⊕ (spell_if_given id (behind Lowest place)
+      ⊕ (brackets Round (spell params (function_parameters place)) ⊕ spell_apart body (within_statement place.settings))))
+  spell (tree.function_body a directives statements) place =
+      body_braces directives statements (spell_directives directives place.settings ⊕ spell_body statements place.settings)
+  spell (tree.return_statement a argument) place = indentation ⊕ (word (codes "return") ⊕ (spell_apart argument (in_brackets Lowest place) ⊕ statement_end))
   spell t place = nothing
+
+  -- the function of a method or an accessor, behind its key
+  pub spell_method : Tree → Place → Items
+  spell_method (tree.function a id params body) place = brackets Round (spell params (function_parameters place)) ⊕ spell_apart body (within_statement place.settings)
+  spell_method t place = nothing
 
   -- the directives of a body, each with a semicolon of its own
   pub spell_directives : Trees → Settings → Items

@@ -11,6 +11,10 @@ use Rattle.jsgen_tree.specs.declared.types.NodeType.{NodeType}
 use Rattle.jsgen_tree.specs.declared.types.NodeType.TheVariants as types
 use Rattle.jsgen_tree.specs.declared.statements.CommentKind.{CommentKind}
 use Rattle.jsgen_tree.specs.declared.statements.CommentKind.TheVariants as comments
+use Rattle.jsgen_tree.specs.declared.collections.PropertyKind.{PropertyKind}
+use Rattle.jsgen_tree.specs.declared.collections.PropertyKind.TheVariants as property_kinds
+use Rattle.jsgen_tree.specs.declared.functions.FunctionKind.{FunctionKind}
+use Rattle.jsgen_tree.specs.declared.functions.FunctionKind.TheVariants as function_kinds
 use Rattle.jsgen_tree.specs.declared.statements.VariableDeclarationKind.{VariableDeclarationKind}
 use Rattle.jsgen_tree.specs.declared.statements.VariableDeclarationKind.TheVariants as kinds
 use Rattle.jsgen_tree.specs.Options.{Options}
@@ -20,21 +24,22 @@ use Rattle.jsgen_tree.specs.Table.{child_sets}
 use Rattle.jsgen_tree.specs.Fields.{fields}
 use Rattle.jsgen_tree.specs.Sets.{in_set, is_expression}
 use Rattle.jsgen_tree.specs.Number.{NumericKind, Whole, Raw}
-use Rattle.jsgen_tree.specs.Inside.{without_parentheses, looked_up_in, reference_named, binding_named, declared_kind, written_name_in, is_proto, is_negative_big_integer, has_optional_link}
+use Rattle.jsgen_tree.specs.Inside.{without_parentheses, looked_up_in, reference_named, binding_named, declared_kind, function_in, written_name_in, is_proto, is_method, is_negative_number, is_negative_big_integer, has_optional_link}
 use Rattle.jsgen_tree.specs.Tree.{Tree, node, Slots, no_slots, one, maybe, many, maybe_many, Maybe, absent, given, Trees, no_trees, more, hole, MaybeTrees, no_list, listed, type_of, span_of}
 use Rattle.jsgen_tree.specs.Nodes as tree
-use Rattle.jsgen_tree.specs.Values.{as_text, program_source, comment_kind, directive_directive, identifier_name_name, label_identifier_name, numeric_literal_kind, numeric_literal_text, big_int_literal_value, object_property_shorthand, object_property_computed, static_member_expression_optional, computed_member_expression_optional, call_expression_optional}
+use Rattle.jsgen_tree.specs.Values.{as_text, program_source, comment_kind, directive_directive, identifier_name_name, label_identifier_name, numeric_literal_kind, numeric_literal_text, big_int_literal_value, object_property_kind, object_property_method, object_property_shorthand, object_property_computed, function_kind, static_member_expression_optional, computed_member_expression_optional, call_expression_optional}
 use Rattle.jsgen_model.specs.Numbers.{is_raw_number, is_big_integer}
 use Rattle.jsgen_model.specs.Tokens.{has_line_end}
 use Rattle.jsgen_model.specs.declared.fault.TreeFault.{TreeFault}
 use Rattle.jsgen_model.specs.declared.fault.TreeFault.TheVariants as faults
 
--- what surrounds a node: the options, the tables, the program's source, and whether spans have to be of that source
+-- what surrounds a node: the options, the tables, the program's source, whether spans have to be of that source, and whether a function's body is round it
 pub record Surroundings : Type 0 where
   pub options : Options
   pub tables : Tables
   pub source : List ℕ
   pub is_mapped : Bool
+  pub in_function : Bool
 
 -- a child's place: the set that its field asks for, and what surrounds it
 pub record ChildPlace : Type 0 where
@@ -53,9 +58,14 @@ asked_sets types.ComputedMemberExpression = linked (child_sets (fields types.Com
 asked_sets types.CallExpression = linked (child_sets (fields types.CallExpression))
 asked_sets type = child_sets (fields type)
 
--- the places of a node's children, field by field: so far the same surrounds them all as the node
+-- what surrounds the children of a node: what surrounds it, but that of a function's body, where `return` may stand (ECMA-262, 15.2)
+abbrev pub around_children : Surroundings → NodeType → Surroundings
+around_children around types.FunctionBody = record around { in_function = true }
+around_children around type = around
+
+-- the places of a node's children, field by field
 abbrev pub child_places : Surroundings → Tree → List ChildPlace
-child_places around t = map (λ set. record { set = set; around = around }) (asked_sets (type_of t))
+child_places around t = map (λ set. record { set = set; around = around_children around (type_of t) }) (asked_sets (type_of t))
 
 abbrev pub fault_if : Bool → TreeFault → List TreeFault
 fault_if true f = f ∷ []
@@ -129,20 +139,46 @@ abbrev pub sequence_faults : Span → Trees → List TreeFault
 sequence_faults s (more t (more u ts)) = []
 sequence_faults s ts = faults.Place s.start ∷ []
 
--- what `if` and `else`, the head of a loop, `do` or a label are followed by is no lexical declaration (ECMA-262, 14.6, 14.7 and 14.13)
+-- what `if` and `else`, the head of a loop, `do` or a label are followed by is no declaration; `var` begins a statement (ECMA-262, 14.6, 14.7 and 14.13)
 abbrev pub is_lexical_word : VariableDeclarationKind → Bool
 is_lexical_word kinds.Var = false
 is_lexical_word kind = true
 
-abbrev pub is_lexical : Tree → Bool
-is_lexical t = option_map_or is_lexical_word (declared_kind t) false
+abbrev pub is_declaration : Tree → Bool
+is_declaration t = option_map_or is_lexical_word (declared_kind t) (is_some (function_in t))
 
 abbrev pub body_faults : Tree → List TreeFault
-body_faults t = fault_if (is_lexical t) (faults.Place (span_of t).start)
+body_faults t = fault_if (is_declaration t) (faults.Place (span_of t).start)
 
 abbrev pub alternate_faults : Maybe → List TreeFault
 alternate_faults absent = []
 alternate_faults (given t) = body_faults t
+
+-- a function has a body, and one that is declared has a name (ECMA-262, 15.2)
+abbrev pub function_faults : Span → FunctionKind → Maybe → Maybe → List TreeFault
+function_faults s function_kinds.Declaration absent body = faults.Place s.start ∷ []
+function_faults s kind id absent = faults.Place s.start ∷ []
+function_faults s kind id (given body) = []
+
+-- `return` stands in a function's body (ECMA-262, 14.10)
+abbrev pub return_faults : Bool → Span → List TreeFault
+return_faults in_function s = fault_if (not in_function) (faults.Place s.start)
+
+-- a getter has no parameter, and a setter has one, which doesn't take the rest (ECMA-262, 15.4)
+abbrev pub fits_accessor : PropertyKind → Tree → Bool
+fits_accessor property_kinds.Init params = true
+fits_accessor property_kinds.Get (tree.formal_parameters a no_trees absent) = true
+fits_accessor property_kinds.Set (tree.formal_parameters a (more p no_trees) absent) = true
+fits_accessor kind params = false
+
+-- the value of a method or an accessor is a function without a name
+abbrev pub fits_method : PropertyKind → Tree → Bool
+fits_method kind (tree.function a absent params body) = fits_accessor kind params
+fits_method kind t = false
+
+-- and its key, where it isn't computed, is no negative number
+abbrev pub method_faults : PropertyKind → Bool → Tree → Tree → List TreeFault
+method_faults kind computed key value = fault_if (not computed && is_negative_number key) (faults.Place (span_of key).start) ++ fault_if (not (fits_method kind value)) (faults.Place (span_of value).start)
 
 -- a label is an identifier in strict code (ECMA-262, 14.13)
 abbrev pub label_faults : Span → List ℕ → List TreeFault
@@ -314,7 +350,10 @@ own_faults around (tree.call a callee arguments) = super_faults (call_expression
 own_faults around (tree.chain a element) = chain_faults a.span element
 own_faults around (tree.update a argument) = target_faults argument
 own_faults around (tree.assignment a left right) = target_faults left
-own_faults around (tree.object_property a key value) = key_faults (object_property_computed a) key ++ shorthand_faults around.tables (object_property_shorthand a) key value
+own_faults around (tree.object_property a key value) = key_faults (object_property_computed a) key
+    ++ (if is_method (object_property_kind a) (object_property_method a) then method_faults (object_property_kind a) (object_property_computed a) key value else shorthand_faults around.tables (object_property_shorthand a) key value)
+own_faults around (tree.function a id params body) = function_faults a.span (function_kind a) id body
+own_faults around (tree.return_statement a argument) = return_faults around.in_function a.span
 own_faults around (tree.sequence a expressions) = sequence_faults a.span expressions
 own_faults around t = []
 
@@ -337,9 +376,23 @@ takes_optional_link set = false
 abbrev pub link_faults : NodeSet → Tree → List TreeFault
 link_faults set t = fault_if (not (takes_optional_link set) && has_optional_link t) (faults.Place (span_of t).start)
 
--- a child is of the set that its field asks for, and `super` and optional links only where they may be
+-- a function is a declaration where it stands among statements, and an expression everywhere else
+abbrev pub stands_among : NodeSet → FunctionKind
+stands_among sets.Statement = function_kinds.Declaration
+stands_among set = function_kinds.Expression
+
+abbrev pub same_kind : FunctionKind → FunctionKind → Bool
+same_kind function_kinds.Declaration function_kinds.Declaration = true
+same_kind function_kinds.Expression function_kinds.Expression = true
+same_kind k l = false
+
+abbrev pub fits_kind : NodeSet → Tree → Bool
+fits_kind set (tree.function a id params body) = same_kind (function_kind a) (stands_among set)
+fits_kind set t = true
+
+-- a child is of the set that its field asks for, and `super`, optional links and functions only where they may be
 abbrev pub set_faults : NodeSet → Tree → List TreeFault
-set_faults set t = fault_if (not (may_stand set (type_of t))) (faults.Place (span_of t).start) ++ link_faults set t
+set_faults set t = fault_if (not (may_stand set (type_of t) && fits_kind set t)) (faults.Place (span_of t).start) ++ link_faults set t
 
 -- no field asks for a child that has no place
 abbrev pub place_faults : List ChildPlace → Tree → List TreeFault
@@ -389,7 +442,7 @@ source_of (tree.program a comments directives body) = program_source a
 source_of t = []
 
 abbrev pub surroundings_of : JobData → Surroundings
-surroundings_of job = record { options = job.options; tables = job.tables; source = source_of job.program; is_mapped = is_some job.options.source_map_path }
+surroundings_of job = record { options = job.options; tables = job.tables; source = source_of job.program; is_mapped = is_some job.options.source_map_path; in_function = false }
 
 abbrev pub job_breaches : JobData → List TreeFault
 job_breaches job = breaches (surroundings_of job) job.program
@@ -403,7 +456,7 @@ IsValid job = job_breaches job ≡ []
 -- An expression by itself is checked as that of the one statement of a module, where `super` has no place. It has no source, and
 -- its own height counts
 abbrev pub expression_breaches : Options → Tables → Tree → List TreeFault
-expression_breaches options tables t = set_faults sets.Expression t ++ breaches (record { options = options; tables = tables; source = []; is_mapped = false }) t ++ indent_faults options t
+expression_breaches options tables t = set_faults sets.Expression t ++ breaches (record { options = options; tables = tables; source = []; is_mapped = false; in_function = false }) t ++ indent_faults options t
 
 -- no rule is broken by the expression, under these options and tables
 abbrev pub IsValidExpression : Options → Tables → Tree → Type 0

@@ -2,8 +2,7 @@
 use Rattle.std.proofs.Common.{◌≡◌, Bool, true, false, None, refl}
 use Rattle.jsgen_tree.specs.Tree.{Tree, Atoms, type_of}
 use Rattle.jsgen_tree.specs.Nodes.{numeric_literal, big_int_literal, string_literal, unary, logical, parenthesized}
-use Rattle.jsgen_tree.specs.Sets.{is_expression}
-use Rattle.jsgen_tree.specs.Inside.{without_parentheses, ends_open}
+use Rattle.jsgen_tree.specs.Inside.{is_only_expression, without_parentheses, ends_open}
 use Rattle.jsgen_tree.specs.Rows.{expression_plain, statement_plain}
 use Rattle.jsgen_tree.specs.declared.sets.Expression.{Expression}
 use Rattle.jsgen_tree.specs.declared.sets.Statement.{Statement}
@@ -40,9 +39,9 @@ pub no_statement : {N : Type 0} (h : N → Tree) (n : Expression N) → None ≡
 no_statement h (expressions.StringLiteral b) = refl
 no_statement h n = refl
 
--- ---- what stands in parentheses, where only an expression is looked into
+-- ---- what stands in parentheses, where only an expression that is no function is looked into
 
-operand_outside : (t : Tree) → is_expression (type_of t) ≡ false → operand_of (without_parentheses t) ≡ other_operand
+operand_outside : (t : Tree) → is_only_expression (type_of t) ≡ false → operand_of (without_parentheses t) ≡ other_operand
 operand_outside (numeric_literal a) h = let no : true ≡ false = h in cc
 operand_outside (big_int_literal a) h = let no : true ≡ false = h in cc
 operand_outside (unary a t) h = let no : true ≡ false = h in cc
@@ -52,22 +51,22 @@ operand_outside t h = refl
 
 pub operand_inside : (a : Atoms) (t : Tree) → operand_of (without_parentheses t) ≡ operand_of (without_parentheses (parenthesized a t))
 operand_inside a t =
-    go (is_expression (type_of t)) refl
+    go (is_only_expression (type_of t)) refl
   where
-    go : (b : Bool) → is_expression (type_of t) ≡ b → operand_of (without_parentheses t) ≡ operand_of (without_parentheses (parenthesized a t))
+    go : (b : Bool) → is_only_expression (type_of t) ≡ b → operand_of (without_parentheses t) ≡ operand_of (without_parentheses (parenthesized a t))
     go true h = rw h refl
     go false h = rw h (operand_outside t h)
 
-string_outside : (t : Tree) → is_expression (type_of t) ≡ false → string_in (without_parentheses t) ≡ None
+string_outside : (t : Tree) → is_only_expression (type_of t) ≡ false → string_in (without_parentheses t) ≡ None
 string_outside (string_literal a) h = let no : true ≡ false = h in cc
 string_outside (parenthesized a e) h = let no : true ≡ false = h in cc
 string_outside t h = refl
 
 pub string_inside : (a : Atoms) (t : Tree) → string_in (without_parentheses t) ≡ string_in (without_parentheses (parenthesized a t))
 string_inside a t =
-    go (is_expression (type_of t)) refl
+    go (is_only_expression (type_of t)) refl
   where
-    go : (b : Bool) → is_expression (type_of t) ≡ b → string_in (without_parentheses t) ≡ string_in (without_parentheses (parenthesized a t))
+    go : (b : Bool) → is_only_expression (type_of t) ≡ b → string_in (without_parentheses t) ≡ string_in (without_parentheses (parenthesized a t))
     go true h = rw h refl
     go false h = rw h (string_outside t h)
 

@@ -7,7 +7,8 @@ use Rattle.jsgen_tree.specs.Tree.{Tree}
 use Rattle.jsgen_model.specs.Items.{Items, ◌⊕◌, soft_space}
 use Rattle.jsgen_model.specs.Layout.{Pen, nowhere, layout, unless_printed, not}
 use Rattle.jsgen_model.specs.Spell as spells
-use Rattle.jsgen_model.specs.Spell.{spell, assigned, behind, assignment_item, quoted_plainly}
+use Rattle.jsgen_model.specs.Spell.{spell, assigned, behind, quoted_plainly}
+use Rattle.jsgen_model.specs.Operators.{assignment_item}
 use Rattle.jsgen_model.specs.Quotes.{is_export_target}
 use Rattle.jsgen_model.specs.Printing.{Reaches, IsPrefix}
 use Rattle.jsgen_place.specs.declared.place.Place.{Place}

@@ -8,6 +8,7 @@ pub mod DeclarationWords
 pub mod Elsewhere
 pub mod IsNot
 pub mod Keys
+pub mod Accessors
 pub mod Operations
 pub mod Parts
 pub mod Prefixes
@@ -18,3 +19,4 @@ pub mod Conditionals
 pub mod Enclosed
 pub mod Given
 pub mod Asked
+pub mod Filled

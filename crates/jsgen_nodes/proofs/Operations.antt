@@ -11,13 +11,14 @@ use Rattle.jsgen_model.specs.Punctuator.{Round, opening, closing}
 use Rattle.jsgen_model.specs.Items.{Items, ◌⊕◌, soft_space, wrapped}
 use Rattle.jsgen_model.specs.Layout.{Pen, nowhere, layout, written_if, text_if, unless_printed, not}
 use Rattle.jsgen_model.specs.Spell as spells
-use Rattle.jsgen_model.specs.Spell.{spell, left_of, behind, within, left_level, right_level, unmixed, operator_item, logical_item, quoted_plainly}
+use Rattle.jsgen_model.specs.Spell.{spell, left_of, behind, within, left_level, right_level, unmixed, quoted_plainly}
+use Rattle.jsgen_model.specs.Operators.{operator_item, logical_item}
 use Rattle.jsgen_model.specs.Quotes.{is_export_mark}
 use Rattle.jsgen_place.specs.declared.place.Place.{Place}
 use Rattle.jsgen_place.specs.Place.{settings_of, context_of, place_of, place_within}
 use Rattle.jsgen_model.specs.Printing.{Reaches, IsPrefix, Stops}
 use Rattle.jsgen_printer.proofs.Prefixes.{whole_prefix, prefix_append, more_prefix}
-use Rattle.jsgen_printer.proofs.Stops.{reaches_last, stops_within, layout_more, appends}
+use Rattle.jsgen_printer.proofs.Stops.{reaches_last, stops_within, layout_appends, layout_more, appends}
 
 -- nothing begins behind an operator
 pub operator_nowhere : (o : BinaryOperator) (pen : Pen) → (layout (operator_item o) pen).start ≡ nowhere
@@ -70,3 +71,7 @@ binary_items o left right place = spell left (quoted_plainly (is_export_mark pla
 
 abbrev pub logical_items : LogicalOperator → Tree → Tree → spells.Place → Items
 logical_items o left right place = spell left (left_of (unmixed o left (logical_lower_level o)) place) ⊕ (soft_space ⊕ (logical_item o ⊕ (soft_space ⊕ spell right (behind (unmixed o right (logical_level o)) place))))
+
+-- where it runs out before them
+pub stops_opening_if : {old new : Pen} (wraps : Bool) (items : Items) → Stops old new (written_if wraps (opening Round) old) → Stops old new (layout (wrapped wraps items) old)
+stops_opening_if {old} wraps items s = stops_within s (whole_prefix old.code) (more_prefix (text_if wraps (closing Round)) (layout_appends items (written_if wraps (opening Round) old)))

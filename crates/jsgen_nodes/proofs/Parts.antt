@@ -2,10 +2,12 @@
 -- A member that is in no earlier part of the choice, and of no type of this one, is in a later part.
 use Rattle.std.proofs.Common.{◌≡◌, true, false, refl, nat_le}
 use Rattle.jsgen_nodes.proofs.IsNot.{IsNot}
-use Rattle.jsgen_nodes.specs.Parts.{expression_part, statement_part}
+use Rattle.jsgen_nodes.specs.Parts.{expression_part, declaration_part, statement_part}
 use Rattle.jsgen_tree.specs.declared.sets.Expression.{Expression}
+use Rattle.jsgen_tree.specs.declared.sets.Declaration.{Declaration}
 use Rattle.jsgen_tree.specs.declared.sets.Statement.{Statement}
 use Rattle.jsgen_tree.specs.declared.sets.Expression.TheVariants as expressions
+use Rattle.jsgen_tree.specs.declared.sets.Declaration.TheVariants as declarations
 use Rattle.jsgen_tree.specs.declared.sets.Statement.TheVariants as statements
 
 pub expression_past_0 : {N : Type 0} (n : Expression N) → IsNot n expressions.IdentifierReference → IsNot n expressions.ThisExpression → IsNot n expressions.NullLiteral → IsNot n expressions.BooleanLiteral → IsNot n expressions.NumericLiteral → IsNot n expressions.BigIntLiteral → IsNot n expressions.StringLiteral → IsNot n expressions.ParenthesizedExpression → IsNot n expressions.BinaryExpression → IsNot n expressions.LogicalExpression → IsNot n expressions.StaticMemberExpression → IsNot n expressions.ComputedMemberExpression → IsNot n expressions.CallExpression → IsNot n expressions.ChainExpression → nat_le 1 (expression_part n) ≡ true
@@ -95,32 +97,41 @@ expression_past_3 (expressions.SequenceExpression b) later no_0 no_1 no_2 = absu
 expression_past_3 (expressions.AssignmentExpression b) later no_0 no_1 no_2 = absurd (no_2 b refl)
 expression_past_3 n later no_0 no_1 no_2 = refl
 
-pub expression_past_4 : {N : Type 0} (n : Expression N) → nat_le 4 (expression_part n) ≡ true → IsNot n expressions.ArrowFunctionExpression → ⊥
-expression_past_4 (expressions.IdentifierReference b) later no_0 = let no : false ≡ true = later in cc
-expression_past_4 (expressions.ThisExpression b) later no_0 = let no : false ≡ true = later in cc
-expression_past_4 (expressions.NullLiteral b) later no_0 = let no : false ≡ true = later in cc
-expression_past_4 (expressions.BooleanLiteral b) later no_0 = let no : false ≡ true = later in cc
-expression_past_4 (expressions.NumericLiteral b) later no_0 = let no : false ≡ true = later in cc
-expression_past_4 (expressions.BigIntLiteral b) later no_0 = let no : false ≡ true = later in cc
-expression_past_4 (expressions.StringLiteral b) later no_0 = let no : false ≡ true = later in cc
-expression_past_4 (expressions.ParenthesizedExpression b) later no_0 = let no : false ≡ true = later in cc
-expression_past_4 (expressions.BinaryExpression b) later no_0 = let no : false ≡ true = later in cc
-expression_past_4 (expressions.LogicalExpression b) later no_0 = let no : false ≡ true = later in cc
-expression_past_4 (expressions.StaticMemberExpression b) later no_0 = let no : false ≡ true = later in cc
-expression_past_4 (expressions.ComputedMemberExpression b) later no_0 = let no : false ≡ true = later in cc
-expression_past_4 (expressions.CallExpression b) later no_0 = let no : false ≡ true = later in cc
-expression_past_4 (expressions.ChainExpression b) later no_0 = let no : false ≡ true = later in cc
-expression_past_4 (expressions.ArrayExpression b) later no_0 = let no : false ≡ true = later in cc
-expression_past_4 (expressions.ObjectExpression b) later no_0 = let no : false ≡ true = later in cc
-expression_past_4 (expressions.UnaryExpression b) later no_0 = let no : false ≡ true = later in cc
-expression_past_4 (expressions.NewTarget b) later no_0 = let no : false ≡ true = later in cc
-expression_past_4 (expressions.UpdateExpression b) later no_0 = let no : false ≡ true = later in cc
-expression_past_4 (expressions.NewExpression b) later no_0 = let no : false ≡ true = later in cc
-expression_past_4 (expressions.Super b) later no_0 = let no : false ≡ true = later in cc
-expression_past_4 (expressions.ConditionalExpression b) later no_0 = let no : false ≡ true = later in cc
-expression_past_4 (expressions.SequenceExpression b) later no_0 = let no : false ≡ true = later in cc
-expression_past_4 (expressions.AssignmentExpression b) later no_0 = let no : false ≡ true = later in cc
-expression_past_4 (expressions.ArrowFunctionExpression b) later no_0 = absurd (no_0 b refl)
+pub expression_past_4 : {N : Type 0} (n : Expression N) → nat_le 4 (expression_part n) ≡ true → IsNot n expressions.Function → IsNot n expressions.ArrowFunctionExpression → ⊥
+expression_past_4 (expressions.IdentifierReference b) later no_0 no_1 = let no : false ≡ true = later in cc
+expression_past_4 (expressions.ThisExpression b) later no_0 no_1 = let no : false ≡ true = later in cc
+expression_past_4 (expressions.NullLiteral b) later no_0 no_1 = let no : false ≡ true = later in cc
+expression_past_4 (expressions.BooleanLiteral b) later no_0 no_1 = let no : false ≡ true = later in cc
+expression_past_4 (expressions.NumericLiteral b) later no_0 no_1 = let no : false ≡ true = later in cc
+expression_past_4 (expressions.BigIntLiteral b) later no_0 no_1 = let no : false ≡ true = later in cc
+expression_past_4 (expressions.StringLiteral b) later no_0 no_1 = let no : false ≡ true = later in cc
+expression_past_4 (expressions.ParenthesizedExpression b) later no_0 no_1 = let no : false ≡ true = later in cc
+expression_past_4 (expressions.BinaryExpression b) later no_0 no_1 = let no : false ≡ true = later in cc
+expression_past_4 (expressions.LogicalExpression b) later no_0 no_1 = let no : false ≡ true = later in cc
+expression_past_4 (expressions.StaticMemberExpression b) later no_0 no_1 = let no : false ≡ true = later in cc
+expression_past_4 (expressions.ComputedMemberExpression b) later no_0 no_1 = let no : false ≡ true = later in cc
+expression_past_4 (expressions.CallExpression b) later no_0 no_1 = let no : false ≡ true = later in cc
+expression_past_4 (expressions.ChainExpression b) later no_0 no_1 = let no : false ≡ true = later in cc
+expression_past_4 (expressions.ArrayExpression b) later no_0 no_1 = let no : false ≡ true = later in cc
+expression_past_4 (expressions.ObjectExpression b) later no_0 no_1 = let no : false ≡ true = later in cc
+expression_past_4 (expressions.UnaryExpression b) later no_0 no_1 = let no : false ≡ true = later in cc
+expression_past_4 (expressions.NewTarget b) later no_0 no_1 = let no : false ≡ true = later in cc
+expression_past_4 (expressions.UpdateExpression b) later no_0 no_1 = let no : false ≡ true = later in cc
+expression_past_4 (expressions.NewExpression b) later no_0 no_1 = let no : false ≡ true = later in cc
+expression_past_4 (expressions.Super b) later no_0 no_1 = let no : false ≡ true = later in cc
+expression_past_4 (expressions.ConditionalExpression b) later no_0 no_1 = let no : false ≡ true = later in cc
+expression_past_4 (expressions.SequenceExpression b) later no_0 no_1 = let no : false ≡ true = later in cc
+expression_past_4 (expressions.AssignmentExpression b) later no_0 no_1 = let no : false ≡ true = later in cc
+expression_past_4 (expressions.Function b) later no_0 no_1 = absurd (no_0 b refl)
+expression_past_4 (expressions.ArrowFunctionExpression b) later no_0 no_1 = absurd (no_1 b refl)
+
+pub declaration_past_0 : {N : Type 0} (n : Declaration N) → IsNot n declarations.VariableDeclaration → nat_le 1 (declaration_part n) ≡ true
+declaration_past_0 (declarations.VariableDeclaration b) no_0 = absurd (no_0 b refl)
+declaration_past_0 n no_0 = refl
+
+pub declaration_past_1 : {N : Type 0} (n : Declaration N) → nat_le 1 (declaration_part n) ≡ true → IsNot n declarations.Function → ⊥
+declaration_past_1 (declarations.VariableDeclaration b) later no_0 = let no : false ≡ true = later in cc
+declaration_past_1 (declarations.Function b) later no_0 = absurd (no_0 b refl)
 
 pub statement_past_0 : {N : Type 0} (n : Statement N) → IsNot n statements.Declaration → nat_le 1 (statement_part n) ≡ true
 statement_past_0 (statements.Declaration b) no_0 = absurd (no_0 b refl)
@@ -134,23 +145,24 @@ statement_past_1 (statements.IfStatement b) later no_0 no_1 no_2 no_3 = absurd (
 statement_past_1 (statements.EmptyStatement b) later no_0 no_1 no_2 no_3 = absurd (no_3 b refl)
 statement_past_1 n later no_0 no_1 no_2 no_3 = refl
 
-pub statement_past_2 : {N : Type 0} (n : Statement N) → nat_le 2 (statement_part n) ≡ true → IsNot n statements.ForStatement → IsNot n statements.ForInStatement → IsNot n statements.ForOfStatement → IsNot n statements.WhileStatement → IsNot n statements.DoWhileStatement → IsNot n statements.LabeledStatement → IsNot n statements.ContinueStatement → IsNot n statements.BreakStatement → IsNot n statements.ThrowStatement → IsNot n statements.DebuggerStatement → nat_le 3 (statement_part n) ≡ true
-statement_past_2 (statements.Declaration b) later no_0 no_1 no_2 no_3 no_4 no_5 no_6 no_7 no_8 no_9 = let no : false ≡ true = later in cc
-statement_past_2 (statements.ExpressionStatement b) later no_0 no_1 no_2 no_3 no_4 no_5 no_6 no_7 no_8 no_9 = let no : false ≡ true = later in cc
-statement_past_2 (statements.BlockStatement b) later no_0 no_1 no_2 no_3 no_4 no_5 no_6 no_7 no_8 no_9 = let no : false ≡ true = later in cc
-statement_past_2 (statements.IfStatement b) later no_0 no_1 no_2 no_3 no_4 no_5 no_6 no_7 no_8 no_9 = let no : false ≡ true = later in cc
-statement_past_2 (statements.EmptyStatement b) later no_0 no_1 no_2 no_3 no_4 no_5 no_6 no_7 no_8 no_9 = let no : false ≡ true = later in cc
-statement_past_2 (statements.ForStatement b) later no_0 no_1 no_2 no_3 no_4 no_5 no_6 no_7 no_8 no_9 = absurd (no_0 b refl)
-statement_past_2 (statements.ForInStatement b) later no_0 no_1 no_2 no_3 no_4 no_5 no_6 no_7 no_8 no_9 = absurd (no_1 b refl)
-statement_past_2 (statements.ForOfStatement b) later no_0 no_1 no_2 no_3 no_4 no_5 no_6 no_7 no_8 no_9 = absurd (no_2 b refl)
-statement_past_2 (statements.WhileStatement b) later no_0 no_1 no_2 no_3 no_4 no_5 no_6 no_7 no_8 no_9 = absurd (no_3 b refl)
-statement_past_2 (statements.DoWhileStatement b) later no_0 no_1 no_2 no_3 no_4 no_5 no_6 no_7 no_8 no_9 = absurd (no_4 b refl)
-statement_past_2 (statements.LabeledStatement b) later no_0 no_1 no_2 no_3 no_4 no_5 no_6 no_7 no_8 no_9 = absurd (no_5 b refl)
-statement_past_2 (statements.ContinueStatement b) later no_0 no_1 no_2 no_3 no_4 no_5 no_6 no_7 no_8 no_9 = absurd (no_6 b refl)
-statement_past_2 (statements.BreakStatement b) later no_0 no_1 no_2 no_3 no_4 no_5 no_6 no_7 no_8 no_9 = absurd (no_7 b refl)
-statement_past_2 (statements.ThrowStatement b) later no_0 no_1 no_2 no_3 no_4 no_5 no_6 no_7 no_8 no_9 = absurd (no_8 b refl)
-statement_past_2 (statements.DebuggerStatement b) later no_0 no_1 no_2 no_3 no_4 no_5 no_6 no_7 no_8 no_9 = absurd (no_9 b refl)
-statement_past_2 n later no_0 no_1 no_2 no_3 no_4 no_5 no_6 no_7 no_8 no_9 = refl
+pub statement_past_2 : {N : Type 0} (n : Statement N) → nat_le 2 (statement_part n) ≡ true → IsNot n statements.ForStatement → IsNot n statements.ForInStatement → IsNot n statements.ForOfStatement → IsNot n statements.WhileStatement → IsNot n statements.DoWhileStatement → IsNot n statements.LabeledStatement → IsNot n statements.ContinueStatement → IsNot n statements.BreakStatement → IsNot n statements.ReturnStatement → IsNot n statements.ThrowStatement → IsNot n statements.DebuggerStatement → nat_le 3 (statement_part n) ≡ true
+statement_past_2 (statements.Declaration b) later no_0 no_1 no_2 no_3 no_4 no_5 no_6 no_7 no_8 no_9 no_10 = let no : false ≡ true = later in cc
+statement_past_2 (statements.ExpressionStatement b) later no_0 no_1 no_2 no_3 no_4 no_5 no_6 no_7 no_8 no_9 no_10 = let no : false ≡ true = later in cc
+statement_past_2 (statements.BlockStatement b) later no_0 no_1 no_2 no_3 no_4 no_5 no_6 no_7 no_8 no_9 no_10 = let no : false ≡ true = later in cc
+statement_past_2 (statements.IfStatement b) later no_0 no_1 no_2 no_3 no_4 no_5 no_6 no_7 no_8 no_9 no_10 = let no : false ≡ true = later in cc
+statement_past_2 (statements.EmptyStatement b) later no_0 no_1 no_2 no_3 no_4 no_5 no_6 no_7 no_8 no_9 no_10 = let no : false ≡ true = later in cc
+statement_past_2 (statements.ForStatement b) later no_0 no_1 no_2 no_3 no_4 no_5 no_6 no_7 no_8 no_9 no_10 = absurd (no_0 b refl)
+statement_past_2 (statements.ForInStatement b) later no_0 no_1 no_2 no_3 no_4 no_5 no_6 no_7 no_8 no_9 no_10 = absurd (no_1 b refl)
+statement_past_2 (statements.ForOfStatement b) later no_0 no_1 no_2 no_3 no_4 no_5 no_6 no_7 no_8 no_9 no_10 = absurd (no_2 b refl)
+statement_past_2 (statements.WhileStatement b) later no_0 no_1 no_2 no_3 no_4 no_5 no_6 no_7 no_8 no_9 no_10 = absurd (no_3 b refl)
+statement_past_2 (statements.DoWhileStatement b) later no_0 no_1 no_2 no_3 no_4 no_5 no_6 no_7 no_8 no_9 no_10 = absurd (no_4 b refl)
+statement_past_2 (statements.LabeledStatement b) later no_0 no_1 no_2 no_3 no_4 no_5 no_6 no_7 no_8 no_9 no_10 = absurd (no_5 b refl)
+statement_past_2 (statements.ContinueStatement b) later no_0 no_1 no_2 no_3 no_4 no_5 no_6 no_7 no_8 no_9 no_10 = absurd (no_6 b refl)
+statement_past_2 (statements.BreakStatement b) later no_0 no_1 no_2 no_3 no_4 no_5 no_6 no_7 no_8 no_9 no_10 = absurd (no_7 b refl)
+statement_past_2 (statements.ReturnStatement b) later no_0 no_1 no_2 no_3 no_4 no_5 no_6 no_7 no_8 no_9 no_10 = absurd (no_8 b refl)
+statement_past_2 (statements.ThrowStatement b) later no_0 no_1 no_2 no_3 no_4 no_5 no_6 no_7 no_8 no_9 no_10 = absurd (no_9 b refl)
+statement_past_2 (statements.DebuggerStatement b) later no_0 no_1 no_2 no_3 no_4 no_5 no_6 no_7 no_8 no_9 no_10 = absurd (no_10 b refl)
+statement_past_2 n later no_0 no_1 no_2 no_3 no_4 no_5 no_6 no_7 no_8 no_9 no_10 = refl
 
 pub statement_past_3 : {N : Type 0} (n : Statement N) → nat_le 3 (statement_part n) ≡ true → IsNot n statements.SwitchStatement → IsNot n statements.TryStatement → ⊥
 statement_past_3 (statements.Declaration b) later no_0 no_1 = let no : false ≡ true = later in cc
@@ -166,6 +178,7 @@ statement_past_3 (statements.DoWhileStatement b) later no_0 no_1 = let no : fals
 statement_past_3 (statements.LabeledStatement b) later no_0 no_1 = let no : false ≡ true = later in cc
 statement_past_3 (statements.ContinueStatement b) later no_0 no_1 = let no : false ≡ true = later in cc
 statement_past_3 (statements.BreakStatement b) later no_0 no_1 = let no : false ≡ true = later in cc
+statement_past_3 (statements.ReturnStatement b) later no_0 no_1 = let no : false ≡ true = later in cc
 statement_past_3 (statements.ThrowStatement b) later no_0 no_1 = let no : false ≡ true = later in cc
 statement_past_3 (statements.DebuggerStatement b) later no_0 no_1 = let no : false ≡ true = later in cc
 statement_past_3 (statements.SwitchStatement b) later no_0 no_1 = absurd (no_0 b refl)

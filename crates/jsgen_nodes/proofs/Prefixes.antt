@@ -7,7 +7,8 @@ use Rattle.jsgen_tree.specs.Tree.{Tree}
 use Rattle.jsgen_model.specs.Items.{Items, ◌⊕◌}
 use Rattle.jsgen_model.specs.Layout.{Pen, nowhere, layout, not}
 use Rattle.jsgen_model.specs.Spell as spells
-use Rattle.jsgen_model.specs.Spell.{spell, behind, unary_sign, behind_unary}
+use Rattle.jsgen_model.specs.Spell.{spell, behind}
+use Rattle.jsgen_model.specs.Operators.{unary_sign, behind_unary}
 use Rattle.jsgen_model.specs.Printing.{Reaches, IsPrefix}
 use Rattle.jsgen_place.specs.declared.place.Place.{Place}
 use Rattle.jsgen_place.specs.Place.{settings_of, context_of, place_of}

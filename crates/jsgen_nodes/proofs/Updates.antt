@@ -5,7 +5,8 @@ use Rattle.jsgen_syntax.specs.declared.precedence.Precedence.TheVariants.{Prefix
 use Rattle.jsgen_tree.specs.Tree.{Tree}
 use Rattle.jsgen_model.specs.Items.{Items}
 use Rattle.jsgen_model.specs.Spell as spells
-use Rattle.jsgen_model.specs.Spell.{spell, behind, in_front, update_item, update_items}
+use Rattle.jsgen_model.specs.Spell.{spell, behind, in_front, update_items}
+use Rattle.jsgen_model.specs.Operators.{update_item}
 
 -- the operator and its operand, as the test says
 abbrev pub update_parts : Bool → UpdateOperator → Tree → spells.Place → Items

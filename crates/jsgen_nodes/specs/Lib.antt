@@ -1,5 +1,6 @@
 pub mod Alone
 pub mod Blocks
+pub mod Functions
 pub mod Keys
 pub mod Loops
 pub mod Names

@@ -2,8 +2,10 @@
 -- In which part of the choice within its set a member is.
 use Rattle.std.specs.Prelude.{ℕ}
 use Rattle.jsgen_tree.specs.declared.sets.Expression.{Expression}
+use Rattle.jsgen_tree.specs.declared.sets.Declaration.{Declaration}
 use Rattle.jsgen_tree.specs.declared.sets.Statement.{Statement}
 use Rattle.jsgen_tree.specs.declared.sets.Expression.TheVariants as expression
+use Rattle.jsgen_tree.specs.declared.sets.Declaration.TheVariants as declaration
 use Rattle.jsgen_tree.specs.declared.sets.Statement.TheVariants as statement
 
 abbrev pub expression_part : {N : Type 0} → Expression N → ℕ
@@ -31,7 +33,12 @@ expression_part (expression.Super b) = 2
 expression_part (expression.ConditionalExpression b) = 3
 expression_part (expression.SequenceExpression b) = 3
 expression_part (expression.AssignmentExpression b) = 3
+expression_part (expression.Function b) = 4
 expression_part (expression.ArrowFunctionExpression b) = 4
+
+abbrev pub declaration_part : {N : Type 0} → Declaration N → ℕ
+declaration_part (declaration.VariableDeclaration b) = 0
+declaration_part (declaration.Function b) = 1
 
 abbrev pub statement_part : {N : Type 0} → Statement N → ℕ
 statement_part (statement.Declaration b) = 0
@@ -47,6 +54,7 @@ statement_part (statement.DoWhileStatement b) = 2
 statement_part (statement.LabeledStatement b) = 2
 statement_part (statement.ContinueStatement b) = 2
 statement_part (statement.BreakStatement b) = 2
+statement_part (statement.ReturnStatement b) = 2
 statement_part (statement.ThrowStatement b) = 2
 statement_part (statement.DebuggerStatement b) = 2
 statement_part (statement.SwitchStatement b) = 3

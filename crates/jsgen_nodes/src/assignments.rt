@@ -4,7 +4,8 @@ ghost use Rattle.jsgen_syntax.specs.declared.precedence.Precedence.TheVariants.{
 ghost use Rattle.jsgen_tree.specs.Rows.{assignment_expression_row, in_assignment_target, in_expression};
 ghost use Rattle.jsgen_model.specs.Items.{◌⊕◌, soft_space};
 ghost use Rattle.jsgen_model.specs.Layout.{layout};
-ghost use Rattle.jsgen_model.specs.Spell.{spell, assigned, behind, assignment_item, quoted_plainly};
+ghost use Rattle.jsgen_model.specs.Spell.{spell, assigned, behind, quoted_plainly};
+ghost use Rattle.jsgen_model.specs.Operators.{assignment_item};
 ghost use Rattle.jsgen_model.specs.Quotes.{is_export_target};
 ghost use Rattle.jsgen_model.specs.Printing.{Reaches};
 ghost use Rattle.jsgen_printer.specs.Printer.{pen_of};

@@ -9,16 +9,16 @@ ghost use Rattle.jsgen_tree.specs.Rows.{spread_element_row, array_expression_row
 ghost use Rattle.jsgen_model.specs.Punctuator.{Square, Brace, colon};
 ghost use Rattle.jsgen_model.specs.Items.{◌⊕◌, brackets, punctuator, soft_space};
 ghost use Rattle.jsgen_model.specs.Layout.{layout};
-ghost use Rattle.jsgen_model.specs.Spell.{spell, in_brackets, in_front, are_more, object_inside, spell_elements, ends_in_hole, comma_if, needs_brackets, key_items, key_text, string_in};
+ghost use Rattle.jsgen_model.specs.Spell.{spell, spell_method, in_brackets, are_more, object_inside, spell_elements, ends_in_hole, comma_if, key_text, string_in};
 ghost use Rattle.jsgen_model.specs.Printing.{Reaches};
 ghost use Rattle.jsgen_printer.specs.Printer.{pen_of};
 ghost use Rattle.jsgen_place.specs.Place.{place_of};
-ghost use Rattle.jsgen_nodes.specs.Keys.{is_string, is_number, is_said, is_value_alone};
+ghost use Rattle.jsgen_nodes.specs.Keys.{is_string, is_number, is_said, is_value_alone, key_of, valued_items, method_items};
 ghost use Rattle.jsgen_nodes.specs.Place.{pen_after};
 
 use crate::PrintNode;
 use crate::links::print_identifier_name;
-use jsgen_lists::{PrintElement, print_array, print_object};
+use jsgen_lists::{PrintElement, print_accessor_word, print_array, print_object};
 use jsgen_place::{Place, is_alone, needs_brackets};
 use jsgen_printer::{Bracket, Printer};
 use jsgen_syntax::{JsStr, Memory, Precedence};
@@ -151,6 +151,47 @@ pub fn print_object_property<N: PrintNode>(
 ) -> Result<(), Memory>
     ensures { Reaches result (pen_of p.old) (pen_of p.new) (pen_after (object_property_row N.plain node.now) place p.old) }
 {
+    if node.is_method() {
+        print_method_property(node, p, place)
+    } else {
+        print_valued_property(node, p, place)
+    }
+}
+
+// A method or an accessor, whose function follows its key.
+#[tactic(auto, unfolding(crate::specs::Place::pen_after))]
+fn print_method_property<N: PrintNode>(
+    node: &ObjectProperty<N>,
+    p: &mut Printer<'_>,
+    place: Place,
+) -> Result<(), Memory>
+    ensures { Reaches result (pen_of p.old) (pen_of p.new) (layout (method_items node.now.kind node.now.computed (in_property_key N.plain node.now.key) (in_expression N.plain node.now.value) (place_of place (pen_of p.old))) (pen_of p.old)) }
+{
+    print_accessor_word(node.kind, p)?;
+    print_key_and_function(node, p, place)
+}
+
+#[tactic(auto, unfolding(crate::specs::Place::pen_after))]
+fn print_key_and_function<N: PrintNode>(
+    node: &ObjectProperty<N>,
+    p: &mut Printer<'_>,
+    place: Place,
+) -> Result<(), Memory>
+    ensures { Reaches result (pen_of p.old) (pen_of p.new) (layout (key_of node.now.computed (in_property_key N.plain node.now.key) (place_of place (pen_of p.old)) ⊕ spell_method (in_expression N.plain node.now.value) (place_of place (pen_of p.old))) (pen_of p.old)) }
+{
+    print_key(&node.key, node.computed, p, place)?;
+    node.value.get().print_as_method(p, place)
+}
+
+// A property with a value: the value alone, or behind its key.
+#[tactic(auto, unfolding(crate::specs::Place::pen_after))]
+fn print_valued_property<N: PrintNode>(
+    node: &ObjectProperty<N>,
+    p: &mut Printer<'_>,
+    place: Place,
+) -> Result<(), Memory>
+    ensures { Reaches result (pen_of p.old) (pen_of p.new) (layout (valued_items node.now.shorthand node.now.computed (in_property_key N.plain node.now.key) (in_expression N.plain node.now.value) (place_of place (pen_of p.old))) (pen_of p.old)) }
+{
     if is_value_alone(node, p) {
         node.value.get().print(p, place.child(Precedence::Comma))
     } else {
@@ -165,8 +206,7 @@ fn print_whole_property<N: PrintNode>(
     p: &mut Printer<'_>,
     place: Place,
 ) -> Result<(), Memory>
-    ensures { Reaches result (pen_of p.old) (pen_of p.new) (layout (key_items (needs_brackets node.now.computed (in_property_key N.plain node.now.key)) (in_property_key N.plain node.now.key) (spell (in_property_key N.plain node.now.key) (in_brackets Comma (place_of place (pen_of p.old))))
-        (spell (in_property_key N.plain node.now.key) (in_front Comma (place_of place (pen_of p.old))))
+    ensures { Reaches result (pen_of p.old) (pen_of p.new) (layout (key_of node.now.computed (in_property_key N.plain node.now.key) (place_of place (pen_of p.old))
         ⊕ (punctuator colon ⊕ (soft_space ⊕ spell (in_expression N.plain node.now.value) (in_brackets Comma (place_of place (pen_of p.old)))))) (pen_of p.old)) }
 {
     print_key(&node.key, node.computed, p, place)?;
@@ -210,8 +250,7 @@ fn print_key<N: PrintNode>(
     p: &mut Printer<'_>,
     place: Place,
 ) -> Result<(), Memory>
-    ensures { Reaches result (pen_of p.old) (pen_of p.new) (layout (key_items (needs_brackets computed (in_property_key N.plain key.now)) (in_property_key N.plain key.now) (spell (in_property_key N.plain key.now) (in_brackets Comma (place_of place (pen_of p.old))))
-        (spell (in_property_key N.plain key.now) (in_front Comma (place_of place (pen_of p.old))))) (pen_of p.old)) }
+    ensures { Reaches result (pen_of p.old) (pen_of p.new) (layout (key_of computed (in_property_key N.plain key.now) (place_of place (pen_of p.old))) (pen_of p.old)) }
 {
     if needs_brackets(computed, is_negative_key(key)) {
         print_computed_key(key, p, place)

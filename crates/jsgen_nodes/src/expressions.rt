@@ -4,7 +4,8 @@ ghost use Rattle.jsgen_syntax.specs.Operator.{logical_level, logical_lower_level
 ghost use Rattle.jsgen_tree.specs.Rows.{identifier_reference_row, this_expression_row, null_literal_row, boolean_literal_row, numeric_literal_row, big_int_literal_row, string_literal_row, parenthesized_expression_row, binary_expression_row, logical_expression_row, in_expression};
 ghost use Rattle.jsgen_model.specs.Items.{◌⊕◌, soft_space};
 ghost use Rattle.jsgen_model.specs.Layout.{layout};
-ghost use Rattle.jsgen_model.specs.Spell.{spell, signed, left_of, behind, left_level, right_level, unmixed, operator_item, logical_item, quoted_plainly};
+ghost use Rattle.jsgen_model.specs.Spell.{spell, signed, left_of, behind, left_level, right_level, unmixed, quoted_plainly};
+ghost use Rattle.jsgen_model.specs.Operators.{operator_item, logical_item};
 ghost use Rattle.jsgen_model.specs.Quotes.{is_export_mark};
 ghost use Rattle.jsgen_model.specs.Printing.{Reaches};
 ghost use Rattle.jsgen_printer.specs.Printer.{pen_of};

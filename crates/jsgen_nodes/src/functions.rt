@@ -1,18 +1,21 @@
 // Functions and their parameters (ECMA-262, clause 15), one function for each row.
-ghost use Rattle.std.specs.Prelude.{◌≡◌, false};
+ghost use Rattle.std.specs.Prelude.{◌≡◌};
+ghost use Rattle.jsgen_tree.specs.Tree.{type_of};
 ghost use Rattle.jsgen_tree.specs.Rows.{formal_parameter_row, formal_parameter_rest_row, formal_parameters_row, arrow_function_expression_row, in_arrow_function_body};
-ghost use Rattle.jsgen_model.specs.Punctuator.{arrow};
-ghost use Rattle.jsgen_model.specs.Items.{◌⊕◌, soft_space, punctuator, arrow_body_begins};
+ghost use Rattle.jsgen_model.specs.Punctuator.{arrow, Round};
+ghost use Rattle.jsgen_model.specs.Items.{◌⊕◌, soft_space, punctuator, brackets};
 ghost use Rattle.jsgen_model.specs.Layout.{layout};
-ghost use Rattle.jsgen_model.specs.Spell.{spell, is_name_alone, is_bare, parameter_items, parameters_place, arrow_body_place};
+ghost use Rattle.jsgen_model.specs.Spell.{spell, is_name_alone, is_bare, parameter_items, parameters_place, body_begins, arrow_body_place};
 ghost use Rattle.jsgen_model.specs.Printing.{Reaches};
 ghost use Rattle.jsgen_printer.specs.Printer.{pen_of};
 ghost use Rattle.jsgen_place.specs.Place.{place_of, settings_of};
+ghost use Rattle.jsgen_lists.specs.Lists.{listed};
 ghost use Rattle.jsgen_nodes.specs.Alone.{parameter_parts};
 ghost use Rattle.jsgen_nodes.specs.Names.{is_name_parameter};
 ghost use Rattle.jsgen_nodes.specs.Place.{pen_after};
 
 use crate::PrintNode;
+use crate::definitions::print_function_body;
 use crate::sequences::Expressions;
 use jsgen_lists::{PrintMember, print_comma_between, print_if_given, print_parts, print_value};
 use jsgen_place::{Place, is_bare};
@@ -20,7 +23,7 @@ use jsgen_printer::{Bracket, Printer};
 use jsgen_syntax::{Memory, Precedence};
 use jsgen_tree::{
     ArrowFunctionBody, ArrowFunctionExpression, FormalParameter, FormalParameterRest,
-    FormalParameters,
+    FormalParameters, NodeType,
 };
 
 // ---- parameters
@@ -124,7 +127,7 @@ fn print_arrow<N: PrintNode>(
 ) -> Result<(), Memory>
     ensures { Reaches result (pen_of p.old) (pen_of p.new) (layout (parameter_items (is_bare (settings_of place.settings) (formal_parameters_row N.plain node.now.params.value))
         (spell (formal_parameters_row N.plain node.now.params.value) (parameters_place (place_of place (pen_of p.old))))
-        ⊕ (soft_space ⊕ (punctuator arrow ⊕ (soft_space ⊕ (arrow_body_begins
+        ⊕ (soft_space ⊕ (punctuator arrow ⊕ (soft_space ⊕ (body_begins (type_of (in_arrow_function_body N.plain node.now.body))
         ⊕ spell (in_arrow_function_body N.plain node.now.body) (arrow_body_place (place_of place (pen_of p.old)))))))) (pen_of p.old)) }
 {
     print_arrow_parameters(&node.params, p, place)?;
@@ -144,21 +147,21 @@ fn print_arrow_parameters<N: PrintNode>(
     if is_bare(place.settings, is_name_alone(parameters)) {
         print_formal_parameters(parameters, p, place.parameters())
     } else {
-        print_parameters_in_brackets(parameters, p, place)
+        print_parameters_in_brackets(parameters, p, place.parameters())
     }
 }
 
+/// Parameters, of which this is the place, in parentheses.
 #[tactic(auto, unfolding(crate::specs::Place::pen_after))]
-fn print_parameters_in_brackets<N: PrintNode>(
+pub fn print_parameters_in_brackets<N: PrintNode>(
     parameters: &FormalParameters<N>,
     p: &mut Printer<'_>,
     place: Place,
 ) -> Result<(), Memory>
-    ensures { Reaches result (pen_of p.old) (pen_of p.new) (layout (parameter_items false
-        (spell (formal_parameters_row N.plain parameters.now) (parameters_place (place_of place (pen_of p.old))))) (pen_of p.old)) }
+    ensures { Reaches result (pen_of p.old) (pen_of p.new) (layout (brackets Round (spell (formal_parameters_row N.plain parameters.now) (listed place))) (pen_of p.old)) }
 {
     p.print_opening(Bracket::Round)?;
-    print_formal_parameters(parameters, p, place.parameters())?;
+    print_formal_parameters(parameters, p, place)?;
     p.print_closing(Bracket::Round)
 }
 
@@ -184,16 +187,36 @@ fn print_behind_parameters<N: PrintNode>(
     p: &mut Printer<'_>,
     place: Place,
 ) -> Result<(), Memory>
-    ensures { Reaches result (pen_of p.old) (pen_of p.new) (layout (soft_space ⊕ (punctuator arrow ⊕ (soft_space ⊕ (arrow_body_begins
+    ensures { Reaches result (pen_of p.old) (pen_of p.new) (layout (soft_space ⊕ (punctuator arrow ⊕ (soft_space ⊕ (body_begins (type_of (in_arrow_function_body N.plain body.now))
         ⊕ spell (in_arrow_function_body N.plain body.now) (arrow_body_place (place_of place (pen_of p.old))))))) (pen_of p.old)) }
 {
     p.print_soft_space()?;
     p.print_arrow()?;
     p.print_soft_space()?;
-    p.begin_arrow_body();
+    begin_body(body_type(body), p);
     print_arrow_function_body(body, p, place.child(Precedence::Comma))
 }
 
+// An expression begins there, and a body in braces doesn't.
+fn begin_body(body: NodeType, p: &mut Printer<'_>)
+    ensures { pen_of p.new ≡ layout (body_begins body) (pen_of p.old) }
+{
+    match body {
+        NodeType::FunctionBody => {}
+        _ => p.begin_arrow_body(),
+    }
+}
+
+fn body_type<N: PrintNode>(body: &ArrowFunctionBody<N>) -> NodeType
+    ensures { result ≡ type_of (in_arrow_function_body N.plain body.now) }
+{
+    match body {
+        ArrowFunctionBody::FunctionBody(_) => NodeType::FunctionBody,
+        ArrowFunctionBody::Expression(node) => node.get().node_type(),
+    }
+}
+
+#[tactic(auto, unfolding(crate::specs::Place::pen_after))]
 fn print_arrow_function_body<N: PrintNode>(
     body: &ArrowFunctionBody<N>,
     p: &mut Printer<'_>,
@@ -202,6 +225,7 @@ fn print_arrow_function_body<N: PrintNode>(
     ensures { Reaches result (pen_of p.old) (pen_of p.new) (pen_after (in_arrow_function_body N.plain body.now) place p.old) }
 {
     match body {
+        ArrowFunctionBody::FunctionBody(node) => print_function_body(node, p, place),
         ArrowFunctionBody::Expression(node) => node.get().print(p, place),
     }
 }

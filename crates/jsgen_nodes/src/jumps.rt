@@ -1,7 +1,7 @@
-// Labels, jumps and `debugger` (ECMA-262, 14.8, 14.9, 14.13, 14.14 and 14.16), one function for each row.
+// Labels, jumps and `debugger` (ECMA-262, 14.8 to 14.10, 14.13, 14.14 and 14.16), one function for each row.
 ghost use Rattle.jsgen_tree.specs.Characters.{characters};
 ghost use Rattle.jsgen_tree.specs.Named.{as_written};
-ghost use Rattle.jsgen_tree.specs.Rows.{label_identifier_row, labeled_statement_row, continue_statement_row, break_statement_row, throw_statement_row, debugger_statement_row};
+ghost use Rattle.jsgen_tree.specs.Rows.{label_identifier_row, labeled_statement_row, continue_statement_row, break_statement_row, return_statement_row, throw_statement_row, debugger_statement_row};
 ghost use Rattle.jsgen_model.specs.Punctuator.{colon};
 ghost use Rattle.jsgen_model.specs.Items.{◌⊕◌, name, punctuator};
 ghost use Rattle.jsgen_model.specs.Layout.{layout};
@@ -18,7 +18,7 @@ use jsgen_printer::Printer;
 use jsgen_syntax::{Memory, Precedence};
 use jsgen_tree::{
     BreakStatement, ContinueStatement, DebuggerStatement, LabelIdentifier, LabeledStatement,
-    ThrowStatement,
+    ReturnStatement, ThrowStatement,
 };
 
 #[tactic(auto, unfolding(crate::specs::Place::pen_after))]
@@ -93,6 +93,19 @@ impl PrintMember<Box<LabelIdentifier>> for Labels {
     ) -> Result<(), Memory> {
         print_label_identifier(label, p, place)
     }
+}
+
+#[tactic(auto, unfolding(crate::specs::Place::pen_after))]
+pub fn print_return_statement<N: PrintNode>(
+    node: &ReturnStatement<N>,
+    p: &mut Printer<'_>,
+    place: Place,
+) -> Result<(), Memory>
+    ensures { Reaches result (pen_of p.old) (pen_of p.new) (pen_after (return_statement_row N.plain node.now) place p.old) }
+{
+    let within = Place::in_brackets(Precedence::Lowest, place.settings);
+    p.print_indentation()?;
+    print_jump::<_, Expressions>("return", &node.argument, p, within)
 }
 
 #[tactic(auto, unfolding(crate::specs::Place::pen_after))]

@@ -8,6 +8,7 @@ mod bodies;
 mod cases;
 mod choices;
 mod collections;
+mod definitions;
 mod expressions;
 mod functions;
 mod handlers;
@@ -15,6 +16,7 @@ mod iterations;
 mod jumps;
 mod links;
 mod loops;
+mod methods;
 mod names;
 mod operands;
 mod operators;
@@ -31,11 +33,12 @@ ghost use Rattle.jsgen_tree.specs.Tree.{Tree, type_of};
 ghost use Rattle.std.specs.Str.{chars};
 ghost use Rattle.jsgen_tree.specs.Inside.{without_parentheses, ends_open, reference_in, looked_up_in, named_by, written_name_in, is_negative};
 ghost use Rattle.jsgen_tree.specs.Plain.{node_plain};
-ghost use Rattle.jsgen_model.specs.Spell.{string_in, string_statement};
+ghost use Rattle.jsgen_model.specs.Layout.{layout};
+ghost use Rattle.jsgen_model.specs.Spell.{spell_method, string_in, string_statement};
 ghost use Rattle.jsgen_model.specs.Quotes.{is_member_of};
 ghost use Rattle.jsgen_model.specs.Printing.{Reaches};
 ghost use Rattle.jsgen_printer.specs.Printer.{pen_of};
-ghost use Rattle.jsgen_place.specs.Place.{operand_of};
+ghost use Rattle.jsgen_place.specs.Place.{place_of, operand_of};
 ghost use Rattle.jsgen_nodes.specs.Names.{is_binding_name};
 ghost use Rattle.jsgen_nodes.specs.Place.{pen_after};
 
@@ -43,6 +46,10 @@ use jsgen_place::{Context, Operand, Place, Settings};
 use jsgen_printer::Printer;
 use jsgen_syntax::{JsStr, Memory};
 use jsgen_tree::{IdentifierReference, Node, NodeType};
+use methods::{
+    print_binding_pattern_as_method, print_declaration_as_method, print_expression_as_method,
+    print_statement_as_method,
+};
 use names::{
     binding_pattern_is_member, binding_pattern_is_name, declaration_is_member, declaration_is_name,
     expression_is_member, expression_is_name, statement_is_member, statement_is_name,
@@ -74,6 +81,10 @@ pub trait PrintNode {
 
     fn print(&self, p: &mut Printer<'_>, place: Place) -> Result<(), Memory>
         ensures { Reaches result (pen_of p.old) (pen_of p.new) (pen_after (plain self.now) place p.old) };
+
+    /// The function of a method or an accessor, behind its key. Nothing is printed of what is no function.
+    fn print_as_method(&self, p: &mut Printer<'_>, place: Place) -> Result<(), Memory>
+        ensures { Reaches result (pen_of p.old) (pen_of p.new) (layout (spell_method (plain self.now) (place_of place (pen_of p.old))) (pen_of p.old)) };
 
     /// What matters of it as an operand.
     fn operand(&self) -> Operand
@@ -160,6 +171,16 @@ impl PrintNode for Node {
             Node::Statement(node) => print_statement(node, p, place),
             Node::Declaration(node) => print_declaration(node, p, place),
             Node::BindingPattern(node) => print_binding_pattern(node, p, place),
+        }
+    }
+
+    #[cycle(node)]
+    fn print_as_method(&self, p: &mut Printer<'_>, place: Place) -> Result<(), Memory> {
+        match self {
+            Node::Expression(node) => print_expression_as_method(node, p, place),
+            Node::Statement(node) => print_statement_as_method(node, p, place),
+            Node::Declaration(node) => print_declaration_as_method(node, p, place),
+            Node::BindingPattern(node) => print_binding_pattern_as_method(node, p, place),
         }
     }
 

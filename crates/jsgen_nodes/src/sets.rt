@@ -5,7 +5,7 @@ ghost use Rattle.jsgen_tree.specs.Rows.{expression_plain, declaration_plain, sta
 ghost use Rattle.jsgen_model.specs.Printing.{Reaches};
 ghost use Rattle.jsgen_printer.specs.Printer.{pen_of};
 ghost use Rattle.jsgen_nodes.specs.Place.{pen_after};
-ghost use Rattle.jsgen_nodes.specs.Parts.{expression_part, statement_part};
+ghost use Rattle.jsgen_nodes.specs.Parts.{expression_part, declaration_part, statement_part};
 
 use crate::PrintNode;
 use crate::assignments::print_assignment_expression;
@@ -13,6 +13,7 @@ use crate::blocks::{print_block_statement, print_empty_statement, print_if_state
 use crate::cases::print_switch_statement;
 use crate::choices::print_conditional_expression;
 use crate::collections::{print_array_expression, print_object_expression};
+use crate::definitions::print_function;
 use crate::expressions::{
     print_big_int_literal, print_binary_expression, print_boolean_literal,
     print_identifier_reference, print_logical_expression, print_null_literal,
@@ -24,7 +25,7 @@ use crate::handlers::print_try_statement;
 use crate::iterations::{print_for_in_statement, print_for_of_statement};
 use crate::jumps::{
     print_break_statement, print_continue_statement, print_debugger_statement,
-    print_labeled_statement, print_throw_statement,
+    print_labeled_statement, print_return_statement, print_throw_statement,
 };
 use crate::links::{
     print_call_expression, print_chain_expression, print_computed_member_expression,
@@ -130,6 +131,7 @@ fn print_expression_in_functions<N: PrintNode>(
     ensures { Reaches result (pen_of p.old) (pen_of p.new) (pen_after (expression_plain N.plain node.now) place p.old) }
 {
     match node {
+        Expression::Function(node) => print_function(node, p, place),
         Expression::ArrowFunctionExpression(node) => print_arrow_function_expression(
             node, p, place,
         ),
@@ -146,6 +148,21 @@ pub fn print_declaration<N: PrintNode>(
 {
     match node {
         Declaration::VariableDeclaration(node) => print_variable_declaration(node, p, place),
+        _ => print_declaration_in_functions(node, p, place),
+    }
+}
+
+fn print_declaration_in_functions<N: PrintNode>(
+    node: &Declaration<N>,
+    p: &mut Printer<'_>,
+    place: Place,
+) -> Result<(), Memory>
+    requires { nat_le 1 (declaration_part node.now) ≡ true }
+    ensures { Reaches result (pen_of p.old) (pen_of p.new) (pen_after (declaration_plain N.plain node.now) place p.old) }
+{
+    match node {
+        Declaration::Function(node) => print_function(node, p, place),
+        _ => unreachable!(),
     }
 }
 
@@ -196,6 +213,7 @@ fn print_statement_in_loops<N: PrintNode>(
         Statement::LabeledStatement(node) => print_labeled_statement(node, p, place),
         Statement::ContinueStatement(node) => print_continue_statement(node, p, place),
         Statement::BreakStatement(node) => print_break_statement(node, p, place),
+        Statement::ReturnStatement(node) => print_return_statement(node, p, place),
         Statement::ThrowStatement(node) => print_throw_statement(node, p, place),
         Statement::DebuggerStatement(node) => print_debugger_statement(node, p, place),
         _ => print_statement_in_choices(node, p, place),

@@ -36,7 +36,7 @@ pub fn print_program<N: PrintNode>(
 }
 
 #[tactic(auto, unfolding(crate::specs::Place::pen_after))]
-fn print_directives(
+pub fn print_directives(
     directives: &[Directive],
     p: &mut Printer<'_>,
     settings: Settings,

@@ -2,7 +2,7 @@
 // Rows of a job: operations of one operand, and `new` (ECMA-262, clause 13).
 ghost use Rattle.std.specs.Prelude.{◌≡◌, true};
 ghost use Rattle.serde_json.specs.View.{view};
-ghost use Rattle.jsgen_tree.specs.Fields.{unary_expression_fields, new_target_fields, update_expression_fields, new_expression_fields, super_fields};
+ghost use Rattle.jsgen_tree.specs.RowFields.{unary_expression_fields, new_target_fields, update_expression_fields, new_expression_fields, super_fields};
 ghost use Rattle.jsgen_fields.specs.Reads.{Gives, read_node, read_typed};
 ghost use Rattle.jsgen_fields.specs.Kept.{entries, row_plain};
 ghost use Rattle.jsgen_fields.specs.Parts.{is_in_operations};
@@ -11,6 +11,7 @@ ghost use Rattle.jsgen_tree.specs.declared.types.NodeType.TheVariants as types;
 use jsgen_fields::InputFault;
 use jsgen_fields::fields::boxed;
 use jsgen_fields::kept::{ReadNode, Row, expression_row};
+use jsgen_fields::others::OtherExpression;
 use jsgen_fields::set_fields::{argument_list, needed_expression, needed_simple_assignment_target};
 use jsgen_fields::values::{field_not_given, optional_flag};
 use jsgen_fields::words::{needed_unary_operator, needed_update_operator};
@@ -47,7 +48,12 @@ fn read_unary_expression<N: ReadNode + Drop>(
         argument,
     };
     match boxed(alloc, node) {
-        Ok(node) => expression_row(alloc, Expression::UnaryExpression(node)),
+        Ok(node) => expression_row(
+            alloc,
+            OtherExpression {
+                expression: Expression::UnaryExpression(node),
+            },
+        ),
         Err(fault) => Err(fault),
     }
 }
@@ -68,7 +74,12 @@ fn read_new_target<N: ReadNode + Drop>(
     let _ = row;
     let node = NewTarget { span };
     match boxed(alloc, node) {
-        Ok(node) => expression_row(alloc, Expression::NewTarget(node)),
+        Ok(node) => expression_row(
+            alloc,
+            OtherExpression {
+                expression: Expression::NewTarget(node),
+            },
+        ),
         Err(fault) => Err(fault),
     }
 }
@@ -103,7 +114,12 @@ fn read_update_expression<N: ReadNode + Drop>(
         argument,
     };
     match boxed(alloc, node) {
-        Ok(node) => expression_row(alloc, Expression::UpdateExpression(node)),
+        Ok(node) => expression_row(
+            alloc,
+            OtherExpression {
+                expression: Expression::UpdateExpression(node),
+            },
+        ),
         Err(fault) => Err(fault),
     }
 }
@@ -142,7 +158,12 @@ fn read_new_expression<N: ReadNode + Drop>(
         pure,
     };
     match boxed(alloc, node) {
-        Ok(node) => expression_row(alloc, Expression::NewExpression(node)),
+        Ok(node) => expression_row(
+            alloc,
+            OtherExpression {
+                expression: Expression::NewExpression(node),
+            },
+        ),
         Err(fault) => Err(fault),
     }
 }
@@ -163,7 +184,12 @@ fn read_super<N: ReadNode + Drop>(
     let _ = row;
     let node = Super { span };
     match boxed(alloc, node) {
-        Ok(node) => expression_row(alloc, Expression::Super(node)),
+        Ok(node) => expression_row(
+            alloc,
+            OtherExpression {
+                expression: Expression::Super(node),
+            },
+        ),
         Err(fault) => Err(fault),
     }
 }

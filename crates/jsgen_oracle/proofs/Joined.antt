@@ -1,5 +1,6 @@
 -- In each program that is read a name stands behind each dot, an expression in parentheses that need one, and each arrow
--- behind parameters and before no brace; and texts where that isn't so.
+-- behind parameters and before a body; and texts where that isn't so. What stands in braces or brackets doesn't matter, so that no
+-- body of a function is looked into.
 use Rattle.std.proofs.Common.{◌≡◌, ℕ, Bool, true, false, ◌&&◌, ◌||◌, List, [], codes, refl, sym, subst}
 use Rattle.std.specs.Str.{bytes_eq}
 use Rattle.std.proofs.lemmas.Bool.{both_ways, and_parts, and_from, or_right}
@@ -20,10 +21,11 @@ use Rattle.jsgen_syntax.specs.declared.operator.AssignmentOperator.TheVariants a
 use Rattle.std.specs.Prelude.{not}
 use Rattle.jsgen_tree.specs.declared.statements.VariableDeclarationKind.{VariableDeclarationKind}
 use Rattle.jsgen_tree.specs.declared.statements.VariableDeclarationKind.TheVariants as kinds
+use Rattle.jsgen_tree.specs.declared.functions.FunctionKind.{FunctionKind}
 use Rattle.jsgen_tree.specs.Tree.{Tree, Trees, Maybe}
 use Rattle.jsgen_model.specs.Punctuator.{dot, question_dot, ellipsis, comma, equal, arrow, star_star, and_and, or_or, nullish, question, colon, semicolon, Round, Square, Brace}
 use Rattle.jsgen_model.specs.Tokens.{Tokens, done, piece, group, ◌⧺◌, Word, Quoted, Sign, longer_stands, AreTokensOf}
-use Rattle.jsgen_model.specs.Grammar.{Allowed, Level, operator_piece, ReadsExpression, ReadsParts, ReadsElement, ReadsArguments, ReadsArgumentList, ReadsBinding, ReadsDeclarator, ReadsDeclarators, ReadsVariables, declaring, EndsBy, ReadsStatement, ReadsLabel, ReadsHandler, ReadsFinalizer, ReadsEndsOfTry, ReadsItem, ReadsStatements, ReadsBody, ReadsModule, a_module, unary_piece, update_sign, assignment_sign, ReadsChain, ReadsChainBase, starts_in_brace, ReadsArrowParameters, ReadsParameters, ReadsParameter}
+use Rattle.jsgen_model.specs.Grammar.{Allowed, Level, operator_piece, ReadsExpression, ReadsFunction, ReadsParts, ReadsElement, ReadsArguments, ReadsArgumentList, ReadsBinding, ReadsDeclarator, ReadsDeclarators, ReadsVariables, declaring, EndsBy, ReadsStatement, ReadsReturned, ReadsLabel, ReadsHandler, ReadsFinalizer, ReadsEndsOfTry, ReadsItem, ReadsStatements, ReadsBody, ReadsModule, a_module, unary_piece, update_sign, assignment_sign, ReadsChain, ReadsChainBase, ReadsArrowParameters, ReadsParameters, ReadsParameter}
 use Rattle.jsgen_model.specs.Grammar as grammar
 use Rattle.jsgen_token_laws.proofs.Plain.{all_plain}
 use Rattle.jsgen_token_laws.proofs.OneList.{one_token_list}
@@ -48,14 +50,13 @@ is_one (group m b inside done) = true
 is_one ts = false
 
 -- what parameters begin with; behind three dots one token is all
-abbrev are_parameters : Tokens → Bool
+abbrev pub are_parameters : Tokens → Bool
 are_parameters (piece m (Sign ellipsis) ts) = is_one ts
 are_parameters ts = may_be_given ts
 
--- something that begins with no brace
+-- something that may begin a body: braces do too
 abbrev is_body : Tokens → Bool
 is_body done = false
-is_body (group m Brace inside ts) = false
 is_body ts = true
 
 -- The flags tell that what stands before them may be parameters, and that it is `for`, whose head may hold anything
@@ -87,9 +88,7 @@ with_parameters k f (group m Brace inside ts) h = h
 body_further : (ts b : Tokens) → is_body ts ≡ true → is_body (ts ⧺ b) ≡ true
 body_further done b h = absurd (both_ways false refl h)
 body_further (piece m p ts) b h = refl
-body_further (group m Round inside ts) b h = refl
-body_further (group m Square inside ts) b h = refl
-body_further (group m Brace inside ts) b h = absurd (both_ways false refl h)
+body_further (group m d inside ts) b h = refl
 
 -- where the second of two holds further on, both do
 further : (p q r : Bool) → (q ≡ true → r ≡ true) → (p && q) ≡ true → (p && r) ≡ true
@@ -180,7 +179,7 @@ binding_starts (grammar.a_bound_name {mark = m} {w = w} {v = v} e h) = name_star
 binding_is_one : {c : Allowed} {ts : Tokens} {t : Tree} → ReadsBinding c ts t → is_one ts ≡ true
 binding_is_one (grammar.a_bound_name e h) = refl
 
-parameter_starts : {c : Allowed} {ts : Tokens} {t : Tree} → ReadsParameter c ts t → starts_well ts ≡ true
+pub parameter_starts : {c : Allowed} {ts : Tokens} {t : Tree} → ReadsParameter c ts t → starts_well ts ≡ true
 parameter_starts (grammar.a_parameter r) = binding_starts r
 parameter_starts (grammar.with_initializer m e r v) = joined _ _ (piece m (Sign equal) _) refl e (binding_starts r)
 
@@ -189,7 +188,7 @@ parameters_from done h = refl
 parameters_from (piece m (Sign ellipsis) ts) h = absurd (both_ways false refl h)
 parameters_from ts h = h
 
-parameters_start : {c : Allowed} {ts : Tokens} {ps : Trees} {rest : Maybe} → ReadsParameters c ts ps rest → are_parameters ts ≡ true
+pub parameters_start : {c : Allowed} {ts : Tokens} {ps : Trees} {rest : Maybe} → ReadsParameters c ts ps rest → are_parameters ts ≡ true
 parameters_start grammar.no_parameter = refl
 parameters_start (grammar.last_parameter {ts = ts} r) = parameters_from ts (parameter_starts r)
 parameters_start (grammar.first_parameter {ts = ts} m e r s) = parameters_from ts (joined _ _ (piece m (Sign comma) _) refl e (parameter_starts r))
@@ -199,16 +198,19 @@ given_parameters : (ts : Tokens) → are_parameters ts ≡ true → may_be_given
 given_parameters (piece m (Sign ellipsis) ts) h = refl
 given_parameters ts h = h
 
-body_from : (ts : Tokens) → starts_in_brace ts ≡ false → starts_well ts ≡ true → is_body ts ≡ true
-body_from done n h = absurd (both_ways false refl h)
-body_from (group m Brace inside ts) n h = absurd (both_ways true n refl)
-body_from (group m Round inside ts) n h = refl
-body_from (group m Square inside ts) n h = refl
-body_from (piece m p ts) n h = refl
+body_from : (ts : Tokens) → starts_well ts ≡ true → is_body ts ≡ true
+body_from done h = absurd (both_ways false refl h)
+body_from (group m d inside ts) h = refl
+body_from (piece m p ts) h = refl
 
 arrow_joined : {c : Allowed} {a : Tokens} {ps : Tree} → ReadsArrowParameters c a ps → (b : Tokens) → is_body b ≡ true → is_joined b ≡ true → is_joined (a ⧺ piece false (Sign arrow) b) ≡ true
 arrow_joined (grammar.a_parameter_name e h) b f g = and_from (is_body b) (is_joined b) f g
 arrow_joined (grammar.grouped_parameters {inside = i} r) b f g = let p = parameters_start r in and_from (may_be_given i) _ (given_parameters i p) (and_from (are_parameters i) _ p (and_from (is_body b) (is_joined b) f g))
+
+-- behind the word `function`
+function_joined : {kind : FunctionKind} {ts : Tokens} {t : Tree} → ReadsFunction kind ts t → is_joined_behind true false ts ≡ true
+function_joined (grammar.a_named_function {w = w} {head = i} e h r s) = and_from (bytes_eq w (codes "for") || may_be_given i) true (or_right (bytes_eq w (codes "for")) (may_be_given i) (given_parameters i (parameters_start r))) refl
+function_joined (grammar.a_nameless_function {head = i} r s) = and_from (may_be_given i) true (given_parameters i (parameters_start r)) refl
 
 mutual
   expression_joined : {c : Allowed} {l : Level} {ts : Tokens} {t : Tree} → ReadsExpression c l ts t → is_joined ts ≡ true
@@ -272,7 +274,9 @@ mutual
   expression_joined (grammar.an_optional_chain r) = chain_joined r
   expression_joined (grammar.an_array r) = refl
   expression_joined (grammar.an_object r) = refl
-  expression_joined (grammar.an_arrow_function {b = b} e r n s) = subst (λ x. is_joined x ≡ true) (sym e) (arrow_joined r b (body_from b n (expression_starts s)) (expression_joined s))
+  expression_joined (grammar.a_function r) = function_joined r
+  expression_joined (grammar.an_arrow_function {b = b} e r n s) = subst (λ x. is_joined x ≡ true) (sym e) (arrow_joined r b (body_from b (expression_starts s)) (expression_joined s))
+  expression_joined (grammar.an_arrow_with_body {inside = i} m e r s) = subst (λ x. is_joined x ≡ true) (sym e) (arrow_joined r (group m Brace i done) refl refl)
 
   parts_joined : {c : Allowed} {ts : Tokens} {us : Trees} → ReadsParts c ts us → is_joined ts ≡ true
   parts_joined (grammar.last_part r) = expression_joined r
@@ -333,6 +337,10 @@ end_joined (grammar.a_handler r) = handler_joined r
 end_joined (grammar.a_finalizer r) = finalizer_joined r
 end_joined (grammar.a_handler_and_a_finalizer {a = a} {b = b} e r s) = made _ a b e (handler_joined r) (finalizer_joined s)
 
+returned_joined : {c : Allowed} {ts : Tokens} {m : Maybe} → ReadsReturned c ts m → is_joined ts ≡ true
+returned_joined grammar.nothing_returned = refl
+returned_joined (grammar.a_returned_value h r) = expression_joined r
+
 statement_joined : {c : Allowed} {last before_else : Bool} {ts : Tokens} {s : Tree} → ReadsStatement c last before_else ts s → is_joined ts ≡ true
 statement_joined (grammar.an_expression_statement e h r) = ended_joined e (expression_joined r)
 statement_joined grammar.an_empty_statement = refl
@@ -352,9 +360,11 @@ statement_joined (grammar.a_throw {a = a} e h r) = ended_joined e (with_paramete
 statement_joined (grammar.a_debugger e) = ended_joined e refl
 statement_joined (grammar.a_switch {head = i} r cs) = behind_test i (group false Brace done done) (expression_starts r) refl
 statement_joined (grammar.a_try r s) = end_joined s
+statement_joined (grammar.a_return {a = a} f e r) = ended_joined e (with_parameters true false a (returned_joined r))
 
 item_joined : {c : Allowed} {last : Bool} {ts : Tokens} {s : Tree} → ReadsItem c last ts s → is_joined ts ≡ true
 item_joined (grammar.a_statement r) = statement_joined r
+item_joined (grammar.a_function_declaration r) = function_joined r
 item_joined (grammar.a_declaration kind n e r) = ended_joined e (declaration_joined r)
 
 statements_joined : {c : Allowed} {last : Bool} {ts : Tokens} {ss : Trees} → ReadsStatements c last ts ss → is_joined ts ≡ true
@@ -387,10 +397,6 @@ pub no_argument : IsNotRead (codes "a(,);")
 unfolding unicode_ident longer_stands word_value is_reserved is_strict_reserved encode
 no_argument = refused (codes "a(,);") (word (codes "a") (group false Round (sign comma done) (sign semicolon done))) ([], codes "(,);", refl, refl, refl, refl, refl, ([], codes ",", codes ";", refl, refl, refl, ([], [], refl, refl, refl, refl, refl, refl), ([], [], refl, refl, refl, refl, refl, refl))) refl
 
-pub body_in_braces : IsNotRead (codes "a=>{};")
-unfolding unicode_ident longer_stands word_value is_reserved is_strict_reserved encode
-body_in_braces = refused (codes "a=>{};") (word (codes "a") (sign arrow (group false Brace done (sign semicolon done)))) ([], codes "=>{};", refl, refl, refl, refl, refl, ([], codes "{};", refl, refl, refl, refl, refl, ([], [], codes ";", refl, refl, refl, refl, ([], [], refl, refl, refl, refl, refl, refl)))) refl
-
 pub arrow_on_next_line : IsNotRead (codes "a\n=>b;")
 unfolding unicode_ident longer_stands word_value is_reserved is_strict_reserved encode
 arrow_on_next_line = refused (codes "a\n=>b;") (word (codes "a") (piece true (Sign arrow) (word (codes "b") (sign semicolon done)))) ([], codes "\n=>b;", refl, refl, refl, refl, refl, (codes "\n", codes "b;", refl, refl, refl, refl, refl, ([], codes ";", refl, refl, refl, refl, refl, ([], [], refl, refl, refl, refl, refl, refl)))) refl
@@ -402,3 +408,11 @@ comma_behind_rest = refused (codes "(...a,)=>b;") (group false Round (sign ellip
 pub comma_alone : IsNotRead (codes "(,)=>a;")
 unfolding unicode_ident longer_stands word_value is_reserved is_strict_reserved encode
 comma_alone = refused (codes "(,)=>a;") (group false Round (sign comma done) (sign arrow (word (codes "a") (sign semicolon done)))) ([], codes ",", codes "=>a;", refl, refl, refl, ([], [], refl, refl, refl, refl, refl, refl), ([], codes "a;", refl, refl, refl, refl, refl, ([], codes ";", refl, refl, refl, refl, refl, ([], [], refl, refl, refl, refl, refl, refl)))) refl
+
+pub parameter_comma_alone : IsNotRead (codes "function f(,){}")
+unfolding unicode_ident longer_stands word_value is_reserved is_strict_reserved encode
+parameter_comma_alone = refused (codes "function f(,){}") (word (codes "function") (word (codes "f") (group false Round (sign comma done) (group false Brace done done)))) ([], codes " f(,){}", refl, refl, refl, refl, refl, (codes " ", codes "(,){}", refl, refl, refl, refl, refl, ([], codes ",", codes "{}", refl, refl, refl, ([], [], refl, refl, refl, refl, refl, refl), ([], [], [], refl, refl, refl, refl, refl)))) refl
+
+pub reserved_parameter : IsNotRead (codes "function f(if){}")
+unfolding unicode_ident longer_stands word_value is_reserved is_strict_reserved encode
+reserved_parameter = refused (codes "function f(if){}") (word (codes "function") (word (codes "f") (group false Round (word (codes "if") done) (group false Brace done done)))) ([], codes " f(if){}", refl, refl, refl, refl, refl, (codes " ", codes "(if){}", refl, refl, refl, refl, refl, ([], codes "if", codes "{}", refl, refl, refl, ([], [], refl, refl, refl, refl, refl, refl), ([], [], [], refl, refl, refl, refl, refl)))) refl

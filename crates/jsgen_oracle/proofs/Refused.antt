@@ -10,8 +10,7 @@ use Rattle.jsgen_syntax.specs.Strings.{string_value}
 use Rattle.jsgen_syntax.specs.declared.quote.Quote.TheVariants.{Single, Double}
 use Rattle.jsgen_model.specs.Punctuator.{plus, plus_plus, colon, semicolon, Bracket, Round, Square, Brace, opening, closing}
 use Rattle.jsgen_model.specs.Numbers.{spells_number}
-use Rattle.jsgen_model.specs.Tokens.{Tokens, done, piece, group, Word, Number, Quoted, piece_text, is_blank, longer_stands, longer_number_stands, AreTokensOf}
-use Rattle.jsgen_model.specs.Grammar as grammar
+use Rattle.jsgen_model.specs.Tokens.{Tokens, done, piece, group, Word, Number, Quoted, Sign, piece_text, is_blank, longer_stands, longer_number_stands, AreTokensOf}
 use Rattle.jsgen_token_laws.proofs.Characters.{any_append}
 use Rattle.jsgen_token_laws.proofs.OneList.{one_span, piece_stops, piece_or_group, opening_char}
 use Rattle.jsgen_oracle.specs.Samples.{IsNotRead}
@@ -97,6 +96,34 @@ bare_try = refused (codes "try{}") (word (codes "try") (group false Brace done d
 pub async_before_of : IsNotRead (codes "for(async of b)c;")
 unfolding unicode_ident longer_stands word_value is_reserved is_strict_reserved encode
 async_before_of = refused (codes "for(async of b)c;") (word (codes "for") (group false Round (word (codes "async") (word (codes "of") (word (codes "b") done))) (word (codes "c") (sign semicolon done)))) ([], codes "(async of b)c;", refl, refl, refl, refl, refl, ([], codes "async of b", codes "c;", refl, refl, refl, ([], codes " of b", refl, refl, refl, refl, refl, (codes " ", codes " b", refl, refl, refl, refl, refl, (codes " ", [], refl, refl, refl, refl, refl, refl))), ([], codes ";", refl, refl, refl, refl, refl, ([], [], refl, refl, refl, refl, refl, refl)))) refl
+
+pub update_on_next_line : IsNotRead (codes "a\n++b;")
+unfolding unicode_ident longer_stands word_value is_reserved is_strict_reserved encode
+update_on_next_line = refused (codes "a\n++b;") (word (codes "a") (piece true (Sign plus_plus) (word (codes "b") (sign semicolon done)))) ([], codes "\n++b;", refl, refl, refl, refl, refl, (codes "\n", codes "b;", refl, refl, refl, refl, refl, ([], codes ";", refl, refl, refl, refl, refl, ([], [], refl, refl, refl, refl, refl, refl)))) refl
+
+pub return_in_module : IsNotRead (codes "return a;")
+unfolding unicode_ident longer_stands word_value is_reserved is_strict_reserved encode
+return_in_module = refused (codes "return a;") (word (codes "return") (word (codes "a") (sign semicolon done))) ([], codes " a;", refl, refl, refl, refl, refl, (codes " ", codes ";", refl, refl, refl, refl, refl, ([], [], refl, refl, refl, refl, refl, refl))) refl
+
+pub nameless_declaration : IsNotRead (codes "function(){}")
+unfolding unicode_ident longer_stands word_value is_reserved is_strict_reserved encode
+nameless_declaration = refused (codes "function(){}") (word (codes "function") (group false Round done (group false Brace done done))) ([], codes "(){}", refl, refl, refl, refl, refl, ([], [], codes "{}", refl, refl, refl, refl, ([], [], [], refl, refl, refl, refl, refl))) refl
+
+pub function_behind_if : IsNotRead (codes "if(a)function f(){}")
+unfolding unicode_ident longer_stands word_value is_reserved is_strict_reserved encode
+function_behind_if = refused (codes "if(a)function f(){}") (word (codes "if") (group false Round (word (codes "a") done) (word (codes "function") (word (codes "f") (group false Round done (group false Brace done done)))))) ([], codes "(a)function f(){}", refl, refl, refl, refl, refl, ([], codes "a", codes "function f(){}", refl, refl, refl, ([], [], refl, refl, refl, refl, refl, refl), ([], codes " f(){}", refl, refl, refl, refl, refl, (codes " ", codes "(){}", refl, refl, refl, refl, refl, ([], [], codes "{}", refl, refl, refl, refl, ([], [], [], refl, refl, refl, refl, refl)))))) refl
+
+pub function_behind_while : IsNotRead (codes "while(a)function f(){}")
+unfolding unicode_ident longer_stands word_value is_reserved is_strict_reserved encode
+function_behind_while = refused (codes "while(a)function f(){}") (word (codes "while") (group false Round (word (codes "a") done) (word (codes "function") (word (codes "f") (group false Round done (group false Brace done done)))))) ([], codes "(a)function f(){}", refl, refl, refl, refl, refl, ([], codes "a", codes "function f(){}", refl, refl, refl, ([], [], refl, refl, refl, refl, refl, refl), ([], codes " f(){}", refl, refl, refl, refl, refl, (codes " ", codes "(){}", refl, refl, refl, refl, refl, ([], [], codes "{}", refl, refl, refl, refl, ([], [], [], refl, refl, refl, refl, refl)))))) refl
+
+pub function_behind_label : IsNotRead (codes "a:function f(){}")
+unfolding unicode_ident longer_stands word_value is_reserved is_strict_reserved encode
+function_behind_label = refused (codes "a:function f(){}") (word (codes "a") (sign colon (word (codes "function") (word (codes "f") (group false Round done (group false Brace done done)))))) ([], codes ":function f(){}", refl, refl, refl, refl, refl, ([], codes "function f(){}", refl, refl, refl, refl, refl, ([], codes " f(){}", refl, refl, refl, refl, refl, (codes " ", codes "(){}", refl, refl, refl, refl, refl, ([], [], codes "{}", refl, refl, refl, refl, ([], [], [], refl, refl, refl, refl, refl)))))) refl
+
+pub reserved_name : IsNotRead (codes "function if(){}")
+unfolding unicode_ident longer_stands word_value is_reserved is_strict_reserved encode
+reserved_name = refused (codes "function if(){}") (word (codes "function") (word (codes "if") (group false Round done (group false Brace done done)))) ([], codes " if(){}", refl, refl, refl, refl, refl, (codes " ", codes "(){}", refl, refl, refl, refl, refl, ([], [], codes "{}", refl, refl, refl, refl, ([], [], [], refl, refl, refl, refl, refl)))) refl
 
 -- ---- a bracket that isn't closed
 

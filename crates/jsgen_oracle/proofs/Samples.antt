@@ -21,7 +21,7 @@ use Rattle.jsgen_oracle.specs.Samples as samples
 
 -- ---- levels
 
-update : {c : Allowed} {ts : Tokens} {t : Tree} → ReadsExpression c Primary ts t → ReadsExpression c Update ts t
+pub update : {c : Allowed} {ts : Tokens} {t : Tree} → ReadsExpression c Primary ts t → ReadsExpression c Update ts t
 update r = grammar.a_left_hand_side (grammar.a_new (grammar.a_member (grammar.a_primary r)))
 
 power : {c : Allowed} {ts : Tokens} {t : Tree} → ReadsExpression c Primary ts t → ReadsExpression c Exponent ts t
@@ -210,7 +210,7 @@ members =
 
 -- ---- operators of one operand, `new` and `super`
 
-of_unary : {c : Allowed} {ts : Tokens} {t : Tree} → ReadsExpression c Unary ts t → ReadsExpression c Expression ts t
+pub of_unary : {c : Allowed} {ts : Tokens} {t : Tree} → ReadsExpression c Unary ts t → ReadsExpression c Expression ts t
 of_unary r = whole (grammar.a_multiplicative (grammar.an_exponent (grammar.a_unary r)))
 
 pub of_left : {c : Allowed} {ts : Tokens} {t : Tree} → ReadsExpression c LeftHandSide ts t → ReadsExpression c Expression ts t
@@ -390,3 +390,5 @@ no_other_if ts h (a_module (grammar.statements n (grammar.last_statement (gramma
 no_other_if ts h (a_module (grammar.statements n (grammar.first_statement e (grammar.a_statement r) s))) = no_other_statement r
 no_other_if ts h (a_module (grammar.statements n (grammar.last_statement (grammar.a_declaration kind v e r)))) = elim r [ ]
 no_other_if ts h (a_module (grammar.statements n (grammar.first_statement e (grammar.a_declaration kind v f r) s))) = elim r [ ]
+no_other_if ts h (a_module (grammar.statements n (grammar.last_statement (grammar.a_function_declaration r)))) = elim r [ ]
+no_other_if ts h (a_module (grammar.statements n (grammar.first_statement e (grammar.a_function_declaration r) s))) = elim r [ ]

@@ -20,51 +20,19 @@ use Rattle.jsgen_syntax.specs.declared.operator.AssignmentOperator.{AssignmentOp
 use Rattle.jsgen_syntax.specs.declared.operator.AssignmentOperator.TheVariants as assignment_operators
 use Rattle.jsgen_tree.specs.declared.statements.VariableDeclarationKind.{VariableDeclarationKind}
 use Rattle.jsgen_tree.specs.declared.statements.VariableDeclarationKind.TheVariants as kinds
+use Rattle.jsgen_tree.specs.declared.functions.FunctionKind.{FunctionKind}
+use Rattle.jsgen_tree.specs.declared.functions.FunctionKind.TheVariants as function_kinds
 use Rattle.jsgen_tree.specs.Tree.{Tree, Trees, Maybe}
 use Rattle.jsgen_model.specs.Punctuator.{Punctuator, dot, question_dot, plus, minus, plus_plus, minus_minus, bang, tilde, comma, star_star, and_and, or_or, nullish, question, colon, arrow, semicolon, Round, Square, Brace}
 use Rattle.jsgen_model.specs.Tokens.{Tokens, done, piece, group, ◌⧺◌, Piece, Word, Number, Quoted, Sign, AreTokensOf}
-use Rattle.jsgen_model.specs.Grammar.{Allowed, Level, operator_piece, unary_piece, update_sign, assignment_sign, ReadsExpression, ReadsBinding, ReadsDeclarator, ReadsDeclarators, ReadsVariables, declaring, on_same_line, may_precede_of, EndsBy, ReadsStatement, ReadsInit, ReadsLeft, ReadsHandler, ReadsFinalizer, ReadsEndsOfTry, ReadsItem, ReadsStatements, ReadsBody, ReadsModule, a_module, ReadsChain, ReadsChainBase, ReadsArrowParameters}
+use Rattle.jsgen_model.specs.Grammar.{Allowed, Level, operator_piece, unary_piece, update_sign, assignment_sign, ReadsExpression, ReadsFunction, ReadsBinding, ReadsDeclarator, ReadsDeclarators, ReadsVariables, declaring, on_same_line, starts_declaration, starts_statement, may_precede_of, EndsBy, ReadsStatement, ReadsInit, ReadsLeft, ReadsHandler, ReadsFinalizer, ReadsEndsOfTry, ReadsItem, ReadsStatements, ReadsBody, ReadsModule, a_module, ReadsChain, ReadsChainBase, ReadsArrowParameters}
 use Rattle.jsgen_model.specs.Grammar as grammar
 use Rattle.jsgen_token_laws.proofs.Plain.{all_plain}
 use Rattle.jsgen_token_laws.proofs.OneList.{one_token_list}
 use Rattle.jsgen_oracle.specs.Samples.{IsNotRead}
-use Rattle.jsgen_oracle.proofs.Samples.{word, sign}
+use Rattle.jsgen_oracle.proofs.Ends.{ends_so, ends_behind, ends_past, one_more, in_a_row, end_nothing}
 
--- ---- a program's last token
-
--- a semicolon or a brace group stands at the end; of no tokens, as the flag says
-abbrev ends_so : Bool → Tokens → Bool
-ends_so last done = last
-ends_so last (piece m (Sign semicolon) ts) = ends_so true ts
-ends_so last (piece m p ts) = ends_so false ts
-ends_so last (group m Brace inside ts) = ends_so true ts
-ends_so last (group m b inside ts) = ends_so false ts
-
-ends_behind : (v m : Bool) (a b : Tokens) → ends_so true b ≡ true → ends_so v (a ⧺ piece m (Sign semicolon) b) ≡ true
-ends_behind v m done b h = h
-ends_behind v m (piece n (Sign semicolon) a) b h = ends_behind true m a b h
-ends_behind v m (piece n p a) b h = ends_behind false m a b h
-ends_behind v m (group n Brace inside a) b h = ends_behind true m a b h
-ends_behind v m (group n d inside a) b h = ends_behind false m a b h
-
-ends_past : (k : Bool) (w : List ℕ) (a b : Tokens) → ends_so false b ≡ true → (v : Bool) → ends_so v (a ⧺ piece k (Word w) b) ≡ true
-ends_past k w done b h v = h
-ends_past k w (piece n (Sign semicolon) a) b h v = ends_past k w a b h true
-ends_past k w (piece n p a) b h v = ends_past k w a b h false
-ends_past k w (group n Brace inside a) b h v = ends_past k w a b h true
-ends_past k w (group n d inside a) b h v = ends_past k w a b h false
-
-one_more : (m : Bool) (p : Piece) (a b : Tokens) → (a ⧺ piece m p done) ⧺ b ≡ a ⧺ piece m p b
-one_more m p done b = refl
-one_more m p (piece n q a) b = ap (piece n q) (one_more m p a b)
-one_more m p (group n d inside a) b = ap (group n d inside) (one_more m p a b)
-
-in_a_row : (a b d : Tokens) → (a ⧺ b) ⧺ d ≡ a ⧺ (b ⧺ d)
-in_a_row done b d = refl
-in_a_row (piece n q a) b d = ap (piece n q) (in_a_row a b d)
-in_a_row (group n e inside a) b d = ap (group n e inside) (in_a_row a b d)
-
--- ---- its first two tokens
+-- ---- a program's first two tokens
 
 -- these tokens may stand behind the first operand of an expression
 abbrev joins : Piece → Bool
@@ -94,9 +62,13 @@ begins_with_name ts = false
 abbrev is_keyword : List ℕ → Bool
 is_keyword w = list_any (bytes_eq w) (codes "this" ∷ codes "null" ∷ codes "true" ∷ codes "false" ∷ codes "super" ∷ codes "new" ∷ [])
 
+-- the word may stand as a name
+abbrev is_free_word : List ℕ → Bool
+is_free_word w = option_map_or is_free_name (word_value w) false
+
 -- the word may be an operand: a keyword, or a reference
 abbrev is_operand_word : List ℕ → Bool
-is_operand_word w = is_keyword w || option_map_or is_free_name (word_value w) false
+is_operand_word w = is_keyword w || is_free_word w
 
 -- an operator, or `new`, stands before its operand
 abbrev is_prefix_word : List ℕ → Bool
@@ -111,9 +83,22 @@ is_prefix_sign plus_plus = true
 is_prefix_sign minus_minus = true
 is_prefix_sign s = false
 
+-- a function's parameters and body, and what goes on behind them. What stands within their groups doesn't matter
+abbrev ends_function : Tokens → Bool
+ends_function (group m Round head (group n Brace inside ts)) = goes_on ts
+ends_function ts = false
+
+-- the same behind a name, which may be omitted
+abbrev goes_to_function : Tokens → Bool
+goes_to_function (piece m (Word w) ts) = ends_function ts
+goes_to_function ts = ends_function ts
+
+abbrev begins_function : List ℕ → Tokens → Bool
+begins_function w ts = bytes_eq w (codes "function") && goes_to_function ts
+
 -- an operand that a sign, a bracket or nothing follows, maybe behind operators of its own
 abbrev pub starts_well : Tokens → Bool
-starts_well (piece m (Word w) ts) = (is_operand_word w && goes_on ts) || (is_prefix_word w && starts_well ts)
+starts_well (piece m (Word w) ts) = begins_function w ts || ((is_operand_word w && goes_on ts) || (is_prefix_word w && starts_well ts))
 starts_well (piece m (Sign s) ts) = is_prefix_sign s && starts_well ts
 starts_well (piece m (Number w) ts) = goes_on ts
 starts_well (piece m (Quoted q w) ts) = goes_on ts
@@ -122,27 +107,37 @@ starts_well (group m Square inside ts) = goes_on ts
 starts_well (group m Brace inside ts) = goes_on ts
 starts_well ts = false
 
+-- the word begins such an operand that is no function
+abbrev starts_operand : List ℕ → Tokens → Bool
+starts_operand w ts = (is_operand_word w && goes_on ts) || (is_prefix_word w && starts_well ts)
+
 -- a lexical declaration begins with it
 abbrev is_lexical_word : List ℕ → Bool
 is_lexical_word w = bytes_eq w (codes "const") || bytes_eq w (codes "let")
 
-abbrev is_declaring : List ℕ → Bool
+abbrev pub is_declaring : List ℕ → Bool
 is_declaring w = is_lexical_word w || bytes_eq w (codes "var")
 
-abbrev begins_lexically : Tokens → Bool
-begins_lexically (piece m (Word w) ts) = is_lexical_word w
-begins_lexically ts = false
+-- and a declaration that is no statement: a lexical one, or one of a function
+abbrev begins_declaration : Tokens → Bool
+begins_declaration (piece m (Word w) ts) = bytes_eq w (codes "function") || is_lexical_word w
+begins_declaration ts = false
 
--- a group in parentheses, and something behind it that begins no lexical declaration
+-- a group in parentheses, and something behind it that begins no such declaration
 abbrev goes_to_body : Tokens → Bool
 goes_to_body (group m Round inside done) = false
-goes_to_body (group m Round inside ts) = not (begins_lexically ts)
+goes_to_body (group m Round inside ts) = not (begins_declaration ts)
 goes_to_body ts = false
 
 -- the same behind the colon of a label
 abbrev goes_to_labelled : Tokens → Bool
-goes_to_labelled (piece m (Sign colon) ts) = not (begins_lexically ts)
+goes_to_labelled (piece m (Sign colon) ts) = not (begins_declaration ts)
 goes_to_labelled ts = false
+
+-- a name, parameters and a body, as a declaration of a function has them
+abbrev goes_to_named_function : Tokens → Bool
+goes_to_named_function (piece m (Word w) (group n Round head (group k Brace inside ts))) = is_free_word w
+goes_to_named_function ts = false
 
 -- no `async of` stands first
 abbrev is_head : Tokens → Bool
@@ -165,13 +160,13 @@ goes_to_end ts = false
 abbrev begins_alone : List ℕ → Bool
 begins_alone w = list_any (bytes_eq w) (codes "do" ∷ codes "continue" ∷ codes "break" ∷ codes "debugger" ∷ codes "switch" ∷ [])
 
--- a word that a statement without an operand in front begins with, and what it needs
+-- a word that a statement without an operand in front or a function's declaration begins with, and what it needs
 abbrev begins_statement : List ℕ → Tokens → Bool
-begins_statement w ts = goes_to_labelled ts || (begins_alone w || ((bytes_eq w (codes "if") && goes_to_body ts) || ((bytes_eq w (codes "while") && goes_to_body ts) || ((bytes_eq w (codes "for") && goes_to_head ts) || ((bytes_eq w (codes "throw") && on_same_line ts) || (bytes_eq w (codes "try") && goes_to_end ts))))))
+begins_statement w ts = goes_to_labelled ts || (begins_alone w || ((bytes_eq w (codes "if") && goes_to_body ts) || ((bytes_eq w (codes "while") && goes_to_body ts) || ((bytes_eq w (codes "for") && goes_to_head ts) || ((bytes_eq w (codes "throw") && on_same_line ts) || ((bytes_eq w (codes "function") && goes_to_named_function ts) || (bytes_eq w (codes "try") && goes_to_end ts)))))))
 
--- a word that an expression begins with, one that declares and a name, or one that begins a statement
+-- a word that an expression statement begins with, one that declares and a name, or one that begins another statement
 abbrev word_begins_well : List ℕ → Tokens → Bool
-word_begins_well w ts = starts_well (piece false (Word w) ts) || ((is_declaring w && begins_with_name ts) || begins_statement w ts)
+word_begins_well w ts = starts_operand w ts || ((is_declaring w && begins_with_name ts) || begins_statement w ts)
 
 -- a statement begins so: with an operand, a word, a semicolon or a brace group
 abbrev begins_well : Tokens → Bool
@@ -198,17 +193,44 @@ named_further (piece n (Quoted q w) ts) b h = absurd (both_ways false refl h)
 named_further (piece n (Sign s) ts) b h = absurd (both_ways false refl h)
 named_further (group n d inside ts) b h = absurd (both_ways false refl h)
 
--- the word begins an expression, and so it does before other tokens
-word_further : (w : List ℕ) (m : Bool) (ts us : Tokens) → (goes_on ts ≡ true → goes_on us ≡ true) → (starts_well ts ≡ true → starts_well us ≡ true) → starts_well (piece m (Word w) ts) ≡ true → starts_well (piece m (Word w) us) ≡ true
-word_further w m ts us f g h = by (or_cases (is_operand_word w && goes_on ts) (is_prefix_word w && starts_well ts) h)
+function_ends_further : (ts b : Tokens) → goes_on b ≡ true → ends_function ts ≡ true → ends_function (ts ⧺ b) ≡ true
+function_ends_further done b j h = absurd (both_ways false refl h)
+function_ends_further (piece n p ts) b j h = absurd (both_ways false refl h)
+function_ends_further (group n Round head done) b j h = absurd (both_ways false refl h)
+function_ends_further (group n Round head (piece k p ts)) b j h = absurd (both_ways false refl h)
+function_ends_further (group n Round head (group k Brace inside ts)) b j h = goes_further ts b j h
+function_ends_further (group n Round head (group k Round inside ts)) b j h = absurd (both_ways false refl h)
+function_ends_further (group n Round head (group k Square inside ts)) b j h = absurd (both_ways false refl h)
+function_ends_further (group n Square inside ts) b j h = absurd (both_ways false refl h)
+function_ends_further (group n Brace inside ts) b j h = absurd (both_ways false refl h)
+
+function_further : (ts b : Tokens) → goes_on b ≡ true → goes_to_function ts ≡ true → goes_to_function (ts ⧺ b) ≡ true
+function_further done b j h = absurd (both_ways false refl h)
+function_further (piece n (Word w) ts) b j h = function_ends_further ts b j h
+function_further (piece n (Number w) ts) b j h = absurd (both_ways false refl h)
+function_further (piece n (Quoted q w) ts) b j h = absurd (both_ways false refl h)
+function_further (piece n (Sign r) ts) b j h = absurd (both_ways false refl h)
+function_further (group n d inside ts) b j h = function_ends_further (group n d inside ts) b j h
+
+-- the word begins an operand, and so it does before other tokens
+operand_further : (w : List ℕ) (ts us : Tokens) → (goes_on ts ≡ true → goes_on us ≡ true) → (starts_well ts ≡ true → starts_well us ≡ true) → starts_operand w ts ≡ true → starts_operand w us ≡ true
+operand_further w ts us f g h = by (or_cases (is_operand_word w && goes_on ts) (is_prefix_word w && starts_well ts) h)
   where
-    by : ((is_operand_word w && goes_on ts) ≡ true) ⊎ ((is_prefix_word w && starts_well ts) ≡ true) → starts_well (piece m (Word w) us) ≡ true
+    by : ((is_operand_word w && goes_on ts) ≡ true) ⊎ ((is_prefix_word w && starts_well ts) ≡ true) → starts_operand w us ≡ true
     by (inl e) = let k = and_parts (is_operand_word w) (goes_on ts) e in or_left _ _ (and_from _ _ k.0 (f k.1))
     by (inr e) = let k = and_parts (is_prefix_word w) (starts_well ts) e in or_right _ _ (and_from _ _ k.0 (g k.1))
 
+-- the word begins an expression, and so it does before other tokens
+word_further : (w : List ℕ) (m : Bool) (ts us : Tokens) → (goes_to_function ts ≡ true → goes_to_function us ≡ true) → (goes_on ts ≡ true → goes_on us ≡ true) → (starts_well ts ≡ true → starts_well us ≡ true) → starts_well (piece m (Word w) ts) ≡ true → starts_well (piece m (Word w) us) ≡ true
+word_further w m ts us i f g h = by (or_cases (begins_function w ts) (starts_operand w ts) h)
+  where
+    by : (begins_function w ts ≡ true) ⊎ (starts_operand w ts ≡ true) → starts_well (piece m (Word w) us) ≡ true
+    by (inl e) = let k = and_parts (bytes_eq w (codes "function")) (goes_to_function ts) e in or_left _ _ (and_from _ _ k.0 (i k.1))
+    by (inr e) = or_right (begins_function w us) _ (operand_further w ts us f g e)
+
 starts_further : (ts b : Tokens) → goes_on b ≡ true → starts_well ts ≡ true → starts_well (ts ⧺ b) ≡ true
 starts_further done b j h = absurd (both_ways false refl h)
-starts_further (piece n (Word w) ts) b j h = word_further w n ts (ts ⧺ b) (goes_further ts b j) (starts_further ts b j) h
+starts_further (piece n (Word w) ts) b j h = word_further w n ts (ts ⧺ b) (function_further ts b j) (goes_further ts b j) (starts_further ts b j) h
 starts_further (piece n (Number w) ts) b j h = goes_further ts b j h
 starts_further (piece n (Quoted q w) ts) b j h = goes_further ts b j h
 starts_further (piece n (Sign r) ts) b j h = let k = and_parts (is_prefix_sign r) (starts_well ts) h in and_from _ _ k.0 (starts_further ts b j k.1)
@@ -287,7 +309,11 @@ element_goes m (group n b i us) ts h = refl
 
 -- a name
 pub name_starts : (m : Bool) (w v : List ℕ) (ts : Tokens) → word_value w ≡ Some v → is_free_name v ≡ true → goes_on ts ≡ true → starts_well (piece m (Word w) ts) ≡ true
-name_starts m w v ts e h g = or_left _ _ (and_from (is_operand_word w) (goes_on ts) (or_right (is_keyword w) _ (ap (λ o. option_map_or is_free_name o false) e ∙ h)) g)
+name_starts m w v ts e h g = or_right (begins_function w ts) _ (or_left _ _ (and_from (is_operand_word w) (goes_on ts) (or_right (is_keyword w) _ (ap (λ o. option_map_or is_free_name o false) e ∙ h)) g))
+
+function_starts : {kind : FunctionKind} {ts : Tokens} {t : Tree} → ReadsFunction kind ts t → goes_to_function ts ≡ true
+function_starts (grammar.a_named_function e h r s) = refl
+function_starts (grammar.a_nameless_function r s) = refl
 
 arrow_parameters_start : {c : Allowed} {ts : Tokens} {t : Tree} → ReadsArrowParameters c ts t → starts_well ts ≡ true
 arrow_parameters_start (grammar.a_parameter_name {mark = m} {w = w} {v = v} e h) = name_starts m w v done e h refl
@@ -355,9 +381,11 @@ mutual
   expression_starts (grammar.an_optional_chain r) = chain_starts r
   expression_starts (grammar.an_array r) = refl
   expression_starts (grammar.an_object r) = refl
+  expression_starts (grammar.a_function r) = or_left _ _ (function_starts r)
   expression_starts (grammar.an_arrow_function e r n s) = joined _ _ (piece false (Sign arrow) _) refl e (arrow_parameters_start r)
+  expression_starts (grammar.an_arrow_with_body m e r s) = joined _ _ (piece false (Sign arrow) _) refl e (arrow_parameters_start r)
 
-  chain_starts : {c : Allowed} {ts : Tokens} {t : Tree} → ReadsChain c ts t → starts_well ts ≡ true
+  pub chain_starts : {c : Allowed} {ts : Tokens} {t : Tree} → ReadsChain c ts t → starts_well ts ≡ true
   chain_starts (grammar.an_optional_named_member w m n e v r) = joined _ _ (piece m (Sign question_dot) _) refl e (base_starts r)
   chain_starts (grammar.an_optional_computed_member m n e r s) = joined _ _ (piece m (Sign question_dot) _) refl e (base_starts r)
   chain_starts (grammar.an_optional_call m n e r s) = joined _ _ (piece m (Sign question_dot) _) refl e (base_starts r)
@@ -382,18 +410,33 @@ declarators_start (grammar.first_declarator {a = a} m e r s) = subst (λ x. begi
 
 -- ---- a statement's first tokens
 
-operand_begins : (ts : Tokens) → starts_well ts ≡ true → begins_well ts ≡ true
-operand_begins done h = absurd (both_ways false refl h)
-operand_begins (piece m (Word w) ts) h = or_left _ _ h
-operand_begins (piece m (Number w) ts) h = h
-operand_begins (piece m (Quoted q w) ts) h = h
-operand_begins (piece m (Sign semicolon) ts) h = refl
-operand_begins (piece m (Sign r) ts) h = h
-operand_begins (group m Round inside ts) h = h
-operand_begins (group m Square inside ts) h = h
-operand_begins (group m Brace inside ts) h = refl
+-- an expression statement doesn't begin with `function`
+no_function : (w : List ℕ) (ts : Tokens) → not (starts_declaration w ts) ≡ true → bytes_eq w (codes "function") ≡ false
+no_function w ts h = by (bytes_eq w (codes "function")) (bytes_eq w (codes "class")) _ _ h
+  where
+    by : (x y z u : Bool) → not (((x || y) || z) || u) ≡ true → x ≡ false
+    by true y z u e = absurd (both_ways false refl e)
+    by false y z u e = refl
 
-declares : (kind : VariableDeclarationKind) → is_declaring (declaring kind) ≡ true
+operand_alone : (w : List ℕ) (m : Bool) (ts : Tokens) → bytes_eq w (codes "function") ≡ false → starts_well (piece m (Word w) ts) ≡ true → starts_operand w ts ≡ true
+operand_alone w m ts n h = by (or_cases (begins_function w ts) (starts_operand w ts) h)
+  where
+    by : (begins_function w ts ≡ true) ⊎ (starts_operand w ts ≡ true) → starts_operand w ts ≡ true
+    by (inl e) = absurd (both_ways (bytes_eq w (codes "function")) n (and_parts (bytes_eq w (codes "function")) (goes_to_function ts) e).0)
+    by (inr e) = e
+
+operand_begins : (ts b : Tokens) → starts_statement ts ≡ true → goes_on b ≡ true → starts_well ts ≡ true → begins_well (ts ⧺ b) ≡ true
+operand_begins done b n j h = absurd (both_ways false refl h)
+operand_begins (piece m (Word w) ts) b n j h = or_left _ _ (operand_further w ts (ts ⧺ b) (goes_further ts b j) (starts_further ts b j) (operand_alone w m ts (no_function w ts n) h))
+operand_begins (piece m (Number w) ts) b n j h = goes_further ts b j h
+operand_begins (piece m (Quoted q w) ts) b n j h = goes_further ts b j h
+operand_begins (piece m (Sign semicolon) ts) b n j h = refl
+operand_begins (piece m (Sign r) ts) b n j h = starts_further (piece m (Sign r) ts) b j h
+operand_begins (group m Round inside ts) b n j h = goes_further ts b j h
+operand_begins (group m Square inside ts) b n j h = goes_further ts b j h
+operand_begins (group m Brace inside ts) b n j h = refl
+
+pub declares : (kind : VariableDeclarationKind) → is_declaring (declaring kind) ≡ true
 declares kinds.Const = refl
 declares kinds.Let = refl
 declares kinds.Var = refl
@@ -401,17 +444,17 @@ declares kinds.Var = refl
 declaration_begins : {c : Allowed} {kind : VariableDeclarationKind} {ts : Tokens} {t : Tree} → ReadsVariables c kind ts t → (b : Tokens) → begins_well (ts ⧺ b) ≡ true
 declaration_begins {kind = kind} (grammar.some_variables {ts = ts} r) b = or_right _ _ (or_left _ _ (and_from _ _ (declares kind) (named_further ts b (declarators_start r))))
 
-expression_begins : {c : Allowed} {l : Level} {ts : Tokens} {t : Tree} → ReadsExpression c l ts t → (b : Tokens) → goes_on b ≡ true → begins_well (ts ⧺ b) ≡ true
-expression_begins {ts = ts} r b j = operand_begins (ts ⧺ b) (starts_further ts b j (expression_starts r))
+expression_begins : {c : Allowed} {l : Level} {ts : Tokens} {t : Tree} → starts_statement ts ≡ true → ReadsExpression c l ts t → (b : Tokens) → goes_on b ≡ true → begins_well (ts ⧺ b) ≡ true
+expression_begins {ts = ts} n r b j = operand_begins ts b n j (expression_starts r)
 
--- ---- a statement is no lexical declaration
+-- ---- a statement is no lexical declaration, and none of a function
 
--- the word may begin an expression
+-- the word may begin an expression statement
 abbrev is_start_word : List ℕ → Bool
 is_start_word w = is_operand_word w || is_prefix_word w
 
-word_starts : (w : List ℕ) (m : Bool) (ts : Tokens) → starts_well (piece m (Word w) ts) ≡ true → is_start_word w ≡ true
-word_starts w m ts h = by (or_cases (is_operand_word w && goes_on ts) (is_prefix_word w && starts_well ts) h)
+word_starts : (w : List ℕ) (ts : Tokens) → starts_operand w ts ≡ true → is_start_word w ≡ true
+word_starts w ts h = by (or_cases (is_operand_word w && goes_on ts) (is_prefix_word w && starts_well ts) h)
   where
     by : ((is_operand_word w && goes_on ts) ≡ true) ⊎ ((is_prefix_word w && starts_well ts) ≡ true) → is_start_word w ≡ true
     by (inl e) = or_left _ _ (and_parts (is_operand_word w) (goes_on ts) e).0
@@ -425,7 +468,11 @@ let_is_reserved : is_start_word (codes "let") ≡ false
 unfolding unicode_ident word_value is_reserved is_strict_reserved encode
 let_is_reserved = refl
 
--- a word that begins an expression or stands as a name is none that isn't free
+function_is_reserved : is_start_word (codes "function") ≡ false
+unfolding unicode_ident word_value is_reserved is_strict_reserved encode
+function_is_reserved = refl
+
+-- a word that begins an expression statement or stands as a name is none that isn't free
 other_than : (w v : List ℕ) (x : Bool) → bytes_eq w v ≡ x → is_start_word v ≡ false → is_start_word w ≡ true → x ≡ false
 other_than w v true e n h = absurd (both_ways (is_start_word v) n (subst (λ u. is_start_word u ≡ true) ((bytes_eq-Decides w v).0 e) h))
 other_than w v false e n h = refl
@@ -434,50 +481,53 @@ neither : (x y : Bool) → x ≡ false → y ≡ false → (x || y) ≡ false
 neither true y e f = absurd (both_ways true e refl)
 neither false y e f = f
 
-no_lexical_word : (w : List ℕ) → is_start_word w ≡ true → is_lexical_word w ≡ false
-no_lexical_word w h = neither (bytes_eq w (codes "const")) (bytes_eq w (codes "let")) (other_than w (codes "const") _ refl const_is_reserved h) (other_than w (codes "let") _ refl let_is_reserved h)
+no_declaration_word : (w : List ℕ) → is_start_word w ≡ true → (bytes_eq w (codes "function") || is_lexical_word w) ≡ false
+no_declaration_word w h =
+    let lexical = neither (bytes_eq w (codes "const")) (bytes_eq w (codes "let")) (other_than w (codes "const") _ refl const_is_reserved h) (other_than w (codes "let") _ refl let_is_reserved h) in
+    neither (bytes_eq w (codes "function")) (is_lexical_word w) (other_than w (codes "function") _ refl function_is_reserved h) lexical
 
 name_is_start : (w v : List ℕ) → word_value w ≡ Some v → is_free_name v ≡ true → is_start_word w ≡ true
 name_is_start w v e h = or_left _ _ (or_right (is_keyword w) _ (ap (λ o. option_map_or is_free_name o false) e ∙ h))
 
-operand_is_no_declaration : (ts b : Tokens) → starts_well ts ≡ true → begins_lexically (ts ⧺ b) ≡ false
-operand_is_no_declaration done b h = absurd (both_ways false refl h)
-operand_is_no_declaration (piece m (Word w) ts) b h = no_lexical_word w (word_starts w m ts h)
-operand_is_no_declaration (piece m (Number w) ts) b h = refl
-operand_is_no_declaration (piece m (Quoted q w) ts) b h = refl
-operand_is_no_declaration (piece m (Sign r) ts) b h = refl
-operand_is_no_declaration (group m d inside ts) b h = refl
+operand_is_no_declaration : (ts b : Tokens) → starts_statement ts ≡ true → starts_well ts ≡ true → begins_declaration (ts ⧺ b) ≡ false
+operand_is_no_declaration done b n h = absurd (both_ways false refl h)
+operand_is_no_declaration (piece m (Word w) ts) b n h = no_declaration_word w (word_starts w ts (operand_alone w m ts (no_function w ts n) h))
+operand_is_no_declaration (piece m (Number w) ts) b n h = refl
+operand_is_no_declaration (piece m (Quoted q w) ts) b n h = refl
+operand_is_no_declaration (piece m (Sign r) ts) b n h = refl
+operand_is_no_declaration (group m d inside ts) b n h = refl
 
 -- nor with the semicolon that ends it
-with_end : {last : Bool} {ts a : Tokens} → EndsBy last ts a → ((d : Tokens) → begins_lexically (a ⧺ d) ≡ false) → (b : Tokens) → begins_lexically (ts ⧺ b) ≡ false
-with_end {a = a} (grammar.a_semicolon m e) h b = subst (λ x. begins_lexically (x ⧺ b) ≡ false) (sym e) (subst (λ x. begins_lexically x ≡ false) (sym (one_more m (Sign semicolon) a b)) (h (piece m (Sign semicolon) b)))
+with_end : {last : Bool} {ts a : Tokens} → EndsBy last ts a → ((d : Tokens) → begins_declaration (a ⧺ d) ≡ false) → (b : Tokens) → begins_declaration (ts ⧺ b) ≡ false
+with_end {a = a} (grammar.a_semicolon m e) h b = subst (λ x. begins_declaration (x ⧺ b) ≡ false) (sym e) (subst (λ x. begins_declaration x ≡ false) (sym (one_more m (Sign semicolon) a b)) (h (piece m (Sign semicolon) b)))
 with_end grammar.the_brace h b = h b
 
-var_is_no_lexical_word : {c : Allowed} {a : Tokens} {t : Tree} → ReadsVariables c kinds.Var a t → (d : Tokens) → begins_lexically (a ⧺ d) ≡ false
-var_is_no_lexical_word (grammar.some_variables r) d = refl
+var_is_no_declaration : {c : Allowed} {a : Tokens} {t : Tree} → ReadsVariables c kinds.Var a t → (d : Tokens) → begins_declaration (a ⧺ d) ≡ false
+var_is_no_declaration (grammar.some_variables r) d = refl
 
-do_is_no_lexical_word : {a x : Tokens} {m : Bool} → a ≡ piece m (Word (codes "do")) x → (d : Tokens) → begins_lexically (a ⧺ d) ≡ false
-do_is_no_lexical_word e d = subst (λ y. begins_lexically (y ⧺ d) ≡ false) (sym e) refl
+do_is_no_declaration : {a x : Tokens} {m : Bool} → a ≡ piece m (Word (codes "do")) x → (d : Tokens) → begins_declaration (a ⧺ d) ≡ false
+do_is_no_declaration e d = subst (λ y. begins_declaration (y ⧺ d) ≡ false) (sym e) refl
 
-statement_is_no_declaration : {c : Allowed} {last before_else : Bool} {ts : Tokens} {s : Tree} → ReadsStatement c last before_else ts s → (b : Tokens) → begins_lexically (ts ⧺ b) ≡ false
-statement_is_no_declaration (grammar.an_expression_statement {a = a} e h r) b = with_end e (λ d. operand_is_no_declaration a d (expression_starts r)) b
+statement_is_no_declaration : {c : Allowed} {last before_else : Bool} {ts : Tokens} {s : Tree} → ReadsStatement c last before_else ts s → (b : Tokens) → begins_declaration (ts ⧺ b) ≡ false
+statement_is_no_declaration (grammar.an_expression_statement {a = a} e h r) b = with_end e (λ d. operand_is_no_declaration a d h (expression_starts r)) b
 statement_is_no_declaration grammar.an_empty_statement b = refl
 statement_is_no_declaration (grammar.a_block r) b = refl
 statement_is_no_declaration (grammar.an_if r s) b = refl
 statement_is_no_declaration (grammar.an_if_with_else k e r s u) b = refl
-statement_is_no_declaration (grammar.a_variable_statement e r) b = with_end e (λ d. var_is_no_lexical_word r d) b
+statement_is_no_declaration (grammar.a_variable_statement e r) b = with_end e (λ d. var_is_no_declaration r d) b
 statement_is_no_declaration (grammar.a_for k l e i t u s) b = refl
 statement_is_no_declaration (grammar.a_for_in k e l r s) b = refl
 statement_is_no_declaration (grammar.a_for_of k e l r s) b = refl
 statement_is_no_declaration (grammar.a_while r s) b = refl
-statement_is_no_declaration (grammar.a_do_while k n e f s r) b = with_end e (λ d. do_is_no_lexical_word f d) b
-statement_is_no_declaration (grammar.a_labelled_statement {w = w} {v = v} e h s) b = no_lexical_word w (name_is_start w v e h)
+statement_is_no_declaration (grammar.a_do_while k n e f s r) b = with_end e (λ d. do_is_no_declaration f d) b
+statement_is_no_declaration (grammar.a_labelled_statement {w = w} {v = v} e h s) b = no_declaration_word w (name_is_start w v e h)
 statement_is_no_declaration (grammar.a_continue e l) b = with_end e (λ d. refl) b
 statement_is_no_declaration (grammar.a_break e l) b = with_end e (λ d. refl) b
 statement_is_no_declaration (grammar.a_throw e h r) b = with_end e (λ d. refl) b
 statement_is_no_declaration (grammar.a_debugger e) b = with_end e (λ d. refl) b
 statement_is_no_declaration (grammar.a_switch r cs) b = refl
 statement_is_no_declaration (grammar.a_try r s) b = refl
+statement_is_no_declaration (grammar.a_return f e r) b = with_end e (λ d. refl) b
 
 -- ---- the heads of loops
 
@@ -491,10 +541,12 @@ declaring_head kinds.Let = refl
 declaring_head kinds.Var = refl
 
 -- behind a name `of` goes on with no operand
-no_operand : (w v : List ℕ) (m : Bool) (ts : Tokens) (x y : Bool) → bytes_eq w (codes "async") ≡ x → bytes_eq v (codes "of") ≡ y → ((is_operand_word w && goes_on (piece m (Word v) ts)) || (is_prefix_word w && starts_well (piece m (Word v) ts))) ≡ true → (x && y) ≡ false
+no_operand : (w v : List ℕ) (m : Bool) (ts : Tokens) (x y : Bool) → bytes_eq w (codes "async") ≡ x → bytes_eq v (codes "of") ≡ y → starts_well (piece m (Word w) (piece m (Word v) ts)) ≡ true → (x && y) ≡ false
 no_operand w v m ts false y e f h = refl
 no_operand w v m ts true false e f h = refl
-no_operand w v m ts true true e f h = by (or_cases (is_operand_word w && goes_on (piece m (Word v) ts)) (is_prefix_word w && starts_well (piece m (Word v) ts)) h)
+no_operand w v m ts true true e f h =
+    let n = subst (λ u. bytes_eq u (codes "function") ≡ false) (sym ((bytes_eq-Decides w (codes "async")).0 e)) refl in
+    by (or_cases (is_operand_word w && goes_on (piece m (Word v) ts)) (is_prefix_word w && starts_well (piece m (Word v) ts)) (operand_alone w m (piece m (Word v) ts) n h))
   where
     by : ((is_operand_word w && goes_on (piece m (Word v) ts)) ≡ true) ⊎ ((is_prefix_word w && starts_well (piece m (Word v) ts)) ≡ true) → true ≡ false
     by (inl i) = absurd (both_ways (joins (Word v)) (subst (λ u. joins (Word u) ≡ false) (sym ((bytes_eq-Decides v (codes "of")).0 f)) refl) (and_parts (is_operand_word w) (joins (Word v)) i).1)
@@ -601,15 +653,16 @@ statement_ends (grammar.a_throw e h r) v b g = semicolon_ends e v b g
 statement_ends (grammar.a_debugger e) v b h = semicolon_ends e v b h
 statement_ends (grammar.a_switch r cs) v b h = h
 statement_ends (grammar.a_try r s) v b h = end_ends s true b h
+statement_ends (grammar.a_return f e r) v b h = semicolon_ends e v b h
 
 -- what stands behind `if` or `while` and its test
-body_begins : (next : Bool) (test ts : Tokens) → begins_lexically ts ≡ false → ends_so false ts ≡ true → goes_to_body (group next Round test ts) ≡ true
+body_begins : (next : Bool) (test ts : Tokens) → begins_declaration ts ≡ false → ends_so false ts ≡ true → goes_to_body (group next Round test ts) ≡ true
 body_begins next test done n h = absurd (both_ways false refl h)
 body_begins next test (piece m p ts) n h = ap not n
 body_begins next test (group m d inside ts) n h = ap not n
 
 statement_word : (w : List ℕ) (ts : Tokens) → begins_statement w ts ≡ true → word_begins_well w ts ≡ true
-statement_word w ts h = or_right (starts_well (piece false (Word w) ts)) _ (or_right (is_declaring w && begins_with_name ts) _ h)
+statement_word w ts h = or_right (starts_operand w ts) _ (or_right (is_declaring w && begins_with_name ts) _ h)
 
 alone_begins : (w : List ℕ) (ts : Tokens) → begins_alone w ≡ true → word_begins_well w ts ≡ true
 alone_begins w ts h = statement_word w ts (or_right (goes_to_labelled ts) _ (or_left _ _ h))
@@ -626,7 +679,7 @@ for_begins next head ts h = statement_word (codes "for") (group next Round head 
 throw_begins : (ts : Tokens) → on_same_line ts ≡ true → word_begins_well (codes "throw") ts ≡ true
 throw_begins ts h = statement_word (codes "throw") ts (or_right (goes_to_labelled ts) _ (or_left _ _ h))
 
-label_begins : (next : Bool) (w : List ℕ) (ts : Tokens) → begins_lexically ts ≡ false → word_begins_well w (piece next (Sign colon) ts) ≡ true
+label_begins : (next : Bool) (w : List ℕ) (ts : Tokens) → begins_declaration ts ≡ false → word_begins_well w (piece next (Sign colon) ts) ≡ true
 label_begins next w ts n = statement_word w (piece next (Sign colon) ts) (or_left (goes_to_labelled (piece next (Sign colon) ts)) _ (ap not n))
 
 line_further : (ts b : Tokens) → on_same_line ts ≡ true → on_same_line (ts ⧺ b) ≡ true
@@ -638,55 +691,64 @@ line_further (group m d inside ts) b h = h
 semicolon_begins : {ts a : Tokens} → EndsBy false ts a → ((d : Tokens) → goes_on d ≡ true → begins_well (a ⧺ d) ≡ true) → (b : Tokens) → begins_well (ts ⧺ b) ≡ true
 semicolon_begins {a = a} (grammar.a_semicolon m e) h b = subst (λ x. begins_well (x ⧺ b) ≡ true) (sym e) (subst (λ x. begins_well x ≡ true) (sym (one_more m (Sign semicolon) a b)) (h (piece m (Sign semicolon) b) refl))
 
-statement_begins : {c : Allowed} {before_else : Bool} {a : Tokens} {s : Tree} → ReadsStatement c false before_else a s → (b : Tokens) → ends_so true b ≡ true → begins_well (a ⧺ b) ≡ true
-statement_begins (grammar.an_expression_statement e h r) b g = semicolon_begins e (expression_begins r) b
-statement_begins grammar.an_empty_statement b h = refl
-statement_begins (grammar.a_block r) b h = refl
-statement_begins (grammar.an_if {next = next} {test = test} {ts = ts} r s) b h = if_begins next test (ts ⧺ b) (body_begins next test (ts ⧺ b) (statement_is_no_declaration s b) (statement_ends s false b h))
-statement_begins (grammar.an_if_with_else {next = next} {test = test} {ts = ts} {a = a} {b = d} k e r s u) b h =
+-- where `return` may not stand, as in a module
+statement_begins : {c : Allowed} {before_else : Bool} {a : Tokens} {s : Tree} → c.return_statement ≡ false → ReadsStatement c false before_else a s → (b : Tokens) → ends_so true b ≡ true → begins_well (a ⧺ b) ≡ true
+statement_begins n (grammar.an_expression_statement e h r) b g = semicolon_begins e (expression_begins h r) b
+statement_begins n grammar.an_empty_statement b h = refl
+statement_begins n (grammar.a_block r) b h = refl
+statement_begins n (grammar.an_if {next = next} {test = test} {ts = ts} r s) b h = if_begins next test (ts ⧺ b) (body_begins next test (ts ⧺ b) (statement_is_no_declaration s b) (statement_ends s false b h))
+statement_begins n (grammar.an_if_with_else {next = next} {test = test} {ts = ts} {a = a} {b = d} k e r s u) b h =
     let w : List ℕ = codes "else" in
-    if_begins next test (ts ⧺ b) (body_begins next test (ts ⧺ b) (subst (λ x. begins_lexically (x ⧺ b) ≡ false) (sym e) (subst (λ x. begins_lexically x ≡ false) (sym (in_a_row a (piece k (Word w) d) b)) (statement_is_no_declaration s (piece k (Word w) (d ⧺ b))))) (subst (λ x. ends_so false (x ⧺ b) ≡ true) (sym e) (subst (λ x. ends_so false x ≡ true) (sym (in_a_row a (piece k (Word w) d) b)) (ends_past k w a (d ⧺ b) (statement_ends u false b h) false))))
-statement_begins (grammar.a_variable_statement e r) b h = semicolon_begins e (λ d j. declaration_begins r d) b
-statement_begins (grammar.a_for {next = next} {head = head} {ts = ts} k l e i t u s) b h = for_begins next head (ts ⧺ b) (subst (λ x. is_head x ≡ true) (sym e) (init_head i k _))
-statement_begins (grammar.a_for_in {next = next} {head = head} {ts = ts} k e l r s) b h = for_begins next head (ts ⧺ b) (subst (λ x. is_head x ≡ true) (sym e) (in_head l k _))
-statement_begins (grammar.a_for_of {next = next} {head = head} {ts = ts} k e l r s) b h = for_begins next head (ts ⧺ b) (subst (λ x. is_head x ≡ true) (sym e) (of_head l k _))
-statement_begins (grammar.a_while {next = next} {test = test} {ts = ts} r s) b h = while_begins next test (ts ⧺ b) (body_begins next test (ts ⧺ b) (statement_is_no_declaration s b) (statement_ends s false b h))
-statement_begins (grammar.a_do_while {b = a} {test = test} k n e f s r) b h = semicolon_begins e (λ d j. subst (λ x. begins_well (x ⧺ d) ≡ true) (sym f) (alone_begins (codes "do") ((a ⧺ piece k (Word (codes "while")) (group n Round test done)) ⧺ d) refl)) b
-statement_begins (grammar.a_labelled_statement {next = next} {w = w} {ts = ts} e h s) b g = label_begins next w (ts ⧺ b) (statement_is_no_declaration s b)
-statement_begins (grammar.a_continue {a = a} e l) b h = semicolon_begins e (λ d j. alone_begins (codes "continue") (a ⧺ d) refl) b
-statement_begins (grammar.a_break {a = a} e l) b h = semicolon_begins e (λ d j. alone_begins (codes "break") (a ⧺ d) refl) b
-statement_begins (grammar.a_throw {a = a} e h r) b g = semicolon_begins e (λ d j. throw_begins (a ⧺ d) (line_further a d h)) b
-statement_begins (grammar.a_debugger e) b h = semicolon_begins e (λ d j. alone_begins (codes "debugger") d refl) b
-statement_begins (grammar.a_switch {next = next} {third = third} {head = head} {inside = inside} r cs) b h = alone_begins (codes "switch") (group next Round head (group third Brace inside b)) refl
-statement_begins (grammar.a_try {next = next} {inside = i} {ts = ts} r s) b h = statement_word (codes "try") (group next Brace i (ts ⧺ b)) (end_begins s next i b)
+    if_begins next test (ts ⧺ b) (body_begins next test (ts ⧺ b) (subst (λ x. begins_declaration (x ⧺ b) ≡ false) (sym e) (subst (λ x. begins_declaration x ≡ false) (sym (in_a_row a (piece k (Word w) d) b)) (statement_is_no_declaration s (piece k (Word w) (d ⧺ b))))) (subst (λ x. ends_so false (x ⧺ b) ≡ true) (sym e) (subst (λ x. ends_so false x ≡ true) (sym (in_a_row a (piece k (Word w) d) b)) (ends_past k w a (d ⧺ b) (statement_ends u false b h) false))))
+statement_begins n (grammar.a_variable_statement e r) b h = semicolon_begins e (λ d j. declaration_begins r d) b
+statement_begins n (grammar.a_for {next = next} {head = head} {ts = ts} k l e i t u s) b h = for_begins next head (ts ⧺ b) (subst (λ x. is_head x ≡ true) (sym e) (init_head i k _))
+statement_begins n (grammar.a_for_in {next = next} {head = head} {ts = ts} k e l r s) b h = for_begins next head (ts ⧺ b) (subst (λ x. is_head x ≡ true) (sym e) (in_head l k _))
+statement_begins n (grammar.a_for_of {next = next} {head = head} {ts = ts} k e l r s) b h = for_begins next head (ts ⧺ b) (subst (λ x. is_head x ≡ true) (sym e) (of_head l k _))
+statement_begins n (grammar.a_while {next = next} {test = test} {ts = ts} r s) b h = while_begins next test (ts ⧺ b) (body_begins next test (ts ⧺ b) (statement_is_no_declaration s b) (statement_ends s false b h))
+statement_begins n (grammar.a_do_while {b = a} {test = test} k l e f s r) b h = semicolon_begins e (λ d j. subst (λ x. begins_well (x ⧺ d) ≡ true) (sym f) (alone_begins (codes "do") ((a ⧺ piece k (Word (codes "while")) (group l Round test done)) ⧺ d) refl)) b
+statement_begins n (grammar.a_labelled_statement {next = next} {w = w} {ts = ts} e h s) b g = label_begins next w (ts ⧺ b) (statement_is_no_declaration s b)
+statement_begins n (grammar.a_continue {a = a} e l) b h = semicolon_begins e (λ d j. alone_begins (codes "continue") (a ⧺ d) refl) b
+statement_begins n (grammar.a_break {a = a} e l) b h = semicolon_begins e (λ d j. alone_begins (codes "break") (a ⧺ d) refl) b
+statement_begins n (grammar.a_throw {a = a} e h r) b g = semicolon_begins e (λ d j. throw_begins (a ⧺ d) (line_further a d h)) b
+statement_begins n (grammar.a_debugger e) b h = semicolon_begins e (λ d j. alone_begins (codes "debugger") d refl) b
+statement_begins n (grammar.a_switch {next = next} {third = third} {head = head} {inside = inside} r cs) b h = alone_begins (codes "switch") (group next Round head (group third Brace inside b)) refl
+statement_begins n (grammar.a_try {next = next} {inside = i} {ts = ts} r s) b h = statement_word (codes "try") (group next Brace i (ts ⧺ b)) (end_begins s next i b)
+statement_begins {c = c} n (grammar.a_return f e r) b h = absurd (both_ways c.return_statement n f)
 
-item_begins : {c : Allowed} {a : Tokens} {s : Tree} → ReadsItem c false a s → (b : Tokens) → ends_so true b ≡ true → begins_well (a ⧺ b) ≡ true
-item_begins (grammar.a_statement r) b h = statement_begins r b h
-item_begins (grammar.a_declaration kind n e r) b h = semicolon_begins e (λ d j. declaration_begins r d) b
+declared_function : {ts : Tokens} {t : Tree} → ReadsFunction function_kinds.Declaration ts t → (b : Tokens) → goes_to_named_function (ts ⧺ b) ≡ true
+declared_function (grammar.a_named_function e h r s) b = ap (λ o. option_map_or is_free_name o false) e ∙ h
 
-item_ends : {c : Allowed} {a : Tokens} {s : Tree} → ReadsItem c false a s → (v : Bool) (b : Tokens) → ends_so true b ≡ true → ends_so v (a ⧺ b) ≡ true
+function_begins : {ts : Tokens} {t : Tree} → ReadsFunction function_kinds.Declaration ts t → (b : Tokens) → word_begins_well (codes "function") (ts ⧺ b) ≡ true
+function_begins {ts = ts} r b = statement_word (codes "function") (ts ⧺ b) (or_right (goes_to_labelled (ts ⧺ b)) _ (or_left _ _ (declared_function r b)))
+
+function_ends : {kind : FunctionKind} {ts : Tokens} {t : Tree} → ReadsFunction kind ts t → (b : Tokens) → ends_so true b ≡ true → ends_so false (ts ⧺ b) ≡ true
+function_ends (grammar.a_named_function e h r s) b g = g
+function_ends (grammar.a_nameless_function r s) b g = g
+
+item_begins : {c : Allowed} {a : Tokens} {s : Tree} → c.return_statement ≡ false → ReadsItem c false a s → (b : Tokens) → ends_so true b ≡ true → begins_well (a ⧺ b) ≡ true
+item_begins n (grammar.a_statement r) b h = statement_begins n r b h
+item_begins n (grammar.a_function_declaration r) b h = function_begins r b
+item_begins n (grammar.a_declaration kind l e r) b h = semicolon_begins e (λ d j. declaration_begins r d) b
+
+pub item_ends : {c : Allowed} {a : Tokens} {s : Tree} → ReadsItem c false a s → (v : Bool) (b : Tokens) → ends_so true b ≡ true → ends_so v (a ⧺ b) ≡ true
 item_ends (grammar.a_statement r) v b h = statement_ends r v b h
+item_ends (grammar.a_function_declaration r) v b h = function_ends r b h
 item_ends (grammar.a_declaration kind n e r) v b h = semicolon_ends e v b h
 
-item_sound : {c : Allowed} (a : Tokens) {s : Tree} → ReadsItem c false a s → (b : Tokens) → ends_so true b ≡ true → is_sound (a ⧺ b) ≡ true
-item_sound a r b h = sound_from (a ⧺ b) (item_begins r b h) (item_ends r true b h)
+item_sound : {c : Allowed} (a : Tokens) {s : Tree} → c.return_statement ≡ false → ReadsItem c false a s → (b : Tokens) → ends_so true b ≡ true → is_sound (a ⧺ b) ≡ true
+item_sound a n r b h = sound_from (a ⧺ b) (item_begins n r b h) (item_ends r true b h)
 
-end_nothing : (a : Tokens) → a ⧺ done ≡ a
-end_nothing done = refl
-end_nothing (piece m p a) = ap (piece m p) (end_nothing a)
-end_nothing (group m b inside a) = ap (group m b inside) (end_nothing a)
+statements_sound : {c : Allowed} {ts : Tokens} {ss : Trees} → c.return_statement ≡ false → ReadsStatements c false ts ss → is_sound ts ≡ true
+statements_sound n grammar.no_statement = refl
+statements_sound n (grammar.last_statement {ts = ts} r) = subst (λ x. is_sound x ≡ true) (end_nothing ts) (item_sound ts n r done refl)
+statements_sound n (grammar.first_statement {a = a} {b = b} e r s) = subst (λ x. is_sound x ≡ true) (sym e) (item_sound a n r b (sound_ends b (statements_sound n s)))
 
-statements_sound : {c : Allowed} {ts : Tokens} {ss : Trees} → ReadsStatements c false ts ss → is_sound ts ≡ true
-statements_sound grammar.no_statement = refl
-statements_sound (grammar.last_statement {ts = ts} r) = subst (λ x. is_sound x ≡ true) (end_nothing ts) (item_sound ts r done refl)
-statements_sound (grammar.first_statement {a = a} {b = b} e r s) = subst (λ x. is_sound x ≡ true) (sym e) (item_sound a r b (sound_ends b (statements_sound s)))
-
-body_sound : {c : Allowed} {ts : Tokens} {ds ss : Trees} → ReadsBody c false ts ds ss → is_sound ts ≡ true
-body_sound (grammar.a_directive {ts = ts} q e r) = sound_ends ts (body_sound r)
-body_sound (grammar.statements h r) = statements_sound r
+body_sound : {c : Allowed} {ts : Tokens} {ds ss : Trees} → c.return_statement ≡ false → ReadsBody c false ts ds ss → is_sound ts ≡ true
+body_sound n (grammar.a_directive {ts = ts} q e r) = sound_ends ts (body_sound n r)
+body_sound n (grammar.statements h r) = statements_sound n r
 
 module_sound : {ts : Tokens} {t : Tree} → ReadsModule ts t → is_sound ts ≡ true
-module_sound (a_module r) = body_sound r
+module_sound (a_module r) = body_sound refl r
 
 pub refused : (source : List ℕ) (ts : Tokens) → AreTokensOf source ts → is_sound ts ≡ false → IsNotRead source
 refused source ts h f us t g r = both_ways (is_sound ts) f (subst (λ x. is_sound x ≡ true) (one_token_list source us ts g (all_plain us) h (all_plain ts)) (module_sound r))

@@ -1,7 +1,7 @@
 -- The program's normal forms as trees.
 use Rattle.std.specs.Prelude.{Bool, true, false, List, [], ◌∷◌, map, Option, Some, None, option_map}
 use Rattle.jsgen_syntax.specs.Units.{js_units}
-use Rattle.jsgen_tree.specs.Atom.{Atom, no_value, text, units, flag, numeric_kind, declaration_kind, binary_operator, logical_operator, unary_operator, update_operator, assignment_operator, property_kind}
+use Rattle.jsgen_tree.specs.Atom.{Atom, no_value, text, units, flag, numeric_kind, declaration_kind, binary_operator, logical_operator, unary_operator, update_operator, assignment_operator, property_kind, kind_of_function}
 use Rattle.jsgen_tree.specs.Number.{Raw}
 use Rattle.jsgen_tree.specs.Tree.{Tree, node, Slots, no_slots, one, maybe, many, Maybe, optional, Trees, trees, holed}
 use Rattle.jsgen_tree.specs.declared.types.NodeType.{NodeType}
@@ -29,6 +29,7 @@ value_plain (values.UnaryOperator o) = unary_operator o
 value_plain (values.UpdateOperator o) = update_operator o
 value_plain (values.AssignmentOperator o) = assignment_operator o
 value_plain (values.PropertyKind kind) = property_kind kind
+value_plain (values.FunctionKind kind) = kind_of_function kind
 
 -- a slot before others, by the tree of each child
 abbrev pub before : {F : Type 0} → (F → Tree) → Slot F → Slots → Slots

@@ -4,6 +4,7 @@ pub mod Law
 pub mod Steps
 pub mod Samples
 pub mod StatementSamples
+pub mod FunctionSamples
 pub mod NumberSamples
 pub mod Form
 pub mod Values

@@ -1,5 +1,5 @@
 -- What a few texts are read as by ECMA-262, worked out by hand, a few that aren't read, and which trees have one normal form.
-use Rattle.std.specs.Prelude.{◌≡◌, ℕ, List, [], ◌∷◌, true, false, codes}
+use Rattle.std.specs.Prelude.{◌≡◌, ℕ, List, [], ◌∷◌, Bool, true, false, codes}
 use Rattle.jsgen_syntax.specs.declared.operator.BinaryOperator.TheVariants.{Addition, Subtraction, Multiplication, Exponential}
 use Rattle.jsgen_syntax.specs.declared.operator.LogicalOperator.TheVariants.{Or, And}
 use Rattle.jsgen_syntax.specs.declared.operator.UnaryOperator.{UnaryOperator}
@@ -7,13 +7,17 @@ use Rattle.jsgen_syntax.specs.declared.operator.UnaryOperator.TheVariants.{Unary
 use Rattle.jsgen_syntax.specs.declared.operator.UpdateOperator.TheVariants.{Increment}
 use Rattle.jsgen_syntax.specs.declared.operator.AssignmentOperator.TheVariants.{Assign}
 use Rattle.jsgen_tree.specs.declared.statements.VariableDeclarationKind.TheVariants.{Const}
-use Rattle.jsgen_tree.specs.Atom.{no_value, text, units, flag, digits, numeric_kind, binary_operator, logical_operator, unary_operator, update_operator, assignment_operator}
+use Rattle.jsgen_tree.specs.declared.collections.PropertyKind.{PropertyKind}
+use Rattle.jsgen_tree.specs.declared.collections.PropertyKind.TheVariants.{Init, Get, Set}
+use Rattle.jsgen_tree.specs.declared.functions.FunctionKind.{FunctionKind}
+use Rattle.jsgen_tree.specs.declared.functions.FunctionKind.TheVariants as function_kinds
+use Rattle.jsgen_tree.specs.Atom.{no_value, text, units, flag, digits, numeric_kind, binary_operator, logical_operator, unary_operator, update_operator, assignment_operator, kind_of_function}
 use Rattle.jsgen_tree.specs.Number.{Whole}
 use Rattle.jsgen_tree.specs.Tree.{Tree, Maybe, absent, given, Trees, no_trees, more}
 use Rattle.jsgen_tree.specs.Nodes as tree
 use Rattle.jsgen_model.specs.Tokens.{Tokens, AreTokensOf}
 use Rattle.jsgen_tree.specs.Places.{bare}
-use Rattle.jsgen_model.specs.Normal.{nothing_of, link_values, call_values, named, unnumbered, by_text, declared_as, normal}
+use Rattle.jsgen_model.specs.Normal.{nothing_of, link_values, call_values, named, unnumbered, by_text, declared_as, function_values, property_values, normal}
 use Rattle.jsgen_model.specs.Grammar.{ReadsModule}
 
 -- the text has tokens, and they are read as this program
@@ -137,6 +141,20 @@ rest_in name = tree.formal_parameter_rest (nothing_of 0) (tree.binding_identifie
 abbrev pub one_parameter : List ℕ → Tree
 one_parameter name = parameters_of (more (parameter name absent) no_trees) absent
 
+-- a function without parameters whose body is empty
+abbrev pub empty_body : Tree
+empty_body = tree.function_body (nothing_of 0) no_trees no_trees
+
+abbrev pub function_of : FunctionKind → Maybe → Tree
+function_of kind name = tree.function (function_values kind no_value no_value no_value) name (parameters_of no_trees absent) (given empty_body)
+
+-- a property whose value is one
+abbrev pub property_of : PropertyKind → Bool → Tree
+property_of kind method = tree.object_property (property_values kind method false false) (tree.identifier_name (named (codes "a"))) (function_of function_kinds.Expression absent)
+
+abbrev pub return_of : Maybe → Tree
+return_of result = tree.return_statement (nothing_of 0) result
+
 abbrev pub super : Tree
 super = tree.super (nothing_of 0)
 
@@ -244,8 +262,6 @@ pub record GrammarSamples : Type 0 where
   pub no_element : IsNotRead (codes "a[];")
   pub no_name : IsNotRead (codes "a.;")
   pub no_argument : IsNotRead (codes "a(,);")
-  -- a brace behind an arrow begins a function's body, which isn't read yet (15.3)
-  pub body_in_braces : IsNotRead (codes "a=>{};")
   -- no line end stands before an arrow (15.3)
   pub arrow_on_next_line : IsNotRead (codes "a\n=>b;")
   -- no comma follows the parameter that takes the rest (15.1)
@@ -307,3 +323,19 @@ pub record NormalSamples : Type 0 where
   pub parameter_without_value : AreTwo (arrow_of (one_parameter (codes "a")) b) (arrow_of (parameters_of (more (parameter (codes "a") (given one)) no_trees) absent) b)
   -- `a=>b` and `(...a)=>b`
   pub parameter_or_rest : AreTwo (arrow_of (one_parameter (codes "a")) b) (arrow_of (parameters_of no_trees (given (rest_in (codes "a")))) b)
+  -- a function expression with its two marks, and without
+  pub marks_of_a_function : AreOne (tree.function (bare (kind_of_function function_kinds.Expression ∷ no_value ∷ no_value ∷ no_value ∷ flag true ∷ flag true ∷ [])) absent (parameters_of no_trees absent) (given empty_body)) (function_of function_kinds.Expression absent)
+  -- `function a(){}` among statements, and in an expression
+  pub declaration_or_expression : AreTwo (function_of function_kinds.Declaration (given (tree.binding_identifier (unnumbered (codes "a"))))) (function_of function_kinds.Expression (given (tree.binding_identifier (unnumbered (codes "a")))))
+  -- `(function(){})` and `(function a(){})`
+  pub function_with_name : AreTwo (function_of function_kinds.Expression absent) (function_of function_kinds.Expression (given (tree.binding_identifier (unnumbered (codes "a")))))
+  -- `a=>{}` and `a=>({})`
+  pub body_or_object : AreTwo (arrow_of (one_parameter (codes "a")) empty_body) (arrow_of (one_parameter (codes "a")) (in_parentheses empty_object))
+  -- `return;` and `return a;`
+  pub result_or_none : AreTwo (return_of absent) (return_of (given a))
+  -- `a(){}` and `a:function(){}` in an object
+  pub method_or_value : AreTwo (property_of Init true) (property_of Init false)
+  -- an accessor is one whether it is marked as a method or not
+  pub accessor_as_method : AreOne (property_of Get true) (property_of Get false)
+  -- `get a(){}` and `set a(){}`, which no text is read as
+  pub getter_or_setter : AreTwo (property_of Get false) (property_of Set false)

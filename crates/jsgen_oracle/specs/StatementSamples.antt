@@ -5,7 +5,7 @@ use Rattle.jsgen_tree.specs.declared.statements.VariableDeclarationKind.TheVaria
 use Rattle.jsgen_tree.specs.Tree.{Tree, Maybe, absent, given, Trees, no_trees, more}
 use Rattle.jsgen_tree.specs.Nodes as tree
 use Rattle.jsgen_model.specs.Normal.{nothing_of, named, unnumbered, declared_as}
-use Rattle.jsgen_oracle.specs.Samples.{IsRead, IsNotRead, module_of, statement_of, bound, block_of, if_of, empty, a, b, c}
+use Rattle.jsgen_oracle.specs.Samples.{IsRead, IsNotRead, module_of, statement_of, bound, block_of, if_of, incremented_before, empty, a, b, c, d, e}
 
 -- ---- trees
 
@@ -78,6 +78,18 @@ pub record StatementSamples : Type 0 where
   pub cases : IsRead (codes "switch(a){case b:c;default:}") (module_of (more (switch_of a (more (case_of (given b) (more (statement_of c) no_trees)) (more (case_of absent no_trees) no_trees))) no_trees))
   pub handler_and_finalizer : IsRead (codes "try{}catch(a){}finally{}") (module_of (more (try_of (given (catch_of (given (tree.binding_identifier (unnumbered (codes "a")))))) (given (block_of no_trees))) no_trees))
   pub handler_without_name : IsRead (codes "try{}catch{}") (module_of (more (try_of (given (catch_of absent)) absent) no_trees))
+  -- `else` goes with the last `if` that has none, also within a loop or behind a label (14.6)
+  pub else_within_while : IsRead (codes "if(a)while(b)if(c)d;else e;") (module_of (more (if_of a (while_of b (if_of c (statement_of d) (given (statement_of e)))) absent) no_trees))
+  pub else_within_for : IsRead (codes "if(a)for(;;)if(b)c;else d;") (module_of (more (if_of a (for_of_parts absent absent absent (if_of b (statement_of c) (given (statement_of d)))) absent) no_trees))
+  pub else_within_label : IsRead (codes "if(a)b:if(c)d;else e;") (module_of (more (if_of a (labelled (codes "b") (if_of c (statement_of d) (given (statement_of e)))) absent) no_trees))
+  -- and with one further out where braces or `do` close what stands between
+  pub else_behind_block : IsRead (codes "if(a){if(b)c}else d;") (module_of (more (if_of a (block_of (more (if_of b (statement_of c) absent) no_trees)) (given (statement_of d))) no_trees))
+  pub else_behind_while : IsRead (codes "if(a)while(b){if(c)d;}else e;") (module_of (more (if_of a (while_of b (block_of (more (if_of c (statement_of d) absent) no_trees))) (given (statement_of e))) no_trees))
+  pub else_behind_do : IsRead (codes "if(a)do if(b)c;while(d);else e;") (module_of (more (if_of a (do_of (if_of b (statement_of c) absent) d) (given (statement_of e))) no_trees))
+  pub statement_behind_do : IsRead (codes "do a;while(b);c;") (module_of (more (do_of (statement_of a) b) (more (statement_of c) no_trees)))
+  -- before a brace a semicolon may be omitted (12.10)
+  pub do_before_brace : IsRead (codes "{do a;while(b)}") (module_of (more (block_of (more (do_of (statement_of a) b) no_trees)) no_trees))
+  pub update_behind_semicolon : IsRead (codes "{a;++b}") (module_of (more (block_of (more (statement_of a) (more (statement_of (incremented_before b)) no_trees))) no_trees))
   -- no lexical declaration is what `while` or a label is followed by (14.7 and 14.13)
   pub declaration_behind_while : IsNotRead (codes "while(a)let b;")
   pub declaration_behind_label : IsNotRead (codes "a:const b;")
@@ -87,3 +99,5 @@ pub record StatementSamples : Type 0 where
   pub bare_try : IsNotRead (codes "try{}")
   -- a target `async` is no word before `of` (14.7.5)
   pub async_before_of : IsNotRead (codes "for(async of b)c;")
+  -- the sign of an update behind its operand stands on that line, and the definition adds no semicolon at a line end, though 12.10 does
+  pub update_on_next_line : IsNotRead (codes "a\n++b;")

@@ -2,7 +2,7 @@
 use jsgen_syntax::{
     AssignmentOperator, BinaryOperator, JsStr, LogicalOperator, UnaryOperator, UpdateOperator,
 };
-use jsgen_tree::{NodeType, PropertyKind, VariableDeclarationKind};
+use jsgen_tree::{FunctionKind, NodeType, PropertyKind, VariableDeclarationKind};
 
 /// A program in its normal form, or a node of one. Spans, the source and the kind of a program have no place in it.
 #[derive(Drop, PartialEq, Eq)]
@@ -31,6 +31,7 @@ pub enum Value {
     UpdateOperator(UpdateOperator),
     AssignmentOperator(AssignmentOperator),
     PropertyKind(PropertyKind),
+    FunctionKind(FunctionKind),
 }
 
 /// What a field of children holds.

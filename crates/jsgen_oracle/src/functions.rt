@@ -1,22 +1,104 @@
-// The normal forms of functions and of their parameters.
+// The normal forms of functions, of their parameters and of their bodies.
 ghost use Rattle.std.specs.Prelude.{◌≡◌, ◌∷◌, [], map, option_map, IfOk};
+ghost use Rattle.jsgen_tree.specs.Atom.{no_value, kind_of_function};
 ghost use Rattle.jsgen_tree.specs.Tree.{trees, optional};
-ghost use Rattle.jsgen_tree.specs.Rows.{formal_parameter_row, formal_parameter_rest_row, formal_parameters_row, arrow_function_expression_row, in_arrow_function_body};
+ghost use Rattle.jsgen_tree.specs.Rows.{formal_parameter_row, formal_parameter_rest_row, formal_parameters_row, binding_identifier_row, function_row, function_body_row, arrow_function_expression_row, in_arrow_function_body};
 ghost use Rattle.jsgen_tree.specs.Scoping.{tables_plain};
 ghost use Rattle.jsgen_model.specs.Renamed.{renamed, renamed_maybe, renamed_trees};
 ghost use Rattle.jsgen_model.specs.Normal.{normal, normal_maybe, normal_trees};
-ghost use Rattle.jsgen_oracle.specs.Form.{form_plain, forms_plain, optional_plain};
+ghost use Rattle.jsgen_oracle.specs.Form.{form_plain, forms_plain, optional_plain, value_plain};
 ghost use Rattle.jsgen_oracle.specs.declared.form.Value.TheVariants.{Nothing};
 
+use crate::directive::directive_forms;
 use crate::form::{Form, Slot, Value};
-use crate::normal::{NormalNode, optional_expression_form};
-use crate::shape::{row_of_two, single};
+use crate::names::binding_form;
+use crate::normal::{NormalNode, optional_expression_form, statement_forms};
+use crate::shape::{row_of_three, row_of_two, single};
 use jsgen_syntax::Memory;
 use jsgen_tree::{
-    ArrowFunctionBody, ArrowFunctionExpression, FormalParameter, FormalParameterRest,
-    FormalParameters, NodeType, Tables,
+    ArrowFunctionBody, ArrowFunctionExpression, BindingIdentifier, FormalParameter,
+    FormalParameterRest, FormalParameters, Function, FunctionBody, FunctionKind, NodeType, Tables,
 };
 use std::alloc::Global;
+
+pub(crate) fn function_form<N: NormalNode>(
+    alloc: Global,
+    tables: Tables<'_>,
+    node: &Function<N>,
+) -> Result<Form, Memory>
+    ensures { IfOk result (λ f. form_plain f ≡ normal (renamed (tables_plain tables.entry) (function_row N.plain node.now))) }
+{
+    let values = function_values(alloc, node.kind)?;
+    let id = optional_name_form(alloc, tables, &node.id)?;
+    let params = parameters_form(alloc, tables, &node.params)?;
+    let body = optional_body_form(alloc, tables, &node.body)?;
+    row_of_three(
+        alloc,
+        NodeType::Function,
+        values,
+        Slot::Maybe(id),
+        Slot::One(params),
+        Slot::Maybe(body),
+    )
+}
+
+// The values of a function, of which only one counts so far: where it stands.
+fn function_values(alloc: Global, kind: FunctionKind) -> Result<Vec<Value>, Memory>
+    ensures { IfOk result (λ v. map value_plain v.items ≡ kind_of_function kind ∷ no_value ∷ no_value ∷ no_value ∷ no_value ∷ no_value ∷ []) }
+{
+    Ok(vec![in alloc;
+        Value::FunctionKind(kind),
+        Value::Nothing,
+        Value::Nothing,
+        Value::Nothing,
+        Value::Nothing,
+        Value::Nothing,
+    ]?)
+}
+
+fn optional_name_form(
+    alloc: Global,
+    tables: Tables<'_>,
+    name: &Option<Box<BindingIdentifier>>,
+) -> Result<Option<Form>, Memory>
+    ensures { IfOk result (λ o. optional_plain o ≡ normal_maybe (renamed_maybe (tables_plain tables.entry) (optional (option_map (λ b. binding_identifier_row b.value) name.now)))) }
+{
+    match name {
+        Some(name) => Ok(Some(binding_form(alloc, tables, name)?)),
+        None => Ok(None),
+    }
+}
+
+fn optional_body_form<N: NormalNode>(
+    alloc: Global,
+    tables: Tables<'_>,
+    body: &Option<Box<FunctionBody<N>>>,
+) -> Result<Option<Form>, Memory>
+    ensures { IfOk result (λ o. optional_plain o ≡ normal_maybe (renamed_maybe (tables_plain tables.entry) (optional (option_map (λ b. function_body_row N.plain b.value) body.now)))) }
+{
+    match body {
+        Some(body) => Ok(Some(function_body_form(alloc, tables, body)?)),
+        None => Ok(None),
+    }
+}
+
+fn function_body_form<N: NormalNode>(
+    alloc: Global,
+    tables: Tables<'_>,
+    node: &FunctionBody<N>,
+) -> Result<Form, Memory>
+    ensures { IfOk result (λ f. form_plain f ≡ normal (renamed (tables_plain tables.entry) (function_body_row N.plain node.now))) }
+{
+    let directives = directive_forms(alloc, tables, &node.directives)?;
+    let statements = statement_forms(alloc, tables, &node.statements)?;
+    row_of_two(
+        alloc,
+        NodeType::FunctionBody,
+        Vec::new(alloc),
+        Slot::Many(directives),
+        Slot::Many(statements),
+    )
+}
 
 pub(crate) fn arrow_function_form<N: NormalNode>(
     alloc: Global,
@@ -27,7 +109,7 @@ pub(crate) fn arrow_function_form<N: NormalNode>(
 {
     let values = three_of_nothing(alloc)?;
     let params = parameters_form(alloc, tables, &node.params)?;
-    let body = body_form(alloc, tables, &node.body)?;
+    let body = arrow_body_form(alloc, tables, &node.body)?;
     row_of_two(
         alloc,
         NodeType::ArrowFunctionExpression,
@@ -37,14 +119,14 @@ pub(crate) fn arrow_function_form<N: NormalNode>(
     )
 }
 
-// The values of a parameter or a function, of which none counts.
+// The values of a parameter or an arrow function, of which none counts.
 fn three_of_nothing(alloc: Global) -> Result<Vec<Value>, Memory>
     ensures { IfOk result (λ v. v.items ≡ Nothing ∷ Nothing ∷ Nothing ∷ []) }
 {
     Ok(vec![in alloc; Value::Nothing, Value::Nothing, Value::Nothing]?)
 }
 
-fn body_form<N: NormalNode>(
+fn arrow_body_form<N: NormalNode>(
     alloc: Global,
     tables: Tables<'_>,
     body: &ArrowFunctionBody<N>,
@@ -52,6 +134,7 @@ fn body_form<N: NormalNode>(
     ensures { IfOk result (λ f. form_plain f ≡ normal (renamed (tables_plain tables.entry) (in_arrow_function_body N.plain body.now))) }
 {
     match body {
+        ArrowFunctionBody::FunctionBody(node) => function_body_form(alloc, tables, node),
         ArrowFunctionBody::Expression(expression) => expression.get().normal_form(alloc, tables),
     }
 }

@@ -13,6 +13,7 @@ ghost use Rattle.jsgen_oracle.specs.Form.{form_plain};
 ghost use Rattle.jsgen_oracle.specs.Law.{HasNoTokens};
 ghost use Rattle.jsgen_oracle.specs.Samples.{GrammarSamples, NormalSamples};
 ghost use Rattle.jsgen_oracle.specs.StatementSamples.{StatementSamples};
+ghost use Rattle.jsgen_oracle.specs.FunctionSamples.{FunctionSamples};
 ghost use Rattle.jsgen_oracle.specs.NumberSamples.{NumberSamples};
 
 mod braces;
@@ -86,6 +87,11 @@ pub fn grammar_samples()
 /// It reads loops, labels, jumps, choices between cases and handlers so too.
 pub fn statement_samples()
     ensures { StatementSamples }
+{}
+
+/// It reads functions, methods and accessors so too.
+pub fn function_samples()
+    ensures { FunctionSamples }
 {}
 
 /// The normal form keeps what a program means, and drops parentheses, spans and how a number is held.

@@ -1,7 +1,7 @@
-// The normal forms of loops, of labels and of jumps.
+// The normal forms of loops, of labels, of jumps and of `return`.
 ghost use Rattle.std.specs.Prelude.{◌≡◌, option_map, IfOk};
 ghost use Rattle.jsgen_tree.specs.Tree.{optional};
-ghost use Rattle.jsgen_tree.specs.Rows.{for_statement_row, for_in_statement_row, for_of_statement_row, while_statement_row, do_while_statement_row, label_identifier_row, labeled_statement_row, continue_statement_row, break_statement_row, in_for_statement_init, in_for_statement_left};
+ghost use Rattle.jsgen_tree.specs.Rows.{for_statement_row, for_in_statement_row, for_of_statement_row, while_statement_row, do_while_statement_row, label_identifier_row, labeled_statement_row, continue_statement_row, break_statement_row, return_statement_row, in_for_statement_init, in_for_statement_left};
 ghost use Rattle.jsgen_tree.specs.Scoping.{tables_plain};
 ghost use Rattle.jsgen_model.specs.Renamed.{renamed, renamed_maybe};
 ghost use Rattle.jsgen_model.specs.Normal.{normal, normal_maybe};
@@ -18,7 +18,7 @@ use jsgen_syntax::Memory;
 use jsgen_tree::{
     BreakStatement, ContinueStatement, DoWhileStatement, ForInStatement, ForOfStatement,
     ForStatement, ForStatementInit, ForStatementLeft, LabelIdentifier, LabeledStatement, NodeType,
-    Tables, WhileStatement,
+    ReturnStatement, Tables, WhileStatement,
 };
 use std::alloc::Global;
 
@@ -242,5 +242,21 @@ pub(crate) fn break_statement_form(
         NodeType::BreakStatement,
         Vec::new(alloc),
         Slot::Maybe(label),
+    )
+}
+
+pub(crate) fn return_statement_form<N: NormalNode>(
+    alloc: Global,
+    tables: Tables<'_>,
+    node: &ReturnStatement<N>,
+) -> Result<Form, Memory>
+    ensures { IfOk result (λ f. form_plain f ≡ normal (renamed (tables_plain tables.entry) (return_statement_row N.plain node.now))) }
+{
+    let argument = optional_expression_form(alloc, tables, &node.argument)?;
+    row(
+        alloc,
+        NodeType::ReturnStatement,
+        Vec::new(alloc),
+        Slot::Maybe(argument),
     )
 }

@@ -1,7 +1,7 @@
 // The normal form of each type of node.
 ghost use Rattle.std.specs.Prelude.{◌≡◌, ◌∷◌, [], map, option_map, IfOk};
 ghost use Rattle.jsgen_tree.specs.Tree.{trees, holed, optional};
-ghost use Rattle.jsgen_tree.specs.Rows.{program_row, directive_row, block_statement_row, if_statement_row, variable_declaration_row, variable_declarator_row, string_literal_row, logical_expression_row, identifier_name_row, static_member_expression_row, call_expression_row, spread_element_row, array_expression_row, expression_plain, statement_plain, declaration_plain, binding_pattern_plain, in_expression, in_statement, in_argument, in_array_expression_element, new_expression_row, update_expression_row, in_simple_assignment_target, numeric_literal_row, conditional_expression_row, sequence_expression_row, assignment_expression_row, in_assignment_target, computed_member_expression_row, chain_expression_row, in_chain_element};
+ghost use Rattle.jsgen_tree.specs.Rows.{program_row, block_statement_row, if_statement_row, variable_declaration_row, variable_declarator_row, string_literal_row, logical_expression_row, identifier_name_row, static_member_expression_row, call_expression_row, spread_element_row, array_expression_row, expression_plain, statement_plain, declaration_plain, binding_pattern_plain, in_expression, in_statement, in_argument, in_array_expression_element, new_expression_row, update_expression_row, in_simple_assignment_target, numeric_literal_row, conditional_expression_row, sequence_expression_row, assignment_expression_row, in_assignment_target, computed_member_expression_row, chain_expression_row, in_chain_element};
 ghost use Rattle.jsgen_tree.specs.Plain.{node_plain};
 ghost use Rattle.jsgen_tree.specs.Scoping.{tables_plain};
 ghost use Rattle.jsgen_model.specs.Renamed.{renamed, renamed_maybe, renamed_trees};
@@ -11,14 +11,14 @@ ghost use Rattle.jsgen_oracle.specs.declared.form.Value.TheVariants.{Nothing};
 
 use crate::braces::unbraced;
 use crate::chain::{joined, links, parts};
-use crate::characters::characters_of;
 use crate::choices::{switch_statement_form, try_statement_form};
-use crate::directive::directive_units;
+use crate::directive::directive_forms;
 use crate::form::{Form, Slot, Value};
-use crate::functions::arrow_function_form;
+use crate::functions::{arrow_function_form, function_form};
 use crate::loops::{
     break_statement_form, continue_statement_form, do_while_statement_form, for_in_statement_form,
-    for_of_statement_form, for_statement_form, labeled_statement_form, while_statement_form,
+    for_of_statement_form, for_statement_form, labeled_statement_form, return_statement_form,
+    while_statement_form,
 };
 use crate::names::{binding_form, reference_form};
 use crate::number_forms::{big_int_literal_form, is_negative_number, numeric_literal_form};
@@ -27,13 +27,13 @@ use crate::shape::{
     holed_list, leaf, list, literal, one_value, pair, row, row_of_three, row_of_two, single,
     single_by, two_values,
 };
-use jsgen_syntax::{JsStr, LogicalOperator, Memory};
+use jsgen_syntax::{LogicalOperator, Memory};
 use jsgen_tree::{
     Argument, ArrayExpression, ArrayExpressionElement, AssignmentExpression, AssignmentTarget,
     BindingPattern, BlockStatement, CallExpression, ChainElement, ChainExpression,
-    ComputedMemberExpression, ConditionalExpression, Declaration, Directive, Expression,
-    ExpressionNode, IdentifierName, IfStatement, LogicalExpression, NewExpression, Node, NodeType,
-    Program, SequenceExpression, SimpleAssignmentTarget, SpreadElement, Statement, StatementNode,
+    ComputedMemberExpression, ConditionalExpression, Declaration, Expression, ExpressionNode,
+    IdentifierName, IfStatement, LogicalExpression, NewExpression, Node, NodeType, Program,
+    SequenceExpression, SimpleAssignmentTarget, SpreadElement, Statement, StatementNode,
     StaticMemberExpression, StringLiteral, Tables, UpdateExpression, VariableDeclaration,
     VariableDeclarator,
 };
@@ -96,29 +96,6 @@ pub fn program_form<N: NormalNode>(
             Slot::Many(body),
         ]?,
     })
-}
-
-fn directive_forms(
-    alloc: Global,
-    tables: Tables<'_>,
-    directives: &[Directive],
-) -> Result<Vec<Form>, Memory>
-    ensures { IfOk result (λ fs. forms_plain fs.items ≡ normal_trees (renamed_trees (tables_plain tables.entry) (trees (map directive_row directives.now)))) }
-{
-    let mut forms = Vec::new(alloc);
-    for directive in directives {
-        forms.push(directive_form(alloc, directive)?)?;
-    }
-    Ok(forms)
-}
-
-fn directive_form(alloc: Global, node: &Directive) -> Result<Form, Memory>
-    ensures { IfOk result (λ f. form_plain f ≡ normal (directive_row node.now)) }
-{
-    let raw = characters_of(alloc, &node.directive)?;
-    let units = directive_units(alloc, &raw)?;
-    let value = JsStr::from_units(alloc, &units)?;
-    literal(alloc, NodeType::Directive, Value::Units(value))
 }
 
 pub(crate) fn statement_forms<N: NormalNode>(
@@ -672,6 +649,7 @@ fn expression_form<N: NormalNode>(
         Expression::ConditionalExpression(node) => conditional_expression_form(alloc, tables, node),
         Expression::SequenceExpression(node) => sequence_expression_form(alloc, tables, node),
         Expression::AssignmentExpression(node) => assignment_expression_form(alloc, tables, node),
+        Expression::Function(node) => function_form(alloc, tables, node),
         Expression::ArrowFunctionExpression(node) => arrow_function_form(alloc, tables, node),
     }
 }
@@ -685,6 +663,7 @@ fn declaration_form<N: NormalNode>(
 {
     match node {
         Declaration::VariableDeclaration(node) => variable_declaration_form(alloc, tables, node),
+        Declaration::Function(node) => function_form(alloc, tables, node),
     }
 }
 
@@ -716,6 +695,7 @@ fn statement_form<N: NormalNode>(
         Statement::LabeledStatement(node) => labeled_statement_form(alloc, tables, node),
         Statement::ContinueStatement(node) => continue_statement_form(alloc, tables, node),
         Statement::BreakStatement(node) => break_statement_form(alloc, tables, node),
+        Statement::ReturnStatement(node) => return_statement_form(alloc, tables, node),
         Statement::ThrowStatement(node) => {
             single(alloc, tables, NodeType::ThrowStatement, node.argument.get())
         }

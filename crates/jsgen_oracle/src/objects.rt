@@ -4,11 +4,11 @@ ghost use Rattle.std.specs.Option.{option_map_or};
 ghost use Rattle.std.specs.Str.{chars};
 ghost use Rattle.jsgen_tree.specs.Tree.{trees};
 ghost use Rattle.jsgen_tree.specs.Rows.{object_property_row, object_expression_row, in_object_property_kind, in_property_key};
-ghost use Rattle.jsgen_tree.specs.Atom.{no_value, flag, property_kind};
-ghost use Rattle.jsgen_tree.specs.Inside.{written_name_in, is_proto, is_negative_number};
+ghost use Rattle.jsgen_tree.specs.Atom.{flag, property_kind};
+ghost use Rattle.jsgen_tree.specs.Inside.{written_name_in, is_proto, is_method, is_negative_number};
 ghost use Rattle.jsgen_tree.specs.Scoping.{tables_plain};
 ghost use Rattle.jsgen_model.specs.Renamed.{renamed, renamed_trees};
-ghost use Rattle.jsgen_model.specs.Normal.{normal, normal_trees, is_computed, is_proto_shorthand};
+ghost use Rattle.jsgen_model.specs.Normal.{normal, normal_trees, is_written_as_method, is_computed, is_proto_shorthand};
 ghost use Rattle.jsgen_oracle.specs.Form.{form_plain, forms_plain, value_plain};
 
 use crate::form::{Form, Slot, Value};
@@ -16,7 +16,8 @@ use crate::normal::{NormalNode, identifier_name_form, spread_element_form};
 use crate::shape::{list, row_of_two};
 use jsgen_syntax::Memory;
 use jsgen_tree::{
-    NodeType, ObjectExpression, ObjectProperty, ObjectPropertyKind, PropertyKey, Tables, is_proto,
+    NodeType, ObjectExpression, ObjectProperty, ObjectPropertyKind, PropertyKey, PropertyKind,
+    Tables, is_proto,
 };
 use std::alloc::Global;
 
@@ -87,16 +88,27 @@ fn property_values<N: NormalNode>(
     alloc: Global,
     node: &ObjectProperty<N>,
 ) -> Result<Vec<Value>, Memory>
-    ensures { IfOk result (λ v. map value_plain v.items ≡ property_kind node.now.kind ∷ no_value ∷ flag (is_proto_shorthand node.now.shorthand (in_property_key N.plain node.now.key)) ∷ flag (is_computed node.now.computed (in_property_key N.plain node.now.key)) ∷ []) }
+    ensures { IfOk result (λ v. map value_plain v.items ≡ property_kind node.now.kind ∷ flag (is_written_as_method node.now.kind node.now.method) ∷ flag (is_proto_shorthand (is_method node.now.kind node.now.method) node.now.shorthand (in_property_key N.plain node.now.key)) ∷ flag (is_computed node.now.computed (in_property_key N.plain node.now.key)) ∷ []) }
 {
-    let shorthand = is_proto_key(&node.key) && node.shorthand;
+    let method = is_written_as_method(node.kind, node.method);
+    let shorthand = !node.is_method() && is_proto_key(&node.key) && node.shorthand;
     let computed = node.computed || is_negative_key(&node.key);
     Ok(vec![in alloc;
         Value::PropertyKind(node.kind),
-        Value::Nothing,
+        Value::Flag(method),
         Value::Flag(shorthand),
         Value::Flag(computed),
     ]?)
+}
+
+// Of an accessor the flag doesn't count.
+fn is_written_as_method(kind: PropertyKind, method: bool) -> bool
+    ensures { result ≡ is_written_as_method kind method }
+{
+    match kind {
+        PropertyKind::Init => method,
+        _ => false,
+    }
 }
 
 fn key_name<N: NormalNode>(key: &PropertyKey<N>) -> Option<&str>

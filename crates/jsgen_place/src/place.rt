@@ -250,6 +250,13 @@ impl Place {
         self.within(true).child(Precedence::Comma)
     }
 
+    /// The place of the parameters of a function with a body in braces, in which calls may stand.
+    pub fn function_parameters(self) -> Place
+        ensures { result ≡ record { settings = self.settings; level = Precedence.Comma; context = record { forbids_in = self.context.forbids_in; forbids_call = false }; in_list = false; left_operand = false; plain_quotes = false } }
+    {
+        self.part(Precedence::Comma)
+    }
+
     fn is_forbidden(self, operator: BinaryOperator) -> bool
         ensures { (pen : Pen) → result ≡ is_forbidden operator (place_of self pen) }
     {

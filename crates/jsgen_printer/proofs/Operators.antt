@@ -9,7 +9,7 @@ use Rattle.jsgen_syntax.specs.declared.operator.UnaryOperator.TheVariants as una
 use Rattle.jsgen_syntax.specs.declared.operator.UpdateOperator.{UpdateOperator}
 use Rattle.jsgen_syntax.specs.declared.operator.UpdateOperator.TheVariants as update_operators
 use Rattle.jsgen_model.specs.Layout.{Pen, layout, written, space_if}
-use Rattle.jsgen_model.specs.Spell.{operator_item, unary_sign, update_item}
+use Rattle.jsgen_model.specs.Operators.{operator_item, unary_sign, update_item}
 use Rattle.jsgen_printer.specs.Printer.{stands_apart, end_of, is_ascii}
 use Rattle.jsgen_printer.proofs.Texts.{ascii_chars}
 

@@ -10,7 +10,7 @@ use Rattle.jsgen_model.specs.Punctuator as punctuators
 use Rattle.jsgen_model.specs.Layout as layouts
 use Rattle.jsgen_model.specs.Layout.{Pen, written, is_apart, joins, name_ending, deeper_level}
 use Rattle.jsgen_model.specs.Items.{Items, word, operator}
-use Rattle.jsgen_model.specs.Spell.{operator_item, unary_sign, update_item}
+use Rattle.jsgen_model.specs.Operators.{operator_item, unary_sign, update_item}
 use Rattle.jsgen_printer.specs.declared.printer.Printer.{Printer}
 use Rattle.jsgen_printer.specs.declared.printer.Bracket.{Bracket}
 use Rattle.jsgen_printer.specs.declared.printer.Bracket.TheVariants as brackets

@@ -81,7 +81,8 @@ impl<'a> Printer<'a> {
     ghost use Rattle.jsgen_syntax.specs.Units.{js_units};
     ghost use Rattle.jsgen_syntax.specs.Strings.{quote_char, quoted};
     ghost use Rattle.jsgen_syntax.specs.Raw.{directive_text};
-    ghost use Rattle.jsgen_model.specs.Spell.{operator_item, unary_sign, behind_unary, update_item, logical_item, assignment_item, bars_brace};
+    ghost use Rattle.jsgen_model.specs.Spell.{bars_brace, bars_function};
+    ghost use Rattle.jsgen_model.specs.Operators.{operator_item, unary_sign, behind_unary, update_item, logical_item, assignment_item};
     ghost use Rattle.jsgen_printer.specs.Printer.{bracket_of, pen_of, ending_of, stands_apart, name_written, by_tables, is_ascii, deepened, at_depth};
 
     /// A printer that has printed nothing.
@@ -365,6 +366,13 @@ impl<'a> Printer<'a> {
         ensures { result ≡ bars_brace (pen_of self.now).start }
     {
         matches!(&self.start, Start::Statement | Start::ArrowBody)
+    }
+
+    /// Whether a function at the end of the code would be a declaration (ECMA-262, 14.5 and 16.2.3).
+    pub fn bars_function(&self) -> bool
+        ensures { result ≡ bars_function (pen_of self.now).start }
+    {
+        matches!(&self.start, Start::Statement)
     }
 
     pub fn print_opening(&mut self, bracket: Bracket) -> Result<(), Memory>

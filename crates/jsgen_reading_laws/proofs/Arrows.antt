@@ -4,25 +4,26 @@ use Rattle.std.proofs.lemmas.Bool.{both_ways, or_parts}
 use Rattle.jsgen_syntax.specs.declared.precedence.Precedence.TheVariants as levels
 use Rattle.jsgen_tree.specs.Job.{Tables}
 use Rattle.jsgen_tree.specs.Atom.{no_value}
-use Rattle.jsgen_tree.specs.Tree.{Tree, Atoms}
+use Rattle.jsgen_tree.specs.Tree.{Tree, Trees, Atoms, type_of}
 use Rattle.jsgen_tree.specs.Places.{bare}
 use Rattle.jsgen_tree.specs.Values.{arrow_function_expression_is_async, arrow_function_expression_pife}
 use Rattle.jsgen_tree.specs.Nodes as tree
 use Rattle.jsgen_model.specs.Punctuator.{arrow, Brace}
 use Rattle.jsgen_model.specs.Tokens.{Tokens, done, piece, group, ◌⧺◌, Sign}
-use Rattle.jsgen_model.specs.Items.{Items, ◌⊕◌, soft_space, punctuator, arrow_body_begins}
+use Rattle.jsgen_model.specs.Items.{Items, nothing, ◌⊕◌, soft_space, punctuator, wrapped, arrow_body_begins}
 use Rattle.jsgen_model.specs.Layout.{Pen, Start, arrow_body, layout, unless_printed}
 use Rattle.jsgen_model.specs.Grammar.{Allowed, ReadsArrowParameters, in_arrow_body, starts_in_brace}
 use Rattle.jsgen_model.specs.Grammar as grammar
 use Rattle.jsgen_model.specs.Normal.{normal, nothing_of}
 use Rattle.jsgen_model.specs.Renamed.{renamed}
-use Rattle.jsgen_model.specs.Spell.{Place, spell, within, wraps, is_bare, parameter_items, arrow_wraps, parameters_place, arrow_body_place}
-use Rattle.jsgen_token_laws.proofs.Last.{Last, After, line_of, Ready, Knows}
+use Rattle.jsgen_model.specs.Spell.{Place, spell, within, wraps, is_bare, parameter_items, arrow_wraps, body_begins, parameters_place, arrow_body_place}
+use Rattle.jsgen_token_laws.proofs.Last.{Last, Open, After, line_of, Ready, Knows}
 use Rattle.jsgen_token_laws.proofs.Writes.{Writes, wrote_both, then_done}
 use Rattle.jsgen_token_laws.proofs.Steps.{Soft, no_soft, wrote_punctuator, soft_space_written}
-use Rattle.jsgen_reading_laws.proofs.Levels.{under, unwrapped}
+use Rattle.jsgen_reading_laws.proofs.Levels.{level_of, under, unwrapped}
 use Rattle.jsgen_reading_laws.proofs.Good.{GoodAs, Good, Printed, no_brace, begins_then, line_then, good_wrapped}
 use Rattle.jsgen_reading_laws.proofs.Parameters.{ArrowParametersOf}
+use Rattle.jsgen_reading_laws.proofs.Functions.{GoodBody, BodyOf}
 
 same_arrow : (a : Atoms) (u v x y : Tree) → arrow_function_expression_is_async a ≡ no_value → normal u ≡ normal x → normal v ≡ normal y → normal (tree.arrow_function (nothing_of 3) u v) ≡ normal (tree.arrow_function a x y)
 same_arrow a u v x y h e f = λ i. tree.arrow_function (bare (sym h i ∷ no_value ∷ no_value ∷ [])) (e i) (f i)
@@ -50,18 +51,20 @@ arrow_parts {names} c a t e start p p1 p2 p3 p4 p5 q l h g one_line s w n m i =
       same = same_arrow a g.tree i.tree (renamed names t) (renamed names e) h g.same i.same;
     }
 
-abbrev items_of : Atoms → Tree → Tree → Place → Bool → Items
-items_of a t e place w = parameter_items (is_bare place.settings t) (spell t (parameters_place place)) ⊕ (soft_space ⊕ (punctuator arrow ⊕ (soft_space ⊕ (arrow_body_begins ⊕ spell e (arrow_body_place (within w place))))))
+-- where an expression is the body, it begins behind the arrow
+abbrev items_of : Tree → Tree → Place → Items → Bool → Items
+items_of t e place begins w = parameter_items (is_bare place.settings t) (spell t (parameters_place place)) ⊕ (soft_space ⊕ (punctuator arrow ⊕ (soft_space ⊕ (begins ⊕ spell e (arrow_body_place (within w place))))))
 
-pub good_arrow_function : {names : Tables} (c : Allowed) (a : Atoms) (t e : Tree) → arrow_function_expression_is_async a ≡ no_value → ArrowParametersOf names c t → Printed names (in_arrow_body c) e → Printed names c (tree.arrow_function a t e)
-good_arrow_function {names} c a t e h f body place =
-    good_wrapped c place grammar.Assignment (arrow_wraps pife place) (items_of a t e place) (tree.arrow_function a t e)
-    (λ d ts u r. grammar.an_assignment r) (λ n ts u r. unwrapped levels.Assign place (or_parts pife (wraps levels.Assign place) n).1 r) inner
+pub good_arrow_function : {names : Tables} (c : Allowed) (a : Atoms) (t e : Tree) → arrow_function_expression_is_async a ≡ no_value → body_begins (type_of e) ≡ arrow_body_begins → ArrowParametersOf names c t → Printed names (in_arrow_body c) e → Printed names c (tree.arrow_function a t e)
+good_arrow_function {names} c a t e h m f body place p l z y k =
+    subst (λ x. Good names p l (layout (wrapped (arrow_wraps pife place) (items_of t e place x (arrow_wraps pife place))) p) (under place c) (level_of place) place.start (tree.arrow_function a t e)) (sym m)
+    (good_wrapped c place grammar.Assignment (arrow_wraps pife place) (items_of t e place arrow_body_begins) (tree.arrow_function a t e)
+    (λ d ts u r. grammar.an_assignment r) (λ n ts u r. unwrapped levels.Assign place (or_parts pife (wraps levels.Assign place) n).1 r) inner p l z y k)
   where
     pife : Bool
     pife = arrow_function_expression_pife a
 
-    inner : (v : Bool) → arrow_wraps pife place ≡ v → (p : Pen) (l : Last) → p.pending_semicolon ≡ false → Ready l → Knows names p l → Good names p l (layout (items_of a t e place v) p) (under (within v place) c) grammar.Assignment (unless_printed v place.start) (tree.arrow_function a t e)
+    inner : (v : Bool) → arrow_wraps pife place ≡ v → (p : Pen) (l : Last) → p.pending_semicolon ≡ false → Ready l → Knows names p l → Good names p l (layout (items_of t e place arrow_body_begins v) p) (under (within v place) c) grammar.Assignment (unless_printed v place.start) (tree.arrow_function a t e)
     inner v n p l z y k =
         let at : Place = within v place in
         let p1 : Pen = layout (parameter_items (is_bare place.settings t) (spell t (parameters_place place))) p in
@@ -76,3 +79,47 @@ good_arrow_function {names} c a t e h f body place =
         let m = no_soft p4 p5 b.last refl refl refl refl b.writes.knows in
         let i = body (arrow_body_place at) p5 m.last (m.semicolon ∙ (b.semicolon ∙ (s.semicolon ∙ g.0.semicolon))) (m.ready (b.ready tt)) m.writes.knows in
         arrow_parts (under at c) a t e at.start p p1 p2 p3 p4 p5 (layout (spell e (arrow_body_place at)) p5) l h g.0 g.1 s w b m i
+
+-- ---- with a body in braces
+
+body_parts : {names : Tables} (c : Allowed) (a : Atoms) (t u : Tree) (start : Start) (p p1 p2 p3 p4 q : Pen) (l : Last) → arrow_function_expression_is_async a ≡ no_value → (g : GoodAs names (ReadsArrowParameters c) p l p1 start t) → line_of g.last ≡ false → (s : Soft names p1 g.last p2) → Writes names p2 s.last p3 (After (Sign arrow)) (piece (line_of s.last) (Sign arrow) done) → (n : Soft names p3 (After (Sign arrow)) p4)
+    → GoodBody names p4 n.last q u → Good names p l q c grammar.Assignment start (tree.arrow_function a t u)
+body_parts {names} c a t u start p p1 p2 p3 p4 q l h g one_line s w n i =
+    let others : Tokens = piece (line_of s.last) (Sign arrow) (group (line_of n.last) Brace i.tokens done) in
+    record {
+      last = Open false;
+      tokens = g.tokens ⧺ others;
+      writes = wrote_both g.writes (wrote_both s.writes (wrote_both w (wrote_both n.writes i.writes)));
+      operand = tt;
+      semicolon = i.semicolon;
+      begins = λ d b. begins_then start g.tokens others d g.begins refl;
+      line = λ b. line_then g.tokens others (g.line b);
+      tree = tree.arrow_function (nothing_of 3) g.tree (tree.function_body (nothing_of 0) i.directives i.statements);
+      reads = grammar.an_arrow_with_body (line_of n.last) (ap (λ b. g.tokens ⧺ piece b (Sign arrow) (group (line_of n.last) Brace i.tokens done)) (s.line one_line)) g.reads i.reads;
+      same = same_arrow a g.tree (tree.function_body (nothing_of 0) i.directives i.statements) (renamed names t) (renamed names u) h g.same i.same;
+    }
+
+pub good_arrow_with_body : {names : Tables} (c : Allowed) (a b : Atoms) (t : Tree) (ds ss : Trees) → arrow_function_expression_is_async a ≡ no_value → ArrowParametersOf names c t → BodyOf names (tree.function_body b ds ss) → Printed names c (tree.arrow_function a t (tree.function_body b ds ss))
+good_arrow_with_body {names} c a b t ds ss h f body place =
+    good_wrapped c place grammar.Assignment (arrow_wraps pife place) (items_of t u place nothing) (tree.arrow_function a t u)
+    (λ d ts v r. grammar.an_assignment r) (λ n ts v r. unwrapped levels.Assign place (or_parts pife (wraps levels.Assign place) n).1 r) inner
+  where
+    pife : Bool
+    pife = arrow_function_expression_pife a
+
+    u : Tree
+    u = tree.function_body b ds ss
+
+    inner : (v : Bool) → arrow_wraps pife place ≡ v → (p : Pen) (l : Last) → p.pending_semicolon ≡ false → Ready l → Knows names p l → Good names p l (layout (items_of t u place nothing v) p) (under (within v place) c) grammar.Assignment (unless_printed v place.start) (tree.arrow_function a t u)
+    inner v n p l z y k =
+        let at : Place = within v place in
+        let p1 : Pen = layout (parameter_items (is_bare place.settings t) (spell t (parameters_place place))) p in
+        let p2 : Pen = layout soft_space p1 in
+        let p3 : Pen = layout (punctuator arrow) p2 in
+        let p4 : Pen = layout soft_space p3 in
+        let g = f place at p l z y k in
+        let s = soft_space_written p1 g.0.last g.0.writes.knows in
+        let w = wrote_punctuator arrow p2 s.last tt tt (s.operand g.0.operand) s.writes.knows in
+        let m = soft_space_written p3 (After (Sign arrow)) w.knows in
+        let i = body (arrow_body_place at) p4 m.last (m.semicolon ∙ (s.semicolon ∙ g.0.semicolon)) m.writes.knows in
+        body_parts (under at c) a t u at.start p p1 p2 p3 p4 (layout (spell u (arrow_body_place at)) p4) l h g.0 g.1 s w m i

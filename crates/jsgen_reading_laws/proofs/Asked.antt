@@ -1,5 +1,5 @@
 -- What the lemmas on operations, chains and directives ask of an expression: one line a row.
-use Rattle.std.proofs.Common.{◌≡◌, ℕ, Bool, true, false, cond, Option, Some, None, is_some, List, [], ◌∷◌, refl, sym, ap, ◌∙◌, subst}
+use Rattle.std.proofs.Common.{◌≡◌, ℕ, Bool, true, false, Option, Some, None, is_some, List, [], ◌∷◌, refl, sym, ap, ◌∙◌, subst}
 use Rattle.std.proofs.lemmas.Bool.{both_ways}
 use Rattle.std.proofs.lemmas.Option.{same_Some}
 use Rattle.jsgen_syntax.specs.Wtf8.{are_units}
@@ -9,12 +9,12 @@ use Rattle.jsgen_tree.specs.Tree.{Tree, Atoms, type_of}
 use Rattle.jsgen_tree.specs.Nodes as tree
 use Rattle.jsgen_tree.specs.Places.{bare}
 use Rattle.jsgen_tree.specs.Values.{numeric_literal_kind, numeric_literal_negative, big_int_literal_value, string_literal_value, logical_expression_operator}
-use Rattle.jsgen_tree.specs.Sets.{is_expression}
-use Rattle.jsgen_tree.specs.Inside.{without_parentheses, behind_minus}
+use Rattle.jsgen_tree.specs.Inside.{without_parentheses, looked_up_in, behind_minus}
 use Rattle.jsgen_model.specs.Grammar.{Allowed}
 use Rattle.jsgen_model.specs.Normal.{normal, chain, by_text, number_text, minus_before, big_integer}
 use Rattle.jsgen_model.specs.Renamed.{renamed}
-use Rattle.jsgen_model.specs.Spell.{mixes, is_or_or_and, string_in}
+use Rattle.jsgen_model.specs.Items.{arrow_body_begins}
+use Rattle.jsgen_model.specs.Spell.{mixes, is_or_or_and, string_in, body_begins}
 use Rattle.jsgen_reading_laws.proofs.Families.{IsExpression}
 use Rattle.jsgen_reading_laws.proofs.Families as family
 
@@ -41,8 +41,14 @@ is_signed t = false
 abbrev pub IsStringOf : Tables → Tree → List ℕ → Type 0
 IsStringOf names t us = (are_units us ≡ true) × (normal (renamed names t) ≡ tree.string_literal (bare (units us ∷ [])))
 
+-- a function's parentheses stay, which is one for all that is asked
+abbrev pub Parenthesized : Tree → Type 0
+Parenthesized t = (a : Atoms) → let u : Tree = without_parentheses (tree.parenthesized a t) in (mixes u ≡ mixes (without_parentheses t)) × (string_in u ≡ string_in (without_parentheses t)) × (is_signed u ≡ is_signed (without_parentheses t)) × (looked_up_in u ≡ looked_up_in (without_parentheses t))
+
 pub record Asked (names : Tables) (t : Tree) : Type 0 where
-  pub expression : is_expression (type_of t) ≡ true
+  -- it begins behind the arrow of a function, and in parentheses it answers as without them
+  pub begins : body_begins (type_of t) ≡ arrow_body_begins
+  pub parenthesized : Parenthesized t
   -- the normal form tells which operands mix, which are a string, and which are unary operations
   pub mixed : is_mixed (normal (renamed names t)) ≡ mixes (without_parentheses t)
   pub string : is_string (normal (renamed names t)) ≡ is_some (string_in (without_parentheses t))
@@ -53,14 +59,14 @@ none_is_some : (us : List ℕ) → None ≡ Some us → ⊥
 none_is_some us e = both_ways false refl (ap is_some e)
 
 -- an expression that is no string, and has no parentheses round it
-no_string : {names : Tables} {t : Tree} → is_expression (type_of t) ≡ true → is_mixed (normal (renamed names t)) ≡ mixes (without_parentheses t) → is_string (normal (renamed names t)) ≡ false → string_in (without_parentheses t) ≡ None → is_unary (normal (renamed names t)) ≡ is_signed (without_parentheses t) → Asked names t
-no_string e m s n u = record { expression = e; mixed = m; string = s ∙ sym (ap is_some n); inside = λ us h. absurd (none_is_some us (sym n ∙ h)); unary = u }
+no_string : {names : Tables} {t : Tree} → body_begins (type_of t) ≡ arrow_body_begins → Parenthesized t → is_mixed (normal (renamed names t)) ≡ mixes (without_parentheses t) → is_string (normal (renamed names t)) ≡ false → string_in (without_parentheses t) ≡ None → is_unary (normal (renamed names t)) ≡ is_signed (without_parentheses t) → Asked names t
+no_string e o m s n u = record { begins = e; parenthesized = o; mixed = m; string = s ∙ sym (ap is_some n); inside = λ us h. absurd (none_is_some us (sym n ∙ h)); unary = u }
 
 abbrev number_form : Atoms → Tree
 number_form a = tree.numeric_literal (by_text (number_text (numeric_literal_kind a) a))
 
 asked_number : {names : Tables} (a : Atoms) (b : Bool) → numeric_literal_negative a ≡ b → Asked names (tree.numeric_literal a)
-asked_number a b e = no_string refl (ap is_mixed (form b e) ∙ plain b) (ap is_string (form b e) ∙ plain_string b) refl (ap is_unary (form b e) ∙ told b ∙ sym e)
+asked_number a b e = no_string refl (λ b. (refl, refl, refl, refl)) (ap is_mixed (form b e) ∙ plain b) (ap is_string (form b e) ∙ plain_string b) refl (ap is_unary (form b e) ∙ told b ∙ sym e)
   where
     form : (b : Bool) → numeric_literal_negative a ≡ b → normal (tree.numeric_literal a) ≡ minus_before b (number_form a)
     form b e = ap (λ x. minus_before x (number_form a)) e
@@ -78,7 +84,7 @@ asked_number a b e = no_string refl (ap is_mixed (form b e) ∙ plain b) (ap is_
     told false = refl
 
 asked_big_integer : {names : Tables} (a : Atoms) (o : Option (List ℕ)) → behind_minus (big_int_literal_value a) ≡ o → Asked names (tree.big_int_literal a)
-asked_big_integer a o e = no_string refl (ap is_mixed form ∙ plain o) (ap is_string form ∙ plain_string o) refl (ap is_unary form ∙ told o ∙ sym (ap is_some e))
+asked_big_integer a o e = no_string refl (λ b. (refl, refl, refl, refl)) (ap is_mixed form ∙ plain o) (ap is_string form ∙ plain_string o) refl (ap is_unary form ∙ told o ∙ sym (ap is_some e))
   where
     form : normal (tree.big_int_literal a) ≡ big_integer (big_int_literal_value a) o
     form = ap (big_integer (big_int_literal_value a)) e
@@ -96,41 +102,46 @@ asked_big_integer a o e = no_string refl (ap is_mixed form ∙ plain o) (ap is_s
     told None = refl
 
 pub asked : {names : Tables} {c : Allowed} {t : Tree} → IsExpression names c t → Asked names t
-asked (family.a_reference h) = no_string refl refl refl refl refl
-asked family.a_this = no_string refl refl refl refl refl
-asked family.a_null = no_string refl refl refl refl refl
-asked family.a_boolean = no_string refl refl refl refl refl
+asked (family.a_reference h) = no_string refl (λ a. (refl, refl, refl, refl)) refl refl refl refl
+asked family.a_this = no_string refl (λ a. (refl, refl, refl, refl)) refl refl refl refl
+asked family.a_null = no_string refl (λ a. (refl, refl, refl, refl)) refl refl refl refl
+asked family.a_boolean = no_string refl (λ a. (refl, refl, refl, refl)) refl refl refl refl
 asked (family.a_number {a} h) = asked_number a (numeric_literal_negative a) refl
 asked (family.a_big_integer {a} h) = asked_big_integer a (behind_minus (big_int_literal_value a)) refl
 asked (family.a_string {a} h) = record {
-  expression = refl;
+  begins = refl;
+  parenthesized = λ b. (refl, refl, refl, refl);
   mixed = refl;
   string = refl;
   inside = λ us s. let e = same_Some (string_literal_value a) us s in (subst (λ x. are_units x ≡ true) e h, ap (λ x. tree.string_literal (bare (units x ∷ []))) e);
   unary = refl;
 }
-asked {names} (family.in_parentheses {a} {t} v) =
+asked (family.in_parentheses {a} v) =
     let k = asked v in
+    let o = k.parenthesized a in
     record {
-      expression = refl;
-      mixed = k.mixed ∙ ap (λ b. mixes (cond b (without_parentheses t) (tree.parenthesized a t))) (sym k.expression);
-      string = k.string ∙ ap (λ b. is_some (string_in (cond b (without_parentheses t) (tree.parenthesized a t)))) (sym k.expression);
-      inside = λ us s. subst (λ b. string_in (cond b (without_parentheses t) (tree.parenthesized a t)) ≡ Some us → IsStringOf names t us) (sym k.expression) (k.inside us) s;
-      unary = k.unary ∙ ap (λ b. is_signed (cond b (without_parentheses t) (tree.parenthesized a t))) (sym k.expression);
+      begins = refl;
+      parenthesized = λ b. (refl, refl, refl, refl);
+      mixed = k.mixed ∙ sym o.0;
+      string = k.string ∙ ap is_some (sym o.1);
+      inside = λ us s. k.inside us (sym o.1 ∙ s);
+      unary = k.unary ∙ sym o.2;
     }
-asked (family.a_named_member m v h) = no_string refl refl refl refl refl
-asked (family.a_computed_member m v w) = no_string refl refl refl refl refl
-asked (family.a_call m v w) = no_string refl refl refl refl refl
-asked (family.a_chain v) = no_string refl refl refl refl refl
-asked (family.an_array v) = no_string refl refl refl refl refl
-asked (family.an_object v) = no_string refl refl refl refl refl
-asked (family.an_operation v w) = no_string refl refl refl refl refl
-asked (family.a_logical_operation v w) = no_string refl refl refl refl refl
-asked (family.a_unary_operation v) = no_string refl refl refl refl refl
-asked (family.an_update s v) = no_string refl refl refl refl refl
-asked (family.a_construction v w) = no_string refl refl refl refl refl
-asked (family.a_choice v w x) = no_string refl refl refl refl refl
-asked (family.a_sequence v w x) = no_string refl refl refl refl refl
-asked (family.an_assignment s v w) = no_string refl refl refl refl refl
-asked family.a_new_target = no_string refl refl refl refl refl
-asked (family.an_arrow_function h v w) = no_string refl refl refl refl refl
+asked (family.a_named_member m v h) = no_string refl (λ a. (refl, refl, refl, refl)) refl refl refl refl
+asked (family.a_computed_member m v w) = no_string refl (λ a. (refl, refl, refl, refl)) refl refl refl refl
+asked (family.a_call m v w) = no_string refl (λ a. (refl, refl, refl, refl)) refl refl refl refl
+asked (family.a_chain v) = no_string refl (λ a. (refl, refl, refl, refl)) refl refl refl refl
+asked (family.an_array v) = no_string refl (λ a. (refl, refl, refl, refl)) refl refl refl refl
+asked (family.an_object v) = no_string refl (λ a. (refl, refl, refl, refl)) refl refl refl refl
+asked (family.an_operation v w) = no_string refl (λ a. (refl, refl, refl, refl)) refl refl refl refl
+asked (family.a_logical_operation v w) = no_string refl (λ a. (refl, refl, refl, refl)) refl refl refl refl
+asked (family.a_unary_operation v) = no_string refl (λ a. (refl, refl, refl, refl)) refl refl refl refl
+asked (family.an_update s v) = no_string refl (λ a. (refl, refl, refl, refl)) refl refl refl refl
+asked (family.a_construction v w) = no_string refl (λ a. (refl, refl, refl, refl)) refl refl refl refl
+asked (family.a_choice v w x) = no_string refl (λ a. (refl, refl, refl, refl)) refl refl refl refl
+asked (family.a_sequence v w x) = no_string refl (λ a. (refl, refl, refl, refl)) refl refl refl refl
+asked (family.an_assignment s v w) = no_string refl (λ a. (refl, refl, refl, refl)) refl refl refl refl
+asked family.a_new_target = no_string refl (λ a. (refl, refl, refl, refl)) refl refl refl refl
+asked (family.an_arrow_function h v w) = no_string refl (λ a. (refl, refl, refl, refl)) refl refl refl refl
+asked (family.a_function v) = no_string refl (λ a. (refl, refl, refl, refl)) refl refl refl refl
+asked (family.an_arrow_with_body h v w) = no_string refl (λ a. (refl, refl, refl, refl)) refl refl refl refl

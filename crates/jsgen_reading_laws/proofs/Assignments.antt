@@ -17,7 +17,8 @@ use Rattle.jsgen_model.specs.Grammar as grammar
 use Rattle.jsgen_model.specs.Normal.{normal}
 use Rattle.jsgen_model.specs.Renamed.{renamed}
 use Rattle.jsgen_model.specs.Quotes.{is_export_target}
-use Rattle.jsgen_model.specs.Spell.{Place, spell, enclosed, assigned, quoted_plainly, behind, wraps, assignment_item}
+use Rattle.jsgen_model.specs.Spell.{Place, spell, enclosed, assigned, quoted_plainly, behind, wraps}
+use Rattle.jsgen_model.specs.Operators.{assignment_item}
 use Rattle.jsgen_token_laws.proofs.Last.{Last, After, line_of, Ready, Knows}
 use Rattle.jsgen_token_laws.proofs.Writes.{Writes, wrote_both}
 use Rattle.jsgen_token_laws.proofs.Steps.{Soft, soft_space_written}

@@ -58,21 +58,21 @@ filled_written items f p l z k =
     filled_parts p2.depth n refl g (gap (indentation_written (record p4 { depth = p2.depth }) g.last (at_depth p2.depth g.writes.knows)))
 
 -- round nothing
-empty_written : {names : Tables} {R : Bool → Tokens → Trees → Type 0} → R true done no_trees → (p : Pen) (l : Last) → Knows names p l → GoodBraces names R (SameTrees names no_trees) p l (layout (brackets Brace nothing ⊕ drop_semicolon) p)
-empty_written n p l k =
+pub empty_written : {names : Tables} {X : Type 0} {R : Bool → Tokens → X → Type 0} {Same : X → Type 0} (x : X) → R true done x → Same x → (p : Pen) (l : Last) → Knows names p l → GoodBraces names R Same p l (layout (brackets Brace nothing ⊕ drop_semicolon) p)
+empty_written x n e p l k =
     let p1 : Pen = written (opening Brace) other_end p in
     record {
       tokens = done;
       writes = dropped (brackets_written Brace p p1 l (Open false) done (wrote_none p1 p1 (Open false) refl (within_brackets Brace p l k)));
       semicolon = refl;
-      reading = no_trees;
+      reading = x;
       reads = n;
-      same = refl;
+      same = e;
     }
 
 -- round any row, the empty one too
 pub braces_written : {names : Tables} {R : Bool → Tokens → Trees → Type 0} → R true done no_trees → (ss : Trees) (settings : Settings) → StandsAt names R (SameTrees names ss) (spell_statements ss settings) → (p : Pen) (l : Last) → p.pending_semicolon ≡ false → Knows names p l → GoodBraces names R (SameTrees names ss) p l (layout (braces ss (spell_statements ss settings)) p)
-braces_written n no_trees settings row p l z k = empty_written n p l k
+braces_written n no_trees settings row p l z k = empty_written no_trees n refl p l k
 braces_written n (more s ss) settings row p l z k = filled_written (spell_statements (more s ss) settings) row p l z k
 braces_written n (hole ss) settings row p l z k = filled_written (spell_statements (hole ss) settings) row p l z k
 

@@ -22,7 +22,8 @@ use Rattle.jsgen_model.specs.Grammar.{Allowed, Level, ReadsExpression}
 use Rattle.jsgen_model.specs.Grammar as grammar
 use Rattle.jsgen_model.specs.Normal.{normal, chain, links, joined}
 use Rattle.jsgen_model.specs.Renamed.{renamed}
-use Rattle.jsgen_model.specs.Spell.{Place, spell, within, left_of, behind, wraps, logical_item, goes_on, logical_wraps, unmixed, mixes}
+use Rattle.jsgen_model.specs.Spell.{Place, spell, within, left_of, behind, wraps, goes_on, logical_wraps, unmixed, mixes}
+use Rattle.jsgen_model.specs.Operators.{logical_item}
 use Rattle.jsgen_token_laws.proofs.Last.{Last, After, Ready, Remembers, Knows, NoDot}
 use Rattle.jsgen_token_laws.proofs.Writes.{then_assoc}
 use Rattle.jsgen_token_laws.proofs.Steps.{wrote_punctuator}

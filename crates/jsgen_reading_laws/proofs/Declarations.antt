@@ -26,24 +26,21 @@ use Rattle.jsgen_token_laws.proofs.Last.{Last, After, line_of, Knows}
 use Rattle.jsgen_token_laws.proofs.Writes.{Writes, wrote_both}
 use Rattle.jsgen_token_laws.proofs.Steps.{Soft, wrote_word, soft_space_written}
 use Rattle.jsgen_reading_laws.proofs.Levels.{under}
-use Rattle.jsgen_reading_laws.proofs.Families.{IsDeclarator, AreDeclarators}
-use Rattle.jsgen_reading_laws.proofs.Families as family
 use Rattle.jsgen_reading_laws.proofs.Good.{operand_ready}
 use Rattle.jsgen_reading_laws.proofs.Lists.{Element, Elements, ElementAt, ElementsAt, MoreAt, Joins, no_more, one_more, whole_list}
-use Rattle.jsgen_reading_laws.proofs.Bindings.{Holds, good_held, bound}
-use Rattle.jsgen_reading_laws.proofs.Expressions.{printed_value}
+use Rattle.jsgen_reading_laws.proofs.Bindings.{Bound, PrintedIfGiven, Holds, good_held}
 use Rattle.jsgen_reading_laws.proofs.Stands.{Unended, UnendedAt, ReadsClosed, Stated, stated_among, Listed, SameTree, whole_line}
 
 -- ---- declarators
 
 -- printed at one place, and read as a declarator or as a list of them
-abbrev DeclaredAt : Tables → Allowed → Place → Tree → Type 0
+abbrev pub DeclaredAt : Tables → Allowed → Place → Tree → Type 0
 DeclaredAt names c place t = ElementAt names (ReadsDeclarator (under place c)) place t
 
-abbrev ListDeclaredAt : Tables → Allowed → Place → Trees → Type 0
+abbrev pub ListDeclaredAt : Tables → Allowed → Place → Trees → Type 0
 ListDeclaredAt names c place ds = ElementsAt names (ReadsDeclarators (under place c)) place ds
 
-abbrev MoreDeclaredAt : Tables → Allowed → Place → Trees → Type 0
+abbrev pub MoreDeclaredAt : Tables → Allowed → Place → Trees → Type 0
 MoreDeclaredAt names c place ds = MoreAt names (ReadsDeclarator (under place c)) (ReadsDeclarators (under place c)) place ds
 
 same_declarator : (a : Atoms) (b u : Tree) (m n : Maybe) → variable_declarator_definite a ≡ no_value → normal b ≡ normal u → normal_maybe m ≡ normal_maybe n → normal (tree.variable_declarator (nothing_of 1) b m) ≡ normal (tree.variable_declarator a u n)
@@ -57,8 +54,8 @@ declarator_holds {names} c a h = record {
   same = λ b u m n e f. same_declarator a b (renamed names u) m (renamed_maybe names n) h e f;
 }
 
-declared : {names : Tables} {c : Allowed} {t : Tree} → IsDeclarator names c t → (place : Place) → DeclaredAt names c place t
-declared {names} {c} (family.a_declarator {a} {b} {m} h v w) place = good_held c (ReadsDeclarator (under place c)) (λ x n. tree.variable_declarator a x n) b m place (declarator_holds (under place c) a h) (bound v) (printed_value w)
+pub good_declarator : {names : Tables} (c : Allowed) (a : Atoms) (b : Tree) (m : Maybe) → variable_declarator_definite a ≡ no_value → Bound names c b → PrintedIfGiven names c m → (place : Place) → DeclaredAt names c place (tree.variable_declarator a b m)
+good_declarator c a b m h f v place = good_held c (ReadsDeclarator (under place c)) (λ x n. tree.variable_declarator a x n) b m place (declarator_holds (under place c) a h) f v
 
 declarators_join : (c : Allowed) → Joins (ReadsDeclarator c) (ReadsDeclarators c)
 declarators_join c = record { one = λ ts d r. grammar.last_declarator r; first = λ mark a b d ds r s. grammar.first_declarator mark refl r s }
@@ -115,23 +112,22 @@ good_variables c a ds place m f p l z k =
     let g = f p2 n.last (n.semicolon ∙ z) (n.begun tt) n.writes.knows in
     variables_parts (under place c) a ds p p1 p2 (layout (spell_list ds (behind levels.Lowest place)) p2) l m o n g
 
--- ---- the families
+-- ---- lists of declarators, as a whole and as more of one
 
--- as a list, and as more of one
-list_declared : {names : Tables} {c : Allowed} {ds : Trees} → AreDeclarators names c ds → (place : Place) → ListDeclaredAt names c place ds × MoreDeclaredAt names c place ds
-list_declared {names} {c} (family.last_declarator {d} v) place =
+pub last_declared : {names : Tables} (c : Allowed) (d : Tree) (place : Place) → DeclaredAt names c place d → ListDeclaredAt names c place (more d no_trees) × MoreDeclaredAt names c place (more d no_trees)
+last_declared c d place f =
     let d1 : Allowed = under place c in
-    let f = declared v place in
     let m = no_more (ReadsDeclarator d1) (ReadsDeclarators d1) (declarators_join d1) place in
     (whole_list (ReadsDeclarator d1) (ReadsDeclarators d1) place d no_trees f m, one_more (ReadsDeclarator d1) (ReadsDeclarators d1) (declarators_join d1) place d no_trees f m)
-list_declared {names} {c} (family.first_declarator {d} {e} {ds} v w) place =
-    let d1 : Allowed = under place c in
-    let f = declared v place in
-    let m = (list_declared w place).1 in
-    (whole_list (ReadsDeclarator d1) (ReadsDeclarators d1) place d (more e ds) f m, one_more (ReadsDeclarator d1) (ReadsDeclarators d1) (declarators_join d1) place d (more e ds) f m)
 
-pub variables_stated : {names : Tables} {c : Allowed} {ds : Trees} (a : Atoms) → variable_declaration_declare a ≡ no_value → AreDeclarators names c ds → (place : Place) → VariablesAt names c place a ds
-variables_stated {c = c} {ds} a m v place = good_variables c a ds place m (list_declared v (behind levels.Lowest place)).0
+pub first_declared : {names : Tables} (c : Allowed) (d : Tree) (ds : Trees) (place : Place) → DeclaredAt names c place d → MoreDeclaredAt names c place ds → ListDeclaredAt names c place (more d ds) × MoreDeclaredAt names c place (more d ds)
+first_declared c d ds place f m =
+    let d1 : Allowed = under place c in
+    (whole_list (ReadsDeclarator d1) (ReadsDeclarators d1) place d ds f m, one_more (ReadsDeclarator d1) (ReadsDeclarators d1) (declarators_join d1) place d ds f m)
+
+-- the declarators of a declaration
+pub variables_from : {names : Tables} (c : Allowed) (a : Atoms) (ds : Trees) → variable_declaration_declare a ≡ no_value → ((place : Place) → ListDeclaredAt names c place ds × MoreDeclaredAt names c place ds) → (place : Place) → VariablesAt names c place a ds
+variables_from c a ds m f place = good_variables c a ds place m (f (behind levels.Lowest place)).0
 
 -- ---- declarations and `var` among statements
 
@@ -147,15 +143,15 @@ unended_variables c a ds f g = record {
   same = g.same;
 }
 
-pub listed_declaration : {names : Tables} {c : Allowed} {ds : Trees} (a : Atoms) → is_lexical_word (variable_declaration_kind a) ≡ true → variable_declaration_declare a ≡ no_value → AreDeclarators names c ds → Listed names c (tree.variable_declaration a ds)
-listed_declaration {names} {c} {ds} a h m v settings =
+pub listed_declaration : {names : Tables} (c : Allowed) (a : Atoms) (ds : Trees) → is_lexical_word (variable_declaration_kind a) ≡ true → ((place : Place) → VariablesAt names c place a ds) → Listed names c (tree.variable_declaration a ds)
+listed_declaration c a ds h f settings =
     let place : Place = among_statements settings in
     let kind : VariableDeclarationKind = variable_declaration_kind a in
-    whole_line (declaration_items a ds place) (λ p l z y k. unended_variables c a ds (λ last ts b t e r. grammar.a_declaration kind (lexical_is_no_var kind h) e r) (variables_stated a m v place p l z k))
+    whole_line (declaration_items a ds place) (λ p l z y k. unended_variables c a ds (λ last ts b t e r. grammar.a_declaration kind (lexical_is_no_var kind h) e r) (f place p l z k))
 
-pub good_variable_statement : {names : Tables} {c : Allowed} {ds : Trees} (a : Atoms) → is_lexical_word (variable_declaration_kind a) ≡ false → variable_declaration_declare a ≡ no_value → AreDeclarators names c ds → Stated names c (tree.variable_declaration a ds)
-good_variable_statement {names} {c} {ds} a h m v = stated_among refl (λ settings. whole_line (declaration_items a ds (among_statements settings)) (inside settings))
+pub good_variable_statement : {names : Tables} (c : Allowed) (a : Atoms) (ds : Trees) → is_lexical_word (variable_declaration_kind a) ≡ false → ((place : Place) → VariablesAt names c place a ds) → Stated names c (tree.variable_declaration a ds)
+good_variable_statement {names} c a ds h f = stated_among refl (λ settings. whole_line (declaration_items a ds (among_statements settings)) (inside settings))
   where
     inside : (settings : Settings) → UnendedAt names (ReadsClosed c false) (SameTree names (tree.variable_declaration a ds)) (declaration_items a ds (among_statements settings))
     inside settings p l z y k =
-        unended_variables c a ds (λ last ts b t e r before_else n. grammar.a_variable_statement e (subst (λ kind. ReadsVariables (with_in c) kind b t) (other_is_var (variable_declaration_kind a) h) r)) (variables_stated a m v (among_statements settings) p l z k)
+        unended_variables c a ds (λ last ts b t e r before_else n. grammar.a_variable_statement e (subst (λ kind. ReadsVariables (with_in c) kind b t) (other_is_var (variable_declaration_kind a) h) r)) (f (among_statements settings) p l z k)

@@ -20,20 +20,19 @@ use Rattle.jsgen_model.specs.Grammar.{Allowed, EndsBy, ReadsStatement, ReadsItem
 use Rattle.jsgen_model.specs.Grammar as grammar
 use Rattle.jsgen_model.specs.Normal.{normal, nothing_of}
 use Rattle.jsgen_model.specs.Renamed.{renamed, renamed_trees}
-use Rattle.jsgen_model.specs.Spell.{Settings, spell, spell_body, string_in, unless_string, first_statement, among_statements, whole_statement}
+use Rattle.jsgen_model.specs.Spell.{Settings, spell, spell_body, spell_statements, string_in, unless_string, first_statement, among_statements, whole_statement}
 use Rattle.jsgen_token_laws.proofs.Last.{Last, Open, After, line_of}
 use Rattle.jsgen_token_laws.proofs.Writes.{wrote_none, wrote_both, wrote_brackets, then_assoc}
 use Rattle.jsgen_token_laws.proofs.Steps.{gap, none_due, wrote_quoted, within_brackets}
 use Rattle.jsgen_reading_laws.proofs.Levels.{from_primary}
-use Rattle.jsgen_reading_laws.proofs.Families.{IsItem, AreStatements}
+use Rattle.jsgen_reading_laws.proofs.Families.{IsItem}
 use Rattle.jsgen_reading_laws.proofs.Families as family
 use Rattle.jsgen_reading_laws.proofs.Asked.{is_string, asked}
 use Rattle.jsgen_reading_laws.proofs.Openings.{Opens, opens}
 use Rattle.jsgen_reading_laws.proofs.Lists.{same_more}
 use Rattle.jsgen_reading_laws.proofs.Ends.{Ended, at_brace, ends_itself, ends_since, ended_more}
 use Rattle.jsgen_reading_laws.proofs.Stands.{Stands, Unended, StandsAt, UnendedAt, Listed, SameTree, SameTrees, stands_since, blank_before, whole_line}
-use Rattle.jsgen_reading_laws.proofs.Rows.{GoodRest}
-use Rattle.jsgen_reading_laws.proofs.Statements.{listed, rows}
+use Rattle.jsgen_reading_laws.proofs.Rows.{GoodRest, RestAt}
 
 -- read as no directive, whatever follows
 abbrev pub Apart : Tokens → Type 0
@@ -73,11 +72,13 @@ statement_apart (grammar.a_continue h r) n = end_apart h (λ x. refl)
 statement_apart (grammar.a_break h r) n = end_apart h (λ x. refl)
 statement_apart (grammar.a_throw h o r) n = end_apart h (λ x. refl)
 statement_apart (grammar.a_debugger h) n = end_apart h (λ x. refl)
+statement_apart (grammar.a_return p h r) n = end_apart h (λ x. refl)
 statement_apart (grammar.a_switch r s) n = λ x. refl
 statement_apart (grammar.a_try r s) n = λ x. refl
 
 item_apart : {c : Allowed} {last : Bool} {ts : Tokens} {u : Tree} → ReadsItem c last ts u → is_string_statement (normal u) ≡ false → Apart ts
 item_apart (grammar.a_statement r) n = statement_apart r n
+item_apart (grammar.a_function_declaration r) n = λ x. refl
 item_apart (grammar.a_declaration kind k h (grammar.some_variables r)) n = end_apart h (λ x. refl)
 
 -- an item that is read as no directive
@@ -140,14 +141,15 @@ string_written {names} c a e us settings h s p l z y k = go p.style.minified
 
 -- ---- the first item of a body
 
-first_stated : {names : Tables} {c : Allowed} {t : Tree} → IsItem names c t → (settings : Settings) → StandsAt names (First c) (SameTree names t) (first_statement t (spell t (among_statements settings)))
-first_stated {names} {c} (family.a_statement (family.an_expression_statement {a} {e} v)) settings = go (string_in (without_parentheses e)) refl
+pub first_stated : {names : Tables} {c : Allowed} {t : Tree} → IsItem names c t → Listed names c t → (settings : Settings) → StandsAt names (First c) (SameTree names t) (first_statement t (spell t (among_statements settings)))
+first_stated {names} {c} (family.a_statement (family.an_expression_statement {a} {e} v)) f settings = go (string_in (without_parentheses e)) refl
   where
     go : (o : Option (List ℕ)) → string_in (without_parentheses e) ≡ o → StandsAt names (First c) (SameTree names (tree.expression_statement a e)) (unless_string o (spell (tree.expression_statement a e) (among_statements settings)))
     go (Some us) s = let k = (asked v).inside us s in whole_line (first_string us) (string_written c a e us settings k.0 k.1)
-    go None s = no_string_first (tree.expression_statement a e) (listed (family.a_statement (family.an_expression_statement {a = a} v))) ((asked v).string ∙ ap is_some s) settings
-first_stated {t = t} (family.a_statement v) settings = no_string_first t (listed (family.a_statement v)) refl settings
-first_stated {t = t} (family.a_declaration {a} h m v) settings = no_string_first t (listed (family.a_declaration {a = a} h m v)) refl settings
+    go None s = no_string_first (tree.expression_statement a e) f ((asked v).string ∙ ap is_some s) settings
+first_stated {t = t} (family.a_statement v) f settings = no_string_first t f refl settings
+first_stated {t = t} (family.a_function_declaration v) f settings = no_string_first t f refl settings
+first_stated {t = t} (family.a_declaration h m v) f settings = no_string_first t f refl settings
 
 -- ---- the statements of a body
 
@@ -171,8 +173,8 @@ first_row {names} {q = q} {r = r} t ss g h = record {
         let k = ended_more r.pending_semicolon e ts (g.tokens ⧺ h.tokens) x in
         subst (λ us. starts_with_directive us ≡ false) (sym (k.1 ∙ then_assoc g.tokens h.tokens k.0)) ((g.reads.read true g.tokens (at_brace q.pending_semicolon g.tokens)).1 (h.tokens ⧺ k.0))
 
-pub body_stated : {names : Tables} {c : Allowed} {ss : Trees} → AreStatements names c ss → (settings : Settings) → BodyAt names c (spell_body ss settings) ss
-body_stated family.no_statement settings p l z y k = record {
+pub no_body : {names : Tables} (c : Allowed) (settings : Settings) → BodyAt names c (spell_body no_trees settings) no_trees
+no_body c settings p l z y k = record {
   last = l;
   tokens = done;
   writes = wrote_none p p l refl k;
@@ -181,8 +183,10 @@ body_stated family.no_statement settings p l z y k = record {
   reads = ends_itself z (λ e. grammar.statements refl grammar.no_statement);
   same = refl;
 }
-body_stated (family.first_statement {s} {ss} v w) settings p l z y k =
+
+pub some_body : {names : Tables} (c : Allowed) (s : Tree) (ss : Trees) (settings : Settings) → StandsAt names (First c) (SameTree names s) (first_statement s (spell s (among_statements settings))) → RestAt names c (spell_statements ss settings) ss → BodyAt names c (spell_body (more s ss) settings) (more s ss)
+some_body c s ss settings f r p l z y k =
     let p1 : Pen = layout due_semicolon p in
     let n = none_due p l z k in
-    let g = first_stated v settings p1 n.last (n.semicolon ∙ z) (n.ready y) n.writes.knows in
-    blank_before (gap n) (first_row s ss g ((rows w settings).1 (layout (first_statement s (spell s (among_statements settings))) p1) g.last g.ready g.writes.knows))
+    let g = f p1 n.last (n.semicolon ∙ z) (n.ready y) n.writes.knows in
+    blank_before (gap n) (first_row s ss g (r (layout (first_statement s (spell s (among_statements settings))) p1) g.last g.ready g.writes.knows))

@@ -3,24 +3,39 @@ use Rattle.std.proofs.Common.{◌≡◌, ◌^◌, nat_lt, ℕ, Bool, true, false
 use Rattle.jsgen_tree.specs.Atom as atoms
 use Rattle.jsgen_tree.specs.Tree.{Tree, Maybe, absent, given, Trees, no_trees, more, hole, Atoms, type_of}
 use Rattle.jsgen_tree.specs.Nodes as tree
-use Rattle.jsgen_tree.specs.Values.{as_text, directive_directive, identifier_name_name, numeric_literal_kind, numeric_literal_digits, numeric_literal_text, big_int_literal_value, string_literal_value, variable_declaration_kind, variable_declaration_declare, variable_declarator_definite, label_identifier_name, for_of_statement_is_await, static_member_expression_optional, computed_member_expression_optional, call_expression_optional, object_property_method, object_property_shorthand, object_property_computed, formal_parameter_is_override, formal_parameter_readonly, formal_parameter_optional, arrow_function_expression_is_async}
+use Rattle.jsgen_tree.specs.Values.{as_text, directive_directive, identifier_name_name, numeric_literal_kind, numeric_literal_digits, numeric_literal_text, big_int_literal_value, string_literal_value, variable_declaration_kind, variable_declaration_declare, variable_declarator_definite, label_identifier_name, for_of_statement_is_await, static_member_expression_optional, computed_member_expression_optional, call_expression_optional, object_property_kind, object_property_method, object_property_shorthand, object_property_computed, formal_parameter_is_override, formal_parameter_readonly, formal_parameter_optional, function_kind, function_is_async, function_generator, function_declare, arrow_function_expression_is_async}
+use Rattle.jsgen_tree.specs.declared.functions.FunctionKind.{FunctionKind}
+use Rattle.jsgen_tree.specs.declared.functions.FunctionKind.TheVariants as kinds
 use Rattle.jsgen_tree.specs.Number.{NumericKind, Whole, Raw}
 use Rattle.jsgen_tree.specs.Job.{Tables}
 use Rattle.jsgen_tree.specs.Named.{printed_name}
-use Rattle.jsgen_tree.specs.Inside.{reference_named, binding_named, is_negative_big_integer}
+use Rattle.jsgen_tree.specs.Inside.{reference_named, binding_named, is_method, is_negative_big_integer}
 use Rattle.jsgen_tree.specs.Sets.{is_simple_assignment_target}
 use Rattle.jsgen_syntax.specs.Name.{spells_name, is_free_name}
 use Rattle.jsgen_syntax.specs.Raw.{directive_value}
 use Rattle.jsgen_syntax.specs.Wtf8.{are_units}
 use Rattle.jsgen_model.specs.Numbers.{is_raw_number, is_big_integer}
-use Rattle.jsgen_model.specs.Grammar.{Allowed, in_module, in_arrow_body}
+use Rattle.jsgen_model.specs.Grammar.{Allowed, in_module, in_arrow_body, in_function}
 use Rattle.jsgen_model.specs.Normal.{directive_units}
-use Rattle.jsgen_model.specs.Valid.{shorthand_faults, is_lexical_word}
+use Rattle.jsgen_model.specs.Valid.{shorthand_faults, fits_accessor, is_lexical_word}
 
 -- the value of a number: a whole one of 128 bits, or the text of one
 abbrev pub has_value : NumericKind → Atoms → Bool
 has_value Whole a = nat_lt (numeric_literal_digits a) (2 ^ 128)
 has_value Raw a = is_raw_number (numeric_literal_text a)
+
+abbrev pub IsSynchronous : Atoms → Type 0
+IsSynchronous a = (function_is_async a ≡ atoms.no_value) × (function_generator a ≡ atoms.no_value) × (function_declare a ≡ atoms.no_value)
+
+-- the name of a function, which is omitted in an expression alone
+pub data HasName : Tables → FunctionKind → Maybe → Type 0 where
+  a_name : {names : Tables} {kind : FunctionKind} {a : Atoms} → is_free_name (printed_name names (binding_named a)) ≡ true → HasName names kind (given (tree.binding_identifier a))
+  no_name : {names : Tables} → HasName names kinds.Expression absent
+
+-- a raw text with its value
+pub data AreDirectives : Trees → Type 0 where
+  no_directive : AreDirectives no_trees
+  first_directive : {a : Atoms} {ds : Trees} (us : List ℕ) → directive_value (as_text (directive_directive a)) ≡ Some us → directive_units (directive_directive a) ≡ us → AreDirectives ds → AreDirectives (more (tree.directive a) ds)
 
 mutual
   -- what a link goes on from
@@ -52,7 +67,16 @@ mutual
     an_assignment : {names : Tables} {c : Allowed} {a : Atoms} {t u : Tree} → is_simple_assignment_target (type_of t) ≡ true → IsExpression names c t → IsExpression names c u → IsExpression names c (tree.assignment a t u)
     an_array : {names : Tables} {c : Allowed} {a : Atoms} {es : Trees} → AreElements names c es → IsExpression names c (tree.array a es)
     an_object : {names : Tables} {c : Allowed} {a : Atoms} {ps : Trees} → AreProperties names c ps → IsExpression names c (tree.object_expression a ps)
+    a_function : {names : Tables} {c : Allowed} {a : Atoms} {id : Maybe} {ps body : Tree} → IsFunction names kinds.Expression (tree.function a id ps (given body)) → IsExpression names c (tree.function a id ps (given body))
+    an_arrow_with_body : {names : Tables} {c : Allowed} {a b : Atoms} {ps : Tree} {ds ss : Trees} → arrow_function_expression_is_async a ≡ atoms.no_value → IsParameters names c ps → IsBody names (tree.function_body b ds ss) → IsExpression names c (tree.arrow_function a ps (tree.function_body b ds ss))
     an_arrow_function : {names : Tables} {c : Allowed} {a : Atoms} {ps e : Tree} → arrow_function_expression_is_async a ≡ atoms.no_value → IsParameters names c ps → IsExpression names (in_arrow_body c) e → IsExpression names c (tree.arrow_function a ps e)
+
+  -- a function of this kind, neither `async` nor a generator; a declaration has a name
+  pub data IsFunction : Tables → FunctionKind → Tree → Type 0 where
+    some_function : {names : Tables} {kind : FunctionKind} {a : Atoms} {id : Maybe} {ps body : Tree} → function_kind a ≡ kind → IsSynchronous a → HasName names kind id → IsParameters names in_function ps → IsBody names body → IsFunction names kind (tree.function a id ps (given body))
+
+  pub data IsBody : Tables → Tree → Type 0 where
+    some_body : {names : Tables} {a : Atoms} {ds ss : Trees} → AreDirectives ds → AreStatements names in_function ss → IsBody names (tree.function_body a ds ss)
 
   -- the parts of a sequence behind its first two
   pub data AreParts : Tables → Allowed → Trees → Type 0 where
@@ -77,9 +101,10 @@ mutual
     no_property : {names : Tables} {c : Allowed} → AreProperties names c no_trees
     first_property : {names : Tables} {c : Allowed} {t : Tree} {ts : Trees} → IsProperty names c t → AreProperties names c ts → AreProperties names c (more t ts)
 
-  -- a property, or an object whose properties are spread
+  -- a property with a value, a method or an accessor, or an object whose properties are spread
   pub data IsProperty : Tables → Allowed → Tree → Type 0 where
-    a_property : {names : Tables} {c : Allowed} {computed : Bool} {a : Atoms} {k v : Tree} → object_property_method a ≡ atoms.no_value → object_property_computed a ≡ computed → IsKey names c computed k → shorthand_faults names (object_property_shorthand a) k v ≡ [] → IsExpression names c v → IsProperty names c (tree.object_property a k v)
+    a_property : {names : Tables} {c : Allowed} {computed : Bool} {a : Atoms} {k v : Tree} → is_method (object_property_kind a) (object_property_method a) ≡ false → object_property_computed a ≡ computed → IsKey names c computed k → shorthand_faults names (object_property_shorthand a) k v ≡ [] → IsExpression names c v → IsProperty names c (tree.object_property a k v)
+    a_method : {names : Tables} {c : Allowed} {computed : Bool} {a b : Atoms} {k ps body : Tree} → is_method (object_property_kind a) (object_property_method a) ≡ true → object_property_computed a ≡ computed → IsKey names c computed k → fits_accessor (object_property_kind a) ps ≡ true → IsFunction names kinds.Expression (tree.function b absent ps (given body)) → IsProperty names c (tree.object_property a k (tree.function b absent ps (given body)))
     a_spread_property : {names : Tables} {c : Allowed} {a : Atoms} {e : Tree} → IsExpression names c e → IsProperty names c (tree.spread a e)
 
   -- the flag tells that the key is computed
@@ -154,6 +179,7 @@ mutual
     a_debugger : {names : Tables} {c : Allowed} {a : Atoms} → IsStatement names c (tree.debugger_statement a)
     a_switch : {names : Tables} {c : Allowed} {a : Atoms} {e : Tree} {cases : Trees} → IsExpression names c e → AreCases names c true cases → IsStatement names c (tree.switch_statement a e cases)
     a_try : {names : Tables} {c : Allowed} {a : Atoms} {t : Tree} {handler finalizer : Maybe} → IsBlock names c t → AreEndsOfTry names c handler finalizer → IsStatement names c (tree.try_statement a t handler finalizer)
+    a_return : {names : Tables} {c : Allowed} {a : Atoms} {m : Maybe} → c.return_statement ≡ true → IsValue names c m → IsStatement names c (tree.return_statement a m)
 
   -- first in the head of a loop
   pub data IsInit : Tables → Allowed → Maybe → Type 0 where
@@ -197,16 +223,12 @@ mutual
   -- a statement or a declaration
   pub data IsItem : Tables → Allowed → Tree → Type 0 where
     a_statement : {names : Tables} {c : Allowed} {s : Tree} → IsStatement names c s → IsItem names c s
+    a_function_declaration : {names : Tables} {c : Allowed} {a : Atoms} {id : Maybe} {ps body : Tree} → IsFunction names kinds.Declaration (tree.function a id ps (given body)) → IsItem names c (tree.function a id ps (given body))
     a_declaration : {names : Tables} {c : Allowed} {a : Atoms} {ds : Trees} → is_lexical_word (variable_declaration_kind a) ≡ true → variable_declaration_declare a ≡ atoms.no_value → AreDeclarators names c ds → IsItem names c (tree.variable_declaration a ds)
 
   pub data AreStatements : Tables → Allowed → Trees → Type 0 where
     no_statement : {names : Tables} {c : Allowed} → AreStatements names c no_trees
     first_statement : {names : Tables} {c : Allowed} {s : Tree} {ss : Trees} → IsItem names c s → AreStatements names c ss → AreStatements names c (more s ss)
-
--- a raw text with its value
-pub data AreDirectives : Trees → Type 0 where
-  no_directive : AreDirectives no_trees
-  first_directive : {a : Atoms} {ds : Trees} (us : List ℕ) → directive_value (as_text (directive_directive a)) ≡ Some us → directive_units (directive_directive a) ≡ us → AreDirectives ds → AreDirectives (more (tree.directive a) ds)
 
 pub data IsProgram : Tables → Tree → Type 0 where
   a_program : {names : Tables} {a : Atoms} {comments directives body : Trees} → AreDirectives directives → AreStatements names in_module body → IsProgram names (tree.program a comments directives body)

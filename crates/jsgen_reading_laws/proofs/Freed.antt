@@ -2,9 +2,9 @@
 use Rattle.std.proofs.Common.{◌≡◌, true, refl}
 use Rattle.jsgen_syntax.specs.declared.operator.BinaryOperator.{BinaryOperator}
 use Rattle.jsgen_syntax.specs.declared.operator.BinaryOperator.TheVariants as operators
-use Rattle.jsgen_tree.specs.Tree.{Tree, Trees}
+use Rattle.jsgen_tree.specs.Tree.{Tree, Maybe, Trees}
 use Rattle.jsgen_model.specs.Tokens.{Tokens}
-use Rattle.jsgen_model.specs.Grammar.{Allowed, Level, ReadsExpression, ReadsArrowParameters, ReadsParts, ReadsChain, ReadsChainBase, with_in, may_stand}
+use Rattle.jsgen_model.specs.Grammar.{Allowed, Level, ReadsExpression, ReadsBinding, ReadsArrowParameters, ReadsParameters, ReadsParameter, ReadsParts, ReadsChain, ReadsChainBase, with_in, may_stand}
 use Rattle.jsgen_model.specs.Grammar as grammar
 
 all_stand : (c : Allowed) (o : BinaryOperator) → may_stand (with_in c) o ≡ true
@@ -73,7 +73,9 @@ mutual
   freed (grammar.an_optional_chain x) = grammar.an_optional_chain (freed_chain x)
   freed (grammar.an_array x) = grammar.an_array x
   freed (grammar.an_object x) = grammar.an_object x
+  freed (grammar.a_function x) = grammar.a_function x
   freed (grammar.an_arrow_function x y z u) = grammar.an_arrow_function x (freed_parameters y) z (freed u)
+  freed (grammar.an_arrow_with_body mark x y z) = grammar.an_arrow_with_body mark x (freed_parameters y) z
 
   freed_parameters : {c : Allowed} {ts : Tokens} {t : Tree} → ReadsArrowParameters c ts t → ReadsArrowParameters (with_in c) ts t
   freed_parameters (grammar.a_parameter_name x y) = grammar.a_parameter_name x y
@@ -94,3 +96,18 @@ mutual
   freed_base : {c : Allowed} {ts : Tokens} {t : Tree} → ReadsChainBase c ts t → ReadsChainBase (with_in c) ts t
   freed_base (grammar.a_first_link r) = grammar.a_first_link (freed r)
   freed_base (grammar.a_further_link r) = grammar.a_further_link (freed_chain r)
+
+-- ---- parameters
+
+freed_binding : {c : Allowed} {ts : Tokens} {b : Tree} → ReadsBinding c ts b → ReadsBinding (with_in c) ts b
+freed_binding (grammar.a_bound_name e h) = grammar.a_bound_name e h
+
+pub freed_parameter : {c : Allowed} {ts : Tokens} {t : Tree} → ReadsParameter c ts t → ReadsParameter (with_in c) ts t
+freed_parameter (grammar.a_parameter r) = grammar.a_parameter (freed_binding r)
+freed_parameter (grammar.with_initializer mark e r s) = grammar.with_initializer mark e (freed_binding r) (freed s)
+
+pub freed_list : {c : Allowed} {ts : Tokens} {ps : Trees} {rest : Maybe} → ReadsParameters c ts ps rest → ReadsParameters (with_in c) ts ps rest
+freed_list grammar.no_parameter = grammar.no_parameter
+freed_list (grammar.last_parameter r) = grammar.last_parameter (freed_parameter r)
+freed_list (grammar.first_parameter mark e r s) = grammar.first_parameter mark e (freed_parameter r) (freed_list s)
+freed_list (grammar.a_rest r) = grammar.a_rest (freed_binding r)

@@ -13,7 +13,7 @@ use Rattle.jsgen_model.specs.Punctuator.{colon}
 use Rattle.jsgen_model.specs.Tokens.{Tokens, done, piece, Word, Sign}
 use Rattle.jsgen_model.specs.Items.{Items, ◌⊕◌, word, name, punctuator, soft_space}
 use Rattle.jsgen_model.specs.Layout.{Pen, layout}
-use Rattle.jsgen_model.specs.Grammar.{Allowed, EndsBy, ReadsStatement, ReadsLabel}
+use Rattle.jsgen_model.specs.Grammar.{Allowed, EndsBy, ReadsStatement, ReadsLabel, ReadsReturned}
 use Rattle.jsgen_model.specs.Grammar as grammar
 use Rattle.jsgen_model.specs.Normal.{normal_maybe, nothing_of, named}
 use Rattle.jsgen_model.specs.Renamed.{renamed_maybe}
@@ -26,6 +26,7 @@ use Rattle.jsgen_reading_laws.proofs.Families.{IsLabel}
 use Rattle.jsgen_reading_laws.proofs.Families as family
 use Rattle.jsgen_reading_laws.proofs.Names.{free_spelled}
 use Rattle.jsgen_reading_laws.proofs.Good.{Printed, operand_ready}
+use Rattle.jsgen_reading_laws.proofs.Bindings.{PrintedIfGiven}
 use Rattle.jsgen_reading_laws.proofs.Stands.{UnendedAt, ReadsClosed, StatedAt, Stated, stated_among, SameTree, behind_tokens, indented_line, whole_line}
 use Rattle.jsgen_reading_laws.proofs.Bodies.{EmptyAlone, good_body}
 
@@ -142,6 +143,56 @@ good_throw {names} c a t f = stated_among refl (λ settings. whole_line (items s
           reading = tree.throw_statement (nothing_of 0) g.tree;
           reads = record { read = λ last ts e before_else n. grammar.a_throw e (g.line (s.line refl)) g.reads };
           same = ap (λ x. tree.throw_statement (nothing_of 0) x) g.same;
+        }
+
+-- ---- `return`
+
+-- between two pens stands what is given back, on the line of what is before it, or nothing
+record GoodReturned (names : Tables) (p : Pen) (l : Last) (q : Pen) (c : Allowed) (m : Maybe) : Type 0 where
+  last : Last
+  tokens : Tokens
+  writes : Writes names p l q last tokens
+  ready : Ready last
+  semicolon : q.pending_semicolon ≡ false
+  reading : Maybe
+  reads : ReadsReturned c tokens reading
+  same : normal_maybe reading ≡ normal_maybe (renamed_maybe names m)
+
+returned : {names : Tables} (c : Allowed) (m : Maybe) → PrintedIfGiven names c m → (place : Place) (p : Pen) (l : Last) → line_of l ≡ false → p.pending_semicolon ≡ false → Ready l → Knows names p l → GoodReturned names p l (layout (spell_apart m (in_brackets levels.Lowest place)) p) c m
+returned c absent f place p l e z y k = record { last = l; tokens = done; writes = wrote_none p p l refl k; ready = y; semicolon = z; reading = absent; reads = grammar.nothing_returned; same = refl }
+returned c (given t) f place p l e z y k =
+    let s = soft_space_written p l k in
+    let g = f (in_brackets levels.Lowest place) (layout soft_space p) s.last (s.semicolon ∙ z) (s.ready y) s.writes.knows in
+    record {
+      last = g.last;
+      tokens = g.tokens;
+      writes = wrote_both s.writes g.writes;
+      ready = operand_ready g.last g.operand;
+      semicolon = g.semicolon;
+      reading = given g.tree;
+      reads = grammar.a_returned_value (g.line (s.line e)) g.reads;
+      same = ap (λ u. given u) g.same;
+    }
+
+pub good_return : {names : Tables} (c : Allowed) (a : Atoms) (m : Maybe) → c.return_statement ≡ true → PrintedIfGiven names c m → Stated names c (tree.return_statement a m)
+good_return {names} c a m h f = stated_among refl (λ settings. whole_line (items settings) (inside settings))
+  where
+    items : Settings → Items
+    items settings = word (codes "return") ⊕ spell_apart m (in_brackets levels.Lowest (among_statements settings))
+
+    inside : (settings : Settings) → UnendedAt names (ReadsClosed c false) (SameTree names (tree.return_statement a m)) (items settings)
+    inside settings p l z y k =
+        let o = wrote_word (codes "return") p l (letters_spelled 114 (codes "eturn") refl) k in
+        let g = returned c m f (among_statements settings) (layout (word (codes "return")) p) (After (Word (codes "return"))) refl z tt o.knows in
+        record {
+          last = g.last;
+          tokens = piece (line_of l) (Word (codes "return")) g.tokens;
+          writes = wrote_both o g.writes;
+          ready = g.ready;
+          semicolon = g.semicolon;
+          reading = tree.return_statement (nothing_of 0) g.reading;
+          reads = record { read = λ last ts e before_else n. grammar.a_return h e g.reads };
+          same = ap (λ x. tree.return_statement (nothing_of 0) x) g.same;
         }
 
 -- ---- `debugger`

@@ -1,5 +1,6 @@
 pub mod Levels
 pub mod Families
+pub mod Faultless
 pub mod Valid
 pub mod Numbers
 pub mod Freed
@@ -26,7 +27,6 @@ pub mod Sequences
 pub mod Assignments
 pub mod Bindings
 pub mod Parameters
-pub mod Arrows
 pub mod Expressions
 pub mod Ends
 pub mod Stands
@@ -45,5 +45,9 @@ pub mod Tries
 pub mod Statements
 pub mod Directives
 pub mod Prologue
+pub mod Functions
+pub mod Methods
+pub mod Arrows
+pub mod Induction
 pub mod Reading
 pub mod Normals

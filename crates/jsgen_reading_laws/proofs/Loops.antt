@@ -33,15 +33,14 @@ use Rattle.jsgen_token_laws.proofs.Last.{Last, Open, After, line_of}
 use Rattle.jsgen_token_laws.proofs.Writes.{Writes, wrote_none, wrote_both}
 use Rattle.jsgen_token_laws.proofs.Steps.{Soft, wrote_word, wrote_name, wrote_semicolon, soft_space_written, within_brackets, brackets_written}
 use Rattle.jsgen_reading_laws.proofs.Levels.{from_primary}
-use Rattle.jsgen_reading_laws.proofs.Families.{IsExpression, IsValue, IsInit, IsLeft}
+use Rattle.jsgen_reading_laws.proofs.Families.{IsExpression}
 use Rattle.jsgen_reading_laws.proofs.Families as family
 use Rattle.jsgen_reading_laws.proofs.Good.{Good, Printed, TargetPrinted, is_word_alone}
 use Rattle.jsgen_reading_laws.proofs.Names.{free_spelled, free_precedes_of}
 use Rattle.jsgen_reading_laws.proofs.Openings.{precedes_of}
-use Rattle.jsgen_reading_laws.proofs.Bindings.{Bound, PrintedIfGiven, bound}
+use Rattle.jsgen_reading_laws.proofs.Bindings.{Bound, PrintedIfGiven}
 use Rattle.jsgen_reading_laws.proofs.Properties.{same_laid}
-use Rattle.jsgen_reading_laws.proofs.Expressions.{printed_expression, printed_value, printed_target}
-use Rattle.jsgen_reading_laws.proofs.Declarations.{kind_spelled, VariablesAt, variables_stated}
+use Rattle.jsgen_reading_laws.proofs.Declarations.{kind_spelled, VariablesAt}
 use Rattle.jsgen_reading_laws.proofs.Stands.{StatedAt, Stated, stated_among, SameTree}
 use Rattle.jsgen_reading_laws.proofs.Bodies.{EmptyAlone, good_body}
 use Rattle.jsgen_reading_laws.proofs.Parentheses.{Inside, InsideAt, ReadsHead, SameHead, headed_line}
@@ -58,26 +57,21 @@ for_spelled = letters_spelled 102 (codes "or") refl
 abbrev SameMaybe : Tables → Maybe → Maybe → Type 0
 SameMaybe names m n = normal_maybe n ≡ normal_maybe (renamed_maybe names m)
 
-abbrev InitOf : Tables → Allowed → Maybe → Type 0
+abbrev pub InitOf : Tables → Allowed → Maybe → Type 0
 InitOf names c m = (place : Place) → InsideAt names (ReadsInit c) (SameMaybe names m) (spell_if_given m (loop_head place))
 
-no_init : {names : Tables} (c : Allowed) → InitOf names c absent
+pub no_init : {names : Tables} (c : Allowed) → InitOf names c absent
 no_init c place p l z y k = record { last = l; tokens = done; writes = wrote_none p p l refl k; semicolon = z; reading = absent; reads = grammar.no_init; same = refl }
 
-init_expression : {names : Tables} (c : Allowed) (e : Tree) → Printed names c e → InitOf names c (given e)
+pub init_expression : {names : Tables} (c : Allowed) (e : Tree) → Printed names c e → InitOf names c (given e)
 init_expression c e f place p l z y k =
     let g = f (loop_head place) p l z y k in
     record { last = g.last; tokens = g.tokens; writes = g.writes; semicolon = g.semicolon; reading = given g.tree; reads = grammar.first_expression g.reads; same = ap (λ t. given t) g.same }
 
-init_variables : {names : Tables} (c : Allowed) (a : Atoms) (ds : Trees) → ((place : Place) → VariablesAt names c place a ds) → InitOf names c (given (tree.variable_declaration a ds))
+pub init_variables : {names : Tables} (c : Allowed) (a : Atoms) (ds : Trees) → ((place : Place) → VariablesAt names c place a ds) → InitOf names c (given (tree.variable_declaration a ds))
 init_variables c a ds f place p l z y k =
     let g = f (loop_head place) p l z k in
     record { last = g.last; tokens = g.tokens; writes = g.writes; semicolon = g.semicolon; reading = given g.tree; reads = grammar.first_variables (variable_declaration_kind a) g.reads; same = ap (λ t. given t) g.same }
-
-printed_init : {names : Tables} {c : Allowed} {m : Maybe} → IsInit names c m → InitOf names c m
-printed_init {c = c} family.no_init = no_init c
-printed_init {c = c} (family.first_variables {a} {ds} m v) = init_variables c a ds (variables_stated a m v)
-printed_init {c = c} (family.first_expression {t} v) = init_expression c t (printed_expression v)
 
 abbrev PartOf : Tables → Allowed → Maybe → Place → Type 0
 PartOf names c m place = InsideAt names (ReadsPart (with_in c)) (SameMaybe names m) (spell_apart m (in_brackets levels.Lowest place))
@@ -121,13 +115,13 @@ for_inside c a init test update f g h place p l z y k =
     let u = good_part c update h place p4 (After (Sign semicolon)) t.semicolon tt w.knows in
     three_parts c a init test update p p1 p2 p3 p4 (layout (spell_apart update (in_brackets levels.Lowest place)) p4) l i v t w u
 
-pub good_for : {names : Tables} {c : Allowed} {init test update : Maybe} (a : Atoms) (s : Tree) → IsInit names c init → IsValue names c test → IsValue names c update → EmptyAlone names s → Stated names c s → Stated names c (tree.for_statement a init test update s)
-good_for {names} {c} {init} {test} {update} a s v w x m f = stated_among refl by
+pub good_for : {names : Tables} (c : Allowed) (a : Atoms) (init test update : Maybe) (s : Tree) → InitOf names c init → PrintedIfGiven names c test → PrintedIfGiven names c update → EmptyAlone names s → Stated names c s → Stated names c (tree.for_statement a init test update s)
+good_for {names} c a init test update s g h i m f = stated_among refl by
   where
     by : (settings : Settings) → StatedAt names c (tree.for_statement a init test update s) (spell (tree.for_statement a init test update s) (among_statements settings))
     by settings =
         let place : Place = among_statements settings in
-        headed_line c (codes "for") for_spelled (λ t. tree.for_statement a init test update t) s (ends_open s) (for_items init test update place) (body_of s settings) (for_inside c a init test update (printed_init v) (printed_value w) (printed_value x) place) (good_body c s settings m f)
+        headed_line c (codes "for") for_spelled (λ t. tree.for_statement a init test update t) s (ends_open s) (for_items init test update place) (body_of s settings) (for_inside c a init test update g h i place) (good_body c s settings m f)
 
 -- ---- what a loop gives its values
 
@@ -140,7 +134,7 @@ abbrev left_items : Bool → Tree → Place → Items
 left_items true t place = apart_from_of (looked_up_in t) (spell t (left_place (type_of t) place))
 left_items false t place = spell t (left_place (type_of t) place)
 
-abbrev LeftOf : Tables → Allowed → Tree → Type 0
+abbrev pub LeftOf : Tables → Allowed → Tree → Type 0
 LeftOf names c t = (before_of : Bool) (place : Place) → LeftAt names c before_of (left_items before_of t place) t
 
 -- a name is bound whether `in` may stand or not
@@ -178,7 +172,7 @@ declared_left {names} c a d b before_of m n f place p l z y k =
       same = same_declared a d g.tree (renamed names b) m n g.same;
     }
 
-left_declared : {names : Tables} (c : Allowed) (a d : Atoms) (b : Tree) → variable_declaration_declare a ≡ no_value → variable_declarator_definite d ≡ no_value → Bound names c b → LeftOf names c (tree.variable_declaration a (more (tree.variable_declarator d b absent) no_trees))
+pub left_declared : {names : Tables} (c : Allowed) (a d : Atoms) (b : Tree) → variable_declaration_declare a ≡ no_value → variable_declarator_definite d ≡ no_value → Bound names c b → LeftOf names c (tree.variable_declaration a (more (tree.variable_declarator d b absent) no_trees))
 left_declared c a d b m n f true place = declared_left c a d b true m n f place
 left_declared c a d b m n f false place = declared_left c a d b false m n f place
 
@@ -244,16 +238,12 @@ name_left {names} c a h place p l z y k = subst (λ q. Inside names (ReadsLeft (
       same = refl;
     }
 
-left_target : {names : Tables} {c : Allowed} {t : Tree} → IsExpression names c t → is_simple_assignment_target (type_of t) ≡ true → LeftOf names c t
-left_target {c = c} {t} v s false place = target_left c false t s (λ e. absurd (both_ways false refl e)) (printed_target v s) place
-left_target {c = c} (family.a_reference {a} h) s true place = name_left c a h place
-left_target {c = c} {t} (family.a_named_member m v h) s true place = target_left c true t s (λ e. refl) (printed_target (family.a_named_member m v h) s) place
-left_target {c = c} {t} (family.a_computed_member m v w) s true place = target_left c true t s (λ e. refl) (printed_target (family.a_computed_member m v w) s) place
-left_target v s true place = absurd (both_ways false refl s)
-
-printed_left : {names : Tables} {c : Allowed} {t : Tree} → IsLeft names c t → LeftOf names c t
-printed_left {c = c} (family.a_declared_name {a} {b} {t} m n v) = left_declared c a b t m n (bound v)
-printed_left (family.a_target s v) = left_target v s
+pub left_target : {names : Tables} {c : Allowed} {t : Tree} → IsExpression names c t → is_simple_assignment_target (type_of t) ≡ true → TargetPrinted names c t → LeftOf names c t
+left_target {c = c} {t} v s f false place = target_left c false t s (λ e. absurd (both_ways false refl e)) f place
+left_target {c = c} (family.a_reference {a} h) s f true place = name_left c a h place
+left_target {c = c} {t} (family.a_named_member m v h) s f true place = target_left c true t s (λ e. refl) f place
+left_target {c = c} {t} (family.a_computed_member m v w) s f true place = target_left c true t s (λ e. refl) f place
+left_target v s f true place = absurd (both_ways false refl s)
 
 -- ---- over keys and over values
 
@@ -292,13 +282,13 @@ for_in_inside {names} c a t e f h place p l z y k =
     over_parts c (codes "in") false t e (λ x. tree.for_in_statement a t e x) (λ u v x. tree.for_in_statement (nothing_of 0) u v x) grammar.Expression p p1 p2 p3 p4 (layout (spell e (in_brackets levels.Lowest place)) p4) l
     (λ x b mark u v r j last before_else first next ts w q. grammar.a_for_in mark refl r j q) (λ u v j m. same_for_in names a t e u v j m) g s o n i
 
-pub good_for_in : {names : Tables} {c : Allowed} {l e : Tree} (a : Atoms) (s : Tree) → IsLeft names c l → IsExpression names c e → EmptyAlone names s → Stated names c s → Stated names c (tree.for_in_statement a l e s)
-good_for_in {names} {c} {l} {e} a s v w m f = stated_among refl by
+pub good_for_in : {names : Tables} (c : Allowed) (a : Atoms) (l e s : Tree) → LeftOf names c l → Printed names c e → EmptyAlone names s → Stated names c s → Stated names c (tree.for_in_statement a l e s)
+good_for_in {names} c a l e s g h m f = stated_among refl by
   where
     by : (settings : Settings) → StatedAt names c (tree.for_in_statement a l e s) (spell (tree.for_in_statement a l e s) (among_statements settings))
     by settings =
         let place : Place = among_statements settings in
-        headed_line c (codes "for") for_spelled (λ t. tree.for_in_statement a l e t) s (ends_open s) (over_items (codes "in") (left_items false l place) (spell e (in_brackets levels.Lowest place))) (body_of s settings) (for_in_inside c a l e (printed_left v) (printed_expression w) place) (good_body c s settings m f)
+        headed_line c (codes "for") for_spelled (λ t. tree.for_in_statement a l e t) s (ends_open s) (over_items (codes "in") (left_items false l place) (spell e (in_brackets levels.Lowest place))) (body_of s settings) (for_in_inside c a l e g h place) (good_body c s settings m f)
 
 same_for_of : (names : Tables) (a : Atoms) (t e u v : Tree) → for_of_statement_is_await a ≡ no_value → normal u ≡ normal (renamed names t) → normal v ≡ normal (renamed names e) → SameHead names (λ s. tree.for_of_statement a t e s) (λ s. tree.for_of_statement (nothing_of 1) u v s)
 same_for_of names a t e u v m f g x s h = λ i. tree.for_of_statement (bare (sym m i ∷ [])) (f i) (g i) (h i)
@@ -317,10 +307,10 @@ for_of_inside {names} c a t e w f h place p l z y k =
     over_parts c (codes "of") true t e (λ x. tree.for_of_statement a t e x) (λ u v x. tree.for_of_statement (nothing_of 1) u v x) grammar.Assignment p p1 p2 p3 p4 (layout (spell e (in_brackets levels.Comma place)) p4) l
     (λ x b mark u v r j last before_else first next ts v2 q. grammar.a_for_of mark refl r j q) (λ u v j m. same_for_of names a t e u v w j m) g s o n i
 
-pub good_for_of : {names : Tables} {c : Allowed} {l e : Tree} (a : Atoms) (s : Tree) → for_of_statement_is_await a ≡ no_value → IsLeft names c l → IsExpression names c e → EmptyAlone names s → Stated names c s → Stated names c (tree.for_of_statement a l e s)
-good_for_of {names} {c} {l} {e} a s h v w m f = stated_among refl by
+pub good_for_of : {names : Tables} (c : Allowed) (a : Atoms) (l e s : Tree) → for_of_statement_is_await a ≡ no_value → LeftOf names c l → Printed names c e → EmptyAlone names s → Stated names c s → Stated names c (tree.for_of_statement a l e s)
+good_for_of {names} c a l e s n g h m f = stated_among refl by
   where
     by : (settings : Settings) → StatedAt names c (tree.for_of_statement a l e s) (spell (tree.for_of_statement a l e s) (among_statements settings))
     by settings =
         let place : Place = among_statements settings in
-        headed_line c (codes "for") for_spelled (λ t. tree.for_of_statement a l e t) s (ends_open s) (over_items (codes "of") (left_items true l place) (spell e (in_brackets levels.Comma place))) (body_of s settings) (for_of_inside c a l e h (printed_left v) (printed_expression w) place) (good_body c s settings m f)
+        headed_line c (codes "for") for_spelled (λ t. tree.for_of_statement a l e t) s (ends_open s) (over_items (codes "of") (left_items true l place) (spell e (in_brackets levels.Comma place))) (body_of s settings) (for_of_inside c a l e n g h place) (good_body c s settings m f)

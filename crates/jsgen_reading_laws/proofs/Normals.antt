@@ -2,15 +2,17 @@
 use Rattle.std.specs.Option.{option_map_or}
 use Rattle.std.proofs.Common.{◌≡◌, ℕ, List, Bool, true, false, ◌&&◌, ◌||◌, cond, [], ◌∷◌, Option, Some, None, is_some, option_and_then, if◌then◌else◌, refl, sym, ap, subst, ◌∙◌}
 use Rattle.jsgen_syntax.specs.declared.operator.LogicalOperator.{LogicalOperator}
-use Rattle.jsgen_tree.specs.Atom.{no_value, declaration_kind, binary_operator, logical_operator, unary_operator, update_operator, assignment_operator, flag, property_kind}
+use Rattle.jsgen_tree.specs.Atom.{no_value, declaration_kind, binary_operator, logical_operator, unary_operator, update_operator, assignment_operator, flag}
 use Rattle.jsgen_tree.specs.Tree.{Tree, node, Slots, no_slots, one, maybe, many, maybe_many, Maybe, absent, given, Trees, no_trees, more, hole, MaybeTrees, no_list, listed}
 use Rattle.jsgen_tree.specs.Places.{bare}
-use Rattle.jsgen_tree.specs.Values.{variable_declaration_kind, variable_declaration_declare, variable_declarator_definite, for_of_statement_is_await, static_member_expression_optional, computed_member_expression_optional, call_expression_optional, binary_expression_operator, logical_expression_operator, unary_expression_operator, update_expression_operator, update_expression_prefix, identifier_name_name, numeric_literal_kind, numeric_literal_negative, big_int_literal_value, object_property_kind, object_property_method, object_property_shorthand, object_property_computed, assignment_expression_operator, formal_parameter_is_override, formal_parameter_readonly, formal_parameter_optional, arrow_function_expression_is_async}
-use Rattle.jsgen_tree.specs.Inside.{ends_open, written_name_in, is_proto, after_minus, unless_minus, behind_minus, is_negative_number}
+use Rattle.jsgen_tree.specs.Values.{variable_declaration_kind, variable_declaration_declare, variable_declarator_definite, for_of_statement_is_await, static_member_expression_optional, computed_member_expression_optional, call_expression_optional, binary_expression_operator, logical_expression_operator, unary_expression_operator, update_expression_operator, update_expression_prefix, identifier_name_name, numeric_literal_kind, numeric_literal_negative, big_int_literal_value, object_property_kind, object_property_method, object_property_shorthand, object_property_computed, assignment_expression_operator, function_kind, function_is_async, function_generator, function_declare, formal_parameter_is_override, formal_parameter_readonly, formal_parameter_optional, arrow_function_expression_is_async}
+use Rattle.jsgen_tree.specs.Inside.{ends_open, written_name_in, is_proto, is_method, after_minus, unless_minus, behind_minus, is_negative_number}
+use Rattle.jsgen_tree.specs.declared.collections.PropertyKind.{PropertyKind}
+use Rattle.jsgen_tree.specs.declared.collections.PropertyKind.TheVariants as property_kinds
 use Rattle.jsgen_tree.specs.Nodes as tree
 use Rattle.std.proofs.lemmas.Bool.{both_ways}
 use Rattle.std.proofs.lemmas.Option.{same_Some}
-use Rattle.jsgen_model.specs.Normal.{normal, normal_slots, normal_maybe, normal_trees, normal_maybe_trees, unbraced, nothing_of, by_text, number_text, minus_before, big_integer, is_computed, is_proto_shorthand, chain, same_operator, joined, links, parts_of, flattened, link_values, call_values}
+use Rattle.jsgen_model.specs.Normal.{normal, normal_slots, normal_maybe, normal_trees, normal_maybe_trees, unbraced, nothing_of, by_text, number_text, minus_before, big_integer, is_computed, property_values, is_written_as_method, is_proto_shorthand, chain, same_operator, joined, links, parts_of, flattened, link_values, call_values, function_values}
 use Rattle.jsgen_reading_laws.proofs.Joined.{joined_normal, joined_nothing, flattened_joined}
 
 -- ---- chains
@@ -76,9 +78,21 @@ and_false true = refl
 and_false false = refl
 
 -- what is no shorthand of `__proto__` stays none
-proto_again : (s : Bool) (key : Tree) → is_proto_shorthand (is_proto_shorthand s key) (normal key) ≡ is_proto_shorthand s key
-proto_again s (tree.identifier_name a) = and_again (is_proto (identifier_name_name a)) s
-proto_again s key = and_false (option_map_or is_proto (written_name_in (normal key)) false)
+proto_again : (method s : Bool) (key : Tree) → is_proto_shorthand method (is_proto_shorthand method s key) (normal key) ≡ is_proto_shorthand method s key
+proto_again true s key = refl
+proto_again false s (tree.identifier_name a) = and_again (is_proto (identifier_name_name a)) s
+proto_again false s key = and_false (option_map_or is_proto (written_name_in (normal key)) false)
+
+-- what is a method stays one, and what is an accessor
+method_again : (kind : PropertyKind) (method : Bool) → is_method kind (is_written_as_method kind method) ≡ is_method kind method
+method_again property_kinds.Init method = refl
+method_again property_kinds.Get method = refl
+method_again property_kinds.Set method = refl
+
+written_again : (kind : PropertyKind) (method : Bool) → is_written_as_method kind (is_written_as_method kind method) ≡ is_written_as_method kind method
+written_again property_kinds.Init method = refl
+written_again property_kinds.Get method = refl
+written_again property_kinds.Set method = refl
 
 -- ---- numbers
 
@@ -175,9 +189,13 @@ mutual
   normal_again (tree.object_property a key value) =
       let e = normal_again key in
       let f = normal_again value in
-      let g = proto_again (object_property_shorthand a) key in
+      let kind : PropertyKind = object_property_kind a in
+      let method : Bool = object_property_method a in
+      let alone : Bool = is_proto_shorthand (is_method kind method) (object_property_shorthand a) key in
+      let g = ap (λ b. is_proto_shorthand b alone (normal key)) (method_again kind method) ∙ proto_again (is_method kind method) (object_property_shorthand a) key in
       let h = computed_again (object_property_computed a) key e in
-      λ i. tree.object_property (bare (property_kind (object_property_kind a) ∷ object_property_method a ∷ flag (g i) ∷ flag (h i) ∷ [])) (e i) (f i)
+      let w = written_again kind method in
+      λ i. tree.object_property (property_values kind (w i) (g i) (h i)) (e i) (f i)
   normal_again (tree.spread a argument) = ap (λ e. tree.spread (nothing_of 0) e) (normal_again argument)
   normal_again (tree.unary a argument) = ap (λ e. tree.unary (bare (unary_operator (unary_expression_operator a) ∷ [])) e) (normal_again argument)
   normal_again (tree.update a argument) = ap (λ e. tree.update (bare (update_operator (update_expression_operator a) ∷ flag (update_expression_prefix a) ∷ [])) e) (normal_again argument)
@@ -191,6 +209,9 @@ mutual
   normal_again (tree.formal_parameter_rest a argument) = ap (λ e. tree.formal_parameter_rest (nothing_of 0) e) (normal_again argument)
   normal_again (tree.formal_parameters a items rest) = let e = normal_trees_again items in let f = normal_maybe_again rest in λ i. tree.formal_parameters (nothing_of 0) (e i) (f i)
   normal_again (tree.arrow_function a params body) = let e = normal_again params in let f = normal_again body in λ i. tree.arrow_function (bare (arrow_function_expression_is_async a ∷ no_value ∷ no_value ∷ [])) (e i) (f i)
+  normal_again (tree.function a id params body) = let e = normal_maybe_again id in let f = normal_again params in let g = normal_maybe_again body in λ i. tree.function (function_values (function_kind a) (function_is_async a) (function_generator a) (function_declare a)) (e i) (f i) (g i)
+  normal_again (tree.function_body a directives statements) = let e = normal_trees_again directives in let f = normal_trees_again statements in λ i. tree.function_body (nothing_of 0) (e i) (f i)
+  normal_again (tree.return_statement a argument) = ap (λ m. tree.return_statement (nothing_of 0) m) (normal_maybe_again argument)
   normal_again (node type a slots) = ap (λ s. node type (bare a.values) s) (normal_slots_again slots)
 
   flattened_again : (ts : Trees) → flattened (normal_trees (flattened (normal_trees ts))) ≡ flattened (normal_trees ts)

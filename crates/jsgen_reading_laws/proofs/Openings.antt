@@ -134,6 +134,8 @@ mutual
   opens (grammar.an_optional_chain r) = chain_opens _ r
   opens (grammar.an_array r) = tt
   opens (grammar.an_object r) = tt
+  opens (grammar.a_function r) = refl
+  opens (grammar.an_arrow_with_body {a = a} {ps = ps} m e r s) = opens_behind _ a (piece false (Sign arrow) _) ps _ e (parameters_open r) tt
   opens (grammar.an_arrow_function {a = a} {ps = ps} e r n s) = opens_behind _ a (piece false (Sign arrow) _) ps _ e (parameters_open r) tt
 
   chain_opens : {c : Allowed} {ts : Tokens} {t : Tree} (u : Tree) → ReadsChain c ts t → Opens ts u

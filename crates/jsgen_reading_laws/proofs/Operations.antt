@@ -22,7 +22,8 @@ use Rattle.jsgen_model.specs.Grammar as grammar
 use Rattle.jsgen_model.specs.Normal.{normal}
 use Rattle.jsgen_model.specs.Renamed.{renamed}
 use Rattle.jsgen_model.specs.Quotes.{is_export_mark}
-use Rattle.jsgen_model.specs.Spell.{Place, spell, within, left_of, behind, quoted_plainly, operator_item, wraps, is_forbidden, binary_wraps, left_level, right_level, is_prefixed}
+use Rattle.jsgen_model.specs.Spell.{Place, spell, within, left_of, behind, quoted_plainly, wraps, is_forbidden, binary_wraps, left_level, right_level, is_prefixed}
+use Rattle.jsgen_model.specs.Operators.{operator_item}
 use Rattle.jsgen_token_laws.proofs.Characters.{letters_spelled}
 use Rattle.jsgen_token_laws.proofs.Last.{Last, After, Ready, Knows, NoDot}
 use Rattle.jsgen_token_laws.proofs.Steps.{wrote_word, wrote_operator}

@@ -17,7 +17,7 @@ use Rattle.jsgen_model.specs.Punctuator.{ellipsis, comma, Round, opening}
 use Rattle.jsgen_model.specs.Tokens.{Tokens, done, piece, group, Word, Sign}
 use Rattle.jsgen_model.specs.Items.{Items, ◌⊕◌, name, punctuator, soft_space, brackets}
 use Rattle.jsgen_model.specs.Layout.{Pen, other_end, layout, written}
-use Rattle.jsgen_model.specs.Grammar.{Allowed, ReadsArrowParameters, ReadsParameters, ReadsParameter, with_in}
+use Rattle.jsgen_model.specs.Grammar.{Allowed, ReadsArrowParameters, ReadsParameters, ReadsParameter}
 use Rattle.jsgen_model.specs.Grammar as grammar
 use Rattle.jsgen_model.specs.Normal.{normal, normal_maybe, nothing_of, unnumbered}
 use Rattle.jsgen_model.specs.Renamed.{renamed, renamed_maybe}
@@ -47,10 +47,10 @@ parameter_holds {names} c a h i j = record {
 }
 
 abbrev pub ParameterOf : Tables → Allowed → Tree → Type 0
-ParameterOf names c t = (place : Place) → ElementAt names (ReadsParameter (with_in c)) (parameters_place place) t
+ParameterOf names c t = (place : Place) → ElementAt names (ReadsParameter (under place c)) place t
 
 pub good_parameter : {names : Tables} (c : Allowed) (a : Atoms) (b : Tree) (m : Maybe) → formal_parameter_is_override a ≡ no_value → formal_parameter_readonly a ≡ no_value → formal_parameter_optional a ≡ no_value → Bound names c b → PrintedIfGiven names c m → ParameterOf names c (tree.formal_parameter a b m)
-good_parameter c a b m h i j f v place = good_held c (ReadsParameter (with_in c)) (λ x n. tree.formal_parameter a x n) b m (parameters_place place) (parameter_holds (with_in c) a h i j) f v
+good_parameter c a b m h i j f v place = good_held c (ReadsParameter (under place c)) (λ x n. tree.formal_parameter a x n) b m place (parameter_holds (under place c) a h i j) f v
 
 -- ---- the one that takes the rest
 
@@ -59,12 +59,12 @@ ReadsRest c ts t = ReadsParameters c ts no_trees (given t)
 
 abbrev pub RestOf : Tables → Allowed → Maybe → Type 0
 RestOf names c absent = Unit {0}
-RestOf names c (given t) = (place : Place) → ElementAt names (ReadsRest (with_in c)) (parameters_place place) t
+RestOf names c (given t) = (place : Place) → ElementAt names (ReadsRest (under place c)) place t
 
 pub good_rest : {names : Tables} (c : Allowed) (a : Atoms) (b : Tree) → Bound names c b → RestOf names c (given (tree.formal_parameter_rest a b))
 good_rest c a b f place p l z y k =
     let o = wrote_dots p l y k in
-    let g = f (behind levels.Lowest (parameters_place place)) (layout (punctuator ellipsis) p) (After (Sign ellipsis)) z tt o.knows in
+    let g = f (behind levels.Lowest place) (layout (punctuator ellipsis) p) (After (Sign ellipsis)) z tt o.knows in
     record {
       last = g.last;
       tokens = piece (line_of l) (Sign ellipsis) g.tokens;
@@ -90,11 +90,11 @@ joins_first names c rest mark a b t us r s = (s.0, grammar.first_parameter mark 
 
 -- what takes the rest stands behind the others, and behind a comma
 abbrev rest_items : Maybe → Place → Items
-rest_items absent place = spell_if_given absent (parameters_place place)
-rest_items (given t) place = (punctuator comma ⊕ soft_space) ⊕ spell t (parameters_place place)
+rest_items absent place = spell_if_given absent place
+rest_items (given t) place = (punctuator comma ⊕ soft_space) ⊕ spell t place
 
-rest_behind : {names : Tables} (c : Allowed) (rest : Maybe) → RestOf names c rest → (place : Place) → GivesMore names (ReadsParameter (with_in c)) (ReadsWithRest names (with_in c) rest) (rest_items rest place) no_trees
-rest_behind {names} c absent f place p l z o k = none_behind (ReadsParameter (with_in c)) (ReadsWithRest names (with_in c) absent) (joins_one names (with_in c)) p l z o k
+rest_behind : {names : Tables} (c : Allowed) (rest : Maybe) → RestOf names c rest → (place : Place) → GivesMore names (ReadsParameter (under place c)) (ReadsWithRest names (under place c) rest) (rest_items rest place) no_trees
+rest_behind {names} c absent f place p l z o k = none_behind (ReadsParameter (under place c)) (ReadsWithRest names (under place c) absent) (joins_one names (under place c)) p l z o k
 rest_behind c (given t) f place p l z o k =
     let p1 : Pen = layout (punctuator comma) p in
     let p2 : Pen = layout soft_space p1 in
@@ -114,17 +114,17 @@ rest_behind c (given t) f place p l z o k =
 
 -- more of them, whatever takes the rest
 abbrev pub MoreParametersOf : Tables → Allowed → Trees → Type 0
-MoreParametersOf names c ps = (rest : Maybe) (place : Place) → GivesMore names (ReadsParameter (with_in c)) (ReadsWithRest names (with_in c) rest) (rest_items rest place) no_trees → GivesMore names (ReadsParameter (with_in c)) (ReadsWithRest names (with_in c) rest) (spell_more ps (parameters_place place) ⊕ rest_items rest place) ps
+MoreParametersOf names c ps = (rest : Maybe) (place : Place) → GivesMore names (ReadsParameter (under place c)) (ReadsWithRest names (under place c) rest) (rest_items rest place) no_trees → GivesMore names (ReadsParameter (under place c)) (ReadsWithRest names (under place c) rest) (spell_more ps place ⊕ rest_items rest place) ps
 
 pub no_more_parameters : {names : Tables} (c : Allowed) → MoreParametersOf names c no_trees
 no_more_parameters c rest place f = f
 
 pub one_more_parameter : {names : Tables} (c : Allowed) (t : Tree) (ts : Trees) → ParameterOf names c t → MoreParametersOf names c ts → MoreParametersOf names c (more t ts)
-one_more_parameter {names} c t ts f h rest place g = one_behind (ReadsParameter (with_in c)) (ReadsWithRest names (with_in c) rest) (joins_first names (with_in c) rest) t ts (spell t (parameters_place place)) (spell_more ts (parameters_place place) ⊕ rest_items rest place) (f place) (h rest place g)
+one_more_parameter {names} c t ts f h rest place g = one_behind (ReadsParameter (under place c)) (ReadsWithRest names (under place c) rest) (joins_first names (under place c) rest) t ts (spell t place) (spell_more ts place ⊕ rest_items rest place) (f place) (h rest place g)
 
 -- behind an opening bracket
 abbrev pub ParametersOf : Tables → Allowed → Trees → Maybe → Type 0
-ParametersOf names c ps rest = (place : Place) (p : Pen) → p.pending_semicolon ≡ false → Knows names p (Open false) → Elements names (ReadsWithRest names (with_in c) rest) p (Open false) (layout (spell_list ps (parameters_place place) ⊕ (comma_between ps rest ⊕ spell_if_given rest (parameters_place place))) p) ps
+ParametersOf names c ps rest = (place : Place) (p : Pen) → p.pending_semicolon ≡ false → Knows names p (Open false) → Elements names (ReadsWithRest names (under place c) rest) p (Open false) (layout (spell_list ps place ⊕ (comma_between ps rest ⊕ spell_if_given rest place)) p) ps
 
 pub no_parameters : {names : Tables} (c : Allowed) (rest : Maybe) → RestOf names c rest → ParametersOf names c no_trees rest
 no_parameters c absent f place p z k = record { last = Open false; tokens = done; writes = wrote_none p p (Open false) refl k; operand = tt; semicolon = z; trees = no_trees; reads = (absent, grammar.no_parameter, refl); same = refl }
@@ -135,9 +135,17 @@ no_parameters c (given t) f place p z k =
 pub some_parameters : {names : Tables} (c : Allowed) (t : Tree) (ts : Trees) (rest : Maybe) → ParameterOf names c t → MoreParametersOf names c ts → RestOf names c rest → ParametersOf names c (more t ts) rest
 some_parameters {names} c t ts rest f h r place p z k = by rest r
   where
-    by : (m : Maybe) → RestOf names c m → Elements names (ReadsWithRest names (with_in c) m) p (Open false) (layout (spell_list (more t ts) (parameters_place place) ⊕ (comma_between (more t ts) m ⊕ spell_if_given m (parameters_place place))) p) (more t ts)
-    by absent r = first_and_others (ReadsParameter (with_in c)) (ReadsWithRest names (with_in c) absent) t ts (spell t (parameters_place place)) (spell_more ts (parameters_place place) ⊕ rest_items absent place) (f place) (h absent place (rest_behind c absent r place)) p (Open false) z tt k
-    by (given u) r = first_and_others (ReadsParameter (with_in c)) (ReadsWithRest names (with_in c) (given u)) t ts (spell t (parameters_place place)) (spell_more ts (parameters_place place) ⊕ rest_items (given u) place) (f place) (h (given u) place (rest_behind c (given u) r place)) p (Open false) z tt k
+    by : (m : Maybe) → RestOf names c m → Elements names (ReadsWithRest names (under place c) m) p (Open false) (layout (spell_list (more t ts) place ⊕ (comma_between (more t ts) m ⊕ spell_if_given m place)) p) (more t ts)
+    by absent r = first_and_others (ReadsParameter (under place c)) (ReadsWithRest names (under place c) absent) t ts (spell t place) (spell_more ts place ⊕ rest_items absent place) (f place) (h absent place (rest_behind c absent r place)) p (Open false) z tt k
+    by (given u) r = first_and_others (ReadsParameter (under place c)) (ReadsWithRest names (under place c) (given u)) t ts (spell t place) (spell_more ts place ⊕ rest_items (given u) place) (f place) (h (given u) place (rest_behind c (given u) r place)) p (Open false) z tt k
+
+-- ---- one alone, which a setter takes
+
+abbrev pub OnlyParameter : Allowed → Tokens → Trees → Type 0
+OnlyParameter c ts ps = (t : Tree) × (ps ≡ more t no_trees) × ReadsParameter c ts t
+
+pub only_parameter : {names : Tables} (c : Allowed) (t : Tree) → ParameterOf names c t → (place : Place) (p : Pen) → p.pending_semicolon ≡ false → Knows names p (Open false) → Elements names (OnlyParameter (under place c)) p (Open false) (layout (spell_list (more t no_trees) place ⊕ (comma_between (more t no_trees) absent ⊕ spell_if_given absent place)) p) (more t no_trees)
+only_parameter {names} c t f place p z k = first_and_others (ReadsParameter (under place c)) (OnlyParameter (under place c)) t no_trees (spell t place) (spell_more no_trees place ⊕ rest_items absent place) (f place) (none_behind (ReadsParameter (under place c)) (OnlyParameter (under place c)) (λ ts u r. (u, refl, r))) p (Open false) z tt k
 
 -- ---- before an arrow
 
@@ -189,7 +197,7 @@ grouped_parameters : {names : Tables} (c : Allowed) (a : Atoms) (ps : Trees) (re
 grouped_parameters c a ps rest f place at p l z k =
     let p1 : Pen = written (opening Round) other_end p in
     let q : Pen = layout (spell (tree.formal_parameters a ps rest) (parameters_place place)) p1 in
-    let g = f place p1 z (within_brackets Round p l k) in (
+    let g = f (parameters_place place) p1 z (within_brackets Round p l k) in (
       record {
         last = Open false;
         tokens = group (line_of l) Round g.tokens done;

@@ -18,7 +18,8 @@ use Rattle.jsgen_model.specs.Grammar.{Allowed, Level, ReadsExpression, unary_pie
 use Rattle.jsgen_model.specs.Grammar as grammar
 use Rattle.jsgen_model.specs.Normal.{normal}
 use Rattle.jsgen_model.specs.Renamed.{renamed}
-use Rattle.jsgen_model.specs.Spell.{spell, within, behind, wraps, unary_sign, behind_unary}
+use Rattle.jsgen_model.specs.Spell.{spell, within, behind, wraps}
+use Rattle.jsgen_model.specs.Operators.{unary_sign, behind_unary}
 use Rattle.jsgen_token_laws.proofs.Characters.{letters_spelled}
 use Rattle.jsgen_token_laws.proofs.Last.{Last, After, line_of, Ready, Knows}
 use Rattle.jsgen_token_laws.proofs.Writes.{Writes, wrote_both}

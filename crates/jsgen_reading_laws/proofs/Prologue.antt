@@ -22,11 +22,11 @@ use Rattle.jsgen_model.specs.Spell.{Settings, spell, spell_directives, spell_bod
 use Rattle.jsgen_token_laws.proofs.Last.{Last, After, line_of, Ready, Knows}
 use Rattle.jsgen_token_laws.proofs.Writes.{Writes, wrote_none, wrote_both, wrote_and_none}
 use Rattle.jsgen_token_laws.proofs.Steps.{wrote_quoted, wrote_semicolon, indentation_written, soft_line_written}
-use Rattle.jsgen_reading_laws.proofs.Families.{AreDirectives, AreStatements}
+use Rattle.jsgen_reading_laws.proofs.Families.{AreDirectives}
 use Rattle.jsgen_reading_laws.proofs.Families as family
 use Rattle.jsgen_reading_laws.proofs.Lists.{same_more}
 use Rattle.jsgen_reading_laws.proofs.Stands.{Stands, StandsAt, SameTrees, behind_tokens}
-use Rattle.jsgen_reading_laws.proofs.Directives.{body_stated}
+use Rattle.jsgen_reading_laws.proofs.Directives.{BodyAt}
 
 -- between two pens stand directives
 pub record GoodDirectives (names : Tables) (p : Pen) (l : Last) (q : Pen) (ds : Trees) : Type 0 where
@@ -111,7 +111,7 @@ SameBoth names ds ss b = (normal_trees b.0 ≡ normal_trees (renamed_trees names
 body_of : {names : Tables} {p q r : Pen} {l : Last} {c : Allowed} (ds ss : Trees) → (g : GoodDirectives names p l q ds) → Stands names (λ e ts us. ReadsBody c e ts no_trees us) (SameTrees names ss) q g.last r → Stands names (ReadsBoth c) (SameBoth names ds ss) p l r
 body_of {c = c} ds ss g h = behind_tokens g.tokens (λ us. (g.trees, us)) g.writes (λ e ts us r. g.reads c e ts us r) (λ us s. (g.same, s)) h
 
-pub whole_body : {names : Tables} {c : Allowed} {ds ss : Trees} → AreDirectives ds → AreStatements names c ss → (settings : Settings) → StandsAt names (ReadsBoth c) (SameBoth names ds ss) (spell_directives ds settings ⊕ spell_body ss settings)
-whole_body {ds = ds} {ss} v w settings p l z y k =
+pub whole_body : {names : Tables} {c : Allowed} (ds ss : Trees) → AreDirectives ds → ((settings : Settings) → BodyAt names c (spell_body ss settings) ss) → (settings : Settings) → StandsAt names (ReadsBoth c) (SameBoth names ds ss) (spell_directives ds settings ⊕ spell_body ss settings)
+whole_body ds ss v f settings p l z y k =
     let g = directives_written v settings p l z y k in
-    body_of ds ss g (body_stated w settings (layout (spell_directives ds settings) p) g.last g.semicolon g.ready g.writes.knows)
+    body_of ds ss g (f settings (layout (spell_directives ds settings) p) g.last g.semicolon g.ready g.writes.knows)

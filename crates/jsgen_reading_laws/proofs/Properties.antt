@@ -1,5 +1,5 @@
 -- Keys and properties.
-use Rattle.std.proofs.Common.{◌≡◌, ℕ, Bool, true, false, not, ◌&&◌, ◌||◌, cond, if◌then◌else◌, decimal, nat_le, Option, Some, None, is_some, option_map, List, [], ◌∷◌, bytes_eq, refl, sym, ap, ◌∙◌, subst}
+use Rattle.std.proofs.Common.{◌≡◌, ℕ, Bool, true, false, not, ◌&&◌, ◌||◌, if◌then◌else◌, decimal, nat_le, Option, Some, None, is_some, option_map, List, [], ◌∷◌, bytes_eq, refl, sym, ap, ◌∙◌, subst}
 use Rattle.std.specs.Option.{option_map_or}
 use Rattle.std.proofs.lemmas.Bool.{both_ways}
 use Rattle.std.proofs.lemmas.Option.{same_Some}
@@ -14,13 +14,13 @@ use Rattle.jsgen_syntax.specs.declared.precedence.Precedence.TheVariants as leve
 use Rattle.jsgen_syntax.proofs.Escapes.{word_text_value}
 use Rattle.jsgen_syntax.proofs.Strings.{escaped_value}
 use Rattle.jsgen_tree.specs.Job.{Tables}
-use Rattle.jsgen_tree.specs.Atom.{no_value, units, flag, property_kind}
+use Rattle.jsgen_tree.specs.Atom.{units}
 use Rattle.jsgen_tree.specs.Number.{NumericKind, Whole, Raw}
 use Rattle.jsgen_tree.specs.Tree.{Tree, Atoms, span_of}
 use Rattle.jsgen_tree.specs.Nodes as tree
 use Rattle.jsgen_tree.specs.Places.{bare}
 use Rattle.jsgen_tree.specs.Named.{Named, as_written, printed_name}
-use Rattle.jsgen_tree.specs.Inside.{without_parentheses, looked_up_in, reference_named, written_name_in, is_proto, behind_minus, is_negative_big_integer}
+use Rattle.jsgen_tree.specs.Inside.{without_parentheses, looked_up_in, reference_named, written_name_in, is_proto, is_method, behind_minus, is_negative_big_integer}
 use Rattle.jsgen_tree.specs.Values.{identifier_name_name, numeric_literal_kind, numeric_literal_negative, numeric_literal_digits, numeric_literal_text, big_int_literal_value, string_literal_value, object_property_kind, object_property_method, object_property_shorthand, object_property_computed}
 use Rattle.jsgen_tree.specs.declared.collections.PropertyKind.{PropertyKind}
 use Rattle.jsgen_tree.specs.declared.collections.PropertyKind.TheVariants as kinds
@@ -28,19 +28,19 @@ use Rattle.jsgen_model.specs.declared.fault.TreeFault.{TreeFault}
 use Rattle.jsgen_model.specs.Punctuator.{colon, ellipsis, Square, opening}
 use Rattle.jsgen_model.specs.Numbers.{takes_no_dot, is_big_integer}
 use Rattle.jsgen_model.specs.Tokens.{Tokens, done, piece, group, ◌⧺◌, Word, Number, Quoted, Sign}
-use Rattle.jsgen_model.specs.Items.{Items, where_same, name, number, string, punctuator, soft_space}
+use Rattle.jsgen_model.specs.Items.{Items, ◌⊕◌, where_same, name, number, string, punctuator, soft_space}
 use Rattle.jsgen_model.specs.Layout.{Pen, Style, other_end, are_same, layout, written, chosen_quote, but_backticks}
-use Rattle.jsgen_model.specs.Grammar.{Allowed, ReadsExpression, ReadsKey, ReadsProperty, property_values, with_in}
+use Rattle.jsgen_model.specs.Grammar.{Allowed, ReadsExpression, ReadsKey, ReadsProperty, with_in}
 use Rattle.jsgen_model.specs.Grammar as grammar
-use Rattle.jsgen_model.specs.Normal.{normal, nothing_of, named, unnumbered, by_text, number_text, minus_before, big_integer, is_computed, is_proto_shorthand}
+use Rattle.jsgen_model.specs.Normal.{normal, nothing_of, named, unnumbered, by_text, number_text, minus_before, big_integer, property_values, is_written_as_method, is_computed, is_proto_shorthand}
 use Rattle.jsgen_model.specs.Renamed.{renamed}
-use Rattle.jsgen_model.specs.Spell.{Place, spell, in_brackets, in_front, key_text, needs_brackets, key_items, with_key, alone_if, alone_where_said, property_items, signed, number_items, big_text, big_integer_items}
+use Rattle.jsgen_model.specs.Spell.{Place, spell, in_brackets, in_front, key_text, needs_brackets, key_items, with_key, alone_if, alone_where_said, property_items, accessor_word, key_place, method_or_property, spell_method, signed, number_items, big_text, big_integer_items}
 use Rattle.jsgen_model.specs.Valid.{named_faults, shorthand_faults}
 use Rattle.jsgen_token_laws.proofs.Last.{Last, Open, After, line_of, Operand, Begun, begun_ready, Knows}
 use Rattle.jsgen_token_laws.proofs.Writes.{Writes, wrote_both}
 use Rattle.jsgen_token_laws.proofs.Steps.{printed_as_written, wrote_name, wrote_written_name, wrote_quoted, wrote_punctuator, wrote_dots, within_brackets, brackets_written, soft_space_written}
 use Rattle.jsgen_reading_laws.proofs.Families.{IsExpression, IsKey, has_value}
-use Rattle.jsgen_reading_laws.proofs.Valid.{none_unless}
+use Rattle.jsgen_reading_laws.proofs.Faultless.{none_unless}
 use Rattle.jsgen_reading_laws.proofs.Families as family
 use Rattle.jsgen_reading_laws.proofs.Names.{free_spelled}
 use Rattle.jsgen_reading_laws.proofs.Literals.{Numeral, whole_numeral, raw_numeral, big_numeral, big_whole, good_number}
@@ -261,6 +261,18 @@ property_laid {names} p shorthand (Some w) value alone whole t = by (is_proto w)
     by false None = refl
     by false (Some v) = same_laid p w v alone whole t
 
+-- what is no method and no accessor is spelled by its key and its value
+abbrev method_items : Atoms → Tree → Tree → Place → Items
+method_items a x v place = accessor_word (object_property_kind a) ⊕ (key_items (needs_brackets (object_property_computed a) x) x (spell x (in_brackets levels.Comma place)) (spell x (key_place (object_property_kind a) place)) ⊕ spell_method v place)
+
+abbrev plain_items : Atoms → Tree → Tree → Place → Items
+plain_items a x v place =
+    property_items (object_property_shorthand a) (written_name_in x) (looked_up_in (without_parentheses v)) (spell v (in_front levels.Comma place))
+    (with_key (key_items (needs_brackets (object_property_computed a) x) x (spell x (in_brackets levels.Comma place)) (spell x (in_front levels.Comma place))) (spell v (in_brackets levels.Comma place)))
+
+plainly_spelled : (a : Atoms) (x v : Tree) (place : Place) → is_method (object_property_kind a) (object_property_method a) ≡ false → spell (tree.object_property a x v) place ≡ plain_items a x v place
+plainly_spelled a x v place n = ap (λ b. method_or_property b (method_items a x v place) (plain_items a x v place)) n
+
 -- an expression that is a reference of this name, in parentheses or not
 record Refers (names : Tables) (t : Tree) (n : Named) : Type 0 where
   spelled : (place : Place) → spell t place ≡ name n
@@ -275,7 +287,7 @@ referred {names} (family.a_reference {a} h) n s =
     let e = same_Some (reference_named a) n s in
     record { spelled = λ place. ap (λ m. name m) e; free = subst (λ m. is_free_name (printed_name names m) ≡ true) e h; form = ap (λ m. tree.identifier_reference (unnumbered (printed_name names m))) e }
 referred (family.in_parentheses {a} {t} w) n s =
-    let r = referred w n (subst (λ b. looked_up_in (cond b (without_parentheses t) (tree.parenthesized a t)) ≡ Some n) (asked w).expression s) in
+    let r = referred w n (sym ((asked w).parenthesized a).3 ∙ s) in
     record { spelled = r.spelled; free = r.free; form = r.form }
 referred w n s = absurd (none_is_some n s)
 
@@ -313,14 +325,23 @@ said {names} shorthand a value f h = by (is_proto (identifier_name_name a)) refl
     by true e f h = by_rule shorthand w value o e h (subst (λ s. (if s && true then named_faults names (span_of value) o else []) ≡ []) h f)
     by false e f h = by_name shorthand w o e h
 
--- there is one kind of property so far
-only_kind : (k : PropertyKind) → kinds.Init ≡ k
-only_kind kinds.Init = refl
+-- what is no method and no accessor
+plain_kind : (kind : PropertyKind) (method : Bool) → is_method kind method ≡ false → kinds.Init ≡ kind
+plain_kind kinds.Init method n = refl
+plain_kind kind method n = absurd (both_ways true n refl)
 
-same_property : (a : Atoms) (s b : Bool) (k v x y : Tree) → object_property_method a ≡ no_value → is_proto_shorthand s k ≡ is_proto_shorthand (object_property_shorthand a) x → is_computed b k ≡ is_computed (object_property_computed a) x → normal k ≡ normal x → normal v ≡ normal y → normal (tree.object_property (property_values s b) k v) ≡ normal (tree.object_property a x y)
-same_property a s b k v x y m h d e f = λ i. tree.object_property (bare (property_kind (only_kind (object_property_kind a) i) ∷ sym m i ∷ flag (h i) ∷ flag (d i) ∷ [])) (e i) (f i)
+plain_form : (kind : PropertyKind) (method : Bool) → is_method kind method ≡ false → false ≡ is_written_as_method kind method
+plain_form kinds.Init method n = sym n
+plain_form kind method n = absurd (both_ways true n refl)
 
-good_short_property : {names : Tables} (c : Allowed) (a b : Atoms) (v : Tree) → object_property_method a ≡ no_value → object_property_computed a ≡ false → shorthand_faults names (object_property_shorthand a) (tree.identifier_name b) v ≡ [] → is_short names (object_property_shorthand a) (tree.identifier_name b) v ≡ true → IsExpression names c v → PropertyOf names c (tree.object_property a (tree.identifier_name b) v)
+same_property : (a : Atoms) (s b : Bool) (k v x y : Tree) → is_method (object_property_kind a) (object_property_method a) ≡ false → is_proto_shorthand false s k ≡ is_proto_shorthand false (object_property_shorthand a) x → is_computed b k ≡ is_computed (object_property_computed a) x → normal k ≡ normal x → normal v ≡ normal y → normal (tree.object_property (property_values kinds.Init false s b) k v) ≡ normal (tree.object_property a x y)
+same_property a s b k v x y m h d e f =
+    let n = plain_kind (object_property_kind a) (object_property_method a) m in
+    let w = plain_form (object_property_kind a) (object_property_method a) m in
+    let g = h ∙ ap (λ t. is_proto_shorthand t (object_property_shorthand a) x) (sym m) in
+    λ i. tree.object_property (property_values (n i) (w i) (g i) (d i)) (e i) (f i)
+
+good_short_property : {names : Tables} (c : Allowed) (a b : Atoms) (v : Tree) → is_method (object_property_kind a) (object_property_method a) ≡ false → object_property_computed a ≡ false → shorthand_faults names (object_property_shorthand a) (tree.identifier_name b) v ≡ [] → is_short names (object_property_shorthand a) (tree.identifier_name b) v ≡ true → IsExpression names c v → PropertyOf names c (tree.object_property a (tree.identifier_name b) v)
 good_short_property {names} c a b v m d f h value place p l z y k =
     let w : List ℕ = identifier_name_name b in
     let says = said {names = names} (object_property_shorthand a) b v f h in
@@ -330,14 +351,14 @@ good_short_property {names} c a b v m d f h value place p l z y k =
     let around : Place = in_brackets levels.Comma place in
     let alone : Items = spell v (in_front levels.Comma around) in
     let whole : Items = with_key (key_items (needs_brackets (object_property_computed a) (tree.identifier_name b)) (tree.identifier_name b) (name (as_written w)) (name (as_written w))) (spell v (in_brackets levels.Comma around)) in
-    let laid : layout (spell (tree.object_property a (tree.identifier_name b) v) around) p ≡ layout (name says.named) p = property_laid p (object_property_shorthand a) (Some w) (looked_up_in (without_parentheses v)) alone whole k.tables ∙ (ap (λ s. layout (if s then alone else whole) p) h ∙ ap (λ i. layout i p) (r.spelled (in_front levels.Comma around))) in
+    let laid : layout (spell (tree.object_property a (tree.identifier_name b) v) around) p ≡ layout (name says.named) p = ap (λ i. layout i p) (plainly_spelled a (tree.identifier_name b) v around m) ∙ property_laid p (object_property_shorthand a) (Some w) (looked_up_in (without_parentheses v)) alone whole k.tables ∙ (ap (λ s. layout (if s then alone else whole) p) h ∙ ap (λ i. layout i p) (r.spelled (in_front levels.Comma around))) in
     subst (λ q. Element names (ReadsProperty (with_in c)) p l q (tree.object_property a (tree.identifier_name b) v)) (sym laid) (record {
       last = _;
       tokens = piece (line_of l) (Word (name_text p.style.ascii w)) done;
       writes = subst (λ x. Writes names p l (layout (name says.named) p) (After (Word (name_text p.style.ascii x))) (piece (line_of l) (Word (name_text p.style.ascii x)) done)) says.printed (wrote_name says.named p l (free_spelled (printed_name names says.named) r.free) k);
       operand = tt;
       semicolon = z;
-      tree = tree.object_property (property_values true false) (tree.identifier_name (named w)) (tree.identifier_reference (unnumbered w));
+      tree = tree.object_property (property_values kinds.Init false true false) (tree.identifier_name (named w)) (tree.identifier_reference (unnumbered w));
       reads = grammar.a_shorthand (word_text_value p.style.ascii w (free_spelled w free)) free;
       same = same_property a true false (tree.identifier_name (named w)) (tree.identifier_reference (unnumbered w)) (tree.identifier_name b) (renamed names v) m says.proto (sym (ap (λ x. x || false) d)) refl (sym form);
     })
@@ -347,7 +368,7 @@ no_written_name : {names : Tables} {c : Allowed} {t : Tree} → IsExpression nam
 no_written_name (family.a_reference h) = refl
 no_written_name v = refl
 
-short_property : {names : Tables} (c : Allowed) (a : Atoms) {computed : Bool} {x v : Tree} → IsKey names c computed x → object_property_method a ≡ no_value → object_property_computed a ≡ computed → shorthand_faults names (object_property_shorthand a) x v ≡ [] → is_short names (object_property_shorthand a) x v ≡ true → IsExpression names c v → PropertyOf names c (tree.object_property a x v)
+short_property : {names : Tables} (c : Allowed) (a : Atoms) {computed : Bool} {x v : Tree} → IsKey names c computed x → is_method (object_property_kind a) (object_property_method a) ≡ false → object_property_computed a ≡ computed → shorthand_faults names (object_property_shorthand a) x v ≡ [] → is_short names (object_property_shorthand a) x v ≡ true → IsExpression names c v → PropertyOf names c (tree.object_property a x v)
 short_property c a {v = v} (family.a_name_key {a = b} h) m d f s value = good_short_property c a b v m d f s value
 short_property c a (family.a_string_key h) m d f s value = absurd (both_ways false refl s)
 short_property c a (family.a_number_key h) m d f s value = absurd (both_ways false refl s)
@@ -361,7 +382,7 @@ and_false true = refl
 and_false false = refl
 
 -- what is read with a colon is no shorthand, and what is printed so is none of `__proto__`
-no_shorthand : (t : Tree) → is_proto_shorthand false t ≡ false
+no_shorthand : (t : Tree) → is_proto_shorthand false false t ≡ false
 no_shorthand t = and_false (option_map_or is_proto (written_name_in t) false)
 
 not_said : (shorthand : Bool) (o r : Option (List ℕ)) → option_map_or (λ w. says_name shorthand w r) o false ≡ false → (option_map_or is_proto o false && shorthand) ≡ false
@@ -373,26 +394,26 @@ not_said shorthand (Some w) r h = by (is_proto w) h
     by false h = refl
 
 -- what is read as a key is computed as it stands
-read_computed : {c : Allowed} {b : Bool} {ts : Tokens} {k : Tree} → ReadsKey c b ts k → is_computed b k ≡ b
+pub read_computed : {c : Allowed} {b : Bool} {ts : Tokens} {k : Tree} → ReadsKey c b ts k → is_computed b k ≡ b
 read_computed (grammar.a_name_key e) = refl
 read_computed (grammar.a_string_key n e) = refl
 read_computed (grammar.a_number_key n) = refl
 read_computed (grammar.a_big_integer_key e) = refl
 read_computed (grammar.a_computed_key r) = refl
 
-keyed_parts : {names : Tables} (c : Allowed) (a : Atoms) (computed : Bool) (x v : Tree) (place : Place) (p p1 p2 p3 q : Pen) (l : Last) → object_property_method a ≡ no_value → object_property_computed a ≡ computed → is_short names (object_property_shorthand a) x v ≡ false → (g : GoodKey names p l p1 (with_in c) (needs_brackets computed x) x) (o : Writes names p1 g.last p2 (After (Sign colon)) (piece (line_of g.last) (Sign colon) done)) (n : Last) → Writes names p2 (After (Sign colon)) p3 n done → Good names p3 n q (with_in c) grammar.Assignment (in_brackets levels.Comma place).start v → Element names (ReadsProperty (with_in c)) p l q (tree.object_property a x v)
+keyed_parts : {names : Tables} (c : Allowed) (a : Atoms) (computed : Bool) (x v : Tree) (place : Place) (p p1 p2 p3 q : Pen) (l : Last) → is_method (object_property_kind a) (object_property_method a) ≡ false → object_property_computed a ≡ computed → is_short names (object_property_shorthand a) x v ≡ false → (g : GoodKey names p l p1 (with_in c) (needs_brackets computed x) x) (o : Writes names p1 g.last p2 (After (Sign colon)) (piece (line_of g.last) (Sign colon) done)) (n : Last) → Writes names p2 (After (Sign colon)) p3 n done → Good names p3 n q (with_in c) grammar.Assignment (in_brackets levels.Comma place).start v → Element names (ReadsProperty (with_in c)) p l q (tree.object_property a x v)
 keyed_parts {names} c a computed x v place p p1 p2 p3 q l m d s g o n w e = record {
   last = e.last;
   tokens = g.tokens ⧺ piece (line_of g.last) (Sign colon) e.tokens;
   writes = wrote_both g.writes (wrote_both o (wrote_both w e.writes));
   operand = e.operand;
   semicolon = e.semicolon;
-  tree = tree.object_property (property_values false (needs_brackets computed x)) g.tree e.tree;
+  tree = tree.object_property (property_values kinds.Init false false (needs_brackets computed x)) g.tree e.tree;
   reads = grammar.a_property (line_of g.last) refl g.reads e.reads;
   same = same_property a false (needs_brackets computed x) g.tree e.tree (renamed names x) (renamed names v) m (no_shorthand g.tree ∙ sym (ap (λ o. option_map_or is_proto o false && object_property_shorthand a) (written_as_it_was names x) ∙ not_said (object_property_shorthand a) (written_name_in x) (printed_in names v) s)) (read_computed g.reads ∙ sym (ap (λ b. object_property_computed a || b) (signed_as_it_was names x) ∙ ap (λ y. needs_brackets y x) d)) g.same e.same;
 }
 
-good_keyed_property : {names : Tables} (c : Allowed) (a : Atoms) (computed : Bool) (x v : Tree) → object_property_method a ≡ no_value → object_property_computed a ≡ computed → is_short names (object_property_shorthand a) x v ≡ false → KeyOf names c computed x → Printed names c v → PropertyOf names c (tree.object_property a x v)
+good_keyed_property : {names : Tables} (c : Allowed) (a : Atoms) (computed : Bool) (x v : Tree) → is_method (object_property_kind a) (object_property_method a) ≡ false → object_property_computed a ≡ computed → is_short names (object_property_shorthand a) x v ≡ false → KeyOf names c computed x → Printed names c v → PropertyOf names c (tree.object_property a x v)
 good_keyed_property {names} c a computed x v m d s key value place p l z b k =
     let around : Place = in_brackets levels.Comma place in
     let inside : Items = spell x (in_brackets levels.Comma around) in
@@ -406,13 +427,13 @@ good_keyed_property {names} c a computed x v m d s key value place p l z b k =
     let e = value (in_brackets levels.Comma around) p3 n.last (n.semicolon ∙ g.semicolon) (n.ready tt) n.writes.knows in
     let q : Pen = layout (spell v (in_brackets levels.Comma around)) p3 in
     let whole : Items = with_key (key_items (needs_brackets (object_property_computed a) x) x inside alone) (spell v (in_brackets levels.Comma around)) in
-    let laid : layout (spell (tree.object_property a x v) around) p ≡ q = property_laid p (object_property_shorthand a) (written_name_in x) (looked_up_in (without_parentheses v)) (spell v (in_front levels.Comma around)) whole k.tables ∙ (ap (λ y. layout (if y then spell v (in_front levels.Comma around) else whole) p) s ∙ ap (λ y. layout (with_key (key_items (needs_brackets y x) x inside alone) (spell v (in_brackets levels.Comma around))) p) d) in
+    let laid : layout (spell (tree.object_property a x v) around) p ≡ q = ap (λ i. layout i p) (plainly_spelled a x v around m) ∙ property_laid p (object_property_shorthand a) (written_name_in x) (looked_up_in (without_parentheses v)) (spell v (in_front levels.Comma around)) whole k.tables ∙ (ap (λ y. layout (if y then spell v (in_front levels.Comma around) else whole) p) s ∙ ap (λ y. layout (with_key (key_items (needs_brackets y x) x inside alone) (spell v (in_brackets levels.Comma around))) p) d) in
     subst (λ r. Element names (ReadsProperty (with_in c)) p l r (tree.object_property a x v)) (sym laid) (keyed_parts c a computed x v around p p1 p2 p3 q l m d s g o n.last n.writes e)
 
 -- ---- either
 
 -- a key that isn't a name is never said by a value
-pub good_property : {names : Tables} (c : Allowed) (a : Atoms) (computed : Bool) (x v : Tree) → object_property_method a ≡ no_value → object_property_computed a ≡ computed → shorthand_faults names (object_property_shorthand a) x v ≡ [] → IsKey names c computed x → IsExpression names c v → KeyOf names c computed x → Printed names c v → PropertyOf names c (tree.object_property a x v)
+pub good_property : {names : Tables} (c : Allowed) (a : Atoms) (computed : Bool) (x v : Tree) → is_method (object_property_kind a) (object_property_method a) ≡ false → object_property_computed a ≡ computed → shorthand_faults names (object_property_shorthand a) x v ≡ [] → IsKey names c computed x → IsExpression names c v → KeyOf names c computed x → Printed names c v → PropertyOf names c (tree.object_property a x v)
 good_property {names} c a computed x v m d f k value key printed = by (is_short names (object_property_shorthand a) x v) refl
   where
     by : (b : Bool) → is_short names (object_property_shorthand a) x v ≡ b → PropertyOf names c (tree.object_property a x v)

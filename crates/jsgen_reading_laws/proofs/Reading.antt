@@ -28,6 +28,7 @@ use Rattle.jsgen_reading_laws.proofs.Valid.{is_program, program_valid}
 use Rattle.jsgen_reading_laws.proofs.Families as family
 use Rattle.jsgen_reading_laws.proofs.Ends.{due_ends}
 use Rattle.jsgen_reading_laws.proofs.Prologue.{whole_body}
+use Rattle.jsgen_reading_laws.proofs.Induction.{body_stated}
 
 -- the indentation of a job's options is of spaces or of tabs
 style_indents : (options : Options) (tables : Tables) → is_indent (style_of options tables).indent ≡ true
@@ -44,7 +45,7 @@ read_as options tables t (family.a_program {a} {comments} {directives} {body} v 
     let settings : Settings = settings_of (record { options = options; tables = tables; program = t }) in
     let p : Pen = empty_pen (style_of options tables) options.initial_indent in
     let q : Pen = layout (spell_directives directives settings ⊕ spell_body body settings) p in
-    let b = whole_body v w settings p (Open false) refl tt (record { indent = style_indents options tables; tables = refl; ending = tt }) in
+    let b = whole_body directives body v (body_stated w) settings p (Open false) refl tt (record { indent = style_indents options tables; tables = refl; ending = tt }) in
     let d = due_ends q b.last b.ready b.writes.knows in
     record {
       tokens = b.tokens ⧺ d.tokens;
@@ -56,7 +57,7 @@ read_as options tables t (family.a_program {a} {comments} {directives} {body} v 
     }
 
 pub printed_is_read : (job : JobData) → type_of job.program ≡ types.Program → IsValid job → IsPlain job.program → IsQuiet job → IsReadAs (printed job) job
-printed_is_read job s v p q = read_as job.options job.tables job.program (program_valid (surroundings_of job) job.program p (ap is_program s) v)
+printed_is_read job s v p q = read_as job.options job.tables job.program (program_valid (surroundings_of job) refl job.program p (ap is_program s) v)
 
 -- the bytes spell the characters that they were made of
 on_bytes : (text : List ℕ) (job : JobData) → IsReadAs text job → IsReadAs (chars (encode_utf8_all text)) job

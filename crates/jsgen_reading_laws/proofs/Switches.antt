@@ -1,5 +1,5 @@
 -- `switch` and its cases.
-use Rattle.std.proofs.Common.{◌≡◌, Bool, true, false, codes, refl, ap, ◌∙◌, subst}
+use Rattle.std.proofs.Common.{◌≡◌, Bool, true, false, codes, refl, sym, ap, ◌∙◌, subst}
 use Rattle.jsgen_syntax.specs.declared.precedence.Precedence.TheVariants as levels
 use Rattle.jsgen_tree.specs.Job.{Tables}
 use Rattle.jsgen_tree.specs.Tree.{Tree, absent, given, Trees, no_trees, more, Atoms}
@@ -11,7 +11,7 @@ use Rattle.jsgen_model.specs.Layout.{Pen, nowhere, layout, deeper_level}
 use Rattle.jsgen_model.specs.Grammar.{Allowed, ReadsItem, ReadsCase, ReadsCases, ReadsStatements, with_in}
 use Rattle.jsgen_model.specs.Grammar as grammar
 use Rattle.jsgen_model.specs.Normal.{nothing_of}
-use Rattle.jsgen_model.specs.Spell.{Settings, Place, spell, spell_only, spell_statements, among_statements, in_brackets, braces, case_items}
+use Rattle.jsgen_model.specs.Spell.{Settings, Place, spell, spell_only, spell_statements, among_statements, within_statement, in_brackets, braces, case_items, other, shape, body_items}
 use Rattle.jsgen_token_laws.proofs.Characters.{letters_spelled}
 use Rattle.jsgen_token_laws.proofs.Last.{Last, Open, After, line_of}
 use Rattle.jsgen_token_laws.proofs.Writes.{Writes, wrote_both, same_writes, then_assoc}
@@ -51,8 +51,8 @@ OnlyOf names c t = (settings : Settings) → StandsAt names (ReadsItem c) (SameT
 pub only_statement : {names : Tables} (c : Allowed) (t : Tree) → EmptyAlone names t → Stated names c t → OnlyOf names c t
 only_statement c t m f settings p l z y k = item_since (good_body c t settings m f p l z y k)
 
-pub only_declaration : {names : Tables} (c : Allowed) (a : Atoms) (ds : Trees) → Listed names c (tree.variable_declaration a ds) → OnlyOf names c (tree.variable_declaration a ds)
-only_declaration c a ds f settings = behind_blank body_space (spell (tree.variable_declaration a ds) (among_statements settings)) body_blank (f settings)
+pub only_declaration : {names : Tables} (c : Allowed) (t : Tree) → shape t ≡ other → Listed names c t → OnlyOf names c t
+only_declaration {names} c t h f settings = subst (λ s. StandsAt names (ReadsItem c) (SameTree names t) (body_items s (spell t (within_statement settings)) (spell t (among_statements settings)))) (sym h) (behind_blank body_space (spell t (among_statements settings)) body_blank (f settings))
 
 pub some_consequents : {names : Tables} (c : Allowed) (t : Tree) (ss : Trees) → OnlyOf names c t → ((settings : Settings) → RowAt names c (spell_statements (more t ss) settings) (more t ss)) → ConsequentOf names c (more t ss)
 some_consequents c t no_trees f row settings = row_alone (statements_join c) t (spell_only (more t no_trees) settings) (f settings)

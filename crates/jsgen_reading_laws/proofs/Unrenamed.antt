@@ -1,14 +1,14 @@
 -- What stays as it is where names are printed by tables; and without tables all does.
 use Rattle.std.specs.Option.{option_map_or}
-use Rattle.std.proofs.Common.{◌≡◌, false, ◌&&◌, ◌||◌, [], ◌∷◌, refl, ap}
-use Rattle.jsgen_tree.specs.Atom.{no_value, declaration_kind, binary_operator, logical_operator, unary_operator, update_operator, assignment_operator, flag, property_kind}
+use Rattle.std.proofs.Common.{◌≡◌, false, not, ◌&&◌, ◌||◌, [], ◌∷◌, refl, ap}
+use Rattle.jsgen_tree.specs.Atom.{no_value, declaration_kind, binary_operator, logical_operator, unary_operator, update_operator, assignment_operator, flag}
 use Rattle.jsgen_tree.specs.Tree.{Tree, node, Slots, no_slots, one, maybe, many, maybe_many, Maybe, absent, given, Trees, no_trees, more, hole, MaybeTrees, no_list, listed}
 use Rattle.jsgen_tree.specs.Places.{bare}
-use Rattle.jsgen_tree.specs.Values.{variable_declaration_kind, variable_declaration_declare, variable_declarator_definite, for_of_statement_is_await, static_member_expression_optional, computed_member_expression_optional, call_expression_optional, binary_expression_operator, logical_expression_operator, unary_expression_operator, update_expression_operator, update_expression_prefix, object_property_kind, object_property_method, object_property_shorthand, object_property_computed, assignment_expression_operator, formal_parameter_is_override, formal_parameter_readonly, formal_parameter_optional, arrow_function_expression_is_async}
-use Rattle.jsgen_tree.specs.Inside.{written_name_in, is_proto, is_negative_number}
+use Rattle.jsgen_tree.specs.Values.{variable_declaration_kind, variable_declaration_declare, variable_declarator_definite, for_of_statement_is_await, static_member_expression_optional, computed_member_expression_optional, call_expression_optional, binary_expression_operator, logical_expression_operator, unary_expression_operator, update_expression_operator, update_expression_prefix, object_property_kind, object_property_method, object_property_shorthand, object_property_computed, assignment_expression_operator, function_kind, function_is_async, function_generator, function_declare, formal_parameter_is_override, formal_parameter_readonly, formal_parameter_optional, arrow_function_expression_is_async}
+use Rattle.jsgen_tree.specs.Inside.{written_name_in, is_proto, is_method, is_negative_number}
 use Rattle.jsgen_tree.specs.Job.{Tables, no_tables}
 use Rattle.jsgen_tree.specs.Nodes as tree
-use Rattle.jsgen_model.specs.Normal.{normal, normal_slots, normal_maybe, normal_trees, normal_maybe_trees, unbraced, nothing_of, chain, joined, links, flattened, link_values, call_values}
+use Rattle.jsgen_model.specs.Normal.{normal, normal_slots, normal_maybe, normal_trees, normal_maybe_trees, unbraced, nothing_of, chain, joined, links, flattened, link_values, call_values, property_values, is_written_as_method, function_values}
 use Rattle.jsgen_model.specs.Renamed.{renamed, renamed_slots, renamed_maybe, renamed_trees, renamed_maybe_trees}
 
 -- ---- by any tables
@@ -74,9 +74,9 @@ mutual
   unrenamed (tree.object_property a key value) =
       let e = unrenamed key in
       let f = unrenamed value in
-      let g = ap (λ o. option_map_or is_proto o false && object_property_shorthand a) (written_as_it_was no_tables key) in
+      let g = ap (λ o. not (is_method (object_property_kind a) (object_property_method a)) && option_map_or is_proto o false && object_property_shorthand a) (written_as_it_was no_tables key) in
       let h = ap (λ b. object_property_computed a || b) (signed_as_it_was no_tables key) in
-      λ i. tree.object_property (bare (property_kind (object_property_kind a) ∷ object_property_method a ∷ flag (g i) ∷ flag (h i) ∷ [])) (e i) (f i)
+      λ i. tree.object_property (property_values (object_property_kind a) (is_written_as_method (object_property_kind a) (object_property_method a)) (g i) (h i)) (e i) (f i)
   unrenamed (tree.spread a argument) = ap (λ e. tree.spread (nothing_of 0) e) (unrenamed argument)
   unrenamed (tree.unary a argument) = ap (λ e. tree.unary (bare (unary_operator (unary_expression_operator a) ∷ [])) e) (unrenamed argument)
   unrenamed (tree.update a argument) = ap (λ e. tree.update (bare (update_operator (update_expression_operator a) ∷ flag (update_expression_prefix a) ∷ [])) e) (unrenamed argument)
@@ -90,6 +90,9 @@ mutual
   unrenamed (tree.formal_parameter_rest a argument) = ap (λ e. tree.formal_parameter_rest (nothing_of 0) e) (unrenamed argument)
   unrenamed (tree.formal_parameters a items rest) = let e = unrenamed_trees items in let f = unrenamed_maybe rest in λ i. tree.formal_parameters (nothing_of 0) (e i) (f i)
   unrenamed (tree.arrow_function a params body) = let e = unrenamed params in let f = unrenamed body in λ i. tree.arrow_function (bare (arrow_function_expression_is_async a ∷ no_value ∷ no_value ∷ [])) (e i) (f i)
+  unrenamed (tree.function a id params body) = let e = unrenamed_maybe id in let f = unrenamed params in let g = unrenamed_maybe body in λ i. tree.function (function_values (function_kind a) (function_is_async a) (function_generator a) (function_declare a)) (e i) (f i) (g i)
+  unrenamed (tree.function_body a directives statements) = let e = unrenamed_trees directives in let f = unrenamed_trees statements in λ i. tree.function_body (nothing_of 0) (e i) (f i)
+  unrenamed (tree.return_statement a argument) = ap (λ m. tree.return_statement (nothing_of 0) m) (unrenamed_maybe argument)
   unrenamed (node type a slots) = ap (λ s. node type (bare a.values) s) (unrenamed_slots slots)
 
   unrenamed_slots : (s : Slots) → normal_slots (renamed_slots no_tables s) ≡ normal_slots s

@@ -17,7 +17,8 @@ use Rattle.jsgen_model.specs.Grammar.{Allowed, Level, ReadsExpression, update_si
 use Rattle.jsgen_model.specs.Grammar as grammar
 use Rattle.jsgen_model.specs.Normal.{normal}
 use Rattle.jsgen_model.specs.Renamed.{renamed}
-use Rattle.jsgen_model.specs.Spell.{Place, spell, within, behind, in_front, wraps, update_item, update_items, update_level}
+use Rattle.jsgen_model.specs.Spell.{Place, spell, within, behind, in_front, wraps, update_items, update_level}
+use Rattle.jsgen_model.specs.Operators.{update_item}
 use Rattle.jsgen_token_laws.proofs.Last.{Last, After, line_of, Operand, Ready, Knows}
 use Rattle.jsgen_token_laws.proofs.Writes.{Writes, wrote_both}
 use Rattle.jsgen_token_laws.proofs.Steps.{wrote_operator, wrote_increment, wrote_decrement}

@@ -107,6 +107,8 @@ fn is_in_functions(node_type: NodeType) -> bool
         NodeType::FormalParameter
             | NodeType::FormalParameterRest
             | NodeType::FormalParameters
+            | NodeType::Function
+            | NodeType::FunctionBody
             | NodeType::ArrowFunctionExpression
     )
 }
@@ -125,6 +127,7 @@ fn is_in_loops(node_type: NodeType) -> bool
             | NodeType::LabeledStatement
             | NodeType::ContinueStatement
             | NodeType::BreakStatement
+            | NodeType::ReturnStatement
             | NodeType::ThrowStatement
             | NodeType::DebuggerStatement
     )

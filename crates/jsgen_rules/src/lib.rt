@@ -1,18 +1,20 @@
 //! Rules that a node keeps by its own values, whatever stands below it. A check names the first that is broken.
 #![tactic(auto, unfolding(crate::specs::Verdict::verdict))]
 
-ghost use Rattle.std.specs.Prelude.{◌≡◌, not};
+ghost use Rattle.std.specs.Prelude.{◌≡◌, not, ◌&&◌};
 ghost use Rattle.std.specs.Str.{chars};
 ghost use Rattle.jsgen_model.specs.Valid.{directive_faults, raw_number_faults, big_integer_faults, fault_if, is_super, takes_super, may_stand, takes_optional_link};
 ghost use Rattle.jsgen_model.specs.declared.fault.TreeFault.TheVariants as faults;
 ghost use Rattle.jsgen_rules.specs.Verdict.{verdict};
 
 mod comments;
+mod functions;
 mod names;
 mod spans;
 mod statements;
 
 pub use comments::check_comment;
+pub use functions::{check_function, check_return, fits_accessor, function_fits};
 use jsgen_model::TreeFault;
 use jsgen_numbers::{is_big_integer, is_raw_number};
 use jsgen_syntax::{Quote, Span};
@@ -20,7 +22,7 @@ use jsgen_text::spells_string;
 use jsgen_tree::{NodeSet, NodeType};
 pub use names::{check_binding, check_label, check_reference, check_written_name};
 pub use spans::{check_source, check_span};
-pub use statements::{check_body, check_defaults, check_ends, check_one_name};
+pub use statements::{check_body, check_defaults, check_ends, check_one_name, is_declaration};
 
 /// A directive's raw text spells a string, in the one quote or the other.
 pub fn check_raw(raw: &str, span: Span) -> Result<(), TreeFault>
@@ -95,11 +97,17 @@ pub fn check_no_optional_link(has_optional_link: bool, start: u32) -> Result<(),
     Ok(())
 }
 
-/// A child is of the set that its field asks for, and `super` stands only where a link follows it.
-pub fn check_set(node_type: NodeType, set: NodeSet, start: u32) -> Result<(), TreeFault>
-    ensures { result ≡ verdict (fault_if (not (may_stand set node_type)) (faults.Place start)) }
+/// A child is of the set that its field asks for, `super` stands only where a link follows it, and a function is of the kind that
+/// the place takes.
+pub fn check_set(
+    node_type: NodeType,
+    set: NodeSet,
+    fits_kind: bool,
+    start: u32,
+) -> Result<(), TreeFault>
+    ensures { result ≡ verdict (fault_if (not (may_stand set node_type && fits_kind)) (faults.Place start)) }
 {
-    if !may_stand(node_type, set) {
+    if !may_stand(node_type, set) || !fits_kind {
         return Err(TreeFault::Place { start });
     }
     Ok(())

@@ -1,5 +1,5 @@
 // What statements keep by the parts that stand next to them: bodies, heads of loops, cases, handlers.
-ghost use Rattle.std.specs.Prelude.{◌≡◌, false, not, ◌||◌, nat_lt};
+ghost use Rattle.std.specs.Prelude.{◌≡◌, not, ◌||◌, nat_lt};
 ghost use Rattle.std.specs.Option.{option_map_or};
 ghost use Rattle.jsgen_model.specs.Valid.{fault_if, is_lexical_word};
 ghost use Rattle.jsgen_model.specs.declared.fault.TreeFault.TheVariants as faults;
@@ -9,22 +9,25 @@ use jsgen_model::TreeFault;
 use jsgen_syntax::Span;
 use jsgen_tree::VariableDeclarationKind;
 
-/// Whether a statement that declares by this word, if by any, is a lexical declaration.
-fn is_lexical(declared: Option<VariableDeclarationKind>) -> bool
-    ensures { result ≡ option_map_or is_lexical_word declared false }
+/// Whether what declares by this word, if by any, or is a function, is a declaration: `var` begins a statement.
+pub fn is_declaration(declared: Option<VariableDeclarationKind>, is_function: bool) -> bool
+    ensures { result ≡ option_map_or is_lexical_word declared is_function }
 {
-    matches!(
-        declared,
-        Some(VariableDeclarationKind::Const | VariableDeclarationKind::Let)
-    )
+    match declared {
+        Some(word) => matches!(
+            word,
+            VariableDeclarationKind::Const | VariableDeclarationKind::Let
+        ),
+        None => is_function,
+    }
 }
 
-/// What `if` and `else`, the head of a loop, `do` or a label are followed by is no lexical declaration, which stands in a list of
+/// What `if` and `else`, the head of a loop, `do` or a label are followed by is no declaration, which stands in a list of
 /// statements only.
-pub fn check_body(declared: Option<VariableDeclarationKind>, start: u32) -> Result<(), TreeFault>
-    ensures { result ≡ verdict (fault_if (option_map_or is_lexical_word declared false) (faults.Place start)) }
+pub fn check_body(is_declaration: bool, start: u32) -> Result<(), TreeFault>
+    ensures { result ≡ verdict (fault_if is_declaration (faults.Place start)) }
 {
-    if is_lexical(declared) {
+    if is_declaration {
         return Err(TreeFault::Place { start });
     }
     Ok(())

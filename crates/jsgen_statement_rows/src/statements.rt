@@ -2,7 +2,7 @@
 // Rows of a job: programs, statements and declarations (ECMA-262, clauses 14 and 16).
 ghost use Rattle.std.specs.Prelude.{◌≡◌, true};
 ghost use Rattle.serde_json.specs.View.{view};
-ghost use Rattle.jsgen_tree.specs.Fields.{program_fields, comment_fields, directive_fields, variable_declaration_fields, variable_declarator_fields, binding_identifier_fields, expression_statement_fields, block_statement_fields, if_statement_fields, empty_statement_fields};
+ghost use Rattle.jsgen_tree.specs.RowFields.{program_fields, comment_fields, directive_fields, variable_declaration_fields, variable_declarator_fields, binding_identifier_fields, expression_statement_fields, block_statement_fields, if_statement_fields, empty_statement_fields};
 ghost use Rattle.jsgen_fields.specs.Reads.{Gives, read_node, read_typed};
 ghost use Rattle.jsgen_fields.specs.Kept.{entries, row_plain};
 ghost use Rattle.jsgen_fields.specs.Parts.{is_in_statements};
@@ -11,7 +11,7 @@ ghost use Rattle.jsgen_tree.specs.declared.types.NodeType.TheVariants as types;
 use jsgen_fields::InputFault;
 use jsgen_fields::fields::boxed;
 use jsgen_fields::kept::{ReadNode, Row, binding_pattern_row, declaration_row, statement_row};
-use jsgen_fields::others::OtherStatement;
+use jsgen_fields::others::{OtherDeclaration, OtherStatement};
 use jsgen_fields::set_fields::{
     comment_list, directive_list, needed_binding_pattern, needed_expression, needed_statement,
     optional_expression, optional_statement, statement_list, variable_declarator_list,
@@ -189,7 +189,12 @@ fn read_variable_declaration<N: ReadNode + Drop>(
         declarations,
     };
     match boxed(alloc, node) {
-        Ok(node) => declaration_row(alloc, Declaration::VariableDeclaration(node)),
+        Ok(node) => declaration_row(
+            alloc,
+            OtherDeclaration {
+                declaration: Declaration::VariableDeclaration(node),
+            },
+        ),
         Err(fault) => Err(fault),
     }
 }

@@ -8,17 +8,20 @@ use Rattle.jsgen_model.specs.Spell.{text_bytes}
 use Rattle.jsgen_fields.specs.declared.InputFault.{InputFault}
 use Rattle.jsgen_device.specs.Device.{Rose, AppendsPart}
 use Rattle.jsgen_device.specs.Transfer.{IsWithin, limit}
-use Rattle.jsgen_tool.specs.Job.{IsJobOf, Breaks, IsNoJob}
+use Rattle.jsgen_tool.specs.Job.{IsJobOf, IsSomeJob, Breaks, IsNoJob}
 use Rattle.jsgen_tool.specs.declared.status.Status.{Status}
 use Rattle.jsgen_tool.specs.declared.status.Status.TheVariants.{Done, Refused, NotJob, ReadFault, WriteFault, Memory, TooLong}
 
--- the words are the one command
+-- the words are this one command
 abbrev pub IsPrint : List (String Global) → Type 0
 IsPrint words = map string_bytes words ≡ codes "print" ∷ []
 
--- the bytes are a job that keeps the rules
-abbrev pub IsSomeJob : List ℕ → Type 0
-IsSomeJob bytes = (job : JobData) × IsJobOf job bytes
+abbrev pub IsCheck : List (String Global) → Type 0
+IsCheck words = map string_bytes words ≡ codes "check" ∷ []
+
+-- the words are a command
+abbrev pub IsCommand : List (String Global) → Type 0
+IsCommand words = IsPrint words ⊎ IsCheck words
 
 -- what each answer says of the bytes that the source held
 abbrev pub InputRow : Status → List ℕ → Type 0

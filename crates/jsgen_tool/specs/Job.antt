@@ -5,7 +5,8 @@ use Rattle.jsgen_model.specs.Spell.{text_bytes}
 use Rattle.jsgen_tree.specs.Job.{JobData}
 use Rattle.jsgen_model.specs.Valid.{job_breaches, IsValid}
 use Rattle.jsgen_model.specs.declared.fault.TreeFault.{TreeFault}
-use Rattle.jsgen_rows.specs.Job.{job_of}
+use Rattle.jsgen_rows.specs.Job.{job_of, job_plain}
+use Rattle.jsgen_rows.specs.declared.Job.{Job}
 use Rattle.jsgen_fields.specs.declared.InputFault.{InputFault}
 use Rattle.jsgen_fields.specs.declared.InputFault.TheVariants as faults
 use Rattle.jsgen_tool.specs.declared.job.Fault.{Fault}
@@ -15,6 +16,10 @@ use Rattle.jsgen_tool.specs.declared.job.Fault.TheVariants.{NotJob, Refused, Mem
 abbrev pub IsJobOf : JobData → List ℕ → Type 0
 IsJobOf job bytes = (job_of bytes ≡ Ok job) × IsValid job
 
+-- the bytes are a job that keeps the rules
+abbrev pub IsSomeJob : List ℕ → Type 0
+IsSomeJob bytes = (job : JobData) × IsJobOf job bytes
+
 -- the bytes are a job that breaks this rule
 abbrev pub Breaks : TreeFault → List ℕ → Type 0
 Breaks fault bytes = (job : JobData) × (job_of bytes ≡ Ok job) × Contains (job_breaches job) fault
@@ -23,9 +28,23 @@ Breaks fault bytes = (job : JobData) × (job_of bytes ≡ Ok job) × Contains (j
 abbrev pub IsNoJob : InputFault → List ℕ → Type 0
 IsNoJob fault bytes = job_of bytes ≡ Err fault
 
--- the answer to an input; want of memory may come in its place
+-- what a fault says of an input; want of memory may come in place of any answer
+abbrev pub IsFaulty : List ℕ → Fault → Type 0
+IsFaulty bytes (NotJob fault) = IsNoJob fault bytes × (fault ≡ faults.Memory → ⊥)
+IsFaulty bytes (Refused fault) = Breaks fault bytes
+IsFaulty bytes Memory = ⊤
+
+-- what is read of an input
+abbrev pub Reads : List ℕ → Result Job Fault → Type 0
+Reads bytes (Ok job) = job_of bytes ≡ Ok (job_plain job)
+Reads bytes (Err fault) = IsFaulty bytes fault
+
+-- the verdict on an input
+abbrev pub Verdict : List ℕ → Result (Unit {0}) Fault → Type 0
+Verdict bytes (Ok done) = IsSomeJob bytes
+Verdict bytes (Err fault) = IsFaulty bytes fault
+
+-- the answer to an input
 abbrev pub Answers : List ℕ → Result (String Global) Fault → Type 0
 Answers bytes (Ok text) = (job : JobData) × IsJobOf job bytes × (string_bytes text ≡ text_bytes job)
-Answers bytes (Err (NotJob fault)) = IsNoJob fault bytes × (fault ≡ faults.Memory → ⊥)
-Answers bytes (Err (Refused fault)) = Breaks fault bytes
-Answers bytes (Err Memory) = ⊤
+Answers bytes (Err fault) = IsFaulty bytes fault

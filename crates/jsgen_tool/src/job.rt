@@ -1,7 +1,7 @@
 // From the bytes of a job to its text.
 ghost use Rattle.std.specs.Prelude.{◌≡◌, option_map};
 ghost use Rattle.jsgen_tree.specs.Scoping.{scoping_plain, private_plain};
-ghost use Rattle.jsgen_tool.specs.Job.{Answers};
+ghost use Rattle.jsgen_tool.specs.Job.{Reads, Verdict, Answers};
 
 use jsgen::{Codegen, InputFault, Job, PrivateMappings, Scoping, TreeFault, read_job};
 use std::alloc::Global;
@@ -34,6 +34,40 @@ fn lent_mappings(mappings: &Option<PrivateMappings>) -> Option<&PrivateMappings>
     }
 }
 
+fn job_in(alloc: Global, bytes: &[u8]) -> Result<Job, Fault>
+    ensures { Reads bytes.now result }
+{
+    match read_job(alloc, bytes) {
+        Ok(job) => Ok(job),
+        Err(InputFault::Memory) => Err(Fault::Memory),
+        Err(fault) => Err(Fault::NotJob(fault)),
+    }
+}
+
+/// Whether the bytes are a job that keeps the rules, or what is wrong.
+pub fn verdict(alloc: Global, bytes: &[u8]) -> Result<(), Fault>
+    ensures { Verdict bytes.now result }
+{
+    let Job {
+        options,
+        scoping,
+        private,
+        program,
+    } = match job_in(alloc, bytes) {
+        Ok(job) => job,
+        Err(fault) => return Err(fault),
+    };
+    let (scoping, private) = (lent_scoping(&scoping), lent_mappings(&private));
+    let printer = Codegen::new(alloc)
+        .with_options(options)
+        .with_scoping(scoping)
+        .with_private_member_mappings(private);
+    match printer.check(&program) {
+        Ok(()) => Ok(()),
+        Err(fault) => Err(Fault::Refused(fault)),
+    }
+}
+
 /// The text of a job.
 pub fn answer(alloc: Global, bytes: &[u8]) -> Result<String, Fault>
     ensures { Answers bytes.now result }
@@ -43,10 +77,9 @@ pub fn answer(alloc: Global, bytes: &[u8]) -> Result<String, Fault>
         scoping,
         private,
         program,
-    } = match read_job(alloc, bytes) {
+    } = match job_in(alloc, bytes) {
         Ok(job) => job,
-        Err(InputFault::Memory) => return Err(Fault::Memory),
-        Err(fault) => return Err(Fault::NotJob(fault)),
+        Err(fault) => return Err(fault),
     };
     let printer = Codegen::new(alloc)
         .with_options(options)

@@ -1,42 +1,39 @@
 // The top call: from the words of a command to its status.
-ghost use Rattle.std.specs.Prelude.{◌≡◌, ◌↔◌, ◌+◌, IsTrue, IfSome};
+ghost use Rattle.std.specs.Prelude.{◌≡◌, ◌↔◌, ◌+◌, [], ◌∷◌, map, string_bytes, IsTrue, IfSome};
 ghost use Rattle.jsgen_tree.specs.Job.{JobData};
 ghost use Rattle.jsgen_model.specs.Plain.{IsPlain, IsQuiet};
 ghost use Rattle.jsgen_tool.specs.Headline.{HoldsJob, Prints};
-ghost use Rattle.jsgen_tool.specs.Answers.{IsPrint, InputRow, OutputRow, SourceCount, OutCount, Due};
+ghost use Rattle.jsgen_tool.specs.Answers.{IsPrint, IsCommand, InputRow, OutputRow, SourceCount, OutCount, Due};
 ghost use Rattle.jsgen_device.specs.Device.{Rose};
 ghost use Rattle.jsgen_device.specs.Transfer.{TakesAtMost, limit};
 ghost use Rattle.jsgen_tool.specs.Lines.{Says, line_of};
 
-use crate::job::{Fault, answer};
+use crate::job::{Fault, answer, verdict};
 use crate::line::say;
 use crate::status::Status;
 use jsgen::InputFault;
 use jsgen_device::{Failed, Sink, Source, Unread, push_all, read_all};
 use std::alloc::Global;
 
-fn is_print(words: &[String]) -> bool
-    ensures { IsTrue result ↔ IsPrint words.now }
+// Whether the words are this one.
+fn is_word(words: &[String], text: &str) -> bool
+    ensures { IsTrue result ↔ (map string_bytes words.now ≡ text.now ∷ []) }
 {
     match words {
-        [word] => word.as_str() == "print",
+        [word] => word.as_str() == text,
         _ => false,
     }
 }
 
-fn work<S: Source, K: Sink>(alloc: Global, words: &[String], source: &mut S, out: &mut K) -> Status
-    ensures usage { result ≡ Status.Usage ↔ (IsPrint words.now → ⊥) }
+fn print<S: Source, K: Sink>(alloc: Global, source: &mut S, out: &mut K) -> Status
+    ensures usage { result ≡ Status.Usage → ⊥ }
     ensures read { SourceCount result (S.faults source.old) (S.faults source.new) }
     ensures write { OutCount result (K.faults out.old) (K.faults out.new) }
     ensures input { IfSome (S.left source.old) (InputRow result) }
     ensures output { OutputRow result (S.left source.old) (K.got out.old) (K.got out.new) }
     ensures memory { result ≡ Status.NotJob InputFault.Memory → ⊥ }
     ensures taken { TakesAtMost (limit + 1) (S.left source.old) (S.left source.new) }
-    ensures idle { result ≡ Status.Usage → source.new ≡ source.old }
 {
-    if !is_print(words) {
-        return Status::Usage;
-    }
     let bytes = match read_all(alloc, source) {
         Ok(bytes) => bytes,
         Err(Unread::Failed) => return Status::ReadFault,
@@ -55,7 +52,50 @@ fn work<S: Source, K: Sink>(alloc: Global, words: &[String], source: &mut S, out
     }
 }
 
-/// Reads a job from the source, writes its text to `out`, and says on `err` what went wrong. The text is
+fn check<S: Source>(alloc: Global, source: &mut S) -> Status
+    ensures usage { result ≡ Status.Usage → ⊥ }
+    ensures write { result ≡ Status.WriteFault → ⊥ }
+    ensures read { SourceCount result (S.faults source.old) (S.faults source.new) }
+    ensures input { IfSome (S.left source.old) (InputRow result) }
+    ensures memory { result ≡ Status.NotJob InputFault.Memory → ⊥ }
+    ensures taken { TakesAtMost (limit + 1) (S.left source.old) (S.left source.new) }
+{
+    let bytes = match read_all(alloc, source) {
+        Ok(bytes) => bytes,
+        Err(Unread::Failed) => return Status::ReadFault,
+        Err(Unread::TooLong) => return Status::TooLong,
+        Err(Unread::Memory) => return Status::Memory,
+    };
+    match verdict(alloc, &bytes) {
+        Ok(()) => Status::Done,
+        Err(Fault::NotJob(fault)) => Status::NotJob(fault),
+        Err(Fault::Refused(fault)) => Status::Refused(fault),
+        Err(Fault::Memory) => Status::Memory,
+    }
+}
+
+fn work<S: Source, K: Sink>(alloc: Global, words: &[String], source: &mut S, out: &mut K) -> Status
+    ensures usage { result ≡ Status.Usage ↔ (IsCommand words.now → ⊥) }
+    ensures read { SourceCount result (S.faults source.old) (S.faults source.new) }
+    ensures write { OutCount result (K.faults out.old) (K.faults out.new) }
+    ensures input { IfSome (S.left source.old) (InputRow result) }
+    ensures output { IsPrint words.now → OutputRow result (S.left source.old) (K.got out.old) (K.got out.new) }
+    ensures kept { (IsPrint words.now → ⊥) → (result ≡ Status.WriteFault → ⊥) × (out.new ≡ out.old) }
+    ensures memory { result ≡ Status.NotJob InputFault.Memory → ⊥ }
+    ensures taken { TakesAtMost (limit + 1) (S.left source.old) (S.left source.new) }
+    ensures idle { result ≡ Status.Usage → source.new ≡ source.old }
+{
+    if is_word(words, "print") {
+        return print(alloc, source, out);
+    }
+    if is_word(words, "check") {
+        return check(alloc, source);
+    }
+    Status::Usage
+}
+
+/// Reads a job from the source, writes what the words ask for to `out`, and says on `err` what went wrong: for `print` the
+/// job's text, and for `check` nothing, so that the status alone tells whether the job keeps the rules. The text is
 /// complete before its first byte is written. Where several things are wrong, the first of these is
 /// answered: the words, reading, the length, the job, the rules, writing.
 pub fn run<S: Source, K: Sink>(
@@ -65,14 +105,17 @@ pub fn run<S: Source, K: Sink>(
     out: &mut K,
     err: &mut K,
 ) -> Status
-    ensures usage { result ≡ Status.Usage ↔ (IsPrint words.now → ⊥) }
+    ensures usage { result ≡ Status.Usage ↔ (IsCommand words.now → ⊥) }
     ensures read { SourceCount result (S.faults source.old) (S.faults source.new) }
     ensures write { OutCount result (K.faults out.old) (K.faults out.new) }
     ensures input { IfSome (S.left source.old) (InputRow result) }
-    ensures output { OutputRow result (S.left source.old) (K.got out.old) (K.got out.new) }
+    ensures output { IsPrint words.now → OutputRow result (S.left source.old) (K.got out.old) (K.got out.new) }
 
-    // What comes where the words are the command and no read failed.
-    ensures due { IsPrint words.now → (Rose (S.faults source.old) (S.faults source.new) → ⊥) →
+    // Where the words aren't `print`, nothing is written.
+    ensures kept { (IsPrint words.now → ⊥) → (result ≡ Status.WriteFault → ⊥) × (out.new ≡ out.old) }
+
+    // What comes where the words are a command and no read failed.
+    ensures due { IsCommand words.now → (Rose (S.faults source.old) (S.faults source.new) → ⊥) →
         IfSome (S.left source.old) (λ bytes. Due (Rose (K.faults out.old) (K.faults out.new)) bytes result) }
 
     // What is printed is read back: for `print` and any job that the source holds, whose program keeps the rules

@@ -32,10 +32,13 @@ use Rattle.jsgen_tree.specs.declared.assignments.AssignmentExpression.{Assignmen
 use Rattle.jsgen_tree.specs.declared.functions.FormalParameter.{FormalParameter}
 use Rattle.jsgen_tree.specs.declared.functions.FormalParameterRest.{FormalParameterRest}
 use Rattle.jsgen_tree.specs.declared.functions.FormalParameters.{FormalParameters}
+use Rattle.jsgen_tree.specs.declared.functions.Function.{Function}
+use Rattle.jsgen_tree.specs.declared.functions.FunctionBody.{FunctionBody}
 use Rattle.jsgen_tree.specs.declared.functions.ArrowFunctionExpression.{ArrowFunctionExpression}
 use Rattle.jsgen_tree.specs.declared.loops.ForStatement.{ForStatement}
 use Rattle.jsgen_tree.specs.declared.loops.ForInStatement.{ForInStatement}
 use Rattle.jsgen_tree.specs.declared.loops.ForOfStatement.{ForOfStatement}
+use Rattle.jsgen_tree.specs.declared.loops.ReturnStatement.{ReturnStatement}
 use Rattle.jsgen_tree.specs.declared.choices.SwitchCase.{SwitchCase}
 use Rattle.jsgen_tree.specs.declared.choices.TryStatement.{TryStatement}
 use Rattle.jsgen_tree.specs.declared.choices.CatchClause.{CatchClause}
@@ -75,8 +78,9 @@ with_assignment_target P of_identifier_reference of_static_member_expression of_
 with_assignment_target P of_identifier_reference of_static_member_expression of_computed_member_expression (assignment_targets.StaticMemberExpression b) = of_static_member_expression b
 with_assignment_target P of_identifier_reference of_static_member_expression of_computed_member_expression (assignment_targets.ComputedMemberExpression b) = of_computed_member_expression b
 
-pub with_arrow_function_body : {N : Type 0} (P : ArrowFunctionBody N → Type 0) → ((b : Box (ExpressionNode N) Global) → P (arrow_function_bodys.Expression b)) → (n : ArrowFunctionBody N) → P n
-with_arrow_function_body P of_expression (arrow_function_bodys.Expression b) = of_expression b
+pub with_arrow_function_body : {N : Type 0} (P : ArrowFunctionBody N → Type 0) → ((b : Box (FunctionBody N) Global) → P (arrow_function_bodys.FunctionBody b)) → ((b : Box (ExpressionNode N) Global) → P (arrow_function_bodys.Expression b)) → (n : ArrowFunctionBody N) → P n
+with_arrow_function_body P of_function_body of_expression (arrow_function_bodys.FunctionBody b) = of_function_body b
+with_arrow_function_body P of_function_body of_expression (arrow_function_bodys.Expression b) = of_expression b
 
 pub with_for_statement_init : {N : Type 0} (P : ForStatementInit N → Type 0) → ((b : Box (VariableDeclaration N) Global) → P (for_statement_inits.VariableDeclaration b)) → ((b : Box (ExpressionNode N) Global) → P (for_statement_inits.Expression b)) → (n : ForStatementInit N) → P n
 with_for_statement_init P of_variable_declaration of_expression (for_statement_inits.VariableDeclaration b) = of_variable_declaration b
@@ -128,11 +132,17 @@ formal_parameters_by_rest P none some n = elim n.rest as (λ o. P (record n { re
 pub boxed_formal_parameters_by_rest : {N : Type 0} (P : Box (FormalParameters N) Global → Type 0) → ((n : Box (FormalParameters N) Global) → P (record n { value = record n.value { rest = None } })) → ((c : Box (FormalParameterRest N) Global) (n : Box (FormalParameters N) Global) → P (record n { value = record n.value { rest = Some c } })) → (n : Box (FormalParameters N) Global) → P n
 boxed_formal_parameters_by_rest P none some n = elim n.value.rest as (λ o. P (record n { value = record n.value { rest = o } })) [ None ↦ none n | Some c ↦ some c n ]
 
+pub function_by_params : {N : Type 0} (P : Function N → Type 0) → ((c : Box (FormalParameters N) Global) (n : Function N) → P (record n { params = c })) → (n : Function N) → P n
+function_by_params P all n = all n.params n
+
+pub function_by_body : {N : Type 0} (P : Function N → Type 0) → ((n : Function N) → P (record n { body = None })) → ((c : Box (FunctionBody N) Global) (n : Function N) → P (record n { body = Some c })) → (n : Function N) → P n
+function_by_body P none some n = elim n.body as (λ o. P (record n { body = o })) [ None ↦ none n | Some c ↦ some c n ]
+
 pub arrow_function_expression_by_params : {N : Type 0} (P : ArrowFunctionExpression N → Type 0) → ((c : Box (FormalParameters N) Global) (n : ArrowFunctionExpression N) → P (record n { params = c })) → (n : ArrowFunctionExpression N) → P n
 arrow_function_expression_by_params P all n = all n.params n
 
-pub arrow_function_expression_by_body : {N : Type 0} (P : ArrowFunctionExpression N → Type 0) → ((b : Box (ExpressionNode N) Global) (n : ArrowFunctionExpression N) → P (record n { body = (arrow_function_bodys.Expression b) })) → (n : ArrowFunctionExpression N) → P n
-arrow_function_expression_by_body P of_expression n = elim n.body as (λ o. P (record n { body = o })) [ arrow_function_bodys.Expression b ↦ of_expression b n ]
+pub arrow_function_expression_by_body : {N : Type 0} (P : ArrowFunctionExpression N → Type 0) → ((b : Box (FunctionBody N) Global) (n : ArrowFunctionExpression N) → P (record n { body = (arrow_function_bodys.FunctionBody b) })) → ((b : Box (ExpressionNode N) Global) (n : ArrowFunctionExpression N) → P (record n { body = (arrow_function_bodys.Expression b) })) → (n : ArrowFunctionExpression N) → P n
+arrow_function_expression_by_body P of_function_body of_expression n = elim n.body as (λ o. P (record n { body = o })) [ arrow_function_bodys.FunctionBody b ↦ of_function_body b n | arrow_function_bodys.Expression b ↦ of_expression b n ]
 
 pub for_statement_by_init : {N : Type 0} (P : ForStatement N → Type 0) → ((n : ForStatement N) → P (record n { init = None })) → ((b : Box (VariableDeclaration N) Global) (n : ForStatement N) → P (record n { init = (Some (for_statement_inits.VariableDeclaration b)) })) → ((b : Box (ExpressionNode N) Global) (n : ForStatement N) → P (record n { init = (Some (for_statement_inits.Expression b)) })) → (n : ForStatement N) → P n
 for_statement_by_init P none of_variable_declaration of_expression n = elim n.init as (λ o. P (record n { init = o })) [ None ↦ none n | Some c ↦ elim c as (λ o. P (record n { init = (Some o) })) [ for_statement_inits.VariableDeclaration b ↦ of_variable_declaration b n | for_statement_inits.Expression b ↦ of_expression b n ] ]
@@ -148,6 +158,9 @@ for_in_statement_by_left P of_variable_declaration of_identifier_reference of_st
 
 pub for_of_statement_by_left : {N : Type 0} (P : ForOfStatement N → Type 0) → ((b : Box (VariableDeclaration N) Global) (n : ForOfStatement N) → P (record n { left = (for_statement_lefts.VariableDeclaration b) })) → ((b : Box IdentifierReference Global) (n : ForOfStatement N) → P (record n { left = (for_statement_lefts.IdentifierReference b) })) → ((b : Box (StaticMemberExpression N) Global) (n : ForOfStatement N) → P (record n { left = (for_statement_lefts.StaticMemberExpression b) })) → ((b : Box (ComputedMemberExpression N) Global) (n : ForOfStatement N) → P (record n { left = (for_statement_lefts.ComputedMemberExpression b) })) → (n : ForOfStatement N) → P n
 for_of_statement_by_left P of_variable_declaration of_identifier_reference of_static_member_expression of_computed_member_expression n = elim n.left as (λ o. P (record n { left = o })) [ for_statement_lefts.VariableDeclaration b ↦ of_variable_declaration b n | for_statement_lefts.IdentifierReference b ↦ of_identifier_reference b n | for_statement_lefts.StaticMemberExpression b ↦ of_static_member_expression b n | for_statement_lefts.ComputedMemberExpression b ↦ of_computed_member_expression b n ]
+
+pub return_statement_by_argument : {N : Type 0} (P : ReturnStatement N → Type 0) → ((n : ReturnStatement N) → P (record n { argument = None })) → ((c : ExpressionNode N) (n : ReturnStatement N) → P (record n { argument = Some c })) → (n : ReturnStatement N) → P n
+return_statement_by_argument P none some n = elim n.argument as (λ o. P (record n { argument = o })) [ None ↦ none n | Some c ↦ some c n ]
 
 pub switch_case_by_test : {N : Type 0} (P : SwitchCase N → Type 0) → ((n : SwitchCase N) → P (record n { test = None })) → ((c : ExpressionNode N) (n : SwitchCase N) → P (record n { test = Some c })) → (n : SwitchCase N) → P n
 switch_case_by_test P none some n = elim n.test as (λ o. P (record n { test = o })) [ None ↦ none n | Some c ↦ some c n ]

@@ -1,7 +1,7 @@
 -- Generated from tools/nodes/table.txt; edit that and run tools/nodes/generate.
 -- The plain data of the recursive type is, set by set, that of what it holds.
 use Rattle.std.proofs.Common.{◌≡◌, refl, sym, ap, ◌∙◌}
-use Rattle.jsgen_tree.proofs.Cases.{with_argument, with_array_expression_element, with_object_property_kind, variable_declarator_by_init, if_statement_by_alternate, chain_expression_by_expression, boxed_object_property_by_key, update_expression_by_argument, assignment_expression_by_left, formal_parameter_by_initializer, boxed_formal_parameters_by_rest, arrow_function_expression_by_params, arrow_function_expression_by_body, for_statement_by_init, for_statement_by_test, for_statement_by_update, for_in_statement_by_left, for_of_statement_by_left, switch_case_by_test, try_statement_by_handler, try_statement_by_finalizer, boxed_catch_clause_by_param}
+use Rattle.jsgen_tree.proofs.Cases.{with_argument, with_array_expression_element, with_object_property_kind, variable_declarator_by_init, if_statement_by_alternate, chain_expression_by_expression, boxed_object_property_by_key, update_expression_by_argument, assignment_expression_by_left, formal_parameter_by_initializer, boxed_formal_parameters_by_rest, function_by_params, function_by_body, arrow_function_expression_by_params, arrow_function_expression_by_body, for_statement_by_init, for_statement_by_test, for_statement_by_update, for_in_statement_by_left, for_of_statement_by_left, return_statement_by_argument, switch_case_by_test, try_statement_by_handler, try_statement_by_finalizer, boxed_catch_clause_by_param}
 use Rattle.jsgen_tree.specs.Plain.{node_plain, layer}
 use Rattle.jsgen_tree.specs.Spans.{expression_span, declaration_span, statement_span, binding_pattern_span}
 use Rattle.jsgen_tree.specs.Tree.{Tree, given, trees, holed, span_of}
@@ -51,10 +51,12 @@ natural_expression h (expressions.Super b) = refl
 natural_expression h (expressions.ConditionalExpression b) = refl
 natural_expression h (expressions.SequenceExpression b) = same_slots (same_many (ap trees (map_after _ _ _ (λ n. refl) b.value.expressions.items)) refl)
 natural_expression h (expressions.AssignmentExpression b) = (assignment_expression_by_left (λ n. layer (map-Node Node Tree h (opened.Expression (expressions.AssignmentExpression (record b { value = n })))) ≡ expression_plain h (expressions.AssignmentExpression (record b { value = n }))) (λ n_left. (λ n. refl)) (λ n_left. (λ n. refl)) (λ n_left. (λ n. refl))) b.value
-natural_expression h (expressions.ArrowFunctionExpression b) = (arrow_function_expression_by_params (λ n. layer (map-Node Node Tree h (opened.Expression (expressions.ArrowFunctionExpression (record b { value = n })))) ≡ expression_plain h (expressions.ArrowFunctionExpression (record b { value = n }))) (boxed_formal_parameters_by_rest _ (λ n_params. (arrow_function_expression_by_body _ (λ n_body. (λ n. same_slots (same_one (same_slots (same_many (ap trees (map_after _ _ _ (formal_parameter_by_initializer _ (λ n. refl) (λ n_initializer. (λ n. refl))) n_params.value.items.items)) (same_maybe refl refl))) (same_one refl refl)))))) (λ n_params_rest. (λ n_params. (arrow_function_expression_by_body _ (λ n_body. (λ n. same_slots (same_one (same_slots (same_many (ap trees (map_after _ _ _ (formal_parameter_by_initializer _ (λ n. refl) (λ n_initializer. (λ n. refl))) n_params.value.items.items)) (same_maybe refl refl))) (same_one refl refl))))))))) b.value
+natural_expression h (expressions.Function b) = (function_by_params (λ n. layer (map-Node Node Tree h (opened.Expression (expressions.Function (record b { value = n })))) ≡ expression_plain h (expressions.Function (record b { value = n }))) (boxed_formal_parameters_by_rest _ (λ n_params. (function_by_body _ (λ n. same_slots (same_maybe refl (same_one (same_slots (same_many (ap trees (map_after _ _ _ (formal_parameter_by_initializer _ (λ n. refl) (λ n_initializer. (λ n. refl))) n_params.value.items.items)) (same_maybe refl refl))) (same_maybe refl refl)))) (λ n_body. (λ n. same_slots (same_maybe refl (same_one (same_slots (same_many (ap trees (map_after _ _ _ (formal_parameter_by_initializer _ (λ n. refl) (λ n_initializer. (λ n. refl))) n_params.value.items.items)) (same_maybe refl refl))) (same_maybe (ap (λ t. given t) (same_slots (same_many refl (same_many (ap trees (map_after _ _ _ (λ n. refl) n_body.value.statements.items)) refl)))) refl))))))) (λ n_params_rest. (λ n_params. (function_by_body _ (λ n. same_slots (same_maybe refl (same_one (same_slots (same_many (ap trees (map_after _ _ _ (formal_parameter_by_initializer _ (λ n. refl) (λ n_initializer. (λ n. refl))) n_params.value.items.items)) (same_maybe refl refl))) (same_maybe refl refl)))) (λ n_body. (λ n. same_slots (same_maybe refl (same_one (same_slots (same_many (ap trees (map_after _ _ _ (formal_parameter_by_initializer _ (λ n. refl) (λ n_initializer. (λ n. refl))) n_params.value.items.items)) (same_maybe refl refl))) (same_maybe (ap (λ t. given t) (same_slots (same_many refl (same_many (ap trees (map_after _ _ _ (λ n. refl) n_body.value.statements.items)) refl)))) refl)))))))))) b.value
+natural_expression h (expressions.ArrowFunctionExpression b) = (arrow_function_expression_by_params (λ n. layer (map-Node Node Tree h (opened.Expression (expressions.ArrowFunctionExpression (record b { value = n })))) ≡ expression_plain h (expressions.ArrowFunctionExpression (record b { value = n }))) (boxed_formal_parameters_by_rest _ (λ n_params. (arrow_function_expression_by_body _ (λ n_body. (λ n. same_slots (same_one (same_slots (same_many (ap trees (map_after _ _ _ (formal_parameter_by_initializer _ (λ n. refl) (λ n_initializer. (λ n. refl))) n_params.value.items.items)) (same_maybe refl refl))) (same_one (same_slots (same_many refl (same_many (ap trees (map_after _ _ _ (λ n. refl) n_body.value.statements.items)) refl))) refl)))) (λ n_body. (λ n. same_slots (same_one (same_slots (same_many (ap trees (map_after _ _ _ (formal_parameter_by_initializer _ (λ n. refl) (λ n_initializer. (λ n. refl))) n_params.value.items.items)) (same_maybe refl refl))) (same_one refl refl)))))) (λ n_params_rest. (λ n_params. (arrow_function_expression_by_body _ (λ n_body. (λ n. same_slots (same_one (same_slots (same_many (ap trees (map_after _ _ _ (formal_parameter_by_initializer _ (λ n. refl) (λ n_initializer. (λ n. refl))) n_params.value.items.items)) (same_maybe refl refl))) (same_one (same_slots (same_many refl (same_many (ap trees (map_after _ _ _ (λ n. refl) n_body.value.statements.items)) refl))) refl)))) (λ n_body. (λ n. same_slots (same_one (same_slots (same_many (ap trees (map_after _ _ _ (formal_parameter_by_initializer _ (λ n. refl) (λ n_initializer. (λ n. refl))) n_params.value.items.items)) (same_maybe refl refl))) (same_one refl refl))))))))) b.value
 
 natural_declaration : (h : Node → Tree) (n : Declaration Node) → layer (map-Node Node Tree h (opened.Declaration n)) ≡ declaration_plain h n
 natural_declaration h (declarations.VariableDeclaration b) = same_slots (same_many (ap trees (map_after _ _ _ (variable_declarator_by_init _ (λ n. refl) (λ n_init. (λ n. refl))) b.value.declarations.items)) refl)
+natural_declaration h (declarations.Function b) = (function_by_params (λ n. layer (map-Node Node Tree h (opened.Declaration (declarations.Function (record b { value = n })))) ≡ declaration_plain h (declarations.Function (record b { value = n }))) (boxed_formal_parameters_by_rest _ (λ n_params. (function_by_body _ (λ n. same_slots (same_maybe refl (same_one (same_slots (same_many (ap trees (map_after _ _ _ (formal_parameter_by_initializer _ (λ n. refl) (λ n_initializer. (λ n. refl))) n_params.value.items.items)) (same_maybe refl refl))) (same_maybe refl refl)))) (λ n_body. (λ n. same_slots (same_maybe refl (same_one (same_slots (same_many (ap trees (map_after _ _ _ (formal_parameter_by_initializer _ (λ n. refl) (λ n_initializer. (λ n. refl))) n_params.value.items.items)) (same_maybe refl refl))) (same_maybe (ap (λ t. given t) (same_slots (same_many refl (same_many (ap trees (map_after _ _ _ (λ n. refl) n_body.value.statements.items)) refl)))) refl))))))) (λ n_params_rest. (λ n_params. (function_by_body _ (λ n. same_slots (same_maybe refl (same_one (same_slots (same_many (ap trees (map_after _ _ _ (formal_parameter_by_initializer _ (λ n. refl) (λ n_initializer. (λ n. refl))) n_params.value.items.items)) (same_maybe refl refl))) (same_maybe refl refl)))) (λ n_body. (λ n. same_slots (same_maybe refl (same_one (same_slots (same_many (ap trees (map_after _ _ _ (formal_parameter_by_initializer _ (λ n. refl) (λ n_initializer. (λ n. refl))) n_params.value.items.items)) (same_maybe refl refl))) (same_maybe (ap (λ t. given t) (same_slots (same_many refl (same_many (ap trees (map_after _ _ _ (λ n. refl) n_body.value.statements.items)) refl)))) refl)))))))))) b.value
 
 natural_statement : (h : Node → Tree) (n : Statement Node) → layer (map-Node Node Tree h (opened.Statement n)) ≡ statement_plain h n
 natural_statement h (statements.Declaration b) = refl
@@ -70,6 +72,7 @@ natural_statement h (statements.DoWhileStatement b) = refl
 natural_statement h (statements.LabeledStatement b) = refl
 natural_statement h (statements.ContinueStatement b) = refl
 natural_statement h (statements.BreakStatement b) = refl
+natural_statement h (statements.ReturnStatement b) = (return_statement_by_argument (λ n. layer (map-Node Node Tree h (opened.Statement (statements.ReturnStatement (record b { value = n })))) ≡ statement_plain h (statements.ReturnStatement (record b { value = n }))) (λ n. refl) (λ n_argument. (λ n. refl))) b.value
 natural_statement h (statements.ThrowStatement b) = refl
 natural_statement h (statements.DebuggerStatement b) = refl
 natural_statement h (statements.SwitchStatement b) = same_slots (same_one refl (same_many (ap trees (map_after _ _ _ (switch_case_by_test _ (λ n. same_slots (same_maybe refl (same_many (ap trees (map_after _ _ _ (λ n. refl) n.consequent.items)) refl))) (λ n_test. (λ n. same_slots (same_maybe refl (same_many (ap trees (map_after _ _ _ (λ n. refl) n.consequent.items)) refl))))) b.value.cases.items)) refl))
@@ -114,6 +117,7 @@ of_expression h (expressions.Super b) = refl
 of_expression h (expressions.ConditionalExpression b) = refl
 of_expression h (expressions.SequenceExpression b) = refl
 of_expression h (expressions.AssignmentExpression b) = refl
+of_expression h (expressions.Function b) = refl
 of_expression h (expressions.ArrowFunctionExpression b) = refl
 
 pub expression_spans : (n : Expression Node) → expression_span n ≡ span_of (node_plain (nodes.Expression n))
@@ -121,6 +125,7 @@ expression_spans n = of_expression node_plain n ∙ ap span_of (sym (plain_expre
 
 of_declaration : (h : Node → Tree) (n : Declaration Node) → declaration_span n ≡ span_of (declaration_plain h n)
 of_declaration h (declarations.VariableDeclaration b) = refl
+of_declaration h (declarations.Function b) = refl
 
 pub declaration_spans : (n : Declaration Node) → declaration_span n ≡ span_of (node_plain (nodes.Declaration n))
 declaration_spans n = of_declaration node_plain n ∙ ap span_of (sym (plain_declaration n))
@@ -139,6 +144,7 @@ of_statement h (statements.DoWhileStatement b) = refl
 of_statement h (statements.LabeledStatement b) = refl
 of_statement h (statements.ContinueStatement b) = refl
 of_statement h (statements.BreakStatement b) = refl
+of_statement h (statements.ReturnStatement b) = refl
 of_statement h (statements.ThrowStatement b) = refl
 of_statement h (statements.DebuggerStatement b) = refl
 of_statement h (statements.SwitchStatement b) = refl

@@ -12,6 +12,7 @@ use Rattle.jsgen_tree.specs.declared.collections.PropertyKind.{PropertyKind}
 use Rattle.jsgen_syntax.specs.declared.operator.UnaryOperator.{UnaryOperator}
 use Rattle.jsgen_syntax.specs.declared.operator.UpdateOperator.{UpdateOperator}
 use Rattle.jsgen_syntax.specs.declared.operator.AssignmentOperator.{AssignmentOperator}
+use Rattle.jsgen_tree.specs.declared.functions.FunctionKind.{FunctionKind}
 
 pub data Atom : Type 0 where
   -- of a field that is absent
@@ -33,3 +34,4 @@ pub data Atom : Type 0 where
   unary_operator : UnaryOperator → Atom
   update_operator : UpdateOperator → Atom
   assignment_operator : AssignmentOperator → Atom
+  kind_of_function : FunctionKind → Atom

@@ -4,7 +4,7 @@ use Rattle.std.specs.Prelude.{◌≡◌, codes}
 use Rattle.jsgen_tree.specs.Tree.{Atoms}
 use Rattle.jsgen_tree.specs.Table.{value_named}
 use Rattle.jsgen_tree.specs.Fields.{fields}
-use Rattle.jsgen_tree.specs.Values.{as_text, as_units, as_digits, as_number, as_flag, as_kind_of_comment, as_content_of_comment, as_source_kind, as_declaration_kind, as_numeric_kind, as_binary_operator, as_logical_operator, as_property_kind, as_unary_operator, as_update_operator, as_assignment_operator, as_number_if_given, program_source, program_kind, program_jsx, program_typescript, comment_kind, comment_content, comment_leading, comment_attached_to, comment_preceded_by_newline, comment_followed_by_newline, directive_directive, variable_declaration_kind, variable_declaration_declare, variable_declarator_definite, binding_identifier_name, binding_identifier_symbol, identifier_reference_name, identifier_reference_reference, boolean_literal_value, numeric_literal_kind, numeric_literal_negative, numeric_literal_digits, numeric_literal_text, big_int_literal_value, string_literal_value, binary_expression_operator, logical_expression_operator, identifier_name_name, static_member_expression_optional, computed_member_expression_optional, call_expression_optional, call_expression_pure, object_property_kind, object_property_method, object_property_shorthand, object_property_computed, unary_expression_operator, update_expression_operator, update_expression_prefix, new_expression_pure, assignment_expression_operator, formal_parameter_is_override, formal_parameter_readonly, formal_parameter_optional, arrow_function_expression_is_async, arrow_function_expression_pure, arrow_function_expression_pife, for_of_statement_is_await, label_identifier_name}
+use Rattle.jsgen_tree.specs.Values.{as_text, as_units, as_digits, as_number, as_flag, as_kind_of_comment, as_content_of_comment, as_source_kind, as_declaration_kind, as_numeric_kind, as_binary_operator, as_logical_operator, as_property_kind, as_unary_operator, as_update_operator, as_assignment_operator, as_kind_of_function, as_number_if_given, program_source, program_kind, program_jsx, program_typescript, comment_kind, comment_content, comment_leading, comment_attached_to, comment_preceded_by_newline, comment_followed_by_newline, directive_directive, variable_declaration_kind, variable_declaration_declare, variable_declarator_definite, binding_identifier_name, binding_identifier_symbol, identifier_reference_name, identifier_reference_reference, boolean_literal_value, numeric_literal_kind, numeric_literal_negative, numeric_literal_digits, numeric_literal_text, big_int_literal_value, string_literal_value, binary_expression_operator, logical_expression_operator, identifier_name_name, static_member_expression_optional, computed_member_expression_optional, call_expression_optional, call_expression_pure, object_property_kind, object_property_method, object_property_shorthand, object_property_computed, unary_expression_operator, update_expression_operator, update_expression_prefix, new_expression_pure, assignment_expression_operator, formal_parameter_is_override, formal_parameter_readonly, formal_parameter_optional, function_kind, function_is_async, function_generator, function_declare, function_pure, function_pife, arrow_function_expression_is_async, arrow_function_expression_pure, arrow_function_expression_pife, for_of_statement_is_await, label_identifier_name}
 use Rattle.jsgen_tree.specs.declared.types.NodeType.TheVariants as types
 
 -- each value is that of the field of its name
@@ -26,12 +26,13 @@ pub record FieldsAreNamed : Type 0 where
   pub static_member_expression : (a : Atoms) → static_member_expression_optional a ≡ as_flag (value_named (codes "optional") (fields types.StaticMemberExpression) a.values)
   pub computed_member_expression : (a : Atoms) → computed_member_expression_optional a ≡ as_flag (value_named (codes "optional") (fields types.ComputedMemberExpression) a.values)
   pub call_expression : (a : Atoms) → (call_expression_optional a ≡ as_flag (value_named (codes "optional") (fields types.CallExpression) a.values)) × (call_expression_pure a ≡ as_flag (value_named (codes "pure") (fields types.CallExpression) a.values))
-  pub object_property : (a : Atoms) → (object_property_kind a ≡ as_property_kind (value_named (codes "kind") (fields types.ObjectProperty) a.values)) × (object_property_method a ≡ value_named (codes "method") (fields types.ObjectProperty) a.values) × (object_property_shorthand a ≡ as_flag (value_named (codes "shorthand") (fields types.ObjectProperty) a.values)) × (object_property_computed a ≡ as_flag (value_named (codes "computed") (fields types.ObjectProperty) a.values))
+  pub object_property : (a : Atoms) → (object_property_kind a ≡ as_property_kind (value_named (codes "kind") (fields types.ObjectProperty) a.values)) × (object_property_method a ≡ as_flag (value_named (codes "method") (fields types.ObjectProperty) a.values)) × (object_property_shorthand a ≡ as_flag (value_named (codes "shorthand") (fields types.ObjectProperty) a.values)) × (object_property_computed a ≡ as_flag (value_named (codes "computed") (fields types.ObjectProperty) a.values))
   pub unary_expression : (a : Atoms) → unary_expression_operator a ≡ as_unary_operator (value_named (codes "operator") (fields types.UnaryExpression) a.values)
   pub update_expression : (a : Atoms) → (update_expression_operator a ≡ as_update_operator (value_named (codes "operator") (fields types.UpdateExpression) a.values)) × (update_expression_prefix a ≡ as_flag (value_named (codes "prefix") (fields types.UpdateExpression) a.values))
   pub new_expression : (a : Atoms) → new_expression_pure a ≡ as_flag (value_named (codes "pure") (fields types.NewExpression) a.values)
   pub assignment_expression : (a : Atoms) → assignment_expression_operator a ≡ as_assignment_operator (value_named (codes "operator") (fields types.AssignmentExpression) a.values)
   pub formal_parameter : (a : Atoms) → (formal_parameter_is_override a ≡ value_named (codes "is_override") (fields types.FormalParameter) a.values) × (formal_parameter_readonly a ≡ value_named (codes "readonly") (fields types.FormalParameter) a.values) × (formal_parameter_optional a ≡ value_named (codes "optional") (fields types.FormalParameter) a.values)
+  pub function : (a : Atoms) → (function_kind a ≡ as_kind_of_function (value_named (codes "kind") (fields types.Function) a.values)) × (function_is_async a ≡ value_named (codes "is_async") (fields types.Function) a.values) × (function_generator a ≡ value_named (codes "generator") (fields types.Function) a.values) × (function_declare a ≡ value_named (codes "declare") (fields types.Function) a.values) × (function_pure a ≡ as_flag (value_named (codes "pure") (fields types.Function) a.values)) × (function_pife a ≡ as_flag (value_named (codes "pife") (fields types.Function) a.values))
   pub arrow_function_expression : (a : Atoms) → (arrow_function_expression_is_async a ≡ value_named (codes "is_async") (fields types.ArrowFunctionExpression) a.values) × (arrow_function_expression_pure a ≡ as_flag (value_named (codes "pure") (fields types.ArrowFunctionExpression) a.values)) × (arrow_function_expression_pife a ≡ as_flag (value_named (codes "pife") (fields types.ArrowFunctionExpression) a.values))
   pub for_of_statement : (a : Atoms) → for_of_statement_is_await a ≡ value_named (codes "is_await") (fields types.ForOfStatement) a.values
   pub label_identifier : (a : Atoms) → label_identifier_name a ≡ as_text (value_named (codes "name") (fields types.LabelIdentifier) a.values)

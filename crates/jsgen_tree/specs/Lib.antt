@@ -8,6 +8,7 @@ pub mod Values
 pub mod Width
 pub mod Table
 pub mod Fields
+pub mod RowFields
 pub mod Sets
 pub mod Job
 pub mod Named

@@ -123,6 +123,12 @@ formal_parameter_rest a argument = node types.FormalParameterRest a (one argumen
 pattern abbrev pub formal_parameters : Atoms → Trees → Maybe → Tree
 formal_parameters a items rest = node types.FormalParameters a (many items (maybe rest no_slots))
 
+pattern abbrev pub function : Atoms → Maybe → Tree → Maybe → Tree
+function a id params body = node types.Function a (maybe id (one params (maybe body no_slots)))
+
+pattern abbrev pub function_body : Atoms → Trees → Trees → Tree
+function_body a directives statements = node types.FunctionBody a (many directives (many statements no_slots))
+
 pattern abbrev pub arrow_function : Atoms → Tree → Tree → Tree
 arrow_function a params body = node types.ArrowFunctionExpression a (one params (one body no_slots))
 
@@ -152,6 +158,9 @@ continue_statement a label = node types.ContinueStatement a (maybe label no_slot
 
 pattern abbrev pub break_statement : Atoms → Maybe → Tree
 break_statement a label = node types.BreakStatement a (maybe label no_slots)
+
+pattern abbrev pub return_statement : Atoms → Maybe → Tree
+return_statement a argument = node types.ReturnStatement a (maybe argument no_slots)
 
 pattern abbrev pub throw_statement : Atoms → Tree → Tree
 throw_statement a argument = node types.ThrowStatement a (one argument no_slots)

@@ -4,8 +4,8 @@ use Rattle.std.specs.Prelude.{[], ◌∷◌, map, option_map}
 use Rattle.jsgen_syntax.specs.Units.{js_units}
 use Rattle.jsgen_tree.specs.Characters.{characters, number_if_given, numeric_values}
 use Rattle.jsgen_tree.specs.Tree.{Tree, optional, trees, holed}
-use Rattle.jsgen_tree.specs.Atom.{no_value, text, units, number, flag, kind_of_comment, content_of_comment, source_kind, declaration_kind, binary_operator, logical_operator, property_kind, unary_operator, update_operator, assignment_operator}
-use Rattle.jsgen_tree.specs.Nodes.{program, comment, directive, variable_declaration, variable_declarator, binding_identifier, expression_statement, block, if_statement, empty_statement, identifier_reference, this_expression, null_literal, boolean_literal, numeric_literal, big_int_literal, string_literal, parenthesized, binary, logical, identifier_name, static_member, computed_member, call, chain, spread, array, object_property, object_expression, unary, new_target, update, new_expression, super, conditional, sequence, assignment, formal_parameter, formal_parameter_rest, formal_parameters, arrow_function, for_statement, for_in_statement, for_of_statement, while_statement, do_while_statement, label_identifier, labeled_statement, continue_statement, break_statement, throw_statement, debugger_statement, switch_statement, switch_case, try_statement, catch_clause}
+use Rattle.jsgen_tree.specs.Atom.{no_value, text, units, number, flag, kind_of_comment, content_of_comment, source_kind, declaration_kind, binary_operator, logical_operator, property_kind, unary_operator, update_operator, assignment_operator, kind_of_function}
+use Rattle.jsgen_tree.specs.Nodes.{program, comment, directive, variable_declaration, variable_declarator, binding_identifier, expression_statement, block, if_statement, empty_statement, identifier_reference, this_expression, null_literal, boolean_literal, numeric_literal, big_int_literal, string_literal, parenthesized, binary, logical, identifier_name, static_member, computed_member, call, chain, spread, array, object_property, object_expression, unary, new_target, update, new_expression, super, conditional, sequence, assignment, formal_parameter, formal_parameter_rest, formal_parameters, function, function_body, arrow_function, for_statement, for_in_statement, for_of_statement, while_statement, do_while_statement, label_identifier, labeled_statement, continue_statement, break_statement, return_statement, throw_statement, debugger_statement, switch_statement, switch_case, try_statement, catch_clause}
 use Rattle.jsgen_tree.specs.declared.nodes.ExpressionNode.{ExpressionNode}
 use Rattle.jsgen_tree.specs.declared.nodes.DeclarationNode.{DeclarationNode}
 use Rattle.jsgen_tree.specs.declared.nodes.StatementNode.{StatementNode}
@@ -50,6 +50,8 @@ use Rattle.jsgen_tree.specs.declared.assignments.AssignmentExpression.{Assignmen
 use Rattle.jsgen_tree.specs.declared.functions.FormalParameter.{FormalParameter}
 use Rattle.jsgen_tree.specs.declared.functions.FormalParameterRest.{FormalParameterRest}
 use Rattle.jsgen_tree.specs.declared.functions.FormalParameters.{FormalParameters}
+use Rattle.jsgen_tree.specs.declared.functions.Function.{Function}
+use Rattle.jsgen_tree.specs.declared.functions.FunctionBody.{FunctionBody}
 use Rattle.jsgen_tree.specs.declared.functions.ArrowFunctionExpression.{ArrowFunctionExpression}
 use Rattle.jsgen_tree.specs.declared.loops.ForStatement.{ForStatement}
 use Rattle.jsgen_tree.specs.declared.loops.ForInStatement.{ForInStatement}
@@ -60,6 +62,7 @@ use Rattle.jsgen_tree.specs.declared.loops.LabelIdentifier.{LabelIdentifier}
 use Rattle.jsgen_tree.specs.declared.loops.LabeledStatement.{LabeledStatement}
 use Rattle.jsgen_tree.specs.declared.loops.ContinueStatement.{ContinueStatement}
 use Rattle.jsgen_tree.specs.declared.loops.BreakStatement.{BreakStatement}
+use Rattle.jsgen_tree.specs.declared.loops.ReturnStatement.{ReturnStatement}
 use Rattle.jsgen_tree.specs.declared.loops.ThrowStatement.{ThrowStatement}
 use Rattle.jsgen_tree.specs.declared.loops.DebuggerStatement.{DebuggerStatement}
 use Rattle.jsgen_tree.specs.declared.choices.SwitchStatement.{SwitchStatement}
@@ -210,7 +213,7 @@ in_property_key plain (property_key.IdentifierName b) = identifier_name_row b.va
 in_property_key plain (property_key.Expression b) = in_expression plain b.value
 
 abbrev pub object_property_row : {N : Type 0} → (N → Tree) → ObjectProperty N → Tree
-object_property_row plain n = object_property (record { span = n.span; values = property_kind n.kind ∷ no_value ∷ flag n.shorthand ∷ flag n.computed ∷ [] }) (in_property_key plain n.key) (in_expression plain n.value)
+object_property_row plain n = object_property (record { span = n.span; values = property_kind n.kind ∷ flag n.method ∷ flag n.shorthand ∷ flag n.computed ∷ [] }) (in_property_key plain n.key) (in_expression plain n.value)
 
 abbrev pub in_object_property_kind : {N : Type 0} → (N → Tree) → ObjectPropertyKind N → Tree
 in_object_property_kind plain (object_property_kind.ObjectProperty b) = object_property_row plain b.value
@@ -262,7 +265,14 @@ formal_parameter_rest_row plain n = formal_parameter_rest (record { span = n.spa
 abbrev pub formal_parameters_row : {N : Type 0} → (N → Tree) → FormalParameters N → Tree
 formal_parameters_row plain n = formal_parameters (record { span = n.span; values = [] }) (trees (map (formal_parameter_row plain) n.items.items)) (optional (option_map (λ b. formal_parameter_rest_row plain b.value) n.rest))
 
+abbrev pub function_body_row : {N : Type 0} → (N → Tree) → FunctionBody N → Tree
+function_body_row plain n = function_body (record { span = n.span; values = [] }) (trees (map directive_row n.directives.items)) (trees (map (in_statement plain) n.statements.items))
+
+abbrev pub function_row : {N : Type 0} → (N → Tree) → Function N → Tree
+function_row plain n = function (record { span = n.span; values = kind_of_function n.kind ∷ no_value ∷ no_value ∷ no_value ∷ flag n.pure ∷ flag n.pife ∷ [] }) (optional (option_map (λ b. binding_identifier_row b.value) n.id)) (formal_parameters_row plain n.params.value) (optional (option_map (λ b. function_body_row plain b.value) n.body))
+
 abbrev pub in_arrow_function_body : {N : Type 0} → (N → Tree) → ArrowFunctionBody N → Tree
+in_arrow_function_body plain (arrow_function_body.FunctionBody b) = function_body_row plain b.value
 in_arrow_function_body plain (arrow_function_body.Expression b) = in_expression plain b.value
 
 abbrev pub arrow_function_expression_row : {N : Type 0} → (N → Tree) → ArrowFunctionExpression N → Tree
@@ -304,6 +314,9 @@ continue_statement_row n = continue_statement (record { span = n.span; values = 
 
 abbrev pub break_statement_row : BreakStatement → Tree
 break_statement_row n = break_statement (record { span = n.span; values = [] }) (optional (option_map (λ b. label_identifier_row b.value) n.label))
+
+abbrev pub return_statement_row : {N : Type 0} → (N → Tree) → ReturnStatement N → Tree
+return_statement_row plain n = return_statement (record { span = n.span; values = [] }) (optional (option_map (in_expression plain) n.argument))
 
 abbrev pub throw_statement_row : {N : Type 0} → (N → Tree) → ThrowStatement N → Tree
 throw_statement_row plain n = throw_statement (record { span = n.span; values = [] }) (in_expression plain n.argument)
@@ -350,10 +363,12 @@ expression_plain plain (expression.Super b) = super_row b.value
 expression_plain plain (expression.ConditionalExpression b) = conditional_expression_row plain b.value
 expression_plain plain (expression.SequenceExpression b) = sequence_expression_row plain b.value
 expression_plain plain (expression.AssignmentExpression b) = assignment_expression_row plain b.value
+expression_plain plain (expression.Function b) = function_row plain b.value
 expression_plain plain (expression.ArrowFunctionExpression b) = arrow_function_expression_row plain b.value
 
 abbrev pub declaration_plain : {N : Type 0} → (N → Tree) → Declaration N → Tree
 declaration_plain plain (declaration.VariableDeclaration b) = variable_declaration_row plain b.value
+declaration_plain plain (declaration.Function b) = function_row plain b.value
 
 abbrev pub statement_plain : {N : Type 0} → (N → Tree) → Statement N → Tree
 statement_plain plain (statement.Declaration b) = in_declaration plain b.value
@@ -369,6 +384,7 @@ statement_plain plain (statement.DoWhileStatement b) = do_while_statement_row pl
 statement_plain plain (statement.LabeledStatement b) = labeled_statement_row plain b.value
 statement_plain plain (statement.ContinueStatement b) = continue_statement_row b.value
 statement_plain plain (statement.BreakStatement b) = break_statement_row b.value
+statement_plain plain (statement.ReturnStatement b) = return_statement_row plain b.value
 statement_plain plain (statement.ThrowStatement b) = throw_statement_row plain b.value
 statement_plain plain (statement.DebuggerStatement b) = debugger_statement_row b.value
 statement_plain plain (statement.SwitchStatement b) = switch_statement_row plain b.value

@@ -55,6 +55,7 @@ expression_span (expression.Super b) = b.value.span
 expression_span (expression.ConditionalExpression b) = b.value.span
 expression_span (expression.SequenceExpression b) = b.value.span
 expression_span (expression.AssignmentExpression b) = b.value.span
+expression_span (expression.Function b) = b.value.span
 expression_span (expression.ArrowFunctionExpression b) = b.value.span
 
 abbrev pub argument_span : {N : Type 0} → (N → Span) → Argument N → Span
@@ -81,6 +82,7 @@ assignment_target_span (assignment_target.StaticMemberExpression b) = b.value.sp
 assignment_target_span (assignment_target.ComputedMemberExpression b) = b.value.span
 
 abbrev pub arrow_function_body_span : {N : Type 0} → (N → Span) → ArrowFunctionBody N → Span
+arrow_function_body_span own (arrow_function_body.FunctionBody b) = b.value.span
 arrow_function_body_span own (arrow_function_body.Expression b) = own b.value.node
 
 abbrev pub for_statement_init_span : {N : Type 0} → (N → Span) → ForStatementInit N → Span
@@ -103,6 +105,7 @@ property_key_span own (property_key.Expression b) = own b.value.node
 
 abbrev pub declaration_span : {N : Type 0} → Declaration N → Span
 declaration_span (declaration.VariableDeclaration b) = b.value.span
+declaration_span (declaration.Function b) = b.value.span
 
 abbrev pub statement_span : {N : Type 0} → (N → Span) → Statement N → Span
 statement_span own (statement.Declaration b) = own b.value.node
@@ -118,6 +121,7 @@ statement_span own (statement.DoWhileStatement b) = b.value.span
 statement_span own (statement.LabeledStatement b) = b.value.span
 statement_span own (statement.ContinueStatement b) = b.value.span
 statement_span own (statement.BreakStatement b) = b.value.span
+statement_span own (statement.ReturnStatement b) = b.value.span
 statement_span own (statement.ThrowStatement b) = b.value.span
 statement_span own (statement.DebuggerStatement b) = b.value.span
 statement_span own (statement.SwitchStatement b) = b.value.span

@@ -12,7 +12,8 @@ use Rattle.jsgen_tree.specs.declared.collections.PropertyKind.{PropertyKind}
 use Rattle.jsgen_syntax.specs.declared.operator.UnaryOperator.{UnaryOperator}
 use Rattle.jsgen_syntax.specs.declared.operator.UpdateOperator.{UpdateOperator}
 use Rattle.jsgen_syntax.specs.declared.operator.AssignmentOperator.{AssignmentOperator}
-use Rattle.jsgen_tree.specs.Atom.{Atom, text, units, digits, number, flag, kind_of_comment, content_of_comment, source_kind, declaration_kind, numeric_kind, binary_operator, logical_operator, property_kind, unary_operator, update_operator, assignment_operator}
+use Rattle.jsgen_tree.specs.declared.functions.FunctionKind.{FunctionKind}
+use Rattle.jsgen_tree.specs.Atom.{Atom, text, units, digits, number, flag, kind_of_comment, content_of_comment, source_kind, declaration_kind, numeric_kind, binary_operator, logical_operator, property_kind, unary_operator, update_operator, assignment_operator, kind_of_function}
 use Rattle.jsgen_tree.specs.Tree.{Atoms}
 use Rattle.jsgen_tree.specs.Places.{value_at}
 use Rattle.jsgen_tree.specs.declared.statements.CommentKind.TheVariants as kind_of_comments
@@ -26,6 +27,7 @@ use Rattle.jsgen_tree.specs.declared.collections.PropertyKind.TheVariants as pro
 use Rattle.jsgen_syntax.specs.declared.operator.UnaryOperator.TheVariants as unary_operators
 use Rattle.jsgen_syntax.specs.declared.operator.UpdateOperator.TheVariants as update_operators
 use Rattle.jsgen_syntax.specs.declared.operator.AssignmentOperator.TheVariants as assignment_operators
+use Rattle.jsgen_tree.specs.declared.functions.FunctionKind.TheVariants as kind_of_functions
 
 -- ---- kinds of values; where the value is of another kind, any
 
@@ -92,6 +94,10 @@ as_update_operator v = update_operators.Increment
 abbrev pub as_assignment_operator : Atom → AssignmentOperator
 as_assignment_operator (assignment_operator x) = x
 as_assignment_operator v = assignment_operators.Assign
+
+abbrev pub as_kind_of_function : Atom → FunctionKind
+as_kind_of_function (kind_of_function x) = x
+as_kind_of_function v = kind_of_functions.Declaration
 
 abbrev pub as_number_if_given : Atom → Option ℕ
 as_number_if_given (number x) = Some x
@@ -203,9 +209,8 @@ call_expression_pure a = as_flag (value_at 1 a.values)
 abbrev pub object_property_kind : Atoms → PropertyKind
 object_property_kind a = as_property_kind (value_at 0 a.values)
 
--- not read yet
-abbrev pub object_property_method : Atoms → Atom
-object_property_method a = value_at 1 a.values
+abbrev pub object_property_method : Atoms → Bool
+object_property_method a = as_flag (value_at 1 a.values)
 
 abbrev pub object_property_shorthand : Atoms → Bool
 object_property_shorthand a = as_flag (value_at 2 a.values)
@@ -239,6 +244,27 @@ formal_parameter_readonly a = value_at 1 a.values
 -- not read yet
 abbrev pub formal_parameter_optional : Atoms → Atom
 formal_parameter_optional a = value_at 2 a.values
+
+abbrev pub function_kind : Atoms → FunctionKind
+function_kind a = as_kind_of_function (value_at 0 a.values)
+
+-- not read yet
+abbrev pub function_is_async : Atoms → Atom
+function_is_async a = value_at 1 a.values
+
+-- not read yet
+abbrev pub function_generator : Atoms → Atom
+function_generator a = value_at 2 a.values
+
+-- not read yet
+abbrev pub function_declare : Atoms → Atom
+function_declare a = value_at 3 a.values
+
+abbrev pub function_pure : Atoms → Bool
+function_pure a = as_flag (value_at 4 a.values)
+
+abbrev pub function_pife : Atoms → Bool
+function_pife a = as_flag (value_at 5 a.values)
 
 -- not read yet
 abbrev pub arrow_function_expression_is_async : Atoms → Atom

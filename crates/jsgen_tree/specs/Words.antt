@@ -5,10 +5,12 @@ use Rattle.jsgen_tree.specs.declared.statements.CommentKind.{CommentKind}
 use Rattle.jsgen_tree.specs.declared.statements.CommentContent.{CommentContent}
 use Rattle.jsgen_tree.specs.declared.statements.VariableDeclarationKind.{VariableDeclarationKind}
 use Rattle.jsgen_tree.specs.declared.collections.PropertyKind.{PropertyKind}
+use Rattle.jsgen_tree.specs.declared.functions.FunctionKind.{FunctionKind}
 use Rattle.jsgen_tree.specs.declared.statements.CommentKind.TheVariants as kind_of_comments
 use Rattle.jsgen_tree.specs.declared.statements.CommentContent.TheVariants as content_of_comments
 use Rattle.jsgen_tree.specs.declared.statements.VariableDeclarationKind.TheVariants as declaration_kinds
 use Rattle.jsgen_tree.specs.declared.collections.PropertyKind.TheVariants as property_kinds
+use Rattle.jsgen_tree.specs.declared.functions.FunctionKind.TheVariants as kind_of_functions
 
 abbrev pub kind_of_comment_word : CommentKind → List ℕ
 kind_of_comment_word kind_of_comments.Line = codes "line"
@@ -37,3 +39,9 @@ declaration_word declaration_kinds.Var = codes "var"
 
 abbrev pub property_word : PropertyKind → List ℕ
 property_word property_kinds.Init = codes "init"
+property_word property_kinds.Get = codes "get"
+property_word property_kinds.Set = codes "set"
+
+abbrev pub function_word : FunctionKind → List ℕ
+function_word kind_of_functions.Declaration = codes "declaration"
+function_word kind_of_functions.Expression = codes "expression"

@@ -7,10 +7,12 @@ use crate::nodes::{ExpressionNode, Node};
 use crate::sets::{ArrayExpressionElement, ObjectPropertyKind, PropertyKey};
 use jsgen_syntax::Span;
 
-/// What a property is: so far one with a value.
+/// What a property is: one with a value, or an accessor.
 #[derive(Clone, Copy, Debug, PartialEq, Eq)]
 pub enum PropertyKind {
     Init,
+    Get,
+    Set,
 }
 
 impl PropertyKind {
@@ -20,6 +22,8 @@ impl PropertyKind {
     {
         match self {
             PropertyKind::Init => "init",
+            PropertyKind::Get => "get",
+            PropertyKind::Set => "set",
         }
     }
 }
@@ -45,6 +49,8 @@ pub struct ObjectProperty<N = Node> {
     pub kind: PropertyKind,
     pub key: PropertyKey<N>,
     pub value: ExpressionNode<N>,
+    /// Its value is a function that is written as a method.
+    pub method: bool,
     /// Of a key `__proto__` it tells the property from one that sets the prototype. Of other keys nothing depends on it.
     pub shorthand: bool,
     pub computed: bool,

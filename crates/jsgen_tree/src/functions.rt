@@ -1,9 +1,31 @@
 // Generated from tools/nodes/table.txt; edit that and run tools/nodes/generate.
 // Functions and their parameters (ECMA-262, clause 15).
+ghost use Rattle.std.specs.Prelude.{◌≡◌};
+ghost use Rattle.jsgen_tree.specs.Words.{function_word};
 
-use crate::nodes::{BindingPatternNode, ExpressionNode, Node};
-use crate::sets::ArrowFunctionBody;
+use crate::nodes::{BindingPatternNode, ExpressionNode, Node, StatementNode};
+use crate::sets::{ArrowFunctionBody, Declaration, Expression};
+use crate::statements::{BindingIdentifier, Directive};
 use jsgen_syntax::Span;
+
+/// Where a function stands: among statements, or in an expression.
+#[derive(Clone, Copy, Debug, PartialEq, Eq)]
+pub enum FunctionKind {
+    Declaration,
+    Expression,
+}
+
+impl FunctionKind {
+    /// The spelling.
+    pub fn as_str(self) -> &'static str
+        ensures { result.now ≡ function_word self }
+    {
+        match self {
+            FunctionKind::Declaration => "declaration",
+            FunctionKind::Expression => "expression",
+        }
+    }
+}
 
 /// A parameter, and the value that it has where none is given (ECMA-262, 15.1).
 #[derive(Drop)]
@@ -28,7 +50,29 @@ pub struct FormalParameters<N = Node> {
     pub rest: Option<Box<FormalParameterRest<N>>>,
 }
 
-/// A function whose body is an expression (ECMA-262, 15.3).
+/// A function with a name of its own or without (ECMA-262, 15.2).
+#[derive(Drop)]
+pub struct Function<N = Node> {
+    pub span: Span,
+    pub kind: FunctionKind,
+    pub id: Option<Box<BindingIdentifier>>,
+    /// The function has no effect but its result. Nothing is printed for it.
+    pub pure: bool,
+    /// The function is likely called where it stands, so that it is printed in parentheses.
+    pub pife: bool,
+    pub params: Box<FormalParameters<N>>,
+    pub body: Option<Box<FunctionBody<N>>>,
+}
+
+/// What a function does (ECMA-262, 15.2).
+#[derive(Drop)]
+pub struct FunctionBody<N = Node> {
+    pub span: Span,
+    pub directives: Vec<Directive>,
+    pub statements: Vec<StatementNode<N>>,
+}
+
+/// A function that is written with an arrow (ECMA-262, 15.3).
 #[derive(Drop)]
 pub struct ArrowFunctionExpression<N = Node> {
     pub span: Span,

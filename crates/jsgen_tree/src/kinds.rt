@@ -1,9 +1,11 @@
-// Which kind of declaration a node is.
-ghost use Rattle.std.specs.Prelude.{◌≡◌};
-ghost use Rattle.jsgen_tree.specs.Inside.{declared_kind};
-ghost use Rattle.jsgen_tree.specs.Rows.{expression_plain, statement_plain, declaration_plain, binding_pattern_plain};
+// Which kind of declaration a node is, and which function.
+ghost use Rattle.std.specs.Prelude.{◌≡◌, option_map};
+ghost use Rattle.jsgen_tree.specs.Inside.{declared_kind, function_in, is_method};
+ghost use Rattle.jsgen_tree.specs.Rows.{function_row, expression_plain, statement_plain, declaration_plain, binding_pattern_plain};
 ghost use Rattle.jsgen_tree.specs.Plain.{node_plain};
 
+use crate::collections::{ObjectProperty, PropertyKind};
+use crate::functions::Function;
 use crate::nodes::Node;
 use crate::sets::{BindingPattern, Declaration, Expression, Statement};
 use crate::statements::VariableDeclarationKind;
@@ -21,6 +23,19 @@ impl Node {
             Node::BindingPattern(node) => node.declared_kind(),
         }
     }
+
+    /// The function that it is, as a declaration or as an expression.
+    #[cycle(as_function)]
+    pub fn as_function(&self) -> Option<&Function>
+        ensures { option_map (λ f. function_row node_plain f.now) result ≡ function_in (node_plain self.now) }
+    {
+        match self {
+            Node::Expression(node) => node.as_function(),
+            Node::Statement(node) => node.as_function(),
+            Node::Declaration(node) => node.as_function(),
+            Node::BindingPattern(node) => node.as_function(),
+        }
+    }
 }
 
 impl Expression {
@@ -28,6 +43,15 @@ impl Expression {
         ensures { result ≡ declared_kind (expression_plain node_plain self.now) }
     {
         match self {
+            _ => None,
+        }
+    }
+
+    fn as_function(&self) -> Option<&Function>
+        ensures { option_map (λ f. function_row node_plain f.now) result ≡ function_in (expression_plain node_plain self.now) }
+    {
+        match self {
+            Expression::Function(node) => Some(node),
             _ => None,
         }
     }
@@ -43,6 +67,16 @@ impl Statement {
             _ => None,
         }
     }
+
+    #[cycle(as_function)]
+    pub(crate) fn as_function(&self) -> Option<&Function>
+        ensures { option_map (λ f. function_row node_plain f.now) result ≡ function_in (statement_plain node_plain self.now) }
+    {
+        match self {
+            Statement::Declaration(node) => node.get().as_function(),
+            _ => None,
+        }
+    }
 }
 
 impl Declaration {
@@ -51,6 +85,16 @@ impl Declaration {
     {
         match self {
             Declaration::VariableDeclaration(node) => Some(node.kind),
+            _ => None,
+        }
+    }
+
+    fn as_function(&self) -> Option<&Function>
+        ensures { option_map (λ f. function_row node_plain f.now) result ≡ function_in (declaration_plain node_plain self.now) }
+    {
+        match self {
+            Declaration::Function(node) => Some(node),
+            _ => None,
         }
     }
 }
@@ -61,6 +105,26 @@ impl BindingPattern {
     {
         match self {
             _ => None,
+        }
+    }
+
+    fn as_function(&self) -> Option<&Function>
+        ensures { option_map (λ f. function_row node_plain f.now) result ≡ function_in (binding_pattern_plain self.now) }
+    {
+        match self {
+            _ => None,
+        }
+    }
+}
+
+impl<N> ObjectProperty<N> {
+    /// Whether it is a method or an accessor, whose function follows its key (ECMA-262, 15.4).
+    pub fn is_method(&self) -> bool
+        ensures { result ≡ is_method self.now.kind self.now.method }
+    {
+        match self.kind {
+            PropertyKind::Init => self.method,
+            _ => true,
         }
     }
 }

@@ -38,13 +38,14 @@ pub use expressions::{
     NumericLiteral, ParenthesizedExpression, StaticMemberExpression, StringLiteral, ThisExpression,
 };
 pub use functions::{
-    ArrowFunctionExpression, FormalParameter, FormalParameterRest, FormalParameters,
+    ArrowFunctionExpression, FormalParameter, FormalParameterRest, FormalParameters, Function,
+    FunctionBody, FunctionKind,
 };
 pub use laws::fields_are_named;
 pub use loops::{
     BreakStatement, ContinueStatement, DebuggerStatement, DoWhileStatement, ForInStatement,
-    ForOfStatement, ForStatement, LabelIdentifier, LabeledStatement, ThrowStatement,
-    WhileStatement,
+    ForOfStatement, ForStatement, LabelIdentifier, LabeledStatement, ReturnStatement,
+    ThrowStatement, WhileStatement,
 };
 pub use names::is_proto;
 pub use nodes::{BindingPatternNode, DeclarationNode, ExpressionNode, Node, StatementNode};

@@ -1,5 +1,5 @@
 // Generated from tools/nodes/table.txt; edit that and run tools/nodes/generate.
-// Loops, labels and jumps (ECMA-262, 14.7 to 14.9, 14.13, 14.14 and 14.16).
+// Loops, labels and jumps (ECMA-262, 14.7 to 14.10, 14.13, 14.14 and 14.16).
 
 use crate::nodes::{ExpressionNode, Node, StatementNode};
 use crate::sets::{ForStatementInit, ForStatementLeft};
@@ -76,6 +76,13 @@ pub struct ContinueStatement {
 pub struct BreakStatement {
     pub span: Span,
     pub label: Option<Box<LabelIdentifier>>,
+}
+
+/// An end of a function, and its result (ECMA-262, 14.10).
+#[derive(Drop)]
+pub struct ReturnStatement<N = Node> {
+    pub span: Span,
+    pub argument: Option<ExpressionNode<N>>,
 }
 
 /// An end by a value that a handler may catch (ECMA-262, 14.14).

@@ -43,6 +43,7 @@ impl Expression {
             Expression::ConditionalExpression(_) => NodeType::ConditionalExpression,
             Expression::SequenceExpression(_) => NodeType::SequenceExpression,
             Expression::AssignmentExpression(_) => NodeType::AssignmentExpression,
+            Expression::Function(_) => NodeType::Function,
             Expression::ArrowFunctionExpression(_) => NodeType::ArrowFunctionExpression,
         }
     }
@@ -118,6 +119,7 @@ impl ArrowFunctionBody {
         ensures { result ≡ type_of (in_arrow_function_body node_plain self.now) }
     {
         match self {
+            ArrowFunctionBody::FunctionBody(_) => NodeType::FunctionBody,
             ArrowFunctionBody::Expression(node) => node.get().node_type(),
         }
     }
@@ -180,6 +182,7 @@ impl Declaration {
     {
         match self {
             Declaration::VariableDeclaration(_) => NodeType::VariableDeclaration,
+            Declaration::Function(_) => NodeType::Function,
         }
     }
 }
@@ -204,6 +207,7 @@ impl Statement {
             Statement::LabeledStatement(_) => NodeType::LabeledStatement,
             Statement::ContinueStatement(_) => NodeType::ContinueStatement,
             Statement::BreakStatement(_) => NodeType::BreakStatement,
+            Statement::ReturnStatement(_) => NodeType::ReturnStatement,
             Statement::ThrowStatement(_) => NodeType::ThrowStatement,
             Statement::DebuggerStatement(_) => NodeType::DebuggerStatement,
             Statement::SwitchStatement(_) => NodeType::SwitchStatement,

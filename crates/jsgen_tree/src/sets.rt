@@ -9,10 +9,11 @@ use crate::expressions::{
     ComputedMemberExpression, IdentifierName, IdentifierReference, LogicalExpression, NullLiteral,
     NumericLiteral, ParenthesizedExpression, StaticMemberExpression, StringLiteral, ThisExpression,
 };
-use crate::functions::ArrowFunctionExpression;
+use crate::functions::{ArrowFunctionExpression, Function, FunctionBody};
 use crate::loops::{
     BreakStatement, ContinueStatement, DebuggerStatement, DoWhileStatement, ForInStatement,
-    ForOfStatement, ForStatement, LabeledStatement, ThrowStatement, WhileStatement,
+    ForOfStatement, ForStatement, LabeledStatement, ReturnStatement, ThrowStatement,
+    WhileStatement,
 };
 use crate::nodes::{DeclarationNode, ExpressionNode, Node};
 use crate::operations::{NewExpression, NewTarget, Super, UnaryExpression, UpdateExpression};
@@ -47,6 +48,7 @@ pub enum Expression<N = Node> {
     ConditionalExpression(Box<ConditionalExpression<N>>),
     SequenceExpression(Box<SequenceExpression<N>>),
     AssignmentExpression(Box<AssignmentExpression<N>>),
+    Function(Box<Function<N>>),
     ArrowFunctionExpression(Box<ArrowFunctionExpression<N>>),
 }
 
@@ -88,9 +90,10 @@ pub enum AssignmentTarget<N = Node> {
     ComputedMemberExpression(Box<ComputedMemberExpression<N>>),
 }
 
-/// What an arrow function does: so far an expression whose value is the result.
+/// What an arrow function does: its statements, or an expression whose value is the result.
 #[derive(Drop)]
 pub enum ArrowFunctionBody<N = Node> {
+    FunctionBody(Box<FunctionBody<N>>),
     Expression(Box<ExpressionNode<N>>),
 }
 
@@ -127,6 +130,7 @@ pub enum PropertyKey<N = Node> {
 #[derive(Drop)]
 pub enum Declaration<N = Node> {
     VariableDeclaration(Box<VariableDeclaration<N>>),
+    Function(Box<Function<N>>),
 }
 
 #[derive(Drop)]
@@ -144,6 +148,7 @@ pub enum Statement<N = Node> {
     LabeledStatement(Box<LabeledStatement<N>>),
     ContinueStatement(Box<ContinueStatement>),
     BreakStatement(Box<BreakStatement>),
+    ReturnStatement(Box<ReturnStatement<N>>),
     ThrowStatement(Box<ThrowStatement<N>>),
     DebuggerStatement(Box<DebuggerStatement>),
     SwitchStatement(Box<SwitchStatement<N>>),

@@ -14,12 +14,13 @@ use crate::expressions::{
     NumericLiteral, ParenthesizedExpression, StaticMemberExpression, StringLiteral, ThisExpression,
 };
 use crate::functions::{
-    ArrowFunctionExpression, FormalParameter, FormalParameterRest, FormalParameters,
+    ArrowFunctionExpression, FormalParameter, FormalParameterRest, FormalParameters, Function,
+    FunctionBody,
 };
 use crate::loops::{
     BreakStatement, ContinueStatement, DebuggerStatement, DoWhileStatement, ForInStatement,
-    ForOfStatement, ForStatement, LabelIdentifier, LabeledStatement, ThrowStatement,
-    WhileStatement,
+    ForOfStatement, ForStatement, LabelIdentifier, LabeledStatement, ReturnStatement,
+    ThrowStatement, WhileStatement,
 };
 use crate::nodes::Node;
 use crate::operations::{NewExpression, NewTarget, Super, UnaryExpression, UpdateExpression};
@@ -364,6 +365,22 @@ impl<N> GetSpan for FormalParameters<N> {
     }
 }
 
+impl<N> GetSpan for Function<N> {
+    ghost own_span = { λ n. n.span };
+
+    fn span(&self) -> Span {
+        self.span
+    }
+}
+
+impl<N> GetSpan for FunctionBody<N> {
+    ghost own_span = { λ n. n.span };
+
+    fn span(&self) -> Span {
+        self.span
+    }
+}
+
 impl<N> GetSpan for ArrowFunctionExpression<N> {
     ghost own_span = { λ n. n.span };
 
@@ -437,6 +454,14 @@ impl GetSpan for ContinueStatement {
 }
 
 impl GetSpan for BreakStatement {
+    ghost own_span = { λ n. n.span };
+
+    fn span(&self) -> Span {
+        self.span
+    }
+}
+
+impl<N> GetSpan for ReturnStatement<N> {
     ghost own_span = { λ n. n.span };
 
     fn span(&self) -> Span {
@@ -521,6 +546,7 @@ impl<N> GetSpan for Expression<N> {
             Expression::ConditionalExpression(node) => node.span,
             Expression::SequenceExpression(node) => node.span,
             Expression::AssignmentExpression(node) => node.span,
+            Expression::Function(node) => node.span,
             Expression::ArrowFunctionExpression(node) => node.span,
         }
     }
@@ -589,6 +615,7 @@ impl<N: GetSpan> GetSpan for ArrowFunctionBody<N> {
 
     fn span(&self) -> Span {
         match self {
+            ArrowFunctionBody::FunctionBody(node) => node.span,
             ArrowFunctionBody::Expression(node) => node.get().span(),
         }
     }
@@ -646,6 +673,7 @@ impl<N> GetSpan for Declaration<N> {
     fn span(&self) -> Span {
         match self {
             Declaration::VariableDeclaration(node) => node.span,
+            Declaration::Function(node) => node.span,
         }
     }
 }
@@ -668,6 +696,7 @@ impl<N: GetSpan> GetSpan for Statement<N> {
             Statement::LabeledStatement(node) => node.span,
             Statement::ContinueStatement(node) => node.span,
             Statement::BreakStatement(node) => node.span,
+            Statement::ReturnStatement(node) => node.span,
             Statement::ThrowStatement(node) => node.span,
             Statement::DebuggerStatement(node) => node.span,
             Statement::SwitchStatement(node) => node.span,

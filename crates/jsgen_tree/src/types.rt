@@ -1,7 +1,7 @@
 // Generated from tools/nodes/table.txt; edit that and run tools/nodes/generate.
 // The types of nodes, and the sets that a field's child may be of.
 ghost use Rattle.std.specs.Prelude.{◌≡◌};
-ghost use Rattle.jsgen_tree.specs.Sets.{in_set, is_expression, is_argument, is_array_expression_element, is_chain_element, is_simple_assignment_target, is_assignment_target, is_for_statement_init, is_for_statement_left, is_object_property_kind, is_property_key, is_statement};
+ghost use Rattle.jsgen_tree.specs.Sets.{in_set, is_expression, is_argument, is_array_expression_element, is_chain_element, is_simple_assignment_target, is_assignment_target, is_arrow_function_body, is_for_statement_init, is_for_statement_left, is_object_property_kind, is_property_key, is_declaration, is_statement};
 
 /// The type of a node.
 #[derive(Clone, Copy, Debug, PartialEq, Eq)]
@@ -46,6 +46,8 @@ pub enum NodeType {
     FormalParameter,
     FormalParameterRest,
     FormalParameters,
+    Function,
+    FunctionBody,
     ArrowFunctionExpression,
     ForStatement,
     ForInStatement,
@@ -56,6 +58,7 @@ pub enum NodeType {
     LabeledStatement,
     ContinueStatement,
     BreakStatement,
+    ReturnStatement,
     ThrowStatement,
     DebuggerStatement,
     SwitchStatement,
@@ -83,7 +86,9 @@ pub enum NodeSet {
     AssignmentTarget,
     FormalParameter,
     FormalParameterRest,
+    BindingIdentifier,
     FormalParameters,
+    FunctionBody,
     ArrowFunctionBody,
     ForStatementInit,
     ForStatementLeft,
@@ -116,8 +121,10 @@ impl NodeType {
             NodeSet::AssignmentTarget => self.is_assignment_target(),
             NodeSet::FormalParameter => matches!(&self, NodeType::FormalParameter),
             NodeSet::FormalParameterRest => matches!(&self, NodeType::FormalParameterRest),
+            NodeSet::BindingIdentifier => matches!(&self, NodeType::BindingIdentifier),
             NodeSet::FormalParameters => matches!(&self, NodeType::FormalParameters),
-            NodeSet::ArrowFunctionBody => self.is_expression(),
+            NodeSet::FunctionBody => matches!(&self, NodeType::FunctionBody),
+            NodeSet::ArrowFunctionBody => self.is_arrow_function_body(),
             NodeSet::ForStatementInit => self.is_for_statement_init(),
             NodeSet::ForStatementLeft => self.is_for_statement_left(),
             NodeSet::LabelIdentifier => matches!(&self, NodeType::LabelIdentifier),
@@ -158,6 +165,7 @@ impl NodeType {
                 | NodeType::ConditionalExpression
                 | NodeType::SequenceExpression
                 | NodeType::AssignmentExpression
+                | NodeType::Function
                 | NodeType::ArrowFunctionExpression
         )
     }
@@ -193,6 +201,7 @@ impl NodeType {
                 | NodeType::ConditionalExpression
                 | NodeType::SequenceExpression
                 | NodeType::AssignmentExpression
+                | NodeType::Function
                 | NodeType::ArrowFunctionExpression
         )
     }
@@ -228,6 +237,7 @@ impl NodeType {
                 | NodeType::ConditionalExpression
                 | NodeType::SequenceExpression
                 | NodeType::AssignmentExpression
+                | NodeType::Function
                 | NodeType::ArrowFunctionExpression
         )
     }
@@ -268,6 +278,42 @@ impl NodeType {
         )
     }
 
+    /// Whether nodes of this type are in `ArrowFunctionBody`.
+    pub fn is_arrow_function_body(self) -> bool
+        ensures { result ≡ is_arrow_function_body self }
+    {
+        matches!(
+            &self,
+            NodeType::FunctionBody
+                | NodeType::IdentifierReference
+                | NodeType::ThisExpression
+                | NodeType::NullLiteral
+                | NodeType::BooleanLiteral
+                | NodeType::NumericLiteral
+                | NodeType::BigIntLiteral
+                | NodeType::StringLiteral
+                | NodeType::BinaryExpression
+                | NodeType::LogicalExpression
+                | NodeType::ParenthesizedExpression
+                | NodeType::StaticMemberExpression
+                | NodeType::ComputedMemberExpression
+                | NodeType::CallExpression
+                | NodeType::ChainExpression
+                | NodeType::ArrayExpression
+                | NodeType::ObjectExpression
+                | NodeType::UnaryExpression
+                | NodeType::UpdateExpression
+                | NodeType::NewExpression
+                | NodeType::NewTarget
+                | NodeType::Super
+                | NodeType::ConditionalExpression
+                | NodeType::SequenceExpression
+                | NodeType::AssignmentExpression
+                | NodeType::Function
+                | NodeType::ArrowFunctionExpression
+        )
+    }
+
     /// Whether nodes of this type are in `ForStatementInit`.
     pub fn is_for_statement_init(self) -> bool
         ensures { result ≡ is_for_statement_init self }
@@ -299,6 +345,7 @@ impl NodeType {
                 | NodeType::ConditionalExpression
                 | NodeType::SequenceExpression
                 | NodeType::AssignmentExpression
+                | NodeType::Function
                 | NodeType::ArrowFunctionExpression
         )
     }
@@ -354,8 +401,16 @@ impl NodeType {
                 | NodeType::ConditionalExpression
                 | NodeType::SequenceExpression
                 | NodeType::AssignmentExpression
+                | NodeType::Function
                 | NodeType::ArrowFunctionExpression
         )
+    }
+
+    /// Whether nodes of this type are in `Declaration`.
+    pub fn is_declaration(self) -> bool
+        ensures { result ≡ is_declaration self }
+    {
+        matches!(&self, NodeType::VariableDeclaration | NodeType::Function)
     }
 
     /// Whether nodes of this type are in `Statement`.
@@ -365,6 +420,7 @@ impl NodeType {
         matches!(
             &self,
             NodeType::VariableDeclaration
+                | NodeType::Function
                 | NodeType::ExpressionStatement
                 | NodeType::BlockStatement
                 | NodeType::IfStatement
@@ -377,6 +433,7 @@ impl NodeType {
                 | NodeType::LabeledStatement
                 | NodeType::ContinueStatement
                 | NodeType::BreakStatement
+                | NodeType::ReturnStatement
                 | NodeType::ThrowStatement
                 | NodeType::DebuggerStatement
                 | NodeType::SwitchStatement

@@ -95,7 +95,7 @@ test("parentheses are rows where the tree has them, but for those of a target", 
 });
 
 test("what isn't read yet is named with its place", () => {
-  const source = "a;\n  class B {}";
+  const source = "a;\n  class b {}";
   assert.throws(() => jobOf(parsed(source), { source }), {
     name: "NotRead",
     message: "ClassDeclaration in line 2, column 3 is not read yet",
@@ -131,99 +131,51 @@ test("parameters have the spans that the tree has of them", () => {
   assert.equal(spanOf("FormalParameters"), undefined);
 });
 
-test("a loop by `for` has three parts, each of which may be absent", () => {
-  assert.deepEqual(rowsOf("for (let i = 0; i < n; i++) ;").slice(0, -1), [
-    { type: "BindingIdentifier", name: "i" },
-    { type: "NumericLiteral", kind: "whole", digits: 0 },
-    { type: "VariableDeclarator", id: 0, init: 1 },
-    { type: "VariableDeclaration", kind: "let", declarations: [2] },
-    { type: "IdentifierReference", name: "i" },
-    { type: "IdentifierReference", name: "n" },
-    { type: "BinaryExpression", operator: "<", left: 4, right: 5 },
-    { type: "IdentifierReference", name: "i" },
-    { type: "UpdateExpression", operator: "++", argument: 7 },
-    { type: "EmptyStatement" },
-    { type: "ForStatement", init: 3, test: 6, update: 8, body: 9 },
+test("statements have their parts", () => {
+  const last = (source) => rowsOf(source).at(-2);
+  assert.deepEqual(last("for (;;) a"), { type: "ForStatement", body: 1 });
+  assert.deepEqual(last("for (var a = 1; b; c) d"), { type: "ForStatement", init: 3, test: 4, update: 5, body: 7 });
+  assert.deepEqual(last("for ((a) of b) c"), { type: "ForOfStatement", left: 0, right: 1, body: 3 });
+  assert.deepEqual(last("for (let a in b) c"), { type: "ForInStatement", left: 2, right: 3, body: 5 });
+  assert.deepEqual(last("do a; while (b)"), { type: "DoWhileStatement", body: 1, test: 2 });
+  assert.deepEqual(last("a: while (b) c"), { type: "LabeledStatement", label: 0, body: 4 });
+  assert.deepEqual(last("switch (a) { case b: c; default: }"), { type: "SwitchStatement", discriminant: 0, cases: [4, 5] });
+  assert.deepEqual(last("try {} catch {} finally {}"), { type: "TryStatement", block: 0, handler: 2, finalizer: 3 });
+  assert.deepEqual(rowsOf("try {} catch (a) {}")[3], { type: "CatchClause", param: 1, body: 2 });
+  assert.deepEqual(rowsOf("a: for (;;) continue a").slice(0, 3), [
+    { type: "LabelIdentifier", name: "a" }, { type: "LabelIdentifier", name: "a" }, { type: "ContinueStatement", label: 1 },
   ]);
-  assert.deepEqual(rowsOf("for (;;) ;").slice(0, -1), [{ type: "EmptyStatement" }, { type: "ForStatement", body: 0 }]);
-  assert.deepEqual(rowsOf("for (a;;) ;")[2], { type: "ForStatement", init: 0, body: 1 });
 });
 
-test("a loop over keys or values has a declaration or a target, without its parentheses", () => {
-  assert.deepEqual(rowsOf("for (const a in b) c;").slice(0, -1), [
+test("functions have their kind, their parameters and their bodies, with directives", () => {
+  assert.deepEqual(rowsOf("function f(a) { 'use strict'; return a }").slice(0, -1), [
+    { type: "BindingIdentifier", name: "f" },
     { type: "BindingIdentifier", name: "a" },
-    { type: "VariableDeclarator", id: 0 },
-    { type: "VariableDeclaration", kind: "const", declarations: [1] },
-    { type: "IdentifierReference", name: "b" },
-    { type: "IdentifierReference", name: "c" },
-    { type: "ExpressionStatement", expression: 4 },
-    { type: "ForInStatement", left: 2, right: 3, body: 5 },
-  ]);
-  const program = parsed("for ((async) of b) ;", { parentheses: true });
-  assert.deepEqual(jobOf(program, { spans: false }).rows.slice(0, -1), [
-    { type: "IdentifierReference", name: "async" },
-    { type: "IdentifierReference", name: "b" },
-    { type: "EmptyStatement" },
-    { type: "ForOfStatement", left: 0, right: 1, body: 2 },
-  ]);
-});
-
-test("loops by `while`, and labels with their jumps", () => {
-  assert.deepEqual(rowsOf("a: do { continue a; break; } while (b);").slice(0, -1), [
-    { type: "LabelIdentifier", name: "a" },
-    { type: "IdentifierReference", name: "b" },
-    { type: "LabelIdentifier", name: "a" },
-    { type: "ContinueStatement", label: 2 },
-    { type: "BreakStatement" },
-    { type: "BlockStatement", body: [3, 4] },
-    { type: "DoWhileStatement", test: 1, body: 5 },
-    { type: "LabeledStatement", label: 0, body: 6 },
-  ]);
-  assert.deepEqual(rowsOf("while (a) debugger;").slice(1, -1), [{ type: "DebuggerStatement" }, { type: "WhileStatement", test: 0, body: 1 }]);
-});
-
-test("the cases of `switch`, of which one has no test", () => {
-  assert.deepEqual(rowsOf("switch (a) { case 1: b; default: }").slice(0, -1), [
+    { type: "FormalParameter", pattern: 1 },
+    { type: "FormalParameters", items: [2] },
+    { type: "Directive", directive: "use strict" },
     { type: "IdentifierReference", name: "a" },
-    { type: "NumericLiteral", kind: "whole", digits: 1 },
-    { type: "IdentifierReference", name: "b" },
-    { type: "ExpressionStatement", expression: 2 },
-    { type: "SwitchCase", test: 1, consequent: [3] },
-    { type: "SwitchCase" },
-    { type: "SwitchStatement", discriminant: 0, cases: [4, 5] },
+    { type: "ReturnStatement", argument: 5 },
+    { type: "FunctionBody", directives: [4], statements: [6] },
+    { type: "Function", kind: "declaration", id: 0, params: 3, body: 7 },
   ]);
-});
-
-test("`try` has a handler, a finalizer or both", () => {
-  assert.deepEqual(rowsOf("try {} catch (a) { throw a; } finally {}").slice(0, -1), [
-    { type: "BlockStatement" },
-    { type: "BindingIdentifier", name: "a" },
-    { type: "IdentifierReference", name: "a" },
-    { type: "ThrowStatement", argument: 2 },
-    { type: "BlockStatement", body: [3] },
-    { type: "CatchClause", param: 1, body: 4 },
-    { type: "BlockStatement" },
-    { type: "TryStatement", block: 0, handler: 5, finalizer: 6 },
-  ]);
-  assert.deepEqual(rowsOf("try {} catch {}").slice(2, -1), [{ type: "CatchClause", body: 1 }, { type: "TryStatement", block: 0, handler: 2 }]);
-  assert.deepEqual(rowsOf("try {} finally {}")[2], { type: "TryStatement", block: 0, finalizer: 1 });
-});
-
-test("declarations by each word", () => {
-  assert.deepEqual(["const a = 1", "let a", "var a"].map((source) => rowsOf(source).at(-2).kind), ["const", "let", "var"]);
+  assert.deepEqual(rowsOf("f(() => {})").slice(1, 4).map(({ type }) => type), ["FormalParameters", "FunctionBody", "ArrowFunctionExpression"]);
+  const properties = rowsOf("f({ a() {}, get b() {}, set c(d) {} })").filter(({ type }) => type === "ObjectProperty");
+  assert.deepEqual(properties.map(({ kind, method }) => [kind, method]), [["init", true], ["get", undefined], ["set", undefined]]);
 });
 
 const NOT_READ_YET = [
-  ["for await (a of b) c;", "is_await of ForOfStatement in line 1, column 1 is not read yet"],
-  ["for ([a] of b) c;", "ArrayPattern in line 1, column 6 is not read yet"],
-  ["for (const { a } of b) c;", "ObjectPattern in line 1, column 12 is not read yet"],
-  ["try {} catch ([a]) {}", "ArrayPattern in line 1, column 15 is not read yet"],
   ["f(async () => a)", "is_async of ArrowFunctionExpression in line 1, column 3 is not read yet"],
-  ["f(() => { a })", "FunctionBody in line 1, column 9 is not read yet"],
+  ["async function f() {}", "is_async of Function in line 1, column 1 is not read yet"],
+  ["function* f() {}", "generator of Function in line 1, column 1 is not read yet"],
+  ["f({ async g() {} })", "is_async of Function in line 1, column 12 is not read yet"],
+  ["for await (a of b) c", "is_await of ForOfStatement in line 1, column 1 is not read yet"],
+  ["for ([a] of b) c", "ArrayPattern in line 1, column 6 is not read yet"],
+  ["try {} catch ({ a }) {}", "ObjectPattern in line 1, column 15 is not read yet"],
   ["f(({ a }) => a)", "ObjectPattern in line 1, column 4 is not read yet"],
   ["f(([a] = b) => a)", "ArrayPattern in line 1, column 4 is not read yet"],
   ["f((...[a]) => a)", "ArrayPattern in line 1, column 7 is not read yet"],
-  ["f((a = function () {}) => a)", "FunctionExpression in line 1, column 8 is not read yet"],
+  ["f((a = class {}) => a)", "ClassExpression in line 1, column 8 is not read yet"],
 ];
 
 for (const [source, message] of NOT_READ_YET) {

@@ -12,6 +12,7 @@ PROOFS = "Rattle.jsgen_check.proofs"
 VERDICT = "Rattle.jsgen_check.specs.Verdict"
 AROUND = "around: Surroundings<'_>"
 STEPS = ["no_rules", "two_children", "last_child", "of_row", "none_before", "turn", "turn_copied", "turns_end", "turn_or_hole", "turns_or_holes_end"]
+BODIES = ["FunctionBody"]  # what surrounds their children differs, by `within_body` of crates/jsgen_check/src/surroundings.rt
 PROGRAM = "Program"  # its row stands by hand, in crates/jsgen_check/src/program.rt
 RESULT = "Result<u64, TreeFault>"
 LISTS_THAT_ARE_TYPES = ["FormalParameter"]  # the plural of its name is the name of another type
@@ -94,20 +95,20 @@ def check_optional(kind):
 def calls(table, n):
     """The checks of a row's children: the field, the call, the fact of the call that gives its argument, and whether the
     child is of a type, so that it is surely of its set."""
-    found = []
+    found, around = [], "within" if n.name in BODIES else "around"
     for f in table.children(n):
         here = f"node.{f.rust}"
         if f.many == "*":
-            found.append((f.rust, f"{check_all(f.kind)}(&{here}, around)", "deref.value", None))
+            found.append((f.rust, f"{check_all(f.kind)}(&{here}, {around})", "deref.value", None))
         elif f.many == "?*":
-            found.append((f.rust, f"{check_all_or_holes(f.kind)}(&{here}, around)", "deref.value", None))
+            found.append((f.rust, f"{check_all_or_holes(f.kind)}(&{here}, {around})", "deref.value", None))
         elif f.many == "?":
-            found.append((f.rust, f"{check_optional(f.kind)}(&{here}, around)", None, None))
+            found.append((f.rust, f"{check_optional(f.kind)}(&{here}, {around})", None, None))
         elif nests(table, f.kind):
-            found.append((f.rust, f"check_child({here}.get(), NodeSet::{f.place or f.kind}, around)", "get", None))
+            found.append((f.rust, f"check_child({here}.get(), NodeSet::{f.place or f.kind}, {around})", "get", None))
         else:
             of_type = f.kind if f.kind in table.nodes else None
-            found.append((f.rust, f"{check(f.kind)}(&{here}, around)", "deref" if of_type else None, of_type))
+            found.append((f.rust, f"{check(f.kind)}(&{here}, {around})", "deref" if of_type else None, of_type))
     return found
 
 
@@ -120,6 +121,7 @@ def of_row(table, n):
     of, parameter = typed(table, n.name)
     below = calls(table, n)
     body = f"    let rules = {rules(n)}(node, around);\n" if n.rules else ""
+    body += "    let within = around.within_body();\n" if n.name in BODIES else ""
     body += "".join(f"    let {name} = {call};\n" for name, call, _, _ in below)
     own = "rules" if n.rules else "Ok(())"
     children = highest([name for name, _, _, _ in below]) if below else "Ok(0)"
@@ -151,8 +153,9 @@ def row_answers(table, n):
         return f"two_children c.{numbered('higher', len(below) - 2 - at)}.ensures {said[at]} ({children(at + 1)})"
 
     own = f"c.{rules(n)}-rules.ensures" if n.rules else "no_rules"
-    end = f"c.check_node.ensures {own} " + (f"({children(0)})" if below else "refl")
-    body = f"pub returns : goal.returns\nreturns {'g ' if table.generic(n.name) else ''}c = of_row _ _ _ _ {end}"
+    within = "c.within_body-within.result _ _ _ _ c.within_body-within.ensures" if n.name in BODIES else "c.args.around _ _ _ _ refl"
+    end = f"{within} c.check_node.ensures {own} " + (f"({children(0)})" if below else "refl")
+    body = f"pub returns : goal.returns\nreturns {'g ' if table.generic(n.name) else ''}c = of_row {end}"
     homes = [("Rattle.std.proofs.Common", ["◌≡◌", "refl", "sym", "◌∙◌"]), (f"{PROOFS}.Verdicts", ["of_right_set"]),
              (f"{PROOFS}.Steps", STEPS)]
     aliases = [(f"{SPECS}.declared.types.NodeSet.TheVariants", "sets"),

@@ -14,6 +14,8 @@ def write(table):
             answers(table, "+written_name", "nodes::Node::written_name-returns-in-{s.name}", "plain_{name}"),
         "proofs/+declared_kind/Answers.antt":
             answers(table, "+declared_kind", "nodes::Node::declared_kind-returns-in-{s.name}", "plain_{name}"),
+        "proofs/+as_function/Answers.antt":
+            answers(table, "+as_function", "nodes::Node::as_function-returns-in-{s.name}", "plain_{name}"),
     }
 
 

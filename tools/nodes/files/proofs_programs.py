@@ -16,9 +16,9 @@ def write(table):
     body = "module _ {A : Type 0} (f : A → Node) (h : (a : A) → IsPlain (node_plain (f a))) where\n" + "\n\n".join(clauses) + f"""
 
   pub layer_is_plain : (y : Node-F A) → IsPlain (layer (map-Node Node Tree node_plain (map-Node A Node f y))){layer}"""
-    homes = [("Rattle.std.proofs.Common", ["refl"]), (f"{SPECS}.Plain", ["node_plain", "layer"]), (CASES, lemma_names(table)),
+    homes = [("Rattle.std.proofs.Common", ["refl"]), ("Rattle.std.proofs.lemmas.Bool", ["and_from"]), (f"{SPECS}.Plain", ["node_plain", "layer"]), (CASES, lemma_names(table)),
              (f"{DECLARED}.nodes.Node", ["Node", "Node-F", "map-Node"])] + TREE + sets_in_antt(table)
-    homes += [("Rattle.jsgen_tree.proofs.Layers", ["with_hole"]), (f"{MODEL}.specs.Plain", ["IsPlain"]), (f"{MODEL}.proofs.PlainRows", ["no_hole_changed", "all_changed", "all_changed_or_holes", "if_given_plain", "number_is_plain", "string_is_plain"])]
+    homes += [("Rattle.jsgen_tree.proofs.Layers", ["with_hole"]), (f"{MODEL}.specs.Plain", ["IsPlain"]), (f"{MODEL}.proofs.PlainRows", ["no_hole", "all_plain", "no_hole_changed", "all_changed", "all_changed_or_holes", "if_given_plain", "number_is_plain", "string_is_plain"])]
     every = [(f"{DECLARED}.nodes.Node.TheOpen", "opened")] + aliases(table)
     about = "A node of Rust is plain where its children are."
     return {"crates/jsgen_model/proofs/Programs.antt": layout.antt(about, homes, every, body)}
@@ -60,13 +60,20 @@ def row(table, n, at, name, there):
 def itself(table, n, at):
     if n.name in OWN:
         return OWN[n.name].replace("{}", at)
-    lists = [f for f in table.children(n) if f.many == "*"]
-    if len(lists) > 1:
-        raise SystemExit(f"{n.name}: the plainness of a type with two lists has no form yet")
-    return f"no_hole_changed _ _ _ {at}.{lists[0].rust}.items" if lists else "refl"
+    lists = [whole_list(table, f, at) for f in table.children(n) if f.many == "*"]
+    if len(lists) > 2:
+        raise SystemExit(f"{n.name}: the plainness of a type with three lists has no form yet")
+    return f"and_from _ _ ({lists[0]}) ({lists[1]})" if len(lists) == 2 else lists[0] if lists else "refl"
+
+
+def whole_list(table, f, at):
+    """Why a list has no hole."""
+    return f"no_hole_changed _ _ _ {at}.{f.rust}.items" if needs_steps(table, f) else f"no_hole _ {at}.{f.rust}.items"
 
 
 def child(table, f, at, name, there):
+    if f.many == "*" and not needs_steps(table, f):
+        return f"all_plain _ (λ d. {row(table, table.nodes[f.kind], 'd', name, {})}) {at}.items"
     if f.many == "*":
         return f"all_changed _ _ _ {one_of_many(table, f.kind)} {at}.items"
     if f.many == "?*":

@@ -1,4 +1,4 @@
-"""The reader's src/child_sets.rt: what is made of a row at a place for children of each set; and src/set_fields.rt: the
+"""The reader's src/child_sets.rt and src/members.rt: what is made of a row at a place for children of each set; and src/set_fields.rt: the
 readers of fields that hold them."""
 
 import layout
@@ -12,7 +12,8 @@ CHILD = """ensures {{ IfOk result (λ child. option_map {plain} child
 
 
 def write(table):
-    return {"crates/jsgen_fields/src/child_sets.rt": impls(table), "crates/jsgen_fields/src/set_fields.rt": readers(table)}
+    return {"crates/jsgen_fields/src/child_sets.rt": impls(table), "crates/jsgen_fields/src/members.rt": members(table),
+            "crates/jsgen_fields/src/set_fields.rt": readers(table)}
 
 
 def places(table):
@@ -45,24 +46,38 @@ def plain_at(table, name, boxed, child):
 
 # ---- src/child_sets.rt
 
-def impls(table):
-    bodies = [impl(table, name, boxed) for name, boxed in places(table)]
-    inside = [one_within(table, name, g) for name, _ in places(table) for g in large(table) if is_within(table, name, g)]
-    if inside:
-        bodies += ["// ---- a member of a set within the set, which stands in a box of its own"] + inside
-    of_some = [f for name, boxed in places(table) for f in parts(table, name, boxed)]
-    if of_some:
-        bodies += ["// ---- a place that takes some types of a set"] + of_some
-    body = "\n\n".join(bodies)
-    prelude = ["◌≡◌", "IfOk", "Some", "None", "option_map", "if◌then◌else◌"]
-    ghosts = [("Rattle.std.specs.Prelude", prelude), (f"{SPECS}.Tree", ["type_of"]), (f"{SPECS}.Sets", ["in_set"])]
+PRELUDE = ["◌≡◌", "IfOk", "Some", "None", "option_map", "if◌then◌else◌"]
+
+
+def file_of(table, about, homes, body):
+    ghosts = [("Rattle.std.specs.Prelude", PRELUDE), (f"{SPECS}.Tree", ["type_of"]), (f"{SPECS}.Sets", ["in_set"])]
     ghosts += row_names(table) + [(f"{READER}.specs.Kept", ["row_plain"])]
     tree = list(table.nodes) + list(table.sets) + [s.name + "Node" for s in table.nesting()] + ["NodeSet"]
-    homes = [("crate::children", ["Child"]), ("crate::kept", ["ReadNode", "Row"]),
-             ("crate::others", [kept(table, s) for s in outer(table)]), ("jsgen_tree", tree),
-             ("std::alloc", ["AllocError", "Global"])]
-    about = "What is made of a row where it is a child: a member of the set that the place is for."
+    homes = homes + [("crate::kept", ["ReadNode", "Row"]), ("crate::others", [kept(table, s) for s in outer(table)]),
+                     ("jsgen_tree", tree), ("std::alloc", ["AllocError", "Global"])]
     return layout.rust(about, ghosts, TYPES, homes, body)
+
+
+def members_within(table):
+    """The functions for a member of a set within a set, and the sets that they are for."""
+    return [(name, g) for name, _ in places(table) for g in large(table) if is_within(table, name, g)]
+
+
+def impls(table):
+    body = "\n\n".join(impl(table, name, boxed) for name, boxed in places(table))
+    functions = [within(name, g) for name, g in members_within(table)]
+    functions += [part(name, g, boxed) for name, boxed in places(table) for g in large(table) if has_part(table, name, g)]
+    homes = [("crate::children", ["Child"]), ("crate::members", functions)]
+    about = "What is made of a row where it is a child: a member of the set that the place is for."
+    return file_of(table, about, homes, body)
+
+
+def members(table):
+    bodies = ["// ---- a member of a set within the set, which stands in a box of its own"]
+    bodies += [one_within(table, name, g) for name, g in members_within(table)]
+    bodies += ["// ---- a place that takes some types of a set"]
+    bodies += [f for name, boxed in places(table) for f in parts(table, name, boxed)]
+    return file_of(table, "The members of sets that are made of a member of another.", [], "\n\n".join(bodies))
 
 
 def impl(table, name, boxed):
@@ -94,7 +109,11 @@ def made(table, name, boxed):
     arms = ""
     for g in groups(table):
         if isinstance(g, str):
-            if g in table.types_in(name):
+            outer = name in table.sets and g not in table.sets[name].members and holder(table, name, g)
+            if outer:
+                direct = f"N::{snake(outer.name)}_node({outer.name}::{g}(row))"
+                arms += f"            Row::{g}(row) => {within(name, outer)}(alloc, {direct}),\n"
+            elif g in table.types_in(name):
                 arms += f"            Row::{g}(row) => Ok(Some({member(table, name, g, boxed)})),\n"
         elif g.name == name:
             direct = held(table, g, "Box::into_inner(row)")
@@ -105,6 +124,11 @@ def made(table, name, boxed):
         elif some(table, name, g):
             arms += f"            Row::{g.name}(row) => Ok({part(name, g, boxed)}(Box::into_inner(row))),\n"
     return arms
+
+
+def holder(table, name, g):
+    """The set within the set that has the type as a member."""
+    return next((table.sets[m] for m in table.sets[name].members if m in table.sets and g in table.sets[m].members), None)
 
 
 def is_within(table, name, g):
@@ -132,7 +156,7 @@ def one_within(table, name, g):
     m, of = snake(g.name), child_type(table, name, False)
     made = f"{name}::{g.name}({m})"
     made = f"N::{snake(name)}_node({made})" if table.sets[name].nests else made
-    return f"""fn {within(name, g)}<N: ReadNode + Drop>(
+    return f"""pub fn {within(name, g)}<N: ReadNode + Drop>(
     alloc: Global,
     {m}: {g.name}Node<N>,
 ) -> Result<Option<{of}>, AllocError>
@@ -155,19 +179,22 @@ def part(name, g, boxed):
 
 def parts(table, name, boxed):
     """The functions that a place has for such sets."""
-    return [one_part(table, name, g, boxed) for g in large(table)
-            if g.name != name and not is_within(table, name, g) and some(table, name, g)]
+    return [one_part(table, name, g, boxed) for g in large(table) if has_part(table, name, g)]
+
+
+def has_part(table, name, g):
+    return g.name != name and not is_within(table, name, g) and some(table, name, g)
 
 
 def one_part(table, name, g, boxed):
     of, plain = child_type(table, name, boxed), child_plain(table, name, boxed)
     row_type = kept(table, g) + parameter(table, g.name)
     arms = "".join(f"        {g.name}::{m}(row) => Some({member(table, name, m, boxed)}),\n" for m in some(table, name, g))
-    rest = "        _ => None,\n" if len(some(table, name, g)) < len(own(table, g)) + len(inner(table, g)) else ""
+    rest = "        _ => None,\n" if len(some(table, name, g)) < len(g.members) else ""
     row = f"({plain_of_set(table, g)} {held(table, g, 'row')})"
     taken = f"    let {snake(g.name)} = row.{snake(g.name)};\n" if inner(table, g) else ""
     nests = "<N: ReadNode + Drop>" if "<N>" in row_type + of else ""
-    return f"""fn {part(name, g, boxed)}{nests}(row: {row_type}) -> Option<{of}>
+    return f"""pub fn {part(name, g, boxed)}{nests}(row: {row_type}) -> Option<{of}>
     ensures {{ option_map {plain} result
         ≡ (if in_set sets.{name} (type_of {row}) then Some {row} else None) }}
 {{

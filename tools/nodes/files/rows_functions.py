@@ -65,7 +65,7 @@ def root(name, text, nodes):
 
 def ghosts_of(nodes):
     return [("Rattle.std.specs.Prelude", ["◌≡◌", "true", "false"]), ("Rattle.serde_json.specs.View", ["view"]),
-            (f"{SPECS}.Fields", [snake(n.name) + "_fields" for n in nodes]),
+            (f"{SPECS}.RowFields", [snake(n.name) + "_fields" for n in nodes]),
             (f"{READER}.specs.Reads", ["Gives", "read_node", "read_typed"]), (f"{READER}.specs.Kept", ["entries", "row_plain"])]
 
 

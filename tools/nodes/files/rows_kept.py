@@ -1,5 +1,5 @@
 """The reader's src/kept.rt and specs/Kept.antt: the rows that were read, by the set that they are children of; and its
-src/others.rt and specs/Others.antt: the members of a set that are in no set within it."""
+src/others.rt and specs/Others.antt: the members of a set whose rows are kept by it, where others are kept elsewhere."""
 
 import layout
 from names import READER, SPECS, row_names, sets_in_antt, variants_of_sets
@@ -8,8 +8,9 @@ from table import snake, spoken
 # ---- how each type is kept, for all files of the reader
 
 def set_of(table, name):
-    """The set that a type's rows are kept by: the first that nests and has it; None where there is none."""
-    return next((s for s in table.nesting() if name in s.members), None)
+    """The set that a type's rows are kept by: the one that nests and has it; None where there is none, or more than one."""
+    sets = [s for s in table.nesting() if name in s.members]
+    return sets[0] if len(sets) == 1 else None
 
 
 def groups(table):
@@ -26,22 +27,22 @@ def large(table):
 
 
 def own(table, s):
-    """The types of a set that it has itself, and no set within it."""
-    return [m for m in s.members if m in table.nodes]
+    """The types of a set whose rows are kept by it."""
+    return [m for m in s.members if m in table.nodes and set_of(table, m)]
 
 
 def inner(table, s):
-    """The sets within a set."""
-    return [m for m in s.members if m in table.sets]
+    """The members of a set whose rows are kept elsewhere: the sets within it, and types that are in another set too."""
+    return [m for m in s.members if m not in own(table, s)]
 
 
 def outer(table):
-    """The sets of rows with a set within them."""
+    """The sets of rows with such members."""
     return [s for s in large(table) if inner(table, s)]
 
 
 def kept(table, s):
-    """What holds a set's rows: the set, or where a set is within it a member that isn't of that one."""
+    """What holds a set's rows: the set, or where some of its rows are kept elsewhere a member that isn't one of those."""
     return "Other" + s.name if inner(table, s) else s.name
 
 
@@ -179,7 +180,7 @@ def others(table):
     ghosts = [("Rattle.std.specs.Prelude", ["◌≡◌", "true"]),
               (f"{READER}.specs.Others", ["is_" + snake(kept(table, s)) for s in outer(table)])]
     homes = [("jsgen_tree", ["Node"] + list(table.sets))]
-    return layout.rust("The members of a set that are in no set within it.", ghosts, [], homes, body)
+    return layout.rust("The members of a set whose rows are kept by it.", ghosts, [], homes, body)
 
 
 def other(table, s):
@@ -199,7 +200,7 @@ def others_specs(table):
         clauses = "".join(f"\n{name} ({snake(s.name)}.{m} b) = false" for m in inner(table, s))
         parts.append(f"abbrev pub {name} : {{N : Type 0}} → {s.name} N → Bool{clauses}\n{name} s = true")
     homes = [("Rattle.std.specs.Prelude", ["Bool", "true", "false"])] + sets_in_antt(table)
-    return layout.antt("Which members of a set are in no set within it.", homes, variants_of_sets(table), "\n\n".join(parts))
+    return layout.antt("Which members of a set have rows that are kept by it.", homes, variants_of_sets(table), "\n\n".join(parts))
 
 
 # ---- specs/Kept.antt

@@ -15,5 +15,5 @@ returns c =
     let options = options_plain c.args.options.now in
     let tables = tables_of c.args.scoping c.args.private in
     let span = expression_spans c.args.expression.now ∙ ap span_of (plain_expression c.args.expression.now) in
-    let same = ap (λ x. record { options = options; tables = tables; source = x; is_mapped = false }) chars-nil in
+    let same = ap (λ x. record { options = options; tables = tables; source = x; is_mapped = false; in_function = false }) chars-nil in
     of_expression _ options tables _ (expression_plain node_plain c.args.expression.now) same (c.span.ensures ∙ span) c.check_top.ensures c.check_alone-found.ensures

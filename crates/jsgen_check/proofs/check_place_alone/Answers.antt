@@ -7,9 +7,9 @@ use Rattle.jsgen_check.proofs.check_place_alone.Goals as goal
 pub returns-in_err-check_set : goal.returns-in_err-check_set
 returns-in_err-check_set c =
     let span = expression_spans c.args.expression.now ∙ ap span_of (plain_expression c.args.expression.now) in
-    broken c.from_residual.ensures.1 (two_rules _ _ (found _ (rw (c.node_type.ensures, c.span-start.ensures, span) at c.in_err-check_set.ensures)))
+    broken c.from_residual.ensures.1 (two_rules _ _ (found _ (rw (c.node_type.ensures, c.expression_fits_kind-fits_kind.ensures, c.span-start.ensures, span) at c.in_err-check_set.ensures)))
 
 pub returns : goal.returns
 returns c =
     let span = expression_spans c.args.expression.now ∙ ap span_of (plain_expression c.args.expression.now) in
-    two_rules _ _ (kept (rw (c.node_type.ensures, c.span-start.ensures, span) at c.in_ok-check_set.ensures) (rw (c.expression_has_optional_link.ensures, c.span-start.ensures, span) at c.check_no_optional_link.ensures))
+    two_rules _ _ (kept (rw (c.node_type.ensures, c.expression_fits_kind-fits_kind.ensures, c.span-start.ensures, span) at c.in_ok-check_set.ensures) (rw (c.expression_has_optional_link.ensures, c.span-start.ensures, span) at c.check_no_optional_link.ensures))

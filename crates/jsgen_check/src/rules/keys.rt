@@ -1,20 +1,21 @@
-// The keys of properties.
+// Properties: their keys, and what methods and `__proto__` ask of key and value.
 #![tactic(auto, unfolding(jsgen_rules::specs::Verdict::verdict))]
 
-ghost use Rattle.std.specs.Prelude.{◌≡◌, not, false, option_map};
+ghost use Rattle.std.specs.Prelude.{◌≡◌, not, ◌&&◌, false, option_map};
 ghost use Rattle.std.specs.Option.{option_map_or};
 ghost use Rattle.std.specs.Str.{chars};
 ghost use Rattle.jsgen_tree.specs.Tree.{type_of, span_of};
-ghost use Rattle.jsgen_tree.specs.Inside.{without_parentheses, looked_up_in, written_name_in, is_proto, is_negative_big_integer};
+ghost use Rattle.jsgen_tree.specs.Inside.{without_parentheses, looked_up_in, written_name_in, is_proto, is_negative_number, is_negative_big_integer};
 ghost use Rattle.jsgen_tree.specs.Rows.{object_property_row, in_property_key, in_expression};
 ghost use Rattle.jsgen_tree.specs.Scoping.{tables_plain};
 ghost use Rattle.jsgen_tree.specs.Sets.{is_expression};
-ghost use Rattle.jsgen_model.specs.Valid.{own_faults, fault_if, may_be_key, key_faults, named_faults, shorthand_faults, is_literal_key};
-ghost use Rattle.jsgen_model.specs.declared.fault.TreeFault.TheVariants.{Name};
+ghost use Rattle.jsgen_model.specs.Valid.{own_faults, fault_if, may_be_key, key_faults, method_faults, named_faults, shorthand_faults, is_literal_key};
+ghost use Rattle.jsgen_model.specs.declared.fault.TreeFault.TheVariants.{Name, Place};
 ghost use Rattle.jsgen_rules.specs.Verdict.{verdict};
-ghost use Rattle.jsgen_check.specs.Keys.{is_big_integer};
+ghost use Rattle.jsgen_check.specs.Keys.{is_number, is_big_integer};
 ghost use Rattle.jsgen_check.specs.Verdict.{surroundings_plain};
 
+use crate::rules::functions::check_method_value;
 use crate::{CheckNode, Surroundings};
 use jsgen_model::TreeFault;
 use jsgen_tree::{ExpressionNode, NodeType, ObjectProperty, PropertyKey, Tables, is_proto};
@@ -57,6 +58,23 @@ fn is_literal_key(node_type: NodeType) -> bool
             | NodeType::NumericLiteral
             | NodeType::BigIntLiteral
     )
+}
+
+fn is_number(node_type: NodeType) -> bool
+    ensures { result ≡ is_number node_type }
+{
+    matches!(node_type, NodeType::NumericLiteral)
+}
+
+/// Whether it is a number with a minus before it, and no parentheses are round it.
+fn is_negative_number<N: CheckNode>(node: &N) -> bool
+    ensures { result ≡ is_negative_number (N.plain node.now) }
+{
+    if is_number(node.node_type()) {
+        node.is_negative()
+    } else {
+        false
+    }
 }
 
 fn is_big_integer(node_type: NodeType) -> bool
@@ -152,6 +170,35 @@ fn check_shorthand<N: CheckNode>(
     }
 }
 
+fn is_negative_number_key<N: CheckNode>(key: &PropertyKey<N>) -> bool
+    ensures { result ≡ is_negative_number (in_property_key N.plain key.now) }
+{
+    match key {
+        PropertyKey::IdentifierName(_) => false,
+        PropertyKey::Expression(node) => is_negative_number(node.get()),
+    }
+}
+
+/// The key of a method or an accessor, where it isn't computed, is no negative number.
+fn check_method_key<N: CheckNode>(computed: bool, key: &PropertyKey<N>) -> Result<(), TreeFault>
+    ensures { result ≡ verdict (fault_if (not computed && is_negative_number (in_property_key N.plain key.now)) (Place (span_of (in_property_key N.plain key.now)).start)) }
+{
+    if !computed && is_negative_number_key(key) {
+        return Err(TreeFault::Place {
+            start: key_start(key),
+        });
+    }
+    Ok(())
+}
+
+#[tactic(auto)]
+fn check_method<N: CheckNode>(node: &ObjectProperty<N>) -> Result<(), TreeFault>
+    ensures { result ≡ verdict (method_faults node.now.kind node.now.computed (in_property_key N.plain node.now.key) (in_expression N.plain node.now.value)) }
+{
+    check_method_key(node.computed, &node.key)?;
+    check_method_value(node.kind, node.value.get())
+}
+
 #[tactic(auto)]
 pub fn check_object_property_rules<N: CheckNode>(
     node: &ObjectProperty<N>,
@@ -160,5 +207,8 @@ pub fn check_object_property_rules<N: CheckNode>(
     ensures { result ≡ verdict (own_faults (surroundings_plain around.entry) (object_property_row N.plain node.now)) }
 {
     check_key(node.computed, &node.key)?;
+    if node.is_method() {
+        return check_method(node);
+    }
     check_shorthand(around.tables, node.shorthand, &node.key, &node.value)
 }

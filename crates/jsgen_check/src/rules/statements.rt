@@ -18,11 +18,11 @@ use jsgen_tree::{
     WhileStatement,
 };
 
-/// What a statement is followed by is no lexical declaration.
+/// What a statement is followed by is no declaration.
 fn check_followed<N: CheckNode>(body: &N) -> Result<(), TreeFault>
     ensures { result ≡ verdict (body_faults (N.plain body.now)) }
 {
-    check_body(body.declared_kind(), body.start())
+    check_body(body.is_declaration(), body.start())
 }
 
 fn check_alternate<N: CheckNode>(alternate: &Option<StatementNode<N>>) -> Result<(), TreeFault>

@@ -1,9 +1,10 @@
 // Generated from tools/nodes/table.txt; edit that and run tools/nodes/generate.
 // What is printed by itself, or at a level.
-ghost use Rattle.jsgen_tree.specs.Rows.{formal_parameter_row, formal_parameter_rest_row, formal_parameters_row, arrow_function_expression_row};
+ghost use Rattle.jsgen_tree.specs.Rows.{formal_parameter_row, formal_parameter_rest_row, formal_parameters_row, function_row, function_body_row, arrow_function_expression_row};
 ghost use Rattle.jsgen_model.specs.Spell.{spell};
 ghost use Rattle.jsgen_nodes.specs.Alone.{parameter_parts, by_itself};
 
+use crate::definitions::{print_function, print_function_body};
 use crate::functions::{
     print_arrow_function_expression, print_formal_parameter, print_formal_parameter_rest,
     print_formal_parameters,
@@ -12,7 +13,10 @@ use crate::{PrintAlone, PrintAtLevel, PrintNode};
 use jsgen_place::{Context, Place, Settings};
 use jsgen_printer::Printer;
 use jsgen_syntax::Memory;
-use jsgen_tree::{ArrowFunctionExpression, FormalParameter, FormalParameterRest, FormalParameters};
+use jsgen_tree::{
+    ArrowFunctionExpression, FormalParameter, FormalParameterRest, FormalParameters, Function,
+    FunctionBody,
+};
 
 #[tactic(auto, unfolding(crate::specs::Place::pen_after))]
 impl<N: PrintNode> PrintAlone for FormalParameter<N> {
@@ -53,6 +57,34 @@ impl<N: PrintNode> PrintAlone for FormalParameters<N> {
         context: Context,
     ) -> Result<(), Memory> {
         print_formal_parameters(self, p, Place::by_itself(settings, context))
+    }
+}
+
+#[tactic(auto, unfolding(crate::specs::Place::pen_after))]
+impl<N: PrintNode> PrintAlone for Function<N> {
+    ghost alone = { λ n settings context start. spell (function_row N.plain n) (by_itself settings context start) };
+
+    fn print_alone(
+        &self,
+        p: &mut Printer<'_>,
+        settings: Settings,
+        context: Context,
+    ) -> Result<(), Memory> {
+        print_function(self, p, Place::by_itself(settings, context))
+    }
+}
+
+#[tactic(auto, unfolding(crate::specs::Place::pen_after))]
+impl<N: PrintNode> PrintAlone for FunctionBody<N> {
+    ghost alone = { λ n settings context start. spell (function_body_row N.plain n) (by_itself settings context start) };
+
+    fn print_alone(
+        &self,
+        p: &mut Printer<'_>,
+        settings: Settings,
+        context: Context,
+    ) -> Result<(), Memory> {
+        print_function_body(self, p, Place::by_itself(settings, context))
     }
 }
 

@@ -1,13 +1,13 @@
 // Generated from tools/nodes/table.txt; edit that and run tools/nodes/generate.
 // What is printed by itself, or at a level.
-ghost use Rattle.jsgen_tree.specs.Rows.{for_statement_row, for_in_statement_row, for_of_statement_row, while_statement_row, do_while_statement_row, label_identifier_row, labeled_statement_row, continue_statement_row, break_statement_row, throw_statement_row, debugger_statement_row};
+ghost use Rattle.jsgen_tree.specs.Rows.{for_statement_row, for_in_statement_row, for_of_statement_row, while_statement_row, do_while_statement_row, label_identifier_row, labeled_statement_row, continue_statement_row, break_statement_row, return_statement_row, throw_statement_row, debugger_statement_row};
 ghost use Rattle.jsgen_model.specs.Spell.{spell};
 ghost use Rattle.jsgen_nodes.specs.Alone.{by_itself, as_statement};
 
 use crate::iterations::{print_for_in_statement, print_for_of_statement};
 use crate::jumps::{
     print_break_statement, print_continue_statement, print_debugger_statement,
-    print_label_identifier, print_labeled_statement, print_throw_statement,
+    print_label_identifier, print_labeled_statement, print_return_statement, print_throw_statement,
 };
 use crate::loops::{print_do_while_statement, print_for_statement, print_while_statement};
 use crate::{PrintAlone, PrintNode};
@@ -16,8 +16,8 @@ use jsgen_printer::Printer;
 use jsgen_syntax::Memory;
 use jsgen_tree::{
     BreakStatement, ContinueStatement, DebuggerStatement, DoWhileStatement, ForInStatement,
-    ForOfStatement, ForStatement, LabelIdentifier, LabeledStatement, ThrowStatement,
-    WhileStatement,
+    ForOfStatement, ForStatement, LabelIdentifier, LabeledStatement, ReturnStatement,
+    ThrowStatement, WhileStatement,
 };
 
 #[tactic(auto, unfolding(crate::specs::Place::pen_after))]
@@ -151,6 +151,21 @@ impl PrintAlone for BreakStatement {
     ) -> Result<(), Memory> {
         let _ = context;
         print_break_statement(self, p, Place::among_statements(settings))
+    }
+}
+
+#[tactic(auto, unfolding(crate::specs::Place::pen_after))]
+impl<N: PrintNode> PrintAlone for ReturnStatement<N> {
+    ghost alone = { λ n settings context start. spell (return_statement_row N.plain n) (as_statement settings context start) };
+
+    fn print_alone(
+        &self,
+        p: &mut Printer<'_>,
+        settings: Settings,
+        context: Context,
+    ) -> Result<(), Memory> {
+        let _ = context;
+        print_return_statement(self, p, Place::among_statements(settings))
     }
 }
 

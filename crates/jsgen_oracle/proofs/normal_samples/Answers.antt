@@ -9,7 +9,11 @@ use Rattle.jsgen_syntax.specs.declared.operator.LogicalOperator.{LogicalOperator
 use Rattle.jsgen_syntax.specs.declared.operator.LogicalOperator.TheVariants.{And}
 use Rattle.jsgen_tree.specs.declared.types.NodeType.TheVariants as types
 use Rattle.jsgen_tree.specs.Tree.{Tree, node, absent, given, no_trees, more}
-use Rattle.jsgen_tree.specs.Values.{identifier_reference_name, binary_expression_operator, logical_expression_operator}
+use Rattle.jsgen_tree.specs.declared.collections.PropertyKind.{PropertyKind}
+use Rattle.jsgen_tree.specs.declared.collections.PropertyKind.TheVariants as property_kinds
+use Rattle.jsgen_tree.specs.declared.functions.FunctionKind.{FunctionKind}
+use Rattle.jsgen_tree.specs.declared.functions.FunctionKind.TheVariants as function_kinds
+use Rattle.jsgen_tree.specs.Values.{identifier_reference_name, binary_expression_operator, logical_expression_operator, object_property_kind, object_property_method, function_kind}
 use Rattle.jsgen_tree.specs.Nodes as tree
 use Rattle.jsgen_oracle.proofs.normal_samples.Goals as goal
 
@@ -67,6 +71,38 @@ abbrev has_bare_parameter : Tree → Bool
 has_bare_parameter (tree.arrow_function a (tree.formal_parameters b (more (tree.formal_parameter d pattern absent) ps) rest) body) = true
 has_bare_parameter t = false
 
+abbrev is_declared : FunctionKind → Bool
+is_declared function_kinds.Declaration = true
+is_declared function_kinds.Expression = false
+
+abbrev declares : Tree → Bool
+declares (tree.function a id params body) = is_declared (function_kind a)
+declares t = false
+
+abbrev has_no_name : Tree → Bool
+has_no_name (tree.function a absent params body) = true
+has_no_name t = false
+
+abbrev has_body : Tree → Bool
+has_body (tree.arrow_function a params (tree.function_body b directives statements)) = true
+has_body t = false
+
+abbrev has_no_result : Tree → Bool
+has_no_result (tree.return_statement a absent) = true
+has_no_result t = false
+
+abbrev has_method : Tree → Bool
+has_method (tree.object_property a key value) = object_property_method a
+has_method t = false
+
+abbrev is_get : PropertyKind → Bool
+is_get property_kinds.Get = true
+is_get kind = false
+
+abbrev has_getter : Tree → Bool
+has_getter (tree.object_property a key value) = is_get (object_property_kind a)
+has_getter t = false
+
 pub returns : goal.returns
 unfolding digits string_value
 returns c = record {
@@ -90,4 +126,12 @@ returns c = record {
   marks_of_an_arrow = refl;
   parameter_without_value = λ e. both_ways true (ap has_bare_parameter e) refl;
   parameter_or_rest = λ e. both_ways true (ap has_bare_parameter e) refl;
+  marks_of_a_function = refl;
+  declaration_or_expression = λ e. both_ways true (ap declares e) refl;
+  function_with_name = λ e. both_ways true (ap has_no_name e) refl;
+  body_or_object = λ e. both_ways true (ap has_body e) refl;
+  result_or_none = λ e. both_ways true (ap has_no_result e) refl;
+  method_or_value = λ e. both_ways true (ap has_method e) refl;
+  accessor_as_method = refl;
+  getter_or_setter = λ e. both_ways true (ap has_getter e) refl;
 }

@@ -1,12 +1,26 @@
-use Rattle.std.proofs.Common.{ap, sym, ◌∙◌, rules}
-use Rattle.jsgen_tree.specs.Inside.{without_parentheses}
+use Rattle.std.proofs.Common.{◌≡◌, true, refl, Box, rules}
+use Rattle.std.specs.declared.alloc.Global.{Global}
+use Rattle.jsgen_tree.specs.Tree.{Tree, type_of}
+use Rattle.jsgen_tree.specs.Rows.{expression_plain}
+use Rattle.jsgen_tree.specs.Inside.{is_only_expression}
+use Rattle.jsgen_tree.specs.declared.nodes.Node.{Node}
+use Rattle.jsgen_tree.specs.declared.functions.Function.{Function}
+use Rattle.jsgen_tree.specs.declared.sets.Expression.{Expression}
+use Rattle.jsgen_tree.specs.declared.sets.Expression.TheVariants as expressions
 use Rattle.jsgen_tree.proofs.Knot.{plain_expression, plain_statement}
-use Rattle.jsgen_tree.proofs.Members.{expression_is_one, declaration_is_none, binding_pattern_is_none}
+use Rattle.jsgen_tree.proofs.Members.{declaration_is_none, binding_pattern_is_none}
 use Rattle.jsgen_tree.proofs.+inner.Goals as goal
 
+-- an expression that is no function
+only_expression : (h : Node → Tree) (n : Expression Node) → ((b : Box (Function Node) Global) → n ≡ expressions.Function b → ⊥) → is_only_expression (type_of (expression_plain h n)) ≡ true
+only_expression h (expressions.Function b) no_function = absurd (no_function b refl)
+only_expression h n no_function = refl
+
+pub inside::Expression::inner-returns-in_default : goal.inside::Expression::inner-returns-in_default
+inside::Expression::inner-returns-in_default t c = (only_expression _ c.args.self.now c.in_default.not-Function, c.without_parentheses.ensures)
+
 pub nodes::Node::inner_expression-returns-in-Expression : goal.nodes::Node::inner_expression-returns-in-Expression
-nodes::Node::inner_expression-returns-in-Expression t c =
-    rw c.in-Expression.is (expression_is_one c.in-Expression.expression, c.without_parentheses.ensures ∙ sym (ap without_parentheses (plain_expression c.in-Expression.expression)))
+nodes::Node::inner_expression-returns-in-Expression t c = search (rules, plain_expression)
 
 pub nodes::Node::inner_expression-returns-in-Statement : goal.nodes::Node::inner_expression-returns-in-Statement
 nodes::Node::inner_expression-returns-in-Statement t c = search (rules, plain_statement)

@@ -17,18 +17,18 @@ pub returns-in-Err-needed_expression : goal.returns-in-Err-needed_expression
 unfolding read_node
 returns-in-Err-needed_expression g c = λ told. rw (c.in-Ok.ensures, c.in-Ok-needed_property_key.ensures, c.in-Err-needed_expression.ensures told)
 
-pub returns-in-Err-field_not_given : goal.returns-in-Err-field_not_given
-unfolding read_node
-returns-in-Err-field_not_given g c = λ told. rw (c.in-Ok.ensures, c.in-Ok-needed_property_key.ensures, c.in-Ok-needed_expression.ensures, c.in-Err-field_not_given.ensures told)
-
 pub returns-in-Err-optional_flag : goal.returns-in-Err-optional_flag
 unfolding read_node
-returns-in-Err-optional_flag g c = λ told. rw (c.in-Ok.ensures, c.in-Ok-needed_property_key.ensures, c.in-Ok-needed_expression.ensures, c.in-Ok-field_not_given.ensures, c.in-Err-optional_flag.ensures told)
+returns-in-Err-optional_flag g c = λ told. rw (c.in-Ok.ensures, c.in-Ok-needed_property_key.ensures, c.in-Ok-needed_expression.ensures, c.in-Err-optional_flag.ensures told)
 
 pub returns-in-Err-optional_flag-2 : goal.returns-in-Err-optional_flag-2
 unfolding read_node
-returns-in-Err-optional_flag-2 g c = λ told. rw (c.in-Ok.ensures, c.in-Ok-needed_property_key.ensures, c.in-Ok-needed_expression.ensures, c.in-Ok-field_not_given.ensures, c.in-Ok-optional_flag.ensures, c.in-Err-optional_flag-2.ensures told)
+returns-in-Err-optional_flag-2 g c = λ told. rw (c.in-Ok.ensures, c.in-Ok-needed_property_key.ensures, c.in-Ok-needed_expression.ensures, c.in-Ok-optional_flag.ensures, c.in-Err-optional_flag-2.ensures told)
+
+pub returns-in-Err-optional_flag-3 : goal.returns-in-Err-optional_flag-3
+unfolding read_node
+returns-in-Err-optional_flag-3 g c = λ told. rw (c.in-Ok.ensures, c.in-Ok-needed_property_key.ensures, c.in-Ok-needed_expression.ensures, c.in-Ok-optional_flag.ensures, c.in-Ok-optional_flag-2.ensures, c.in-Err-optional_flag-3.ensures told)
 
 pub returns-in-Ok-boxed : goal.returns-in-Ok-boxed
 unfolding read_node
-returns-in-Ok-boxed g c = rw (c.in-Ok.ensures, c.in-Ok-needed_property_key.ensures, c.in-Ok-needed_expression.ensures, c.in-Ok-field_not_given.ensures, c.in-Ok-optional_flag.ensures, c.in-Ok-optional_flag-2.ensures) (gives_held _ (object_property_row g.N.ReadNode.plain) _ _ c.in-Ok-boxed.ensures)
+returns-in-Ok-boxed g c = rw (c.in-Ok.ensures, c.in-Ok-needed_property_key.ensures, c.in-Ok-needed_expression.ensures, c.in-Ok-optional_flag.ensures, c.in-Ok-optional_flag-2.ensures, c.in-Ok-optional_flag-3.ensures) (gives_held _ (object_property_row g.N.ReadNode.plain) _ _ c.in-Ok-boxed.ensures)

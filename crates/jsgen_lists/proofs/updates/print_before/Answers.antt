@@ -1,5 +1,5 @@
 use Rattle.std.proofs.Common.{refl}
-use Rattle.jsgen_model.specs.Spell.{update_item}
+use Rattle.jsgen_model.specs.Operators.{update_item}
 use Rattle.jsgen_printer.specs.Printer.{pen_of}
 use Rattle.jsgen_printer.proofs.Stops.{appends, stopped, stops_within, reaches_last, layout_appends}
 use Rattle.jsgen_lists.proofs.Operands.{place_behind_update}

@@ -84,3 +84,15 @@ is_binding_name-returns-in-Declaration t c = rw (c.in-Declaration.is, plain_decl
 
 pub is_binding_name-returns-in-BindingPattern : goal.is_binding_name-returns-in-BindingPattern
 is_binding_name-returns-in-BindingPattern t c = rw (c.in-BindingPattern.is, plain_binding_pattern c.in-BindingPattern.node) c.binding_pattern_is_name.ensures
+
+pub print_as_method-returns-in-Expression : goal.print_as_method-returns-in-Expression
+print_as_method-returns-in-Expression t c = rw (c.in-Expression.is, plain_expression c.in-Expression.node) c.print_expression_as_method.ensures
+
+pub print_as_method-returns-in-Statement : goal.print_as_method-returns-in-Statement
+print_as_method-returns-in-Statement t c = rw (c.in-Statement.is, plain_statement c.in-Statement.node) c.print_statement_as_method.ensures
+
+pub print_as_method-returns-in-Declaration : goal.print_as_method-returns-in-Declaration
+print_as_method-returns-in-Declaration t c = rw (c.in-Declaration.is, plain_declaration c.in-Declaration.node) c.print_declaration_as_method.ensures
+
+pub print_as_method-returns-in-BindingPattern : goal.print_as_method-returns-in-BindingPattern
+print_as_method-returns-in-BindingPattern t c = rw (c.in-BindingPattern.is, plain_binding_pattern c.in-BindingPattern.node) c.print_binding_pattern_as_method.ensures

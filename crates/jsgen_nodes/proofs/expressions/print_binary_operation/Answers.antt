@@ -1,4 +1,5 @@
-use Rattle.jsgen_model.specs.Spell.{left_level, right_level, operator_item}
+use Rattle.jsgen_model.specs.Spell.{left_level, right_level}
+use Rattle.jsgen_model.specs.Operators.{operator_item}
 use Rattle.jsgen_model.specs.Quotes.{is_export_mark}
 use Rattle.jsgen_printer.specs.Printer.{pen_of}
 use Rattle.jsgen_nodes.specs.Place.{pen_after}

@@ -1,6 +1,7 @@
 use Rattle.std.proofs.Common.{false}
 use Rattle.jsgen_syntax.specs.Operator.{logical_level, logical_lower_level}
-use Rattle.jsgen_model.specs.Spell.{unmixed, logical_item}
+use Rattle.jsgen_model.specs.Spell.{unmixed}
+use Rattle.jsgen_model.specs.Operators.{logical_item}
 use Rattle.jsgen_printer.specs.Printer.{pen_of}
 use Rattle.jsgen_nodes.specs.Place.{pen_after}
 use Rattle.jsgen_nodes.proofs.Operations.{operation_laid, logical_nowhere}

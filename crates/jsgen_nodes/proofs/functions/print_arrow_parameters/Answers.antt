@@ -22,4 +22,4 @@ pub returns-else-is_bare : goal.returns-else-is_bare
 unfolding pen_after
 returns-else-is_bare g c =
     let row = formal_parameters_row g.N.PrintNode.plain c.args.parameters.now in
-    rw (sym (c.is_bare.ensures row c.is_name_alone.ensures) ∙ c.if-is_bare.false) c.print_parameters_in_brackets.ensures
+    rw (sym (c.is_bare.ensures row c.is_name_alone.ensures) ∙ c.if-is_bare.false) (rw c.parameters-else-is_bare.ensures at c.print_parameters_in_brackets.ensures)

@@ -4,4 +4,4 @@ use Rattle.jsgen_nodes.proofs.Parts.{expression_past_4}
 use Rattle.jsgen_nodes.proofs.sets.print_expression_in_functions.Goals as goal
 
 pub unreachable-requires : goal.unreachable-requires
-unreachable-requires g c = expression_past_4 c.args.node.now c.requires c.in_default.not-ArrowFunctionExpression
+unreachable-requires g c = expression_past_4 c.args.node.now c.requires c.in_default.not-Function c.in_default.not-ArrowFunctionExpression

@@ -1,3 +1,4 @@
+use Rattle.std.proofs.Common.{inl}
 use Rattle.jsgen_tool.proofs.Promise.{due, prints}
 use Rattle.jsgen_tool.proofs.top.run.Goals as goal
 
@@ -9,10 +10,11 @@ returns g c = record {
   write = c.work-status.ensures.write;
   input = c.work-status.ensures.input;
   output = c.work-status.ensures.output;
-  due = λ is_print unread.
-      due c.work-status.result _ _ _ _ _ (λ usage. c.work-status.ensures.usage.0 usage is_print) c.work-status.ensures.read c.work-status.ensures.write c.work-status.ensures.input unread;
+  kept = c.work-status.ensures.kept;
+  due = λ is_command unread.
+      due c.work-status.result _ _ _ _ _ (λ usage. c.work-status.ensures.usage.0 usage is_command) c.work-status.ensures.read c.work-status.ensures.write c.work-status.ensures.input unread;
   prints = λ is_print job holds plain quiet.
-      prints c.work-status.result _ _ _ _ _ _ _ job (λ usage. c.work-status.ensures.usage.0 usage is_print) c.work-status.ensures.read c.work-status.ensures.write c.work-status.ensures.input c.work-status.ensures.output holds plain quiet;
+      prints c.work-status.result _ _ _ _ _ _ _ job (λ usage. c.work-status.ensures.usage.0 usage (inl is_print)) c.work-status.ensures.read c.work-status.ensures.write c.work-status.ensures.input (c.work-status.ensures.output is_print) holds plain quiet;
   memory = c.work-status.ensures.memory;
   said = c.say.ensures;
   taken = c.work-status.ensures.taken;

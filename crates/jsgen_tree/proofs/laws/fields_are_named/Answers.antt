@@ -28,6 +28,7 @@ returns c = record {
   new_expression = λ a. refl;
   assignment_expression = λ a. refl;
   formal_parameter = λ a. (refl, refl, refl);
+  function = λ a. (refl, refl, refl, refl, refl, refl);
   arrow_function_expression = λ a. (refl, refl, refl);
   for_of_statement = λ a. refl;
   label_identifier = λ a. refl;

@@ -4,7 +4,7 @@ use Rattle.jsgen_tree.specs.Scoping.{tables_plain}
 use Rattle.jsgen_model.specs.Renamed.{renamed}
 use Rattle.jsgen_oracle.proofs.Forms.{one_more}
 use Rattle.jsgen_oracle.proofs.Renamed.{whole_renamed}
-use Rattle.jsgen_oracle.proofs.normal.directive_forms.Goals as goal
+use Rattle.jsgen_oracle.proofs.directive.directive_forms.Goals as goal
 
 pub returns : goal.returns
 returns c = whole_renamed (tables_plain c.args.tables) directive_row c.args.directives.now c.loop-directive.directive-index c.loop-directive.forms.items (omega (arith, c.loop-directive-test.false)) c.loop-directive.invariant

@@ -4,7 +4,7 @@ use Rattle.jsgen_tree.specs.Scoping.{tables_plain}
 use Rattle.jsgen_model.specs.Renamed.{renamed}
 use Rattle.jsgen_model.specs.Normal.{normal}
 use Rattle.jsgen_oracle.specs.Form.{form_plain}
-use Rattle.jsgen_oracle.proofs.normal.directive_forms.Given as goal
+use Rattle.jsgen_oracle.proofs.directive.directive_forms.Given as goal
 
 -- the forms so far are those of the directives so far
 abbrev pub invariant-loop-directive : goal.invariant-loop-directive

@@ -1,4 +1,4 @@
-use Rattle.jsgen_tool.proofs.top.work.Goals as goal
+use Rattle.jsgen_tool.proofs.top.print.Goals as goal
 
 pub returns-clause-write : goal.returns-clause-write
 returns-clause-write g c = (c.in-Err.ensures.cause.later, c.in-Err.ensures.cause.failed)

@@ -1,0 +1,269 @@
+-- Each tree of the families is printed so that it is read: one induction over expressions and statements, which functions nest in one another.
+use Rattle.std.proofs.Common.{◌≡◌, Bool, true, false, refl, sym, subst}
+use Rattle.std.proofs.lemmas.Bool.{both_ways}
+use Rattle.jsgen_tree.specs.Job.{Tables}
+use Rattle.jsgen_tree.specs.Tree.{Tree, Maybe, Trees, type_of, given, more}
+use Rattle.jsgen_tree.specs.Sets.{is_simple_assignment_target}
+use Rattle.jsgen_tree.specs.Values.{object_property_kind}
+use Rattle.jsgen_tree.specs.Nodes as tree
+use Rattle.jsgen_model.specs.Grammar.{Allowed, ReadsParameters, in_function}
+use Rattle.jsgen_model.specs.Grammar as grammar
+use Rattle.jsgen_model.specs.Spell.{Settings, spell, spell_statements, among_statements, Place, spell_body}
+use Rattle.jsgen_reading_laws.proofs.Families.{IsExpression, IsParameters, AreParameters, IsParameter, IsRest, IsValue, IsLink, IsElement, AreArguments, AreElements, IsProperty, AreProperties, IsKey, AreParts, IsChain, IsChainBase, IsStatement, IsItem, AreStatements, AreCases, IsCase, AreEndsOfTry, IsHandler, IsBlock, IsBody, IsDeclarator, AreDeclarators, IsInit, IsLeft}
+use Rattle.jsgen_reading_laws.proofs.Families as family
+use Rattle.jsgen_reading_laws.proofs.Asked.{asked}
+use Rattle.jsgen_reading_laws.proofs.Literals.{good_number, good_big_integer}
+use Rattle.jsgen_reading_laws.proofs.Good.{Printed, TargetPrinted}
+use Rattle.jsgen_reading_laws.proofs.Operations.{good_operation}
+use Rattle.jsgen_reading_laws.proofs.Prefixes.{good_unary_operation}
+use Rattle.jsgen_reading_laws.proofs.Chains.{good_logical_operation}
+use Rattle.jsgen_reading_laws.proofs.Constructions.{good_construction}
+use Rattle.jsgen_reading_laws.proofs.Links.{ElementOf, ArgumentsAt, BehindFirstAt, MoreArgumentsAt, LinkPrinted, link_expression, link_super, good_named_member, good_computed_member, good_call, good_element, good_spread, no_arguments, first_of_arguments, none_behind_first, second_argument, no_more_arguments, one_more_argument, named_target, computed_target}
+use Rattle.jsgen_reading_laws.proofs.OptionalChains.{ChainPrinted, BasePrinted, base_expression, base_chain, optional_named_member, optional_computed_member, optional_call, further_named_member, further_computed_member, further_call, good_chain}
+use Rattle.jsgen_reading_laws.proofs.Collections.{ElementsOf, no_elements, first_of_elements, left_out_of_elements, good_array, PropertiesOf, no_properties, first_of_properties, good_object}
+use Rattle.jsgen_reading_laws.proofs.Updates.{good_update}
+use Rattle.jsgen_reading_laws.proofs.Properties.{KeyOf, PropertyOf, good_name_key, good_string_key, good_number_key, good_big_integer_key, good_computed_key, good_spread_property, good_property}
+use Rattle.jsgen_reading_laws.proofs.Choices.{good_choice}
+use Rattle.jsgen_reading_laws.proofs.Assignments.{good_assignment}
+use Rattle.jsgen_reading_laws.proofs.Bindings.{PrintedIfGiven, bound}
+use Rattle.jsgen_reading_laws.proofs.Parameters.{ParameterOf, RestOf, MoreParametersOf, ParametersOf, ArrowParametersOf, good_parameter, good_rest, no_more_parameters, one_more_parameter, no_parameters, some_parameters, name_alone, good_arrow_parameters}
+use Rattle.jsgen_reading_laws.proofs.Arrows.{good_arrow_function, good_arrow_with_body}
+use Rattle.jsgen_reading_laws.proofs.Sequences.{MorePartsAt, good_sequence, no_more_parts, one_more_part}
+use Rattle.jsgen_reading_laws.proofs.Expressions.{reference_target, good_reference, good_this, good_null, good_boolean, good_new_target, good_string, good_parenthesized}
+use Rattle.jsgen_reading_laws.proofs.Declarations.{listed_declaration, good_variable_statement, DeclaredAt, ListDeclaredAt, MoreDeclaredAt, good_declarator, last_declared, first_declared, variables_from}
+use Rattle.jsgen_reading_laws.proofs.Stands.{Stated, Listed, listed_statement}
+use Rattle.jsgen_reading_laws.proofs.Rows.{RowAt, RestAt, statements_join, row_none, row_more, rest_none, rest_more}
+use Rattle.jsgen_reading_laws.proofs.Blocks.{good_block}
+use Rattle.jsgen_reading_laws.proofs.Bodies.{good_empty}
+use Rattle.jsgen_reading_laws.proofs.Branches.{good_if, good_if_with_else}
+use Rattle.jsgen_reading_laws.proofs.Whiles.{good_while, good_do_while}
+use Rattle.jsgen_reading_laws.proofs.Jumps.{good_labelled, good_continue, good_break, good_throw, good_debugger, good_return}
+use Rattle.jsgen_reading_laws.proofs.Loops.{good_for, good_for_in, good_for_of, InitOf, LeftOf, no_init, init_expression, init_variables, left_declared, left_target}
+use Rattle.jsgen_reading_laws.proofs.Switches.{CasesOf, CaseOf, ConsequentOf, OnlyOf, no_cases, more_cases, good_case, good_default, no_consequent, some_consequents, only_statement, only_declaration, good_switch}
+use Rattle.jsgen_reading_laws.proofs.Tries.{BlockOf, HandlerOf, EndsOf, some_block, good_catch, good_catch_by_name, good_finally, handler_alone, finalizer_alone, handler_and_finalizer, good_try}
+use Rattle.jsgen_tree.specs.declared.collections.PropertyKind.{PropertyKind}
+use Rattle.jsgen_tree.specs.declared.collections.PropertyKind.TheVariants as property_kinds
+use Rattle.jsgen_model.specs.Valid.{fits_accessor}
+use Rattle.jsgen_reading_laws.proofs.Statements.{good_expression_statement, normal_open, empty_alone}
+use Rattle.jsgen_reading_laws.proofs.Functions.{GroupOf, BodyOf, good_group, empty_group, group_of_one, good_function_body, good_function, good_declaration}
+use Rattle.jsgen_reading_laws.proofs.Methods.{GroupsOf, good_method}
+use Rattle.jsgen_reading_laws.proofs.Directives.{BodyAt, first_stated, no_body, some_body}
+use Rattle.jsgen_reading_laws.proofs.Prologue.{whole_body}
+
+mutual
+  pub printed_expression : {names : Tables} {c : Allowed} {t : Tree} → IsExpression names c t → Printed names c t
+  printed_expression {names} {c} (family.a_reference {a} h) = good_reference c a h
+  printed_expression {names} {c} (family.a_this {a}) = good_this c a
+  printed_expression {names} {c} (family.a_null {a}) = good_null c a
+  printed_expression {names} {c} (family.a_boolean {a}) = good_boolean c a
+  printed_expression {names} {c} (family.a_number {a} h) = good_number c a h
+  printed_expression {names} {c} (family.a_big_integer {a} h) = good_big_integer c a h
+  printed_expression {names} {c} (family.a_string {a} h) = good_string c a h
+  printed_expression {names} {c} (family.in_parentheses {a} {t} v) = good_parenthesized c a t (printed_expression v)
+  printed_expression {names} {c} (family.an_operation {a} {l} {r} v w) = good_operation c a l r (asked v).unary (printed_expression v) (printed_expression w)
+  printed_expression {names} {c} (family.a_logical_operation {a} {l} {r} v w) = good_logical_operation c a l r (printed_expression v) (printed_expression w) (asked v).mixed (asked w).mixed
+  printed_expression {names} {c} (family.a_unary_operation {a} {t} v) = good_unary_operation c a t (printed_expression v)
+  printed_expression {names} {c} (family.an_update {a} {t} s v) = good_update c a t (printed_target v s)
+  printed_expression {names} {c} (family.a_construction {a} {f} {es} v w) = good_construction c a f es (printed_expression v) (printed_arguments w)
+  printed_expression {names} {c} (family.a_new_target {a}) = good_new_target c a
+  printed_expression {names} {c} (family.a_named_member {a} {b} {o} m v h) = good_named_member c a b o m h (printed_link v)
+  printed_expression {names} {c} (family.a_computed_member {a} {o} {e} m v w) = good_computed_member c a o e m (printed_link v) (printed_expression w)
+  printed_expression {names} {c} (family.a_call {a} {f} {es} m v w) = good_call c a f es m (printed_link v) (printed_arguments w)
+  printed_expression {names} {c} (family.a_choice {a} {x} {y} {z} u v w) = good_choice c a x y z (printed_expression u) (printed_expression v) (printed_expression w)
+  printed_expression {names} {c} (family.a_sequence {a} {t} {u} {ts} v w x) = good_sequence c a t u ts (printed_expression v) (printed_expression w) (printed_parts x)
+  printed_expression {names} {c} (family.an_assignment {a} {t} {u} s v w) = good_assignment c a t u (printed_target v s) (printed_expression w)
+  printed_expression {names} {c} (family.a_chain {a} {t} v) = good_chain c a t (printed_chain v)
+  printed_expression {names} {c} (family.an_array {a} {es} v) = good_array c a es (printed_elements v)
+  printed_expression {names} {c} (family.an_object {a} {ps} v) = good_object c a ps (printed_properties v)
+  printed_expression {names} {c} (family.an_arrow_function {a} {ps} {e} h v w) = good_arrow_function c a ps e h (asked w).begins (printed_parameters v) (printed_expression w)
+  printed_expression {names} {c} (family.a_function {a} (family.some_function {ps} {body} h m n v w)) = good_function c a ps body h m n (group_of v) (body_of w)
+  printed_expression {names} {c} (family.an_arrow_with_body {a} {b} {ps} {ds} {ss} h v w) = good_arrow_with_body c a b ps ds ss h (printed_parameters v) (body_of w)
+
+  -- parameters in parentheses, and a body in braces
+  group_of : {names : Tables} {t : Tree} → IsParameters names in_function t → GroupOf names (ReadsParameters in_function) t
+  group_of (family.all_parameters {a} {ps} {rest} v w) = good_group a ps rest (parameters_of v rest (printed_rest w))
+
+  body_of : {names : Tables} {t : Tree} → IsBody names t → BodyOf names t
+  body_of (family.some_body {a} {ds} {ss} v w) = good_function_body a ds ss (whole_body ds ss v (body_stated w))
+
+  printed_parameters : {names : Tables} {c : Allowed} {t : Tree} → IsParameters names c t → ArrowParametersOf names c t
+  printed_parameters {names} {c} (family.all_parameters {a} {ps} {rest} v w) = good_arrow_parameters c a ps rest (name_alone (family.all_parameters v w)) (parameters_of v rest (printed_rest w))
+
+  parameters_of : {names : Tables} {c : Allowed} {ps : Trees} → AreParameters names c ps → (rest : Maybe) → RestOf names c rest → ParametersOf names c ps rest
+  parameters_of {names} {c} family.no_parameter rest f = no_parameters c rest f
+  parameters_of {names} {c} (family.first_parameter {t} {ts} v w) rest f = some_parameters c t ts rest (printed_parameter v) (more_parameters w) f
+
+  more_parameters : {names : Tables} {c : Allowed} {ps : Trees} → AreParameters names c ps → MoreParametersOf names c ps
+  more_parameters {names} {c} family.no_parameter = no_more_parameters c
+  more_parameters {names} {c} (family.first_parameter {t} {ts} v w) = one_more_parameter c t ts (printed_parameter v) (more_parameters w)
+
+  printed_parameter : {names : Tables} {c : Allowed} {t : Tree} → IsParameter names c t → ParameterOf names c t
+  printed_parameter {names} {c} (family.a_parameter {a} {b} {m} h i j v w) = good_parameter c a b m h i j (bound v) (printed_value w)
+
+  printed_rest : {names : Tables} {c : Allowed} {rest : Maybe} → IsRest names c rest → RestOf names c rest
+  printed_rest {names} {c} family.no_rest = tt
+  printed_rest {names} {c} (family.a_rest {a} {b} v) = good_rest c a b (bound v)
+
+  pub printed_value : {names : Tables} {c : Allowed} {m : Maybe} → IsValue names c m → PrintedIfGiven names c m
+  printed_value {names} {c} family.no_value = tt
+  printed_value {names} {c} (family.a_value v) = printed_expression v
+
+  printed_parts : {names : Tables} {c : Allowed} {ts : Trees} → AreParts names c ts → MorePartsAt names c ts
+  printed_parts {names} {c} family.no_part = no_more_parts c
+  printed_parts {names} {c} (family.first_part {t} {ts} v w) = one_more_part c t ts (printed_expression v) (printed_parts w)
+
+  pub printed_target : {names : Tables} {c : Allowed} {t : Tree} → IsExpression names c t → is_simple_assignment_target (type_of t) ≡ true → TargetPrinted names c t
+  printed_target {names} {c} (family.a_reference {a} h) s = reference_target c a h
+  printed_target {names} {c} (family.a_named_member {a} {b} {o} m v h) s = named_target c a b o m h (printed_link v)
+  printed_target {names} {c} (family.a_computed_member {a} {o} {e} m v w) s = computed_target c a o e m (printed_link v) (printed_expression w)
+  printed_target v s = absurd (both_ways false refl s)
+
+  printed_chain : {names : Tables} {c : Allowed} {t : Tree} → IsChain names c t → ChainPrinted names c t
+  printed_chain {names} {c} (family.an_optional_named_member {a} {b} {o} m v h) = optional_named_member c a b o m h (printed_base v)
+  printed_chain {names} {c} (family.an_optional_computed_member {a} {o} {e} m v w) = optional_computed_member c a o e m (printed_base v) (printed_expression w)
+  printed_chain {names} {c} (family.an_optional_call {a} {f} {es} m v w) = optional_call c a f es m (printed_base v) (printed_arguments w)
+  printed_chain {names} {c} (family.a_further_named_member {a} {b} {o} m v h) = further_named_member c a b o m h (printed_chain v)
+  printed_chain {names} {c} (family.a_further_computed_member {a} {o} {e} m v w) = further_computed_member c a o e m (printed_chain v) (printed_expression w)
+  printed_chain {names} {c} (family.a_further_call {a} {f} {es} m v w) = further_call c a f es m (printed_chain v) (printed_arguments w)
+
+  printed_base : {names : Tables} {c : Allowed} {t : Tree} → IsChainBase names c t → BasePrinted names c t
+  printed_base {names} {c} (family.a_first_link {t} v) = base_expression c t (printed_expression v)
+  printed_base {names} {c} (family.a_further_link {t} v) = base_chain c t (printed_chain v)
+
+  printed_link : {names : Tables} {c : Allowed} {t : Tree} → IsLink names c t → LinkPrinted names c t
+  printed_link {names} {c} (family.a_super {a}) = link_super c a
+  printed_link {names} {c} (family.an_operand {t} v) = link_expression c t (printed_expression v)
+
+  printed_arguments : {names : Tables} {c : Allowed} {es : Trees} → AreArguments names c es → ArgumentsAt names c es
+  printed_arguments {names} {c} family.no_argument = no_arguments c
+  printed_arguments {names} {c} (family.first_argument {e} {es} v w) = first_of_arguments c e es (printed_element v) (behind_first w)
+
+  behind_first : {names : Tables} {c : Allowed} {es : Trees} → AreArguments names c es → BehindFirstAt names c es
+  behind_first {names} {c} family.no_argument = none_behind_first c
+  behind_first {names} {c} (family.first_argument {e} {es} v w) = second_argument c e es (printed_element v) (more_arguments w)
+
+  more_arguments : {names : Tables} {c : Allowed} {es : Trees} → AreArguments names c es → MoreArgumentsAt names c es
+  more_arguments {names} {c} family.no_argument = no_more_arguments c
+  more_arguments {names} {c} (family.first_argument {e} {es} v w) = one_more_argument c e es (printed_element v) (more_arguments w)
+
+  printed_properties : {names : Tables} {c : Allowed} {ps : Trees} → AreProperties names c ps → PropertiesOf names c ps
+  printed_properties {names} {c} family.no_property = no_properties c
+  printed_properties {names} {c} (family.first_property {t} {ts} v w) = first_of_properties c t ts (printed_property v) (printed_properties w)
+
+  printed_property : {names : Tables} {c : Allowed} {t : Tree} → IsProperty names c t → PropertyOf names c t
+  printed_property {names} {c} (family.a_spread_property {a} {e} v) = good_spread_property c a e (printed_expression v)
+  printed_property {names} {c} (family.a_property {computed} {a} {k} {v = x} m d key f value) = good_property c a computed k x m d f key value (printed_key key) (printed_expression value)
+  printed_property {names} {c} (family.a_method {computed} {a} {b} {k} {ps} {body} m d key f (family.some_function h n x v w)) = good_method c a b k ps body m (subst (λ y. KeyOf names c y k) (sym d) (printed_key key)) h n (groups_of v (object_property_kind a) f) (body_of w)
+
+  -- a getter takes nothing, and a setter one parameter
+  groups_of : {names : Tables} {t : Tree} → IsParameters names in_function t → (kind : PropertyKind) → fits_accessor kind t ≡ true → GroupsOf names kind t
+  groups_of (family.all_parameters {a} {ps} {rest} v w) property_kinds.Init f = good_group a ps rest (parameters_of v rest (printed_rest w))
+  groups_of (family.all_parameters {a} family.no_parameter family.no_rest) property_kinds.Get f = empty_group a
+  groups_of (family.all_parameters family.no_parameter (family.a_rest v)) property_kinds.Get f = absurd (both_ways false refl f)
+  groups_of (family.all_parameters (family.first_parameter v w) x) property_kinds.Get f = absurd (both_ways false refl f)
+  groups_of (family.all_parameters family.no_parameter x) property_kinds.Set f = absurd (both_ways false refl f)
+  groups_of (family.all_parameters {a} (family.first_parameter {t} v family.no_parameter) family.no_rest) property_kinds.Set f = group_of_one a t (printed_parameter v)
+  groups_of (family.all_parameters (family.first_parameter v family.no_parameter) (family.a_rest w)) property_kinds.Set f = absurd (both_ways false refl f)
+  groups_of (family.all_parameters (family.first_parameter v (family.first_parameter w x)) y) property_kinds.Set f = absurd (both_ways false refl f)
+
+  printed_key : {names : Tables} {c : Allowed} {computed : Bool} {t : Tree} → IsKey names c computed t → KeyOf names c computed t
+  printed_key {names} {c} (family.a_name_key {a} h) = good_name_key c a h
+  printed_key {names} {c} (family.a_string_key {a} h) = good_string_key c a h
+  printed_key {names} {c} (family.a_number_key {a} h) = good_number_key c a h
+  printed_key {names} {c} (family.a_big_integer_key {a} h m) = good_big_integer_key c a h m
+  printed_key {names} {c} (family.a_computed_key {t} v) = good_computed_key v (printed_expression v)
+
+  printed_elements : {names : Tables} {c : Allowed} {es : Trees} → AreElements names c es → ElementsOf names c es
+  printed_elements {names} {c} family.no_element = no_elements c
+  printed_elements {names} {c} (family.first_element {e} {es} v w) = first_of_elements c e es (printed_element v) (printed_elements w)
+  printed_elements {names} {c} (family.an_elision {es} v) = left_out_of_elements c es (printed_elements v)
+
+  pub printed_element : {names : Tables} {c : Allowed} {e : Tree} → IsElement names c e → ElementOf names c e
+  printed_element {names} {c} (family.an_element {e} v) = good_element c e (printed_expression v)
+  printed_element {names} {c} (family.a_spread {a} {e} v) = good_spread c a e (printed_expression v)
+
+  pub stated : {names : Tables} {c : Allowed} {t : Tree} → IsStatement names c t → Stated names c t
+  stated {names} {c} (family.an_expression_statement {a} {e} v) = good_expression_statement c a e (printed_expression v)
+  stated {names} {c} (family.an_empty_statement {a}) = good_empty c a
+  stated {names} {c} (family.a_block {a} {ss} v) = good_block c a ss (λ settings. (rows v settings).0)
+  stated {names} {c} (family.an_if {a} {t} {s} v w) = good_if c a t s (printed_expression v) (normal_open w) (empty_alone w) (stated w)
+  stated {names} {c} (family.an_if_with_else {a} {t} {s} {u} v w x) = good_if_with_else c a t s u (printed_expression v) (normal_open w) (empty_alone w) (stated w) (empty_alone x) (stated x)
+  stated {names} {c} (family.a_variable_statement {a} {ds} h m v) = good_variable_statement c a ds h (variables_from c a ds m (list_declared v))
+  stated {names} {c} (family.a_while {a} {t} {s} v w) = good_while c a t s (printed_expression v) (empty_alone w) (stated w)
+  stated {names} {c} (family.a_do_while {a} {s} {t} v w) = good_do_while c a s t (empty_alone v) (stated v) (printed_expression w)
+  stated {names} {c} (family.a_labelled_statement {a} {b} {s} h v) = good_labelled c a b s h (empty_alone v) (stated v)
+  stated {names} {c} (family.a_continue {a} v) = good_continue c a v
+  stated {names} {c} (family.a_break {a} v) = good_break c a v
+  stated {names} {c} (family.a_throw {a} {e} v) = good_throw c a e (printed_expression v)
+  stated {names} {c} (family.a_debugger {a}) = good_debugger c a
+  stated {names} {c} (family.a_for {a} {init} {test} {update} {s} v w x y) = good_for c a init test update s (printed_init v) (printed_value w) (printed_value x) (empty_alone y) (stated y)
+  stated {names} {c} (family.a_for_in {a} {l} {e} {s} v w x) = good_for_in c a l e s (printed_left v) (printed_expression w) (empty_alone x) (stated x)
+  stated {names} {c} (family.a_for_of {a} {l} {e} {s} m v w x) = good_for_of c a l e s m (printed_left v) (printed_expression w) (empty_alone x) (stated x)
+  stated {names} {c} (family.a_switch {a} {e} {cases} v w) = good_switch c a e cases (printed_expression v) (cases_of w)
+  stated {names} {c} (family.a_try {a} {t} {handler} {finalizer} v w) = good_try c a t handler finalizer (block_of v) (ends_of w)
+  stated {names} {c} (family.a_return {a} {m} h v) = good_return c a m h (printed_value v)
+
+  -- declarators, as a list and as more of one
+  declared : {names : Tables} {c : Allowed} {t : Tree} → IsDeclarator names c t → (place : Place) → DeclaredAt names c place t
+  declared {names} {c} (family.a_declarator {a} {b} {m} h v w) place = good_declarator c a b m h (bound v) (printed_value w) place
+
+  list_declared : {names : Tables} {c : Allowed} {ds : Trees} → AreDeclarators names c ds → (place : Place) → ListDeclaredAt names c place ds × MoreDeclaredAt names c place ds
+  list_declared {names} {c} (family.last_declarator {d} v) place = last_declared c d place (declared v place)
+  list_declared {names} {c} (family.first_declarator {d} {e} {ds} v w) place = first_declared c d (more e ds) place (declared v place) (list_declared w place).1
+
+  -- the heads of loops
+  printed_init : {names : Tables} {c : Allowed} {m : Maybe} → IsInit names c m → InitOf names c m
+  printed_init {c = c} family.no_init = no_init c
+  printed_init {c = c} (family.first_variables {a} {ds} m v) = init_variables c a ds (variables_from c a ds m (list_declared v))
+  printed_init {c = c} (family.first_expression {t} v) = init_expression c t (printed_expression v)
+
+  printed_left : {names : Tables} {c : Allowed} {t : Tree} → IsLeft names c t → LeftOf names c t
+  printed_left {c = c} (family.a_declared_name {a} {b} {t} m n v) = left_declared c a b t m n (bound v)
+  printed_left (family.a_target s v) = left_target v s (printed_target v s)
+
+  cases_of : {names : Tables} {c : Allowed} {default : Bool} {ts : Trees} → AreCases names c default ts → CasesOf names c default ts
+  cases_of {names} {c} (family.no_case {default}) = no_cases c default
+  cases_of {names} {c} (family.first_case {default} {rest} {t} {ts} v w) = more_cases c default rest t ts (case_of v) (cases_of w)
+
+  case_of : {names : Tables} {c : Allowed} {default rest : Bool} {t : Tree} → IsCase names c default rest t → CaseOf names c default rest t
+  case_of {names} {c} (family.a_case {default} {a} {t} {ss} v w) = good_case c default a t ss (printed_expression v) (consequents w)
+  case_of {names} {c} (family.a_default {a} {ss} v) = good_default c a ss (consequents v)
+
+  consequents : {names : Tables} {c : Allowed} {ss : Trees} → AreStatements names c ss → ConsequentOf names c ss
+  consequents {names} {c} family.no_statement = no_consequent c
+  consequents {names} {c} (family.first_statement {s} {ss} v w) = some_consequents c s ss (only v) (λ settings. row_more s ss (spell s (among_statements settings)) (spell_statements ss settings) (listed v settings) (rows w settings).1)
+
+  only : {names : Tables} {c : Allowed} {t : Tree} → IsItem names c t → OnlyOf names c t
+  only {names} {c} {t} (family.a_statement v) = only_statement c t (empty_alone v) (stated v)
+  only {names} {c} (family.a_function_declaration {a} {id} (family.some_function {ps} {body} h m n v w)) = only_declaration c (tree.function a id ps (given body)) refl (good_declaration c a ps body h m n (group_of v) (body_of w))
+  only {names} {c} (family.a_declaration {a} {ds} h m v) = only_declaration c (tree.variable_declaration a ds) refl (listed_declaration c a ds h (variables_from c a ds m (list_declared v)))
+
+  ends_of : {names : Tables} {c : Allowed} {handler finalizer : Maybe} → AreEndsOfTry names c handler finalizer → EndsOf names c handler finalizer
+  ends_of {names} {c} (family.a_handler {h} v) = handler_alone c h (handler_of v)
+  ends_of {names} {c} (family.a_finalizer {f} v) = finalizer_alone c f (good_finally c f (block_of v))
+  ends_of {names} {c} (family.a_handler_and_a_finalizer {h} {f} v w) = handler_and_finalizer c h f (handler_of v) (good_finally c f (block_of w))
+
+  handler_of : {names : Tables} {c : Allowed} {t : Tree} → IsHandler names c t → HandlerOf names c t
+  handler_of {names} {c} (family.a_catch {a} {t} v) = good_catch c a t (block_of v)
+  handler_of {names} {c} (family.a_catch_by_name {a} {n} {t} v w) = good_catch_by_name c a n t (bound v) (block_of w)
+
+  block_of : {names : Tables} {c : Allowed} {t : Tree} → IsBlock names c t → BlockOf names c t
+  block_of {names} {c} (family.some_block {a} {ss} v) = some_block c a ss (λ settings. (rows v settings).0)
+
+  pub listed : {names : Tables} {c : Allowed} {t : Tree} → IsItem names c t → Listed names c t
+  listed {t = t} (family.a_statement v) = listed_statement t (stated v)
+  listed {c = c} (family.a_function_declaration {a} (family.some_function {ps} {body} h m n v w)) = good_declaration c a ps body h m n (group_of v) (body_of w)
+  listed {c = c} (family.a_declaration {a} {ds} h m v) = listed_declaration c a ds h (variables_from c a ds m (list_declared v))
+
+  -- as a whole row, and as the rest of one
+  pub rows : {names : Tables} {c : Allowed} {ss : Trees} → AreStatements names c ss → (settings : Settings) → RowAt names c (spell_statements ss settings) ss × RestAt names c (spell_statements ss settings) ss
+  rows {names} {c} family.no_statement settings = (row_none (λ e. grammar.no_statement), rest_none (statements_join c))
+  rows {names} {c} (family.first_statement {s} {ss} v w) settings =
+      let f = listed v settings in
+      let r = (rows w settings).1 in
+      (row_more s ss (spell s (among_statements settings)) (spell_statements ss settings) f r, rest_more (statements_join c) s ss (spell s (among_statements settings)) (spell_statements ss settings) f r)
+
+  -- the statements of a body, of which the first is read as no directive
+  pub body_stated : {names : Tables} {c : Allowed} {ss : Trees} → AreStatements names c ss → (settings : Settings) → BodyAt names c (spell_body ss settings) ss
+  body_stated {c = c} family.no_statement settings = no_body c settings
+  body_stated {c = c} (family.first_statement {s} {ss} v w) settings = some_body c s ss settings (first_stated v (listed v) settings) (rows w settings).1
