@@ -85,8 +85,8 @@ def measured(command, folder, out=None):
 
 def gate():
     """The gate. Some toolchains keep what they proved before, and are told to prove it anew; the others do so always."""
-    told = subprocess.run(["rt", "help"], capture_output=True, text=True).stdout
-    return ["rt", "ci", "--anew"] if "--anew" in told else ["rt", "ci"]
+    told = subprocess.run(["rt", "help"], capture_output=True, text=True)
+    return ["rt", "ci", "--anew"] if "--anew" in told.stdout + told.stderr else ["rt", "ci"]
 
 
 def main():

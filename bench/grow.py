@@ -3,8 +3,8 @@
 with N synthetic types of three shapes in turn, and prints the processor seconds and the peak memory of each crate in both, and
 the functions of the printer and the reader that take more than a tenth longer.
 
-The shapes are an expression of two children (a copy of ComputedMemberExpression), an expression of a child and a list (of
-CallExpression), and a statement with a list and a child that may be absent (of BlockStatement). A synthetic type is an entry of
+The shapes are an expression of three children (a copy of ConditionalExpression), an expression of a child and a list (of
+NewExpression), and a statement with a list and a child that may be absent (of BlockStatement). A synthetic type is an entry of
 tools/nodes/table.txt and the places by hand that docs/ARCHITECTURE.md lists, each made from the line of the type that it copies.
 Two things it has not: it is spelled as that type and stands for it in the normal form, so it needs no production of its own and
 no lemma for one; and no program that tests print has it. The copies have no must-fail edits."""
@@ -20,7 +20,8 @@ from pathlib import Path
 
 from gate import TICK, TOP, gate, measured
 
-WATCHED = ("jsgen_printer", "jsgen_nodes", "jsgen_fields", "jsgen_expression_rows", "jsgen_collection_rows", "jsgen_operation_rows", "jsgen_assignment_rows", "jsgen_function_rows", "jsgen_statement_rows", "jsgen_rows")
+WATCHED = ("jsgen_printer", "jsgen_nodes", "jsgen_fields", "jsgen_expression_rows", "jsgen_operation_rows", "jsgen_assignment_rows",
+           "jsgen_collection_rows", "jsgen_function_rows", "jsgen_loop_rows", "jsgen_choice_rows", "jsgen_statement_rows", "jsgen_rows")
 FAMILIES = {"Expression": "synthetic_expressions", "Statement": "synthetic_statements"}
 PARTS = (".ci", "HANDLES", "crates", "crates.txt", "docs", "tools", "tests")
 
@@ -71,7 +72,7 @@ class Copy:
             return text
 
         def change(old):
-            found = re.search(rf"^(?:#\[.*\n)*(?:pub )?fn {function}\b(?:.*\n)+?\}}\n", old, re.M)
+            found = re.search(rf"^(?:#\[.*\n)*(?:pub(?:\(\w+\))? )?fn {function}\b(?:.*\n)+?\}}\n", old, re.M)
             assert found, (name, function)
             return old[: found.end()] + "\n" + changed(found[0]) + old[found.end() :]
 
@@ -111,52 +112,58 @@ def into_definitions(copy, old, new):
 FIELDS = ("last", "tokens", "writes", "operand", "semicolon", "begins", "line", "tree", "reads", "same")
 
 
-def into_expressions(copy, old, new, children, kinds):
+def into_expressions(copy, old, family, new, names):
     """The laws of reading of an expression: that what is printed is read follows from that of the type that is copied."""
-    copy.copy_clause(LAWS + "Families.antt", f"a_{old} :", (f"a_{old} :", f"a_{new} :"), (f"tree.{old} ", f"tree.{new} "))
-    copy.copy_clause(LAWS + "Families.antt", f"expression_valid c around (tree.{old} ", (f"tree.{old} ", f"tree.{new} "), (f"a_{old} ", f"a_{new} "))
-    copy.copy_clause(LAWS + "Asked.antt", f"asked (family.a_{old} ", (f"a_{old} ", f"a_{new} "))
+    further = f"{family}_of_{new}"
+    copy.copy_clause(LAWS + "Families.antt", f"{family} :", (f"{family} :", f"{further} :"), (f"tree.{old} ", f"tree.{new} "))
+    copy.copy_clause(LAWS + "Valid.antt", f"expression_valid c around (tree.{old} ", (f"tree.{old} ", f"tree.{new} "), (f"{family} ", f"{further} "))
+    copy.copy_clause(LAWS + "Asked.antt", f"asked (family.{family} ", (f"{family} ", f"{further} "))
     fields = " ".join(f"{it} = g.{it};" for it in FIELDS)
-    lemma = f"""good_{new} : {{names : Tables}} (c : Allowed) (a : Atoms) {kinds} → Printed names c (tree.{old} a {children}) → Printed names c (tree.{new} a {children})
-good_{new} c a {children} f place p l z y k = let g = f place p l z y k in record {{ {fields} }}
+    kinds = " ".join(f"({name} : {'Trees' if name.endswith('s') else 'Tree'})" for name in names.split())
+    lemma = f"""good_{new} : {{names : Tables}} (c : Allowed) (a : Atoms) {kinds} → Printed names c (tree.{old} a {names}) → Printed names c (tree.{new} a {names})
+good_{new} c a {names} good place p l due ready known = let g = good place p l due ready known in record {{ {fields} }}
 
--- ---- the whole
+mutual
 """
-    copy.change(LAWS + "Expressions.antt", lambda text: text.replace("-- ---- the whole\n", lemma, 1))
+    copy.change(LAWS + "Induction.antt", lambda text: text.replace("mutual\n", lemma, 1).replace("Tree.{Tree, Maybe,", "Tree.{Atoms, Tree, Maybe,"))
 
     def line(clause):
         left, right = clause.rstrip("\n").split(" = ", 1)
-        arguments = " ".join(right.split(" ")[1:5])
-        return f"{left.replace(f'a_{old} ', f'a_{new} ')} = good_{new} {arguments} ({right})\n"
+        return f"{left.replace(f'{family} ', f'{further} ')} = good_{new} c a {names} ({right})\n"
 
-    copy.behind_clause(LAWS + "Expressions.antt", f"printed_expression {{names}} {{c}} (family.a_{old} ", line)
+    copy.behind_clause(LAWS + "Induction.antt", f"printed_expression {{names}} {{c}} (family.{family} ", line)
 
 
-def pair(copy, k):
-    new, row, name = f"pair_{k}", f"pair_{k}_expression", f"Pair{k.title()}Expression"
-    into_table(copy, "Expression", f"{name} 13.3.2 {new}", ("object Expression at Link", "optional unread flag", "expression Expression"))
-    copy.copy_clause(MODEL + "Valid.antt", "asked_sets types.ComputedMemberExpression", *[("ComputedMemberExpression", name)] * 2)
-    into_definitions(copy, "computed_member a object expression", f"{new} a object expression")
-    into_expressions(copy, "computed_member", new, "o x", "(o x : Tree)")
-    copy.copy_function(NODES + "links.rt", "print_computed_member_expression", ("print_computed_member_expression", f"print_{row}"),
-                       ("computed_member_expression_row", f"{row}_row"), ("ComputedMemberExpression", name))
-    copy.import_type(NODES + "links.rt", row, name)
-    copy.copy_clause(NORMAL, "Expression::ComputedMemberExpression(node) =>", ("Expression::ComputedMemberExpression", f"Expression::{name}"))
+def into_normal_forms(copy, of_set, old, row, name):
+    """The slow program's arm."""
+    snake = re.sub(r"(?<!^)(?=[A-Z])", "_", old).lower()
+    copy.copy_clause(NORMAL, f"{of_set}::{old}(node) =>", (f"{of_set}::{old}", f"{of_set}::{name}"), (f"{snake}_form", f"{row}_form"))
+    copy.copy_function(NORMAL, f"{snake}_form", (f"{snake}_form", f"{row}_form"), (f"{snake}_row", f"{row}_row"), (f"{old}(?=<)", name))
+    copy.import_type(NORMAL, row, name)
+
+
+def choice(copy, k):
+    new, row, name = f"choice_{k}", f"choice_{k}_expression", f"Choice{k.title()}Expression"
+    into_table(copy, "Expression", f"{name} 13.14 {new}", ("test Expression", "consequent Expression", "alternate Expression"))
+    into_definitions(copy, "conditional a test consequent alternate", f"{new} a test consequent alternate")
+    into_expressions(copy, "conditional", "a_choice", new, "x y z")
+    types = ("conditional_expression_row", f"{row}_row"), ("ConditionalExpression", name), ("print_choice", f"print_choice_{k}")
+    copy.copy_function(NODES + "choices.rt", "print_choice", *types)
+    copy.copy_function(NODES + "choices.rt", "print_conditional_expression", ("print_conditional_expression", f"print_{row}"), *types)
+    copy.import_type(NODES + "choices.rt", row, name)
+    into_normal_forms(copy, "Expression", "ConditionalExpression", row, name)
 
 
 def call(copy, k):
     new, row, name = f"call_{k}", f"call_{k}_expression", f"Call{k.title()}Expression"
-    into_table(copy, "Expression", f"{name} 13.3.6 {new}", ("callee Expression at Link", "arguments Argument*", "optional unread flag", "pure flag"))
-    copy.copy_clause(MODEL + "Valid.antt", "asked_sets types.CallExpression", *[("CallExpression", name)] * 2)
-    into_definitions(copy, "call a callee arguments", f"{new} a callee arguments")
-    into_expressions(copy, "call", new, "t es", "(t : Tree) (es : Trees)")
-    types = ("call_expression_row", f"{row}_row"), ("CallExpression", name)
-    copy.copy_function(NODES + "links.rt", "print_call", ("print_call", f"print_call_{k}"), *types)
-    copy.copy_function(NODES + "links.rt", "print_call_expression", ("print_call_expression", f"print_{row}"), ("print_call", f"print_call_{k}"), *types)
-    copy.import_type(NODES + "links.rt", row, name)
-    copy.copy_clause(NORMAL, "Expression::CallExpression(node) =>", ("Expression::CallExpression", f"Expression::{name}"), ("call_expression_form", f"{row}_form"))
-    copy.copy_function(NORMAL, "call_expression_form", ("call_expression_form", f"{row}_form"), ("call_expression_row", f"{row}_row"), ("CallExpression(?=<)", name))
-    copy.import_type(NORMAL, row, name)
+    into_table(copy, "Expression", f"{name} 13.3.5 {new}", ("callee Expression", "arguments Argument*", "pure flag"))
+    into_definitions(copy, "new_expression a callee arguments", f"{new} a callee arguments")
+    into_expressions(copy, "new_expression", "a_construction", new, "f es")
+    types = ("new_expression_row", f"{row}_row"), ("NewExpression", name), ("print_construction", f"print_construction_{k}")
+    copy.copy_function(NODES + "operators.rt", "print_construction", *types)
+    copy.copy_function(NODES + "operators.rt", "print_new_expression", ("print_new_expression", f"print_{row}"), *types)
+    copy.import_type(NODES + "operators.rt", row, name)
+    into_normal_forms(copy, "Expression", "NewExpression", row, name)
 
 
 def group(copy, k):
@@ -164,18 +171,17 @@ def group(copy, k):
     into_table(copy, "Statement", f"{name} 14.2 {new}", ("extra Expression?", "body Statement*"))
     into_definitions(copy, "block a body", f"{new} a extra body")
     copy.copy_clause(LAWS + "Families.antt", "a_block :", ("a_block :", f"a_{new} :"), ("{ss : Trees}", "{m : Maybe} {ss : Trees}"), ("tree.block a ss", f"tree.{new} a m ss"))
-    copy.behind_clause(LAWS + "Families.antt", "item_valid c around (tree.block a ss) p s e =", f"""  item_valid c around (tree.{new} a m ss) p s e =
+    copy.behind_clause(LAWS + "Valid.antt", "item_valid c around returns (tree.block a ss) p s fits e =", f"""  item_valid c around returns (tree.{new} a m ss) p s fits e =
       let h = none_both (in_maybe around (place_of sets.Expression around ∷ place_of sets.Statement around ∷ []) m) _ (parts (span_faults around a.span) [] _ e).1 in
       let k = none_both (in_trees around (place_of sets.Statement around ∷ []) ss) [] h.1 in
-      a_statement (a_{new} (items_valid c around ss p.0 p.1.1.0 k.0))
+      family.a_statement (family.a_{new} (items_valid c around returns ss p.0 p.1.1.0 k.0))
 """)
-    for start in ("normal_open (family.a_block ", "stated {names} {c} (family.a_block "):
-        copy.copy_clause(LAWS + "Statements.antt", start, ("a_block ", f"a_{new} "))
+    copy.copy_clause(LAWS + "Statements.antt", "normal_open (family.a_block ", ("a_block ", f"a_{new} "))
+    copy.behind_clause(LAWS + "Induction.antt", "stated {names} {c} (family.a_block ", f"  stated {{names}} {{c}} (family.a_{new} {{a}} {{m}} {{ss}} v) = stated_among refl (good_block c a ss (λ settings. (rows v settings).0)).among\n")
+    copy.change(LAWS + "Induction.antt", lambda text: text.replace("Stands.{Stated, Listed,", "Stands.{Stated, stated_among, Listed,"))
     copy.copy_function(NODES + "blocks.rt", "print_block_statement", ("print_block_statement", f"print_{row}"), ("block_statement_row", f"{row}_row"), ("BlockStatement", name))
     copy.import_type(NODES + "blocks.rt", row, name)
-    copy.copy_clause(NORMAL, "Statement::BlockStatement(node) =>", ("Statement::BlockStatement", f"Statement::{name}"), ("block_statement_form", f"{row}_form"))
-    copy.copy_function(NORMAL, "block_statement_form", ("block_statement_form", f"{row}_form"), ("block_statement_row", f"{row}_row"), ("BlockStatement(?=<)", name))
-    copy.import_type(NORMAL, row, name)
+    into_normal_forms(copy, "Statement", "BlockStatement", row, name)
 
 
 def further_crates(copy):
@@ -189,7 +195,7 @@ def further_crates(copy):
 def grown(folder, number):
     copy = Copy(folder)
     for at in range(number):
-        (pair, call, group)[at % 3](copy, code(at // 3))
+        (choice, call, group)[at % 3](copy, code(at // 3))
     subprocess.run([folder / "tools/nodes/generate"], check=True, stdout=subprocess.DEVNULL)
     further_crates(copy)
     for file in FAMILIES.values():
@@ -208,7 +214,8 @@ def copied(folder):
 
 
 def check_from_nothing(folder, crate, kept):
-    """The command that checks a crate and keeps what it checked in a folder. (`rt check` would begin with what other copies kept.)"""
+    """The command that checks a crate and keeps what it checked in a folder, with the libraries below it as the gate built them.
+    (`rt check` would begin with what other copies kept.)"""
     kit = Path(shutil.which("rt")).resolve().parents[1]
     uses = dict(line.split("#")[0].split(":", 1) for line in (folder / "crates.txt").read_text().splitlines() if ":" in line.split("#")[0])
     built = {name: folder / "crates" / name / "out/rlib" for name in uses}
@@ -248,7 +255,6 @@ def watched(command, folder):
 def by_function(folder, crate):
     """The processor seconds of each function's proof, from nothing and one after the other: the check writes a file behind each part
     of it. What several functions that call one another share is one function here."""
-    subprocess.run(["rt", "all", "check", "--jobs", "1"], cwd=folder / "crates" / crate, check=True, capture_output=True)
     with tempfile.TemporaryDirectory() as kept:
         said, moments = watched(check_from_nothing(folder, crate, kept), folder / "crates" / crate)
         functions = {it.replace("::", ".") for it in re.findall(rf"^fn {crate}::(\S+): proved$", said, re.M)}
@@ -270,7 +276,7 @@ def by_function(folder, crate):
 
 def grown_functions(before, after, crate):
     """The functions of a crate that take more than a tenth longer in the second copy, and a tenth of a second at least. Both copies
-    are checked at one time, so that what else is at work slows both."""
+    are checked at one time, so that what else is at work slows both. (Two crates are at work at a time, on four processors.)"""
     with ThreadPoolExecutor(2) as pool:
         times, later = pool.map(lambda folder: by_function(folder, crate), (before, after))
     return [(name, it, later[name]) for name, it in sorted(times.items()) if later.get(name, 0) > 1.1 * it + 0.1]
@@ -278,27 +284,32 @@ def grown_functions(before, after, crate):
 
 def main(number):
     work = Path(tempfile.mkdtemp(prefix="jsgen-grow-"))
-    results = []
-    for name in ("before", "after"):
+    results = {}
+    for name in ("after", "before"):
         folder = work / name
         folder.mkdir()
         copied(folder)
         if name == "after":
             grown(folder, number)
         with open(work / f"{name}.log", "wb") as log:
-            results.append(measured(gate(), folder, log))
-        if results[-1][3]:
+            results[name] = measured(gate(), folder, log)
+        if results[name][3]:
             sys.exit(f"{name}: not proved; see {work}/{name}.log")
-    (sums, peaks, whole, _), (more, higher, all_of, _) = results
+    (sums, peaks, whole, _), (more, higher, all_of, _) = results["before"], results["after"]
     print(f"| crate | seconds | with {number} types | a type | peak, MB | with {number} types | a type |")
     print("|---" * 7 + "|")
-    for crate, of in sums.items():
-        one, two = sum(of.values()), sum(more[crate].values())
-        print(f"| `{crate}` | {one:.0f} | {two:.0f} | {(two - one) / number:.2f} | {peaks[crate]} | {higher[crate]} | {(higher[crate] - peaks[crate]) / number:.1f} |")
-    print(f"| all | {whole:.0f} | {all_of:.0f} | {(all_of - whole) / number:.2f} | | | |")
-    for crate in WATCHED:
-        for function, seconds, with_more in grown_functions(work / "before", work / "after", crate):
-            print(f"{crate}: {function}: {seconds:.2f} s, with {number} types {with_more:.2f} s")
+    for crate, of in more.items():
+        two = sum(of.values())
+        if crate in sums:
+            one = sum(sums[crate].values())
+            print(f"| `{crate}` | {one:.0f} | {two:.0f} | {(two - one) / number:.2f} | {peaks[crate]} | {higher[crate]} | {(higher[crate] - peaks[crate]) / number:.1f} |")
+        else:
+            print(f"| `{crate}` | | {two:.0f} | {two / number:.2f} | | {higher[crate]} | |")
+    print(f"| all | {whole:.0f} | {all_of:.0f} | {(all_of - whole) / number:.2f} | | | |", flush=True)
+    with ThreadPoolExecutor(2) as pool:
+        for crate, functions in zip(WATCHED, pool.map(lambda it: grown_functions(work / "before", work / "after", it), WATCHED)):
+            for function, seconds, with_more in functions:
+                print(f"{crate}: {function}: {seconds:.2f} s, with {number} types {with_more:.2f} s", flush=True)
     shutil.rmtree(work)
 
 

@@ -4,3 +4,4 @@ pub mod Turns
 pub mod Operands
 pub mod Braced
 pub mod Deeper
+pub mod NotOne

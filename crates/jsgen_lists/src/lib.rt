@@ -4,6 +4,7 @@
 
 mod arguments;
 mod braces;
+mod cases;
 mod elements;
 mod heads;
 mod maybe;
@@ -14,17 +15,14 @@ mod updates;
 
 pub use arguments::{PlainQuotes, print_arguments};
 pub use braces::{close_braces, open_braces, print_braces, print_empty_braces};
+pub use cases::{PrintOnly, print_case};
 pub use elements::{PrintElement, print_array, print_object};
 pub use heads::{
     print_accessor_word, print_behind_spaced_word, print_behind_word, print_head,
     print_in_parentheses, print_jump,
 };
-pub use maybe::{
-    print_apart, print_case_test, print_caught, print_comma_between, print_if_given, print_value,
-};
+pub use maybe::{print_apart, print_caught, print_comma_between, print_if_given, print_value};
 pub use members::{PrintMember, print_in_brackets, print_more, print_parts};
 pub use parts::print_loop_parts;
-pub use statements::{
-    PrintStatement, print_body, print_deeper_statements, print_statements, print_whole_body,
-};
+pub use statements::{PrintStatement, print_body, print_statements, print_whole_body};
 pub use updates::print_update;

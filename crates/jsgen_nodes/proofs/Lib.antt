@@ -2,7 +2,6 @@ pub mod Arrows
 pub mod BlockStops
 pub mod Followed
 pub mod Lefts
-pub mod NotOne
 pub mod Caught
 pub mod DeclarationWords
 pub mod Elsewhere

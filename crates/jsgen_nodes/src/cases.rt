@@ -1,12 +1,10 @@
 // Choices between cases (ECMA-262, 14.12), one function for each row.
-ghost use Rattle.std.specs.Prelude.{◌≡◌, map, option_map};
-ghost use Rattle.jsgen_syntax.specs.declared.precedence.Precedence.TheVariants.{Lowest};
-ghost use Rattle.jsgen_tree.specs.Tree.{trees, optional};
-ghost use Rattle.jsgen_tree.specs.Rows.{switch_statement_row, switch_case_row, in_expression, in_statement};
-ghost use Rattle.jsgen_model.specs.Punctuator.{colon};
-ghost use Rattle.jsgen_model.specs.Items.{◌⊕◌, punctuator, soft_space, soft_line};
-ghost use Rattle.jsgen_model.specs.Layout.{layout, nowhere};
-ghost use Rattle.jsgen_model.specs.Spell.{spell_statements, spell_only, spell_test, braces, case_items, in_brackets, among_statements};
+ghost use Rattle.std.specs.Prelude.{map};
+ghost use Rattle.jsgen_tree.specs.Tree.{trees};
+ghost use Rattle.jsgen_tree.specs.Rows.{switch_statement_row, switch_case_row, in_statement};
+ghost use Rattle.jsgen_model.specs.Items.{◌⊕◌, soft_space, soft_line};
+ghost use Rattle.jsgen_model.specs.Layout.{layout};
+ghost use Rattle.jsgen_model.specs.Spell.{spell_statements, braces};
 ghost use Rattle.jsgen_model.specs.Printing.{Reaches};
 ghost use Rattle.jsgen_printer.specs.Printer.{pen_of};
 ghost use Rattle.jsgen_place.specs.Place.{settings_of};
@@ -16,13 +14,11 @@ use crate::PrintNode;
 use crate::bodies::print_body;
 use crate::sequences::Expressions;
 use crate::statements::Statements;
-use jsgen_lists::{
-    PrintStatement, print_braces, print_case_test, print_deeper_statements, print_head,
-};
+use jsgen_lists::{PrintOnly, PrintStatement, print_braces, print_case, print_head};
 use jsgen_place::{Place, Settings};
 use jsgen_printer::Printer;
 use jsgen_syntax::{Memory, Precedence};
-use jsgen_tree::{ExpressionNode, StatementNode, SwitchCase, SwitchStatement};
+use jsgen_tree::{StatementNode, SwitchCase, SwitchStatement};
 
 #[tactic(auto, unfolding(crate::specs::Place::pen_after))]
 pub fn print_switch_statement<N: PrintNode>(
@@ -85,39 +81,26 @@ pub fn print_switch_case<N: PrintNode>(
 ) -> Result<(), Memory>
     ensures { Reaches result (pen_of p.old) (pen_of p.new) (pen_after (switch_case_row N.plain node.now) place p.old) }
 {
-    p.print_indentation()?;
-    print_case_head(&node.test, p, place.settings)?;
-    print_consequent(&node.consequent, p, place.settings)
+    print_case::<_, _, Expressions, Only, Statements>(
+        &node.test,
+        &node.consequent,
+        p,
+        place.settings,
+    )
 }
 
-// The test and its colon.
-#[tactic(auto, unfolding(crate::specs::Place::pen_after))]
-fn print_case_head<N: PrintNode>(
-    test: &Option<ExpressionNode<N>>,
-    p: &mut Printer<'_>,
-    settings: Settings,
-) -> Result<(), Memory>
-    ensures { Reaches result (pen_of p.old) (pen_of p.new) (layout (spell_test (optional (option_map (in_expression N.plain) test.now)) (in_brackets Lowest (among_statements (settings_of settings))) ⊕ punctuator colon) (pen_of p.old)) }
-{
-    let within = Place::in_brackets(Precedence::Lowest, settings);
-    print_case_test::<_, Expressions>(test, p, within)?;
-    p.print_colon()
-}
+/// A statement that is the only one of its case.
+struct Only;
 
-// One statement as a body, or any other number on lines of their own.
 #[tactic(auto, unfolding(crate::specs::Place::pen_after))]
-fn print_consequent<N: PrintNode>(
-    statements: &[StatementNode<N>],
-    p: &mut Printer<'_>,
-    settings: Settings,
-) -> Result<(), Memory>
-    requires { (pen_of p.old).start ≡ nowhere }
-    ensures { Reaches result (pen_of p.old) (pen_of p.new) (layout (case_items (trees (map (in_statement N.plain) statements.now))
-        (spell_only (trees (map (in_statement N.plain) statements.now)) (settings_of settings)) (spell_statements (trees (map (in_statement N.plain) statements.now)) (settings_of settings))) (pen_of p.old)) }
-{
-    if statements.len() == 1 {
-        print_body(statements[0].get(), p, settings)
-    } else {
-        print_deeper_statements::<_, Statements>(statements, p, settings)
+impl<N: PrintNode> PrintOnly<StatementNode<N>> for Only {
+    ghost plain = { in_statement N.plain };
+
+    fn print_only(
+        statement: &StatementNode<N>,
+        p: &mut Printer<'_>,
+        settings: Settings,
+    ) -> Result<(), Memory> {
+        print_body(statement.get(), p, settings)
     }
 }

@@ -17,7 +17,8 @@ use Rattle.jsgen_token_laws.proofs.OneList.{one_token_list}
 use Rattle.jsgen_oracle.specs.Samples.{IsNotRead}
 use Rattle.jsgen_oracle.proofs.Samples.{word, sign}
 use Rattle.jsgen_oracle.proofs.Ends.{ends_so}
-use Rattle.jsgen_oracle.proofs.Sound.{starts_well, expression_starts, chain_starts, item_ends}
+use Rattle.jsgen_oracle.proofs.Starts.{starts_well, expression_starts, chain_starts}
+use Rattle.jsgen_oracle.proofs.Sound.{item_ends}
 use Rattle.jsgen_oracle.proofs.Joined.{parameter_starts}
 
 -- ---- one group

@@ -14,7 +14,8 @@ use Rattle.jsgen_model.specs.Grammar as grammar
 use Rattle.jsgen_oracle.specs.Samples.{IsNotRead}
 use Rattle.jsgen_oracle.proofs.Samples.{word, sign}
 use Rattle.jsgen_oracle.proofs.Ends.{ends_so}
-use Rattle.jsgen_oracle.proofs.Sound.{starts_well, expression_starts, is_declaring, declares, item_ends}
+use Rattle.jsgen_oracle.proofs.Starts.{starts_well, expression_starts}
+use Rattle.jsgen_oracle.proofs.Sound.{is_declaring, declares, item_ends}
 use Rattle.jsgen_oracle.proofs.Joined.{are_parameters, parameters_start}
 use Rattle.jsgen_oracle.proofs.Alone.{unread}
 

@@ -31,7 +31,7 @@ use Rattle.jsgen_token_laws.proofs.Plain.{all_plain}
 use Rattle.jsgen_token_laws.proofs.OneList.{one_token_list}
 use Rattle.jsgen_oracle.specs.Samples.{IsNotRead}
 use Rattle.jsgen_oracle.proofs.Samples.{word, sign}
-use Rattle.jsgen_oracle.proofs.Sound.{begins_with_name, starts_well, named_further, name_starts, joined, expression_starts}
+use Rattle.jsgen_oracle.proofs.Starts.{begins_with_name, starts_well, named_further, name_starts, joined, expression_starts}
 
 -- an expression's tokens, or three dots before them
 abbrev starts_element : Tokens → Bool

@@ -11,6 +11,7 @@ pub mod Samples
 pub mod Assigned
 pub mod Arrows
 pub mod Ends
+pub mod Starts
 pub mod Sound
 pub mod Looped
 pub mod Nested

@@ -97,6 +97,18 @@ pub async_before_of : IsNotRead (codes "for(async of b)c;")
 unfolding unicode_ident longer_stands word_value is_reserved is_strict_reserved encode
 async_before_of = refused (codes "for(async of b)c;") (word (codes "for") (group false Round (word (codes "async") (word (codes "of") (word (codes "b") done))) (word (codes "c") (sign semicolon done)))) ([], codes "(async of b)c;", refl, refl, refl, refl, refl, ([], codes "async of b", codes "c;", refl, refl, refl, ([], codes " of b", refl, refl, refl, refl, refl, (codes " ", codes " b", refl, refl, refl, refl, refl, (codes " ", [], refl, refl, refl, refl, refl, refl))), ([], codes ";", refl, refl, refl, refl, refl, ([], [], refl, refl, refl, refl, refl, refl)))) refl
 
+pub let_before_in : IsNotRead (codes "for(let in b)c;")
+unfolding unicode_ident longer_stands word_value is_reserved is_strict_reserved encode
+let_before_in = refused (codes "for(let in b)c;") (word (codes "for") (group false Round (word (codes "let") (word (codes "in") (word (codes "b") done))) (word (codes "c") (sign semicolon done)))) ([], codes "(let in b)c;", refl, refl, refl, refl, refl, ([], codes "let in b", codes "c;", refl, refl, refl, ([], codes " in b", refl, refl, refl, refl, refl, (codes " ", codes " b", refl, refl, refl, refl, refl, (codes " ", [], refl, refl, refl, refl, refl, refl))), ([], codes ";", refl, refl, refl, refl, refl, ([], [], refl, refl, refl, refl, refl, refl)))) refl
+
+pub body_of_do_without_semicolon : IsNotRead (codes "do a while(b);")
+unfolding unicode_ident longer_stands word_value is_reserved is_strict_reserved encode
+body_of_do_without_semicolon = refused (codes "do a while(b);") (word (codes "do") (word (codes "a") (word (codes "while") (group false Round (word (codes "b") done) (sign semicolon done))))) ([], codes " a while(b);", refl, refl, refl, refl, refl, (codes " ", codes " while(b);", refl, refl, refl, refl, refl, (codes " ", codes "(b);", refl, refl, refl, refl, refl, ([], codes "b", codes ";", refl, refl, refl, ([], [], refl, refl, refl, refl, refl, refl), ([], [], refl, refl, refl, refl, refl, refl))))) refl
+
+pub do_before_statement : IsNotRead (codes "do a;while(b)c;")
+unfolding unicode_ident longer_stands word_value is_reserved is_strict_reserved encode
+do_before_statement = refused (codes "do a;while(b)c;") (word (codes "do") (word (codes "a") (sign semicolon (word (codes "while") (group false Round (word (codes "b") done) (word (codes "c") (sign semicolon done))))))) ([], codes " a;while(b)c;", refl, refl, refl, refl, refl, (codes " ", codes ";while(b)c;", refl, refl, refl, refl, refl, ([], codes "while(b)c;", refl, refl, refl, refl, refl, ([], codes "(b)c;", refl, refl, refl, refl, refl, ([], codes "b", codes "c;", refl, refl, refl, ([], [], refl, refl, refl, refl, refl, refl), ([], codes ";", refl, refl, refl, refl, refl, ([], [], refl, refl, refl, refl, refl, refl))))))) refl
+
 pub update_on_next_line : IsNotRead (codes "a\n++b;")
 unfolding unicode_ident longer_stands word_value is_reserved is_strict_reserved encode
 update_on_next_line = refused (codes "a\n++b;") (word (codes "a") (piece true (Sign plus_plus) (word (codes "b") (sign semicolon done)))) ([], codes "\n++b;", refl, refl, refl, refl, refl, (codes "\n", codes "b;", refl, refl, refl, refl, refl, ([], codes ";", refl, refl, refl, refl, refl, ([], [], refl, refl, refl, refl, refl, refl)))) refl

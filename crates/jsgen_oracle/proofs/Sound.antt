@@ -10,106 +10,22 @@ use lib.Utf8.{encode}
 use Rattle.unicode_ident.proofs.Computing.{unicode_ident}
 use Rattle.jsgen_syntax.specs.Escapes.{word_value}
 use Rattle.jsgen_syntax.specs.Name.{is_reserved, is_strict_reserved, is_free_name}
-use Rattle.jsgen_syntax.specs.declared.operator.BinaryOperator.{BinaryOperator}
-use Rattle.jsgen_syntax.specs.declared.operator.BinaryOperator.TheVariants as operators
-use Rattle.jsgen_syntax.specs.declared.operator.UnaryOperator.{UnaryOperator}
-use Rattle.jsgen_syntax.specs.declared.operator.UnaryOperator.TheVariants as unary_operators
-use Rattle.jsgen_syntax.specs.declared.operator.UpdateOperator.{UpdateOperator}
-use Rattle.jsgen_syntax.specs.declared.operator.UpdateOperator.TheVariants as update_operators
-use Rattle.jsgen_syntax.specs.declared.operator.AssignmentOperator.{AssignmentOperator}
-use Rattle.jsgen_syntax.specs.declared.operator.AssignmentOperator.TheVariants as assignment_operators
 use Rattle.jsgen_tree.specs.declared.statements.VariableDeclarationKind.{VariableDeclarationKind}
 use Rattle.jsgen_tree.specs.declared.statements.VariableDeclarationKind.TheVariants as kinds
 use Rattle.jsgen_tree.specs.declared.functions.FunctionKind.{FunctionKind}
 use Rattle.jsgen_tree.specs.declared.functions.FunctionKind.TheVariants as function_kinds
 use Rattle.jsgen_tree.specs.Tree.{Tree, Trees, Maybe}
-use Rattle.jsgen_model.specs.Punctuator.{Punctuator, dot, question_dot, plus, minus, plus_plus, minus_minus, bang, tilde, comma, star_star, and_and, or_or, nullish, question, colon, arrow, semicolon, Round, Square, Brace}
-use Rattle.jsgen_model.specs.Tokens.{Tokens, done, piece, group, ◌⧺◌, Piece, Word, Number, Quoted, Sign, AreTokensOf}
-use Rattle.jsgen_model.specs.Grammar.{Allowed, Level, operator_piece, unary_piece, update_sign, assignment_sign, ReadsExpression, ReadsFunction, ReadsBinding, ReadsDeclarator, ReadsDeclarators, ReadsVariables, declaring, on_same_line, starts_declaration, starts_statement, may_precede_of, EndsBy, ReadsStatement, ReadsInit, ReadsLeft, ReadsHandler, ReadsFinalizer, ReadsEndsOfTry, ReadsItem, ReadsStatements, ReadsBody, ReadsModule, a_module, ReadsChain, ReadsChainBase, ReadsArrowParameters}
+use Rattle.jsgen_model.specs.Punctuator.{comma, equal, colon, semicolon, Round, Square, Brace}
+use Rattle.jsgen_model.specs.Tokens.{Tokens, done, piece, group, ◌⧺◌, Word, Number, Quoted, Sign, AreTokensOf}
+use Rattle.jsgen_model.specs.Grammar.{Allowed, Level, ReadsExpression, ReadsFunction, ReadsBinding, ReadsDeclarator, ReadsDeclarators, ReadsVariables, declaring, on_same_line, starts_declaration, starts_statement, may_precede_of, EndsBy, ReadsStatement, ReadsInit, ReadsLeft, ReadsHandler, ReadsFinalizer, ReadsEndsOfTry, ReadsItem, ReadsStatements, ReadsBody, ReadsModule, a_module}
 use Rattle.jsgen_model.specs.Grammar as grammar
 use Rattle.jsgen_token_laws.proofs.Plain.{all_plain}
 use Rattle.jsgen_token_laws.proofs.OneList.{one_token_list}
 use Rattle.jsgen_oracle.specs.Samples.{IsNotRead}
+use Rattle.jsgen_oracle.proofs.Starts.{joins, goes_on, begins_with_name, is_keyword, is_free_word, is_operand_word, is_prefix_word, goes_to_function, begins_function, starts_well, starts_operand, goes_further, named_further, operand_further, starts_further, expression_starts, declarators_start}
 use Rattle.jsgen_oracle.proofs.Ends.{ends_so, ends_behind, ends_past, one_more, in_a_row, end_nothing}
 
--- ---- a program's first two tokens
-
--- these tokens may stand behind the first operand of an expression
-abbrev joins : Piece → Bool
-joins (Sign plus_plus) = false
-joins (Sign minus_minus) = false
-joins (Sign colon) = false
-joins (Sign s) = true
-joins (Number w) = false
-joins (Quoted q w) = false
-joins (Word w) = bytes_eq w (codes "in") || bytes_eq w (codes "instanceof")
-
--- the sign of an update may stand between
-abbrev goes_on : Tokens → Bool
-goes_on done = true
-goes_on (piece m (Sign plus_plus) ts) = goes_on ts
-goes_on (piece m (Sign minus_minus) ts) = goes_on ts
-goes_on (piece m p ts) = joins p
-goes_on (group m Brace inside ts) = false
-goes_on (group m Square done ts) = false
-goes_on (group m b inside ts) = true
-
-abbrev pub begins_with_name : Tokens → Bool
-begins_with_name (piece m (Word w) ts) = true
-begins_with_name ts = false
-
--- a keyword that is an operand
-abbrev is_keyword : List ℕ → Bool
-is_keyword w = list_any (bytes_eq w) (codes "this" ∷ codes "null" ∷ codes "true" ∷ codes "false" ∷ codes "super" ∷ codes "new" ∷ [])
-
--- the word may stand as a name
-abbrev is_free_word : List ℕ → Bool
-is_free_word w = option_map_or is_free_name (word_value w) false
-
--- the word may be an operand: a keyword, or a reference
-abbrev is_operand_word : List ℕ → Bool
-is_operand_word w = is_keyword w || is_free_word w
-
--- an operator, or `new`, stands before its operand
-abbrev is_prefix_word : List ℕ → Bool
-is_prefix_word w = list_any (bytes_eq w) (codes "typeof" ∷ codes "void" ∷ codes "delete" ∷ codes "new" ∷ [])
-
-abbrev is_prefix_sign : Punctuator → Bool
-is_prefix_sign plus = true
-is_prefix_sign minus = true
-is_prefix_sign bang = true
-is_prefix_sign tilde = true
-is_prefix_sign plus_plus = true
-is_prefix_sign minus_minus = true
-is_prefix_sign s = false
-
--- a function's parameters and body, and what goes on behind them. What stands within their groups doesn't matter
-abbrev ends_function : Tokens → Bool
-ends_function (group m Round head (group n Brace inside ts)) = goes_on ts
-ends_function ts = false
-
--- the same behind a name, which may be omitted
-abbrev goes_to_function : Tokens → Bool
-goes_to_function (piece m (Word w) ts) = ends_function ts
-goes_to_function ts = ends_function ts
-
-abbrev begins_function : List ℕ → Tokens → Bool
-begins_function w ts = bytes_eq w (codes "function") && goes_to_function ts
-
--- an operand that a sign, a bracket or nothing follows, maybe behind operators of its own
-abbrev pub starts_well : Tokens → Bool
-starts_well (piece m (Word w) ts) = begins_function w ts || ((is_operand_word w && goes_on ts) || (is_prefix_word w && starts_well ts))
-starts_well (piece m (Sign s) ts) = is_prefix_sign s && starts_well ts
-starts_well (piece m (Number w) ts) = goes_on ts
-starts_well (piece m (Quoted q w) ts) = goes_on ts
-starts_well (group m Round inside ts) = goes_on ts
-starts_well (group m Square inside ts) = goes_on ts
-starts_well (group m Brace inside ts) = goes_on ts
-starts_well ts = false
-
--- the word begins such an operand that is no function
-abbrev starts_operand : List ℕ → Tokens → Bool
-starts_operand w ts = (is_operand_word w && goes_on ts) || (is_prefix_word w && starts_well ts)
+-- ---- what a statement begins with
 
 -- a lexical declaration begins with it
 abbrev is_lexical_word : List ℕ → Bool
@@ -139,9 +55,9 @@ abbrev goes_to_named_function : Tokens → Bool
 goes_to_named_function (piece m (Word w) (group n Round head (group k Brace inside ts))) = is_free_word w
 goes_to_named_function ts = false
 
--- no `async of` stands first
+-- neither `async of` nor `let in` stands first
 abbrev is_head : Tokens → Bool
-is_head (piece m (Word w) (piece n (Word v) ts)) = not (bytes_eq w (codes "async") && bytes_eq v (codes "of"))
+is_head (piece m (Word w) (piece n (Word v) ts)) = not (bytes_eq w (codes "async") && bytes_eq v (codes "of")) && not (bytes_eq w (codes "let") && bytes_eq v (codes "in"))
 is_head ts = true
 
 abbrev goes_to_head : Tokens → Bool
@@ -158,11 +74,25 @@ goes_to_end ts = false
 
 -- a statement begins so, whatever follows
 abbrev begins_alone : List ℕ → Bool
-begins_alone w = list_any (bytes_eq w) (codes "do" ∷ codes "continue" ∷ codes "break" ∷ codes "debugger" ∷ codes "switch" ∷ [])
+begins_alone w = list_any (bytes_eq w) (codes "continue" ∷ codes "break" ∷ codes "debugger" ∷ codes "switch" ∷ [])
+
+-- parentheses and a semicolon
+abbrev ends_test : Tokens → Bool
+ends_test (group m Round inside (piece n (Sign semicolon) ts)) = true
+ends_test ts = false
+
+-- a body that ends in a semicolon or a brace, and behind it `while` with a test and a semicolon. The flag tells that what stands before them ends so
+abbrev goes_to_while : Bool → Tokens → Bool
+goes_to_while ended done = false
+goes_to_while ended (piece m (Word w) ts) = (ended && (bytes_eq w (codes "while") && ends_test ts)) || goes_to_while false ts
+goes_to_while ended (piece m (Sign semicolon) ts) = goes_to_while true ts
+goes_to_while ended (piece m p ts) = goes_to_while false ts
+goes_to_while ended (group m Brace inside ts) = goes_to_while true ts
+goes_to_while ended (group m b inside ts) = goes_to_while false ts
 
 -- a word that a statement without an operand in front or a function's declaration begins with, and what it needs
 abbrev begins_statement : List ℕ → Tokens → Bool
-begins_statement w ts = goes_to_labelled ts || (begins_alone w || ((bytes_eq w (codes "if") && goes_to_body ts) || ((bytes_eq w (codes "while") && goes_to_body ts) || ((bytes_eq w (codes "for") && goes_to_head ts) || ((bytes_eq w (codes "throw") && on_same_line ts) || ((bytes_eq w (codes "function") && goes_to_named_function ts) || (bytes_eq w (codes "try") && goes_to_end ts)))))))
+begins_statement w ts = goes_to_labelled ts || (begins_alone w || ((bytes_eq w (codes "do") && goes_to_while false ts) || ((bytes_eq w (codes "if") && goes_to_body ts) || ((bytes_eq w (codes "while") && goes_to_body ts) || ((bytes_eq w (codes "for") && goes_to_head ts) || ((bytes_eq w (codes "throw") && on_same_line ts) || ((bytes_eq w (codes "function") && goes_to_named_function ts) || (bytes_eq w (codes "try") && goes_to_end ts))))))))
 
 -- a word that an expression statement begins with, one that declares and a name, or one that begins another statement
 abbrev word_begins_well : List ℕ → Tokens → Bool
@@ -174,239 +104,6 @@ begins_well (piece m (Word w) ts) = word_begins_well w ts
 begins_well (piece m (Sign semicolon) ts) = true
 begins_well (group m Brace inside ts) = true
 begins_well ts = starts_well ts
-
-goes_further : (ts b : Tokens) → goes_on b ≡ true → goes_on ts ≡ true → goes_on (ts ⧺ b) ≡ true
-goes_further done b j h = j
-goes_further (piece n (Sign plus_plus) ts) b j h = goes_further ts b j h
-goes_further (piece n (Sign minus_minus) ts) b j h = goes_further ts b j h
-goes_further (piece n q ts) b j h = h
-goes_further (group n Round inside ts) b j h = refl
-goes_further (group n Square done ts) b j h = absurd (both_ways false refl h)
-goes_further (group n Square inside ts) b j h = refl
-goes_further (group n Brace inside ts) b j h = absurd (both_ways false refl h)
-
-pub named_further : (ts b : Tokens) → begins_with_name ts ≡ true → begins_with_name (ts ⧺ b) ≡ true
-named_further done b h = absurd (both_ways false refl h)
-named_further (piece n (Word w) ts) b h = refl
-named_further (piece n (Number w) ts) b h = absurd (both_ways false refl h)
-named_further (piece n (Quoted q w) ts) b h = absurd (both_ways false refl h)
-named_further (piece n (Sign s) ts) b h = absurd (both_ways false refl h)
-named_further (group n d inside ts) b h = absurd (both_ways false refl h)
-
-function_ends_further : (ts b : Tokens) → goes_on b ≡ true → ends_function ts ≡ true → ends_function (ts ⧺ b) ≡ true
-function_ends_further done b j h = absurd (both_ways false refl h)
-function_ends_further (piece n p ts) b j h = absurd (both_ways false refl h)
-function_ends_further (group n Round head done) b j h = absurd (both_ways false refl h)
-function_ends_further (group n Round head (piece k p ts)) b j h = absurd (both_ways false refl h)
-function_ends_further (group n Round head (group k Brace inside ts)) b j h = goes_further ts b j h
-function_ends_further (group n Round head (group k Round inside ts)) b j h = absurd (both_ways false refl h)
-function_ends_further (group n Round head (group k Square inside ts)) b j h = absurd (both_ways false refl h)
-function_ends_further (group n Square inside ts) b j h = absurd (both_ways false refl h)
-function_ends_further (group n Brace inside ts) b j h = absurd (both_ways false refl h)
-
-function_further : (ts b : Tokens) → goes_on b ≡ true → goes_to_function ts ≡ true → goes_to_function (ts ⧺ b) ≡ true
-function_further done b j h = absurd (both_ways false refl h)
-function_further (piece n (Word w) ts) b j h = function_ends_further ts b j h
-function_further (piece n (Number w) ts) b j h = absurd (both_ways false refl h)
-function_further (piece n (Quoted q w) ts) b j h = absurd (both_ways false refl h)
-function_further (piece n (Sign r) ts) b j h = absurd (both_ways false refl h)
-function_further (group n d inside ts) b j h = function_ends_further (group n d inside ts) b j h
-
--- the word begins an operand, and so it does before other tokens
-operand_further : (w : List ℕ) (ts us : Tokens) → (goes_on ts ≡ true → goes_on us ≡ true) → (starts_well ts ≡ true → starts_well us ≡ true) → starts_operand w ts ≡ true → starts_operand w us ≡ true
-operand_further w ts us f g h = by (or_cases (is_operand_word w && goes_on ts) (is_prefix_word w && starts_well ts) h)
-  where
-    by : ((is_operand_word w && goes_on ts) ≡ true) ⊎ ((is_prefix_word w && starts_well ts) ≡ true) → starts_operand w us ≡ true
-    by (inl e) = let k = and_parts (is_operand_word w) (goes_on ts) e in or_left _ _ (and_from _ _ k.0 (f k.1))
-    by (inr e) = let k = and_parts (is_prefix_word w) (starts_well ts) e in or_right _ _ (and_from _ _ k.0 (g k.1))
-
--- the word begins an expression, and so it does before other tokens
-word_further : (w : List ℕ) (m : Bool) (ts us : Tokens) → (goes_to_function ts ≡ true → goes_to_function us ≡ true) → (goes_on ts ≡ true → goes_on us ≡ true) → (starts_well ts ≡ true → starts_well us ≡ true) → starts_well (piece m (Word w) ts) ≡ true → starts_well (piece m (Word w) us) ≡ true
-word_further w m ts us i f g h = by (or_cases (begins_function w ts) (starts_operand w ts) h)
-  where
-    by : (begins_function w ts ≡ true) ⊎ (starts_operand w ts ≡ true) → starts_well (piece m (Word w) us) ≡ true
-    by (inl e) = let k = and_parts (bytes_eq w (codes "function")) (goes_to_function ts) e in or_left _ _ (and_from _ _ k.0 (i k.1))
-    by (inr e) = or_right (begins_function w us) _ (operand_further w ts us f g e)
-
-starts_further : (ts b : Tokens) → goes_on b ≡ true → starts_well ts ≡ true → starts_well (ts ⧺ b) ≡ true
-starts_further done b j h = absurd (both_ways false refl h)
-starts_further (piece n (Word w) ts) b j h = word_further w n ts (ts ⧺ b) (function_further ts b j) (goes_further ts b j) (starts_further ts b j) h
-starts_further (piece n (Number w) ts) b j h = goes_further ts b j h
-starts_further (piece n (Quoted q w) ts) b j h = goes_further ts b j h
-starts_further (piece n (Sign r) ts) b j h = let k = and_parts (is_prefix_sign r) (starts_well ts) h in and_from _ _ k.0 (starts_further ts b j k.1)
-starts_further (group n Round inside ts) b j h = goes_further ts b j h
-starts_further (group n Square inside ts) b j h = goes_further ts b j h
-starts_further (group n Brace inside ts) b j h = goes_further ts b j h
-
-operator_joins : (o : BinaryOperator) (m : Bool) (b : Tokens) → goes_on (piece m (operator_piece o) b) ≡ true
-operator_joins operators.BitwiseOR m b = refl
-operator_joins operators.BitwiseXOR m b = refl
-operator_joins operators.BitwiseAnd m b = refl
-operator_joins operators.Equality m b = refl
-operator_joins operators.Inequality m b = refl
-operator_joins operators.StrictEquality m b = refl
-operator_joins operators.StrictInequality m b = refl
-operator_joins operators.LessThan m b = refl
-operator_joins operators.LessEqualThan m b = refl
-operator_joins operators.GreaterThan m b = refl
-operator_joins operators.GreaterEqualThan m b = refl
-operator_joins operators.In m b = refl
-operator_joins operators.Instanceof m b = refl
-operator_joins operators.ShiftLeft m b = refl
-operator_joins operators.ShiftRight m b = refl
-operator_joins operators.ShiftRightZeroFill m b = refl
-operator_joins operators.Addition m b = refl
-operator_joins operators.Subtraction m b = refl
-operator_joins operators.Multiplication m b = refl
-operator_joins operators.Division m b = refl
-operator_joins operators.Remainder m b = refl
-operator_joins operators.Exponential m b = refl
-
-unary_starts : (o : UnaryOperator) (m : Bool) (ts : Tokens) → starts_well ts ≡ true → starts_well (piece m (unary_piece o) ts) ≡ true
-unary_starts unary_operators.UnaryPlus m ts h = h
-unary_starts unary_operators.UnaryNegation m ts h = h
-unary_starts unary_operators.LogicalNot m ts h = h
-unary_starts unary_operators.BitwiseNot m ts h = h
-unary_starts unary_operators.Typeof m ts h = or_right (is_operand_word (codes "typeof") && goes_on ts) _ h
-unary_starts unary_operators.Void m ts h = or_right (is_operand_word (codes "void") && goes_on ts) _ h
-unary_starts unary_operators.Delete m ts h = or_right (is_operand_word (codes "delete") && goes_on ts) _ h
-
-update_starts : (o : UpdateOperator) (m : Bool) (ts : Tokens) → starts_well ts ≡ true → starts_well (piece m (Sign (update_sign o)) ts) ≡ true
-update_starts update_operators.Increment m ts h = h
-update_starts update_operators.Decrement m ts h = h
-
-update_goes : (o : UpdateOperator) (m : Bool) → goes_on (piece m (Sign (update_sign o)) done) ≡ true
-update_goes update_operators.Increment m = refl
-update_goes update_operators.Decrement m = refl
-
-assignment_joins : (o : AssignmentOperator) (m : Bool) (b : Tokens) → goes_on (piece m (Sign (assignment_sign o)) b) ≡ true
-assignment_joins assignment_operators.Assign m b = refl
-assignment_joins assignment_operators.Addition m b = refl
-assignment_joins assignment_operators.Subtraction m b = refl
-assignment_joins assignment_operators.Multiplication m b = refl
-assignment_joins assignment_operators.Division m b = refl
-assignment_joins assignment_operators.Remainder m b = refl
-assignment_joins assignment_operators.Exponential m b = refl
-assignment_joins assignment_operators.ShiftLeft m b = refl
-assignment_joins assignment_operators.ShiftRight m b = refl
-assignment_joins assignment_operators.ShiftRightZeroFill m b = refl
-assignment_joins assignment_operators.BitwiseOR m b = refl
-assignment_joins assignment_operators.BitwiseXOR m b = refl
-assignment_joins assignment_operators.BitwiseAnd m b = refl
-assignment_joins assignment_operators.LogicalOr m b = refl
-assignment_joins assignment_operators.LogicalAnd m b = refl
-assignment_joins assignment_operators.LogicalNullish m b = refl
-
--- what goes on behind an operand
-pub joined : (ts a b : Tokens) → goes_on b ≡ true → ts ≡ a ⧺ b → starts_well a ≡ true → starts_well ts ≡ true
-joined ts a b j e h = subst (λ x. starts_well x ≡ true) (sym e) (starts_further a b j h)
-
--- a member's brackets aren't empty
-element_goes : (m : Bool) (inside ts : Tokens) → starts_well inside ≡ true → goes_on (group m Square inside ts) ≡ true
-element_goes m done ts h = absurd (both_ways false refl h)
-element_goes m (piece n p us) ts h = refl
-element_goes m (group n b i us) ts h = refl
-
--- a name
-pub name_starts : (m : Bool) (w v : List ℕ) (ts : Tokens) → word_value w ≡ Some v → is_free_name v ≡ true → goes_on ts ≡ true → starts_well (piece m (Word w) ts) ≡ true
-name_starts m w v ts e h g = or_right (begins_function w ts) _ (or_left _ _ (and_from (is_operand_word w) (goes_on ts) (or_right (is_keyword w) _ (ap (λ o. option_map_or is_free_name o false) e ∙ h)) g))
-
-function_starts : {kind : FunctionKind} {ts : Tokens} {t : Tree} → ReadsFunction kind ts t → goes_to_function ts ≡ true
-function_starts (grammar.a_named_function e h r s) = refl
-function_starts (grammar.a_nameless_function r s) = refl
-
-arrow_parameters_start : {c : Allowed} {ts : Tokens} {t : Tree} → ReadsArrowParameters c ts t → starts_well ts ≡ true
-arrow_parameters_start (grammar.a_parameter_name {mark = m} {w = w} {v = v} e h) = name_starts m w v done e h refl
-arrow_parameters_start (grammar.grouped_parameters r) = refl
-
-mutual
-  pub expression_starts : {c : Allowed} {l : Level} {ts : Tokens} {t : Tree} → ReadsExpression c l ts t → starts_well ts ≡ true
-  expression_starts (grammar.an_assignment r) = expression_starts r
-  expression_starts (grammar.a_sequence m e r s) = joined _ _ (piece m (Sign comma) _) refl e (expression_starts r)
-  expression_starts (grammar.an_assignment_to o m e r s w) = joined _ _ (piece m (Sign (assignment_sign o)) _) (assignment_joins o m _) e (expression_starts r)
-  expression_starts (grammar.a_conditional r) = expression_starts r
-  expression_starts (grammar.a_short_circuit r) = expression_starts r
-  expression_starts (grammar.a_logical_or r) = expression_starts r
-  expression_starts (grammar.a_logical_and r) = expression_starts r
-  expression_starts (grammar.a_bit_or r) = expression_starts r
-  expression_starts (grammar.a_bit_xor r) = expression_starts r
-  expression_starts (grammar.a_bit_and r) = expression_starts r
-  expression_starts (grammar.an_equality r) = expression_starts r
-  expression_starts (grammar.a_relation r) = expression_starts r
-  expression_starts (grammar.a_shift r) = expression_starts r
-  expression_starts (grammar.an_additive r) = expression_starts r
-  expression_starts (grammar.a_multiplicative r) = expression_starts r
-  expression_starts (grammar.an_exponent r) = expression_starts r
-  expression_starts (grammar.a_unary r) = expression_starts r
-  expression_starts (grammar.an_update r) = expression_starts r
-  expression_starts (grammar.a_left_hand_side r) = expression_starts r
-  expression_starts (grammar.a_new r) = expression_starts r
-  expression_starts (grammar.a_call r) = expression_starts r
-  expression_starts (grammar.a_member r) = expression_starts r
-  expression_starts (grammar.a_primary r) = expression_starts r
-  expression_starts (grammar.a_called_member r) = expression_starts r
-  expression_starts (grammar.a_called_call r) = expression_starts r
-  expression_starts (grammar.a_named_member w m n e v r) = joined _ _ (piece m (Sign dot) _) refl e (expression_starts r)
-  expression_starts (grammar.a_computed_member {inside = i} m e r s) = joined _ _ (group m Square i done) (element_goes m i done (expression_starts s)) e (expression_starts r)
-  expression_starts (grammar.with_arguments m e r s) = joined _ _ (group m Round _ done) refl e (expression_starts r)
-  expression_starts (grammar.a_named_member_of_call w m n e v r) = joined _ _ (piece m (Sign dot) _) refl e (expression_starts r)
-  expression_starts (grammar.a_computed_member_of_call {inside = i} m e r s) = joined _ _ (group m Square i done) (element_goes m i done (expression_starts s)) e (expression_starts r)
-  expression_starts (grammar.an_operation o m p q e l r) = joined _ _ (piece m (operator_piece o) _) (operator_joins o m _) e (expression_starts l)
-  expression_starts (grammar.a_power m e l r) = joined _ _ (piece m (Sign star_star) _) refl e (expression_starts l)
-  expression_starts (grammar.a_conjunction m e l r) = joined _ _ (piece m (Sign and_and) _) refl e (expression_starts l)
-  expression_starts (grammar.a_disjunction m e l r) = joined _ _ (piece m (Sign or_or) _) refl e (expression_starts l)
-  expression_starts (grammar.a_coalesce r) = expression_starts r
-  expression_starts (grammar.a_coalescing m e l r) = joined _ _ (piece m (Sign nullish) _) refl e (expression_starts l)
-  expression_starts (grammar.a_coalesced_head r) = expression_starts r
-  expression_starts (grammar.a_bit_or_head r) = expression_starts r
-  expression_starts (grammar.a_choice m n e r s t) = joined _ _ (piece m (Sign question) _) refl e (expression_starts r)
-  expression_starts (grammar.a_unary_operation {mark = m} o r) = unary_starts o m _ (expression_starts r)
-  expression_starts (grammar.an_update_before {mark = m} {ts = ts} o r s) = update_starts o m ts (expression_starts r)
-  expression_starts (grammar.an_update_behind {a = a} o e r s) = joined _ a (piece false (Sign (update_sign o)) done) (update_goes o false) e (expression_starts r)
-  expression_starts (grammar.new_with_arguments {a = a} m n e r s) = or_right _ _ (joined _ a (group n Round _ done) refl e (expression_starts r))
-  expression_starts (grammar.new_alone r) = or_right _ _ (expression_starts r)
-  expression_starts (grammar.a_named_member_of_super w m n l e) = refl
-  expression_starts (grammar.a_computed_member_of_super {next = n} {inside = i} r) = or_left (goes_on (group n Square i done)) false (element_goes n i done (expression_starts r))
-  expression_starts (grammar.a_call_of_super r) = refl
-  expression_starts grammar.a_new_target = refl
-  expression_starts (grammar.a_reference {mark = m} {w = w} {v = v} e h) = name_starts m w v done e h refl
-  expression_starts grammar.a_this = refl
-  expression_starts grammar.a_null = refl
-  expression_starts grammar.a_true = refl
-  expression_starts grammar.a_false = refl
-  expression_starts (grammar.a_number h) = refl
-  expression_starts (grammar.a_big_integer e) = refl
-  expression_starts (grammar.a_string e) = refl
-  expression_starts (grammar.in_parentheses r) = refl
-  expression_starts (grammar.an_optional_chain r) = chain_starts r
-  expression_starts (grammar.an_array r) = refl
-  expression_starts (grammar.an_object r) = refl
-  expression_starts (grammar.a_function r) = or_left _ _ (function_starts r)
-  expression_starts (grammar.an_arrow_function e r n s) = joined _ _ (piece false (Sign arrow) _) refl e (arrow_parameters_start r)
-  expression_starts (grammar.an_arrow_with_body m e r s) = joined _ _ (piece false (Sign arrow) _) refl e (arrow_parameters_start r)
-
-  pub chain_starts : {c : Allowed} {ts : Tokens} {t : Tree} → ReadsChain c ts t → starts_well ts ≡ true
-  chain_starts (grammar.an_optional_named_member w m n e v r) = joined _ _ (piece m (Sign question_dot) _) refl e (base_starts r)
-  chain_starts (grammar.an_optional_computed_member m n e r s) = joined _ _ (piece m (Sign question_dot) _) refl e (base_starts r)
-  chain_starts (grammar.an_optional_call m n e r s) = joined _ _ (piece m (Sign question_dot) _) refl e (base_starts r)
-  chain_starts (grammar.a_further_named_member w m n e v r) = joined _ _ (piece m (Sign dot) _) refl e (chain_starts r)
-  chain_starts (grammar.a_further_computed_member {inside = i} m e r s) = joined _ _ (group m Square i done) (element_goes m i done (expression_starts s)) e (chain_starts r)
-  chain_starts (grammar.a_further_call m e r s) = joined _ _ (group m Round _ done) refl e (chain_starts r)
-
-  base_starts : {c : Allowed} {ts : Tokens} {t : Tree} → ReadsChainBase c ts t → starts_well ts ≡ true
-  base_starts (grammar.a_first_link r) = expression_starts r
-  base_starts (grammar.a_further_link r) = chain_starts r
-
-binding_starts : {c : Allowed} {ts : Tokens} {t : Tree} → ReadsBinding c ts t → begins_with_name ts ≡ true
-binding_starts (grammar.a_bound_name e h) = refl
-
-declarator_starts : {c : Allowed} {ts : Tokens} {t : Tree} → ReadsDeclarator c ts t → begins_with_name ts ≡ true
-declarator_starts (grammar.without_value r) = binding_starts r
-declarator_starts (grammar.with_value {a = a} m e r v) = subst (λ x. begins_with_name x ≡ true) (sym e) (named_further a _ (binding_starts r))
-
-declarators_start : {c : Allowed} {ts : Tokens} {ds : Trees} → ReadsDeclarators c ts ds → begins_with_name ts ≡ true
-declarators_start (grammar.last_declarator r) = declarator_starts r
-declarators_start (grammar.first_declarator {a = a} m e r s) = subst (λ x. begins_with_name x ≡ true) (sym e) (named_further a _ (declarator_starts r))
 
 -- ---- a statement's first tokens
 
@@ -531,14 +228,38 @@ statement_is_no_declaration (grammar.a_return f e r) b = with_end e (λ d. refl)
 
 -- ---- the heads of loops
 
-other_word_head : (m : Bool) (w : List ℕ) (ts : Tokens) → bytes_eq w (codes "async") ≡ false → is_head (piece m (Word w) ts) ≡ true
-other_word_head m w (piece n (Word v) ts) h = ap (λ x. not (x && bytes_eq v (codes "of"))) h
-other_word_head m w ts h = refl
+other_word_head : (m : Bool) (w : List ℕ) (ts : Tokens) → bytes_eq w (codes "async") ≡ false → bytes_eq w (codes "let") ≡ false → is_head (piece m (Word w) ts) ≡ true
+other_word_head m w (piece n (Word v) ts) h g = and_from _ _ (ap (λ x. not (x && bytes_eq v (codes "of"))) h) (ap (λ x. not (x && bytes_eq v (codes "in"))) g)
+other_word_head m w ts h g = refl
 
-declaring_head : (kind : VariableDeclarationKind) → bytes_eq (declaring kind) (codes "async") ≡ false
-declaring_head kinds.Const = refl
-declaring_head kinds.Let = refl
-declaring_head kinds.Var = refl
+in_is_reserved : is_start_word (codes "in") ≡ false
+unfolding unicode_ident word_value is_reserved is_strict_reserved encode
+in_is_reserved = refl
+
+-- the word `in` doesn't stand first
+abbrev begins_without_in : Tokens → Bool
+begins_without_in (piece m (Word w) ts) = not (bytes_eq w (codes "in"))
+begins_without_in ts = true
+
+binding_is_no_in : {c : Allowed} {ts : Tokens} {t : Tree} → ReadsBinding c ts t → (b : Tokens) → begins_without_in (ts ⧺ b) ≡ true
+binding_is_no_in (grammar.a_bound_name {w = w} {v = v} e h) b = ap not (other_than w (codes "in") (bytes_eq w (codes "in")) refl in_is_reserved (name_is_start w v e h))
+
+declarator_is_no_in : {c : Allowed} {ts : Tokens} {t : Tree} → ReadsDeclarator c ts t → (b : Tokens) → begins_without_in (ts ⧺ b) ≡ true
+declarator_is_no_in (grammar.without_value r) b = binding_is_no_in r b
+declarator_is_no_in (grammar.with_value {a = a} {v = d} m e r v) b = subst (λ x. begins_without_in (x ⧺ b) ≡ true) (sym e) (subst (λ x. begins_without_in x ≡ true) (sym (in_a_row a (piece m (Sign equal) d) b)) (binding_is_no_in r (piece m (Sign equal) (d ⧺ b))))
+
+declarators_are_no_in : {c : Allowed} {ts : Tokens} {ds : Trees} → ReadsDeclarators c ts ds → (b : Tokens) → begins_without_in (ts ⧺ b) ≡ true
+declarators_are_no_in (grammar.last_declarator r) b = declarator_is_no_in r b
+declarators_are_no_in (grammar.first_declarator {a = a} {b = d} m e r s) b = subst (λ x. begins_without_in (x ⧺ b) ≡ true) (sym e) (subst (λ x. begins_without_in x ≡ true) (sym (in_a_row a (piece m (Sign comma) d) b)) (declarator_is_no_in r (piece m (Sign comma) (d ⧺ b))))
+
+let_head : (m : Bool) (ts : Tokens) → begins_without_in ts ≡ true → is_head (piece m (Word (codes "let")) ts) ≡ true
+let_head m (piece n (Word v) ts) h = h
+let_head m ts h = refl
+
+declaring_head : (kind : VariableDeclarationKind) (m : Bool) (ts : Tokens) → begins_without_in ts ≡ true → is_head (piece m (Word (declaring kind)) ts) ≡ true
+declaring_head kinds.Const m ts h = other_word_head m (codes "const") ts refl refl
+declaring_head kinds.Let m ts h = let_head m ts h
+declaring_head kinds.Var m ts h = other_word_head m (codes "var") ts refl refl
 
 -- behind a name `of` goes on with no operand
 no_operand : (w v : List ℕ) (m : Bool) (ts : Tokens) (x y : Bool) → bytes_eq w (codes "async") ≡ x → bytes_eq v (codes "of") ≡ y → starts_well (piece m (Word w) (piece m (Word v) ts)) ≡ true → (x && y) ≡ false
@@ -552,8 +273,15 @@ no_operand w v m ts true true e f h =
     by (inl i) = absurd (both_ways (joins (Word v)) (subst (λ u. joins (Word u) ≡ false) (sym ((bytes_eq-Decides v (codes "of")).0 f)) refl) (and_parts (is_operand_word w) (joins (Word v)) i).1)
     by (inr i) = absurd (both_ways (is_prefix_word w) (subst (λ u. is_prefix_word u ≡ false) (sym ((bytes_eq-Decides w (codes "async")).0 e)) refl) (and_parts (is_prefix_word w) _ i).0)
 
+-- `let` is no operand
+no_let : (w : List ℕ) (m : Bool) (ts : Tokens) (x : Bool) → bytes_eq w (codes "let") ≡ x → starts_well (piece m (Word w) ts) ≡ true → x ≡ false
+no_let w m ts false e h = refl
+no_let w m ts true e h =
+    let n = subst (λ u. bytes_eq u (codes "function") ≡ false) (sym ((bytes_eq-Decides w (codes "let")).0 e)) refl in
+    other_than w (codes "let") true e let_is_reserved (word_starts w ts (operand_alone w m ts n h))
+
 operand_head : (ts : Tokens) → starts_well ts ≡ true → is_head ts ≡ true
-operand_head (piece m (Word w) (piece n (Word v) ts)) h = ap not (no_operand w v n ts (bytes_eq w (codes "async")) (bytes_eq v (codes "of")) refl refl h)
+operand_head (piece m (Word w) (piece n (Word v) ts)) h = and_from _ _ (ap not (no_operand w v n ts (bytes_eq w (codes "async")) (bytes_eq v (codes "of")) refl refl h)) (ap (λ x. not (x && bytes_eq v (codes "in"))) (no_let w m (piece n (Word v) ts) (bytes_eq w (codes "let")) refl h))
 operand_head ts h = refl
 
 operand_head_further : (ts b : Tokens) → goes_on b ≡ true → starts_well ts ≡ true → is_head (ts ⧺ b) ≡ true
@@ -562,7 +290,7 @@ operand_head_further ts b j h = operand_head (ts ⧺ b) (starts_further ts b j h
 -- what stands before `of`
 target_head : (ts b : Tokens) → may_precede_of ts ≡ true → starts_well ts ≡ true → is_head (ts ⧺ b) ≡ true
 target_head done b m h = absurd (both_ways false refl h)
-target_head (piece n (Word w) done) b m h = other_word_head n w b (by (bytes_eq w (codes "async")) (and_parts (not (bytes_eq w (codes "let"))) _ m).1)
+target_head (piece n (Word w) done) b m h = let x = and_parts (not (bytes_eq w (codes "let"))) _ m in other_word_head n w b (by (bytes_eq w (codes "async")) x.1) (by (bytes_eq w (codes "let")) x.0)
   where
     by : (x : Bool) → not x ≡ true → x ≡ false
     by true e = absurd (both_ways false refl e)
@@ -575,15 +303,15 @@ target_head (group n d inside ts) b m h = refl
 
 init_head : {c : Allowed} {a : Tokens} {i : Maybe} → ReadsInit c a i → (k : Bool) (b : Tokens) → is_head (a ⧺ piece k (Sign semicolon) b) ≡ true
 init_head grammar.no_init k b = refl
-init_head (grammar.first_variables kind (grammar.some_variables {mark = m} {ts = ts} r)) k b = other_word_head m (declaring kind) (ts ⧺ piece k (Sign semicolon) b) (declaring_head kind)
+init_head (grammar.first_variables kind (grammar.some_variables {mark = m} {ts = ts} r)) k b = declaring_head kind m (ts ⧺ piece k (Sign semicolon) b) (declarators_are_no_in r (piece k (Sign semicolon) b))
 init_head (grammar.first_expression {ts = ts} r) k b = operand_head_further ts (piece k (Sign semicolon) b) refl (expression_starts r)
 
 in_head : {c : Allowed} {a : Tokens} {l : Tree} → ReadsLeft c false a l → (k : Bool) (b : Tokens) → is_head (a ⧺ piece k (Word (codes "in")) b) ≡ true
-in_head (grammar.a_declared_name {mark = m} {ts = ts} kind r) k b = other_word_head m (declaring kind) (ts ⧺ piece k (Word (codes "in")) b) (declaring_head kind)
+in_head (grammar.a_declared_name {mark = m} {ts = ts} kind r) k b = declaring_head kind m (ts ⧺ piece k (Word (codes "in")) b) (binding_is_no_in r (piece k (Word (codes "in")) b))
 in_head (grammar.a_target {ts = ts} h r s) k b = operand_head_further ts (piece k (Word (codes "in")) b) refl (expression_starts r)
 
 of_head : {c : Allowed} {a : Tokens} {l : Tree} → ReadsLeft c true a l → (k : Bool) (b : Tokens) → is_head (a ⧺ piece k (Word (codes "of")) b) ≡ true
-of_head (grammar.a_declared_name {mark = m} {ts = ts} kind r) k b = other_word_head m (declaring kind) (ts ⧺ piece k (Word (codes "of")) b) (declaring_head kind)
+of_head (grammar.a_declared_name {mark = m} {ts = ts} kind r) k b = declaring_head kind m (ts ⧺ piece k (Word (codes "of")) b) (binding_is_no_in r (piece k (Word (codes "of")) b))
 of_head (grammar.a_target {ts = ts} h r s) k b = target_head ts (piece k (Word (codes "of")) b) h (expression_starts r)
 
 -- ---- what `try` needs
@@ -691,6 +419,22 @@ line_further (group m d inside ts) b h = h
 semicolon_begins : {ts a : Tokens} → EndsBy false ts a → ((d : Tokens) → goes_on d ≡ true → begins_well (a ⧺ d) ≡ true) → (b : Tokens) → begins_well (ts ⧺ b) ≡ true
 semicolon_begins {a = a} (grammar.a_semicolon m e) h b = subst (λ x. begins_well (x ⧺ b) ≡ true) (sym e) (subst (λ x. begins_well x ≡ true) (sym (one_more m (Sign semicolon) a b)) (h (piece m (Sign semicolon) b) refl))
 
+past_body : (v : Bool) (a : Tokens) → ends_so v a ≡ true → (k l m : Bool) (test b : Tokens) → goes_to_while v (a ⧺ piece k (Word (codes "while")) (group l Round test (piece m (Sign semicolon) b))) ≡ true
+past_body v done h k l m test b = or_left _ _ (and_from v true h refl)
+past_body v (piece n (Word w) a) h k l m test b = or_right _ _ (past_body false a h k l m test b)
+past_body v (piece n (Sign semicolon) a) h k l m test b = past_body true a h k l m test b
+past_body v (piece n p a) h k l m test b = past_body false a h k l m test b
+past_body v (group n Brace inside a) h k l m test b = past_body true a h k l m test b
+past_body v (group n d inside a) h k l m test b = past_body false a h k l m test b
+
+do_begins : {ts a : Tokens} {mark : Bool} (k l : Bool) (body test : Tokens) → EndsBy false ts a → a ≡ piece mark (Word (codes "do")) (body ⧺ piece k (Word (codes "while")) (group l Round test done)) → ends_so false body ≡ true → (b : Tokens) → begins_well (ts ⧺ b) ≡ true
+do_begins {a = a} k l body test (grammar.a_semicolon m e) f h b =
+    let head = piece k (Word (codes "while")) (group l Round test done) in
+    let rest = piece m (Sign semicolon) b in
+    let found = subst (λ x. goes_to_while false x ≡ true) (sym (in_a_row body head rest)) (past_body false body h k l m test b) in
+    let begun = statement_word (codes "do") ((body ⧺ head) ⧺ rest) (or_right (goes_to_labelled ((body ⧺ head) ⧺ rest)) _ (or_left _ _ found)) in
+    subst (λ x. begins_well (x ⧺ b) ≡ true) (sym e) (subst (λ x. begins_well x ≡ true) (sym (one_more m (Sign semicolon) a b)) (subst (λ x. begins_well (x ⧺ rest) ≡ true) (sym f) begun))
+
 -- where `return` may not stand, as in a module
 statement_begins : {c : Allowed} {before_else : Bool} {a : Tokens} {s : Tree} → c.return_statement ≡ false → ReadsStatement c false before_else a s → (b : Tokens) → ends_so true b ≡ true → begins_well (a ⧺ b) ≡ true
 statement_begins n (grammar.an_expression_statement e h r) b g = semicolon_begins e (expression_begins h r) b
@@ -705,7 +449,7 @@ statement_begins n (grammar.a_for {next = next} {head = head} {ts = ts} k l e i 
 statement_begins n (grammar.a_for_in {next = next} {head = head} {ts = ts} k e l r s) b h = for_begins next head (ts ⧺ b) (subst (λ x. is_head x ≡ true) (sym e) (in_head l k _))
 statement_begins n (grammar.a_for_of {next = next} {head = head} {ts = ts} k e l r s) b h = for_begins next head (ts ⧺ b) (subst (λ x. is_head x ≡ true) (sym e) (of_head l k _))
 statement_begins n (grammar.a_while {next = next} {test = test} {ts = ts} r s) b h = while_begins next test (ts ⧺ b) (body_begins next test (ts ⧺ b) (statement_is_no_declaration s b) (statement_ends s false b h))
-statement_begins n (grammar.a_do_while {b = a} {test = test} k l e f s r) b h = semicolon_begins e (λ d j. subst (λ x. begins_well (x ⧺ d) ≡ true) (sym f) (alone_begins (codes "do") ((a ⧺ piece k (Word (codes "while")) (group l Round test done)) ⧺ d) refl)) b
+statement_begins n (grammar.a_do_while {b = a} {test = test} k l e f s r) b h = do_begins k l a test e f (subst (λ x. ends_so false x ≡ true) (end_nothing a) (statement_ends s false done refl)) b
 statement_begins n (grammar.a_labelled_statement {next = next} {w = w} {ts = ts} e h s) b g = label_begins next w (ts ⧺ b) (statement_is_no_declaration s b)
 statement_begins n (grammar.a_continue {a = a} e l) b h = semicolon_begins e (λ d j. alone_begins (codes "continue") (a ⧺ d) refl) b
 statement_begins n (grammar.a_break {a = a} e l) b h = semicolon_begins e (λ d j. alone_begins (codes "break") (a ⧺ d) refl) b

@@ -101,3 +101,9 @@ pub record StatementSamples : Type 0 where
   pub async_before_of : IsNotRead (codes "for(async of b)c;")
   -- the sign of an update behind its operand stands on that line, and the definition adds no semicolon at a line end, though 12.10 does
   pub update_on_next_line : IsNotRead (codes "a\n++b;")
+  -- `let` is no name in a module, so that no target is called so (14.7.5)
+  pub let_before_in : IsNotRead (codes "for(let in b)c;")
+  -- the body of `do` has its own semicolon (14.7.2)
+  pub body_of_do_without_semicolon : IsNotRead (codes "do a while(b);")
+  -- behind `do` one may be omitted before a brace alone by the definition, though 12.10 inserts it before any token
+  pub do_before_statement : IsNotRead (codes "do a;while(b)c;")

@@ -3,7 +3,7 @@ use Rattle.std.proofs.Common.{◌≡◌, ℕ, Bool, true, false, ◌||◌, codes
 use Rattle.jsgen_syntax.specs.declared.precedence.Precedence.TheVariants as levels
 use Rattle.jsgen_syntax.specs.Name.{spells_name}
 use Rattle.jsgen_tree.specs.Job.{Tables}
-use Rattle.jsgen_tree.specs.Inside.{without_parentheses, looked_up_in, written_name_in, is_method}
+use Rattle.jsgen_tree.specs.Inside.{is_method}
 use Rattle.jsgen_tree.specs.Tree.{Tree, Maybe, absent, given, Trees, no_trees, more, Atoms}
 use Rattle.jsgen_tree.specs.Values.{object_property_kind, object_property_method, object_property_shorthand, object_property_computed, function_kind}
 use Rattle.jsgen_tree.specs.Nodes as tree
@@ -18,7 +18,7 @@ use Rattle.jsgen_model.specs.Grammar.{Allowed, ReadsKey, ReadsProperty, ReadsPar
 use Rattle.jsgen_model.specs.Grammar as grammar
 use Rattle.jsgen_model.specs.Normal.{normal, nothing_of, property_values, is_written_as_method, is_computed, is_proto_shorthand}
 use Rattle.jsgen_model.specs.Renamed.{renamed}
-use Rattle.jsgen_model.specs.Spell.{Place, spell, in_brackets, in_front, needs_brackets, key_items, key_place, with_key, property_items, accessor_word, method_or_property}
+use Rattle.jsgen_model.specs.Spell.{Place, spell, in_brackets, needs_brackets, key_items, key_place, accessor_word}
 use Rattle.jsgen_token_laws.proofs.Characters.{letters_spelled}
 use Rattle.jsgen_token_laws.proofs.Last.{Last, Open, After, line_of, Begun, Knows}
 use Rattle.jsgen_token_laws.proofs.Writes.{Writes, wrote_both}
@@ -26,7 +26,7 @@ use Rattle.jsgen_token_laws.proofs.Steps.{wrote_word, soft_space_written}
 use Rattle.jsgen_reading_laws.proofs.Families.{IsSynchronous}
 use Rattle.jsgen_reading_laws.proofs.Unrenamed.{signed_as_it_was}
 use Rattle.jsgen_reading_laws.proofs.Lists.{Element}
-use Rattle.jsgen_reading_laws.proofs.Properties.{GoodKey, KeyOf, PropertyOf, read_computed}
+use Rattle.jsgen_reading_laws.proofs.Properties.{GoodKey, KeyOf, PropertyOf, property_spelled, read_computed}
 use Rattle.jsgen_reading_laws.proofs.Functions.{GroupOf, BodyOf, GoodMethod, ReadsNone, ReadsOne, method_items, good_method_items, same_function}
 
 -- ---- what is spelled
@@ -36,14 +36,6 @@ key_at computed kind x place = key_items (needs_brackets computed x) x (spell x 
 
 abbrev whole_items : PropertyKind → Bool → Tree → Tree → Tree → Place → Items
 whole_items kind computed x t u place = accessor_word kind ⊕ (key_at computed kind x place ⊕ method_items t u place)
-
-abbrev value_items : Atoms → Tree → Tree → Place → Items
-value_items a x v place =
-    property_items (object_property_shorthand a) (written_name_in x) (looked_up_in (without_parentheses v)) (spell v (in_front levels.Comma place))
-    (with_key (key_items (needs_brackets (object_property_computed a) x) x (spell x (in_brackets levels.Comma place)) (spell x (in_front levels.Comma place))) (spell v (in_brackets levels.Comma place)))
-
-method_spelled : (a b : Atoms) (x t u : Tree) (place : Place) → is_method (object_property_kind a) (object_property_method a) ≡ true → spell (tree.object_property a x (tree.function b absent t (given u))) place ≡ whole_items (object_property_kind a) (object_property_computed a) x t u place
-method_spelled a b x t u place h = let v : Tree = tree.function b absent t (given u) in ap (λ m. method_or_property m (whole_items (object_property_kind a) (object_property_computed a) x t u place) (value_items a x v place)) h
 
 -- ---- what counts of it
 
@@ -205,7 +197,7 @@ setter {names} c a b x t u place e m key h n f g p l z y k =
 
 pub good_method : {names : Tables} (c : Allowed) (a b : Atoms) (x t u : Tree) → is_method (object_property_kind a) (object_property_method a) ≡ true → KeyOf names c (object_property_computed a) x → function_kind b ≡ kinds.Expression → IsSynchronous b → GroupsOf names (object_property_kind a) t → BodyOf names u → PropertyOf names c (tree.object_property a x (tree.function b absent t (given u)))
 good_method {names} c a b x t u m key h n f g place p l z y k =
-    subst (λ i. Element names (ReadsProperty (with_in c)) p l (layout i p) (tree.object_property a x (tree.function b absent t (given u)))) (sym (method_spelled a b x t u (around place) m)) (by (object_property_kind a) refl f p l z y k)
+    subst (λ i. Element names (ReadsProperty (with_in c)) p l (layout i p) (tree.object_property a x (tree.function b absent t (given u)))) (sym (property_spelled a x (tree.function b absent t (given u)) (around place) true m)) (by (object_property_kind a) refl f p l z y k)
   where
     by : (kind : PropertyKind) → object_property_kind a ≡ kind → GroupsOf names kind t → ElementOf names c (whole_items kind (object_property_computed a) x t u (around place)) (tree.object_property a x (tree.function b absent t (given u)))
     by property_kinds.Init e f = plain_method c a b x t u place e m key h n f g

@@ -261,17 +261,17 @@ property_laid {names} p shorthand (Some w) value alone whole t = by (is_proto w)
     by false None = refl
     by false (Some v) = same_laid p w v alone whole t
 
--- what is no method and no accessor is spelled by its key and its value
-abbrev method_items : Atoms → Tree → Tree → Place → Items
+-- a method and an accessor are spelled by the word, the key and the function, other properties by the key and the value
+abbrev pub method_items : Atoms → Tree → Tree → Place → Items
 method_items a x v place = accessor_word (object_property_kind a) ⊕ (key_items (needs_brackets (object_property_computed a) x) x (spell x (in_brackets levels.Comma place)) (spell x (key_place (object_property_kind a) place)) ⊕ spell_method v place)
 
-abbrev plain_items : Atoms → Tree → Tree → Place → Items
+abbrev pub plain_items : Atoms → Tree → Tree → Place → Items
 plain_items a x v place =
     property_items (object_property_shorthand a) (written_name_in x) (looked_up_in (without_parentheses v)) (spell v (in_front levels.Comma place))
     (with_key (key_items (needs_brackets (object_property_computed a) x) x (spell x (in_brackets levels.Comma place)) (spell x (in_front levels.Comma place))) (spell v (in_brackets levels.Comma place)))
 
-plainly_spelled : (a : Atoms) (x v : Tree) (place : Place) → is_method (object_property_kind a) (object_property_method a) ≡ false → spell (tree.object_property a x v) place ≡ plain_items a x v place
-plainly_spelled a x v place n = ap (λ b. method_or_property b (method_items a x v place) (plain_items a x v place)) n
+pub property_spelled : (a : Atoms) (x v : Tree) (place : Place) (m : Bool) → is_method (object_property_kind a) (object_property_method a) ≡ m → spell (tree.object_property a x v) place ≡ method_or_property m (method_items a x v place) (plain_items a x v place)
+property_spelled a x v place m h = ap (λ b. method_or_property b (method_items a x v place) (plain_items a x v place)) h
 
 -- an expression that is a reference of this name, in parentheses or not
 record Refers (names : Tables) (t : Tree) (n : Named) : Type 0 where
@@ -351,7 +351,7 @@ good_short_property {names} c a b v m d f h value place p l z y k =
     let around : Place = in_brackets levels.Comma place in
     let alone : Items = spell v (in_front levels.Comma around) in
     let whole : Items = with_key (key_items (needs_brackets (object_property_computed a) (tree.identifier_name b)) (tree.identifier_name b) (name (as_written w)) (name (as_written w))) (spell v (in_brackets levels.Comma around)) in
-    let laid : layout (spell (tree.object_property a (tree.identifier_name b) v) around) p ≡ layout (name says.named) p = ap (λ i. layout i p) (plainly_spelled a (tree.identifier_name b) v around m) ∙ property_laid p (object_property_shorthand a) (Some w) (looked_up_in (without_parentheses v)) alone whole k.tables ∙ (ap (λ s. layout (if s then alone else whole) p) h ∙ ap (λ i. layout i p) (r.spelled (in_front levels.Comma around))) in
+    let laid : layout (spell (tree.object_property a (tree.identifier_name b) v) around) p ≡ layout (name says.named) p = ap (λ i. layout i p) (property_spelled a (tree.identifier_name b) v around false m) ∙ property_laid p (object_property_shorthand a) (Some w) (looked_up_in (without_parentheses v)) alone whole k.tables ∙ (ap (λ s. layout (if s then alone else whole) p) h ∙ ap (λ i. layout i p) (r.spelled (in_front levels.Comma around))) in
     subst (λ q. Element names (ReadsProperty (with_in c)) p l q (tree.object_property a (tree.identifier_name b) v)) (sym laid) (record {
       last = _;
       tokens = piece (line_of l) (Word (name_text p.style.ascii w)) done;
@@ -427,7 +427,7 @@ good_keyed_property {names} c a computed x v m d s key value place p l z b k =
     let e = value (in_brackets levels.Comma around) p3 n.last (n.semicolon ∙ g.semicolon) (n.ready tt) n.writes.knows in
     let q : Pen = layout (spell v (in_brackets levels.Comma around)) p3 in
     let whole : Items = with_key (key_items (needs_brackets (object_property_computed a) x) x inside alone) (spell v (in_brackets levels.Comma around)) in
-    let laid : layout (spell (tree.object_property a x v) around) p ≡ q = ap (λ i. layout i p) (plainly_spelled a x v around m) ∙ property_laid p (object_property_shorthand a) (written_name_in x) (looked_up_in (without_parentheses v)) (spell v (in_front levels.Comma around)) whole k.tables ∙ (ap (λ y. layout (if y then spell v (in_front levels.Comma around) else whole) p) s ∙ ap (λ y. layout (with_key (key_items (needs_brackets y x) x inside alone) (spell v (in_brackets levels.Comma around))) p) d) in
+    let laid : layout (spell (tree.object_property a x v) around) p ≡ q = ap (λ i. layout i p) (property_spelled a x v around false m) ∙ property_laid p (object_property_shorthand a) (written_name_in x) (looked_up_in (without_parentheses v)) (spell v (in_front levels.Comma around)) whole k.tables ∙ (ap (λ y. layout (if y then spell v (in_front levels.Comma around) else whole) p) s ∙ ap (λ y. layout (with_key (key_items (needs_brackets y x) x inside alone) (spell v (in_brackets levels.Comma around))) p) d) in
     subst (λ r. Element names (ReadsProperty (with_in c)) p l r (tree.object_property a x v)) (sym laid) (keyed_parts c a computed x v around p p1 p2 p3 q l m d s g o n.last n.writes e)
 
 -- ---- either

@@ -1,7 +1,6 @@
 use Rattle.std.proofs.Common.{option_map, refl}
 use Rattle.jsgen_syntax.specs.declared.precedence.Precedence.TheVariants.{Lowest}
 use Rattle.jsgen_tree.specs.Tree.{optional}
-use Rattle.jsgen_tree.specs.Rows.{in_expression}
 use Rattle.jsgen_model.specs.Punctuator.{colon}
 use Rattle.jsgen_model.specs.Items.{punctuator}
 use Rattle.jsgen_model.specs.Spell.{spell_test, in_brackets, among_statements}
@@ -9,19 +8,16 @@ use Rattle.jsgen_printer.specs.Printer.{pen_of}
 use Rattle.jsgen_printer.proofs.Stops.{stopped, stops_first}
 use Rattle.jsgen_place.specs.Place.{settings_of}
 use Rattle.jsgen_lists.proofs.Turns.{last_reaches}
-use Rattle.jsgen_nodes.specs.Place.{pen_after}
-use Rattle.jsgen_nodes.proofs.cases.print_case_head.Goals as goal
+use Rattle.jsgen_lists.proofs.cases.print_case_head.Goals as goal
 
 pub returns-in_err-print_case_test : goal.returns-in_err-print_case_test
-unfolding pen_after
 returns-in_err-print_case_test g c =
     let settings = settings_of c.args.settings in
-    let test = spell_test (optional (option_map (in_expression g.N.PrintNode.plain) c.args.test.now)) (in_brackets Lowest (among_statements settings)) in
+    let test = spell_test (optional (option_map g.L.PrintMember.plain c.args.test.now)) (in_brackets Lowest (among_statements settings)) in
     stopped _ c.from_residual.ensures.0 (stops_first test (punctuator colon) (rw c.in_brackets-within.ensures at c.in_err-print_case_test.ensures))
 
 pub returns : goal.returns
-unfolding pen_after
 returns g c =
     let settings = settings_of c.args.settings in
-    let test = spell_test (optional (option_map (in_expression g.N.PrintNode.plain) c.args.test.now)) (in_brackets Lowest (among_statements settings)) in
+    let test = spell_test (optional (option_map g.L.PrintMember.plain c.args.test.now)) (in_brackets Lowest (among_statements settings)) in
     last_reaches c.print_colon.result test (punctuator colon) (pen_of c.args.p.now) (pen_of c.print_case_test.new.p) (pen_of c.print_colon.new.self) (rw c.in_brackets-within.ensures at c.in_ok-print_case_test.ensures) refl c.print_colon.ensures
