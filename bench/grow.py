@@ -20,8 +20,9 @@ from pathlib import Path
 
 from gate import TICK, TOP, gate, measured
 
-WATCHED = ("jsgen_printer", "jsgen_nodes", "jsgen_fields", "jsgen_expression_rows", "jsgen_operation_rows", "jsgen_assignment_rows",
-           "jsgen_collection_rows", "jsgen_function_rows", "jsgen_loop_rows", "jsgen_choice_rows", "jsgen_statement_rows", "jsgen_rows")
+# Not jsgen_nodes: the check writes what it proved of many of its functions at one time, so that they can't be told apart.
+WATCHED = ("jsgen_printer", "jsgen_fields", "jsgen_expression_rows", "jsgen_operation_rows", "jsgen_assignment_rows", "jsgen_collection_rows",
+           "jsgen_function_rows", "jsgen_loop_rows", "jsgen_choice_rows", "jsgen_statement_rows", "jsgen_rows")
 FAMILIES = {"Expression": "synthetic_expressions", "Statement": "synthetic_statements"}
 PARTS = (".ci", "HANDLES", "crates", "crates.txt", "docs", "tools", "tests")
 
