@@ -1,7 +1,7 @@
 #!/usr/bin/env python3
 """What a further type of node costs the gate: `grow.py N` proves two copies of the repository from nothing, one as it is and one
 with N synthetic types of three shapes in turn, and prints the processor seconds and the peak memory of each crate in both, and
-the functions of the printer and the reader that take more than a tenth longer.
+the functions of the printer's steps and of the reader that take more than a tenth longer.
 
 The shapes are an expression of three children (a copy of ConditionalExpression), an expression of a child and a list (of
 NewExpression), and a statement with a list and a child that may be absent (of BlockStatement). A synthetic type is an entry of
