@@ -21,9 +21,9 @@ from pathlib import Path
 from gate import TICK, TOP, gate, measured
 
 # Not jsgen_nodes: the check writes what it proved of many of its functions at one time, so that they can't be told apart.
-WATCHED = ("jsgen_printer", "jsgen_fields", "jsgen_expression_rows", "jsgen_operation_rows", "jsgen_assignment_rows", "jsgen_collection_rows",
-           "jsgen_function_rows", "jsgen_loop_rows", "jsgen_choice_rows", "jsgen_statement_rows", "jsgen_rows")
+WATCHED = ("jsgen_printer", "jsgen_fields", "jsgen_expression_rows", "jsgen_statement_rows", "jsgen_rows")
 FAMILIES = {"Expression": "synthetic_expressions", "Statement": "synthetic_statements"}
+CRATES = {"Expression": "jsgen_expression_rows", "Statement": "jsgen_statement_rows"}
 PARTS = (".ci", "HANDLES", "crates", "crates.txt", "docs", "tools", "tests")
 
 
@@ -96,7 +96,7 @@ TABLE = "tools/nodes/table.txt"
 
 def into_table(copy, of_set, name, lines):
     """A type in a file of the table for synthetic ones alone, since types to come are in files of their own too."""
-    file = f"\nfile {FAMILIES[of_set]}: Types that stand in no program.\n"
+    file = f"\nfile {FAMILIES[of_set]} in {CRATES[of_set]}: Types that stand in no program.\n"
     fields = "".join(f"    {line}\n" for line in lines)
     copy.change(TABLE, lambda text: text if file in text else text.replace("\nset ", f"{file}\nset ", 1))
     copy.change(TABLE, lambda text: text.replace(file, f"{file}\nnode {name}\n    | A type that stands in no program.\n{fields}"))
@@ -185,20 +185,11 @@ def group(copy, k):
     into_normal_forms(copy, "Statement", "BlockStatement", row, name)
 
 
-def further_crates(copy):
-    """Lists the crates of rows that the types came to need, each behind one that is there, and each read by the one above."""
-    for crate in sorted(path.name for path in (copy.folder / "crates").glob("jsgen_*_rows*")):
-        if not re.search(rf"(?m)^{crate}:", (copy.folder / "crates.txt").read_text()):
-            copy.copy_clause("crates.txt", "jsgen_expression_rows:", ("jsgen_expression_rows:", f"{crate}:"))
-            copy.change("crates.txt", lambda text: re.sub(r"(?m)^(jsgen_rows:.*)$", rf"\1 {crate}", text))
-
-
 def grown(folder, number):
     copy = Copy(folder)
     for at in range(number):
         (choice, call, group)[at % 3](copy, code(at // 3))
     subprocess.run([folder / "tools/nodes/generate"], check=True, stdout=subprocess.DEVNULL)
-    further_crates(copy)
     for file in FAMILIES.values():
         if (folder / f"crates/jsgen_check/src/{file}.rt").exists():
             copy.change("crates/jsgen_check/src/lib.rt", lambda text: text.replace("mod statements;\n", f"mod statements;\nmod {file};\n", 1))

@@ -93,7 +93,7 @@ class Set:
 
 class Table:
     def __init__(self, path):
-        self.files, self.nodes, self.words, self.sets = {}, {}, {}, {}
+        self.files, self.row_crates, self.nodes, self.words, self.sets = {}, {}, {}, {}, {}
         self.places = {}    # the set of each place that has a name
         self.read(path)
         self.check()
@@ -108,8 +108,9 @@ class Table:
                 if indent == 0:
                     head, *rest = line.split()
                     if head == "file":
-                        file, _, text = line[5:].partition(": ")
-                        self.files[file] = text
+                        of_file, _, text = line[5:].partition(": ")
+                        file, crate = of_file.split(" in ")
+                        self.files[file], self.row_crates[file] = text, crate
                     elif head in ("node", "words", "set") and rest[0] in {**self.nodes, **self.words, **self.sets}:
                         raise ValueError("the name comes twice")
                     elif head == "node":

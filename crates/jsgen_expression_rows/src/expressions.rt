@@ -4,14 +4,15 @@ ghost use Rattle.std.specs.Prelude.{◌≡◌, true};
 ghost use Rattle.serde_json.specs.View.{view};
 ghost use Rattle.jsgen_tree.specs.RowFields.{identifier_reference_fields, this_expression_fields, null_literal_fields, boolean_literal_fields, big_int_literal_fields, string_literal_fields, parenthesized_expression_fields, binary_expression_fields, logical_expression_fields, identifier_name_fields, static_member_expression_fields, computed_member_expression_fields, call_expression_fields, chain_expression_fields};
 ghost use Rattle.jsgen_fields.specs.Reads.{Gives, read_node, read_typed};
-ghost use Rattle.jsgen_fields.specs.Kept.{entries, row_plain};
+ghost use Rattle.jsgen_pool.specs.Pool.{entries};
 ghost use Rattle.jsgen_fields.specs.Parts.{is_in_expressions};
 ghost use Rattle.jsgen_tree.specs.declared.types.NodeType.TheVariants as types;
 
 use crate::literals::read_numeric_literal;
 use jsgen_fields::InputFault;
+use jsgen_fields::asked::{ReadNode, RowOf};
 use jsgen_fields::fields::boxed;
-use jsgen_fields::kept::{ReadNode, Row, expression_row};
+use jsgen_fields::kept::{row_of_expression, row_of_identifier_name};
 use jsgen_fields::others::OtherExpression;
 use jsgen_fields::set_fields::{
     argument_list, needed_chain_element, needed_expression, needed_identifier_name,
@@ -33,15 +34,15 @@ use serde_json::Value;
 use std::alloc::Global;
 
 #[tactic(auto, unfolding(jsgen_fields::specs::Reads::read_node))]
-fn read_identifier_reference<N: ReadNode + Drop>(
+fn read_identifier_reference<N: ReadNode + Drop, R: RowOf<N> + Drop>(
     alloc: Global,
-    kept: &mut Vec<Kept<Row<N>>>,
+    kept: &mut Vec<Kept<R>>,
     number: usize,
     span: Span,
     row: &Value,
-) -> Result<Row<N>, InputFault>
-    ensures { Gives (row_plain N.plain) result (entries N.plain kept.new.items)
-        (read_node number types.IdentifierReference identifier_reference_fields span (view row.now) (entries N.plain kept.old.items)) }
+) -> Result<R, InputFault>
+    ensures { Gives R.plain result (entries R.plain kept.new.items)
+        (read_node number types.IdentifierReference identifier_reference_fields span (view row.now) (entries R.plain kept.old.items)) }
 {
     let _ = kept;
     let name = match needed_text(alloc, number, 2, row, "name") {
@@ -58,7 +59,7 @@ fn read_identifier_reference<N: ReadNode + Drop>(
         reference,
     };
     match boxed(alloc, node) {
-        Ok(node) => expression_row(
+        Ok(node) => row_of_expression::<N, R>(
             alloc,
             OtherExpression {
                 expression: Expression::IdentifierReference(node),
@@ -69,22 +70,22 @@ fn read_identifier_reference<N: ReadNode + Drop>(
 }
 
 #[tactic(auto, unfolding(jsgen_fields::specs::Reads::read_node))]
-fn read_this_expression<N: ReadNode + Drop>(
+fn read_this_expression<N: ReadNode + Drop, R: RowOf<N> + Drop>(
     alloc: Global,
-    kept: &mut Vec<Kept<Row<N>>>,
+    kept: &mut Vec<Kept<R>>,
     number: usize,
     span: Span,
     row: &Value,
-) -> Result<Row<N>, InputFault>
-    ensures { Gives (row_plain N.plain) result (entries N.plain kept.new.items)
-        (read_node number types.ThisExpression this_expression_fields span (view row.now) (entries N.plain kept.old.items)) }
+) -> Result<R, InputFault>
+    ensures { Gives R.plain result (entries R.plain kept.new.items)
+        (read_node number types.ThisExpression this_expression_fields span (view row.now) (entries R.plain kept.old.items)) }
 {
     let _ = kept;
     let _ = number;
     let _ = row;
     let node = ThisExpression { span };
     match boxed(alloc, node) {
-        Ok(node) => expression_row(
+        Ok(node) => row_of_expression::<N, R>(
             alloc,
             OtherExpression {
                 expression: Expression::ThisExpression(node),
@@ -95,22 +96,22 @@ fn read_this_expression<N: ReadNode + Drop>(
 }
 
 #[tactic(auto, unfolding(jsgen_fields::specs::Reads::read_node))]
-fn read_null_literal<N: ReadNode + Drop>(
+fn read_null_literal<N: ReadNode + Drop, R: RowOf<N> + Drop>(
     alloc: Global,
-    kept: &mut Vec<Kept<Row<N>>>,
+    kept: &mut Vec<Kept<R>>,
     number: usize,
     span: Span,
     row: &Value,
-) -> Result<Row<N>, InputFault>
-    ensures { Gives (row_plain N.plain) result (entries N.plain kept.new.items)
-        (read_node number types.NullLiteral null_literal_fields span (view row.now) (entries N.plain kept.old.items)) }
+) -> Result<R, InputFault>
+    ensures { Gives R.plain result (entries R.plain kept.new.items)
+        (read_node number types.NullLiteral null_literal_fields span (view row.now) (entries R.plain kept.old.items)) }
 {
     let _ = kept;
     let _ = number;
     let _ = row;
     let node = NullLiteral { span };
     match boxed(alloc, node) {
-        Ok(node) => expression_row(
+        Ok(node) => row_of_expression::<N, R>(
             alloc,
             OtherExpression {
                 expression: Expression::NullLiteral(node),
@@ -121,15 +122,15 @@ fn read_null_literal<N: ReadNode + Drop>(
 }
 
 #[tactic(auto, unfolding(jsgen_fields::specs::Reads::read_node))]
-fn read_boolean_literal<N: ReadNode + Drop>(
+fn read_boolean_literal<N: ReadNode + Drop, R: RowOf<N> + Drop>(
     alloc: Global,
-    kept: &mut Vec<Kept<Row<N>>>,
+    kept: &mut Vec<Kept<R>>,
     number: usize,
     span: Span,
     row: &Value,
-) -> Result<Row<N>, InputFault>
-    ensures { Gives (row_plain N.plain) result (entries N.plain kept.new.items)
-        (read_node number types.BooleanLiteral boolean_literal_fields span (view row.now) (entries N.plain kept.old.items)) }
+) -> Result<R, InputFault>
+    ensures { Gives R.plain result (entries R.plain kept.new.items)
+        (read_node number types.BooleanLiteral boolean_literal_fields span (view row.now) (entries R.plain kept.old.items)) }
 {
     let _ = kept;
     let value = match needed_flag(number, 2, row, "value") {
@@ -138,7 +139,7 @@ fn read_boolean_literal<N: ReadNode + Drop>(
     };
     let node = BooleanLiteral { span, value };
     match boxed(alloc, node) {
-        Ok(node) => expression_row(
+        Ok(node) => row_of_expression::<N, R>(
             alloc,
             OtherExpression {
                 expression: Expression::BooleanLiteral(node),
@@ -149,15 +150,15 @@ fn read_boolean_literal<N: ReadNode + Drop>(
 }
 
 #[tactic(auto, unfolding(jsgen_fields::specs::Reads::read_node))]
-fn read_big_int_literal<N: ReadNode + Drop>(
+fn read_big_int_literal<N: ReadNode + Drop, R: RowOf<N> + Drop>(
     alloc: Global,
-    kept: &mut Vec<Kept<Row<N>>>,
+    kept: &mut Vec<Kept<R>>,
     number: usize,
     span: Span,
     row: &Value,
-) -> Result<Row<N>, InputFault>
-    ensures { Gives (row_plain N.plain) result (entries N.plain kept.new.items)
-        (read_node number types.BigIntLiteral big_int_literal_fields span (view row.now) (entries N.plain kept.old.items)) }
+) -> Result<R, InputFault>
+    ensures { Gives R.plain result (entries R.plain kept.new.items)
+        (read_node number types.BigIntLiteral big_int_literal_fields span (view row.now) (entries R.plain kept.old.items)) }
 {
     let _ = kept;
     let value = match needed_text(alloc, number, 2, row, "value") {
@@ -166,7 +167,7 @@ fn read_big_int_literal<N: ReadNode + Drop>(
     };
     let node = BigIntLiteral { span, value };
     match boxed(alloc, node) {
-        Ok(node) => expression_row(
+        Ok(node) => row_of_expression::<N, R>(
             alloc,
             OtherExpression {
                 expression: Expression::BigIntLiteral(node),
@@ -177,15 +178,15 @@ fn read_big_int_literal<N: ReadNode + Drop>(
 }
 
 #[tactic(auto, unfolding(jsgen_fields::specs::Reads::read_node))]
-fn read_string_literal<N: ReadNode + Drop>(
+fn read_string_literal<N: ReadNode + Drop, R: RowOf<N> + Drop>(
     alloc: Global,
-    kept: &mut Vec<Kept<Row<N>>>,
+    kept: &mut Vec<Kept<R>>,
     number: usize,
     span: Span,
     row: &Value,
-) -> Result<Row<N>, InputFault>
-    ensures { Gives (row_plain N.plain) result (entries N.plain kept.new.items)
-        (read_node number types.StringLiteral string_literal_fields span (view row.now) (entries N.plain kept.old.items)) }
+) -> Result<R, InputFault>
+    ensures { Gives R.plain result (entries R.plain kept.new.items)
+        (read_node number types.StringLiteral string_literal_fields span (view row.now) (entries R.plain kept.old.items)) }
 {
     let _ = kept;
     let value = match needed_units(alloc, number, 2, row, "value") {
@@ -194,7 +195,7 @@ fn read_string_literal<N: ReadNode + Drop>(
     };
     let node = StringLiteral { span, value };
     match boxed(alloc, node) {
-        Ok(node) => expression_row(
+        Ok(node) => row_of_expression::<N, R>(
             alloc,
             OtherExpression {
                 expression: Expression::StringLiteral(node),
@@ -205,23 +206,23 @@ fn read_string_literal<N: ReadNode + Drop>(
 }
 
 #[tactic(auto, unfolding(jsgen_fields::specs::Reads::read_node))]
-fn read_parenthesized_expression<N: ReadNode + Drop>(
+fn read_parenthesized_expression<N: ReadNode + Drop, R: RowOf<N> + Drop>(
     alloc: Global,
-    kept: &mut Vec<Kept<Row<N>>>,
+    kept: &mut Vec<Kept<R>>,
     number: usize,
     span: Span,
     row: &Value,
-) -> Result<Row<N>, InputFault>
-    ensures { Gives (row_plain N.plain) result (entries N.plain kept.new.items)
-        (read_node number types.ParenthesizedExpression parenthesized_expression_fields span (view row.now) (entries N.plain kept.old.items)) }
+) -> Result<R, InputFault>
+    ensures { Gives R.plain result (entries R.plain kept.new.items)
+        (read_node number types.ParenthesizedExpression parenthesized_expression_fields span (view row.now) (entries R.plain kept.old.items)) }
 {
-    let expression = match needed_expression(alloc, kept, number, 2, row, "expression") {
+    let expression = match needed_expression::<N, R>(alloc, kept, number, 2, row, "expression") {
         Ok(expression) => expression,
         Err(fault) => return Err(fault),
     };
     let node = ParenthesizedExpression { span, expression };
     match boxed(alloc, node) {
-        Ok(node) => expression_row(
+        Ok(node) => row_of_expression::<N, R>(
             alloc,
             OtherExpression {
                 expression: Expression::ParenthesizedExpression(node),
@@ -232,25 +233,25 @@ fn read_parenthesized_expression<N: ReadNode + Drop>(
 }
 
 #[tactic(auto, unfolding(jsgen_fields::specs::Reads::read_node))]
-fn read_binary_expression<N: ReadNode + Drop>(
+fn read_binary_expression<N: ReadNode + Drop, R: RowOf<N> + Drop>(
     alloc: Global,
-    kept: &mut Vec<Kept<Row<N>>>,
+    kept: &mut Vec<Kept<R>>,
     number: usize,
     span: Span,
     row: &Value,
-) -> Result<Row<N>, InputFault>
-    ensures { Gives (row_plain N.plain) result (entries N.plain kept.new.items)
-        (read_node number types.BinaryExpression binary_expression_fields span (view row.now) (entries N.plain kept.old.items)) }
+) -> Result<R, InputFault>
+    ensures { Gives R.plain result (entries R.plain kept.new.items)
+        (read_node number types.BinaryExpression binary_expression_fields span (view row.now) (entries R.plain kept.old.items)) }
 {
     let operator = match needed_binary_operator(number, 2, row, "operator") {
         Ok(operator) => operator,
         Err(fault) => return Err(fault),
     };
-    let left = match needed_expression(alloc, kept, number, 3, row, "left") {
+    let left = match needed_expression::<N, R>(alloc, kept, number, 3, row, "left") {
         Ok(left) => left,
         Err(fault) => return Err(fault),
     };
-    let right = match needed_expression(alloc, kept, number, 4, row, "right") {
+    let right = match needed_expression::<N, R>(alloc, kept, number, 4, row, "right") {
         Ok(right) => right,
         Err(fault) => return Err(fault),
     };
@@ -261,7 +262,7 @@ fn read_binary_expression<N: ReadNode + Drop>(
         right,
     };
     match boxed(alloc, node) {
-        Ok(node) => expression_row(
+        Ok(node) => row_of_expression::<N, R>(
             alloc,
             OtherExpression {
                 expression: Expression::BinaryExpression(node),
@@ -272,25 +273,25 @@ fn read_binary_expression<N: ReadNode + Drop>(
 }
 
 #[tactic(auto, unfolding(jsgen_fields::specs::Reads::read_node))]
-fn read_logical_expression<N: ReadNode + Drop>(
+fn read_logical_expression<N: ReadNode + Drop, R: RowOf<N> + Drop>(
     alloc: Global,
-    kept: &mut Vec<Kept<Row<N>>>,
+    kept: &mut Vec<Kept<R>>,
     number: usize,
     span: Span,
     row: &Value,
-) -> Result<Row<N>, InputFault>
-    ensures { Gives (row_plain N.plain) result (entries N.plain kept.new.items)
-        (read_node number types.LogicalExpression logical_expression_fields span (view row.now) (entries N.plain kept.old.items)) }
+) -> Result<R, InputFault>
+    ensures { Gives R.plain result (entries R.plain kept.new.items)
+        (read_node number types.LogicalExpression logical_expression_fields span (view row.now) (entries R.plain kept.old.items)) }
 {
     let operator = match needed_logical_operator(number, 2, row, "operator") {
         Ok(operator) => operator,
         Err(fault) => return Err(fault),
     };
-    let left = match needed_expression(alloc, kept, number, 3, row, "left") {
+    let left = match needed_expression::<N, R>(alloc, kept, number, 3, row, "left") {
         Ok(left) => left,
         Err(fault) => return Err(fault),
     };
-    let right = match needed_expression(alloc, kept, number, 4, row, "right") {
+    let right = match needed_expression::<N, R>(alloc, kept, number, 4, row, "right") {
         Ok(right) => right,
         Err(fault) => return Err(fault),
     };
@@ -301,7 +302,7 @@ fn read_logical_expression<N: ReadNode + Drop>(
         right,
     };
     match boxed(alloc, node) {
-        Ok(node) => expression_row(
+        Ok(node) => row_of_expression::<N, R>(
             alloc,
             OtherExpression {
                 expression: Expression::LogicalExpression(node),
@@ -312,15 +313,15 @@ fn read_logical_expression<N: ReadNode + Drop>(
 }
 
 #[tactic(auto, unfolding(jsgen_fields::specs::Reads::read_node))]
-fn read_identifier_name<N: ReadNode + Drop>(
+fn read_identifier_name<N: ReadNode + Drop, R: RowOf<N> + Drop>(
     alloc: Global,
-    kept: &mut Vec<Kept<Row<N>>>,
+    kept: &mut Vec<Kept<R>>,
     number: usize,
     span: Span,
     row: &Value,
-) -> Result<Row<N>, InputFault>
-    ensures { Gives (row_plain N.plain) result (entries N.plain kept.new.items)
-        (read_node number types.IdentifierName identifier_name_fields span (view row.now) (entries N.plain kept.old.items)) }
+) -> Result<R, InputFault>
+    ensures { Gives R.plain result (entries R.plain kept.new.items)
+        (read_node number types.IdentifierName identifier_name_fields span (view row.now) (entries R.plain kept.old.items)) }
 {
     let _ = kept;
     let name = match needed_text(alloc, number, 2, row, "name") {
@@ -329,23 +330,23 @@ fn read_identifier_name<N: ReadNode + Drop>(
     };
     let node = IdentifierName { span, name };
     match boxed(alloc, node) {
-        Ok(node) => Ok(Row::IdentifierName(node)),
+        Ok(node) => Ok(row_of_identifier_name::<N, R>(node)),
         Err(fault) => Err(fault),
     }
 }
 
 #[tactic(auto, unfolding(jsgen_fields::specs::Reads::read_node))]
-fn read_static_member_expression<N: ReadNode + Drop>(
+fn read_static_member_expression<N: ReadNode + Drop, R: RowOf<N> + Drop>(
     alloc: Global,
-    kept: &mut Vec<Kept<Row<N>>>,
+    kept: &mut Vec<Kept<R>>,
     number: usize,
     span: Span,
     row: &Value,
-) -> Result<Row<N>, InputFault>
-    ensures { Gives (row_plain N.plain) result (entries N.plain kept.new.items)
-        (read_node number types.StaticMemberExpression static_member_expression_fields span (view row.now) (entries N.plain kept.old.items)) }
+) -> Result<R, InputFault>
+    ensures { Gives R.plain result (entries R.plain kept.new.items)
+        (read_node number types.StaticMemberExpression static_member_expression_fields span (view row.now) (entries R.plain kept.old.items)) }
 {
-    let object = match needed_expression(alloc, kept, number, 2, row, "object") {
+    let object = match needed_expression::<N, R>(alloc, kept, number, 2, row, "object") {
         Ok(object) => object,
         Err(fault) => return Err(fault),
     };
@@ -353,7 +354,7 @@ fn read_static_member_expression<N: ReadNode + Drop>(
         Ok(optional) => optional,
         Err(fault) => return Err(fault),
     };
-    let property = match needed_identifier_name(alloc, kept, number, 4, row, "property") {
+    let property = match needed_identifier_name::<N, R>(alloc, kept, number, 4, row, "property") {
         Ok(property) => property,
         Err(fault) => return Err(fault),
     };
@@ -364,7 +365,7 @@ fn read_static_member_expression<N: ReadNode + Drop>(
         property,
     };
     match boxed(alloc, node) {
-        Ok(node) => expression_row(
+        Ok(node) => row_of_expression::<N, R>(
             alloc,
             OtherExpression {
                 expression: Expression::StaticMemberExpression(node),
@@ -375,17 +376,17 @@ fn read_static_member_expression<N: ReadNode + Drop>(
 }
 
 #[tactic(auto, unfolding(jsgen_fields::specs::Reads::read_node))]
-fn read_computed_member_expression<N: ReadNode + Drop>(
+fn read_computed_member_expression<N: ReadNode + Drop, R: RowOf<N> + Drop>(
     alloc: Global,
-    kept: &mut Vec<Kept<Row<N>>>,
+    kept: &mut Vec<Kept<R>>,
     number: usize,
     span: Span,
     row: &Value,
-) -> Result<Row<N>, InputFault>
-    ensures { Gives (row_plain N.plain) result (entries N.plain kept.new.items)
-        (read_node number types.ComputedMemberExpression computed_member_expression_fields span (view row.now) (entries N.plain kept.old.items)) }
+) -> Result<R, InputFault>
+    ensures { Gives R.plain result (entries R.plain kept.new.items)
+        (read_node number types.ComputedMemberExpression computed_member_expression_fields span (view row.now) (entries R.plain kept.old.items)) }
 {
-    let object = match needed_expression(alloc, kept, number, 2, row, "object") {
+    let object = match needed_expression::<N, R>(alloc, kept, number, 2, row, "object") {
         Ok(object) => object,
         Err(fault) => return Err(fault),
     };
@@ -393,7 +394,7 @@ fn read_computed_member_expression<N: ReadNode + Drop>(
         Ok(optional) => optional,
         Err(fault) => return Err(fault),
     };
-    let expression = match needed_expression(alloc, kept, number, 4, row, "expression") {
+    let expression = match needed_expression::<N, R>(alloc, kept, number, 4, row, "expression") {
         Ok(expression) => expression,
         Err(fault) => return Err(fault),
     };
@@ -404,7 +405,7 @@ fn read_computed_member_expression<N: ReadNode + Drop>(
         expression,
     };
     match boxed(alloc, node) {
-        Ok(node) => expression_row(
+        Ok(node) => row_of_expression::<N, R>(
             alloc,
             OtherExpression {
                 expression: Expression::ComputedMemberExpression(node),
@@ -415,17 +416,17 @@ fn read_computed_member_expression<N: ReadNode + Drop>(
 }
 
 #[tactic(auto, unfolding(jsgen_fields::specs::Reads::read_node))]
-fn read_call_expression<N: ReadNode + Drop>(
+fn read_call_expression<N: ReadNode + Drop, R: RowOf<N> + Drop>(
     alloc: Global,
-    kept: &mut Vec<Kept<Row<N>>>,
+    kept: &mut Vec<Kept<R>>,
     number: usize,
     span: Span,
     row: &Value,
-) -> Result<Row<N>, InputFault>
-    ensures { Gives (row_plain N.plain) result (entries N.plain kept.new.items)
-        (read_node number types.CallExpression call_expression_fields span (view row.now) (entries N.plain kept.old.items)) }
+) -> Result<R, InputFault>
+    ensures { Gives R.plain result (entries R.plain kept.new.items)
+        (read_node number types.CallExpression call_expression_fields span (view row.now) (entries R.plain kept.old.items)) }
 {
-    let callee = match needed_expression(alloc, kept, number, 2, row, "callee") {
+    let callee = match needed_expression::<N, R>(alloc, kept, number, 2, row, "callee") {
         Ok(callee) => callee,
         Err(fault) => return Err(fault),
     };
@@ -433,7 +434,7 @@ fn read_call_expression<N: ReadNode + Drop>(
         Ok(()) => {}
         Err(fault) => return Err(fault),
     }
-    let arguments = match argument_list(alloc, kept, number, 4, row, "arguments") {
+    let arguments = match argument_list::<N, R>(alloc, kept, number, 4, row, "arguments") {
         Ok(arguments) => arguments,
         Err(fault) => return Err(fault),
     };
@@ -453,7 +454,7 @@ fn read_call_expression<N: ReadNode + Drop>(
         pure,
     };
     match boxed(alloc, node) {
-        Ok(node) => expression_row(
+        Ok(node) => row_of_expression::<N, R>(
             alloc,
             OtherExpression {
                 expression: Expression::CallExpression(node),
@@ -464,23 +465,23 @@ fn read_call_expression<N: ReadNode + Drop>(
 }
 
 #[tactic(auto, unfolding(jsgen_fields::specs::Reads::read_node))]
-fn read_chain_expression<N: ReadNode + Drop>(
+fn read_chain_expression<N: ReadNode + Drop, R: RowOf<N> + Drop>(
     alloc: Global,
-    kept: &mut Vec<Kept<Row<N>>>,
+    kept: &mut Vec<Kept<R>>,
     number: usize,
     span: Span,
     row: &Value,
-) -> Result<Row<N>, InputFault>
-    ensures { Gives (row_plain N.plain) result (entries N.plain kept.new.items)
-        (read_node number types.ChainExpression chain_expression_fields span (view row.now) (entries N.plain kept.old.items)) }
+) -> Result<R, InputFault>
+    ensures { Gives R.plain result (entries R.plain kept.new.items)
+        (read_node number types.ChainExpression chain_expression_fields span (view row.now) (entries R.plain kept.old.items)) }
 {
-    let expression = match needed_chain_element(alloc, kept, number, 2, row, "expression") {
+    let expression = match needed_chain_element::<N, R>(alloc, kept, number, 2, row, "expression") {
         Ok(expression) => expression,
         Err(fault) => return Err(fault),
     };
     let node = ChainExpression { span, expression };
     match boxed(alloc, node) {
-        Ok(node) => expression_row(
+        Ok(node) => row_of_expression::<N, R>(
             alloc,
             OtherExpression {
                 expression: Expression::ChainExpression(node),
@@ -491,40 +492,46 @@ fn read_chain_expression<N: ReadNode + Drop>(
 }
 
 /// The row of a type of this part.
-pub fn read_in_expressions<N: ReadNode + Drop>(
+pub fn read_in_expressions<N: ReadNode + Drop, R: RowOf<N> + Drop>(
     alloc: Global,
-    kept: &mut Vec<Kept<Row<N>>>,
+    kept: &mut Vec<Kept<R>>,
     node_type: NodeType,
     number: usize,
     span: Span,
     row: &Value,
-) -> Result<Row<N>, InputFault>
+) -> Result<R, InputFault>
     requires { is_in_expressions node_type ≡ true }
-    ensures { Gives (row_plain N.plain) result (entries N.plain kept.new.items)
-        (read_typed number node_type span (view row.now) (entries N.plain kept.old.items)) }
+    ensures { Gives R.plain result (entries R.plain kept.new.items)
+        (read_typed number node_type span (view row.now) (entries R.plain kept.old.items)) }
 {
     match node_type {
-        NodeType::IdentifierReference => read_identifier_reference(alloc, kept, number, span, row),
-        NodeType::ThisExpression => read_this_expression(alloc, kept, number, span, row),
-        NodeType::NullLiteral => read_null_literal(alloc, kept, number, span, row),
-        NodeType::BooleanLiteral => read_boolean_literal(alloc, kept, number, span, row),
-        NodeType::NumericLiteral => read_numeric_literal(alloc, kept, number, span, row),
-        NodeType::BigIntLiteral => read_big_int_literal(alloc, kept, number, span, row),
-        NodeType::StringLiteral => read_string_literal(alloc, kept, number, span, row),
-        NodeType::ParenthesizedExpression => read_parenthesized_expression(
+        NodeType::IdentifierReference => read_identifier_reference::<N, R>(
             alloc, kept, number, span, row,
         ),
-        NodeType::BinaryExpression => read_binary_expression(alloc, kept, number, span, row),
-        NodeType::LogicalExpression => read_logical_expression(alloc, kept, number, span, row),
-        NodeType::IdentifierName => read_identifier_name(alloc, kept, number, span, row),
-        NodeType::StaticMemberExpression => read_static_member_expression(
+        NodeType::ThisExpression => read_this_expression::<N, R>(alloc, kept, number, span, row),
+        NodeType::NullLiteral => read_null_literal::<N, R>(alloc, kept, number, span, row),
+        NodeType::BooleanLiteral => read_boolean_literal::<N, R>(alloc, kept, number, span, row),
+        NodeType::NumericLiteral => read_numeric_literal::<N, R>(alloc, kept, number, span, row),
+        NodeType::BigIntLiteral => read_big_int_literal::<N, R>(alloc, kept, number, span, row),
+        NodeType::StringLiteral => read_string_literal::<N, R>(alloc, kept, number, span, row),
+        NodeType::ParenthesizedExpression => read_parenthesized_expression::<N, R>(
             alloc, kept, number, span, row,
         ),
-        NodeType::ComputedMemberExpression => read_computed_member_expression(
+        NodeType::BinaryExpression => read_binary_expression::<N, R>(
             alloc, kept, number, span, row,
         ),
-        NodeType::CallExpression => read_call_expression(alloc, kept, number, span, row),
-        NodeType::ChainExpression => read_chain_expression(alloc, kept, number, span, row),
+        NodeType::LogicalExpression => read_logical_expression::<N, R>(
+            alloc, kept, number, span, row,
+        ),
+        NodeType::IdentifierName => read_identifier_name::<N, R>(alloc, kept, number, span, row),
+        NodeType::StaticMemberExpression => read_static_member_expression::<N, R>(
+            alloc, kept, number, span, row,
+        ),
+        NodeType::ComputedMemberExpression => read_computed_member_expression::<N, R>(
+            alloc, kept, number, span, row,
+        ),
+        NodeType::CallExpression => read_call_expression::<N, R>(alloc, kept, number, span, row),
+        NodeType::ChainExpression => read_chain_expression::<N, R>(alloc, kept, number, span, row),
         _ => unreachable!(),
     }
 }

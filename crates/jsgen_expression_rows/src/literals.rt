@@ -9,10 +9,11 @@ ghost use Rattle.jsgen_tree.specs.Fields.{numeric_kind_words};
 ghost use Rattle.jsgen_tree.specs.RowFields.{numeric_literal_fields};
 ghost use Rattle.jsgen_fields.specs.Reads.{Gives, read_node, read_value};
 ghost use Rattle.jsgen_fields.specs.Values.{Same, at, field as value_under, is_of_kind};
-ghost use Rattle.jsgen_fields.specs.Kept.{entries, row_plain};
+ghost use Rattle.jsgen_pool.specs.Pool.{entries};
 
+use jsgen_fields::asked::{ReadNode, RowOf};
 use jsgen_fields::fields::boxed;
-use jsgen_fields::kept::{ReadNode, Row, expression_row};
+use jsgen_fields::kept::row_of_expression;
 use jsgen_fields::others::OtherExpression;
 use jsgen_fields::values::{
     needed_digits, needed_text, needed_value, optional_flag, passed_over_digits, passed_over_text,
@@ -43,37 +44,37 @@ fn needed_numeric_kind(number: usize, field: usize, row: &Value) -> Result<bool,
 }
 
 #[tactic(auto, unfolding(jsgen_fields::specs::Reads::read_node))]
-pub fn read_numeric_literal<N: ReadNode + Drop>(
+pub fn read_numeric_literal<N: ReadNode + Drop, R: RowOf<N> + Drop>(
     alloc: Global,
-    kept: &mut Vec<Kept<Row<N>>>,
+    kept: &mut Vec<Kept<R>>,
     number: usize,
     span: Span,
     row: &Value,
-) -> Result<Row<N>, InputFault>
-    ensures { Gives (row_plain N.plain) result (entries N.plain kept.new.items)
-        (read_node number types.NumericLiteral numeric_literal_fields span (view row.now) (entries N.plain kept.old.items)) }
+) -> Result<R, InputFault>
+    ensures { Gives R.plain result (entries R.plain kept.new.items)
+        (read_node number types.NumericLiteral numeric_literal_fields span (view row.now) (entries R.plain kept.old.items)) }
 {
     match needed_numeric_kind(number, 2, row) {
-        Ok(true) => read_whole_number(alloc, kept, number, span, row),
-        Ok(false) => read_raw_number(alloc, kept, number, span, row),
+        Ok(true) => read_whole_number::<N, R>(alloc, kept, number, span, row),
+        Ok(false) => read_raw_number::<N, R>(alloc, kept, number, span, row),
         Err(fault) => Err(fault),
     }
 }
 
 // A whole number, by its digits.
 #[tactic(auto, unfolding(jsgen_fields::specs::Reads::read_node))]
-fn read_whole_number<N: ReadNode + Drop>(
+fn read_whole_number<N: ReadNode + Drop, R: RowOf<N> + Drop>(
     alloc: Global,
-    kept: &mut Vec<Kept<Row<N>>>,
+    kept: &mut Vec<Kept<R>>,
     number: usize,
     span: Span,
     row: &Value,
-) -> Result<Row<N>, InputFault>
+) -> Result<R, InputFault>
     requires kind { read_value (at number 2) true no_value (word numeric_kind_words) (value_under (codes "kind") (view row.now)) ≡ Ok (numeric_kind Whole) }
     requires whole { is_of_kind (codes "whole") (view row.now) ≡ true }
     requires raw { is_of_kind (codes "raw") (view row.now) ≡ false }
-    ensures { Gives (row_plain N.plain) result (entries N.plain kept.new.items)
-        (read_node number types.NumericLiteral numeric_literal_fields span (view row.now) (entries N.plain kept.old.items)) }
+    ensures { Gives R.plain result (entries R.plain kept.new.items)
+        (read_node number types.NumericLiteral numeric_literal_fields span (view row.now) (entries R.plain kept.old.items)) }
 {
     let _ = kept;
     let negative = match optional_flag(number, 3, row, "negative") {
@@ -90,7 +91,7 @@ fn read_whole_number<N: ReadNode + Drop>(
     let value = NumericValue::Whole { negative, digits };
     let node = NumericLiteral { span, value };
     match boxed(alloc, node) {
-        Ok(node) => expression_row(
+        Ok(node) => row_of_expression::<N, R>(
             alloc,
             OtherExpression {
                 expression: Expression::NumericLiteral(node),
@@ -102,18 +103,18 @@ fn read_whole_number<N: ReadNode + Drop>(
 
 // A number by its text, which has no sign.
 #[tactic(auto, unfolding(jsgen_fields::specs::Reads::read_node))]
-fn read_raw_number<N: ReadNode + Drop>(
+fn read_raw_number<N: ReadNode + Drop, R: RowOf<N> + Drop>(
     alloc: Global,
-    kept: &mut Vec<Kept<Row<N>>>,
+    kept: &mut Vec<Kept<R>>,
     number: usize,
     span: Span,
     row: &Value,
-) -> Result<Row<N>, InputFault>
+) -> Result<R, InputFault>
     requires kind { read_value (at number 2) true no_value (word numeric_kind_words) (value_under (codes "kind") (view row.now)) ≡ Ok (numeric_kind Raw) }
     requires whole { is_of_kind (codes "whole") (view row.now) ≡ false }
     requires raw { is_of_kind (codes "raw") (view row.now) ≡ true }
-    ensures { Gives (row_plain N.plain) result (entries N.plain kept.new.items)
-        (read_node number types.NumericLiteral numeric_literal_fields span (view row.now) (entries N.plain kept.old.items)) }
+    ensures { Gives R.plain result (entries R.plain kept.new.items)
+        (read_node number types.NumericLiteral numeric_literal_fields span (view row.now) (entries R.plain kept.old.items)) }
 {
     let _ = kept;
     if let Err(fault) = unset_flag(number, 3, row, "negative") {
@@ -129,7 +130,7 @@ fn read_raw_number<N: ReadNode + Drop>(
     let value = NumericValue::Raw(text);
     let node = NumericLiteral { span, value };
     match boxed(alloc, node) {
-        Ok(node) => expression_row(
+        Ok(node) => row_of_expression::<N, R>(
             alloc,
             OtherExpression {
                 expression: Expression::NumericLiteral(node),

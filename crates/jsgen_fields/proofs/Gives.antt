@@ -29,9 +29,10 @@ pub gives_row : {T V X : Type 0} (plain : T → V) (r : Result T InputFault) (ke
 gives_row plain (Ok x) kept row n m e h = cc
 gives_row plain (Err f) kept row n m e h = λ told. let q = h told in cc
 
--- and is the row
-pub gives_held : {V X : Type 0} (kept : List Entry) (row : X → V) (n m : X) → Boxed n m → ◌≡◌ {A = Read V} (Ok (row n, kept)) (Ok (row m, kept))
-gives_held kept row n m e = cc
+-- and the row is of that
+pub gives_node : {T V X : Type 0} (plain : T → V) (made : T) (kept : List Entry) (row : X → V) (n m : X)
+    → Boxed n m → plain made ≡ row m → ◌≡◌ {A = Read V} (Ok (row n, kept)) (Ok (plain made, kept))
+gives_node plain made kept row n m e h = cc
 
 -- ---- what is held of what was read
 

@@ -7,24 +7,14 @@ ghost use Rattle.jsgen_tree.specs.Rows.{in_expression, in_argument, in_array_exp
 ghost use Rattle.jsgen_fields.specs.Kept.{row_plain};
 ghost use Rattle.jsgen_tree.specs.declared.types.NodeSet.TheVariants as sets;
 
-use crate::children::Child;
-use crate::kept::{ReadNode, Row};
-use crate::members::{
-    argument_of_expression, array_expression_element_of_expression,
-    arrow_function_body_of_expression, assignment_target_of_expression,
-    binding_identifier_of_binding_pattern_in_box, block_statement_of_statement_in_box,
-    chain_element_of_expression, for_statement_init_of_declaration,
-    for_statement_init_of_expression, for_statement_left_of_declaration,
-    for_statement_left_of_expression, property_key_of_expression,
-    simple_assignment_target_of_expression, statement_of_declaration,
-};
+use crate::asked::{Child, ReadNode};
+use crate::kept::Row;
 use jsgen_tree::{
     Argument, ArrayExpressionElement, ArrowFunctionBody, AssignmentTarget, BindingIdentifier,
-    BindingPatternNode, BlockStatement, CatchClause, ChainElement, Comment, Declaration, Directive,
-    Expression, ExpressionNode, ForStatementInit, ForStatementLeft, FormalParameter,
-    FormalParameterRest, FormalParameters, FunctionBody, IdentifierName, LabelIdentifier, NodeSet,
-    ObjectPropertyKind, PropertyKey, SimpleAssignmentTarget, StatementNode, SwitchCase,
-    VariableDeclarator,
+    BindingPatternNode, BlockStatement, CatchClause, ChainElement, Comment, Directive,
+    ExpressionNode, ForStatementInit, ForStatementLeft, FormalParameter, FormalParameterRest,
+    FormalParameters, FunctionBody, IdentifierName, LabelIdentifier, NodeSet, ObjectPropertyKind,
+    PropertyKey, SimpleAssignmentTarget, StatementNode, SwitchCase, VariableDeclarator,
 };
 use std::alloc::{AllocError, Global};
 
@@ -37,16 +27,11 @@ impl<N: ReadNode + Drop> Child<N> for Comment {
         NodeSet::Comment
     }
 
-    #[tactic(auto, using(crate::proofs::Sets::takes_comments))]
     fn from_row(alloc: Global, row: Row<N>) -> Result<Option<Comment>, AllocError>
         ensures { IfOk result (λ child. option_map comment_row child
             ≡ (if in_set sets.Comment (type_of (row_plain N.plain row)) then Some (row_plain N.plain row) else None)) }
     {
-        let _ = alloc;
-        match row {
-            Row::Comment(row) => Ok(Some(Box::into_inner(row))),
-            _ => Ok(None),
-        }
+        row.into_comment(alloc)
     }
 }
 
@@ -59,16 +44,11 @@ impl<N: ReadNode + Drop> Child<N> for Directive {
         NodeSet::Directive
     }
 
-    #[tactic(auto, using(crate::proofs::Sets::takes_directives))]
     fn from_row(alloc: Global, row: Row<N>) -> Result<Option<Directive>, AllocError>
         ensures { IfOk result (λ child. option_map directive_row child
             ≡ (if in_set sets.Directive (type_of (row_plain N.plain row)) then Some (row_plain N.plain row) else None)) }
     {
-        let _ = alloc;
-        match row {
-            Row::Directive(row) => Ok(Some(Box::into_inner(row))),
-            _ => Ok(None),
-        }
+        row.into_directive(alloc)
     }
 }
 
@@ -81,23 +61,11 @@ impl<N: ReadNode + Drop> Child<N> for StatementNode<N> {
         NodeSet::Statement
     }
 
-    #[tactic(auto, using(crate::proofs::Sets::takes_statements))]
     fn from_row(alloc: Global, row: Row<N>) -> Result<Option<StatementNode<N>>, AllocError>
         ensures { IfOk result (λ child. option_map (in_statement N.plain) child
             ≡ (if in_set sets.Statement (type_of (row_plain N.plain row)) then Some (row_plain N.plain row) else None)) }
     {
-        match row {
-            Row::Declaration(row) => statement_of_declaration(
-                alloc,
-                N::declaration_node(Box::into_inner(row).declaration),
-            ),
-            Row::Statement(row) => Ok(Some(N::statement_node(Box::into_inner(row).statement))),
-            Row::Function(row) => statement_of_declaration(
-                alloc,
-                N::declaration_node(Declaration::Function(row)),
-            ),
-            _ => Ok(None),
-        }
+        row.into_statement(alloc)
     }
 }
 
@@ -110,16 +78,11 @@ impl<N: ReadNode + Drop> Child<N> for VariableDeclarator<N> {
         NodeSet::VariableDeclarator
     }
 
-    #[tactic(auto, using(crate::proofs::Sets::takes_variable_declarators))]
     fn from_row(alloc: Global, row: Row<N>) -> Result<Option<VariableDeclarator<N>>, AllocError>
         ensures { IfOk result (λ child. option_map (variable_declarator_row N.plain) child
             ≡ (if in_set sets.VariableDeclarator (type_of (row_plain N.plain row)) then Some (row_plain N.plain row) else None)) }
     {
-        let _ = alloc;
-        match row {
-            Row::VariableDeclarator(row) => Ok(Some(Box::into_inner(row))),
-            _ => Ok(None),
-        }
+        row.into_variable_declarator(alloc)
     }
 }
 
@@ -132,16 +95,11 @@ impl<N: ReadNode + Drop> Child<N> for BindingPatternNode<N> {
         NodeSet::BindingPattern
     }
 
-    #[tactic(auto, using(crate::proofs::Sets::takes_binding_patterns))]
     fn from_row(alloc: Global, row: Row<N>) -> Result<Option<BindingPatternNode<N>>, AllocError>
         ensures { IfOk result (λ child. option_map (in_binding_pattern N.plain) child
             ≡ (if in_set sets.BindingPattern (type_of (row_plain N.plain row)) then Some (row_plain N.plain row) else None)) }
     {
-        let _ = alloc;
-        match row {
-            Row::BindingPattern(row) => Ok(Some(N::binding_pattern_node(Box::into_inner(row)))),
-            _ => Ok(None),
-        }
+        row.into_binding_pattern(alloc)
     }
 }
 
@@ -154,17 +112,11 @@ impl<N: ReadNode + Drop> Child<N> for ExpressionNode<N> {
         NodeSet::Expression
     }
 
-    #[tactic(auto, using(crate::proofs::Sets::takes_expressions))]
     fn from_row(alloc: Global, row: Row<N>) -> Result<Option<ExpressionNode<N>>, AllocError>
         ensures { IfOk result (λ child. option_map (in_expression N.plain) child
             ≡ (if in_set sets.Expression (type_of (row_plain N.plain row)) then Some (row_plain N.plain row) else None)) }
     {
-        let _ = alloc;
-        match row {
-            Row::Expression(row) => Ok(Some(N::expression_node(Box::into_inner(row).expression))),
-            Row::Function(row) => Ok(Some(N::expression_node(Expression::Function(row)))),
-            _ => Ok(None),
-        }
+        row.into_expression(alloc)
     }
 }
 
@@ -177,16 +129,11 @@ impl<N: ReadNode + Drop> Child<N> for Box<IdentifierName> {
         NodeSet::IdentifierName
     }
 
-    #[tactic(auto, using(crate::proofs::Sets::takes_identifier_names))]
     fn from_row(alloc: Global, row: Row<N>) -> Result<Option<Box<IdentifierName>>, AllocError>
         ensures { IfOk result (λ child. option_map (λ b. identifier_name_row b.value) child
             ≡ (if in_set sets.IdentifierName (type_of (row_plain N.plain row)) then Some (row_plain N.plain row) else None)) }
     {
-        let _ = alloc;
-        match row {
-            Row::IdentifierName(row) => Ok(Some(row)),
-            _ => Ok(None),
-        }
+        row.into_identifier_name(alloc)
     }
 }
 
@@ -199,23 +146,11 @@ impl<N: ReadNode + Drop> Child<N> for Argument<N> {
         NodeSet::Argument
     }
 
-    #[tactic(auto, using(crate::proofs::Sets::takes_arguments))]
     fn from_row(alloc: Global, row: Row<N>) -> Result<Option<Argument<N>>, AllocError>
         ensures { IfOk result (λ child. option_map (in_argument N.plain) child
             ≡ (if in_set sets.Argument (type_of (row_plain N.plain row)) then Some (row_plain N.plain row) else None)) }
     {
-        match row {
-            Row::Expression(row) => argument_of_expression(
-                alloc,
-                N::expression_node(Box::into_inner(row).expression),
-            ),
-            Row::SpreadElement(row) => Ok(Some(Argument::SpreadElement(row))),
-            Row::Function(row) => argument_of_expression(
-                alloc,
-                N::expression_node(Expression::Function(row)),
-            ),
-            _ => Ok(None),
-        }
+        row.into_argument(alloc)
     }
 }
 
@@ -228,16 +163,11 @@ impl<N: ReadNode + Drop> Child<N> for ChainElement<N> {
         NodeSet::ChainElement
     }
 
-    #[tactic(auto, using(crate::proofs::Sets::takes_chain_elements))]
     fn from_row(alloc: Global, row: Row<N>) -> Result<Option<ChainElement<N>>, AllocError>
         ensures { IfOk result (λ child. option_map (in_chain_element N.plain) child
             ≡ (if in_set sets.ChainElement (type_of (row_plain N.plain row)) then Some (row_plain N.plain row) else None)) }
     {
-        let _ = alloc;
-        match row {
-            Row::Expression(row) => Ok(chain_element_of_expression(Box::into_inner(row))),
-            _ => Ok(None),
-        }
+        row.into_chain_element(alloc)
     }
 }
 
@@ -250,23 +180,11 @@ impl<N: ReadNode + Drop> Child<N> for ArrayExpressionElement<N> {
         NodeSet::ArrayExpressionElement
     }
 
-    #[tactic(auto, using(crate::proofs::Sets::takes_array_expression_elements))]
     fn from_row(alloc: Global, row: Row<N>) -> Result<Option<ArrayExpressionElement<N>>, AllocError>
         ensures { IfOk result (λ child. option_map (in_array_expression_element N.plain) child
             ≡ (if in_set sets.ArrayExpressionElement (type_of (row_plain N.plain row)) then Some (row_plain N.plain row) else None)) }
     {
-        match row {
-            Row::Expression(row) => array_expression_element_of_expression(
-                alloc,
-                N::expression_node(Box::into_inner(row).expression),
-            ),
-            Row::SpreadElement(row) => Ok(Some(ArrayExpressionElement::SpreadElement(row))),
-            Row::Function(row) => array_expression_element_of_expression(
-                alloc,
-                N::expression_node(Expression::Function(row)),
-            ),
-            _ => Ok(None),
-        }
+        row.into_array_expression_element(alloc)
     }
 }
 
@@ -279,23 +197,11 @@ impl<N: ReadNode + Drop> Child<N> for PropertyKey<N> {
         NodeSet::PropertyKey
     }
 
-    #[tactic(auto, using(crate::proofs::Sets::takes_property_keys))]
     fn from_row(alloc: Global, row: Row<N>) -> Result<Option<PropertyKey<N>>, AllocError>
         ensures { IfOk result (λ child. option_map (in_property_key N.plain) child
             ≡ (if in_set sets.PropertyKey (type_of (row_plain N.plain row)) then Some (row_plain N.plain row) else None)) }
     {
-        match row {
-            Row::Expression(row) => property_key_of_expression(
-                alloc,
-                N::expression_node(Box::into_inner(row).expression),
-            ),
-            Row::IdentifierName(row) => Ok(Some(PropertyKey::IdentifierName(row))),
-            Row::Function(row) => property_key_of_expression(
-                alloc,
-                N::expression_node(Expression::Function(row)),
-            ),
-            _ => Ok(None),
-        }
+        row.into_property_key(alloc)
     }
 }
 
@@ -308,17 +214,11 @@ impl<N: ReadNode + Drop> Child<N> for ObjectPropertyKind<N> {
         NodeSet::ObjectPropertyKind
     }
 
-    #[tactic(auto, using(crate::proofs::Sets::takes_object_property_kinds))]
     fn from_row(alloc: Global, row: Row<N>) -> Result<Option<ObjectPropertyKind<N>>, AllocError>
         ensures { IfOk result (λ child. option_map (in_object_property_kind N.plain) child
             ≡ (if in_set sets.ObjectPropertyKind (type_of (row_plain N.plain row)) then Some (row_plain N.plain row) else None)) }
     {
-        let _ = alloc;
-        match row {
-            Row::SpreadElement(row) => Ok(Some(ObjectPropertyKind::SpreadElement(row))),
-            Row::ObjectProperty(row) => Ok(Some(ObjectPropertyKind::ObjectProperty(row))),
-            _ => Ok(None),
-        }
+        row.into_object_property_kind(alloc)
     }
 }
 
@@ -331,18 +231,11 @@ impl<N: ReadNode + Drop> Child<N> for SimpleAssignmentTarget<N> {
         NodeSet::SimpleAssignmentTarget
     }
 
-    #[tactic(auto, using(crate::proofs::Sets::takes_simple_assignment_targets))]
     fn from_row(alloc: Global, row: Row<N>) -> Result<Option<SimpleAssignmentTarget<N>>, AllocError>
         ensures { IfOk result (λ child. option_map (in_simple_assignment_target N.plain) child
             ≡ (if in_set sets.SimpleAssignmentTarget (type_of (row_plain N.plain row)) then Some (row_plain N.plain row) else None)) }
     {
-        let _ = alloc;
-        match row {
-            Row::Expression(row) => Ok(simple_assignment_target_of_expression(Box::into_inner(
-                row,
-            ))),
-            _ => Ok(None),
-        }
+        row.into_simple_assignment_target(alloc)
     }
 }
 
@@ -355,16 +248,11 @@ impl<N: ReadNode + Drop> Child<N> for AssignmentTarget<N> {
         NodeSet::AssignmentTarget
     }
 
-    #[tactic(auto, using(crate::proofs::Sets::takes_assignment_targets))]
     fn from_row(alloc: Global, row: Row<N>) -> Result<Option<AssignmentTarget<N>>, AllocError>
         ensures { IfOk result (λ child. option_map (in_assignment_target N.plain) child
             ≡ (if in_set sets.AssignmentTarget (type_of (row_plain N.plain row)) then Some (row_plain N.plain row) else None)) }
     {
-        let _ = alloc;
-        match row {
-            Row::Expression(row) => Ok(assignment_target_of_expression(Box::into_inner(row))),
-            _ => Ok(None),
-        }
+        row.into_assignment_target(alloc)
     }
 }
 
@@ -377,16 +265,11 @@ impl<N: ReadNode + Drop> Child<N> for FormalParameter<N> {
         NodeSet::FormalParameter
     }
 
-    #[tactic(auto, using(crate::proofs::Sets::takes_formal_parameters))]
     fn from_row(alloc: Global, row: Row<N>) -> Result<Option<FormalParameter<N>>, AllocError>
         ensures { IfOk result (λ child. option_map (formal_parameter_row N.plain) child
             ≡ (if in_set sets.FormalParameter (type_of (row_plain N.plain row)) then Some (row_plain N.plain row) else None)) }
     {
-        let _ = alloc;
-        match row {
-            Row::FormalParameter(row) => Ok(Some(Box::into_inner(row))),
-            _ => Ok(None),
-        }
+        row.into_formal_parameter(alloc)
     }
 }
 
@@ -399,7 +282,6 @@ impl<N: ReadNode + Drop> Child<N> for Box<FormalParameterRest<N>> {
         NodeSet::FormalParameterRest
     }
 
-    #[tactic(auto, using(crate::proofs::Sets::takes_formal_parameter_rests))]
     fn from_row(
         alloc: Global,
         row: Row<N>,
@@ -407,11 +289,7 @@ impl<N: ReadNode + Drop> Child<N> for Box<FormalParameterRest<N>> {
         ensures { IfOk result (λ child. option_map (λ b. formal_parameter_rest_row N.plain b.value) child
             ≡ (if in_set sets.FormalParameterRest (type_of (row_plain N.plain row)) then Some (row_plain N.plain row) else None)) }
     {
-        let _ = alloc;
-        match row {
-            Row::FormalParameterRest(row) => Ok(Some(row)),
-            _ => Ok(None),
-        }
+        row.into_formal_parameter_rest(alloc)
     }
 }
 
@@ -424,18 +302,11 @@ impl<N: ReadNode + Drop> Child<N> for Box<BindingIdentifier> {
         NodeSet::BindingIdentifier
     }
 
-    #[tactic(auto, using(crate::proofs::Sets::takes_binding_identifiers))]
     fn from_row(alloc: Global, row: Row<N>) -> Result<Option<Box<BindingIdentifier>>, AllocError>
         ensures { IfOk result (λ child. option_map (λ b. binding_identifier_row b.value) child
             ≡ (if in_set sets.BindingIdentifier (type_of (row_plain N.plain row)) then Some (row_plain N.plain row) else None)) }
     {
-        let _ = alloc;
-        match row {
-            Row::BindingPattern(row) => Ok(binding_identifier_of_binding_pattern_in_box(
-                Box::into_inner(row),
-            )),
-            _ => Ok(None),
-        }
+        row.into_binding_identifier(alloc)
     }
 }
 
@@ -448,16 +319,11 @@ impl<N: ReadNode + Drop> Child<N> for Box<FormalParameters<N>> {
         NodeSet::FormalParameters
     }
 
-    #[tactic(auto, using(crate::proofs::Sets::takes_formal_parameterss))]
     fn from_row(alloc: Global, row: Row<N>) -> Result<Option<Box<FormalParameters<N>>>, AllocError>
         ensures { IfOk result (λ child. option_map (λ b. formal_parameters_row N.plain b.value) child
             ≡ (if in_set sets.FormalParameters (type_of (row_plain N.plain row)) then Some (row_plain N.plain row) else None)) }
     {
-        let _ = alloc;
-        match row {
-            Row::FormalParameters(row) => Ok(Some(row)),
-            _ => Ok(None),
-        }
+        row.into_formal_parameters(alloc)
     }
 }
 
@@ -470,16 +336,11 @@ impl<N: ReadNode + Drop> Child<N> for Box<FunctionBody<N>> {
         NodeSet::FunctionBody
     }
 
-    #[tactic(auto, using(crate::proofs::Sets::takes_function_bodys))]
     fn from_row(alloc: Global, row: Row<N>) -> Result<Option<Box<FunctionBody<N>>>, AllocError>
         ensures { IfOk result (λ child. option_map (λ b. function_body_row N.plain b.value) child
             ≡ (if in_set sets.FunctionBody (type_of (row_plain N.plain row)) then Some (row_plain N.plain row) else None)) }
     {
-        let _ = alloc;
-        match row {
-            Row::FunctionBody(row) => Ok(Some(row)),
-            _ => Ok(None),
-        }
+        row.into_function_body(alloc)
     }
 }
 
@@ -492,23 +353,11 @@ impl<N: ReadNode + Drop> Child<N> for ArrowFunctionBody<N> {
         NodeSet::ArrowFunctionBody
     }
 
-    #[tactic(auto, using(crate::proofs::Sets::takes_arrow_function_bodys))]
     fn from_row(alloc: Global, row: Row<N>) -> Result<Option<ArrowFunctionBody<N>>, AllocError>
         ensures { IfOk result (λ child. option_map (in_arrow_function_body N.plain) child
             ≡ (if in_set sets.ArrowFunctionBody (type_of (row_plain N.plain row)) then Some (row_plain N.plain row) else None)) }
     {
-        match row {
-            Row::Expression(row) => arrow_function_body_of_expression(
-                alloc,
-                N::expression_node(Box::into_inner(row).expression),
-            ),
-            Row::Function(row) => arrow_function_body_of_expression(
-                alloc,
-                N::expression_node(Expression::Function(row)),
-            ),
-            Row::FunctionBody(row) => Ok(Some(ArrowFunctionBody::FunctionBody(row))),
-            _ => Ok(None),
-        }
+        row.into_arrow_function_body(alloc)
     }
 }
 
@@ -521,23 +370,11 @@ impl<N: ReadNode + Drop> Child<N> for ForStatementInit<N> {
         NodeSet::ForStatementInit
     }
 
-    #[tactic(auto, using(crate::proofs::Sets::takes_for_statement_inits))]
     fn from_row(alloc: Global, row: Row<N>) -> Result<Option<ForStatementInit<N>>, AllocError>
         ensures { IfOk result (λ child. option_map (in_for_statement_init N.plain) child
             ≡ (if in_set sets.ForStatementInit (type_of (row_plain N.plain row)) then Some (row_plain N.plain row) else None)) }
     {
-        match row {
-            Row::Declaration(row) => Ok(for_statement_init_of_declaration(Box::into_inner(row))),
-            Row::Expression(row) => for_statement_init_of_expression(
-                alloc,
-                N::expression_node(Box::into_inner(row).expression),
-            ),
-            Row::Function(row) => for_statement_init_of_expression(
-                alloc,
-                N::expression_node(Expression::Function(row)),
-            ),
-            _ => Ok(None),
-        }
+        row.into_for_statement_init(alloc)
     }
 }
 
@@ -550,17 +387,11 @@ impl<N: ReadNode + Drop> Child<N> for ForStatementLeft<N> {
         NodeSet::ForStatementLeft
     }
 
-    #[tactic(auto, using(crate::proofs::Sets::takes_for_statement_lefts))]
     fn from_row(alloc: Global, row: Row<N>) -> Result<Option<ForStatementLeft<N>>, AllocError>
         ensures { IfOk result (λ child. option_map (in_for_statement_left N.plain) child
             ≡ (if in_set sets.ForStatementLeft (type_of (row_plain N.plain row)) then Some (row_plain N.plain row) else None)) }
     {
-        let _ = alloc;
-        match row {
-            Row::Declaration(row) => Ok(for_statement_left_of_declaration(Box::into_inner(row))),
-            Row::Expression(row) => Ok(for_statement_left_of_expression(Box::into_inner(row))),
-            _ => Ok(None),
-        }
+        row.into_for_statement_left(alloc)
     }
 }
 
@@ -573,16 +404,11 @@ impl<N: ReadNode + Drop> Child<N> for Box<LabelIdentifier> {
         NodeSet::LabelIdentifier
     }
 
-    #[tactic(auto, using(crate::proofs::Sets::takes_label_identifiers))]
     fn from_row(alloc: Global, row: Row<N>) -> Result<Option<Box<LabelIdentifier>>, AllocError>
         ensures { IfOk result (λ child. option_map (λ b. label_identifier_row b.value) child
             ≡ (if in_set sets.LabelIdentifier (type_of (row_plain N.plain row)) then Some (row_plain N.plain row) else None)) }
     {
-        let _ = alloc;
-        match row {
-            Row::LabelIdentifier(row) => Ok(Some(row)),
-            _ => Ok(None),
-        }
+        row.into_label_identifier(alloc)
     }
 }
 
@@ -595,16 +421,11 @@ impl<N: ReadNode + Drop> Child<N> for SwitchCase<N> {
         NodeSet::SwitchCase
     }
 
-    #[tactic(auto, using(crate::proofs::Sets::takes_switch_cases))]
     fn from_row(alloc: Global, row: Row<N>) -> Result<Option<SwitchCase<N>>, AllocError>
         ensures { IfOk result (λ child. option_map (switch_case_row N.plain) child
             ≡ (if in_set sets.SwitchCase (type_of (row_plain N.plain row)) then Some (row_plain N.plain row) else None)) }
     {
-        let _ = alloc;
-        match row {
-            Row::SwitchCase(row) => Ok(Some(Box::into_inner(row))),
-            _ => Ok(None),
-        }
+        row.into_switch_case(alloc)
     }
 }
 
@@ -617,16 +438,11 @@ impl<N: ReadNode + Drop> Child<N> for Box<BlockStatement<N>> {
         NodeSet::BlockStatement
     }
 
-    #[tactic(auto, using(crate::proofs::Sets::takes_block_statements))]
     fn from_row(alloc: Global, row: Row<N>) -> Result<Option<Box<BlockStatement<N>>>, AllocError>
         ensures { IfOk result (λ child. option_map (λ b. block_statement_row N.plain b.value) child
             ≡ (if in_set sets.BlockStatement (type_of (row_plain N.plain row)) then Some (row_plain N.plain row) else None)) }
     {
-        let _ = alloc;
-        match row {
-            Row::Statement(row) => Ok(block_statement_of_statement_in_box(Box::into_inner(row))),
-            _ => Ok(None),
-        }
+        row.into_block_statement(alloc)
     }
 }
 
@@ -639,15 +455,10 @@ impl<N: ReadNode + Drop> Child<N> for Box<CatchClause<N>> {
         NodeSet::CatchClause
     }
 
-    #[tactic(auto, using(crate::proofs::Sets::takes_catch_clauses))]
     fn from_row(alloc: Global, row: Row<N>) -> Result<Option<Box<CatchClause<N>>>, AllocError>
         ensures { IfOk result (λ child. option_map (λ b. catch_clause_row N.plain b.value) child
             ≡ (if in_set sets.CatchClause (type_of (row_plain N.plain row)) then Some (row_plain N.plain row) else None)) }
     {
-        let _ = alloc;
-        match row {
-            Row::CatchClause(row) => Ok(Some(row)),
-            _ => Ok(None),
-        }
+        row.into_catch_clause(alloc)
     }
 }

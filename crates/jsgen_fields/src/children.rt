@@ -6,32 +6,14 @@ ghost use Rattle.jsgen_tree.specs.Tree.{type_of};
 ghost use Rattle.jsgen_tree.specs.Sets.{in_set};
 ghost use Rattle.jsgen_fields.specs.Values.{Same};
 ghost use Rattle.jsgen_fields.specs.Reads.{Gives, number_in, take_child, take_or_hole, take_each};
-ghost use Rattle.jsgen_fields.specs.Kept.{row_plain, entries};
+ghost use Rattle.jsgen_pool.specs.Pool.{entries};
 
-use crate::kept::{ReadNode, Row};
+use crate::asked::{Child, ReadNode, RowOf};
 use crate::{At, InputFault};
-use jsgen_pool::{Kept, TakeFault, take};
+use jsgen_pool::{Kept, TakeFault, Typed, take};
 use jsgen_tree::NodeSet;
 use serde_json::Value;
-use std::alloc::{AllocError, Global};
-
-/// What a place for children takes: a set of types, and what is made of a row of one of them.
-pub trait Child<N: ReadNode>: Sized {
-    ghost use Rattle.jsgen_tree.specs.Tree.{Tree};
-    ghost use Rattle.jsgen_tree.specs.declared.types.NodeSet.{NodeSet};
-
-    ghost plain: { Self → Tree };
-
-    ghost of_set: { NodeSet };
-
-    fn set() -> NodeSet
-        ensures { result ≡ of_set };
-
-    /// The child that a row is, where it is of the set.
-    fn from_row(alloc: Global, row: Row<N>) -> Result<Option<Self>, AllocError>
-        ensures { IfOk result (λ child. option_map plain child
-            ≡ (if in_set of_set (type_of (row_plain N.plain row)) then Some (row_plain N.plain row) else None)) };
-}
+use std::alloc::Global;
 
 // ---- taking
 
@@ -51,14 +33,14 @@ fn number_in(at: At, value: &Value) -> Result<u64, InputFault>
     }
 }
 
-fn take_child<N: ReadNode + Drop>(
-    kept: &mut Vec<Kept<Row<N>>>,
+fn take_child<R: Typed + Drop>(
+    kept: &mut Vec<Kept<R>>,
     at: At,
     set: NodeSet,
     value: &Value,
-) -> Result<Row<N>, InputFault>
-    ensures reads { Gives (row_plain N.plain) result (entries N.plain kept.new.items) (take_child at set (view value.now) (entries N.plain kept.old.items)) }
-    ensures fits { IfOk result (λ r. true ≡ in_set set (type_of (row_plain N.plain r))) }
+) -> Result<R, InputFault>
+    ensures reads { Gives R.plain result (entries R.plain kept.new.items) (take_child at set (view value.now) (entries R.plain kept.old.items)) }
+    ensures fits { IfOk result (λ r. true ≡ in_set set (type_of (R.plain r))) }
 {
     let number = number_in(at, value)?;
     match take(kept, set, number) {
@@ -68,34 +50,34 @@ fn take_child<N: ReadNode + Drop>(
     }
 }
 
-pub fn take_as<N: ReadNode + Drop, C: Child<N> + Drop>(
+pub fn take_as<N: ReadNode + Drop, R: RowOf<N> + Drop, C: Child<N> + Drop>(
     alloc: Global,
-    kept: &mut Vec<Kept<Row<N>>>,
+    kept: &mut Vec<Kept<R>>,
     at: At,
     value: &Value,
 ) -> Result<C, InputFault>
-    ensures { Gives C.plain result (entries N.plain kept.new.items)
-        (take_child at C.of_set (view value.now) (entries N.plain kept.old.items)) }
+    ensures { Gives C.plain result (entries R.plain kept.new.items)
+        (take_child at C.of_set (view value.now) (entries R.plain kept.old.items)) }
 {
     let row = take_child(kept, at, C::set(), value)?;
-    match C::from_row(alloc, row)? {
+    match row.into_child::<C>(alloc)? {
         Some(child) => Ok(child),
         None => Err(InputFault::Wrong(at)),
     }
 }
 
-pub fn take_all<N: ReadNode + Drop, C: Child<N> + Drop>(
+pub fn take_all<N: ReadNode + Drop, R: RowOf<N> + Drop, C: Child<N> + Drop>(
     alloc: Global,
-    kept: &mut Vec<Kept<Row<N>>>,
+    kept: &mut Vec<Kept<R>>,
     at: At,
     values: &[Value],
 ) -> Result<Vec<C>, InputFault>
-    ensures { Gives (λ v. map C.plain v.items) result (entries N.plain kept.new.items)
-        (take_each (take_child at C.of_set) [] (map view values.now) (entries N.plain kept.old.items)) }
+    ensures { Gives (λ v. map C.plain v.items) result (entries R.plain kept.new.items)
+        (take_each (take_child at C.of_set) [] (map view values.now) (entries R.plain kept.old.items)) }
 {
     let mut children = Vec::with_capacity(alloc, values.len())?;
     for value in values {
-        let child = take_as(alloc, kept, at, value)?;
+        let child = take_as::<N, R, C>(alloc, kept, at, value)?;
         children.push(child)?;
     }
     Ok(children)
@@ -104,34 +86,34 @@ pub fn take_all<N: ReadNode + Drop, C: Child<N> + Drop>(
 // ---- lists with holes
 
 // Null is a hole.
-fn take_or_hole<N: ReadNode + Drop, C: Child<N> + Drop>(
+fn take_or_hole<N: ReadNode + Drop, R: RowOf<N> + Drop, C: Child<N> + Drop>(
     alloc: Global,
-    kept: &mut Vec<Kept<Row<N>>>,
+    kept: &mut Vec<Kept<R>>,
     at: At,
     value: &Value,
 ) -> Result<Option<C>, InputFault>
-    ensures { Gives (option_map C.plain) result (entries N.plain kept.new.items)
-        (take_or_hole at C.of_set (view value.now) (entries N.plain kept.old.items)) }
+    ensures { Gives (option_map C.plain) result (entries R.plain kept.new.items)
+        (take_or_hole at C.of_set (view value.now) (entries R.plain kept.old.items)) }
 {
     if value.is_null() {
         return Ok(None);
     }
-    let child = take_as(alloc, kept, at, value)?;
+    let child = take_as::<N, R, C>(alloc, kept, at, value)?;
     Ok(Some(child))
 }
 
-pub fn take_all_or_holes<N: ReadNode + Drop, C: Child<N> + Drop>(
+pub fn take_all_or_holes<N: ReadNode + Drop, R: RowOf<N> + Drop, C: Child<N> + Drop>(
     alloc: Global,
-    kept: &mut Vec<Kept<Row<N>>>,
+    kept: &mut Vec<Kept<R>>,
     at: At,
     values: &[Value],
 ) -> Result<Vec<Option<C>>, InputFault>
-    ensures { Gives (λ v. map (option_map C.plain) v.items) result (entries N.plain kept.new.items)
-        (take_each (take_or_hole at C.of_set) [] (map view values.now) (entries N.plain kept.old.items)) }
+    ensures { Gives (λ v. map (option_map C.plain) v.items) result (entries R.plain kept.new.items)
+        (take_each (take_or_hole at C.of_set) [] (map view values.now) (entries R.plain kept.old.items)) }
 {
     let mut children = Vec::with_capacity(alloc, values.len())?;
     for value in values {
-        let child = take_or_hole(alloc, kept, at, value)?;
+        let child = take_or_hole::<N, R, C>(alloc, kept, at, value)?;
         children.push(child)?;
     }
     Ok(children)

@@ -6,10 +6,10 @@ ghost use Rattle.jsgen_tree.specs.Table.{needed, may_be_absent, child, children,
 ghost use Rattle.jsgen_fields.specs.Values.{Same, at, field as value_under};
 ghost use Rattle.jsgen_fields.specs.Meaning.{a_child, a_maybe, a_list};
 ghost use Rattle.jsgen_fields.specs.Reads.{Gives, read_children};
-ghost use Rattle.jsgen_fields.specs.Kept.{entries};
+ghost use Rattle.jsgen_pool.specs.Pool.{entries};
 
-use crate::children::{Child, take_all, take_all_or_holes, take_as};
-use crate::kept::{ReadNode, Row};
+use crate::asked::{Child, ReadNode, RowOf};
+use crate::children::{take_all, take_all_or_holes, take_as};
 use crate::values::{items_in, needed_value, optional_value};
 use crate::{At, InputFault};
 use jsgen_pool::Kept;
@@ -17,82 +17,82 @@ use serde_json::Value;
 use std::alloc::Global;
 
 #[tactic(auto, unfolding(crate::specs::Reads::read_children))]
-pub fn needed_child<N: ReadNode + Drop, C: Child<N> + Drop>(
+pub fn needed_child<N: ReadNode + Drop, R: RowOf<N> + Drop, C: Child<N> + Drop>(
     alloc: Global,
-    kept: &mut Vec<Kept<Row<N>>>,
+    kept: &mut Vec<Kept<R>>,
     number: usize,
     field: usize,
     row: &Value,
     name: &str,
 ) -> Result<C, InputFault>
-    ensures { Gives (λ c. a_child (C.plain c)) result (entries N.plain kept.new.items)
-        (read_children (at number field) true needed (child C.of_set) (value_under name.now (view row.now)) (entries N.plain kept.old.items)) }
+    ensures { Gives (λ c. a_child (C.plain c)) result (entries R.plain kept.new.items)
+        (read_children (at number field) true needed (child C.of_set) (value_under name.now (view row.now)) (entries R.plain kept.old.items)) }
 {
     let at = At::of_row(number, field);
     let value = needed_value(at, row, name)?;
-    take_as(alloc, kept, at, value)
+    take_as::<N, R, C>(alloc, kept, at, value)
 }
 
 #[tactic(auto, unfolding(crate::specs::Reads::read_children))]
-pub fn optional_child<N: ReadNode + Drop, C: Child<N> + Drop>(
+pub fn optional_child<N: ReadNode + Drop, R: RowOf<N> + Drop, C: Child<N> + Drop>(
     alloc: Global,
-    kept: &mut Vec<Kept<Row<N>>>,
+    kept: &mut Vec<Kept<R>>,
     number: usize,
     field: usize,
     row: &Value,
     name: &str,
 ) -> Result<Option<C>, InputFault>
-    ensures { Gives (λ o. a_maybe (optional (option_map C.plain o))) result (entries N.plain kept.new.items)
-        (read_children (at number field) false may_be_absent (child C.of_set) (value_under name.now (view row.now)) (entries N.plain kept.old.items)) }
+    ensures { Gives (λ o. a_maybe (optional (option_map C.plain o))) result (entries R.plain kept.new.items)
+        (read_children (at number field) false may_be_absent (child C.of_set) (value_under name.now (view row.now)) (entries R.plain kept.old.items)) }
 {
     let at = At::of_row(number, field);
     let Some(value) = optional_value(at, row, name)? else {
         return Ok(None);
     };
-    let child = take_as(alloc, kept, at, value)?;
+    let child = take_as::<N, R, C>(alloc, kept, at, value)?;
     Ok(Some(child))
 }
 
 /// A list that is empty where it is absent.
 #[tactic(auto, unfolding(crate::specs::Reads::read_children))]
-pub fn children<N: ReadNode + Drop, C: Child<N> + Drop>(
+pub fn children<N: ReadNode + Drop, R: RowOf<N> + Drop, C: Child<N> + Drop>(
     alloc: Global,
-    kept: &mut Vec<Kept<Row<N>>>,
+    kept: &mut Vec<Kept<R>>,
     number: usize,
     field: usize,
     row: &Value,
     name: &str,
 ) -> Result<Vec<C>, InputFault>
-    ensures { Gives (λ v. a_list (trees (map C.plain v.items))) result (entries N.plain kept.new.items)
-        (read_children (at number field) false may_be_absent (children C.of_set) (value_under name.now (view row.now)) (entries N.plain kept.old.items)) }
+    ensures { Gives (λ v. a_list (trees (map C.plain v.items))) result (entries R.plain kept.new.items)
+        (read_children (at number field) false may_be_absent (children C.of_set) (value_under name.now (view row.now)) (entries R.plain kept.old.items)) }
 {
     let at = At::of_row(number, field);
     let Some(value) = optional_value(at, row, name)? else {
         return Ok(Vec::new(alloc));
     };
     let items = items_in(at, value)?;
-    take_all(alloc, kept, at, items)
+    take_all::<N, R, C>(alloc, kept, at, items)
 }
 
 /// A list with a hole at each null, empty where it is absent.
 #[tactic(auto, unfolding(crate::specs::Reads::read_children))]
-pub fn children_or_holes<N: ReadNode + Drop, C: Child<N> + Drop>(
+pub fn children_or_holes<N: ReadNode + Drop, R: RowOf<N> + Drop, C: Child<N> + Drop>(
     alloc: Global,
-    kept: &mut Vec<Kept<Row<N>>>,
+    kept: &mut Vec<Kept<R>>,
     number: usize,
     field: usize,
     row: &Value,
     name: &str,
 ) -> Result<Vec<Option<C>>, InputFault>
-    ensures { Gives (λ v. a_list (holed (map (option_map C.plain) v.items))) result (entries N.plain kept.new.items)
-        (read_children (at number field) false may_be_absent (children_or_holes C.of_set) (value_under name.now (view row.now)) (entries N.plain kept.old.items)) }
+    ensures { Gives (λ v. a_list (holed (map (option_map C.plain) v.items))) result (entries R.plain kept.new.items)
+        (read_children (at number field) false may_be_absent (children_or_holes C.of_set) (value_under name.now (view row.now)) (entries R.plain kept.old.items)) }
 {
     let at = At::of_row(number, field);
     let Some(value) = optional_value(at, row, name)? else {
         return Ok(Vec::new(alloc));
     };
     let items = items_in(at, value)?;
-    take_all_or_holes(alloc, kept, at, items)
+    take_all_or_holes::<N, R, C>(alloc, kept, at, items)
 }
 
 /// In a box of its own.

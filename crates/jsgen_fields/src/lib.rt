@@ -6,6 +6,7 @@ ghost use Rattle.jsgen_fields.specs.Texts.{at_text, fault_text};
 ghost use Rattle.jsgen_fields.specs.Values.{at, head};
 ghost use Rattle.jsgen_fields.specs.declared.InputFault.TheVariants as faults;
 
+pub mod asked;
 mod child_sets;
 mod children;
 pub mod fields;

@@ -8,12 +8,12 @@ ghost use Rattle.jsgen_tree.specs.Rows.{in_expression, in_argument, in_array_exp
 ghost use Rattle.jsgen_fields.specs.Values.{at, field as value_under};
 ghost use Rattle.jsgen_fields.specs.Meaning.{a_child, a_maybe, a_list};
 ghost use Rattle.jsgen_fields.specs.Reads.{Gives, read_children};
-ghost use Rattle.jsgen_fields.specs.Kept.{entries};
+ghost use Rattle.jsgen_pool.specs.Pool.{entries};
 ghost use Rattle.jsgen_tree.specs.declared.types.NodeSet.TheVariants as sets;
 
 use crate::InputFault;
+use crate::asked::{ReadNode, RowOf};
 use crate::fields::{children, children_or_holes, needed_child, optional_child};
-use crate::kept::{ReadNode, Row};
 use jsgen_pool::Kept;
 use jsgen_tree::{
     Argument, ArrayExpressionElement, ArrowFunctionBody, AssignmentTarget, BindingIdentifier,
@@ -25,464 +25,464 @@ use jsgen_tree::{
 use serde_json::Value;
 use std::alloc::Global;
 
-pub fn comment_list<N: ReadNode + Drop>(
+pub fn comment_list<N: ReadNode + Drop, R: RowOf<N> + Drop>(
     alloc: Global,
-    kept: &mut Vec<Kept<Row<N>>>,
+    kept: &mut Vec<Kept<R>>,
     number: usize,
     field: usize,
     row: &Value,
     name: &str,
 ) -> Result<Vec<Comment>, InputFault>
-    ensures { Gives (λ v. a_list (trees (map comment_row v.items))) result (entries N.plain kept.new.items)
-        (read_children (at number field) false may_be_absent (many sets.Comment) (value_under name.now (view row.now)) (entries N.plain kept.old.items)) }
+    ensures { Gives (λ v. a_list (trees (map comment_row v.items))) result (entries R.plain kept.new.items)
+        (read_children (at number field) false may_be_absent (many sets.Comment) (value_under name.now (view row.now)) (entries R.plain kept.old.items)) }
 {
-    children(alloc, kept, number, field, row, name)
+    children::<N, R, _>(alloc, kept, number, field, row, name)
 }
 
-pub fn directive_list<N: ReadNode + Drop>(
+pub fn directive_list<N: ReadNode + Drop, R: RowOf<N> + Drop>(
     alloc: Global,
-    kept: &mut Vec<Kept<Row<N>>>,
+    kept: &mut Vec<Kept<R>>,
     number: usize,
     field: usize,
     row: &Value,
     name: &str,
 ) -> Result<Vec<Directive>, InputFault>
-    ensures { Gives (λ v. a_list (trees (map directive_row v.items))) result (entries N.plain kept.new.items)
-        (read_children (at number field) false may_be_absent (many sets.Directive) (value_under name.now (view row.now)) (entries N.plain kept.old.items)) }
+    ensures { Gives (λ v. a_list (trees (map directive_row v.items))) result (entries R.plain kept.new.items)
+        (read_children (at number field) false may_be_absent (many sets.Directive) (value_under name.now (view row.now)) (entries R.plain kept.old.items)) }
 {
-    children(alloc, kept, number, field, row, name)
+    children::<N, R, _>(alloc, kept, number, field, row, name)
 }
 
-pub fn statement_list<N: ReadNode + Drop>(
+pub fn statement_list<N: ReadNode + Drop, R: RowOf<N> + Drop>(
     alloc: Global,
-    kept: &mut Vec<Kept<Row<N>>>,
+    kept: &mut Vec<Kept<R>>,
     number: usize,
     field: usize,
     row: &Value,
     name: &str,
 ) -> Result<Vec<StatementNode<N>>, InputFault>
-    ensures { Gives (λ v. a_list (trees (map (in_statement N.plain) v.items))) result (entries N.plain kept.new.items)
-        (read_children (at number field) false may_be_absent (many sets.Statement) (value_under name.now (view row.now)) (entries N.plain kept.old.items)) }
+    ensures { Gives (λ v. a_list (trees (map (in_statement N.plain) v.items))) result (entries R.plain kept.new.items)
+        (read_children (at number field) false may_be_absent (many sets.Statement) (value_under name.now (view row.now)) (entries R.plain kept.old.items)) }
 {
-    children(alloc, kept, number, field, row, name)
+    children::<N, R, _>(alloc, kept, number, field, row, name)
 }
 
-pub fn variable_declarator_list<N: ReadNode + Drop>(
+pub fn variable_declarator_list<N: ReadNode + Drop, R: RowOf<N> + Drop>(
     alloc: Global,
-    kept: &mut Vec<Kept<Row<N>>>,
+    kept: &mut Vec<Kept<R>>,
     number: usize,
     field: usize,
     row: &Value,
     name: &str,
 ) -> Result<Vec<VariableDeclarator<N>>, InputFault>
-    ensures { Gives (λ v. a_list (trees (map (variable_declarator_row N.plain) v.items))) result (entries N.plain kept.new.items)
-        (read_children (at number field) false may_be_absent (many sets.VariableDeclarator) (value_under name.now (view row.now)) (entries N.plain kept.old.items)) }
+    ensures { Gives (λ v. a_list (trees (map (variable_declarator_row N.plain) v.items))) result (entries R.plain kept.new.items)
+        (read_children (at number field) false may_be_absent (many sets.VariableDeclarator) (value_under name.now (view row.now)) (entries R.plain kept.old.items)) }
 {
-    children(alloc, kept, number, field, row, name)
+    children::<N, R, _>(alloc, kept, number, field, row, name)
 }
 
-pub fn needed_binding_pattern<N: ReadNode + Drop>(
+pub fn needed_binding_pattern<N: ReadNode + Drop, R: RowOf<N> + Drop>(
     alloc: Global,
-    kept: &mut Vec<Kept<Row<N>>>,
+    kept: &mut Vec<Kept<R>>,
     number: usize,
     field: usize,
     row: &Value,
     name: &str,
 ) -> Result<BindingPatternNode<N>, InputFault>
-    ensures { Gives (λ c. a_child (in_binding_pattern N.plain c)) result (entries N.plain kept.new.items)
-        (read_children (at number field) true needed (child sets.BindingPattern) (value_under name.now (view row.now)) (entries N.plain kept.old.items)) }
+    ensures { Gives (λ c. a_child (in_binding_pattern N.plain c)) result (entries R.plain kept.new.items)
+        (read_children (at number field) true needed (child sets.BindingPattern) (value_under name.now (view row.now)) (entries R.plain kept.old.items)) }
 {
-    needed_child(alloc, kept, number, field, row, name)
+    needed_child::<N, R, _>(alloc, kept, number, field, row, name)
 }
 
-pub fn optional_expression<N: ReadNode + Drop>(
+pub fn optional_expression<N: ReadNode + Drop, R: RowOf<N> + Drop>(
     alloc: Global,
-    kept: &mut Vec<Kept<Row<N>>>,
+    kept: &mut Vec<Kept<R>>,
     number: usize,
     field: usize,
     row: &Value,
     name: &str,
 ) -> Result<Option<ExpressionNode<N>>, InputFault>
-    ensures { Gives (λ o. a_maybe (optional (option_map (in_expression N.plain) o))) result (entries N.plain kept.new.items)
-        (read_children (at number field) false may_be_absent (child sets.Expression) (value_under name.now (view row.now)) (entries N.plain kept.old.items)) }
+    ensures { Gives (λ o. a_maybe (optional (option_map (in_expression N.plain) o))) result (entries R.plain kept.new.items)
+        (read_children (at number field) false may_be_absent (child sets.Expression) (value_under name.now (view row.now)) (entries R.plain kept.old.items)) }
 {
-    optional_child(alloc, kept, number, field, row, name)
+    optional_child::<N, R, _>(alloc, kept, number, field, row, name)
 }
 
-pub fn needed_expression<N: ReadNode + Drop>(
+pub fn needed_expression<N: ReadNode + Drop, R: RowOf<N> + Drop>(
     alloc: Global,
-    kept: &mut Vec<Kept<Row<N>>>,
+    kept: &mut Vec<Kept<R>>,
     number: usize,
     field: usize,
     row: &Value,
     name: &str,
 ) -> Result<ExpressionNode<N>, InputFault>
-    ensures { Gives (λ c. a_child (in_expression N.plain c)) result (entries N.plain kept.new.items)
-        (read_children (at number field) true needed (child sets.Expression) (value_under name.now (view row.now)) (entries N.plain kept.old.items)) }
+    ensures { Gives (λ c. a_child (in_expression N.plain c)) result (entries R.plain kept.new.items)
+        (read_children (at number field) true needed (child sets.Expression) (value_under name.now (view row.now)) (entries R.plain kept.old.items)) }
 {
-    needed_child(alloc, kept, number, field, row, name)
+    needed_child::<N, R, _>(alloc, kept, number, field, row, name)
 }
 
-pub fn needed_statement<N: ReadNode + Drop>(
+pub fn needed_statement<N: ReadNode + Drop, R: RowOf<N> + Drop>(
     alloc: Global,
-    kept: &mut Vec<Kept<Row<N>>>,
+    kept: &mut Vec<Kept<R>>,
     number: usize,
     field: usize,
     row: &Value,
     name: &str,
 ) -> Result<StatementNode<N>, InputFault>
-    ensures { Gives (λ c. a_child (in_statement N.plain c)) result (entries N.plain kept.new.items)
-        (read_children (at number field) true needed (child sets.Statement) (value_under name.now (view row.now)) (entries N.plain kept.old.items)) }
+    ensures { Gives (λ c. a_child (in_statement N.plain c)) result (entries R.plain kept.new.items)
+        (read_children (at number field) true needed (child sets.Statement) (value_under name.now (view row.now)) (entries R.plain kept.old.items)) }
 {
-    needed_child(alloc, kept, number, field, row, name)
+    needed_child::<N, R, _>(alloc, kept, number, field, row, name)
 }
 
-pub fn optional_statement<N: ReadNode + Drop>(
+pub fn optional_statement<N: ReadNode + Drop, R: RowOf<N> + Drop>(
     alloc: Global,
-    kept: &mut Vec<Kept<Row<N>>>,
+    kept: &mut Vec<Kept<R>>,
     number: usize,
     field: usize,
     row: &Value,
     name: &str,
 ) -> Result<Option<StatementNode<N>>, InputFault>
-    ensures { Gives (λ o. a_maybe (optional (option_map (in_statement N.plain) o))) result (entries N.plain kept.new.items)
-        (read_children (at number field) false may_be_absent (child sets.Statement) (value_under name.now (view row.now)) (entries N.plain kept.old.items)) }
+    ensures { Gives (λ o. a_maybe (optional (option_map (in_statement N.plain) o))) result (entries R.plain kept.new.items)
+        (read_children (at number field) false may_be_absent (child sets.Statement) (value_under name.now (view row.now)) (entries R.plain kept.old.items)) }
 {
-    optional_child(alloc, kept, number, field, row, name)
+    optional_child::<N, R, _>(alloc, kept, number, field, row, name)
 }
 
-pub fn needed_identifier_name<N: ReadNode + Drop>(
+pub fn needed_identifier_name<N: ReadNode + Drop, R: RowOf<N> + Drop>(
     alloc: Global,
-    kept: &mut Vec<Kept<Row<N>>>,
+    kept: &mut Vec<Kept<R>>,
     number: usize,
     field: usize,
     row: &Value,
     name: &str,
 ) -> Result<Box<IdentifierName>, InputFault>
-    ensures { Gives (λ c. a_child (identifier_name_row c.value)) result (entries N.plain kept.new.items)
-        (read_children (at number field) true needed (child sets.IdentifierName) (value_under name.now (view row.now)) (entries N.plain kept.old.items)) }
+    ensures { Gives (λ c. a_child (identifier_name_row c.value)) result (entries R.plain kept.new.items)
+        (read_children (at number field) true needed (child sets.IdentifierName) (value_under name.now (view row.now)) (entries R.plain kept.old.items)) }
 {
-    needed_child(alloc, kept, number, field, row, name)
+    needed_child::<N, R, _>(alloc, kept, number, field, row, name)
 }
 
-pub fn argument_list<N: ReadNode + Drop>(
+pub fn argument_list<N: ReadNode + Drop, R: RowOf<N> + Drop>(
     alloc: Global,
-    kept: &mut Vec<Kept<Row<N>>>,
+    kept: &mut Vec<Kept<R>>,
     number: usize,
     field: usize,
     row: &Value,
     name: &str,
 ) -> Result<Vec<Argument<N>>, InputFault>
-    ensures { Gives (λ v. a_list (trees (map (in_argument N.plain) v.items))) result (entries N.plain kept.new.items)
-        (read_children (at number field) false may_be_absent (many sets.Argument) (value_under name.now (view row.now)) (entries N.plain kept.old.items)) }
+    ensures { Gives (λ v. a_list (trees (map (in_argument N.plain) v.items))) result (entries R.plain kept.new.items)
+        (read_children (at number field) false may_be_absent (many sets.Argument) (value_under name.now (view row.now)) (entries R.plain kept.old.items)) }
 {
-    children(alloc, kept, number, field, row, name)
+    children::<N, R, _>(alloc, kept, number, field, row, name)
 }
 
-pub fn needed_chain_element<N: ReadNode + Drop>(
+pub fn needed_chain_element<N: ReadNode + Drop, R: RowOf<N> + Drop>(
     alloc: Global,
-    kept: &mut Vec<Kept<Row<N>>>,
+    kept: &mut Vec<Kept<R>>,
     number: usize,
     field: usize,
     row: &Value,
     name: &str,
 ) -> Result<ChainElement<N>, InputFault>
-    ensures { Gives (λ c. a_child (in_chain_element N.plain c)) result (entries N.plain kept.new.items)
-        (read_children (at number field) true needed (child sets.ChainElement) (value_under name.now (view row.now)) (entries N.plain kept.old.items)) }
+    ensures { Gives (λ c. a_child (in_chain_element N.plain c)) result (entries R.plain kept.new.items)
+        (read_children (at number field) true needed (child sets.ChainElement) (value_under name.now (view row.now)) (entries R.plain kept.old.items)) }
 {
-    needed_child(alloc, kept, number, field, row, name)
+    needed_child::<N, R, _>(alloc, kept, number, field, row, name)
 }
 
-pub fn array_expression_element_or_hole_list<N: ReadNode + Drop>(
+pub fn array_expression_element_or_hole_list<N: ReadNode + Drop, R: RowOf<N> + Drop>(
     alloc: Global,
-    kept: &mut Vec<Kept<Row<N>>>,
+    kept: &mut Vec<Kept<R>>,
     number: usize,
     field: usize,
     row: &Value,
     name: &str,
 ) -> Result<Vec<Option<ArrayExpressionElement<N>>>, InputFault>
-    ensures { Gives (λ v. a_list (holed (map (option_map (in_array_expression_element N.plain)) v.items))) result (entries N.plain kept.new.items)
-        (read_children (at number field) false may_be_absent (many_or_holes sets.ArrayExpressionElement) (value_under name.now (view row.now)) (entries N.plain kept.old.items)) }
+    ensures { Gives (λ v. a_list (holed (map (option_map (in_array_expression_element N.plain)) v.items))) result (entries R.plain kept.new.items)
+        (read_children (at number field) false may_be_absent (many_or_holes sets.ArrayExpressionElement) (value_under name.now (view row.now)) (entries R.plain kept.old.items)) }
 {
-    children_or_holes(alloc, kept, number, field, row, name)
+    children_or_holes::<N, R, _>(alloc, kept, number, field, row, name)
 }
 
-pub fn needed_property_key<N: ReadNode + Drop>(
+pub fn needed_property_key<N: ReadNode + Drop, R: RowOf<N> + Drop>(
     alloc: Global,
-    kept: &mut Vec<Kept<Row<N>>>,
+    kept: &mut Vec<Kept<R>>,
     number: usize,
     field: usize,
     row: &Value,
     name: &str,
 ) -> Result<PropertyKey<N>, InputFault>
-    ensures { Gives (λ c. a_child (in_property_key N.plain c)) result (entries N.plain kept.new.items)
-        (read_children (at number field) true needed (child sets.PropertyKey) (value_under name.now (view row.now)) (entries N.plain kept.old.items)) }
+    ensures { Gives (λ c. a_child (in_property_key N.plain c)) result (entries R.plain kept.new.items)
+        (read_children (at number field) true needed (child sets.PropertyKey) (value_under name.now (view row.now)) (entries R.plain kept.old.items)) }
 {
-    needed_child(alloc, kept, number, field, row, name)
+    needed_child::<N, R, _>(alloc, kept, number, field, row, name)
 }
 
-pub fn object_property_kind_list<N: ReadNode + Drop>(
+pub fn object_property_kind_list<N: ReadNode + Drop, R: RowOf<N> + Drop>(
     alloc: Global,
-    kept: &mut Vec<Kept<Row<N>>>,
+    kept: &mut Vec<Kept<R>>,
     number: usize,
     field: usize,
     row: &Value,
     name: &str,
 ) -> Result<Vec<ObjectPropertyKind<N>>, InputFault>
-    ensures { Gives (λ v. a_list (trees (map (in_object_property_kind N.plain) v.items))) result (entries N.plain kept.new.items)
-        (read_children (at number field) false may_be_absent (many sets.ObjectPropertyKind) (value_under name.now (view row.now)) (entries N.plain kept.old.items)) }
+    ensures { Gives (λ v. a_list (trees (map (in_object_property_kind N.plain) v.items))) result (entries R.plain kept.new.items)
+        (read_children (at number field) false may_be_absent (many sets.ObjectPropertyKind) (value_under name.now (view row.now)) (entries R.plain kept.old.items)) }
 {
-    children(alloc, kept, number, field, row, name)
+    children::<N, R, _>(alloc, kept, number, field, row, name)
 }
 
-pub fn needed_simple_assignment_target<N: ReadNode + Drop>(
+pub fn needed_simple_assignment_target<N: ReadNode + Drop, R: RowOf<N> + Drop>(
     alloc: Global,
-    kept: &mut Vec<Kept<Row<N>>>,
+    kept: &mut Vec<Kept<R>>,
     number: usize,
     field: usize,
     row: &Value,
     name: &str,
 ) -> Result<SimpleAssignmentTarget<N>, InputFault>
-    ensures { Gives (λ c. a_child (in_simple_assignment_target N.plain c)) result (entries N.plain kept.new.items)
-        (read_children (at number field) true needed (child sets.SimpleAssignmentTarget) (value_under name.now (view row.now)) (entries N.plain kept.old.items)) }
+    ensures { Gives (λ c. a_child (in_simple_assignment_target N.plain c)) result (entries R.plain kept.new.items)
+        (read_children (at number field) true needed (child sets.SimpleAssignmentTarget) (value_under name.now (view row.now)) (entries R.plain kept.old.items)) }
 {
-    needed_child(alloc, kept, number, field, row, name)
+    needed_child::<N, R, _>(alloc, kept, number, field, row, name)
 }
 
-pub fn expression_list<N: ReadNode + Drop>(
+pub fn expression_list<N: ReadNode + Drop, R: RowOf<N> + Drop>(
     alloc: Global,
-    kept: &mut Vec<Kept<Row<N>>>,
+    kept: &mut Vec<Kept<R>>,
     number: usize,
     field: usize,
     row: &Value,
     name: &str,
 ) -> Result<Vec<ExpressionNode<N>>, InputFault>
-    ensures { Gives (λ v. a_list (trees (map (in_expression N.plain) v.items))) result (entries N.plain kept.new.items)
-        (read_children (at number field) false may_be_absent (many sets.Expression) (value_under name.now (view row.now)) (entries N.plain kept.old.items)) }
+    ensures { Gives (λ v. a_list (trees (map (in_expression N.plain) v.items))) result (entries R.plain kept.new.items)
+        (read_children (at number field) false may_be_absent (many sets.Expression) (value_under name.now (view row.now)) (entries R.plain kept.old.items)) }
 {
-    children(alloc, kept, number, field, row, name)
+    children::<N, R, _>(alloc, kept, number, field, row, name)
 }
 
-pub fn needed_assignment_target<N: ReadNode + Drop>(
+pub fn needed_assignment_target<N: ReadNode + Drop, R: RowOf<N> + Drop>(
     alloc: Global,
-    kept: &mut Vec<Kept<Row<N>>>,
+    kept: &mut Vec<Kept<R>>,
     number: usize,
     field: usize,
     row: &Value,
     name: &str,
 ) -> Result<AssignmentTarget<N>, InputFault>
-    ensures { Gives (λ c. a_child (in_assignment_target N.plain c)) result (entries N.plain kept.new.items)
-        (read_children (at number field) true needed (child sets.AssignmentTarget) (value_under name.now (view row.now)) (entries N.plain kept.old.items)) }
+    ensures { Gives (λ c. a_child (in_assignment_target N.plain c)) result (entries R.plain kept.new.items)
+        (read_children (at number field) true needed (child sets.AssignmentTarget) (value_under name.now (view row.now)) (entries R.plain kept.old.items)) }
 {
-    needed_child(alloc, kept, number, field, row, name)
+    needed_child::<N, R, _>(alloc, kept, number, field, row, name)
 }
 
-pub fn formal_parameter_list<N: ReadNode + Drop>(
+pub fn formal_parameter_list<N: ReadNode + Drop, R: RowOf<N> + Drop>(
     alloc: Global,
-    kept: &mut Vec<Kept<Row<N>>>,
+    kept: &mut Vec<Kept<R>>,
     number: usize,
     field: usize,
     row: &Value,
     name: &str,
 ) -> Result<Vec<FormalParameter<N>>, InputFault>
-    ensures { Gives (λ v. a_list (trees (map (formal_parameter_row N.plain) v.items))) result (entries N.plain kept.new.items)
-        (read_children (at number field) false may_be_absent (many sets.FormalParameter) (value_under name.now (view row.now)) (entries N.plain kept.old.items)) }
+    ensures { Gives (λ v. a_list (trees (map (formal_parameter_row N.plain) v.items))) result (entries R.plain kept.new.items)
+        (read_children (at number field) false may_be_absent (many sets.FormalParameter) (value_under name.now (view row.now)) (entries R.plain kept.old.items)) }
 {
-    children(alloc, kept, number, field, row, name)
+    children::<N, R, _>(alloc, kept, number, field, row, name)
 }
 
-pub fn optional_formal_parameter_rest<N: ReadNode + Drop>(
+pub fn optional_formal_parameter_rest<N: ReadNode + Drop, R: RowOf<N> + Drop>(
     alloc: Global,
-    kept: &mut Vec<Kept<Row<N>>>,
+    kept: &mut Vec<Kept<R>>,
     number: usize,
     field: usize,
     row: &Value,
     name: &str,
 ) -> Result<Option<Box<FormalParameterRest<N>>>, InputFault>
-    ensures { Gives (λ o. a_maybe (optional (option_map (λ b. formal_parameter_rest_row N.plain b.value) o))) result (entries N.plain kept.new.items)
-        (read_children (at number field) false may_be_absent (child sets.FormalParameterRest) (value_under name.now (view row.now)) (entries N.plain kept.old.items)) }
+    ensures { Gives (λ o. a_maybe (optional (option_map (λ b. formal_parameter_rest_row N.plain b.value) o))) result (entries R.plain kept.new.items)
+        (read_children (at number field) false may_be_absent (child sets.FormalParameterRest) (value_under name.now (view row.now)) (entries R.plain kept.old.items)) }
 {
-    optional_child(alloc, kept, number, field, row, name)
+    optional_child::<N, R, _>(alloc, kept, number, field, row, name)
 }
 
-pub fn optional_binding_identifier<N: ReadNode + Drop>(
+pub fn optional_binding_identifier<N: ReadNode + Drop, R: RowOf<N> + Drop>(
     alloc: Global,
-    kept: &mut Vec<Kept<Row<N>>>,
+    kept: &mut Vec<Kept<R>>,
     number: usize,
     field: usize,
     row: &Value,
     name: &str,
 ) -> Result<Option<Box<BindingIdentifier>>, InputFault>
-    ensures { Gives (λ o. a_maybe (optional (option_map (λ b. binding_identifier_row b.value) o))) result (entries N.plain kept.new.items)
-        (read_children (at number field) false may_be_absent (child sets.BindingIdentifier) (value_under name.now (view row.now)) (entries N.plain kept.old.items)) }
+    ensures { Gives (λ o. a_maybe (optional (option_map (λ b. binding_identifier_row b.value) o))) result (entries R.plain kept.new.items)
+        (read_children (at number field) false may_be_absent (child sets.BindingIdentifier) (value_under name.now (view row.now)) (entries R.plain kept.old.items)) }
 {
-    optional_child(alloc, kept, number, field, row, name)
+    optional_child::<N, R, _>(alloc, kept, number, field, row, name)
 }
 
-pub fn needed_formal_parameters<N: ReadNode + Drop>(
+pub fn needed_formal_parameters<N: ReadNode + Drop, R: RowOf<N> + Drop>(
     alloc: Global,
-    kept: &mut Vec<Kept<Row<N>>>,
+    kept: &mut Vec<Kept<R>>,
     number: usize,
     field: usize,
     row: &Value,
     name: &str,
 ) -> Result<Box<FormalParameters<N>>, InputFault>
-    ensures { Gives (λ c. a_child (formal_parameters_row N.plain c.value)) result (entries N.plain kept.new.items)
-        (read_children (at number field) true needed (child sets.FormalParameters) (value_under name.now (view row.now)) (entries N.plain kept.old.items)) }
+    ensures { Gives (λ c. a_child (formal_parameters_row N.plain c.value)) result (entries R.plain kept.new.items)
+        (read_children (at number field) true needed (child sets.FormalParameters) (value_under name.now (view row.now)) (entries R.plain kept.old.items)) }
 {
-    needed_child(alloc, kept, number, field, row, name)
+    needed_child::<N, R, _>(alloc, kept, number, field, row, name)
 }
 
-pub fn optional_function_body<N: ReadNode + Drop>(
+pub fn optional_function_body<N: ReadNode + Drop, R: RowOf<N> + Drop>(
     alloc: Global,
-    kept: &mut Vec<Kept<Row<N>>>,
+    kept: &mut Vec<Kept<R>>,
     number: usize,
     field: usize,
     row: &Value,
     name: &str,
 ) -> Result<Option<Box<FunctionBody<N>>>, InputFault>
-    ensures { Gives (λ o. a_maybe (optional (option_map (λ b. function_body_row N.plain b.value) o))) result (entries N.plain kept.new.items)
-        (read_children (at number field) false may_be_absent (child sets.FunctionBody) (value_under name.now (view row.now)) (entries N.plain kept.old.items)) }
+    ensures { Gives (λ o. a_maybe (optional (option_map (λ b. function_body_row N.plain b.value) o))) result (entries R.plain kept.new.items)
+        (read_children (at number field) false may_be_absent (child sets.FunctionBody) (value_under name.now (view row.now)) (entries R.plain kept.old.items)) }
 {
-    optional_child(alloc, kept, number, field, row, name)
+    optional_child::<N, R, _>(alloc, kept, number, field, row, name)
 }
 
-pub fn needed_arrow_function_body<N: ReadNode + Drop>(
+pub fn needed_arrow_function_body<N: ReadNode + Drop, R: RowOf<N> + Drop>(
     alloc: Global,
-    kept: &mut Vec<Kept<Row<N>>>,
+    kept: &mut Vec<Kept<R>>,
     number: usize,
     field: usize,
     row: &Value,
     name: &str,
 ) -> Result<ArrowFunctionBody<N>, InputFault>
-    ensures { Gives (λ c. a_child (in_arrow_function_body N.plain c)) result (entries N.plain kept.new.items)
-        (read_children (at number field) true needed (child sets.ArrowFunctionBody) (value_under name.now (view row.now)) (entries N.plain kept.old.items)) }
+    ensures { Gives (λ c. a_child (in_arrow_function_body N.plain c)) result (entries R.plain kept.new.items)
+        (read_children (at number field) true needed (child sets.ArrowFunctionBody) (value_under name.now (view row.now)) (entries R.plain kept.old.items)) }
 {
-    needed_child(alloc, kept, number, field, row, name)
+    needed_child::<N, R, _>(alloc, kept, number, field, row, name)
 }
 
-pub fn optional_for_statement_init<N: ReadNode + Drop>(
+pub fn optional_for_statement_init<N: ReadNode + Drop, R: RowOf<N> + Drop>(
     alloc: Global,
-    kept: &mut Vec<Kept<Row<N>>>,
+    kept: &mut Vec<Kept<R>>,
     number: usize,
     field: usize,
     row: &Value,
     name: &str,
 ) -> Result<Option<ForStatementInit<N>>, InputFault>
-    ensures { Gives (λ o. a_maybe (optional (option_map (in_for_statement_init N.plain) o))) result (entries N.plain kept.new.items)
-        (read_children (at number field) false may_be_absent (child sets.ForStatementInit) (value_under name.now (view row.now)) (entries N.plain kept.old.items)) }
+    ensures { Gives (λ o. a_maybe (optional (option_map (in_for_statement_init N.plain) o))) result (entries R.plain kept.new.items)
+        (read_children (at number field) false may_be_absent (child sets.ForStatementInit) (value_under name.now (view row.now)) (entries R.plain kept.old.items)) }
 {
-    optional_child(alloc, kept, number, field, row, name)
+    optional_child::<N, R, _>(alloc, kept, number, field, row, name)
 }
 
-pub fn needed_for_statement_left<N: ReadNode + Drop>(
+pub fn needed_for_statement_left<N: ReadNode + Drop, R: RowOf<N> + Drop>(
     alloc: Global,
-    kept: &mut Vec<Kept<Row<N>>>,
+    kept: &mut Vec<Kept<R>>,
     number: usize,
     field: usize,
     row: &Value,
     name: &str,
 ) -> Result<ForStatementLeft<N>, InputFault>
-    ensures { Gives (λ c. a_child (in_for_statement_left N.plain c)) result (entries N.plain kept.new.items)
-        (read_children (at number field) true needed (child sets.ForStatementLeft) (value_under name.now (view row.now)) (entries N.plain kept.old.items)) }
+    ensures { Gives (λ c. a_child (in_for_statement_left N.plain c)) result (entries R.plain kept.new.items)
+        (read_children (at number field) true needed (child sets.ForStatementLeft) (value_under name.now (view row.now)) (entries R.plain kept.old.items)) }
 {
-    needed_child(alloc, kept, number, field, row, name)
+    needed_child::<N, R, _>(alloc, kept, number, field, row, name)
 }
 
-pub fn needed_label_identifier<N: ReadNode + Drop>(
+pub fn needed_label_identifier<N: ReadNode + Drop, R: RowOf<N> + Drop>(
     alloc: Global,
-    kept: &mut Vec<Kept<Row<N>>>,
+    kept: &mut Vec<Kept<R>>,
     number: usize,
     field: usize,
     row: &Value,
     name: &str,
 ) -> Result<Box<LabelIdentifier>, InputFault>
-    ensures { Gives (λ c. a_child (label_identifier_row c.value)) result (entries N.plain kept.new.items)
-        (read_children (at number field) true needed (child sets.LabelIdentifier) (value_under name.now (view row.now)) (entries N.plain kept.old.items)) }
+    ensures { Gives (λ c. a_child (label_identifier_row c.value)) result (entries R.plain kept.new.items)
+        (read_children (at number field) true needed (child sets.LabelIdentifier) (value_under name.now (view row.now)) (entries R.plain kept.old.items)) }
 {
-    needed_child(alloc, kept, number, field, row, name)
+    needed_child::<N, R, _>(alloc, kept, number, field, row, name)
 }
 
-pub fn optional_label_identifier<N: ReadNode + Drop>(
+pub fn optional_label_identifier<N: ReadNode + Drop, R: RowOf<N> + Drop>(
     alloc: Global,
-    kept: &mut Vec<Kept<Row<N>>>,
+    kept: &mut Vec<Kept<R>>,
     number: usize,
     field: usize,
     row: &Value,
     name: &str,
 ) -> Result<Option<Box<LabelIdentifier>>, InputFault>
-    ensures { Gives (λ o. a_maybe (optional (option_map (λ b. label_identifier_row b.value) o))) result (entries N.plain kept.new.items)
-        (read_children (at number field) false may_be_absent (child sets.LabelIdentifier) (value_under name.now (view row.now)) (entries N.plain kept.old.items)) }
+    ensures { Gives (λ o. a_maybe (optional (option_map (λ b. label_identifier_row b.value) o))) result (entries R.plain kept.new.items)
+        (read_children (at number field) false may_be_absent (child sets.LabelIdentifier) (value_under name.now (view row.now)) (entries R.plain kept.old.items)) }
 {
-    optional_child(alloc, kept, number, field, row, name)
+    optional_child::<N, R, _>(alloc, kept, number, field, row, name)
 }
 
-pub fn switch_case_list<N: ReadNode + Drop>(
+pub fn switch_case_list<N: ReadNode + Drop, R: RowOf<N> + Drop>(
     alloc: Global,
-    kept: &mut Vec<Kept<Row<N>>>,
+    kept: &mut Vec<Kept<R>>,
     number: usize,
     field: usize,
     row: &Value,
     name: &str,
 ) -> Result<Vec<SwitchCase<N>>, InputFault>
-    ensures { Gives (λ v. a_list (trees (map (switch_case_row N.plain) v.items))) result (entries N.plain kept.new.items)
-        (read_children (at number field) false may_be_absent (many sets.SwitchCase) (value_under name.now (view row.now)) (entries N.plain kept.old.items)) }
+    ensures { Gives (λ v. a_list (trees (map (switch_case_row N.plain) v.items))) result (entries R.plain kept.new.items)
+        (read_children (at number field) false may_be_absent (many sets.SwitchCase) (value_under name.now (view row.now)) (entries R.plain kept.old.items)) }
 {
-    children(alloc, kept, number, field, row, name)
+    children::<N, R, _>(alloc, kept, number, field, row, name)
 }
 
-pub fn needed_block_statement<N: ReadNode + Drop>(
+pub fn needed_block_statement<N: ReadNode + Drop, R: RowOf<N> + Drop>(
     alloc: Global,
-    kept: &mut Vec<Kept<Row<N>>>,
+    kept: &mut Vec<Kept<R>>,
     number: usize,
     field: usize,
     row: &Value,
     name: &str,
 ) -> Result<Box<BlockStatement<N>>, InputFault>
-    ensures { Gives (λ c. a_child (block_statement_row N.plain c.value)) result (entries N.plain kept.new.items)
-        (read_children (at number field) true needed (child sets.BlockStatement) (value_under name.now (view row.now)) (entries N.plain kept.old.items)) }
+    ensures { Gives (λ c. a_child (block_statement_row N.plain c.value)) result (entries R.plain kept.new.items)
+        (read_children (at number field) true needed (child sets.BlockStatement) (value_under name.now (view row.now)) (entries R.plain kept.old.items)) }
 {
-    needed_child(alloc, kept, number, field, row, name)
+    needed_child::<N, R, _>(alloc, kept, number, field, row, name)
 }
 
-pub fn optional_catch_clause<N: ReadNode + Drop>(
+pub fn optional_catch_clause<N: ReadNode + Drop, R: RowOf<N> + Drop>(
     alloc: Global,
-    kept: &mut Vec<Kept<Row<N>>>,
+    kept: &mut Vec<Kept<R>>,
     number: usize,
     field: usize,
     row: &Value,
     name: &str,
 ) -> Result<Option<Box<CatchClause<N>>>, InputFault>
-    ensures { Gives (λ o. a_maybe (optional (option_map (λ b. catch_clause_row N.plain b.value) o))) result (entries N.plain kept.new.items)
-        (read_children (at number field) false may_be_absent (child sets.CatchClause) (value_under name.now (view row.now)) (entries N.plain kept.old.items)) }
+    ensures { Gives (λ o. a_maybe (optional (option_map (λ b. catch_clause_row N.plain b.value) o))) result (entries R.plain kept.new.items)
+        (read_children (at number field) false may_be_absent (child sets.CatchClause) (value_under name.now (view row.now)) (entries R.plain kept.old.items)) }
 {
-    optional_child(alloc, kept, number, field, row, name)
+    optional_child::<N, R, _>(alloc, kept, number, field, row, name)
 }
 
-pub fn optional_block_statement<N: ReadNode + Drop>(
+pub fn optional_block_statement<N: ReadNode + Drop, R: RowOf<N> + Drop>(
     alloc: Global,
-    kept: &mut Vec<Kept<Row<N>>>,
+    kept: &mut Vec<Kept<R>>,
     number: usize,
     field: usize,
     row: &Value,
     name: &str,
 ) -> Result<Option<Box<BlockStatement<N>>>, InputFault>
-    ensures { Gives (λ o. a_maybe (optional (option_map (λ b. block_statement_row N.plain b.value) o))) result (entries N.plain kept.new.items)
-        (read_children (at number field) false may_be_absent (child sets.BlockStatement) (value_under name.now (view row.now)) (entries N.plain kept.old.items)) }
+    ensures { Gives (λ o. a_maybe (optional (option_map (λ b. block_statement_row N.plain b.value) o))) result (entries R.plain kept.new.items)
+        (read_children (at number field) false may_be_absent (child sets.BlockStatement) (value_under name.now (view row.now)) (entries R.plain kept.old.items)) }
 {
-    optional_child(alloc, kept, number, field, row, name)
+    optional_child::<N, R, _>(alloc, kept, number, field, row, name)
 }
 
-pub fn optional_binding_pattern<N: ReadNode + Drop>(
+pub fn optional_binding_pattern<N: ReadNode + Drop, R: RowOf<N> + Drop>(
     alloc: Global,
-    kept: &mut Vec<Kept<Row<N>>>,
+    kept: &mut Vec<Kept<R>>,
     number: usize,
     field: usize,
     row: &Value,
     name: &str,
 ) -> Result<Option<BindingPatternNode<N>>, InputFault>
-    ensures { Gives (λ o. a_maybe (optional (option_map (in_binding_pattern N.plain) o))) result (entries N.plain kept.new.items)
-        (read_children (at number field) false may_be_absent (child sets.BindingPattern) (value_under name.now (view row.now)) (entries N.plain kept.old.items)) }
+    ensures { Gives (λ o. a_maybe (optional (option_map (in_binding_pattern N.plain) o))) result (entries R.plain kept.new.items)
+        (read_children (at number field) false may_be_absent (child sets.BindingPattern) (value_under name.now (view row.now)) (entries R.plain kept.old.items)) }
 {
-    optional_child(alloc, kept, number, field, row, name)
+    optional_child::<N, R, _>(alloc, kept, number, field, row, name)
 }

@@ -13,13 +13,12 @@ ghost use Rattle.jsgen_place.specs.Place.{place_of};
 ghost use Rattle.jsgen_nodes.specs.Place.{pen_after};
 
 use crate::PrintNode;
-use crate::expressions::print_identifier_reference;
-use crate::links::{print_computed_member_expression, print_static_member_expression};
 use crate::quotes::is_export;
+use crate::sets::print_assignment_target;
 use jsgen_place::Place;
 use jsgen_printer::Printer;
 use jsgen_syntax::{AssignmentOperator, Memory, Precedence};
-use jsgen_tree::{AssignmentExpression, AssignmentTarget, ExpressionNode};
+use jsgen_tree::{AssignmentExpression, ExpressionNode};
 
 #[tactic(auto, unfolding(crate::specs::Place::pen_after))]
 pub fn print_assignment_expression<N: PrintNode>(
@@ -68,22 +67,4 @@ fn print_value<N: PrintNode>(
     p.print_assignment_sign(operator)?;
     p.print_soft_space()?;
     value.get().print(p, place.child(Precedence::Comma))
-}
-
-pub fn print_assignment_target<N: PrintNode>(
-    node: &AssignmentTarget<N>,
-    p: &mut Printer<'_>,
-    place: Place,
-) -> Result<(), Memory>
-    ensures { Reaches result (pen_of p.old) (pen_of p.new) (pen_after (in_assignment_target N.plain node.now) place p.old) }
-{
-    match node {
-        AssignmentTarget::IdentifierReference(node) => print_identifier_reference(node, p, place),
-        AssignmentTarget::StaticMemberExpression(node) => print_static_member_expression(
-            node, p, place,
-        ),
-        AssignmentTarget::ComputedMemberExpression(node) => print_computed_member_expression(
-            node, p, place,
-        ),
-    }
 }

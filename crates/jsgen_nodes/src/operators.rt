@@ -13,8 +13,8 @@ ghost use Rattle.jsgen_place.specs.Place.{place_of};
 ghost use Rattle.jsgen_nodes.specs.Place.{pen_after};
 
 use crate::PrintNode;
-use crate::expressions::print_identifier_reference;
-use crate::links::{Arguments, print_computed_member_expression, print_static_member_expression};
+use crate::links::Arguments;
+use crate::sets::print_simple_assignment_target;
 use jsgen_lists::{PrintMember, print_in_brackets, print_update};
 use jsgen_place::{Place, update_level};
 use jsgen_printer::{Bracket, Printer};
@@ -89,26 +89,6 @@ impl<N: PrintNode> PrintMember<SimpleAssignmentTarget<N>> for Targets {
         place: Place,
     ) -> Result<(), Memory> {
         print_simple_assignment_target(member, p, place)
-    }
-}
-
-fn print_simple_assignment_target<N: PrintNode>(
-    node: &SimpleAssignmentTarget<N>,
-    p: &mut Printer<'_>,
-    place: Place,
-) -> Result<(), Memory>
-    ensures { Reaches result (pen_of p.old) (pen_of p.new) (pen_after (in_simple_assignment_target N.plain node.now) place p.old) }
-{
-    match node {
-        SimpleAssignmentTarget::IdentifierReference(node) => print_identifier_reference(
-            node, p, place,
-        ),
-        SimpleAssignmentTarget::StaticMemberExpression(node) => print_static_member_expression(
-            node, p, place,
-        ),
-        SimpleAssignmentTarget::ComputedMemberExpression(node) => print_computed_member_expression(
-            node, p, place,
-        ),
     }
 }
 

@@ -13,10 +13,10 @@ ghost use Rattle.jsgen_place.specs.Place.{context_of};
 ghost use Rattle.jsgen_nodes.specs.Quotes.{where_it_holds, plain_arguments, plain_target, plain_string};
 
 use crate::PrintNode;
-use crate::assignments::print_assignment_target;
 use crate::collections::key_string;
 use crate::links::Arguments;
 use crate::names::is_named;
+use crate::sets::print_assignment_target;
 use crate::strings::expression_string;
 use jsgen_lists::{PlainQuotes, print_arguments};
 use jsgen_place::{

@@ -1,7 +1,7 @@
 // Generated from tools/nodes/table.txt; edit that and run tools/nodes/generate.
 // A set prints as its member does.
 ghost use Rattle.std.specs.Prelude.{◌≡◌, true, nat_le};
-ghost use Rattle.jsgen_tree.specs.Rows.{expression_plain, declaration_plain, statement_plain, binding_pattern_plain};
+ghost use Rattle.jsgen_tree.specs.Rows.{in_simple_assignment_target, in_assignment_target, in_for_statement_left, expression_plain, declaration_plain, statement_plain, binding_pattern_plain};
 ghost use Rattle.jsgen_model.specs.Printing.{Reaches};
 ghost use Rattle.jsgen_printer.specs.Printer.{pen_of};
 ghost use Rattle.jsgen_nodes.specs.Place.{pen_after};
@@ -43,7 +43,10 @@ use crate::statements::{
 use jsgen_place::Place;
 use jsgen_printer::Printer;
 use jsgen_syntax::Memory;
-use jsgen_tree::{BindingPattern, Declaration, Expression, Statement};
+use jsgen_tree::{
+    AssignmentTarget, BindingPattern, Declaration, Expression, ForStatementLeft,
+    SimpleAssignmentTarget, Statement,
+};
 
 pub fn print_expression<N: PrintNode>(
     node: &Expression<N>,
@@ -244,5 +247,62 @@ pub fn print_binding_pattern(
 {
     match node {
         BindingPattern::BindingIdentifier(node) => print_binding_identifier(node, p, place),
+    }
+}
+
+pub fn print_simple_assignment_target<N: PrintNode>(
+    node: &SimpleAssignmentTarget<N>,
+    p: &mut Printer<'_>,
+    place: Place,
+) -> Result<(), Memory>
+    ensures { Reaches result (pen_of p.old) (pen_of p.new) (pen_after (in_simple_assignment_target N.plain node.now) place p.old) }
+{
+    match node {
+        SimpleAssignmentTarget::IdentifierReference(node) => print_identifier_reference(
+            node, p, place,
+        ),
+        SimpleAssignmentTarget::StaticMemberExpression(node) => print_static_member_expression(
+            node, p, place,
+        ),
+        SimpleAssignmentTarget::ComputedMemberExpression(node) => print_computed_member_expression(
+            node, p, place,
+        ),
+    }
+}
+
+pub fn print_assignment_target<N: PrintNode>(
+    node: &AssignmentTarget<N>,
+    p: &mut Printer<'_>,
+    place: Place,
+) -> Result<(), Memory>
+    ensures { Reaches result (pen_of p.old) (pen_of p.new) (pen_after (in_assignment_target N.plain node.now) place p.old) }
+{
+    match node {
+        AssignmentTarget::IdentifierReference(node) => print_identifier_reference(node, p, place),
+        AssignmentTarget::StaticMemberExpression(node) => print_static_member_expression(
+            node, p, place,
+        ),
+        AssignmentTarget::ComputedMemberExpression(node) => print_computed_member_expression(
+            node, p, place,
+        ),
+    }
+}
+
+pub fn print_for_statement_left<N: PrintNode>(
+    node: &ForStatementLeft<N>,
+    p: &mut Printer<'_>,
+    place: Place,
+) -> Result<(), Memory>
+    ensures { Reaches result (pen_of p.old) (pen_of p.new) (pen_after (in_for_statement_left N.plain node.now) place p.old) }
+{
+    match node {
+        ForStatementLeft::VariableDeclaration(node) => print_variable_declaration(node, p, place),
+        ForStatementLeft::IdentifierReference(node) => print_identifier_reference(node, p, place),
+        ForStatementLeft::StaticMemberExpression(node) => print_static_member_expression(
+            node, p, place,
+        ),
+        ForStatementLeft::ComputedMemberExpression(node) => print_computed_member_expression(
+            node, p, place,
+        ),
     }
 }

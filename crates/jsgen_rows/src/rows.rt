@@ -3,19 +3,19 @@
 ghost use Rattle.std.specs.Prelude.{◌≡◌};
 ghost use Rattle.serde_json.specs.View.{view};
 ghost use Rattle.jsgen_fields.specs.Reads.{Gives, read_typed};
-ghost use Rattle.jsgen_fields.specs.Kept.{entries, row_plain};
+ghost use Rattle.jsgen_pool.specs.Pool.{entries};
 ghost use Rattle.jsgen_fields.specs.Parts.{is_in_statements, is_in_expressions, is_in_collections, is_in_operations, is_in_assignments, is_in_functions, is_in_loops};
 
-use jsgen_assignment_rows::assignments::read_in_assignments;
-use jsgen_choice_rows::choices::read_in_choices;
-use jsgen_collection_rows::collections::read_in_collections;
+use jsgen_expression_rows::assignments::read_in_assignments;
+use jsgen_expression_rows::collections::read_in_collections;
 use jsgen_expression_rows::expressions::read_in_expressions;
+use jsgen_expression_rows::functions::read_in_functions;
+use jsgen_expression_rows::operations::read_in_operations;
 use jsgen_fields::InputFault;
-use jsgen_fields::kept::{ReadNode, Row};
-use jsgen_function_rows::functions::read_in_functions;
-use jsgen_loop_rows::loops::read_in_loops;
-use jsgen_operation_rows::operations::read_in_operations;
+use jsgen_fields::asked::{ReadNode, RowOf};
 use jsgen_pool::Kept;
+use jsgen_statement_rows::choices::read_in_choices;
+use jsgen_statement_rows::loops::read_in_loops;
 use jsgen_statement_rows::statements::read_in_statements;
 use jsgen_syntax::Span;
 use jsgen_tree::NodeType;
@@ -134,37 +134,37 @@ fn is_in_loops(node_type: NodeType) -> bool
 }
 
 /// The row of a type.
-pub fn read_typed<N: ReadNode + Drop>(
+pub fn read_typed<N: ReadNode + Drop, R: RowOf<N> + Drop>(
     alloc: Global,
-    kept: &mut Vec<Kept<Row<N>>>,
+    kept: &mut Vec<Kept<R>>,
     node_type: NodeType,
     number: usize,
     span: Span,
     row: &Value,
-) -> Result<Row<N>, InputFault>
-    ensures { Gives (row_plain N.plain) result (entries N.plain kept.new.items)
-        (read_typed number node_type span (view row.now) (entries N.plain kept.old.items)) }
+) -> Result<R, InputFault>
+    ensures { Gives R.plain result (entries R.plain kept.new.items)
+        (read_typed number node_type span (view row.now) (entries R.plain kept.old.items)) }
 {
     if is_in_statements(node_type) {
-        return read_in_statements(alloc, kept, node_type, number, span, row);
+        return read_in_statements::<N, R>(alloc, kept, node_type, number, span, row);
     }
     if is_in_expressions(node_type) {
-        return read_in_expressions(alloc, kept, node_type, number, span, row);
+        return read_in_expressions::<N, R>(alloc, kept, node_type, number, span, row);
     }
     if is_in_collections(node_type) {
-        return read_in_collections(alloc, kept, node_type, number, span, row);
+        return read_in_collections::<N, R>(alloc, kept, node_type, number, span, row);
     }
     if is_in_operations(node_type) {
-        return read_in_operations(alloc, kept, node_type, number, span, row);
+        return read_in_operations::<N, R>(alloc, kept, node_type, number, span, row);
     }
     if is_in_assignments(node_type) {
-        return read_in_assignments(alloc, kept, node_type, number, span, row);
+        return read_in_assignments::<N, R>(alloc, kept, node_type, number, span, row);
     }
     if is_in_functions(node_type) {
-        return read_in_functions(alloc, kept, node_type, number, span, row);
+        return read_in_functions::<N, R>(alloc, kept, node_type, number, span, row);
     }
     if is_in_loops(node_type) {
-        return read_in_loops(alloc, kept, node_type, number, span, row);
+        return read_in_loops::<N, R>(alloc, kept, node_type, number, span, row);
     }
-    read_in_choices(alloc, kept, node_type, number, span, row)
+    read_in_choices::<N, R>(alloc, kept, node_type, number, span, row)
 }

@@ -5,16 +5,32 @@ ghost use Rattle.jsgen_tree.specs.Plain.{node_plain, program_plain};
 ghost use Rattle.jsgen_fields.specs.Values.{Same, at, rows_listed, rows_in};
 ghost use Rattle.jsgen_fields.specs.Reads.{Gives, root_found, read_row, read_rows, root_of};
 ghost use Rattle.jsgen_fields.specs.Kept.{entry, entries, row_plain};
+ghost use Rattle.jsgen_pool.specs.Pool.{entries as entries_of};
 
 use crate::rows::read_typed;
+use jsgen_fields::asked::{ReadNode, RowOf};
 use jsgen_fields::floats::holds_float;
-use jsgen_fields::kept::{ReadNode, Row};
+use jsgen_fields::kept::Row;
 use jsgen_fields::values::{present, span_of, type_of};
 use jsgen_fields::{At, InputFault};
 use jsgen_pool::Kept;
 use jsgen_tree::Program;
 use serde_json::Value;
 use std::alloc::Global;
+
+fn read_any_row<N: ReadNode + Drop, R: RowOf<N> + Drop>(
+    alloc: Global,
+    kept: &mut Vec<Kept<R>>,
+    number: usize,
+    row: &Value,
+) -> Result<R, InputFault>
+    ensures { Gives R.plain result (entries_of R.plain kept.new.items)
+        (read_row number (view row.now) (entries_of R.plain kept.old.items)) }
+{
+    let node_type = type_of(number, row)?;
+    let span = span_of(number, row)?;
+    read_typed::<N, R>(alloc, kept, node_type, number, span, row)
+}
 
 fn read_row<N: ReadNode + Drop>(
     alloc: Global,
@@ -25,9 +41,7 @@ fn read_row<N: ReadNode + Drop>(
     ensures { Gives (row_plain N.plain) result (entries N.plain kept.new.items)
         (read_row number (view row.now) (entries N.plain kept.old.items)) }
 {
-    let node_type = type_of(number, row)?;
-    let span = span_of(number, row)?;
-    read_typed(alloc, kept, node_type, number, span, row)
+    read_any_row::<N, Row<N>>(alloc, kept, number, row)
 }
 
 pub fn read_rows(alloc: Global, rows: &[Value]) -> Result<Vec<Kept<Row>>, InputFault>

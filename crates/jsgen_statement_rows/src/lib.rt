@@ -1,5 +1,7 @@
 // Generated from tools/nodes/table.txt; edit that and run tools/nodes/generate.
-//! Rows of a job: programs, statements and declarations (ECMA-262, clauses 14 and 16).
+//! Rows of a job, by the files of the table of nodes.
 #![tactic(auto)]
 
+pub mod choices;
+pub mod loops;
 pub mod statements;

@@ -4,13 +4,17 @@ ghost use Rattle.std.specs.Prelude.{◌≡◌, true};
 ghost use Rattle.serde_json.specs.View.{view};
 ghost use Rattle.jsgen_tree.specs.RowFields.{program_fields, comment_fields, directive_fields, variable_declaration_fields, variable_declarator_fields, binding_identifier_fields, expression_statement_fields, block_statement_fields, if_statement_fields, empty_statement_fields};
 ghost use Rattle.jsgen_fields.specs.Reads.{Gives, read_node, read_typed};
-ghost use Rattle.jsgen_fields.specs.Kept.{entries, row_plain};
+ghost use Rattle.jsgen_pool.specs.Pool.{entries};
 ghost use Rattle.jsgen_fields.specs.Parts.{is_in_statements};
 ghost use Rattle.jsgen_tree.specs.declared.types.NodeType.TheVariants as types;
 
 use jsgen_fields::InputFault;
+use jsgen_fields::asked::{ReadNode, RowOf};
 use jsgen_fields::fields::boxed;
-use jsgen_fields::kept::{ReadNode, Row, binding_pattern_row, declaration_row, statement_row};
+use jsgen_fields::kept::{
+    row_of_binding_pattern, row_of_comment, row_of_declaration, row_of_directive, row_of_program,
+    row_of_statement, row_of_variable_declarator,
+};
 use jsgen_fields::others::{OtherDeclaration, OtherStatement};
 use jsgen_fields::set_fields::{
     comment_list, directive_list, needed_binding_pattern, needed_expression, needed_statement,
@@ -34,15 +38,15 @@ use serde_json::Value;
 use std::alloc::Global;
 
 #[tactic(auto, unfolding(jsgen_fields::specs::Reads::read_node))]
-fn read_program<N: ReadNode + Drop>(
+fn read_program<N: ReadNode + Drop, R: RowOf<N> + Drop>(
     alloc: Global,
-    kept: &mut Vec<Kept<Row<N>>>,
+    kept: &mut Vec<Kept<R>>,
     number: usize,
     span: Span,
     row: &Value,
-) -> Result<Row<N>, InputFault>
-    ensures { Gives (row_plain N.plain) result (entries N.plain kept.new.items)
-        (read_node number types.Program program_fields span (view row.now) (entries N.plain kept.old.items)) }
+) -> Result<R, InputFault>
+    ensures { Gives R.plain result (entries R.plain kept.new.items)
+        (read_node number types.Program program_fields span (view row.now) (entries R.plain kept.old.items)) }
 {
     let source = match optional_text(alloc, number, 2, row, "source") {
         Ok(source) => source,
@@ -56,7 +60,7 @@ fn read_program<N: ReadNode + Drop>(
         Ok(()) => {}
         Err(fault) => return Err(fault),
     }
-    let comments = match comment_list(alloc, kept, number, 6, row, "comments") {
+    let comments = match comment_list::<N, R>(alloc, kept, number, 6, row, "comments") {
         Ok(comments) => comments,
         Err(fault) => return Err(fault),
     };
@@ -64,11 +68,11 @@ fn read_program<N: ReadNode + Drop>(
         Ok(()) => {}
         Err(fault) => return Err(fault),
     }
-    let directives = match directive_list(alloc, kept, number, 8, row, "directives") {
+    let directives = match directive_list::<N, R>(alloc, kept, number, 8, row, "directives") {
         Ok(directives) => directives,
         Err(fault) => return Err(fault),
     };
-    let body = match statement_list(alloc, kept, number, 9, row, "body") {
+    let body = match statement_list::<N, R>(alloc, kept, number, 9, row, "body") {
         Ok(body) => body,
         Err(fault) => return Err(fault),
     };
@@ -81,21 +85,21 @@ fn read_program<N: ReadNode + Drop>(
         body,
     };
     match boxed(alloc, node) {
-        Ok(node) => Ok(Row::Program(node)),
+        Ok(node) => Ok(row_of_program::<N, R>(node)),
         Err(fault) => Err(fault),
     }
 }
 
 #[tactic(auto, unfolding(jsgen_fields::specs::Reads::read_node))]
-fn read_comment<N: ReadNode + Drop>(
+fn read_comment<N: ReadNode + Drop, R: RowOf<N> + Drop>(
     alloc: Global,
-    kept: &mut Vec<Kept<Row<N>>>,
+    kept: &mut Vec<Kept<R>>,
     number: usize,
     span: Span,
     row: &Value,
-) -> Result<Row<N>, InputFault>
-    ensures { Gives (row_plain N.plain) result (entries N.plain kept.new.items)
-        (read_node number types.Comment comment_fields span (view row.now) (entries N.plain kept.old.items)) }
+) -> Result<R, InputFault>
+    ensures { Gives R.plain result (entries R.plain kept.new.items)
+        (read_node number types.Comment comment_fields span (view row.now) (entries R.plain kept.old.items)) }
 {
     let _ = kept;
     let kind = match needed_kind_of_comment(number, 2, row, "kind") {
@@ -132,21 +136,21 @@ fn read_comment<N: ReadNode + Drop>(
         followed_by_newline,
     };
     match boxed(alloc, node) {
-        Ok(node) => Ok(Row::Comment(node)),
+        Ok(node) => Ok(row_of_comment::<N, R>(node)),
         Err(fault) => Err(fault),
     }
 }
 
 #[tactic(auto, unfolding(jsgen_fields::specs::Reads::read_node))]
-fn read_directive<N: ReadNode + Drop>(
+fn read_directive<N: ReadNode + Drop, R: RowOf<N> + Drop>(
     alloc: Global,
-    kept: &mut Vec<Kept<Row<N>>>,
+    kept: &mut Vec<Kept<R>>,
     number: usize,
     span: Span,
     row: &Value,
-) -> Result<Row<N>, InputFault>
-    ensures { Gives (row_plain N.plain) result (entries N.plain kept.new.items)
-        (read_node number types.Directive directive_fields span (view row.now) (entries N.plain kept.old.items)) }
+) -> Result<R, InputFault>
+    ensures { Gives R.plain result (entries R.plain kept.new.items)
+        (read_node number types.Directive directive_fields span (view row.now) (entries R.plain kept.old.items)) }
 {
     let _ = kept;
     let directive = match needed_text(alloc, number, 2, row, "directive") {
@@ -155,21 +159,21 @@ fn read_directive<N: ReadNode + Drop>(
     };
     let node = Directive { span, directive };
     match boxed(alloc, node) {
-        Ok(node) => Ok(Row::Directive(node)),
+        Ok(node) => Ok(row_of_directive::<N, R>(node)),
         Err(fault) => Err(fault),
     }
 }
 
 #[tactic(auto, unfolding(jsgen_fields::specs::Reads::read_node))]
-fn read_variable_declaration<N: ReadNode + Drop>(
+fn read_variable_declaration<N: ReadNode + Drop, R: RowOf<N> + Drop>(
     alloc: Global,
-    kept: &mut Vec<Kept<Row<N>>>,
+    kept: &mut Vec<Kept<R>>,
     number: usize,
     span: Span,
     row: &Value,
-) -> Result<Row<N>, InputFault>
-    ensures { Gives (row_plain N.plain) result (entries N.plain kept.new.items)
-        (read_node number types.VariableDeclaration variable_declaration_fields span (view row.now) (entries N.plain kept.old.items)) }
+) -> Result<R, InputFault>
+    ensures { Gives R.plain result (entries R.plain kept.new.items)
+        (read_node number types.VariableDeclaration variable_declaration_fields span (view row.now) (entries R.plain kept.old.items)) }
 {
     let kind = match needed_declaration_kind(number, 2, row, "kind") {
         Ok(kind) => kind,
@@ -179,7 +183,14 @@ fn read_variable_declaration<N: ReadNode + Drop>(
         Ok(()) => {}
         Err(fault) => return Err(fault),
     }
-    let declarations = match variable_declarator_list(alloc, kept, number, 4, row, "declarations") {
+    let declarations = match variable_declarator_list::<N, R>(
+        alloc,
+        kept,
+        number,
+        4,
+        row,
+        "declarations",
+    ) {
         Ok(declarations) => declarations,
         Err(fault) => return Err(fault),
     };
@@ -189,7 +200,7 @@ fn read_variable_declaration<N: ReadNode + Drop>(
         declarations,
     };
     match boxed(alloc, node) {
-        Ok(node) => declaration_row(
+        Ok(node) => row_of_declaration::<N, R>(
             alloc,
             OtherDeclaration {
                 declaration: Declaration::VariableDeclaration(node),
@@ -200,17 +211,17 @@ fn read_variable_declaration<N: ReadNode + Drop>(
 }
 
 #[tactic(auto, unfolding(jsgen_fields::specs::Reads::read_node))]
-fn read_variable_declarator<N: ReadNode + Drop>(
+fn read_variable_declarator<N: ReadNode + Drop, R: RowOf<N> + Drop>(
     alloc: Global,
-    kept: &mut Vec<Kept<Row<N>>>,
+    kept: &mut Vec<Kept<R>>,
     number: usize,
     span: Span,
     row: &Value,
-) -> Result<Row<N>, InputFault>
-    ensures { Gives (row_plain N.plain) result (entries N.plain kept.new.items)
-        (read_node number types.VariableDeclarator variable_declarator_fields span (view row.now) (entries N.plain kept.old.items)) }
+) -> Result<R, InputFault>
+    ensures { Gives R.plain result (entries R.plain kept.new.items)
+        (read_node number types.VariableDeclarator variable_declarator_fields span (view row.now) (entries R.plain kept.old.items)) }
 {
-    let id = match needed_binding_pattern(alloc, kept, number, 2, row, "id") {
+    let id = match needed_binding_pattern::<N, R>(alloc, kept, number, 2, row, "id") {
         Ok(id) => id,
         Err(fault) => return Err(fault),
     };
@@ -218,27 +229,27 @@ fn read_variable_declarator<N: ReadNode + Drop>(
         Ok(()) => {}
         Err(fault) => return Err(fault),
     }
-    let init = match optional_expression(alloc, kept, number, 5, row, "init") {
+    let init = match optional_expression::<N, R>(alloc, kept, number, 5, row, "init") {
         Ok(init) => init,
         Err(fault) => return Err(fault),
     };
     let node = VariableDeclarator { span, id, init };
     match boxed(alloc, node) {
-        Ok(node) => Ok(Row::VariableDeclarator(node)),
+        Ok(node) => Ok(row_of_variable_declarator::<N, R>(node)),
         Err(fault) => Err(fault),
     }
 }
 
 #[tactic(auto, unfolding(jsgen_fields::specs::Reads::read_node))]
-fn read_binding_identifier<N: ReadNode + Drop>(
+fn read_binding_identifier<N: ReadNode + Drop, R: RowOf<N> + Drop>(
     alloc: Global,
-    kept: &mut Vec<Kept<Row<N>>>,
+    kept: &mut Vec<Kept<R>>,
     number: usize,
     span: Span,
     row: &Value,
-) -> Result<Row<N>, InputFault>
-    ensures { Gives (row_plain N.plain) result (entries N.plain kept.new.items)
-        (read_node number types.BindingIdentifier binding_identifier_fields span (view row.now) (entries N.plain kept.old.items)) }
+) -> Result<R, InputFault>
+    ensures { Gives R.plain result (entries R.plain kept.new.items)
+        (read_node number types.BindingIdentifier binding_identifier_fields span (view row.now) (entries R.plain kept.old.items)) }
 {
     let _ = kept;
     let name = match needed_text(alloc, number, 2, row, "name") {
@@ -251,29 +262,29 @@ fn read_binding_identifier<N: ReadNode + Drop>(
     };
     let node = BindingIdentifier { span, name, symbol };
     match boxed(alloc, node) {
-        Ok(node) => binding_pattern_row(alloc, BindingPattern::BindingIdentifier(node)),
+        Ok(node) => row_of_binding_pattern::<N, R>(alloc, BindingPattern::BindingIdentifier(node)),
         Err(fault) => Err(fault),
     }
 }
 
 #[tactic(auto, unfolding(jsgen_fields::specs::Reads::read_node))]
-fn read_expression_statement<N: ReadNode + Drop>(
+fn read_expression_statement<N: ReadNode + Drop, R: RowOf<N> + Drop>(
     alloc: Global,
-    kept: &mut Vec<Kept<Row<N>>>,
+    kept: &mut Vec<Kept<R>>,
     number: usize,
     span: Span,
     row: &Value,
-) -> Result<Row<N>, InputFault>
-    ensures { Gives (row_plain N.plain) result (entries N.plain kept.new.items)
-        (read_node number types.ExpressionStatement expression_statement_fields span (view row.now) (entries N.plain kept.old.items)) }
+) -> Result<R, InputFault>
+    ensures { Gives R.plain result (entries R.plain kept.new.items)
+        (read_node number types.ExpressionStatement expression_statement_fields span (view row.now) (entries R.plain kept.old.items)) }
 {
-    let expression = match needed_expression(alloc, kept, number, 2, row, "expression") {
+    let expression = match needed_expression::<N, R>(alloc, kept, number, 2, row, "expression") {
         Ok(expression) => expression,
         Err(fault) => return Err(fault),
     };
     let node = ExpressionStatement { span, expression };
     match boxed(alloc, node) {
-        Ok(node) => statement_row(
+        Ok(node) => row_of_statement::<N, R>(
             alloc,
             OtherStatement {
                 statement: Statement::ExpressionStatement(node),
@@ -284,23 +295,23 @@ fn read_expression_statement<N: ReadNode + Drop>(
 }
 
 #[tactic(auto, unfolding(jsgen_fields::specs::Reads::read_node))]
-fn read_block_statement<N: ReadNode + Drop>(
+fn read_block_statement<N: ReadNode + Drop, R: RowOf<N> + Drop>(
     alloc: Global,
-    kept: &mut Vec<Kept<Row<N>>>,
+    kept: &mut Vec<Kept<R>>,
     number: usize,
     span: Span,
     row: &Value,
-) -> Result<Row<N>, InputFault>
-    ensures { Gives (row_plain N.plain) result (entries N.plain kept.new.items)
-        (read_node number types.BlockStatement block_statement_fields span (view row.now) (entries N.plain kept.old.items)) }
+) -> Result<R, InputFault>
+    ensures { Gives R.plain result (entries R.plain kept.new.items)
+        (read_node number types.BlockStatement block_statement_fields span (view row.now) (entries R.plain kept.old.items)) }
 {
-    let body = match statement_list(alloc, kept, number, 2, row, "body") {
+    let body = match statement_list::<N, R>(alloc, kept, number, 2, row, "body") {
         Ok(body) => body,
         Err(fault) => return Err(fault),
     };
     let node = BlockStatement { span, body };
     match boxed(alloc, node) {
-        Ok(node) => statement_row(
+        Ok(node) => row_of_statement::<N, R>(
             alloc,
             OtherStatement {
                 statement: Statement::BlockStatement(node),
@@ -311,25 +322,25 @@ fn read_block_statement<N: ReadNode + Drop>(
 }
 
 #[tactic(auto, unfolding(jsgen_fields::specs::Reads::read_node))]
-fn read_if_statement<N: ReadNode + Drop>(
+fn read_if_statement<N: ReadNode + Drop, R: RowOf<N> + Drop>(
     alloc: Global,
-    kept: &mut Vec<Kept<Row<N>>>,
+    kept: &mut Vec<Kept<R>>,
     number: usize,
     span: Span,
     row: &Value,
-) -> Result<Row<N>, InputFault>
-    ensures { Gives (row_plain N.plain) result (entries N.plain kept.new.items)
-        (read_node number types.IfStatement if_statement_fields span (view row.now) (entries N.plain kept.old.items)) }
+) -> Result<R, InputFault>
+    ensures { Gives R.plain result (entries R.plain kept.new.items)
+        (read_node number types.IfStatement if_statement_fields span (view row.now) (entries R.plain kept.old.items)) }
 {
-    let test = match needed_expression(alloc, kept, number, 2, row, "test") {
+    let test = match needed_expression::<N, R>(alloc, kept, number, 2, row, "test") {
         Ok(test) => test,
         Err(fault) => return Err(fault),
     };
-    let consequent = match needed_statement(alloc, kept, number, 3, row, "consequent") {
+    let consequent = match needed_statement::<N, R>(alloc, kept, number, 3, row, "consequent") {
         Ok(consequent) => consequent,
         Err(fault) => return Err(fault),
     };
-    let alternate = match optional_statement(alloc, kept, number, 4, row, "alternate") {
+    let alternate = match optional_statement::<N, R>(alloc, kept, number, 4, row, "alternate") {
         Ok(alternate) => alternate,
         Err(fault) => return Err(fault),
     };
@@ -340,7 +351,7 @@ fn read_if_statement<N: ReadNode + Drop>(
         alternate,
     };
     match boxed(alloc, node) {
-        Ok(node) => statement_row(
+        Ok(node) => row_of_statement::<N, R>(
             alloc,
             OtherStatement {
                 statement: Statement::IfStatement(node),
@@ -351,22 +362,22 @@ fn read_if_statement<N: ReadNode + Drop>(
 }
 
 #[tactic(auto, unfolding(jsgen_fields::specs::Reads::read_node))]
-fn read_empty_statement<N: ReadNode + Drop>(
+fn read_empty_statement<N: ReadNode + Drop, R: RowOf<N> + Drop>(
     alloc: Global,
-    kept: &mut Vec<Kept<Row<N>>>,
+    kept: &mut Vec<Kept<R>>,
     number: usize,
     span: Span,
     row: &Value,
-) -> Result<Row<N>, InputFault>
-    ensures { Gives (row_plain N.plain) result (entries N.plain kept.new.items)
-        (read_node number types.EmptyStatement empty_statement_fields span (view row.now) (entries N.plain kept.old.items)) }
+) -> Result<R, InputFault>
+    ensures { Gives R.plain result (entries R.plain kept.new.items)
+        (read_node number types.EmptyStatement empty_statement_fields span (view row.now) (entries R.plain kept.old.items)) }
 {
     let _ = kept;
     let _ = number;
     let _ = row;
     let node = EmptyStatement { span };
     match boxed(alloc, node) {
-        Ok(node) => statement_row(
+        Ok(node) => row_of_statement::<N, R>(
             alloc,
             OtherStatement {
                 statement: Statement::EmptyStatement(node),
@@ -377,29 +388,37 @@ fn read_empty_statement<N: ReadNode + Drop>(
 }
 
 /// The row of a type of this part.
-pub fn read_in_statements<N: ReadNode + Drop>(
+pub fn read_in_statements<N: ReadNode + Drop, R: RowOf<N> + Drop>(
     alloc: Global,
-    kept: &mut Vec<Kept<Row<N>>>,
+    kept: &mut Vec<Kept<R>>,
     node_type: NodeType,
     number: usize,
     span: Span,
     row: &Value,
-) -> Result<Row<N>, InputFault>
+) -> Result<R, InputFault>
     requires { is_in_statements node_type ≡ true }
-    ensures { Gives (row_plain N.plain) result (entries N.plain kept.new.items)
-        (read_typed number node_type span (view row.now) (entries N.plain kept.old.items)) }
+    ensures { Gives R.plain result (entries R.plain kept.new.items)
+        (read_typed number node_type span (view row.now) (entries R.plain kept.old.items)) }
 {
     match node_type {
-        NodeType::Program => read_program(alloc, kept, number, span, row),
-        NodeType::Comment => read_comment(alloc, kept, number, span, row),
-        NodeType::Directive => read_directive(alloc, kept, number, span, row),
-        NodeType::VariableDeclaration => read_variable_declaration(alloc, kept, number, span, row),
-        NodeType::VariableDeclarator => read_variable_declarator(alloc, kept, number, span, row),
-        NodeType::BindingIdentifier => read_binding_identifier(alloc, kept, number, span, row),
-        NodeType::ExpressionStatement => read_expression_statement(alloc, kept, number, span, row),
-        NodeType::BlockStatement => read_block_statement(alloc, kept, number, span, row),
-        NodeType::IfStatement => read_if_statement(alloc, kept, number, span, row),
-        NodeType::EmptyStatement => read_empty_statement(alloc, kept, number, span, row),
+        NodeType::Program => read_program::<N, R>(alloc, kept, number, span, row),
+        NodeType::Comment => read_comment::<N, R>(alloc, kept, number, span, row),
+        NodeType::Directive => read_directive::<N, R>(alloc, kept, number, span, row),
+        NodeType::VariableDeclaration => read_variable_declaration::<N, R>(
+            alloc, kept, number, span, row,
+        ),
+        NodeType::VariableDeclarator => read_variable_declarator::<N, R>(
+            alloc, kept, number, span, row,
+        ),
+        NodeType::BindingIdentifier => read_binding_identifier::<N, R>(
+            alloc, kept, number, span, row,
+        ),
+        NodeType::ExpressionStatement => read_expression_statement::<N, R>(
+            alloc, kept, number, span, row,
+        ),
+        NodeType::BlockStatement => read_block_statement::<N, R>(alloc, kept, number, span, row),
+        NodeType::IfStatement => read_if_statement::<N, R>(alloc, kept, number, span, row),
+        NodeType::EmptyStatement => read_empty_statement::<N, R>(alloc, kept, number, span, row),
         _ => unreachable!(),
     }
 }

@@ -6,7 +6,6 @@ ghost use Rattle.jsgen_tree.specs.declared.nodes.Node.TheVariants as nodes;
 use crate::sets::{BindingPattern, Declaration, Expression, Statement};
 
 /// A node at a place where trees nest. It has a variant for each set that children nest through.
-#[derive(Drop)]
 pub enum Node {
     Expression(Expression),
     Declaration(Declaration),
@@ -36,6 +35,27 @@ pub struct StatementNode<N = Node> {
 #[derive(Drop)]
 pub struct BindingPatternNode<N = Node> {
     node: N,
+}
+
+// Written out, so that it is proved here alone: a derived one is proved again, for all types, in each crate that lets go of a tree.
+impl Drop for Node {
+    #[cycle(node)]
+    fn drop(self) {
+        match self {
+            Node::Expression(member) => {
+                let _ = member;
+            }
+            Node::Declaration(member) => {
+                let _ = member;
+            }
+            Node::Statement(member) => {
+                let _ = member;
+            }
+            Node::BindingPattern(member) => {
+                let _ = member;
+            }
+        }
+    }
 }
 
 impl From<Expression> for ExpressionNode {

@@ -15,31 +15,6 @@ use std::alloc::Global;
 // What is built stands in no source.
 const NOWHERE: Span = Span { start: 0, end: 0 };
 
-/// A name that is looked up.
-pub fn reference(alloc: Global, name: &str) -> Result<Expression, Memory>
-    ensures { IfOk result (λ built. expression_plain node_plain built ≡ reference (chars name.now)) }
-{
-    let name = String::from_str(alloc, name)?;
-    let node = IdentifierReference {
-        span: NOWHERE,
-        name,
-        reference: None,
-    };
-    Ok(Expression::IdentifierReference(Box::new(alloc, node)?))
-}
-
-/// A string of this text.
-pub fn string(alloc: Global, text: &str) -> Result<Expression, Memory>
-    ensures { IfOk result (λ built. expression_plain node_plain built ≡ string (chars text.now)) }
-{
-    let value = JsStr::from_text(alloc, text)?;
-    let node = StringLiteral {
-        span: NOWHERE,
-        value,
-    };
-    Ok(Expression::StringLiteral(Box::new(alloc, node)?))
-}
-
 #[tactic(auto, using(jsgen_tree::proofs::Knot::plain_expression))]
 fn nested(expression: Expression) -> ExpressionNode
     ensures { in_expression node_plain result ≡ expression_plain node_plain expression }
@@ -47,10 +22,35 @@ fn nested(expression: Expression) -> ExpressionNode
     expression.into()
 }
 
+/// A name that is looked up.
+pub fn reference(alloc: Global, name: &str) -> Result<ExpressionNode, Memory>
+    ensures { IfOk result (λ built. in_expression node_plain built ≡ reference (chars name.now)) }
+{
+    let name = String::from_str(alloc, name)?;
+    let node = IdentifierReference {
+        span: NOWHERE,
+        name,
+        reference: None,
+    };
+    Ok(nested(Expression::IdentifierReference(Box::new(alloc, node)?)))
+}
+
+/// A string of this text.
+pub fn string(alloc: Global, text: &str) -> Result<ExpressionNode, Memory>
+    ensures { IfOk result (λ built. in_expression node_plain built ≡ string (chars text.now)) }
+{
+    let value = JsStr::from_text(alloc, text)?;
+    let node = StringLiteral {
+        span: NOWHERE,
+        value,
+    };
+    Ok(nested(Expression::StringLiteral(Box::new(alloc, node)?)))
+}
+
 /// A member by its name.
-pub fn member(alloc: Global, object: Expression, name: &str) -> Result<Expression, Memory>
-    ensures { IfOk result (λ built. expression_plain node_plain built
-        ≡ member (expression_plain node_plain object) (chars name.now)) }
+pub fn member(alloc: Global, object: ExpressionNode, name: &str) -> Result<ExpressionNode, Memory>
+    ensures { IfOk result (λ built. in_expression node_plain built
+        ≡ member (in_expression node_plain object) (chars name.now)) }
 {
     let name = String::from_str(alloc, name)?;
     let property = IdentifierName {
@@ -59,40 +59,40 @@ pub fn member(alloc: Global, object: Expression, name: &str) -> Result<Expressio
     };
     let node = StaticMemberExpression {
         span: NOWHERE,
-        object: nested(object),
+        object,
         optional: false,
         property: Box::new(alloc, property)?,
     };
-    Ok(Expression::StaticMemberExpression(Box::new(alloc, node)?))
+    Ok(nested(Expression::StaticMemberExpression(Box::new(alloc, node)?)))
 }
 
-fn argument(alloc: Global, value: Expression) -> Result<Argument, Memory>
-    ensures { IfOk result (λ built. in_argument node_plain built ≡ expression_plain node_plain value) }
+fn argument(alloc: Global, value: ExpressionNode) -> Result<Argument, Memory>
+    ensures { IfOk result (λ built. in_argument node_plain built ≡ in_expression node_plain value) }
 {
-    Ok(Argument::Expression(Box::new(alloc, nested(value))?))
+    Ok(Argument::Expression(Box::new(alloc, value)?))
 }
 
 /// A call with two arguments.
 pub fn call(
     alloc: Global,
-    callee: Expression,
-    first: Expression,
-    second: Expression,
-) -> Result<Expression, Memory>
-    ensures { IfOk result (λ built. expression_plain node_plain built
-        ≡ call (expression_plain node_plain callee) (expression_plain node_plain first ∷ expression_plain node_plain second ∷ [])) }
+    callee: ExpressionNode,
+    first: ExpressionNode,
+    second: ExpressionNode,
+) -> Result<ExpressionNode, Memory>
+    ensures { IfOk result (λ built. in_expression node_plain built
+        ≡ call (in_expression node_plain callee) (in_expression node_plain first ∷ in_expression node_plain second ∷ [])) }
 {
     let mut arguments = Vec::new(alloc);
     arguments.push(argument(alloc, first)?)?;
     arguments.push(argument(alloc, second)?)?;
     let node = CallExpression {
         span: NOWHERE,
-        callee: nested(callee),
+        callee,
         arguments,
         optional: false,
         pure: false,
     };
-    Ok(Expression::CallExpression(Box::new(alloc, node)?))
+    Ok(nested(Expression::CallExpression(Box::new(alloc, node)?)))
 }
 
 #[tactic(auto, using(jsgen_tree::proofs::Knot::plain_statement))]
@@ -103,12 +103,12 @@ fn nested_statement(statement: Statement) -> StatementNode
 }
 
 /// A statement, for what the expression does.
-pub fn statement(alloc: Global, expression: Expression) -> Result<StatementNode, Memory>
-    ensures { IfOk result (λ built. in_statement node_plain built ≡ statement (expression_plain node_plain expression)) }
+pub fn statement(alloc: Global, expression: ExpressionNode) -> Result<StatementNode, Memory>
+    ensures { IfOk result (λ built. in_statement node_plain built ≡ statement (in_expression node_plain expression)) }
 {
     let node = ExpressionStatement {
         span: NOWHERE,
-        expression: nested(expression),
+        expression,
     };
     Ok(nested_statement(Statement::ExpressionStatement(Box::new(alloc, node)?)))
 }

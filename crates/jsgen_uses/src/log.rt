@@ -3,12 +3,12 @@ ghost use Rattle.std.specs.Prelude.{◌≡◌, true, false, IfOk, OnOk, IsErrOf,
 ghost use Rattle.std.specs.Str.{chars};
 ghost use Rattle.jsgen_syntax.specs.Name.{is_free_name};
 ghost use Rattle.jsgen_tree.specs.Plain.{node_plain, program_plain};
-ghost use Rattle.jsgen_tree.specs.Rows.{expression_plain};
+ghost use Rattle.jsgen_tree.specs.Rows.{in_expression};
 ghost use Rattle.jsgen_uses.specs.declared.log.LogError.TheVariants as errors;
 ghost use Rattle.jsgen_uses.specs.Log.{console_log, log_call, log_program, ReadsAsLogCall};
 
 use crate::build::{call, member, only, reference, statement, string};
-use jsgen::tree::{Expression, Program};
+use jsgen::tree::{ExpressionNode, Program};
 use jsgen::{Codegen, CodegenError, Memory, programs_are_plain};
 use std::alloc::Global;
 use thiserror::Error;
@@ -38,14 +38,14 @@ impl From<CodegenError> for LogError {
     }
 }
 
-fn console_log(alloc: Global) -> Result<Expression, Memory>
-    ensures { IfOk result (λ built. expression_plain node_plain built ≡ console_log) }
+fn console_log(alloc: Global) -> Result<ExpressionNode, Memory>
+    ensures { IfOk result (λ built. in_expression node_plain built ≡ console_log) }
 {
     member(alloc, reference(alloc, "console")?, "log")
 }
 
-fn log_call(alloc: Global, message: &str, name: &str) -> Result<Expression, Memory>
-    ensures { IfOk result (λ built. expression_plain node_plain built ≡ log_call (chars message.now) (chars name.now)) }
+fn log_call(alloc: Global, message: &str, name: &str) -> Result<ExpressionNode, Memory>
+    ensures { IfOk result (λ built. in_expression node_plain built ≡ log_call (chars message.now) (chars name.now)) }
 {
     let callee = console_log(alloc)?;
     let message = string(alloc, message)?;

@@ -2,7 +2,7 @@
 level, which is said by its name; and the answers of statements that have children, which a search finds too late."""
 
 import layout
-from files.nodes_sets import CRATE, printed, print_functions
+from files.nodes_sets import CRATE, chosen, printed, print_functions
 from files.rows_functions import parts as parts_of_rows
 from names import row_names
 from table import snake
@@ -62,7 +62,7 @@ def of_file(table, types):
     ghosts = [("Rattle.std.specs.Prelude", ["◌≡◌"])] + row_names(table)
     ghosts += [("Rattle.jsgen_model.specs.Spell", ["spell", "key_text"]),
                ("Rattle.jsgen_nodes.specs.Alone", ["parameter_parts"] + list(PLACES))]
-    homes = print_functions() + [("crate::sets", [f"print_{snake(s.name)}" for s in table.nesting()]),
+    homes = print_functions() + [("crate::sets", [f"print_{snake(s.name)}" for s in table.nesting() + chosen(table)]),
                                  ("crate", ["PrintAlone", "PrintAtLevel", "PrintNode"]),
                                  ("jsgen_place", ["Context", "Place", "Settings"]), ("jsgen_printer", ["Printer"]),
                                  ("jsgen_syntax", ["Memory", "Precedence"]), ("jsgen_tree", list(table.nodes) + list(table.sets))]
@@ -72,8 +72,8 @@ def of_file(table, types):
 
 def head(table, trait, name):
     parameter = "<N: PrintNode>" if table.generic(name) else ""
-    return f"""#[tactic(auto, unfolding(crate::specs::Place::pen_after))]
-impl{parameter} {trait} for {name}{'<N>' if parameter else ''}"""
+    unfolding = "" if trait == "PrintAtLevel" else "#[tactic(auto, unfolding(crate::specs::Place::pen_after))]\n"
+    return f"{unfolding}impl{parameter} {trait} for {name}{'<N>' if parameter else ''}"
 
 
 def plain(table, name):
@@ -117,7 +117,7 @@ def body(table, name, at):
         return "print_program(self, p, settings)"
     if name == "PropertyKey":
         return f"print_key_text(self, p, {at})"
-    if name in table.nodes or table.sets[name].nests:
+    if name in table.nodes or table.sets[name].nests or table.sets[name] in chosen(table):
         return f"print_{snake(name)}(self, p, {at})"
     arms = "".join(f"            {name}::{m}(node) => {printed(table, m)},\n" for m in table.sets[name].members)
     binding = "" if at == "place" else f"let place = {at};\n        "

@@ -1,4 +1,5 @@
-"""The crate of print functions: src/sets.rt, where a set prints as its member does; and, of a set whose members stand in several
+"""The crate of print functions: src/sets.rt, where a set prints as its member does (a set of two that doesn't nest is chosen from where
+it is printed); and, of a set whose members stand in several
 files of the table, specs/Parts.antt and proofs/Parts.antt: in which part of the choice each member is, and their answers."""
 
 import re
@@ -11,6 +12,9 @@ from table import snake
 
 CRATE = REPOSITORY / "crates" / "jsgen_nodes"
 SPECS = "Rattle.jsgen_nodes.specs.Parts"
+
+# The sets that print otherwise than their members do elsewhere.
+OF_THEIR_OWN = ("PropertyKey", "ChainElement")
 PROOFS = "Rattle.jsgen_nodes.proofs"
 
 
@@ -19,8 +23,9 @@ def write(table):
     ghosts += [("Rattle.jsgen_model.specs.Printing", ["Reaches"]), ("Rattle.jsgen_printer.specs.Printer", ["pen_of"]),
                ("Rattle.jsgen_nodes.specs.Place", ["pen_after"]), (SPECS, [f"{snake(s.name)}_part" for s in divided(table)])]
     homes = print_functions() + [("crate", ["PrintNode"]), ("jsgen_place", ["Place"]), ("jsgen_printer", ["Printer"]),
-                                 ("jsgen_syntax", ["Memory"]), ("jsgen_tree", [s.name for s in table.nesting()])]
-    body = "\n\n".join(function(table, s, at) for s in table.nesting() for at in range(len(parts(table, s))))
+                                 ("jsgen_syntax", ["Memory"]), ("jsgen_tree", list(table.sets))]
+    functions = [function(table, s, at) for s in table.nesting() for at in range(len(parts(table, s)))]
+    body = "\n\n".join(functions + [choice(table, s) for s in chosen(table)])
     files = {"crates/jsgen_nodes/src/sets.rt": layout.rust("A set prints as its member does.", ghosts, [], homes, body)}
     if divided(table):
         files |= {"crates/jsgen_nodes/specs/Parts.antt": specs(table), "crates/jsgen_nodes/proofs/Parts.antt": proofs(table)}
@@ -72,6 +77,25 @@ def function(table, s, at):
     place: Place,
 ) -> Result<(), Memory>
 {requires}    ensures {{ Reaches result (pen_of p.old) (pen_of p.new) (pen_after ({plain_of(table, s)} node.now) place p.old) }}
+{{
+    match node {{
+{arms}    }}
+}}"""
+
+
+def chosen(table):
+    """The sets that don't nest of more than two types, each of which prints as it does elsewhere."""
+    return [s for s in table.sets.values() if not s.nests and len(s.members) > 2 and s.name not in OF_THEIR_OWN]
+
+
+def choice(table, s):
+    arms = "".join(f"        {s.name}::{m}(node) => {printed(table, m)},\n" for m in s.members)
+    return f"""pub fn print_{snake(s.name)}<N: PrintNode>(
+    node: &{s.name}<N>,
+    p: &mut Printer<'_>,
+    place: Place,
+) -> Result<(), Memory>
+    ensures {{ Reaches result (pen_of p.old) (pen_of p.new) (pen_after (in_{snake(s.name)} N.plain node.now) place p.old) }}
 {{
     match node {{
 {arms}    }}

@@ -3,14 +3,14 @@
 import re
 
 import layout
-from files.rows_functions import by_hand, calls, crate_of, parts
+from files.rows_functions import by_hand, calls, parts
 from files.rows_kept import set_of
 from names import READER, row_names
 from table import snake
 
 
 def write(table):
-    return {f"crates/{crate_of(part, file)}/proofs/{part}/read_{snake(n.name)}/Answers.antt": answers(table, part, file, n)
+    return {f"crates/{table.row_crates[file]}/proofs/{part}/read_{snake(n.name)}/Answers.antt": answers(table, part, file, n)
             for part, file, nodes in parts(table) for n in nodes if not by_hand(n) and n.fields}
 
 
@@ -24,8 +24,8 @@ def suffixes(names):
 
 
 def answers(table, part, file, n):
-    function = f"Rattle.{crate_of(part, file)}.proofs.{part}.read_{snake(n.name)}"
-    every = [call for _, call in calls(table, n)]
+    function = f"Rattle.{table.row_crates[file]}.proofs.{part}.read_{snake(n.name)}"
+    every = [call.replace("::<N, R>", "") for _, call in calls(table, n)]
     each, read = [], []
     for call, end in zip(every, suffixes([call.split("(")[0] for call in every])):
         if call.startswith("neither_given"):    # the proof that one of two fields is refused is searched for
@@ -36,7 +36,7 @@ def answers(table, part, file, n):
     each.append(answer("returns-in-Ok-boxed", f"rw ({', '.join(read)}) ({last(table, n)})"))
     homes = [("Rattle.std.specs.Prelude", ["codes"]), ("Rattle.serde_json.specs.View", ["view"]),
              (f"{READER}.specs.Reads", ["read_node"]), (f"{READER}.specs.Values", ["at", "field", "not_given"])]
-    homes += [(f"{READER}.proofs.Gives", ["first_of_two", "second_of_two", "gives_row", "gives_held"])] + row_names(table)
+    homes += [(f"{READER}.proofs.Gives", ["first_of_two", "second_of_two", "gives_row", "gives_node"])] + row_names(table)
     return layout.antt("What each call ensures, one after another.", homes, [(f"{function}.Goals", "goal")], "\n\n".join(each))
 
 
@@ -56,5 +56,5 @@ def last(table, n):
     s, row = set_of(table, n.name), n.row
     row = f"({row} g.N.ReadNode.plain)" if table.generic(n.name) else row
     if not s:
-        return f"gives_held _ {row} _ _ c.in-Ok-boxed.ensures"
-    return f"gives_row _ _ _ {row} _ _ c.in-Ok-boxed.ensures c.{snake(s.name)}_row.ensures"
+        return f"gives_node g.R.Typed.plain c.row_of_{snake(n.name)}.result _ {row} _ _ c.in-Ok-boxed.ensures c.row_of_{snake(n.name)}.ensures"
+    return f"gives_row _ _ _ {row} _ _ c.in-Ok-boxed.ensures c.row_of_{snake(s.name)}.ensures"

@@ -1,7 +1,8 @@
-"""The reader's src/child_sets.rt and src/members.rt: what is made of a row at a place for children of each set; and src/set_fields.rt: the
-readers of fields that hold them."""
+"""The reader's src/child_sets.rt, src/members.rt and the functions of src/kept.rt and src/asked.rt: what is made of a row at a place for
+children of each set; and src/set_fields.rt: the readers of fields that hold them."""
 
 import layout
+from files import rows_kept
 from files.rows_kept import groups, held, inner, kept, large, outer, own, parameter, plain_of_set
 from files.rows_sets import rules_of
 from names import READER, SPECS, TYPES, plain_of, row_names
@@ -13,7 +14,8 @@ CHILD = """ensures {{ IfOk result (λ child. option_map {plain} child
 
 def write(table):
     return {"crates/jsgen_fields/src/child_sets.rt": impls(table), "crates/jsgen_fields/src/members.rt": members(table),
-            "crates/jsgen_fields/src/set_fields.rt": readers(table)}
+            "crates/jsgen_fields/src/set_fields.rt": readers(table), "crates/jsgen_fields/src/kept.rt": rows(table),
+            "crates/jsgen_fields/src/asked.rt": asked(table)}
 
 
 def places(table):
@@ -49,13 +51,16 @@ def plain_at(table, name, boxed, child):
 PRELUDE = ["◌≡◌", "IfOk", "Some", "None", "option_map", "if◌then◌else◌"]
 
 
+def ghosts_of(table):
+    return [("Rattle.std.specs.Prelude", PRELUDE), (f"{SPECS}.Tree", ["type_of"]), (f"{SPECS}.Sets", ["in_set"])] \
+        + row_names(table) + [(f"{READER}.specs.Kept", ["row_plain"])]
+
+
 def file_of(table, about, homes, body):
-    ghosts = [("Rattle.std.specs.Prelude", PRELUDE), (f"{SPECS}.Tree", ["type_of"]), (f"{SPECS}.Sets", ["in_set"])]
-    ghosts += row_names(table) + [(f"{READER}.specs.Kept", ["row_plain"])]
     tree = list(table.nodes) + list(table.sets) + [s.name + "Node" for s in table.nesting()] + ["NodeSet"]
-    homes = homes + [("crate::kept", ["ReadNode", "Row"]), ("crate::others", [kept(table, s) for s in outer(table)]),
-                     ("jsgen_tree", tree), ("std::alloc", ["AllocError", "Global"])]
-    return layout.rust(about, ghosts, TYPES, homes, body)
+    homes = homes + [("crate::asked", ["Child", "ReadNode"]), ("crate::kept", ["Row"]), ("crate::others", [kept(table, s) for s in outer(table)]), ("jsgen_tree", tree),
+                     ("std::alloc", ["AllocError", "Global"])]
+    return layout.rust(about, ghosts_of(table), TYPES, homes, body)
 
 
 def members_within(table):
@@ -65,11 +70,18 @@ def members_within(table):
 
 def impls(table):
     body = "\n\n".join(impl(table, name, boxed) for name, boxed in places(table))
+    about = "What is made of a row where it is a child: a member of the set that the place is for."
+    return file_of(table, about, [], body)
+
+
+def rows(table):
     functions = [within(name, g) for name, g in members_within(table)]
     functions += [part(name, g, boxed) for name, boxed in places(table) for g in large(table) if has_part(table, name, g)]
-    homes = [("crate::children", ["Child"]), ("crate::members", functions)]
-    about = "What is made of a row where it is a child: a member of the set that the place is for."
-    return file_of(table, about, homes, body)
+    return rows_kept.rust(table, ghosts_of(table), functions, "\n".join(taken_apart(table, name, boxed) for name, boxed in places(table)))
+
+
+def asked(table):
+    return rows_kept.asked(table, ghosts_of(table))
 
 
 def members(table):
@@ -80,10 +92,26 @@ def members(table):
     return file_of(table, "The members of sets that are made of a member of another.", [], "\n\n".join(bodies))
 
 
-def impl(table, name, boxed):
-    of, plain = child_type(table, name, boxed), child_plain(table, name, boxed)
+def contract(table, name, boxed, row):
+    return CHILD.format(plain=child_plain(table, name, boxed), set=name, row=f"(row_plain N.plain {row})")
+
+
+def taken_apart(table, name, boxed):
     arms = made(table, name, boxed)
     unused = "" if "alloc" in arms else "        let _ = alloc;\n"
+    return f"""    #[tactic(auto, using(crate::proofs::Sets::{rules_of(table, name)}))]
+    pub fn into_{snake(name)}(self, alloc: Global) -> Result<Option<{child_type(table, name, boxed)}>, AllocError>
+        {contract(table, name, boxed, "self")}
+    {{
+{unused}        match self {{
+{arms}            _ => Ok(None),
+        }}
+    }}
+"""
+
+
+def impl(table, name, boxed):
+    of = child_type(table, name, boxed)
     return f"""impl<N: ReadNode + Drop> Child<N> for {of} {{
     ghost plain = {{ λ n. {plain_at(table, name, boxed, "n")} }};
 
@@ -93,13 +121,10 @@ def impl(table, name, boxed):
         NodeSet::{name}
     }}
 
-    #[tactic(auto, using(crate::proofs::Sets::{rules_of(table, name)}))]
     fn from_row(alloc: Global, row: Row<N>) -> Result<Option<{of}>, AllocError>
-        {CHILD.format(plain=plain, set=name, row="(row_plain N.plain row)")}
+        {contract(table, name, boxed, "row")}
     {{
-{unused}        match row {{
-{arms}            _ => Ok(None),
-        }}
+        row.into_{snake(name)}(alloc)
     }}
 }}"""
 
@@ -226,10 +251,10 @@ def readers(table):
               ("Rattle.serde_json.specs.View", ["view"]), (f"{SPECS}.Tree", ["optional", "trees", "holed"])]
     ghosts += [(f"{SPECS}.Table", ["needed", "may_be_absent", "child", "children as many", "children_or_holes as many_or_holes"])] + row_names(table)
     ghosts += [(f"{READER}.specs.Values", ["at", "field as value_under"]), (f"{READER}.specs.Meaning", ["a_child", "a_maybe", "a_list"]),
-               (f"{READER}.specs.Reads", ["Gives", "read_children"]), (f"{READER}.specs.Kept", ["entries"])]
+               (f"{READER}.specs.Reads", ["Gives", "read_children"]), ("Rattle.jsgen_pool.specs.Pool", ["entries"])]
     tree = list(table.nodes) + list(table.sets) + [s.name + "Node" for s in table.nesting()]
     homes = [("crate", ["InputFault"]), ("crate::fields", ["needed_child", "optional_child", "children", "children_or_holes"]),
-             ("crate::kept", ["ReadNode", "Row"]), ("jsgen_pool", ["Kept"]), ("jsgen_tree", tree)]
+             ("crate::asked", ["ReadNode", "RowOf"]), ("jsgen_pool", ["Kept"]), ("jsgen_tree", tree)]
     homes += [("serde_json", ["Value"]), ("std::alloc", ["Global"])]
     about = "Fields that hold children, by set: a row that calls one of these passes no impl of `Child`, which would be " \
             "proved at each call."
@@ -241,16 +266,16 @@ def reader(table, f):
     boxed = f.kind in table.nodes and not f.is_list
     of = result.format(child_type(table, f.kind, boxed))
     plain = plain_at(table, f.kind, boxed, "c") if f.many == "" else child_plain(table, f.kind, boxed)
-    return f"""pub fn {name.format(snake(f.kind))}<N: ReadNode + Drop>(
+    return f"""pub fn {name.format(snake(f.kind))}<N: ReadNode + Drop, R: RowOf<N> + Drop>(
     alloc: Global,
-    kept: &mut Vec<Kept<Row<N>>>,
+    kept: &mut Vec<Kept<R>>,
     number: usize,
     field: usize,
     row: &Value,
     name: &str,
 ) -> Result<{of}, InputFault>
-    ensures {{ Gives ({gives.format(plain)}) result (entries N.plain kept.new.items)
-        (read_children (at number field) {field.format(f.kind)} (value_under name.now (view row.now)) (entries N.plain kept.old.items)) }}
+    ensures {{ Gives ({gives.format(plain)}) result (entries R.plain kept.new.items)
+        (read_children (at number field) {field.format(f.kind)} (value_under name.now (view row.now)) (entries R.plain kept.old.items)) }}
 {{
-    {inner}(alloc, kept, number, field, row, name)
+    {inner}::<N, R, _>(alloc, kept, number, field, row, name)
 }}"""

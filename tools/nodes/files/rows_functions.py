@@ -1,6 +1,6 @@
-"""A function for each type of row, in parts, each in a crate of its own: a family of rows is a file of the table, and one with
-many types has several parts; the choice among them, in crates/jsgen_rows/src/rows.rt; and crates/jsgen_fields/specs/Parts.antt:
-which types are in which part."""
+"""A function for each type of row, in parts: a file of the table, or several where it has many types. Each is a file of the crate that
+the table names; the choice among them is in crates/jsgen_rows/src/rows.rt, and which types are in which part in
+crates/jsgen_fields/specs/Parts.antt."""
 
 import layout
 from files.rows_children import reader_of
@@ -8,19 +8,14 @@ from files.rows_kept import inner, kept, made_of, set_of
 from names import READER, SPECS, TYPES, types_in_antt
 from table import snake
 
-MOST = 15       # functions in a part
+MOST = 25       # functions in a part
 
 
 def write(table):
-    files = {f"crates/{crate_of(name, file)}/src/{name}.rt": one_file(table, name, table.files[file], nodes)
+    files = {f"crates/{table.row_crates[file]}/src/{name}.rt": one_file(table, name, table.files[file], nodes)
              for name, file, nodes in parts(table)}
-    roots = {f"crates/{crate_of(name, file)}/src/lib.rt": root(name, table.files[file], nodes) for name, file, nodes in parts(table)}
+    roots = {f"crates/{crate}/src/lib.rt": root(table, crate) for crate in table.row_crates.values()}
     return files | roots | {"crates/jsgen_rows/src/rows.rt": choice(table), "crates/jsgen_fields/specs/Parts.antt": specs(table)}
-
-
-def crate_of(name, file):
-    """The crate of a part."""
-    return f"jsgen_{file.removesuffix('s')}_rows{name.removeprefix(file)}"
 
 
 def by_hand(n):
@@ -57,16 +52,18 @@ def about(text):
     return f"Rows of a job: {text[0].lower()}{text[1:]}"
 
 
-def root(name, text, nodes):
-    """The lib.rt of a part."""
-    mods = f"pub mod {name};\n" + ("mod literals;\n" if any(by_hand(n) for n in nodes) else "")
-    return layout.RUST + f"//! {about(text)}\n#![tactic(auto)]\n\n{mods}"
+def root(table, crate):
+    """The lib.rt of a crate of rows."""
+    within = [(name, nodes) for name, file, nodes in parts(table) if table.row_crates[file] == crate]
+    mods = [f"pub mod {name};" for name, _ in within] + (["mod literals;"] if any(by_hand(n) for _, nodes in within for n in nodes) else [])
+    mods = "\n".join(sorted(mods, key=lambda mod: mod.split("mod ")[1]))
+    return layout.RUST + f"//! Rows of a job, by the files of the table of nodes.\n#![tactic(auto)]\n\n{mods}\n"
 
 
 def ghosts_of(nodes):
     return [("Rattle.std.specs.Prelude", ["◌≡◌", "true", "false"]), ("Rattle.serde_json.specs.View", ["view"]),
             (f"{SPECS}.RowFields", [snake(n.name) + "_fields" for n in nodes]),
-            (f"{READER}.specs.Reads", ["Gives", "read_node", "read_typed"]), (f"{READER}.specs.Kept", ["entries", "row_plain"])]
+            (f"{READER}.specs.Reads", ["Gives", "read_node", "read_typed"]), ("Rattle.jsgen_pool.specs.Pool", ["entries"])]
 
 
 def one_file(table, name, text, every):
@@ -77,7 +74,8 @@ def one_file(table, name, text, every):
              ("jsgen_fields::set_fields", [reader_of(f) for n in nodes for f in table.children(n)]),
              ("jsgen_fields::fields", ["boxed"]), ("jsgen_fields::strings", ["needed_units"]), ("jsgen_fields::values", values),
              ("jsgen_fields::words", [f"needed_{w.short}" for w in table.words.values()]),
-             ("jsgen_fields::kept", ["ReadNode", "Row"] + [snake(s.name) + "_row" for s in sets]),
+             ("jsgen_fields::asked", ["ReadNode", "RowOf"]),
+             ("jsgen_fields::kept", [f"row_of_{snake(s.name)}" for s in sets] + [f"row_of_{snake(n.name)}" for n in nodes]),
              ("jsgen_fields::others", [kept(table, s) for s in sets if inner(table, s)]),
              ("jsgen_fields", ["InputFault"]), ("jsgen_pool", ["Kept"]), ("jsgen_syntax", ["Span"]),
              ("jsgen_tree", list(dict.fromkeys(["NodeType"] + [n.name for n in nodes] + [s.name for s in sets]))),
@@ -92,15 +90,15 @@ def function(table, n):
     lines = "".join(f"    let _ = {name};\n" for name in unused(table, n)) + fields(table, n)
     held = "".join(f", {f.rust}" for f in n.in_rust())
     return f"""#[tactic(auto, unfolding(jsgen_fields::specs::Reads::read_node))]
-fn read_{snake(n.name)}<N: ReadNode + Drop>(
+fn read_{snake(n.name)}<N: ReadNode + Drop, R: RowOf<N> + Drop>(
     alloc: Global,
-    kept: &mut Vec<Kept<Row<N>>>,
+    kept: &mut Vec<Kept<R>>,
     number: usize,
     span: Span,
     row: &Value,
-) -> Result<Row<N>, InputFault>
-    ensures {{ Gives (row_plain N.plain) result (entries N.plain kept.new.items)
-        (read_node number types.{n.name} {snake(n.name)}_fields span (view row.now) (entries N.plain kept.old.items)) }}
+) -> Result<R, InputFault>
+    ensures {{ Gives R.plain result (entries R.plain kept.new.items)
+        (read_node number types.{n.name} {snake(n.name)}_fields span (view row.now) (entries R.plain kept.old.items)) }}
 {{
 {lines}    let node = {n.name} {{ span{held} }};
     match boxed(alloc, node) {{
@@ -116,7 +114,7 @@ def unused(table, n):
 
 def as_row(table, n):
     s = set_of(table, n.name)
-    return f"{snake(s.name)}_row(alloc, {made_of(table, s, f'{s.name}::{n.name}(node)')})" if s else f"Ok(Row::{n.name}(node))"
+    return f"row_of_{snake(s.name)}::<N, R>(alloc, {made_of(table, s, f'{s.name}::{n.name}(node)')})" if s else f"Ok(row_of_{snake(n.name)}::<N, R>(node))"
 
 
 def fields(table, n):
@@ -150,7 +148,7 @@ def read(name, call):
 def call(table, n, f, number):
     field = f"number, {number}, row, \"{f.name}\""
     if table.is_child(f):
-        return f"{reader_of(f)}(alloc, kept, {field})"
+        return f"{reader_of(f)}::<N, R>(alloc, kept, {field})"
     if f.kind in table.words and f.required:
         return f"needed_{table.words[f.kind].short}({field})"
     form = {("text", None): f"needed_text(alloc, {field})", ("text", '""'): f"optional_text(alloc, {field})",
@@ -164,18 +162,18 @@ def call(table, n, f, number):
 
 # ---- the choice
 
-HEAD = """<N: ReadNode + Drop>(
+HEAD = """<N: ReadNode + Drop, R: RowOf<N> + Drop>(
     alloc: Global,
-    kept: &mut Vec<Kept<Row<N>>>,
+    kept: &mut Vec<Kept<R>>,
     node_type: NodeType,
     number: usize,
     span: Span,
     row: &Value,
-) -> Result<Row<N>, InputFault>
+) -> Result<R, InputFault>
 """
 
-GIVES = """    ensures { Gives (row_plain N.plain) result (entries N.plain kept.new.items)
-        (read_typed number node_type span (view row.now) (entries N.plain kept.old.items)) }
+GIVES = """    ensures { Gives R.plain result (entries R.plain kept.new.items)
+        (read_typed number node_type span (view row.now) (entries R.plain kept.old.items)) }
 """
 
 TYPED = "(alloc, kept, node_type, number, span, row)"
@@ -187,7 +185,7 @@ def of_part(table, name, nodes):
     asked = {f"in_{name}": f"is_in_{name} node_type ≡ true"} if name in others else \
         {f"not_in_{part}": f"is_in_{part} node_type ≡ false" for part in others}
     requires = "".join(f"    requires {fact + ' ' if len(asked) > 1 else ''}{{ {said} }}\n" for fact, said in asked.items())
-    arms = "".join(f"        NodeType::{n.name} => read_{snake(n.name)}(alloc, kept, number, span, row),\n" for n in nodes)
+    arms = "".join(f"        NodeType::{n.name} => read_{snake(n.name)}::<N, R>(alloc, kept, number, span, row),\n" for n in nodes)
     rest = "        _ => unreachable!(),\n" if asked else ""
     return f"/// The row of a type of this part.\npub fn read_in_{name}{HEAD}{requires}{GIVES}{{\n    match node_type {{\n{arms}{rest}    }}\n}}"
 
@@ -205,12 +203,12 @@ def test(name, nodes):
 
 
 def choice(table):
-    asked = "".join(f"    if is_in_{name}(node_type) {{\n        return read_in_{name}{TYPED};\n    }}\n" for name, _ in tested(table))
+    asked = "".join(f"    if is_in_{name}(node_type) {{\n        return read_in_{name}::<N, R>{TYPED};\n    }}\n" for name, _ in tested(table))
     last = parts(table)[-1][0]
-    whole = f"/// The row of a type.\npub fn read_typed{HEAD}{GIVES}{{\n{asked}    read_in_{last}{TYPED}\n}}"
+    whole = f"/// The row of a type.\npub fn read_typed{HEAD}{GIVES}{{\n{asked}    read_in_{last}::<N, R>{TYPED}\n}}"
     body = "\n\n".join([test(name, nodes) for name, nodes in tested(table)] + [whole])
-    homes = [(f"{crate_of(name, file)}::{name}", [f"read_in_{name}"]) for name, file, _ in parts(table)]
-    homes += [("jsgen_fields::kept", ["ReadNode", "Row"]), ("jsgen_fields", ["InputFault"]), ("jsgen_pool", ["Kept"]),
+    homes = [(f"{table.row_crates[file]}::{name}", [f"read_in_{name}"]) for name, file, _ in parts(table)]
+    homes += [("jsgen_fields::asked", ["ReadNode", "RowOf"]), ("jsgen_fields", ["InputFault"]), ("jsgen_pool", ["Kept"]),
               ("jsgen_syntax", ["Span"]), ("jsgen_tree", ["NodeType"]), ("serde_json", ["Value"]), ("std::alloc", ["Global"])]
     ghosts = ghosts_of([]) + [(f"{READER}.specs.Parts", [f"is_in_{name}" for name, _ in tested(table)])]
     return layout.rust("The rows of a job, by their types.", ghosts, [], homes, body)

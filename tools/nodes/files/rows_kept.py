@@ -1,8 +1,9 @@
-"""The reader's src/kept.rt and specs/Kept.antt: the rows that were read, by the set that they are children of; and its
-src/others.rt and specs/Others.antt: the members of a set whose rows are kept by it, where others are kept elsewhere."""
+"""The reader's src/kept.rt and specs/Kept.antt: the rows that were read, by the set that they are children of, and what is made of
+each at a place for children; and src/others.rt and specs/Others.antt: the members of a set whose rows are kept by it, where others are
+kept elsewhere. What the reader asks of a node where trees nest stands in src/asked.rt."""
 
 import layout
-from names import READER, SPECS, row_names, sets_in_antt, variants_of_sets
+from names import READER, SPECS, TYPES, row_names, sets_in_antt, variants_of_sets
 from table import snake, spoken
 
 # ---- how each type is kept, for all files of the reader
@@ -67,23 +68,82 @@ def plain_of_set(table, s):
 # ---- src/kept.rt
 
 def write(table):
-    return {"crates/jsgen_fields/src/kept.rt": rust(table), "crates/jsgen_fields/specs/Kept.antt": specs(table),
+    return {"crates/jsgen_fields/specs/Kept.antt": specs(table),
             "crates/jsgen_fields/src/others.rt": others(table), "crates/jsgen_fields/specs/Others.antt": others_specs(table)}
 
 
-def rust(table):
-    parts = [rows_enum(table), "// ---- what becomes of a row", read_node(table)]
-    parts += [typed(table), into_program()] + [row_of(table, s) for s in large(table)]
+def rust(table, ghosts, functions, at_places):
+    """src/kept.rt: a row can only be taken apart here. rows_children.py has what is made of it at each place."""
+    parts = [rows_enum(table), letting_go(table), typed(table), AS_CHILD, "// ---- what is made of a row, by place", into_program()]
+    parts += [f"impl<N: ReadNode + Drop> Row<N> {{\n{at_places}}}", "// ---- rows of nodes"] + [row_of(table, g) for g in groups(table)]
+    plains = [s.plain for s in table.nesting()] + ["program_row"]
+    ghosts = [(m, ns + ["Ok"] if m.endswith("Prelude") else ns + plains if m.endswith("specs.Rows") else ns) for m, ns in ghosts]
+    ghosts += [(f"{READER}.specs.Values", ["Same"]), (f"{READER}.specs.Meaning", ["is_program"])]
+    homes = [("crate::asked", ["Child", "ReadNode", "RowOf"]), ("crate::members", functions), ("jsgen_pool", ["Typed"])] + homes_of(table)
+    about = "The rows that were read, by the set that they are children of, and what is made of them at a place for children."
+    return layout.rust(about, ghosts, TYPES, homes, "\n\n".join(parts))
+
+
+AS_CHILD = """impl<N: ReadNode + Drop> RowOf<N> for Row<N> {
+    fn into_child<C: Child<N> + Drop>(self, alloc: Global) -> Result<Option<C>, AllocError>
+        ensures { IfOk result (λ child. option_map C.plain child
+            ≡ (if in_set C.of_set (type_of (row_plain N.plain self)) then Some (row_plain N.plain self) else None)) }
+    {
+        C::from_row(alloc, self)
+    }
+
+    fn of_row(row: Row<N>) -> Row<N>
+        ensures { row_plain N.plain result ≡ row_plain N.plain row }
+    {
+        row
+    }
+}"""
+
+
+def homes_of(table):
+    tree = list(table.nodes) + list(table.sets) + [s.name + "Node" for s in table.nesting()] + ["Node", "NodeSet", "NodeType"]
+    return [("crate", ["InputFault"]), ("crate::others", [kept(table, s) for s in outer(table)]), ("jsgen_tree", tree),
+            ("std::alloc", ["AllocError", "Global"])]
+
+
+CHILD = """/// What a place for children takes: a set of types, and what is made of a row of one of them.
+pub trait Child<N: ReadNode>: Sized {
+    ghost use Rattle.jsgen_tree.specs.Tree.{Tree};
+    ghost use Rattle.jsgen_tree.specs.declared.types.NodeSet.{NodeSet};
+
+    ghost plain: { Self → Tree };
+
+    ghost of_set: { NodeSet };
+
+    fn set() -> NodeSet
+        ensures { result ≡ of_set };
+
+    /// The child that a row is, where it is of the set.
+    fn from_row(alloc: Global, row: Row<N>) -> Result<Option<Self>, AllocError>
+        ensures { IfOk result (λ child. option_map plain child
+            ≡ (if in_set of_set (type_of (row_plain N.plain row)) then Some (row_plain N.plain row) else None)) };
+}"""
+
+
+def asked(table, ghosts):
+    """src/asked.rt"""
     plains = [s.plain for s in table.nesting()] + ["in_" + snake(s.name) for s in table.nesting()]
-    ghosts = [("Rattle.std.specs.Prelude", ["◌≡◌", "Ok", "Some", "None", "option_map", "if◌then◌else◌"]),
-              (f"{SPECS}.Tree", ["type_of"]), (f"{SPECS}.Plain", ["node_plain"]),
-              (f"{SPECS}.Rows", plains + ["program_row"]), (f"{READER}.specs.Values", ["Same"]),
-              (f"{READER}.specs.Meaning", ["is_program"]), (f"{READER}.specs.Kept", ["row_plain"])]
-    tree = list(table.nodes) + list(table.sets) + [s.name + "Node" for s in table.nesting()] + ["Node", "NodeType"]
-    homes = [("crate", ["InputFault"]), ("crate::others", [kept(table, s) for s in outer(table)]), ("jsgen_pool", ["Typed"]),
-             ("jsgen_tree", tree), ("std::alloc", ["Global"])]
-    about = "The rows that were read, by the set that they are children of."
-    return layout.rust(about, ghosts, [], homes, "\n\n".join(parts))
+    ghosts = [(m, ns + plains if m.endswith("specs.Rows") else ns) for m, ns in ghosts] + [(f"{SPECS}.Plain", ["node_plain"])]
+    about = "What the reader asks of a node where trees nest, of a child, and of a row."
+    homes = [("jsgen_pool", ["Typed"]), ("crate::kept", ["Row"])] + homes_of(table)
+    return layout.rust(about, ghosts, TYPES, homes, "\n\n".join([read_node(table), CHILD, ROW]))
+
+
+ROW = """/// What the reader asks of a row: the child that it is at a place, and to be made of one. Only `Row` implements it; the reader is
+/// generic in it, since a proof of what has to do with `Row` itself looks at all types.
+pub trait RowOf<N: ReadNode>: Typed + Sized {
+    fn into_child<C: Child<N> + Drop>(self, alloc: Global) -> Result<Option<C>, AllocError>
+        ensures { IfOk result (λ child. option_map C.plain child
+            ≡ (if in_set C.of_set (type_of (Self.plain self)) then Some (Self.plain self) else None)) };
+
+    fn of_row(row: Row<N>) -> Self
+        ensures { Self.plain result ≡ row_plain N.plain row };
+}"""
 
 
 def rows_enum(table):
@@ -93,9 +153,21 @@ def rows_enum(table):
         variants += f"    {name}(Box<{of}{parameter(table, name)}>),\n"
     return f"""/// A row that was read, by the set that it is a child of. Sets are in boxes, so that a row is small whatever
 /// they have.
-#[derive(Drop)]
 pub enum Row<N = Node> {{
 {variants}}}"""
+
+
+def letting_go(table):
+    arms = ""
+    for g in groups(table):
+        arms += f"            Row::{g if isinstance(g, str) else g.name}(row) => {{\n                let _ = row;\n            }}\n"
+    return f"""// Written out, so that it is proved here alone: a derived one is proved again, for all types, in each crate that lets go of a row.
+impl<N: Drop> Drop for Row<N> {{
+    fn drop(self) {{
+        match self {{
+{arms}        }}
+    }}
+}}"""
 
 
 def signatures(table, s):
@@ -162,14 +234,23 @@ def into_program():
 }"""
 
 
-def row_of(table, s):
-    name, of = snake(s.name), kept(table, s) + parameter(table, s.name)
-    given = "other" if inner(table, s) else name
-    return f"""/// {spoken(s.name).capitalize()} as a row.
-pub fn {name}_row<N: ReadNode + Drop>(alloc: Global, {given}: {of}) -> Result<Row<N>, InputFault>
-    ensures {{ Same (row_plain N.plain) result (Ok ({plain_of_set(table, s)} {held(table, s, given)})) }}
+def row_of(table, g):
+    """What makes a row of a node of the type, or of a member of the set."""
+    if isinstance(g, str):
+        name, of = snake(g), f"Box<{g}{parameter(table, g)}>"
+        row = f"{table.nodes[g].row}{' N.plain' if table.generic(g) else ''} {name}.value"
+        return f"""pub fn row_of_{name}<N: ReadNode + Drop, R: RowOf<N>>({name}: {of}) -> R
+    ensures {{ R.plain result ≡ {row} }}
 {{
-    Ok(Row::{s.name}(Box::new(alloc, {given})?))
+    R::of_row(Row::{g}({name}))
+}}"""
+    name, of = snake(g.name), kept(table, g) + parameter(table, g.name)
+    given = "other" if inner(table, g) else name
+    return f"""pub fn row_of_{name}<N: ReadNode + Drop, R: RowOf<N>>(alloc: Global, {given}: {of}) -> Result<R, InputFault>
+    ensures {{ Same R.plain result (Ok ({plain_of_set(table, g)} {held(table, g, given)})) }}
+{{
+    let {given} = Box::new(alloc, {given})?;
+    Ok(R::of_row(Row::{g.name}({given})))
 }}"""
 
 

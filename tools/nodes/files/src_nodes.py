@@ -9,11 +9,10 @@ def write(table):
     sets = [s.name for s in table.nesting()]
     variants = "".join(f"    {s}({s}),\n" for s in sets)
     body = f"""/// A node at a place where trees nest. It has a variant for each set that children nest through.
-#[derive(Drop)]
 pub enum Node {{
 {variants}}}
 
-""" + "\n\n".join([wrapper(s) for s in sets] + [conversion(s) for s in sets] + [getter(s) for s in sets])
+""" + "\n\n".join([wrapper(s) for s in sets] + [letting_go(sets)] + [conversion(s) for s in sets] + [getter(s) for s in sets])
     about = "Where trees nest: the one recursive type, and the wrappers that say a child's set."
     ghosts = [("Rattle.std.specs.Prelude", ["◌≡◌"])]
     aliases = [(f"{DECLARED}.nodes.Node.TheVariants", "nodes")]
@@ -25,6 +24,18 @@ def wrapper(s):
 #[derive(Drop)]
 pub struct {s}Node<N = Node> {{
     node: N,
+}}"""
+
+
+def letting_go(sets):
+    arms = "".join(f"            Node::{s}(member) => {{\n                let _ = member;\n            }}\n" for s in sets)
+    return f"""// Written out, so that it is proved here alone: a derived one is proved again, for all types, in each crate that lets go of a tree.
+impl Drop for Node {{
+    #[cycle(node)]
+    fn drop(self) {{
+        match self {{
+{arms}        }}
+    }}
 }}"""
 
 

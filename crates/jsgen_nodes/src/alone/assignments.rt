@@ -11,7 +11,6 @@ use jsgen_printer::Printer;
 use jsgen_syntax::Memory;
 use jsgen_tree::{AssignmentExpression, ConditionalExpression, SequenceExpression};
 
-#[tactic(auto, unfolding(crate::specs::Place::pen_after))]
 impl<N: PrintNode> PrintAtLevel for ConditionalExpression<N> {
     ghost plain = { conditional_expression_row N.plain };
 
@@ -20,7 +19,6 @@ impl<N: PrintNode> PrintAtLevel for ConditionalExpression<N> {
     }
 }
 
-#[tactic(auto, unfolding(crate::specs::Place::pen_after))]
 impl<N: PrintNode> PrintAtLevel for SequenceExpression<N> {
     ghost plain = { sequence_expression_row N.plain };
 
@@ -29,7 +27,6 @@ impl<N: PrintNode> PrintAtLevel for SequenceExpression<N> {
     }
 }
 
-#[tactic(auto, unfolding(crate::specs::Place::pen_after))]
 impl<N: PrintNode> PrintAtLevel for AssignmentExpression<N> {
     ghost plain = { assignment_expression_row N.plain };
 

@@ -55,7 +55,6 @@ impl<N: PrintNode> PrintAlone for ObjectProperty<N> {
     }
 }
 
-#[tactic(auto, unfolding(crate::specs::Place::pen_after))]
 impl<N: PrintNode> PrintAtLevel for ObjectExpression<N> {
     ghost plain = { object_expression_row N.plain };
 

@@ -80,7 +80,6 @@ impl PrintAlone for BooleanLiteral {
     }
 }
 
-#[tactic(auto, unfolding(crate::specs::Place::pen_after))]
 impl PrintAtLevel for NumericLiteral {
     ghost plain = { numeric_literal_row };
 
@@ -89,7 +88,6 @@ impl PrintAtLevel for NumericLiteral {
     }
 }
 
-#[tactic(auto, unfolding(crate::specs::Place::pen_after))]
 impl PrintAtLevel for BigIntLiteral {
     ghost plain = { big_int_literal_row };
 
@@ -112,7 +110,6 @@ impl PrintAlone for StringLiteral {
     }
 }
 
-#[tactic(auto, unfolding(crate::specs::Place::pen_after))]
 impl<N: PrintNode> PrintAtLevel for ParenthesizedExpression<N> {
     ghost plain = { parenthesized_expression_row N.plain };
 
@@ -121,7 +118,6 @@ impl<N: PrintNode> PrintAtLevel for ParenthesizedExpression<N> {
     }
 }
 
-#[tactic(auto, unfolding(crate::specs::Place::pen_after))]
 impl<N: PrintNode> PrintAtLevel for BinaryExpression<N> {
     ghost plain = { binary_expression_row N.plain };
 
@@ -130,7 +126,6 @@ impl<N: PrintNode> PrintAtLevel for BinaryExpression<N> {
     }
 }
 
-#[tactic(auto, unfolding(crate::specs::Place::pen_after))]
 impl<N: PrintNode> PrintAtLevel for LogicalExpression<N> {
     ghost plain = { logical_expression_row N.plain };
 
@@ -153,7 +148,6 @@ impl PrintAlone for IdentifierName {
     }
 }
 
-#[tactic(auto, unfolding(crate::specs::Place::pen_after))]
 impl<N: PrintNode> PrintAtLevel for StaticMemberExpression<N> {
     ghost plain = { static_member_expression_row N.plain };
 
@@ -162,7 +156,6 @@ impl<N: PrintNode> PrintAtLevel for StaticMemberExpression<N> {
     }
 }
 
-#[tactic(auto, unfolding(crate::specs::Place::pen_after))]
 impl<N: PrintNode> PrintAtLevel for ComputedMemberExpression<N> {
     ghost plain = { computed_member_expression_row N.plain };
 
@@ -171,7 +164,6 @@ impl<N: PrintNode> PrintAtLevel for ComputedMemberExpression<N> {
     }
 }
 
-#[tactic(auto, unfolding(crate::specs::Place::pen_after))]
 impl<N: PrintNode> PrintAtLevel for CallExpression<N> {
     ghost plain = { call_expression_row N.plain };
 
@@ -180,7 +172,6 @@ impl<N: PrintNode> PrintAtLevel for CallExpression<N> {
     }
 }
 
-#[tactic(auto, unfolding(crate::specs::Place::pen_after))]
 impl<N: PrintNode> PrintAtLevel for ChainExpression<N> {
     ghost plain = { chain_expression_row N.plain };
 

@@ -88,7 +88,6 @@ impl<N: PrintNode> PrintAlone for FunctionBody<N> {
     }
 }
 
-#[tactic(auto, unfolding(crate::specs::Place::pen_after))]
 impl<N: PrintNode> PrintAtLevel for ArrowFunctionExpression<N> {
     ghost plain = { arrow_function_expression_row N.plain };
 

@@ -14,7 +14,6 @@ use jsgen_printer::Printer;
 use jsgen_syntax::Memory;
 use jsgen_tree::{NewExpression, NewTarget, Super, UnaryExpression, UpdateExpression};
 
-#[tactic(auto, unfolding(crate::specs::Place::pen_after))]
 impl<N: PrintNode> PrintAtLevel for UnaryExpression<N> {
     ghost plain = { unary_expression_row N.plain };
 
@@ -37,7 +36,6 @@ impl PrintAlone for NewTarget {
     }
 }
 
-#[tactic(auto, unfolding(crate::specs::Place::pen_after))]
 impl<N: PrintNode> PrintAtLevel for UpdateExpression<N> {
     ghost plain = { update_expression_row N.plain };
 
@@ -46,7 +44,6 @@ impl<N: PrintNode> PrintAtLevel for UpdateExpression<N> {
     }
 }
 
-#[tactic(auto, unfolding(crate::specs::Place::pen_after))]
 impl<N: PrintNode> PrintAtLevel for NewExpression<N> {
     ghost plain = { new_expression_row N.plain };
 

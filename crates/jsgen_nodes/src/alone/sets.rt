@@ -5,9 +5,10 @@ ghost use Rattle.jsgen_model.specs.Spell.{spell, key_text};
 ghost use Rattle.jsgen_nodes.specs.Alone.{by_itself, as_member, as_statement};
 
 use crate::collections::{print_key_text, print_object_property, print_spread_element};
-use crate::expressions::print_identifier_reference;
-use crate::links::{print_computed_member_expression, print_static_member_expression};
-use crate::sets::{print_binding_pattern, print_expression, print_statement};
+use crate::sets::{
+    print_assignment_target, print_binding_pattern, print_expression, print_for_statement_left,
+    print_simple_assignment_target, print_statement,
+};
 use crate::statements::print_variable_declaration;
 use crate::{PrintAlone, PrintAtLevel, PrintNode};
 use jsgen_place::{Context, Place, Settings};
@@ -19,7 +20,6 @@ use jsgen_tree::{
     Statement,
 };
 
-#[tactic(auto, unfolding(crate::specs::Place::pen_after))]
 impl<N: PrintNode> PrintAtLevel for Expression<N> {
     ghost plain = { expression_plain N.plain };
 
@@ -66,21 +66,11 @@ impl<N: PrintNode> PrintAlone for ArrayExpressionElement<N> {
     }
 }
 
-#[tactic(auto, unfolding(crate::specs::Place::pen_after))]
 impl<N: PrintNode> PrintAtLevel for SimpleAssignmentTarget<N> {
     ghost plain = { in_simple_assignment_target N.plain };
 
     fn print_at(&self, p: &mut Printer<'_>, place: Place) -> Result<(), Memory> {
-        match self {
-            SimpleAssignmentTarget::IdentifierReference(node) => print_identifier_reference(
-                node, p, place,
-            ),
-            SimpleAssignmentTarget::StaticMemberExpression(node) => print_static_member_expression(
-                node, p, place,
-            ),
-            SimpleAssignmentTarget::ComputedMemberExpression(node) =>
-                print_computed_member_expression(node, p, place),
-        }
+        print_simple_assignment_target(self, p, place)
     }
 }
 
@@ -95,18 +85,7 @@ impl<N: PrintNode> PrintAlone for AssignmentTarget<N> {
         context: Context,
     ) -> Result<(), Memory> {
         let _ = context;
-        let place = Place::in_brackets(Precedence::Comma, settings);
-        match self {
-            AssignmentTarget::IdentifierReference(node) => print_identifier_reference(
-                node, p, place,
-            ),
-            AssignmentTarget::StaticMemberExpression(node) => print_static_member_expression(
-                node, p, place,
-            ),
-            AssignmentTarget::ComputedMemberExpression(node) => print_computed_member_expression(
-                node, p, place,
-            ),
-        }
+        print_assignment_target(self, p, Place::in_brackets(Precedence::Comma, settings))
     }
 }
 
@@ -140,21 +119,7 @@ impl<N: PrintNode> PrintAlone for ForStatementLeft<N> {
         settings: Settings,
         context: Context,
     ) -> Result<(), Memory> {
-        let place = Place::by_itself(settings, context);
-        match self {
-            ForStatementLeft::VariableDeclaration(node) => print_variable_declaration(
-                node, p, place,
-            ),
-            ForStatementLeft::IdentifierReference(node) => print_identifier_reference(
-                node, p, place,
-            ),
-            ForStatementLeft::StaticMemberExpression(node) => print_static_member_expression(
-                node, p, place,
-            ),
-            ForStatementLeft::ComputedMemberExpression(node) => print_computed_member_expression(
-                node, p, place,
-            ),
-        }
+        print_for_statement_left(self, p, Place::by_itself(settings, context))
     }
 }
 

@@ -1,7 +1,7 @@
 -- Generated from tools/nodes/table.txt; edit that and run tools/nodes/generate.
 -- What each call ensures, one after another.
 use Rattle.jsgen_fields.specs.Reads.{read_node}
-use Rattle.jsgen_fields.proofs.Gives.{gives_held}
+use Rattle.jsgen_fields.proofs.Gives.{gives_node}
 use Rattle.jsgen_tree.specs.Rows.{identifier_name_row}
 use Rattle.jsgen_expression_rows.proofs.expressions.read_identifier_name.Goals as goal
 
@@ -11,4 +11,4 @@ returns-in-Err g c = λ told. rw (c.in-Err.ensures told)
 
 pub returns-in-Ok-boxed : goal.returns-in-Ok-boxed
 unfolding read_node
-returns-in-Ok-boxed g c = rw (c.in-Ok.ensures) (gives_held _ identifier_name_row _ _ c.in-Ok-boxed.ensures)
+returns-in-Ok-boxed g c = rw (c.in-Ok.ensures) (gives_node g.R.Typed.plain c.row_of_identifier_name.result _ identifier_name_row _ _ c.in-Ok-boxed.ensures c.row_of_identifier_name.ensures)

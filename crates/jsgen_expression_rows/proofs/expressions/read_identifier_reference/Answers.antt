@@ -15,4 +15,4 @@ returns-in-Err-optional_number g c = λ told. rw (c.in-Ok.ensures, c.in-Err-opti
 
 pub returns-in-Ok-boxed : goal.returns-in-Ok-boxed
 unfolding read_node
-returns-in-Ok-boxed g c = rw (c.in-Ok.ensures, c.in-Ok-optional_number.ensures) (gives_row _ _ _ identifier_reference_row _ _ c.in-Ok-boxed.ensures c.expression_row.ensures)
+returns-in-Ok-boxed g c = rw (c.in-Ok.ensures, c.in-Ok-optional_number.ensures) (gives_row _ _ _ identifier_reference_row _ _ c.in-Ok-boxed.ensures c.row_of_expression.ensures)

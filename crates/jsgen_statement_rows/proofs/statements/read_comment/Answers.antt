@@ -1,7 +1,7 @@
 -- Generated from tools/nodes/table.txt; edit that and run tools/nodes/generate.
 -- What each call ensures, one after another.
 use Rattle.jsgen_fields.specs.Reads.{read_node}
-use Rattle.jsgen_fields.proofs.Gives.{gives_held}
+use Rattle.jsgen_fields.proofs.Gives.{gives_node}
 use Rattle.jsgen_tree.specs.Rows.{comment_row}
 use Rattle.jsgen_statement_rows.proofs.statements.read_comment.Goals as goal
 
@@ -31,4 +31,4 @@ returns-in-Err-optional_flag-3 g c = λ told. rw (c.in-Ok.ensures, c.in-Ok-neede
 
 pub returns-in-Ok-boxed : goal.returns-in-Ok-boxed
 unfolding read_node
-returns-in-Ok-boxed g c = rw (c.in-Ok.ensures, c.in-Ok-needed_content_of_comment.ensures, c.in-Ok-optional_flag.ensures, c.in-Ok-needed_number.ensures, c.in-Ok-optional_flag-2.ensures, c.in-Ok-optional_flag-3.ensures) (gives_held _ comment_row _ _ c.in-Ok-boxed.ensures)
+returns-in-Ok-boxed g c = rw (c.in-Ok.ensures, c.in-Ok-needed_content_of_comment.ensures, c.in-Ok-optional_flag.ensures, c.in-Ok-needed_number.ensures, c.in-Ok-optional_flag-2.ensures, c.in-Ok-optional_flag-3.ensures) (gives_node g.R.Typed.plain c.row_of_comment.result _ comment_row _ _ c.in-Ok-boxed.ensures c.row_of_comment.ensures)

@@ -1,0 +1,14 @@
+-- Generated from tools/nodes/table.txt; edit that and run tools/nodes/generate.
+-- What each call ensures, one after another.
+use Rattle.jsgen_fields.specs.Reads.{read_node}
+use Rattle.jsgen_fields.proofs.Gives.{gives_node}
+use Rattle.jsgen_tree.specs.Rows.{spread_element_row}
+use Rattle.jsgen_expression_rows.proofs.collections.read_spread_element.Goals as goal
+
+pub returns-in-Err : goal.returns-in-Err
+unfolding read_node
+returns-in-Err g c = λ told. rw (c.in-Err.ensures told)
+
+pub returns-in-Ok-boxed : goal.returns-in-Ok-boxed
+unfolding read_node
+returns-in-Ok-boxed g c = rw (c.in-Ok.ensures) (gives_node g.R.Typed.plain c.row_of_spread_element.result _ (spread_element_row g.N.ReadNode.plain) _ _ c.in-Ok-boxed.ensures c.row_of_spread_element.ensures)

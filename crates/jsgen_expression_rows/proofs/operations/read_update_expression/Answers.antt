@@ -1,0 +1,22 @@
+-- Generated from tools/nodes/table.txt; edit that and run tools/nodes/generate.
+-- What each call ensures, one after another.
+use Rattle.jsgen_fields.specs.Reads.{read_node}
+use Rattle.jsgen_fields.proofs.Gives.{gives_row}
+use Rattle.jsgen_tree.specs.Rows.{update_expression_row}
+use Rattle.jsgen_expression_rows.proofs.operations.read_update_expression.Goals as goal
+
+pub returns-in-Err : goal.returns-in-Err
+unfolding read_node
+returns-in-Err g c = λ told. rw (c.in-Err.ensures told)
+
+pub returns-in-Err-optional_flag : goal.returns-in-Err-optional_flag
+unfolding read_node
+returns-in-Err-optional_flag g c = λ told. rw (c.in-Ok.ensures, c.in-Err-optional_flag.ensures told)
+
+pub returns-in-Err-needed_simple_assignment_target : goal.returns-in-Err-needed_simple_assignment_target
+unfolding read_node
+returns-in-Err-needed_simple_assignment_target g c = λ told. rw (c.in-Ok.ensures, c.in-Ok-optional_flag.ensures, c.in-Err-needed_simple_assignment_target.ensures told)
+
+pub returns-in-Ok-boxed : goal.returns-in-Ok-boxed
+unfolding read_node
+returns-in-Ok-boxed g c = rw (c.in-Ok.ensures, c.in-Ok-optional_flag.ensures, c.in-Ok-needed_simple_assignment_target.ensures) (gives_row _ _ _ (update_expression_row g.N.ReadNode.plain) _ _ c.in-Ok-boxed.ensures c.row_of_expression.ensures)

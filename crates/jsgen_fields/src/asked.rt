@@ -1,0 +1,124 @@
+// Generated from tools/nodes/table.txt; edit that and run tools/nodes/generate.
+// What the reader asks of a node where trees nest, of a child, and of a row.
+ghost use Rattle.std.specs.Prelude.{◌≡◌, IfOk, Some, None, option_map, if◌then◌else◌};
+ghost use Rattle.jsgen_tree.specs.Tree.{type_of};
+ghost use Rattle.jsgen_tree.specs.Sets.{in_set};
+ghost use Rattle.jsgen_tree.specs.Rows.{in_expression, in_declaration, in_statement, in_binding_pattern, expression_plain, declaration_plain, statement_plain, binding_pattern_plain, expression_plain, declaration_plain, statement_plain, binding_pattern_plain, in_expression, in_declaration, in_statement, in_binding_pattern};
+ghost use Rattle.jsgen_fields.specs.Kept.{row_plain};
+ghost use Rattle.jsgen_tree.specs.Plain.{node_plain};
+ghost use Rattle.jsgen_tree.specs.declared.types.NodeType.TheVariants as types;
+
+use crate::kept::Row;
+use jsgen_pool::Typed;
+use jsgen_tree::{
+    BindingPattern, BindingPatternNode, Declaration, DeclarationNode, Expression, ExpressionNode,
+    Node, NodeSet, NodeType, Statement, StatementNode,
+};
+use std::alloc::{AllocError, Global};
+
+/// What the reader asks of a node where trees nest. Only `Node` implements it.
+pub trait ReadNode: Sized {
+    ghost use Rattle.jsgen_tree.specs.Tree.{Tree};
+
+    ghost plain: { Self → Tree };
+
+    fn expression_node(expression: Expression<Self>) -> ExpressionNode<Self>
+        ensures { in_expression plain result ≡ expression_plain plain expression };
+
+    fn expression_type(expression: &Expression<Self>) -> NodeType
+        ensures { result ≡ type_of (expression_plain plain expression.now) };
+
+    fn declaration_node(declaration: Declaration<Self>) -> DeclarationNode<Self>
+        ensures { in_declaration plain result ≡ declaration_plain plain declaration };
+
+    fn declaration_type(declaration: &Declaration<Self>) -> NodeType
+        ensures { result ≡ type_of (declaration_plain plain declaration.now) };
+
+    fn statement_node(statement: Statement<Self>) -> StatementNode<Self>
+        ensures { in_statement plain result ≡ statement_plain plain statement };
+
+    fn statement_type(statement: &Statement<Self>) -> NodeType
+        ensures { result ≡ type_of (statement_plain plain statement.now) };
+
+    fn binding_pattern_node(binding_pattern: BindingPattern) -> BindingPatternNode<Self>
+        ensures { in_binding_pattern plain result ≡ binding_pattern_plain binding_pattern };
+}
+
+impl ReadNode for Node {
+    ghost plain = { λ n. node_plain n };
+
+    #[tactic(auto, using(jsgen_tree::proofs::Knot::plain_expression))]
+    fn expression_node(expression: Expression) -> ExpressionNode
+        ensures { in_expression node_plain result ≡ expression_plain node_plain expression }
+    {
+        expression.into()
+    }
+
+    fn expression_type(expression: &Expression) -> NodeType
+        ensures { result ≡ type_of (expression_plain node_plain expression.now) }
+    {
+        expression.node_type()
+    }
+
+    #[tactic(auto, using(jsgen_tree::proofs::Knot::plain_declaration))]
+    fn declaration_node(declaration: Declaration) -> DeclarationNode
+        ensures { in_declaration node_plain result ≡ declaration_plain node_plain declaration }
+    {
+        declaration.into()
+    }
+
+    fn declaration_type(declaration: &Declaration) -> NodeType
+        ensures { result ≡ type_of (declaration_plain node_plain declaration.now) }
+    {
+        declaration.node_type()
+    }
+
+    #[tactic(auto, using(jsgen_tree::proofs::Knot::plain_statement))]
+    fn statement_node(statement: Statement) -> StatementNode
+        ensures { in_statement node_plain result ≡ statement_plain node_plain statement }
+    {
+        statement.into()
+    }
+
+    fn statement_type(statement: &Statement) -> NodeType
+        ensures { result ≡ type_of (statement_plain node_plain statement.now) }
+    {
+        statement.node_type()
+    }
+
+    #[tactic(auto, using(jsgen_tree::proofs::Knot::plain_binding_pattern))]
+    fn binding_pattern_node(binding_pattern: BindingPattern) -> BindingPatternNode
+        ensures { in_binding_pattern node_plain result ≡ binding_pattern_plain binding_pattern }
+    {
+        binding_pattern.into()
+    }
+}
+
+/// What a place for children takes: a set of types, and what is made of a row of one of them.
+pub trait Child<N: ReadNode>: Sized {
+    ghost use Rattle.jsgen_tree.specs.Tree.{Tree};
+    ghost use Rattle.jsgen_tree.specs.declared.types.NodeSet.{NodeSet};
+
+    ghost plain: { Self → Tree };
+
+    ghost of_set: { NodeSet };
+
+    fn set() -> NodeSet
+        ensures { result ≡ of_set };
+
+    /// The child that a row is, where it is of the set.
+    fn from_row(alloc: Global, row: Row<N>) -> Result<Option<Self>, AllocError>
+        ensures { IfOk result (λ child. option_map plain child
+            ≡ (if in_set of_set (type_of (row_plain N.plain row)) then Some (row_plain N.plain row) else None)) };
+}
+
+/// What the reader asks of a row: the child that it is at a place, and to be made of one. Only `Row` implements it; the reader is
+/// generic in it, since a proof of what has to do with `Row` itself looks at all types.
+pub trait RowOf<N: ReadNode>: Typed + Sized {
+    fn into_child<C: Child<N> + Drop>(self, alloc: Global) -> Result<Option<C>, AllocError>
+        ensures { IfOk result (λ child. option_map C.plain child
+            ≡ (if in_set C.of_set (type_of (Self.plain self)) then Some (Self.plain self) else None)) };
+
+    fn of_row(row: Row<N>) -> Self
+        ensures { Self.plain result ≡ row_plain N.plain row };
+}

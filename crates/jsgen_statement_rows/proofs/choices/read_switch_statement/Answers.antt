@@ -1,0 +1,18 @@
+-- Generated from tools/nodes/table.txt; edit that and run tools/nodes/generate.
+-- What each call ensures, one after another.
+use Rattle.jsgen_fields.specs.Reads.{read_node}
+use Rattle.jsgen_fields.proofs.Gives.{gives_row}
+use Rattle.jsgen_tree.specs.Rows.{switch_statement_row}
+use Rattle.jsgen_statement_rows.proofs.choices.read_switch_statement.Goals as goal
+
+pub returns-in-Err : goal.returns-in-Err
+unfolding read_node
+returns-in-Err g c = λ told. rw (c.in-Err.ensures told)
+
+pub returns-in-Err-switch_case_list : goal.returns-in-Err-switch_case_list
+unfolding read_node
+returns-in-Err-switch_case_list g c = λ told. rw (c.in-Ok.ensures, c.in-Err-switch_case_list.ensures told)
+
+pub returns-in-Ok-boxed : goal.returns-in-Ok-boxed
+unfolding read_node
+returns-in-Ok-boxed g c = rw (c.in-Ok.ensures, c.in-Ok-switch_case_list.ensures) (gives_row _ _ _ (switch_statement_row g.N.ReadNode.plain) _ _ c.in-Ok-boxed.ensures c.row_of_statement.ensures)

@@ -1,0 +1,22 @@
+-- Generated from tools/nodes/table.txt; edit that and run tools/nodes/generate.
+-- What each call ensures, one after another.
+use Rattle.jsgen_fields.specs.Reads.{read_node}
+use Rattle.jsgen_fields.proofs.Gives.{gives_row}
+use Rattle.jsgen_tree.specs.Rows.{try_statement_row}
+use Rattle.jsgen_statement_rows.proofs.choices.read_try_statement.Goals as goal
+
+pub returns-in-Err : goal.returns-in-Err
+unfolding read_node
+returns-in-Err g c = λ told. rw (c.in-Err.ensures told)
+
+pub returns-in-Err-optional_catch_clause : goal.returns-in-Err-optional_catch_clause
+unfolding read_node
+returns-in-Err-optional_catch_clause g c = λ told. rw (c.in-Ok.ensures, c.in-Err-optional_catch_clause.ensures told)
+
+pub returns-in-Err-optional_block_statement : goal.returns-in-Err-optional_block_statement
+unfolding read_node
+returns-in-Err-optional_block_statement g c = λ told. rw (c.in-Ok.ensures, c.in-Ok-optional_catch_clause.ensures, c.in-Err-optional_block_statement.ensures told)
+
+pub returns-in-Ok-boxed : goal.returns-in-Ok-boxed
+unfolding read_node
+returns-in-Ok-boxed g c = rw (c.in-Ok.ensures, c.in-Ok-optional_catch_clause.ensures, c.in-Ok-optional_block_statement.ensures) (gives_row _ _ _ (try_statement_row g.N.ReadNode.plain) _ _ c.in-Ok-boxed.ensures c.row_of_statement.ensures)

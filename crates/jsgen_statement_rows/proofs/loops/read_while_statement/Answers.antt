@@ -1,0 +1,18 @@
+-- Generated from tools/nodes/table.txt; edit that and run tools/nodes/generate.
+-- What each call ensures, one after another.
+use Rattle.jsgen_fields.specs.Reads.{read_node}
+use Rattle.jsgen_fields.proofs.Gives.{gives_row}
+use Rattle.jsgen_tree.specs.Rows.{while_statement_row}
+use Rattle.jsgen_statement_rows.proofs.loops.read_while_statement.Goals as goal
+
+pub returns-in-Err : goal.returns-in-Err
+unfolding read_node
+returns-in-Err g c = λ told. rw (c.in-Err.ensures told)
+
+pub returns-in-Err-needed_statement : goal.returns-in-Err-needed_statement
+unfolding read_node
+returns-in-Err-needed_statement g c = λ told. rw (c.in-Ok.ensures, c.in-Err-needed_statement.ensures told)
+
+pub returns-in-Ok-boxed : goal.returns-in-Ok-boxed
+unfolding read_node
+returns-in-Ok-boxed g c = rw (c.in-Ok.ensures, c.in-Ok-needed_statement.ensures) (gives_row _ _ _ (while_statement_row g.N.ReadNode.plain) _ _ c.in-Ok-boxed.ensures c.row_of_statement.ensures)
