@@ -11,6 +11,7 @@ use crate::{CheckNode, Surroundings, check_child};
 use jsgen_model::TreeFault;
 use jsgen_tree::{AssignmentExpression, ConditionalExpression, NodeSet, SequenceExpression};
 
+#[inline(never)]
 pub fn check_conditional_expression<N: CheckNode>(
     node: &ConditionalExpression<N>,
     around: Surroundings<'_>,
@@ -28,6 +29,7 @@ pub fn check_conditional_expression<N: CheckNode>(
     )
 }
 
+#[inline(never)]
 pub fn check_sequence_expression<N: CheckNode>(
     node: &SequenceExpression<N>,
     around: Surroundings<'_>,
@@ -39,6 +41,7 @@ pub fn check_sequence_expression<N: CheckNode>(
     check_node(around, node.span, rules, expressions)
 }
 
+#[inline(never)]
 pub fn check_assignment_expression<N: CheckNode>(
     node: &AssignmentExpression<N>,
     around: Surroundings<'_>,

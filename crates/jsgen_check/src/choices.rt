@@ -15,6 +15,7 @@ use crate::{CheckNode, Surroundings, check_child};
 use jsgen_model::TreeFault;
 use jsgen_tree::{CatchClause, NodeSet, SwitchCase, SwitchStatement, TryStatement};
 
+#[inline(never)]
 pub fn check_switch_statement<N: CheckNode>(
     node: &SwitchStatement<N>,
     around: Surroundings<'_>,
@@ -27,6 +28,7 @@ pub fn check_switch_statement<N: CheckNode>(
     check_node(around, node.span, rules, higher(discriminant, cases))
 }
 
+#[inline(never)]
 pub fn check_switch_case<N: CheckNode>(
     node: &SwitchCase<N>,
     around: Surroundings<'_>,
@@ -38,6 +40,7 @@ pub fn check_switch_case<N: CheckNode>(
     check_node(around, node.span, Ok(()), higher(test, consequent))
 }
 
+#[inline(never)]
 pub fn check_try_statement<N: CheckNode>(
     node: &TryStatement<N>,
     around: Surroundings<'_>,
@@ -56,6 +59,7 @@ pub fn check_try_statement<N: CheckNode>(
     )
 }
 
+#[inline(never)]
 pub fn check_catch_clause<N: CheckNode>(
     node: &CatchClause<N>,
     around: Surroundings<'_>,

@@ -13,6 +13,7 @@ use crate::{CheckNode, Surroundings, check_child};
 use jsgen_model::TreeFault;
 use jsgen_tree::{ArrayExpression, NodeSet, ObjectExpression, ObjectProperty, SpreadElement};
 
+#[inline(never)]
 pub fn check_spread_element<N: CheckNode>(
     node: &SpreadElement<N>,
     around: Surroundings<'_>,
@@ -23,6 +24,7 @@ pub fn check_spread_element<N: CheckNode>(
     check_node(around, node.span, Ok(()), argument)
 }
 
+#[inline(never)]
 pub fn check_array_expression<N: CheckNode>(
     node: &ArrayExpression<N>,
     around: Surroundings<'_>,
@@ -33,6 +35,7 @@ pub fn check_array_expression<N: CheckNode>(
     check_node(around, node.span, Ok(()), elements)
 }
 
+#[inline(never)]
 pub fn check_object_property<N: CheckNode>(
     node: &ObjectProperty<N>,
     around: Surroundings<'_>,
@@ -45,6 +48,7 @@ pub fn check_object_property<N: CheckNode>(
     check_node(around, node.span, rules, higher(key, value))
 }
 
+#[inline(never)]
 pub fn check_object_expression<N: CheckNode>(
     node: &ObjectExpression<N>,
     around: Surroundings<'_>,

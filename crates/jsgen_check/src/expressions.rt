@@ -84,6 +84,7 @@ pub fn check_string_literal(
     check_node(around, node.span, Ok(()), Ok(0))
 }
 
+#[inline(never)]
 pub fn check_parenthesized_expression<N: CheckNode>(
     node: &ParenthesizedExpression<N>,
     around: Surroundings<'_>,
@@ -94,6 +95,7 @@ pub fn check_parenthesized_expression<N: CheckNode>(
     check_node(around, node.span, Ok(()), expression)
 }
 
+#[inline(never)]
 pub fn check_binary_expression<N: CheckNode>(
     node: &BinaryExpression<N>,
     around: Surroundings<'_>,
@@ -105,6 +107,7 @@ pub fn check_binary_expression<N: CheckNode>(
     check_node(around, node.span, Ok(()), higher(left, right))
 }
 
+#[inline(never)]
 pub fn check_logical_expression<N: CheckNode>(
     node: &LogicalExpression<N>,
     around: Surroundings<'_>,
@@ -126,6 +129,7 @@ pub fn check_identifier_name(
     check_node(around, node.span, rules, Ok(0))
 }
 
+#[inline(never)]
 pub fn check_static_member_expression<N: CheckNode>(
     node: &StaticMemberExpression<N>,
     around: Surroundings<'_>,
@@ -138,6 +142,7 @@ pub fn check_static_member_expression<N: CheckNode>(
     check_node(around, node.span, rules, higher(object, property))
 }
 
+#[inline(never)]
 pub fn check_computed_member_expression<N: CheckNode>(
     node: &ComputedMemberExpression<N>,
     around: Surroundings<'_>,
@@ -150,6 +155,7 @@ pub fn check_computed_member_expression<N: CheckNode>(
     check_node(around, node.span, rules, higher(object, expression))
 }
 
+#[inline(never)]
 pub fn check_call_expression<N: CheckNode>(
     node: &CallExpression<N>,
     around: Surroundings<'_>,
@@ -162,6 +168,7 @@ pub fn check_call_expression<N: CheckNode>(
     check_node(around, node.span, rules, higher(callee, arguments))
 }
 
+#[inline(never)]
 pub fn check_chain_expression<N: CheckNode>(
     node: &ChainExpression<N>,
     around: Surroundings<'_>,

@@ -18,6 +18,7 @@ use jsgen_tree::{
     FunctionBody, NodeSet,
 };
 
+#[inline(never)]
 pub fn check_formal_parameter<N: CheckNode>(
     node: &FormalParameter<N>,
     around: Surroundings<'_>,
@@ -29,6 +30,7 @@ pub fn check_formal_parameter<N: CheckNode>(
     check_node(around, node.span, Ok(()), higher(pattern, initializer))
 }
 
+#[inline(never)]
 pub fn check_formal_parameter_rest<N: CheckNode>(
     node: &FormalParameterRest<N>,
     around: Surroundings<'_>,
@@ -39,6 +41,7 @@ pub fn check_formal_parameter_rest<N: CheckNode>(
     check_node(around, node.span, Ok(()), argument)
 }
 
+#[inline(never)]
 pub fn check_formal_parameters<N: CheckNode>(
     node: &FormalParameters<N>,
     around: Surroundings<'_>,
@@ -50,6 +53,7 @@ pub fn check_formal_parameters<N: CheckNode>(
     check_node(around, node.span, Ok(()), higher(items, rest))
 }
 
+#[inline(never)]
 pub fn check_function<N: CheckNode>(
     node: &Function<N>,
     around: Surroundings<'_>,
@@ -63,6 +67,7 @@ pub fn check_function<N: CheckNode>(
     check_node(around, node.span, rules, higher(id, higher(params, body)))
 }
 
+#[inline(never)]
 pub fn check_function_body<N: CheckNode>(
     node: &FunctionBody<N>,
     around: Surroundings<'_>,
@@ -75,6 +80,7 @@ pub fn check_function_body<N: CheckNode>(
     check_node(around, node.span, Ok(()), higher(directives, statements))
 }
 
+#[inline(never)]
 pub fn check_arrow_function_expression<N: CheckNode>(
     node: &ArrowFunctionExpression<N>,
     around: Surroundings<'_>,

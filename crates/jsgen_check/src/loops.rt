@@ -22,6 +22,7 @@ use jsgen_tree::{
     ThrowStatement, WhileStatement,
 };
 
+#[inline(never)]
 pub fn check_for_statement<N: CheckNode>(
     node: &ForStatement<N>,
     around: Surroundings<'_>,
@@ -41,6 +42,7 @@ pub fn check_for_statement<N: CheckNode>(
     )
 }
 
+#[inline(never)]
 pub fn check_for_in_statement<N: CheckNode>(
     node: &ForInStatement<N>,
     around: Surroundings<'_>,
@@ -54,6 +56,7 @@ pub fn check_for_in_statement<N: CheckNode>(
     check_node(around, node.span, rules, higher(left, higher(right, body)))
 }
 
+#[inline(never)]
 pub fn check_for_of_statement<N: CheckNode>(
     node: &ForOfStatement<N>,
     around: Surroundings<'_>,
@@ -67,6 +70,7 @@ pub fn check_for_of_statement<N: CheckNode>(
     check_node(around, node.span, rules, higher(left, higher(right, body)))
 }
 
+#[inline(never)]
 pub fn check_while_statement<N: CheckNode>(
     node: &WhileStatement<N>,
     around: Surroundings<'_>,
@@ -79,6 +83,7 @@ pub fn check_while_statement<N: CheckNode>(
     check_node(around, node.span, rules, higher(test, body))
 }
 
+#[inline(never)]
 pub fn check_do_while_statement<N: CheckNode>(
     node: &DoWhileStatement<N>,
     around: Surroundings<'_>,
@@ -101,6 +106,7 @@ pub fn check_label_identifier(
     check_node(around, node.span, rules, Ok(0))
 }
 
+#[inline(never)]
 pub fn check_labeled_statement<N: CheckNode>(
     node: &LabeledStatement<N>,
     around: Surroundings<'_>,
@@ -113,6 +119,7 @@ pub fn check_labeled_statement<N: CheckNode>(
     check_node(around, node.span, rules, higher(label, body))
 }
 
+#[inline(never)]
 pub fn check_continue_statement(
     node: &ContinueStatement,
     around: Surroundings<'_>,
@@ -123,6 +130,7 @@ pub fn check_continue_statement(
     check_node(around, node.span, Ok(()), label)
 }
 
+#[inline(never)]
 pub fn check_break_statement(
     node: &BreakStatement,
     around: Surroundings<'_>,
@@ -133,6 +141,7 @@ pub fn check_break_statement(
     check_node(around, node.span, Ok(()), label)
 }
 
+#[inline(never)]
 pub fn check_return_statement<N: CheckNode>(
     node: &ReturnStatement<N>,
     around: Surroundings<'_>,
@@ -144,6 +153,7 @@ pub fn check_return_statement<N: CheckNode>(
     check_node(around, node.span, rules, argument)
 }
 
+#[inline(never)]
 pub fn check_throw_statement<N: CheckNode>(
     node: &ThrowStatement<N>,
     around: Surroundings<'_>,

@@ -11,6 +11,7 @@ use crate::{CheckNode, Surroundings, check_child};
 use jsgen_model::TreeFault;
 use jsgen_tree::{NewExpression, NewTarget, NodeSet, Super, UnaryExpression, UpdateExpression};
 
+#[inline(never)]
 pub fn check_unary_expression<N: CheckNode>(
     node: &UnaryExpression<N>,
     around: Surroundings<'_>,
@@ -27,6 +28,7 @@ pub fn check_new_target(node: &NewTarget, around: Surroundings<'_>) -> Result<u6
     check_node(around, node.span, Ok(()), Ok(0))
 }
 
+#[inline(never)]
 pub fn check_update_expression<N: CheckNode>(
     node: &UpdateExpression<N>,
     around: Surroundings<'_>,
@@ -38,6 +40,7 @@ pub fn check_update_expression<N: CheckNode>(
     check_node(around, node.span, rules, argument)
 }
 
+#[inline(never)]
 pub fn check_new_expression<N: CheckNode>(
     node: &NewExpression<N>,
     around: Surroundings<'_>,

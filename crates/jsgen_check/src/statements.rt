@@ -34,6 +34,7 @@ pub fn check_directive(node: &Directive, around: Surroundings<'_>) -> Result<u64
     check_node(around, node.span, rules, Ok(0))
 }
 
+#[inline(never)]
 pub fn check_variable_declaration<N: CheckNode>(
     node: &VariableDeclaration<N>,
     around: Surroundings<'_>,
@@ -45,6 +46,7 @@ pub fn check_variable_declaration<N: CheckNode>(
     check_node(around, node.span, rules, declarations)
 }
 
+#[inline(never)]
 pub fn check_variable_declarator<N: CheckNode>(
     node: &VariableDeclarator<N>,
     around: Surroundings<'_>,
@@ -66,6 +68,7 @@ pub fn check_binding_identifier(
     check_node(around, node.span, rules, Ok(0))
 }
 
+#[inline(never)]
 pub fn check_expression_statement<N: CheckNode>(
     node: &ExpressionStatement<N>,
     around: Surroundings<'_>,
@@ -76,6 +79,7 @@ pub fn check_expression_statement<N: CheckNode>(
     check_node(around, node.span, Ok(()), expression)
 }
 
+#[inline(never)]
 pub fn check_block_statement<N: CheckNode>(
     node: &BlockStatement<N>,
     around: Surroundings<'_>,
@@ -86,6 +90,7 @@ pub fn check_block_statement<N: CheckNode>(
     check_node(around, node.span, Ok(()), body)
 }
 
+#[inline(never)]
 pub fn check_if_statement<N: CheckNode>(
     node: &IfStatement<N>,
     around: Surroundings<'_>,

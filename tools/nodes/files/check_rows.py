@@ -125,7 +125,9 @@ def of_row(table, n):
     body += "".join(f"    let {name} = {call};\n" for name, call, _, _ in below)
     own = "rules" if n.rules else "Ok(())"
     children = highest([name for name, _, _, _ in below]) if below else "Ok(0)"
-    return f"""pub fn {check(n.name)}{parameter}(node: &{of}, {AROUND}) -> {RESULT}
+    # (one function that has all of them has a frame for all of them at each level of a nested tree)
+    own_frame = "#[inline(never)]\n" if table.children(n) else ""
+    return f"""{own_frame}pub fn {check(n.name)}{parameter}(node: &{of}, {AROUND}) -> {RESULT}
     ensures {{ result ≡ tree_verdict around.entry ({plain(table, n.name)} node.now) }}
 {{
 {body}    check_node(around, node.span, {own}, {children})
