@@ -34,6 +34,7 @@ use crate::{CheckNode, Surroundings};
 use jsgen_model::TreeFault;
 use jsgen_tree::{BindingPattern, Declaration, Expression, Statement};
 
+#[inline(never)]
 pub fn check_expression_set<N: CheckNode>(
     node: &Expression<N>,
     around: Surroundings<'_>,
@@ -72,6 +73,7 @@ pub fn check_expression_set<N: CheckNode>(
     }
 }
 
+#[inline(never)]
 pub fn check_declaration_set<N: CheckNode>(
     node: &Declaration<N>,
     around: Surroundings<'_>,
@@ -84,6 +86,7 @@ pub fn check_declaration_set<N: CheckNode>(
     }
 }
 
+#[inline(never)]
 pub fn check_statement_set<N: CheckNode>(
     node: &Statement<N>,
     around: Surroundings<'_>,
@@ -112,6 +115,7 @@ pub fn check_statement_set<N: CheckNode>(
     }
 }
 
+#[inline(never)]
 pub fn check_binding_pattern_set(
     node: &BindingPattern,
     around: Surroundings<'_>,

@@ -338,7 +338,8 @@ def of_set(table, s):
     for m in s.members:
         call = "node.get().check(around)" if m in table.sets else f"{check(m)}(node, around)"
         arms += f"        {s.name}::{m}(node) => {call},\n"
-    return f"""pub fn {check(s.name)}_set{parameter}(node: &{of}, {AROUND}) -> {RESULT}
+    return f"""#[inline(never)]
+pub fn {check(s.name)}_set{parameter}(node: &{of}, {AROUND}) -> {RESULT}
     ensures {{ result ≡ tree_verdict around.entry ({s.plain}{" N.plain" if parameter else ""} node.now) }}
 {{
     match node {{
