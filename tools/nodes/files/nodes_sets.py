@@ -1,6 +1,6 @@
 """The crate of print functions: src/sets.rt, where a set prints as its member does (a set of two that doesn't nest is chosen from where
-it is printed); and, of a set whose members stand in several
-files of the table, specs/Parts.antt and proofs/Parts.antt: in which part of the choice each member is, and their answers."""
+it is printed); and, of a set whose members stand in several files of the table, specs/Parts.antt and proofs/Parts.antt: in which part
+of the choice each member is, and their answers."""
 
 import re
 
@@ -12,10 +12,10 @@ from table import snake
 
 CRATE = REPOSITORY / "crates" / "jsgen_nodes"
 SPECS = "Rattle.jsgen_nodes.specs.Parts"
+PROOFS = "Rattle.jsgen_nodes.proofs"
 
 # The sets that print otherwise than their members do elsewhere.
 OF_THEIR_OWN = ("PropertyKey", "ChainElement")
-PROOFS = "Rattle.jsgen_nodes.proofs"
 
 
 def write(table):

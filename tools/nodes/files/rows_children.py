@@ -58,8 +58,8 @@ def ghosts_of(table):
 
 def file_of(table, about, homes, body):
     tree = list(table.nodes) + list(table.sets) + [s.name + "Node" for s in table.nesting()] + ["NodeSet"]
-    homes = homes + [("crate::asked", ["Child", "ReadNode"]), ("crate::kept", ["Row"]), ("crate::others", [kept(table, s) for s in outer(table)]), ("jsgen_tree", tree),
-                     ("std::alloc", ["AllocError", "Global"])]
+    homes = homes + [("crate::asked", ["Child", "ReadNode"]), ("crate::kept", ["Row"]), ("jsgen_tree", tree),
+                     ("crate::others", [kept(table, s) for s in outer(table)]), ("std::alloc", ["AllocError", "Global"])]
     return layout.rust(about, ghosts_of(table), TYPES, homes, body)
 
 
