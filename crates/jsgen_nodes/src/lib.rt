@@ -16,7 +16,6 @@ mod iterations;
 mod jumps;
 mod links;
 mod loops;
-mod methods;
 mod names;
 mod operands;
 mod operators;
@@ -31,46 +30,32 @@ ghost use Rattle.std.specs.Prelude.{◌≡◌, option_map};
 ghost use Rattle.jsgen_syntax.specs.Units.{js_units};
 ghost use Rattle.jsgen_tree.specs.Tree.{Tree, type_of};
 ghost use Rattle.std.specs.Str.{chars};
-ghost use Rattle.jsgen_tree.specs.Inside.{without_parentheses, ends_open, reference_in, looked_up_in, named_by, written_name_in, is_negative};
+ghost use Rattle.jsgen_tree.specs.Inside.{without_parentheses, ends_open, looked_up_in, named_by, written_name_in, is_negative};
 ghost use Rattle.jsgen_tree.specs.Plain.{node_plain};
 ghost use Rattle.jsgen_model.specs.Layout.{layout};
 ghost use Rattle.jsgen_model.specs.Spell.{spell_method, string_in, string_statement};
-ghost use Rattle.jsgen_model.specs.Quotes.{is_member_of};
+ghost use Rattle.jsgen_model.specs.Quotes.{is_member_of, is_named};
 ghost use Rattle.jsgen_model.specs.Printing.{Reaches};
 ghost use Rattle.jsgen_printer.specs.Printer.{pen_of};
 ghost use Rattle.jsgen_place.specs.Place.{place_of, operand_of};
 ghost use Rattle.jsgen_nodes.specs.Names.{is_binding_name};
 ghost use Rattle.jsgen_nodes.specs.Place.{pen_after};
 
+use definitions::print_behind_name;
 use jsgen_place::{Context, Operand, Place, Settings};
 use jsgen_printer::Printer;
 use jsgen_syntax::{JsStr, Memory};
-use jsgen_tree::{IdentifierReference, Node, NodeType};
-use methods::{
-    print_binding_pattern_as_method, print_declaration_as_method, print_expression_as_method,
-    print_statement_as_method,
-};
-use names::{
-    binding_pattern_is_member, binding_pattern_is_name, declaration_is_member, declaration_is_name,
-    expression_is_member, expression_is_name, statement_is_member, statement_is_name,
-};
-use operands::{
-    binding_pattern_operand, declaration_operand, expression_operand, statement_operand,
-};
+use jsgen_tree::{Declaration, Expression, IdentifierReference, Node, NodeType, Statement};
+use names::{is_binding_name, is_member, is_named};
+use operands::operand;
 pub use quotes::{
     try_print_define_property_call, try_print_equality_string, try_print_exports_computed_target,
     try_print_require_call,
 };
 use sets::{print_binding_pattern, print_declaration, print_expression, print_statement};
-use shapes::{
-    binding_pattern_ends_open, declaration_ends_open, expression_ends_open, statement_ends_open,
-};
+use shapes::ends_open;
 pub use statements::print_program;
-use strings::{
-    binding_pattern_as_statement, binding_pattern_string, declaration_as_statement,
-    declaration_string, expression_as_statement, expression_string, statement_as_string,
-    statement_string,
-};
+use strings::{string, string_statement};
 
 /// Where trees nest: what the print functions ask of a child. Only `Node` implements it.
 pub trait PrintNode {
@@ -102,9 +87,9 @@ pub trait PrintNode {
     fn ends_open(&self) -> bool
         ensures { result ≡ ends_open (plain self.now) };
 
-    /// The name that it looks up, without the parentheses that it may have round it.
-    fn reference(&self) -> Option<&str>
-        ensures { option_map (λ s. chars s.now) result ≡ reference_in (without_parentheses (plain self.now)) };
+    /// Whether it is a reference to this name.
+    fn is_named(&self, name: &str) -> bool
+        ensures { result ≡ is_named (chars name.now) (plain self.now) };
 
     /// The reference itself, with its number, without the parentheses that it may have round it.
     fn looked_up(&self) -> Option<&IdentifierReference>
@@ -177,75 +162,48 @@ impl PrintNode for Node {
     #[cycle(node)]
     fn print_as_method(&self, p: &mut Printer<'_>, place: Place) -> Result<(), Memory> {
         match self {
-            Node::Expression(node) => print_expression_as_method(node, p, place),
-            Node::Statement(node) => print_statement_as_method(node, p, place),
-            Node::Declaration(node) => print_declaration_as_method(node, p, place),
-            Node::BindingPattern(node) => print_binding_pattern_as_method(node, p, place),
+            Node::Expression(expression) => match expression {
+                Expression::Function(function) => print_behind_name(function, p, place),
+                _ => Ok(()),
+            },
+            Node::Statement(statement) => match statement {
+                Statement::Declaration(declaration) => declaration.get().print_as_method(p, place),
+                _ => Ok(()),
+            },
+            Node::Declaration(declaration) => match declaration {
+                Declaration::Function(function) => print_behind_name(function, p, place),
+                _ => Ok(()),
+            },
+            Node::BindingPattern(_) => Ok(()),
         }
     }
 
-    #[cycle(node)]
     fn operand(&self) -> Operand {
-        match self {
-            Node::Expression(node) => expression_operand(node),
-            Node::Statement(node) => statement_operand(node),
-            Node::Declaration(node) => declaration_operand(node),
-            Node::BindingPattern(node) => binding_pattern_operand(node),
-        }
+        operand(self)
     }
 
-    #[cycle(node)]
     fn string(&self) -> Option<&JsStr> {
-        match self {
-            Node::Expression(node) => expression_string(node),
-            Node::Statement(node) => statement_string(node),
-            Node::Declaration(node) => declaration_string(node),
-            Node::BindingPattern(node) => binding_pattern_string(node),
-        }
+        string(self)
     }
 
-    #[cycle(node)]
     fn string_statement(&self) -> Option<&JsStr> {
-        match self {
-            Node::Expression(node) => expression_as_statement(node),
-            Node::Statement(node) => statement_as_string(node),
-            Node::Declaration(node) => declaration_as_statement(node),
-            Node::BindingPattern(node) => binding_pattern_as_statement(node),
-        }
+        string_statement(self)
     }
 
-    #[cycle(node)]
     fn ends_open(&self) -> bool {
-        match self {
-            Node::Expression(node) => expression_ends_open(node),
-            Node::Statement(node) => statement_ends_open(node),
-            Node::Declaration(node) => declaration_ends_open(node),
-            Node::BindingPattern(node) => binding_pattern_ends_open(node),
-        }
+        ends_open(self)
     }
 
-    #[cycle(node)]
     fn is_member(&self, object: &str, name: &str) -> bool {
-        match self {
-            Node::Expression(node) => expression_is_member(node, object, name),
-            Node::Statement(node) => statement_is_member(node, object, name),
-            Node::Declaration(node) => declaration_is_member(node, object, name),
-            Node::BindingPattern(node) => binding_pattern_is_member(node, object, name),
-        }
+        is_member(self, object, name)
     }
 
-    #[cycle(node)]
     fn is_binding_name(&self) -> bool {
-        match self {
-            Node::Expression(node) => expression_is_name(node),
-            Node::Statement(node) => statement_is_name(node),
-            Node::Declaration(node) => declaration_is_name(node),
-            Node::BindingPattern(node) => binding_pattern_is_name(node),
-        }
+        is_binding_name(self)
     }
 
-    fn reference(&self) -> Option<&str> {
-        self.reference()
+    fn is_named(&self, name: &str) -> bool {
+        is_named(self, name)
     }
 
     fn looked_up(&self) -> Option<&IdentifierReference> {

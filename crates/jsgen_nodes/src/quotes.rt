@@ -5,6 +5,7 @@ ghost use Rattle.jsgen_tree.specs.Tree.{trees};
 ghost use Rattle.jsgen_tree.specs.Inside.{without_parentheses};
 ghost use Rattle.jsgen_tree.specs.Rows.{in_argument, in_expression, in_assignment_target, expression_plain, computed_member_expression_row};
 ghost use Rattle.jsgen_model.specs.Layout.{layout};
+ghost use Rattle.jsgen_tree.specs.Plain.{node_plain};
 ghost use Rattle.jsgen_model.specs.Quotes.{is_string, is_one_string, has_second_string, defines_property, is_exports, is_key_of_exports, is_require_call, is_definition_call, is_export_target, is_export_mark};
 ghost use Rattle.jsgen_model.specs.Spell.{string_in};
 ghost use Rattle.jsgen_model.specs.Printing.{Reaches};
@@ -15,9 +16,8 @@ ghost use Rattle.jsgen_nodes.specs.Quotes.{where_it_holds, plain_arguments, plai
 use crate::PrintNode;
 use crate::collections::key_string;
 use crate::links::Arguments;
-use crate::names::is_named;
 use crate::sets::print_assignment_target;
-use crate::strings::expression_string;
+use crate::strings::bare_string;
 use jsgen_lists::{PlainQuotes, print_arguments};
 use jsgen_place::{
     Context, Place, Settings, is_definition_call, is_export_mark, is_export_target, is_require_call,
@@ -74,7 +74,7 @@ fn defines_property<N: PrintNode>(callee: &N) -> bool
 fn is_exports<N: PrintNode>(node: &N) -> bool
     ensures { result ≡ is_exports (N.plain node.now) }
 {
-    is_named(node, "exports") || node.is_member("module", "exports")
+    node.is_named("exports") || node.is_member("module", "exports")
 }
 
 fn member_is_key_of_exports<N: PrintNode>(node: &ComputedMemberExpression<N>) -> bool
@@ -97,7 +97,7 @@ fn is_require<N: PrintNode>(minified: bool, call: &CallExpression<N>) -> bool
 {
     is_require_call(
         minified,
-        is_named(call.callee.get(), "require"),
+        call.callee.get().is_named("require"),
         is_one_string(&call.arguments),
     )
 }
@@ -212,17 +212,17 @@ pub fn try_print_exports_computed_target<N: PrintNode>(
 
 /// Prints the operand, if it is `"default"` or `"__esModule"`, the operator compares by equality and the text is minified;
 /// otherwise prints nothing.
-pub fn try_print_equality_string<N: PrintNode>(
+pub fn try_print_equality_string(
     p: &mut Printer<'_>,
     operator: BinaryOperator,
-    operand: &Expression<N>,
+    operand: &Expression,
 ) -> Result<bool, Memory>
-    ensures applies { IfOk result (λ applies. applies ≡ is_export_mark (pen_of p.old).style.minified operator (expression_plain N.plain operand.now)) }
+    ensures applies { IfOk result (λ applies. applies ≡ is_export_mark (pen_of p.old).style.minified operator (expression_plain node_plain operand.now)) }
     ensures text { Reaches result (pen_of p.old) (pen_of p.new)
-        (layout (where_it_holds (is_export_mark (pen_of p.old).style.minified operator (expression_plain N.plain operand.now))
-        (plain_string (string_in (without_parentheses (expression_plain N.plain operand.now))))) (pen_of p.old)) }
+        (layout (where_it_holds (is_export_mark (pen_of p.old).style.minified operator (expression_plain node_plain operand.now))
+        (plain_string (string_in (without_parentheses (expression_plain node_plain operand.now))))) (pen_of p.old)) }
 {
-    let string = expression_string(operand);
+    let string = bare_string(operand.without_parentheses());
     if is_export_mark(p.is_minified(), operator, string) {
         print_plain_string(string, p)?;
         Ok(true)

@@ -1,15 +1,14 @@
 // What a statement is as what `if`, `else`, a loop or a label is followed by.
 ghost use Rattle.std.specs.Prelude.{◌≡◌, option_map};
 ghost use Rattle.jsgen_tree.specs.Inside.{ends_open};
-ghost use Rattle.jsgen_tree.specs.Rows.{if_statement_row, in_statement, expression_plain, statement_plain, declaration_plain, binding_pattern_plain};
+ghost use Rattle.jsgen_tree.specs.Rows.{in_statement};
+ghost use Rattle.jsgen_tree.specs.Plain.{node_plain};
 ghost use Rattle.jsgen_model.specs.Spell.{shape, shape_of_type};
 ghost use Rattle.jsgen_nodes.specs.Blocks.{shape_of};
 
 use crate::PrintNode;
 use jsgen_place::if_ends_open;
-use jsgen_tree::{
-    BindingPattern, Declaration, Expression, IfStatement, NodeType, Statement, StatementNode,
-};
+use jsgen_tree::{IfStatement, Node, NodeType, Statement};
 
 /// What stands on the line of what it follows, and what is a line of its own.
 #[derive(Clone, Copy)]
@@ -37,58 +36,35 @@ pub fn shape<N: PrintNode>(statement: &N) -> BodyShape
     shape_of_type(statement.node_type())
 }
 
-// ---- an `if` without `else` at the end
-
-fn if_statement_ends_open<N: PrintNode>(node: &IfStatement<N>) -> bool
-    ensures { result ≡ ends_open (if_statement_row N.plain node.now) }
+/// Whether a node ends in an `if` without `else`.
+#[cycle(ends_open)]
+pub fn ends_open(node: &Node) -> bool
+    ensures { result ≡ ends_open (node_plain node.now) }
 {
-    if_ends_open(alternate_ends_open(&node.alternate))
+    match node {
+        Node::Expression(_) => false,
+        Node::Declaration(_) => false,
+        Node::BindingPattern(_) => false,
+        Node::Statement(statement) => match statement {
+            Statement::Declaration(node) => ends_open(node.get()),
+            Statement::IfStatement(node) => if_ends_open(alternate_ends_open(node)),
+            Statement::ForStatement(node) => ends_open(node.body.get()),
+            Statement::ForInStatement(node) => ends_open(node.body.get()),
+            Statement::ForOfStatement(node) => ends_open(node.body.get()),
+            Statement::WhileStatement(node) => ends_open(node.body.get()),
+            Statement::LabeledStatement(node) => ends_open(node.body.get()),
+            _ => false,
+        },
+    }
 }
 
-fn alternate_ends_open<N: PrintNode>(alternate: &Option<StatementNode<N>>) -> Option<bool>
-    ensures { result ≡ option_map ends_open (option_map (in_statement N.plain) alternate.now) }
+// Whether what follows `else` does, where there is an `else`.
+#[cycle(ends_open)]
+fn alternate_ends_open(node: &IfStatement) -> Option<bool>
+    ensures { result ≡ option_map ends_open (option_map (in_statement node_plain) node.now.alternate) }
 {
-    match alternate {
-        Some(alternate) => Some(alternate.get().ends_open()),
+    match &node.alternate {
+        Some(alternate) => Some(ends_open(alternate.get())),
         None => None,
-    }
-}
-
-pub fn expression_ends_open<N: PrintNode>(node: &Expression<N>) -> bool
-    ensures { result ≡ ends_open (expression_plain N.plain node.now) }
-{
-    match node {
-        _ => false,
-    }
-}
-
-pub fn statement_ends_open<N: PrintNode>(node: &Statement<N>) -> bool
-    ensures { result ≡ ends_open (statement_plain N.plain node.now) }
-{
-    match node {
-        Statement::Declaration(node) => node.get().ends_open(),
-        Statement::IfStatement(node) => if_statement_ends_open(node),
-        Statement::ForStatement(node) => node.body.get().ends_open(),
-        Statement::ForInStatement(node) => node.body.get().ends_open(),
-        Statement::ForOfStatement(node) => node.body.get().ends_open(),
-        Statement::WhileStatement(node) => node.body.get().ends_open(),
-        Statement::LabeledStatement(node) => node.body.get().ends_open(),
-        _ => false,
-    }
-}
-
-pub fn declaration_ends_open<N: PrintNode>(node: &Declaration<N>) -> bool
-    ensures { result ≡ ends_open (declaration_plain N.plain node.now) }
-{
-    match node {
-        _ => false,
-    }
-}
-
-pub fn binding_pattern_ends_open(node: &BindingPattern) -> bool
-    ensures { result ≡ ends_open (binding_pattern_plain node.now) }
-{
-    match node {
-        _ => false,
     }
 }

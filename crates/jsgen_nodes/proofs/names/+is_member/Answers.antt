@@ -1,0 +1,21 @@
+use Rattle.std.proofs.Common.{rules}
+use Rattle.jsgen_tree.proofs.Knot.{plain_expression, plain_declaration, plain_binding_pattern, plain_statement}
+use Rattle.jsgen_nodes.proofs.names.+is_member.Goals as goal
+
+pub returns-in-StaticMemberExpression : goal.returns-in-StaticMemberExpression
+returns-in-StaticMemberExpression t c = search (rules, plain_expression)
+
+pub returns-in_default : goal.returns-in_default
+returns-in_default t c = search (rules, plain_expression)
+
+pub returns-in-Declaration-statement : goal.returns-in-Declaration-statement
+returns-in-Declaration-statement t c = search (rules, plain_statement)
+
+pub returns-in_default-statement : goal.returns-in_default-statement
+returns-in_default-statement t c = search (rules, plain_statement)
+
+pub returns-in-Declaration : goal.returns-in-Declaration
+returns-in-Declaration t c = search (rules, plain_declaration)
+
+pub returns-in-BindingPattern : goal.returns-in-BindingPattern
+returns-in-BindingPattern t c = search (rules, plain_binding_pattern)
