@@ -2,7 +2,7 @@
 ghost use Rattle.std.specs.Prelude.{◌≡◌, option_map};
 ghost use Rattle.std.specs.Str.{chars};
 ghost use Rattle.jsgen_tree.specs.Inside.{without_parentheses, is_negative, after_minus, unless_minus, behind_minus};
-ghost use Rattle.jsgen_tree.specs.Rows.{expression_plain, numeric_literal_row};
+ghost use Rattle.jsgen_tree.specs.Rows.{numeric_literal_row};
 ghost use Rattle.jsgen_tree.specs.Plain.{node_plain};
 
 use crate::expressions::NumericLiteral;
@@ -62,19 +62,8 @@ impl Node {
         ensures { result ≡ is_negative (without_parentheses (node_plain self.now)) }
     {
         match self.inner_expression() {
-            Some(expression) => expression.is_negative(),
-            None => false,
-        }
-    }
-}
-
-impl Expression {
-    fn is_negative(&self) -> bool
-        ensures { result ≡ is_negative (expression_plain node_plain self.now) }
-    {
-        match self {
-            Expression::NumericLiteral(node) => node.is_negative(),
-            Expression::BigIntLiteral(node) => behind_minus(node.value.as_str()).is_some(),
+            Some(Expression::NumericLiteral(node)) => node.is_negative(),
+            Some(Expression::BigIntLiteral(node)) => behind_minus(node.value.as_str()).is_some(),
             _ => false,
         }
     }

@@ -10,12 +10,6 @@ def write(table):
             answers(table, "span.NodeGetSpan.+node_span", "returns-in-{s.name}", "{name}_spans"),
         "proofs/+node_type/Answers.antt":
             answers(table, "+node_type", "nodes::Node::node_type-returns-in-{s.name}", "plain_{name}"),
-        "proofs/+written_name/Answers.antt":
-            answers(table, "+written_name", "nodes::Node::written_name-returns-in-{s.name}", "plain_{name}"),
-        "proofs/+declared_kind/Answers.antt":
-            answers(table, "+declared_kind", "nodes::Node::declared_kind-returns-in-{s.name}", "plain_{name}"),
-        "proofs/+as_function/Answers.antt":
-            answers(table, "+as_function", "nodes::Node::as_function-returns-in-{s.name}", "plain_{name}"),
     }
 
 

@@ -16,14 +16,17 @@ only_expression : (h : Node → Tree) (n : Expression Node) → ((b : Box (Funct
 only_expression h (expressions.Function b) no_function = absurd (no_function b refl)
 only_expression h n no_function = refl
 
-pub inside::Expression::inner-returns-in_default : goal.inside::Expression::inner-returns-in_default
-inside::Expression::inner-returns-in_default t c = (only_expression _ c.args.self.now c.in_default.not-Function, c.without_parentheses.ensures)
+pub nodes::Node::inner_expression-returns-in-Function : goal.nodes::Node::inner_expression-returns-in-Function
+nodes::Node::inner_expression-returns-in-Function t c = search (rules, plain_expression)
 
-pub nodes::Node::inner_expression-returns-in-Expression : goal.nodes::Node::inner_expression-returns-in-Expression
-nodes::Node::inner_expression-returns-in-Expression t c = search (rules, plain_expression)
+pub nodes::Node::inner_expression-returns-in_default : goal.nodes::Node::inner_expression-returns-in_default
+nodes::Node::inner_expression-returns-in_default t c = rw (c.in-Expression.is, plain_expression c.in-Expression.expression) (only_expression _ c.in-Expression.expression c.in_default.not-Function, c.without_parentheses.ensures)
 
-pub nodes::Node::inner_expression-returns-in-Statement : goal.nodes::Node::inner_expression-returns-in-Statement
-nodes::Node::inner_expression-returns-in-Statement t c = search (rules, plain_statement)
+pub nodes::Node::inner_expression-returns-in-Declaration-statement : goal.nodes::Node::inner_expression-returns-in-Declaration-statement
+nodes::Node::inner_expression-returns-in-Declaration-statement t c = search (rules, plain_statement)
+
+pub nodes::Node::inner_expression-returns-in_default-statement : goal.nodes::Node::inner_expression-returns-in_default-statement
+nodes::Node::inner_expression-returns-in_default-statement t c = search (rules, plain_statement)
 
 pub nodes::Node::inner_expression-returns-in-Declaration : goal.nodes::Node::inner_expression-returns-in-Declaration
 nodes::Node::inner_expression-returns-in-Declaration t c = search (rules, declaration_is_none)

@@ -1,0 +1,18 @@
+use Rattle.std.proofs.Common.{rules}
+use Rattle.jsgen_tree.proofs.Knot.{plain_expression, plain_statement, plain_declaration, plain_binding_pattern}
+use Rattle.jsgen_tree.proofs.nodes.Node.+written_name.Goals as goal
+
+pub returns-in-Expression : goal.returns-in-Expression
+returns-in-Expression t c = search (rules, plain_expression)
+
+pub returns-in-Declaration-statement : goal.returns-in-Declaration-statement
+returns-in-Declaration-statement t c = search (rules, plain_statement)
+
+pub returns-in_default : goal.returns-in_default
+returns-in_default t c = search (rules, plain_statement)
+
+pub returns-in-Declaration : goal.returns-in-Declaration
+returns-in-Declaration t c = search (rules, plain_declaration)
+
+pub returns-in-BindingPattern : goal.returns-in-BindingPattern
+returns-in-BindingPattern t c = search (rules, plain_binding_pattern)
