@@ -31,10 +31,7 @@ mod surroundings;
 
 use crate::heights::check_top;
 use crate::kinds::{expression_fits_kind, method_fits};
-use crate::links::{
-    binding_pattern_has_optional_link, declaration_has_optional_link, expression_has_optional_link,
-    statement_has_optional_link,
-};
+use crate::links::{expression_has_optional_link, has_optional_link};
 use crate::program::check_program_row;
 use crate::sets::{
     check_binding_pattern_set, check_declaration_set, check_expression_set, check_statement_set,
@@ -233,14 +230,8 @@ impl CheckNode for Node {
         self.is_negative()
     }
 
-    #[cycle(node)]
     fn has_optional_link(&self) -> bool {
-        match self {
-            Node::Expression(node) => expression_has_optional_link(node),
-            Node::Statement(node) => statement_has_optional_link(node),
-            Node::Declaration(node) => declaration_has_optional_link(node),
-            Node::BindingPattern(node) => binding_pattern_has_optional_link(node),
-        }
+        has_optional_link(self)
     }
 
     #[cycle(node)]

@@ -1,12 +1,13 @@
 // Where optional links may stand (ECMA-262, 13.3).
 ghost use Rattle.std.specs.Prelude.{◌≡◌};
 ghost use Rattle.jsgen_tree.specs.Inside.{has_optional_link};
-ghost use Rattle.jsgen_tree.specs.Rows.{static_member_expression_row, computed_member_expression_row, call_expression_row, in_simple_assignment_target, in_assignment_target, in_chain_element, expression_plain, statement_plain, declaration_plain, binding_pattern_plain};
+ghost use Rattle.jsgen_tree.specs.Rows.{static_member_expression_row, computed_member_expression_row, call_expression_row, in_simple_assignment_target, in_assignment_target, in_chain_element, expression_plain};
+ghost use Rattle.jsgen_tree.specs.Plain.{node_plain};
 
 use crate::CheckNode;
 use jsgen_tree::{
-    AssignmentTarget, BindingPattern, CallExpression, ChainElement, ComputedMemberExpression,
-    Declaration, Expression, SimpleAssignmentTarget, Statement, StaticMemberExpression,
+    AssignmentTarget, CallExpression, ChainElement, ComputedMemberExpression, Expression, Node,
+    SimpleAssignmentTarget, Statement, StaticMemberExpression,
 };
 
 pub fn static_member_has_optional_link<N: CheckNode>(node: &StaticMemberExpression<N>) -> bool
@@ -61,38 +62,35 @@ pub fn assigned_has_optional_link<N: CheckNode>(node: &AssignmentTarget<N>) -> b
     }
 }
 
-pub fn expression_has_optional_link<N: CheckNode>(node: &Expression<N>) -> bool
-    ensures { result ≡ has_optional_link (expression_plain N.plain node.now) }
+/// Whether one of the links up to a node is optional, where it is a member or a call.
+#[cycle(has_optional_link)]
+pub fn has_optional_link(node: &Node) -> bool
+    ensures { result ≡ has_optional_link (node_plain node.now) }
 {
     match node {
-        Expression::StaticMemberExpression(node) => static_member_has_optional_link(node),
-        Expression::ComputedMemberExpression(node) => computed_member_has_optional_link(node),
-        Expression::CallExpression(node) => call_has_optional_link(node),
-        _ => false,
+        Node::Expression(expression) => expression_has_optional_link(expression),
+        Node::Statement(statement) => match statement {
+            Statement::Declaration(node) => has_optional_link(node.get()),
+            _ => false,
+        },
+        Node::Declaration(_) => false,
+        Node::BindingPattern(_) => false,
     }
 }
 
-pub fn statement_has_optional_link<N: CheckNode>(node: &Statement<N>) -> bool
-    ensures { result ≡ has_optional_link (statement_plain N.plain node.now) }
+/// The same of an expression.
+#[cycle(has_optional_link)]
+pub fn expression_has_optional_link(expression: &Expression) -> bool
+    ensures { result ≡ has_optional_link (expression_plain node_plain expression.now) }
 {
-    match node {
-        Statement::Declaration(node) => node.get().has_optional_link(),
-        _ => false,
-    }
-}
-
-pub fn declaration_has_optional_link<N: CheckNode>(node: &Declaration<N>) -> bool
-    ensures { result ≡ has_optional_link (declaration_plain N.plain node.now) }
-{
-    match node {
-        _ => false,
-    }
-}
-
-pub fn binding_pattern_has_optional_link(node: &BindingPattern) -> bool
-    ensures { result ≡ has_optional_link (binding_pattern_plain node.now) }
-{
-    match node {
+    match expression {
+        Expression::StaticMemberExpression(node) => {
+            node.optional || has_optional_link(node.object.get())
+        }
+        Expression::ComputedMemberExpression(node) => {
+            node.optional || has_optional_link(node.object.get())
+        }
+        Expression::CallExpression(node) => node.optional || has_optional_link(node.callee.get()),
         _ => false,
     }
 }

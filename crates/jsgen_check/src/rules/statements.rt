@@ -58,7 +58,6 @@ pub fn check_for_statement_rules<N: CheckNode>(
 }
 
 /// Whether a declaration declares one name, without a value.
-#[tactic(auto, using(crate::proofs::Declarators::several_names))]
 fn is_one_name<N: CheckNode>(declarators: &[VariableDeclarator<N>]) -> bool
     ensures { result ≡ is_one_name (trees (map (variable_declarator_row N.plain) declarators.now)) }
 {

@@ -12,15 +12,3 @@ check-returns-in-Declaration t c = rw (c.in-Declaration.is, plain_declaration c.
 
 pub check-returns-in-BindingPattern : goal.check-returns-in-BindingPattern
 check-returns-in-BindingPattern t c = rw (c.in-BindingPattern.is, plain_binding_pattern c.in-BindingPattern.pattern) c.check_binding_pattern_set.ensures
-
-pub has_optional_link-returns-in-Expression : goal.has_optional_link-returns-in-Expression
-has_optional_link-returns-in-Expression t c = rw (c.in-Expression.is, plain_expression c.in-Expression.node) c.expression_has_optional_link.ensures
-
-pub has_optional_link-returns-in-Statement : goal.has_optional_link-returns-in-Statement
-has_optional_link-returns-in-Statement t c = rw (c.in-Statement.is, plain_statement c.in-Statement.node) c.statement_has_optional_link.ensures
-
-pub has_optional_link-returns-in-Declaration : goal.has_optional_link-returns-in-Declaration
-has_optional_link-returns-in-Declaration t c = rw (c.in-Declaration.is, plain_declaration c.in-Declaration.node) c.declaration_has_optional_link.ensures
-
-pub has_optional_link-returns-in-BindingPattern : goal.has_optional_link-returns-in-BindingPattern
-has_optional_link-returns-in-BindingPattern t c = rw (c.in-BindingPattern.is, plain_binding_pattern c.in-BindingPattern.node) c.binding_pattern_has_optional_link.ensures
