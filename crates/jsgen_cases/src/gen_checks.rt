@@ -85,7 +85,10 @@ fn of_program(alloc: Global, check: &str) -> bool {
 }
 
 fn of_job(alloc: Global, job: Job, check: &str) -> bool {
-    let program = &job.program;
+    holds(alloc, &job.program, check)
+}
+
+fn holds(alloc: Global, program: &Program, check: &str) -> bool {
     match check {
         "alone" => alone(alloc, program),
         "levels" => levels(alloc, program) && negative_levels(alloc, program),
@@ -126,9 +129,9 @@ fn prints<G: Gen>(alloc: Global, node: &G, wanted: &str) -> bool {
     is(printer, outcome, wanted) && is(other, same, wanted)
 }
 
-fn prints_at<E: GenExpr>(
+fn prints_at(
     alloc: Global,
-    node: &E,
+    node: &Expression,
     level: Precedence,
     ctx: Context,
     wanted: &str,
@@ -166,8 +169,15 @@ fn alone(alloc: Global, program: &Program) -> bool {
     prints(alloc, &property.key, "if")
         && prints(alloc, &**property, "if: b")
         && prints(alloc, &**declaration, "const c = 1")
-        && statement_of(program, 5).is_some_and(|s| prints(alloc, s, "const c = 1;\n"))
-        && statement_of(program, 0).is_some_and(|s| prints(alloc, s, "({});\n"))
+        && prints_statement(alloc, program, 5, "const c = 1;\n")
+        && prints_statement(alloc, program, 0, "({});\n")
+}
+
+fn prints_statement(alloc: Global, program: &Program, at: usize, wanted: &str) -> bool {
+    match statement_of(program, at) {
+        Some(statement) => prints(alloc, statement, wanted),
+        None => false,
+    }
 }
 
 // Numbers, an operation by `in` and a call, at levels and under contexts.
@@ -230,11 +240,10 @@ fn parameters(alloc: Global, program: &Program) -> bool {
         None => false,
     };
     rest && prints(alloc, params, "a, b = 1, ...c")
-        && params
-            .items
-            .as_slice()
-            .get(1)
-            .is_some_and(|it| prints(alloc, it, "b = 1"))
+        && match params.items.as_slice() {
+            [_, second] => prints(alloc, second, "b = 1"),
+            _ => false,
+        }
 }
 
 // An arrow function, in whose own parentheses `in` is free.

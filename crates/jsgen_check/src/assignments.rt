@@ -14,9 +14,9 @@ use jsgen_tree::{AssignmentExpression, ConditionalExpression, NodeSet, SequenceE
 #[inline(never)]
 pub fn check_conditional_expression<N: CheckNode>(
     node: &ConditionalExpression<N>,
-    around: Surroundings<'_>,
+    around: &Surroundings<'_>,
 ) -> Result<u64, TreeFault>
-    ensures { result ≡ tree_verdict around.entry (conditional_expression_row N.plain node.now) }
+    ensures { result ≡ tree_verdict around.now (conditional_expression_row N.plain node.now) }
 {
     let test = check_child(node.test.get(), NodeSet::Expression, around);
     let consequent = check_child(node.consequent.get(), NodeSet::Expression, around);
@@ -32,9 +32,9 @@ pub fn check_conditional_expression<N: CheckNode>(
 #[inline(never)]
 pub fn check_sequence_expression<N: CheckNode>(
     node: &SequenceExpression<N>,
-    around: Surroundings<'_>,
+    around: &Surroundings<'_>,
 ) -> Result<u64, TreeFault>
-    ensures { result ≡ tree_verdict around.entry (sequence_expression_row N.plain node.now) }
+    ensures { result ≡ tree_verdict around.now (sequence_expression_row N.plain node.now) }
 {
     let rules = check_sequence_expression_rules(node, around);
     let expressions = check_expressions(&node.expressions, around);
@@ -44,9 +44,9 @@ pub fn check_sequence_expression<N: CheckNode>(
 #[inline(never)]
 pub fn check_assignment_expression<N: CheckNode>(
     node: &AssignmentExpression<N>,
-    around: Surroundings<'_>,
+    around: &Surroundings<'_>,
 ) -> Result<u64, TreeFault>
-    ensures { result ≡ tree_verdict around.entry (assignment_expression_row N.plain node.now) }
+    ensures { result ≡ tree_verdict around.now (assignment_expression_row N.plain node.now) }
 {
     let rules = check_assignment_expression_rules(node, around);
     let left = check_assignment_target(&node.left, around);

@@ -29,8 +29,8 @@ use jsgen_tree::{
     SimpleAssignmentTarget, StatementNode, SwitchCase, VariableDeclarator,
 };
 
-pub fn check_comments(nodes: &[Comment], around: Surroundings<'_>) -> Result<u64, TreeFault>
-    ensures { result ≡ children_verdict around.entry sets.Comment (trees (map comment_row nodes.now)) }
+pub fn check_comments(nodes: &[Comment], around: &Surroundings<'_>) -> Result<u64, TreeFault>
+    ensures { result ≡ children_verdict around.now sets.Comment (trees (map comment_row nodes.now)) }
 {
     let mut below = Ok(0);
     for node in nodes {
@@ -40,8 +40,8 @@ pub fn check_comments(nodes: &[Comment], around: Surroundings<'_>) -> Result<u64
     below
 }
 
-pub fn check_directives(nodes: &[Directive], around: Surroundings<'_>) -> Result<u64, TreeFault>
-    ensures { result ≡ children_verdict around.entry sets.Directive (trees (map directive_row nodes.now)) }
+pub fn check_directives(nodes: &[Directive], around: &Surroundings<'_>) -> Result<u64, TreeFault>
+    ensures { result ≡ children_verdict around.now sets.Directive (trees (map directive_row nodes.now)) }
 {
     let mut below = Ok(0);
     for node in nodes {
@@ -53,9 +53,9 @@ pub fn check_directives(nodes: &[Directive], around: Surroundings<'_>) -> Result
 
 pub fn check_statements<N: CheckNode>(
     nodes: &[StatementNode<N>],
-    around: Surroundings<'_>,
+    around: &Surroundings<'_>,
 ) -> Result<u64, TreeFault>
-    ensures { result ≡ children_verdict around.entry sets.Statement (trees (map (in_statement N.plain) nodes.now)) }
+    ensures { result ≡ children_verdict around.now sets.Statement (trees (map (in_statement N.plain) nodes.now)) }
 {
     let mut below = Ok(0);
     for node in nodes {
@@ -67,9 +67,9 @@ pub fn check_statements<N: CheckNode>(
 
 pub fn check_variable_declarators<N: CheckNode>(
     nodes: &[VariableDeclarator<N>],
-    around: Surroundings<'_>,
+    around: &Surroundings<'_>,
 ) -> Result<u64, TreeFault>
-    ensures { result ≡ children_verdict around.entry sets.VariableDeclarator (trees (map (variable_declarator_row N.plain) nodes.now)) }
+    ensures { result ≡ children_verdict around.now sets.VariableDeclarator (trees (map (variable_declarator_row N.plain) nodes.now)) }
 {
     let mut below = Ok(0);
     for node in nodes {
@@ -81,9 +81,9 @@ pub fn check_variable_declarators<N: CheckNode>(
 
 pub fn check_arguments<N: CheckNode>(
     nodes: &[Argument<N>],
-    around: Surroundings<'_>,
+    around: &Surroundings<'_>,
 ) -> Result<u64, TreeFault>
-    ensures { result ≡ children_verdict around.entry sets.Argument (trees (map (in_argument N.plain) nodes.now)) }
+    ensures { result ≡ children_verdict around.now sets.Argument (trees (map (in_argument N.plain) nodes.now)) }
 {
     let mut below = Ok(0);
     for node in nodes {
@@ -95,9 +95,9 @@ pub fn check_arguments<N: CheckNode>(
 
 pub fn check_object_property_kinds<N: CheckNode>(
     nodes: &[ObjectPropertyKind<N>],
-    around: Surroundings<'_>,
+    around: &Surroundings<'_>,
 ) -> Result<u64, TreeFault>
-    ensures { result ≡ children_verdict around.entry sets.ObjectPropertyKind (trees (map (in_object_property_kind N.plain) nodes.now)) }
+    ensures { result ≡ children_verdict around.now sets.ObjectPropertyKind (trees (map (in_object_property_kind N.plain) nodes.now)) }
 {
     let mut below = Ok(0);
     for node in nodes {
@@ -109,9 +109,9 @@ pub fn check_object_property_kinds<N: CheckNode>(
 
 pub fn check_expressions<N: CheckNode>(
     nodes: &[ExpressionNode<N>],
-    around: Surroundings<'_>,
+    around: &Surroundings<'_>,
 ) -> Result<u64, TreeFault>
-    ensures { result ≡ children_verdict around.entry sets.Expression (trees (map (in_expression N.plain) nodes.now)) }
+    ensures { result ≡ children_verdict around.now sets.Expression (trees (map (in_expression N.plain) nodes.now)) }
 {
     let mut below = Ok(0);
     for node in nodes {
@@ -123,9 +123,9 @@ pub fn check_expressions<N: CheckNode>(
 
 pub fn check_each_formal_parameter<N: CheckNode>(
     nodes: &[FormalParameter<N>],
-    around: Surroundings<'_>,
+    around: &Surroundings<'_>,
 ) -> Result<u64, TreeFault>
-    ensures { result ≡ children_verdict around.entry sets.FormalParameter (trees (map (formal_parameter_row N.plain) nodes.now)) }
+    ensures { result ≡ children_verdict around.now sets.FormalParameter (trees (map (formal_parameter_row N.plain) nodes.now)) }
 {
     let mut below = Ok(0);
     for node in nodes {
@@ -137,9 +137,9 @@ pub fn check_each_formal_parameter<N: CheckNode>(
 
 pub fn check_switch_cases<N: CheckNode>(
     nodes: &[SwitchCase<N>],
-    around: Surroundings<'_>,
+    around: &Surroundings<'_>,
 ) -> Result<u64, TreeFault>
-    ensures { result ≡ children_verdict around.entry sets.SwitchCase (trees (map (switch_case_row N.plain) nodes.now)) }
+    ensures { result ≡ children_verdict around.now sets.SwitchCase (trees (map (switch_case_row N.plain) nodes.now)) }
 {
     let mut below = Ok(0);
     for node in nodes {
@@ -151,9 +151,9 @@ pub fn check_switch_cases<N: CheckNode>(
 
 pub fn check_array_expression_elements_or_holes<N: CheckNode>(
     nodes: &[Option<ArrayExpressionElement<N>>],
-    around: Surroundings<'_>,
+    around: &Surroundings<'_>,
 ) -> Result<u64, TreeFault>
-    ensures { result ≡ children_verdict around.entry sets.ArrayExpressionElement (holed (map (option_map (in_array_expression_element N.plain)) nodes.now)) }
+    ensures { result ≡ children_verdict around.now sets.ArrayExpressionElement (holed (map (option_map (in_array_expression_element N.plain)) nodes.now)) }
 {
     let mut below = Ok(0);
     for node in nodes {
@@ -165,9 +165,9 @@ pub fn check_array_expression_elements_or_holes<N: CheckNode>(
 
 pub fn check_optional_expression<N: CheckNode>(
     node: &Option<ExpressionNode<N>>,
-    around: Surroundings<'_>,
+    around: &Surroundings<'_>,
 ) -> Result<u64, TreeFault>
-    ensures { result ≡ maybe_verdict around.entry sets.Expression (optional (option_map (in_expression N.plain) node.now)) }
+    ensures { result ≡ maybe_verdict around.now sets.Expression (optional (option_map (in_expression N.plain) node.now)) }
 {
     match node {
         Some(node) => check_child(node.get(), NodeSet::Expression, around),
@@ -177,9 +177,9 @@ pub fn check_optional_expression<N: CheckNode>(
 
 pub fn check_optional_statement<N: CheckNode>(
     node: &Option<StatementNode<N>>,
-    around: Surroundings<'_>,
+    around: &Surroundings<'_>,
 ) -> Result<u64, TreeFault>
-    ensures { result ≡ maybe_verdict around.entry sets.Statement (optional (option_map (in_statement N.plain) node.now)) }
+    ensures { result ≡ maybe_verdict around.now sets.Statement (optional (option_map (in_statement N.plain) node.now)) }
 {
     match node {
         Some(node) => check_child(node.get(), NodeSet::Statement, around),
@@ -189,9 +189,9 @@ pub fn check_optional_statement<N: CheckNode>(
 
 pub fn check_optional_formal_parameter_rest<N: CheckNode>(
     node: &Option<Box<FormalParameterRest<N>>>,
-    around: Surroundings<'_>,
+    around: &Surroundings<'_>,
 ) -> Result<u64, TreeFault>
-    ensures { result ≡ maybe_verdict around.entry sets.FormalParameterRest (optional (option_map (λ b. formal_parameter_rest_row N.plain b.value) node.now)) }
+    ensures { result ≡ maybe_verdict around.now sets.FormalParameterRest (optional (option_map (λ b. formal_parameter_rest_row N.plain b.value) node.now)) }
 {
     match node {
         Some(node) => check_formal_parameter_rest(node, around),
@@ -201,9 +201,9 @@ pub fn check_optional_formal_parameter_rest<N: CheckNode>(
 
 pub fn check_optional_binding_identifier(
     node: &Option<Box<BindingIdentifier>>,
-    around: Surroundings<'_>,
+    around: &Surroundings<'_>,
 ) -> Result<u64, TreeFault>
-    ensures { result ≡ maybe_verdict around.entry sets.BindingIdentifier (optional (option_map (λ b. binding_identifier_row b.value) node.now)) }
+    ensures { result ≡ maybe_verdict around.now sets.BindingIdentifier (optional (option_map (λ b. binding_identifier_row b.value) node.now)) }
 {
     match node {
         Some(node) => check_binding_identifier(node, around),
@@ -213,9 +213,9 @@ pub fn check_optional_binding_identifier(
 
 pub fn check_optional_function_body<N: CheckNode>(
     node: &Option<Box<FunctionBody<N>>>,
-    around: Surroundings<'_>,
+    around: &Surroundings<'_>,
 ) -> Result<u64, TreeFault>
-    ensures { result ≡ maybe_verdict around.entry sets.FunctionBody (optional (option_map (λ b. function_body_row N.plain b.value) node.now)) }
+    ensures { result ≡ maybe_verdict around.now sets.FunctionBody (optional (option_map (λ b. function_body_row N.plain b.value) node.now)) }
 {
     match node {
         Some(node) => check_function_body(node, around),
@@ -225,9 +225,9 @@ pub fn check_optional_function_body<N: CheckNode>(
 
 pub fn check_optional_for_statement_init<N: CheckNode>(
     node: &Option<ForStatementInit<N>>,
-    around: Surroundings<'_>,
+    around: &Surroundings<'_>,
 ) -> Result<u64, TreeFault>
-    ensures { result ≡ maybe_verdict around.entry sets.ForStatementInit (optional (option_map (in_for_statement_init N.plain) node.now)) }
+    ensures { result ≡ maybe_verdict around.now sets.ForStatementInit (optional (option_map (in_for_statement_init N.plain) node.now)) }
 {
     match node {
         Some(node) => check_for_statement_init(node, around),
@@ -237,9 +237,9 @@ pub fn check_optional_for_statement_init<N: CheckNode>(
 
 pub fn check_optional_label_identifier(
     node: &Option<Box<LabelIdentifier>>,
-    around: Surroundings<'_>,
+    around: &Surroundings<'_>,
 ) -> Result<u64, TreeFault>
-    ensures { result ≡ maybe_verdict around.entry sets.LabelIdentifier (optional (option_map (λ b. label_identifier_row b.value) node.now)) }
+    ensures { result ≡ maybe_verdict around.now sets.LabelIdentifier (optional (option_map (λ b. label_identifier_row b.value) node.now)) }
 {
     match node {
         Some(node) => check_label_identifier(node, around),
@@ -249,9 +249,9 @@ pub fn check_optional_label_identifier(
 
 pub fn check_optional_catch_clause<N: CheckNode>(
     node: &Option<Box<CatchClause<N>>>,
-    around: Surroundings<'_>,
+    around: &Surroundings<'_>,
 ) -> Result<u64, TreeFault>
-    ensures { result ≡ maybe_verdict around.entry sets.CatchClause (optional (option_map (λ b. catch_clause_row N.plain b.value) node.now)) }
+    ensures { result ≡ maybe_verdict around.now sets.CatchClause (optional (option_map (λ b. catch_clause_row N.plain b.value) node.now)) }
 {
     match node {
         Some(node) => check_catch_clause(node, around),
@@ -261,9 +261,9 @@ pub fn check_optional_catch_clause<N: CheckNode>(
 
 pub fn check_optional_block_statement<N: CheckNode>(
     node: &Option<Box<BlockStatement<N>>>,
-    around: Surroundings<'_>,
+    around: &Surroundings<'_>,
 ) -> Result<u64, TreeFault>
-    ensures { result ≡ maybe_verdict around.entry sets.BlockStatement (optional (option_map (λ b. block_statement_row N.plain b.value) node.now)) }
+    ensures { result ≡ maybe_verdict around.now sets.BlockStatement (optional (option_map (λ b. block_statement_row N.plain b.value) node.now)) }
 {
     match node {
         Some(node) => check_block_statement(node, around),
@@ -273,9 +273,9 @@ pub fn check_optional_block_statement<N: CheckNode>(
 
 pub fn check_optional_binding_pattern<N: CheckNode>(
     node: &Option<BindingPatternNode<N>>,
-    around: Surroundings<'_>,
+    around: &Surroundings<'_>,
 ) -> Result<u64, TreeFault>
-    ensures { result ≡ maybe_verdict around.entry sets.BindingPattern (optional (option_map (in_binding_pattern N.plain) node.now)) }
+    ensures { result ≡ maybe_verdict around.now sets.BindingPattern (optional (option_map (in_binding_pattern N.plain) node.now)) }
 {
     match node {
         Some(node) => check_child(node.get(), NodeSet::BindingPattern, around),
@@ -285,9 +285,9 @@ pub fn check_optional_binding_pattern<N: CheckNode>(
 
 pub fn check_optional_array_expression_element<N: CheckNode>(
     node: &Option<ArrayExpressionElement<N>>,
-    around: Surroundings<'_>,
+    around: &Surroundings<'_>,
 ) -> Result<u64, TreeFault>
-    ensures { result ≡ maybe_verdict around.entry sets.ArrayExpressionElement (optional (option_map (in_array_expression_element N.plain) node.now)) }
+    ensures { result ≡ maybe_verdict around.now sets.ArrayExpressionElement (optional (option_map (in_array_expression_element N.plain) node.now)) }
 {
     match node {
         Some(node) => check_array_expression_element(node, around),
@@ -297,9 +297,9 @@ pub fn check_optional_array_expression_element<N: CheckNode>(
 
 pub fn check_argument<N: CheckNode>(
     node: &Argument<N>,
-    around: Surroundings<'_>,
+    around: &Surroundings<'_>,
 ) -> Result<u64, TreeFault>
-    ensures { result ≡ child_verdict around.entry sets.Argument (in_argument N.plain node.now) }
+    ensures { result ≡ child_verdict around.now sets.Argument (in_argument N.plain node.now) }
 {
     match node {
         Argument::SpreadElement(node) => check_spread_element(node, around),
@@ -309,9 +309,9 @@ pub fn check_argument<N: CheckNode>(
 
 pub fn check_array_expression_element<N: CheckNode>(
     node: &ArrayExpressionElement<N>,
-    around: Surroundings<'_>,
+    around: &Surroundings<'_>,
 ) -> Result<u64, TreeFault>
-    ensures { result ≡ child_verdict around.entry sets.ArrayExpressionElement (in_array_expression_element N.plain node.now) }
+    ensures { result ≡ child_verdict around.now sets.ArrayExpressionElement (in_array_expression_element N.plain node.now) }
 {
     match node {
         ArrayExpressionElement::SpreadElement(node) => check_spread_element(node, around),
@@ -325,9 +325,9 @@ pub fn check_array_expression_element<N: CheckNode>(
 
 pub fn check_chain_element<N: CheckNode>(
     node: &ChainElement<N>,
-    around: Surroundings<'_>,
+    around: &Surroundings<'_>,
 ) -> Result<u64, TreeFault>
-    ensures { result ≡ child_verdict around.entry sets.ChainElement (in_chain_element N.plain node.now) }
+    ensures { result ≡ child_verdict around.now sets.ChainElement (in_chain_element N.plain node.now) }
 {
     match node {
         ChainElement::StaticMemberExpression(node) => check_static_member_expression(node, around),
@@ -340,9 +340,9 @@ pub fn check_chain_element<N: CheckNode>(
 
 pub fn check_simple_assignment_target<N: CheckNode>(
     node: &SimpleAssignmentTarget<N>,
-    around: Surroundings<'_>,
+    around: &Surroundings<'_>,
 ) -> Result<u64, TreeFault>
-    ensures { result ≡ child_verdict around.entry sets.SimpleAssignmentTarget (in_simple_assignment_target N.plain node.now) }
+    ensures { result ≡ child_verdict around.now sets.SimpleAssignmentTarget (in_simple_assignment_target N.plain node.now) }
 {
     match node {
         SimpleAssignmentTarget::IdentifierReference(node) => check_identifier_reference(
@@ -359,9 +359,9 @@ pub fn check_simple_assignment_target<N: CheckNode>(
 
 pub fn check_assignment_target<N: CheckNode>(
     node: &AssignmentTarget<N>,
-    around: Surroundings<'_>,
+    around: &Surroundings<'_>,
 ) -> Result<u64, TreeFault>
-    ensures { result ≡ child_verdict around.entry sets.AssignmentTarget (in_assignment_target N.plain node.now) }
+    ensures { result ≡ child_verdict around.now sets.AssignmentTarget (in_assignment_target N.plain node.now) }
 {
     match node {
         AssignmentTarget::IdentifierReference(node) => check_identifier_reference(node, around),
@@ -376,9 +376,9 @@ pub fn check_assignment_target<N: CheckNode>(
 
 pub fn check_arrow_function_body<N: CheckNode>(
     node: &ArrowFunctionBody<N>,
-    around: Surroundings<'_>,
+    around: &Surroundings<'_>,
 ) -> Result<u64, TreeFault>
-    ensures { result ≡ child_verdict around.entry sets.ArrowFunctionBody (in_arrow_function_body N.plain node.now) }
+    ensures { result ≡ child_verdict around.now sets.ArrowFunctionBody (in_arrow_function_body N.plain node.now) }
 {
     match node {
         ArrowFunctionBody::FunctionBody(node) => check_function_body(node, around),
@@ -392,9 +392,9 @@ pub fn check_arrow_function_body<N: CheckNode>(
 
 pub fn check_for_statement_init<N: CheckNode>(
     node: &ForStatementInit<N>,
-    around: Surroundings<'_>,
+    around: &Surroundings<'_>,
 ) -> Result<u64, TreeFault>
-    ensures { result ≡ child_verdict around.entry sets.ForStatementInit (in_for_statement_init N.plain node.now) }
+    ensures { result ≡ child_verdict around.now sets.ForStatementInit (in_for_statement_init N.plain node.now) }
 {
     match node {
         ForStatementInit::VariableDeclaration(node) => check_variable_declaration(node, around),
@@ -408,9 +408,9 @@ pub fn check_for_statement_init<N: CheckNode>(
 
 pub fn check_for_statement_left<N: CheckNode>(
     node: &ForStatementLeft<N>,
-    around: Surroundings<'_>,
+    around: &Surroundings<'_>,
 ) -> Result<u64, TreeFault>
-    ensures { result ≡ child_verdict around.entry sets.ForStatementLeft (in_for_statement_left N.plain node.now) }
+    ensures { result ≡ child_verdict around.now sets.ForStatementLeft (in_for_statement_left N.plain node.now) }
 {
     match node {
         ForStatementLeft::VariableDeclaration(node) => check_variable_declaration(node, around),
@@ -426,9 +426,9 @@ pub fn check_for_statement_left<N: CheckNode>(
 
 pub fn check_object_property_kind<N: CheckNode>(
     node: &ObjectPropertyKind<N>,
-    around: Surroundings<'_>,
+    around: &Surroundings<'_>,
 ) -> Result<u64, TreeFault>
-    ensures { result ≡ child_verdict around.entry sets.ObjectPropertyKind (in_object_property_kind N.plain node.now) }
+    ensures { result ≡ child_verdict around.now sets.ObjectPropertyKind (in_object_property_kind N.plain node.now) }
 {
     match node {
         ObjectPropertyKind::ObjectProperty(node) => check_object_property(node, around),
@@ -438,9 +438,9 @@ pub fn check_object_property_kind<N: CheckNode>(
 
 pub fn check_property_key<N: CheckNode>(
     node: &PropertyKey<N>,
-    around: Surroundings<'_>,
+    around: &Surroundings<'_>,
 ) -> Result<u64, TreeFault>
-    ensures { result ≡ child_verdict around.entry sets.PropertyKey (in_property_key N.plain node.now) }
+    ensures { result ≡ child_verdict around.now sets.PropertyKey (in_property_key N.plain node.now) }
 {
     match node {
         PropertyKey::IdentifierName(node) => check_identifier_name(node, around),

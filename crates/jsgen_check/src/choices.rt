@@ -18,9 +18,9 @@ use jsgen_tree::{CatchClause, NodeSet, SwitchCase, SwitchStatement, TryStatement
 #[inline(never)]
 pub fn check_switch_statement<N: CheckNode>(
     node: &SwitchStatement<N>,
-    around: Surroundings<'_>,
+    around: &Surroundings<'_>,
 ) -> Result<u64, TreeFault>
-    ensures { result ≡ tree_verdict around.entry (switch_statement_row N.plain node.now) }
+    ensures { result ≡ tree_verdict around.now (switch_statement_row N.plain node.now) }
 {
     let rules = check_switch_statement_rules(node, around);
     let discriminant = check_child(node.discriminant.get(), NodeSet::Expression, around);
@@ -31,9 +31,9 @@ pub fn check_switch_statement<N: CheckNode>(
 #[inline(never)]
 pub fn check_switch_case<N: CheckNode>(
     node: &SwitchCase<N>,
-    around: Surroundings<'_>,
+    around: &Surroundings<'_>,
 ) -> Result<u64, TreeFault>
-    ensures { result ≡ tree_verdict around.entry (switch_case_row N.plain node.now) }
+    ensures { result ≡ tree_verdict around.now (switch_case_row N.plain node.now) }
 {
     let test = check_optional_expression(&node.test, around);
     let consequent = check_statements(&node.consequent, around);
@@ -43,9 +43,9 @@ pub fn check_switch_case<N: CheckNode>(
 #[inline(never)]
 pub fn check_try_statement<N: CheckNode>(
     node: &TryStatement<N>,
-    around: Surroundings<'_>,
+    around: &Surroundings<'_>,
 ) -> Result<u64, TreeFault>
-    ensures { result ≡ tree_verdict around.entry (try_statement_row N.plain node.now) }
+    ensures { result ≡ tree_verdict around.now (try_statement_row N.plain node.now) }
 {
     let rules = check_try_statement_rules(node, around);
     let block = check_block_statement(&node.block, around);
@@ -62,9 +62,9 @@ pub fn check_try_statement<N: CheckNode>(
 #[inline(never)]
 pub fn check_catch_clause<N: CheckNode>(
     node: &CatchClause<N>,
-    around: Surroundings<'_>,
+    around: &Surroundings<'_>,
 ) -> Result<u64, TreeFault>
-    ensures { result ≡ tree_verdict around.entry (catch_clause_row N.plain node.now) }
+    ensures { result ≡ tree_verdict around.now (catch_clause_row N.plain node.now) }
 {
     let param = check_optional_binding_pattern(&node.param, around);
     let body = check_block_statement(&node.body, around);

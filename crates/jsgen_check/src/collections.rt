@@ -16,9 +16,9 @@ use jsgen_tree::{ArrayExpression, NodeSet, ObjectExpression, ObjectProperty, Spr
 #[inline(never)]
 pub fn check_spread_element<N: CheckNode>(
     node: &SpreadElement<N>,
-    around: Surroundings<'_>,
+    around: &Surroundings<'_>,
 ) -> Result<u64, TreeFault>
-    ensures { result ≡ tree_verdict around.entry (spread_element_row N.plain node.now) }
+    ensures { result ≡ tree_verdict around.now (spread_element_row N.plain node.now) }
 {
     let argument = check_child(node.argument.get(), NodeSet::Expression, around);
     check_node(around, node.span, Ok(()), argument)
@@ -27,9 +27,9 @@ pub fn check_spread_element<N: CheckNode>(
 #[inline(never)]
 pub fn check_array_expression<N: CheckNode>(
     node: &ArrayExpression<N>,
-    around: Surroundings<'_>,
+    around: &Surroundings<'_>,
 ) -> Result<u64, TreeFault>
-    ensures { result ≡ tree_verdict around.entry (array_expression_row N.plain node.now) }
+    ensures { result ≡ tree_verdict around.now (array_expression_row N.plain node.now) }
 {
     let elements = check_array_expression_elements_or_holes(&node.elements, around);
     check_node(around, node.span, Ok(()), elements)
@@ -38,9 +38,9 @@ pub fn check_array_expression<N: CheckNode>(
 #[inline(never)]
 pub fn check_object_property<N: CheckNode>(
     node: &ObjectProperty<N>,
-    around: Surroundings<'_>,
+    around: &Surroundings<'_>,
 ) -> Result<u64, TreeFault>
-    ensures { result ≡ tree_verdict around.entry (object_property_row N.plain node.now) }
+    ensures { result ≡ tree_verdict around.now (object_property_row N.plain node.now) }
 {
     let rules = check_object_property_rules(node, around);
     let key = check_property_key(&node.key, around);
@@ -51,9 +51,9 @@ pub fn check_object_property<N: CheckNode>(
 #[inline(never)]
 pub fn check_object_expression<N: CheckNode>(
     node: &ObjectExpression<N>,
-    around: Surroundings<'_>,
+    around: &Surroundings<'_>,
 ) -> Result<u64, TreeFault>
-    ensures { result ≡ tree_verdict around.entry (object_expression_row N.plain node.now) }
+    ensures { result ≡ tree_verdict around.now (object_expression_row N.plain node.now) }
 {
     let properties = check_object_property_kinds(&node.properties, around);
     check_node(around, node.span, Ok(()), properties)

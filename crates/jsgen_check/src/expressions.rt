@@ -23,9 +23,9 @@ use jsgen_tree::{
 
 pub fn check_identifier_reference(
     node: &IdentifierReference,
-    around: Surroundings<'_>,
+    around: &Surroundings<'_>,
 ) -> Result<u64, TreeFault>
-    ensures { result ≡ tree_verdict around.entry (identifier_reference_row node.now) }
+    ensures { result ≡ tree_verdict around.now (identifier_reference_row node.now) }
 {
     let rules = check_identifier_reference_rules(node, around);
     check_node(around, node.span, rules, Ok(0))
@@ -33,33 +33,33 @@ pub fn check_identifier_reference(
 
 pub fn check_this_expression(
     node: &ThisExpression,
-    around: Surroundings<'_>,
+    around: &Surroundings<'_>,
 ) -> Result<u64, TreeFault>
-    ensures { result ≡ tree_verdict around.entry (this_expression_row node.now) }
+    ensures { result ≡ tree_verdict around.now (this_expression_row node.now) }
 {
     check_node(around, node.span, Ok(()), Ok(0))
 }
 
-pub fn check_null_literal(node: &NullLiteral, around: Surroundings<'_>) -> Result<u64, TreeFault>
-    ensures { result ≡ tree_verdict around.entry (null_literal_row node.now) }
+pub fn check_null_literal(node: &NullLiteral, around: &Surroundings<'_>) -> Result<u64, TreeFault>
+    ensures { result ≡ tree_verdict around.now (null_literal_row node.now) }
 {
     check_node(around, node.span, Ok(()), Ok(0))
 }
 
 pub fn check_boolean_literal(
     node: &BooleanLiteral,
-    around: Surroundings<'_>,
+    around: &Surroundings<'_>,
 ) -> Result<u64, TreeFault>
-    ensures { result ≡ tree_verdict around.entry (boolean_literal_row node.now) }
+    ensures { result ≡ tree_verdict around.now (boolean_literal_row node.now) }
 {
     check_node(around, node.span, Ok(()), Ok(0))
 }
 
 pub fn check_numeric_literal(
     node: &NumericLiteral,
-    around: Surroundings<'_>,
+    around: &Surroundings<'_>,
 ) -> Result<u64, TreeFault>
-    ensures { result ≡ tree_verdict around.entry (numeric_literal_row node.now) }
+    ensures { result ≡ tree_verdict around.now (numeric_literal_row node.now) }
 {
     let rules = check_numeric_literal_rules(node, around);
     check_node(around, node.span, rules, Ok(0))
@@ -67,9 +67,9 @@ pub fn check_numeric_literal(
 
 pub fn check_big_int_literal(
     node: &BigIntLiteral,
-    around: Surroundings<'_>,
+    around: &Surroundings<'_>,
 ) -> Result<u64, TreeFault>
-    ensures { result ≡ tree_verdict around.entry (big_int_literal_row node.now) }
+    ensures { result ≡ tree_verdict around.now (big_int_literal_row node.now) }
 {
     let rules = check_big_int_literal_rules(node, around);
     check_node(around, node.span, rules, Ok(0))
@@ -77,9 +77,9 @@ pub fn check_big_int_literal(
 
 pub fn check_string_literal(
     node: &StringLiteral,
-    around: Surroundings<'_>,
+    around: &Surroundings<'_>,
 ) -> Result<u64, TreeFault>
-    ensures { result ≡ tree_verdict around.entry (string_literal_row node.now) }
+    ensures { result ≡ tree_verdict around.now (string_literal_row node.now) }
 {
     check_node(around, node.span, Ok(()), Ok(0))
 }
@@ -87,9 +87,9 @@ pub fn check_string_literal(
 #[inline(never)]
 pub fn check_parenthesized_expression<N: CheckNode>(
     node: &ParenthesizedExpression<N>,
-    around: Surroundings<'_>,
+    around: &Surroundings<'_>,
 ) -> Result<u64, TreeFault>
-    ensures { result ≡ tree_verdict around.entry (parenthesized_expression_row N.plain node.now) }
+    ensures { result ≡ tree_verdict around.now (parenthesized_expression_row N.plain node.now) }
 {
     let expression = check_child(node.expression.get(), NodeSet::Expression, around);
     check_node(around, node.span, Ok(()), expression)
@@ -98,9 +98,9 @@ pub fn check_parenthesized_expression<N: CheckNode>(
 #[inline(never)]
 pub fn check_binary_expression<N: CheckNode>(
     node: &BinaryExpression<N>,
-    around: Surroundings<'_>,
+    around: &Surroundings<'_>,
 ) -> Result<u64, TreeFault>
-    ensures { result ≡ tree_verdict around.entry (binary_expression_row N.plain node.now) }
+    ensures { result ≡ tree_verdict around.now (binary_expression_row N.plain node.now) }
 {
     let left = check_child(node.left.get(), NodeSet::Expression, around);
     let right = check_child(node.right.get(), NodeSet::Expression, around);
@@ -110,9 +110,9 @@ pub fn check_binary_expression<N: CheckNode>(
 #[inline(never)]
 pub fn check_logical_expression<N: CheckNode>(
     node: &LogicalExpression<N>,
-    around: Surroundings<'_>,
+    around: &Surroundings<'_>,
 ) -> Result<u64, TreeFault>
-    ensures { result ≡ tree_verdict around.entry (logical_expression_row N.plain node.now) }
+    ensures { result ≡ tree_verdict around.now (logical_expression_row N.plain node.now) }
 {
     let left = check_child(node.left.get(), NodeSet::Expression, around);
     let right = check_child(node.right.get(), NodeSet::Expression, around);
@@ -121,9 +121,9 @@ pub fn check_logical_expression<N: CheckNode>(
 
 pub fn check_identifier_name(
     node: &IdentifierName,
-    around: Surroundings<'_>,
+    around: &Surroundings<'_>,
 ) -> Result<u64, TreeFault>
-    ensures { result ≡ tree_verdict around.entry (identifier_name_row node.now) }
+    ensures { result ≡ tree_verdict around.now (identifier_name_row node.now) }
 {
     let rules = check_identifier_name_rules(node, around);
     check_node(around, node.span, rules, Ok(0))
@@ -132,9 +132,9 @@ pub fn check_identifier_name(
 #[inline(never)]
 pub fn check_static_member_expression<N: CheckNode>(
     node: &StaticMemberExpression<N>,
-    around: Surroundings<'_>,
+    around: &Surroundings<'_>,
 ) -> Result<u64, TreeFault>
-    ensures { result ≡ tree_verdict around.entry (static_member_expression_row N.plain node.now) }
+    ensures { result ≡ tree_verdict around.now (static_member_expression_row N.plain node.now) }
 {
     let rules = check_static_member_expression_rules(node, around);
     let object = check_child(node.object.get(), NodeSet::Link, around);
@@ -145,9 +145,9 @@ pub fn check_static_member_expression<N: CheckNode>(
 #[inline(never)]
 pub fn check_computed_member_expression<N: CheckNode>(
     node: &ComputedMemberExpression<N>,
-    around: Surroundings<'_>,
+    around: &Surroundings<'_>,
 ) -> Result<u64, TreeFault>
-    ensures { result ≡ tree_verdict around.entry (computed_member_expression_row N.plain node.now) }
+    ensures { result ≡ tree_verdict around.now (computed_member_expression_row N.plain node.now) }
 {
     let rules = check_computed_member_expression_rules(node, around);
     let object = check_child(node.object.get(), NodeSet::Link, around);
@@ -158,9 +158,9 @@ pub fn check_computed_member_expression<N: CheckNode>(
 #[inline(never)]
 pub fn check_call_expression<N: CheckNode>(
     node: &CallExpression<N>,
-    around: Surroundings<'_>,
+    around: &Surroundings<'_>,
 ) -> Result<u64, TreeFault>
-    ensures { result ≡ tree_verdict around.entry (call_expression_row N.plain node.now) }
+    ensures { result ≡ tree_verdict around.now (call_expression_row N.plain node.now) }
 {
     let rules = check_call_expression_rules(node, around);
     let callee = check_child(node.callee.get(), NodeSet::Link, around);
@@ -171,9 +171,9 @@ pub fn check_call_expression<N: CheckNode>(
 #[inline(never)]
 pub fn check_chain_expression<N: CheckNode>(
     node: &ChainExpression<N>,
-    around: Surroundings<'_>,
+    around: &Surroundings<'_>,
 ) -> Result<u64, TreeFault>
-    ensures { result ≡ tree_verdict around.entry (chain_expression_row N.plain node.now) }
+    ensures { result ≡ tree_verdict around.now (chain_expression_row N.plain node.now) }
 {
     let rules = check_chain_expression_rules(node, around);
     let expression = check_chain_element(&node.expression, around);

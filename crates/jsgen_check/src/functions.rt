@@ -21,9 +21,9 @@ use jsgen_tree::{
 #[inline(never)]
 pub fn check_formal_parameter<N: CheckNode>(
     node: &FormalParameter<N>,
-    around: Surroundings<'_>,
+    around: &Surroundings<'_>,
 ) -> Result<u64, TreeFault>
-    ensures { result ≡ tree_verdict around.entry (formal_parameter_row N.plain node.now) }
+    ensures { result ≡ tree_verdict around.now (formal_parameter_row N.plain node.now) }
 {
     let pattern = check_child(node.pattern.get(), NodeSet::BindingPattern, around);
     let initializer = check_optional_expression(&node.initializer, around);
@@ -33,9 +33,9 @@ pub fn check_formal_parameter<N: CheckNode>(
 #[inline(never)]
 pub fn check_formal_parameter_rest<N: CheckNode>(
     node: &FormalParameterRest<N>,
-    around: Surroundings<'_>,
+    around: &Surroundings<'_>,
 ) -> Result<u64, TreeFault>
-    ensures { result ≡ tree_verdict around.entry (formal_parameter_rest_row N.plain node.now) }
+    ensures { result ≡ tree_verdict around.now (formal_parameter_rest_row N.plain node.now) }
 {
     let argument = check_child(node.argument.get(), NodeSet::BindingPattern, around);
     check_node(around, node.span, Ok(()), argument)
@@ -44,9 +44,9 @@ pub fn check_formal_parameter_rest<N: CheckNode>(
 #[inline(never)]
 pub fn check_formal_parameters<N: CheckNode>(
     node: &FormalParameters<N>,
-    around: Surroundings<'_>,
+    around: &Surroundings<'_>,
 ) -> Result<u64, TreeFault>
-    ensures { result ≡ tree_verdict around.entry (formal_parameters_row N.plain node.now) }
+    ensures { result ≡ tree_verdict around.now (formal_parameters_row N.plain node.now) }
 {
     let items = check_each_formal_parameter(&node.items, around);
     let rest = check_optional_formal_parameter_rest(&node.rest, around);
@@ -56,9 +56,9 @@ pub fn check_formal_parameters<N: CheckNode>(
 #[inline(never)]
 pub fn check_function<N: CheckNode>(
     node: &Function<N>,
-    around: Surroundings<'_>,
+    around: &Surroundings<'_>,
 ) -> Result<u64, TreeFault>
-    ensures { result ≡ tree_verdict around.entry (function_row N.plain node.now) }
+    ensures { result ≡ tree_verdict around.now (function_row N.plain node.now) }
 {
     let rules = check_function_rules(node, around);
     let id = check_optional_binding_identifier(&node.id, around);
@@ -70,22 +70,22 @@ pub fn check_function<N: CheckNode>(
 #[inline(never)]
 pub fn check_function_body<N: CheckNode>(
     node: &FunctionBody<N>,
-    around: Surroundings<'_>,
+    around: &Surroundings<'_>,
 ) -> Result<u64, TreeFault>
-    ensures { result ≡ tree_verdict around.entry (function_body_row N.plain node.now) }
+    ensures { result ≡ tree_verdict around.now (function_body_row N.plain node.now) }
 {
     let within = around.within_body();
-    let directives = check_directives(&node.directives, within);
-    let statements = check_statements(&node.statements, within);
+    let directives = check_directives(&node.directives, &within);
+    let statements = check_statements(&node.statements, &within);
     check_node(around, node.span, Ok(()), higher(directives, statements))
 }
 
 #[inline(never)]
 pub fn check_arrow_function_expression<N: CheckNode>(
     node: &ArrowFunctionExpression<N>,
-    around: Surroundings<'_>,
+    around: &Surroundings<'_>,
 ) -> Result<u64, TreeFault>
-    ensures { result ≡ tree_verdict around.entry (arrow_function_expression_row N.plain node.now) }
+    ensures { result ≡ tree_verdict around.now (arrow_function_expression_row N.plain node.now) }
 {
     let params = check_formal_parameters(&node.params, around);
     let body = check_arrow_function_body(&node.body, around);

@@ -28,12 +28,12 @@ pub fn higher(
 /// The first fault of a node's span, of its own rules and of its children, else its height.
 #[tactic(auto, unfolding(crate::specs::Verdict::surroundings_plain, crate::specs::Verdict::both, crate::specs::Verdict::raised, jsgen_rules::specs::Verdict::verdict))]
 pub fn check_node(
-    around: Surroundings<'_>,
+    around: &Surroundings<'_>,
     span: Span,
     rules: Result<(), TreeFault>,
     below: Result<u64, TreeFault>,
 ) -> Result<u64, TreeFault>
-    ensures { result ≡ both (verdict (span_faults (surroundings_plain around.entry) span)) (both rules (raised below)) }
+    ensures { result ≡ both (verdict (span_faults (surroundings_plain around.now) span)) (both rules (raised below)) }
 {
     check_span(around.is_mapped, around.source, span)?;
     rules?;
@@ -63,12 +63,12 @@ fn check_height(options: &CodegenOptions, span: Span, height: u64) -> Result<(),
 /// The first fault of a program's span, of its source and of its children, else of its height.
 #[tactic(auto, unfolding(crate::specs::Verdict::surroundings_plain, crate::specs::Verdict::both, crate::specs::Verdict::ended, jsgen_rules::specs::Verdict::verdict))]
 pub fn check_program_parts(
-    around: Surroundings<'_>,
+    around: &Surroundings<'_>,
     span: Span,
     source: Result<(), TreeFault>,
     below: Result<u64, TreeFault>,
 ) -> Result<(), TreeFault>
-    ensures { result ≡ both (verdict (span_faults (surroundings_plain around.entry) span)) (both source (ended (options_plain around.entry.options.now) span below)) }
+    ensures { result ≡ both (verdict (span_faults (surroundings_plain around.now) span)) (both source (ended (options_plain around.now.options.now) span below)) }
 {
     check_span(around.is_mapped, around.source, span)?;
     source?;

@@ -91,8 +91,8 @@ pub trait CheckNode {
         ensures { result ≡ has_optional_link (plain self.now) };
 
     /// Where no rule is broken, how many nodes stand on the longest way down, counted up to what 64 bits hold.
-    fn check(&self, around: Surroundings<'_>) -> Result<u64, TreeFault>
-        ensures { result ≡ tree_verdict around.entry (plain self.now) };
+    fn check(&self, around: &Surroundings<'_>) -> Result<u64, TreeFault>
+        ensures { result ≡ tree_verdict around.now (plain self.now) };
 }
 
 /// Says Ok exactly where a program that is printed under these options and by these tables keeps each rule, and otherwise a rule
@@ -112,7 +112,7 @@ pub fn check_program(
         is_mapped: options.source_map_path.is_some(),
         in_function: false,
     };
-    check_program_row(program, around)
+    check_program_row(program, &around)
 }
 
 /// Says Ok exactly where an expression by itself, which is printed under these options and by these tables, keeps each rule, and
@@ -132,13 +132,13 @@ pub fn check_expression(
         is_mapped: false,
         in_function: false,
     };
-    let found = check_alone(expression, around);
+    let found = check_alone(expression, &around);
     check_top(options, expression.span(), found)
 }
 
 // An expression that nothing stands round.
-fn check_alone(expression: &Expression, around: Surroundings<'_>) -> Result<u64, TreeFault>
-    ensures { result ≡ child_verdict around.entry sets.Expression (expression_plain node_plain expression.now) }
+fn check_alone(expression: &Expression, around: &Surroundings<'_>) -> Result<u64, TreeFault>
+    ensures { result ≡ child_verdict around.now sets.Expression (expression_plain node_plain expression.now) }
 {
     check_place_alone(expression)?;
     check_expression_set(expression, around)
@@ -162,9 +162,9 @@ fn check_place_alone(expression: &Expression) -> Result<(), TreeFault>
 fn check_child<N: CheckNode>(
     child: &N,
     set: NodeSet,
-    around: Surroundings<'_>,
+    around: &Surroundings<'_>,
 ) -> Result<u64, TreeFault>
-    ensures { result ≡ child_verdict around.entry set (N.plain child.now) }
+    ensures { result ≡ child_verdict around.now set (N.plain child.now) }
 {
     check_place(child, set)?;
     child.check(around)
@@ -235,7 +235,7 @@ impl CheckNode for Node {
     }
 
     #[cycle(node)]
-    fn check(&self, around: Surroundings<'_>) -> Result<u64, TreeFault> {
+    fn check(&self, around: &Surroundings<'_>) -> Result<u64, TreeFault> {
         match self {
             Node::Expression(expression) => check_expression_set(expression, around),
             Node::Statement(statement) => check_statement_set(statement, around),

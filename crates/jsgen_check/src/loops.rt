@@ -25,9 +25,9 @@ use jsgen_tree::{
 #[inline(never)]
 pub fn check_for_statement<N: CheckNode>(
     node: &ForStatement<N>,
-    around: Surroundings<'_>,
+    around: &Surroundings<'_>,
 ) -> Result<u64, TreeFault>
-    ensures { result ≡ tree_verdict around.entry (for_statement_row N.plain node.now) }
+    ensures { result ≡ tree_verdict around.now (for_statement_row N.plain node.now) }
 {
     let rules = check_for_statement_rules(node, around);
     let init = check_optional_for_statement_init(&node.init, around);
@@ -45,9 +45,9 @@ pub fn check_for_statement<N: CheckNode>(
 #[inline(never)]
 pub fn check_for_in_statement<N: CheckNode>(
     node: &ForInStatement<N>,
-    around: Surroundings<'_>,
+    around: &Surroundings<'_>,
 ) -> Result<u64, TreeFault>
-    ensures { result ≡ tree_verdict around.entry (for_in_statement_row N.plain node.now) }
+    ensures { result ≡ tree_verdict around.now (for_in_statement_row N.plain node.now) }
 {
     let rules = check_for_in_statement_rules(node, around);
     let left = check_for_statement_left(&node.left, around);
@@ -59,9 +59,9 @@ pub fn check_for_in_statement<N: CheckNode>(
 #[inline(never)]
 pub fn check_for_of_statement<N: CheckNode>(
     node: &ForOfStatement<N>,
-    around: Surroundings<'_>,
+    around: &Surroundings<'_>,
 ) -> Result<u64, TreeFault>
-    ensures { result ≡ tree_verdict around.entry (for_of_statement_row N.plain node.now) }
+    ensures { result ≡ tree_verdict around.now (for_of_statement_row N.plain node.now) }
 {
     let rules = check_for_of_statement_rules(node, around);
     let left = check_for_statement_left(&node.left, around);
@@ -73,9 +73,9 @@ pub fn check_for_of_statement<N: CheckNode>(
 #[inline(never)]
 pub fn check_while_statement<N: CheckNode>(
     node: &WhileStatement<N>,
-    around: Surroundings<'_>,
+    around: &Surroundings<'_>,
 ) -> Result<u64, TreeFault>
-    ensures { result ≡ tree_verdict around.entry (while_statement_row N.plain node.now) }
+    ensures { result ≡ tree_verdict around.now (while_statement_row N.plain node.now) }
 {
     let rules = check_while_statement_rules(node, around);
     let test = check_child(node.test.get(), NodeSet::Expression, around);
@@ -86,9 +86,9 @@ pub fn check_while_statement<N: CheckNode>(
 #[inline(never)]
 pub fn check_do_while_statement<N: CheckNode>(
     node: &DoWhileStatement<N>,
-    around: Surroundings<'_>,
+    around: &Surroundings<'_>,
 ) -> Result<u64, TreeFault>
-    ensures { result ≡ tree_verdict around.entry (do_while_statement_row N.plain node.now) }
+    ensures { result ≡ tree_verdict around.now (do_while_statement_row N.plain node.now) }
 {
     let rules = check_do_while_statement_rules(node, around);
     let body = check_child(node.body.get(), NodeSet::Statement, around);
@@ -98,9 +98,9 @@ pub fn check_do_while_statement<N: CheckNode>(
 
 pub fn check_label_identifier(
     node: &LabelIdentifier,
-    around: Surroundings<'_>,
+    around: &Surroundings<'_>,
 ) -> Result<u64, TreeFault>
-    ensures { result ≡ tree_verdict around.entry (label_identifier_row node.now) }
+    ensures { result ≡ tree_verdict around.now (label_identifier_row node.now) }
 {
     let rules = check_label_identifier_rules(node, around);
     check_node(around, node.span, rules, Ok(0))
@@ -109,9 +109,9 @@ pub fn check_label_identifier(
 #[inline(never)]
 pub fn check_labeled_statement<N: CheckNode>(
     node: &LabeledStatement<N>,
-    around: Surroundings<'_>,
+    around: &Surroundings<'_>,
 ) -> Result<u64, TreeFault>
-    ensures { result ≡ tree_verdict around.entry (labeled_statement_row N.plain node.now) }
+    ensures { result ≡ tree_verdict around.now (labeled_statement_row N.plain node.now) }
 {
     let rules = check_labeled_statement_rules(node, around);
     let label = check_label_identifier(&node.label, around);
@@ -122,9 +122,9 @@ pub fn check_labeled_statement<N: CheckNode>(
 #[inline(never)]
 pub fn check_continue_statement(
     node: &ContinueStatement,
-    around: Surroundings<'_>,
+    around: &Surroundings<'_>,
 ) -> Result<u64, TreeFault>
-    ensures { result ≡ tree_verdict around.entry (continue_statement_row node.now) }
+    ensures { result ≡ tree_verdict around.now (continue_statement_row node.now) }
 {
     let label = check_optional_label_identifier(&node.label, around);
     check_node(around, node.span, Ok(()), label)
@@ -133,9 +133,9 @@ pub fn check_continue_statement(
 #[inline(never)]
 pub fn check_break_statement(
     node: &BreakStatement,
-    around: Surroundings<'_>,
+    around: &Surroundings<'_>,
 ) -> Result<u64, TreeFault>
-    ensures { result ≡ tree_verdict around.entry (break_statement_row node.now) }
+    ensures { result ≡ tree_verdict around.now (break_statement_row node.now) }
 {
     let label = check_optional_label_identifier(&node.label, around);
     check_node(around, node.span, Ok(()), label)
@@ -144,9 +144,9 @@ pub fn check_break_statement(
 #[inline(never)]
 pub fn check_return_statement<N: CheckNode>(
     node: &ReturnStatement<N>,
-    around: Surroundings<'_>,
+    around: &Surroundings<'_>,
 ) -> Result<u64, TreeFault>
-    ensures { result ≡ tree_verdict around.entry (return_statement_row N.plain node.now) }
+    ensures { result ≡ tree_verdict around.now (return_statement_row N.plain node.now) }
 {
     let rules = check_return_statement_rules(node, around);
     let argument = check_optional_expression(&node.argument, around);
@@ -156,9 +156,9 @@ pub fn check_return_statement<N: CheckNode>(
 #[inline(never)]
 pub fn check_throw_statement<N: CheckNode>(
     node: &ThrowStatement<N>,
-    around: Surroundings<'_>,
+    around: &Surroundings<'_>,
 ) -> Result<u64, TreeFault>
-    ensures { result ≡ tree_verdict around.entry (throw_statement_row N.plain node.now) }
+    ensures { result ≡ tree_verdict around.now (throw_statement_row N.plain node.now) }
 {
     let argument = check_child(node.argument.get(), NodeSet::Expression, around);
     check_node(around, node.span, Ok(()), argument)
@@ -166,9 +166,9 @@ pub fn check_throw_statement<N: CheckNode>(
 
 pub fn check_debugger_statement(
     node: &DebuggerStatement,
-    around: Surroundings<'_>,
+    around: &Surroundings<'_>,
 ) -> Result<u64, TreeFault>
-    ensures { result ≡ tree_verdict around.entry (debugger_statement_row node.now) }
+    ensures { result ≡ tree_verdict around.now (debugger_statement_row node.now) }
 {
     check_node(around, node.span, Ok(()), Ok(0))
 }

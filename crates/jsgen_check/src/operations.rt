@@ -14,16 +14,16 @@ use jsgen_tree::{NewExpression, NewTarget, NodeSet, Super, UnaryExpression, Upda
 #[inline(never)]
 pub fn check_unary_expression<N: CheckNode>(
     node: &UnaryExpression<N>,
-    around: Surroundings<'_>,
+    around: &Surroundings<'_>,
 ) -> Result<u64, TreeFault>
-    ensures { result ≡ tree_verdict around.entry (unary_expression_row N.plain node.now) }
+    ensures { result ≡ tree_verdict around.now (unary_expression_row N.plain node.now) }
 {
     let argument = check_child(node.argument.get(), NodeSet::Expression, around);
     check_node(around, node.span, Ok(()), argument)
 }
 
-pub fn check_new_target(node: &NewTarget, around: Surroundings<'_>) -> Result<u64, TreeFault>
-    ensures { result ≡ tree_verdict around.entry (new_target_row node.now) }
+pub fn check_new_target(node: &NewTarget, around: &Surroundings<'_>) -> Result<u64, TreeFault>
+    ensures { result ≡ tree_verdict around.now (new_target_row node.now) }
 {
     check_node(around, node.span, Ok(()), Ok(0))
 }
@@ -31,9 +31,9 @@ pub fn check_new_target(node: &NewTarget, around: Surroundings<'_>) -> Result<u6
 #[inline(never)]
 pub fn check_update_expression<N: CheckNode>(
     node: &UpdateExpression<N>,
-    around: Surroundings<'_>,
+    around: &Surroundings<'_>,
 ) -> Result<u64, TreeFault>
-    ensures { result ≡ tree_verdict around.entry (update_expression_row N.plain node.now) }
+    ensures { result ≡ tree_verdict around.now (update_expression_row N.plain node.now) }
 {
     let rules = check_update_expression_rules(node, around);
     let argument = check_simple_assignment_target(&node.argument, around);
@@ -43,17 +43,17 @@ pub fn check_update_expression<N: CheckNode>(
 #[inline(never)]
 pub fn check_new_expression<N: CheckNode>(
     node: &NewExpression<N>,
-    around: Surroundings<'_>,
+    around: &Surroundings<'_>,
 ) -> Result<u64, TreeFault>
-    ensures { result ≡ tree_verdict around.entry (new_expression_row N.plain node.now) }
+    ensures { result ≡ tree_verdict around.now (new_expression_row N.plain node.now) }
 {
     let callee = check_child(node.callee.get(), NodeSet::Expression, around);
     let arguments = check_arguments(&node.arguments, around);
     check_node(around, node.span, Ok(()), higher(callee, arguments))
 }
 
-pub fn check_super(node: &Super, around: Surroundings<'_>) -> Result<u64, TreeFault>
-    ensures { result ≡ tree_verdict around.entry (super_row node.now) }
+pub fn check_super(node: &Super, around: &Surroundings<'_>) -> Result<u64, TreeFault>
+    ensures { result ≡ tree_verdict around.now (super_row node.now) }
 {
     check_node(around, node.span, Ok(()), Ok(0))
 }

@@ -12,9 +12,9 @@ use jsgen_tree::Program;
 
 pub fn check_program_row<N: CheckNode>(
     node: &Program<N>,
-    around: Surroundings<'_>,
+    around: &Surroundings<'_>,
 ) -> Result<(), TreeFault>
-    ensures { Judges (breaches (surroundings_plain around.entry) (program_row N.plain node.now)) result }
+    ensures { Judges (breaches (surroundings_plain around.now) (program_row N.plain node.now)) result }
 {
     let source = check_source(around.source, node.span);
     let comments = check_comments(&node.comments, around);

@@ -39,15 +39,15 @@ pub use statements::{
 };
 
 #[tactic(auto, unfolding(crate::specs::Verdict::surroundings_plain))]
-pub fn check_comment_rules(node: &Comment, around: Surroundings<'_>) -> Result<(), TreeFault>
-    ensures { result ≡ verdict (own_faults (surroundings_plain around.entry) (comment_row node.now)) }
+pub fn check_comment_rules(node: &Comment, around: &Surroundings<'_>) -> Result<(), TreeFault>
+    ensures { result ≡ verdict (own_faults (surroundings_plain around.now) (comment_row node.now)) }
 {
     check_comment(around.source, node.span, node.kind)
 }
 
 #[tactic(auto)]
-pub fn check_directive_rules(node: &Directive, around: Surroundings<'_>) -> Result<(), TreeFault>
-    ensures { result ≡ verdict (own_faults (surroundings_plain around.entry) (directive_row node.now)) }
+pub fn check_directive_rules(node: &Directive, around: &Surroundings<'_>) -> Result<(), TreeFault>
+    ensures { result ≡ verdict (own_faults (surroundings_plain around.now) (directive_row node.now)) }
 {
     let _ = around;
     check_raw(&node.directive, node.span)
@@ -69,9 +69,9 @@ fn check_count<N: CheckNode>(
 #[tactic(auto)]
 pub fn check_variable_declaration_rules<N: CheckNode>(
     node: &VariableDeclaration<N>,
-    around: Surroundings<'_>,
+    around: &Surroundings<'_>,
 ) -> Result<(), TreeFault>
-    ensures { result ≡ verdict (own_faults (surroundings_plain around.entry) (variable_declaration_row N.plain node.now)) }
+    ensures { result ≡ verdict (own_faults (surroundings_plain around.now) (variable_declaration_row N.plain node.now)) }
 {
     let _ = around;
     check_count(&node.declarations, node.span)
@@ -90,9 +90,9 @@ fn check_parts<N: CheckNode>(parts: &[ExpressionNode<N>], span: Span) -> Result<
 #[tactic(auto)]
 pub fn check_sequence_expression_rules<N: CheckNode>(
     node: &SequenceExpression<N>,
-    around: Surroundings<'_>,
+    around: &Surroundings<'_>,
 ) -> Result<(), TreeFault>
-    ensures { result ≡ verdict (own_faults (surroundings_plain around.entry) (sequence_expression_row N.plain node.now)) }
+    ensures { result ≡ verdict (own_faults (surroundings_plain around.now) (sequence_expression_row N.plain node.now)) }
 {
     let _ = around;
     check_parts(&node.expressions, node.span)
@@ -101,9 +101,9 @@ pub fn check_sequence_expression_rules<N: CheckNode>(
 #[tactic(auto)]
 pub fn check_binding_identifier_rules(
     node: &BindingIdentifier,
-    around: Surroundings<'_>,
+    around: &Surroundings<'_>,
 ) -> Result<(), TreeFault>
-    ensures { result ≡ verdict (own_faults (surroundings_plain around.entry) (binding_identifier_row node.now)) }
+    ensures { result ≡ verdict (own_faults (surroundings_plain around.now) (binding_identifier_row node.now)) }
 {
     check_binding(around.tables, node.symbol, &node.name, node.span)
 }
@@ -111,9 +111,9 @@ pub fn check_binding_identifier_rules(
 #[tactic(auto)]
 pub fn check_identifier_reference_rules(
     node: &IdentifierReference,
-    around: Surroundings<'_>,
+    around: &Surroundings<'_>,
 ) -> Result<(), TreeFault>
-    ensures { result ≡ verdict (own_faults (surroundings_plain around.entry) (identifier_reference_row node.now)) }
+    ensures { result ≡ verdict (own_faults (surroundings_plain around.now) (identifier_reference_row node.now)) }
 {
     check_reference(around.tables, node.reference, &node.name, node.span)
 }
@@ -121,9 +121,9 @@ pub fn check_identifier_reference_rules(
 #[tactic(auto)]
 pub fn check_numeric_literal_rules(
     node: &NumericLiteral,
-    around: Surroundings<'_>,
+    around: &Surroundings<'_>,
 ) -> Result<(), TreeFault>
-    ensures { result ≡ verdict (own_faults (surroundings_plain around.entry) (numeric_literal_row node.now)) }
+    ensures { result ≡ verdict (own_faults (surroundings_plain around.now) (numeric_literal_row node.now)) }
 {
     let _ = around;
     match &node.value {
@@ -135,9 +135,9 @@ pub fn check_numeric_literal_rules(
 #[tactic(auto)]
 pub fn check_big_int_literal_rules(
     node: &BigIntLiteral,
-    around: Surroundings<'_>,
+    around: &Surroundings<'_>,
 ) -> Result<(), TreeFault>
-    ensures { result ≡ verdict (own_faults (surroundings_plain around.entry) (big_int_literal_row node.now)) }
+    ensures { result ≡ verdict (own_faults (surroundings_plain around.now) (big_int_literal_row node.now)) }
 {
     let _ = around;
     check_big_integer(&node.value, node.span)
@@ -146,9 +146,9 @@ pub fn check_big_int_literal_rules(
 #[tactic(auto)]
 pub fn check_identifier_name_rules(
     node: &IdentifierName,
-    around: Surroundings<'_>,
+    around: &Surroundings<'_>,
 ) -> Result<(), TreeFault>
-    ensures { result ≡ verdict (own_faults (surroundings_plain around.entry) (identifier_name_row node.now)) }
+    ensures { result ≡ verdict (own_faults (surroundings_plain around.now) (identifier_name_row node.now)) }
 {
     let _ = around;
     check_written_name(&node.name, node.span)
@@ -157,9 +157,9 @@ pub fn check_identifier_name_rules(
 #[tactic(auto)]
 pub fn check_label_identifier_rules(
     node: &LabelIdentifier,
-    around: Surroundings<'_>,
+    around: &Surroundings<'_>,
 ) -> Result<(), TreeFault>
-    ensures { result ≡ verdict (own_faults (surroundings_plain around.entry) (label_identifier_row node.now)) }
+    ensures { result ≡ verdict (own_faults (surroundings_plain around.now) (label_identifier_row node.now)) }
 {
     let _ = around;
     check_label(&node.name, node.span)

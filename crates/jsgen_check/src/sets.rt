@@ -37,9 +37,9 @@ use jsgen_tree::{BindingPattern, Declaration, Expression, Statement};
 #[inline(never)]
 pub fn check_expression_set<N: CheckNode>(
     node: &Expression<N>,
-    around: Surroundings<'_>,
+    around: &Surroundings<'_>,
 ) -> Result<u64, TreeFault>
-    ensures { result ≡ tree_verdict around.entry (expression_plain N.plain node.now) }
+    ensures { result ≡ tree_verdict around.now (expression_plain N.plain node.now) }
 {
     match node {
         Expression::IdentifierReference(node) => check_identifier_reference(node, around),
@@ -76,9 +76,9 @@ pub fn check_expression_set<N: CheckNode>(
 #[inline(never)]
 pub fn check_declaration_set<N: CheckNode>(
     node: &Declaration<N>,
-    around: Surroundings<'_>,
+    around: &Surroundings<'_>,
 ) -> Result<u64, TreeFault>
-    ensures { result ≡ tree_verdict around.entry (declaration_plain N.plain node.now) }
+    ensures { result ≡ tree_verdict around.now (declaration_plain N.plain node.now) }
 {
     match node {
         Declaration::VariableDeclaration(node) => check_variable_declaration(node, around),
@@ -89,9 +89,9 @@ pub fn check_declaration_set<N: CheckNode>(
 #[inline(never)]
 pub fn check_statement_set<N: CheckNode>(
     node: &Statement<N>,
-    around: Surroundings<'_>,
+    around: &Surroundings<'_>,
 ) -> Result<u64, TreeFault>
-    ensures { result ≡ tree_verdict around.entry (statement_plain N.plain node.now) }
+    ensures { result ≡ tree_verdict around.now (statement_plain N.plain node.now) }
 {
     match node {
         Statement::Declaration(node) => node.get().check(around),
@@ -118,9 +118,9 @@ pub fn check_statement_set<N: CheckNode>(
 #[inline(never)]
 pub fn check_binding_pattern_set(
     node: &BindingPattern,
-    around: Surroundings<'_>,
+    around: &Surroundings<'_>,
 ) -> Result<u64, TreeFault>
-    ensures { result ≡ tree_verdict around.entry (binding_pattern_plain node.now) }
+    ensures { result ≡ tree_verdict around.now (binding_pattern_plain node.now) }
 {
     match node {
         BindingPattern::BindingIdentifier(node) => check_binding_identifier(node, around),

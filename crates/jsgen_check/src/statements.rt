@@ -20,15 +20,15 @@ use jsgen_tree::{
     IfStatement, NodeSet, VariableDeclaration, VariableDeclarator,
 };
 
-pub fn check_comment(node: &Comment, around: Surroundings<'_>) -> Result<u64, TreeFault>
-    ensures { result ≡ tree_verdict around.entry (comment_row node.now) }
+pub fn check_comment(node: &Comment, around: &Surroundings<'_>) -> Result<u64, TreeFault>
+    ensures { result ≡ tree_verdict around.now (comment_row node.now) }
 {
     let rules = check_comment_rules(node, around);
     check_node(around, node.span, rules, Ok(0))
 }
 
-pub fn check_directive(node: &Directive, around: Surroundings<'_>) -> Result<u64, TreeFault>
-    ensures { result ≡ tree_verdict around.entry (directive_row node.now) }
+pub fn check_directive(node: &Directive, around: &Surroundings<'_>) -> Result<u64, TreeFault>
+    ensures { result ≡ tree_verdict around.now (directive_row node.now) }
 {
     let rules = check_directive_rules(node, around);
     check_node(around, node.span, rules, Ok(0))
@@ -37,9 +37,9 @@ pub fn check_directive(node: &Directive, around: Surroundings<'_>) -> Result<u64
 #[inline(never)]
 pub fn check_variable_declaration<N: CheckNode>(
     node: &VariableDeclaration<N>,
-    around: Surroundings<'_>,
+    around: &Surroundings<'_>,
 ) -> Result<u64, TreeFault>
-    ensures { result ≡ tree_verdict around.entry (variable_declaration_row N.plain node.now) }
+    ensures { result ≡ tree_verdict around.now (variable_declaration_row N.plain node.now) }
 {
     let rules = check_variable_declaration_rules(node, around);
     let declarations = check_variable_declarators(&node.declarations, around);
@@ -49,9 +49,9 @@ pub fn check_variable_declaration<N: CheckNode>(
 #[inline(never)]
 pub fn check_variable_declarator<N: CheckNode>(
     node: &VariableDeclarator<N>,
-    around: Surroundings<'_>,
+    around: &Surroundings<'_>,
 ) -> Result<u64, TreeFault>
-    ensures { result ≡ tree_verdict around.entry (variable_declarator_row N.plain node.now) }
+    ensures { result ≡ tree_verdict around.now (variable_declarator_row N.plain node.now) }
 {
     let id = check_child(node.id.get(), NodeSet::BindingPattern, around);
     let init = check_optional_expression(&node.init, around);
@@ -60,9 +60,9 @@ pub fn check_variable_declarator<N: CheckNode>(
 
 pub fn check_binding_identifier(
     node: &BindingIdentifier,
-    around: Surroundings<'_>,
+    around: &Surroundings<'_>,
 ) -> Result<u64, TreeFault>
-    ensures { result ≡ tree_verdict around.entry (binding_identifier_row node.now) }
+    ensures { result ≡ tree_verdict around.now (binding_identifier_row node.now) }
 {
     let rules = check_binding_identifier_rules(node, around);
     check_node(around, node.span, rules, Ok(0))
@@ -71,9 +71,9 @@ pub fn check_binding_identifier(
 #[inline(never)]
 pub fn check_expression_statement<N: CheckNode>(
     node: &ExpressionStatement<N>,
-    around: Surroundings<'_>,
+    around: &Surroundings<'_>,
 ) -> Result<u64, TreeFault>
-    ensures { result ≡ tree_verdict around.entry (expression_statement_row N.plain node.now) }
+    ensures { result ≡ tree_verdict around.now (expression_statement_row N.plain node.now) }
 {
     let expression = check_child(node.expression.get(), NodeSet::Expression, around);
     check_node(around, node.span, Ok(()), expression)
@@ -82,9 +82,9 @@ pub fn check_expression_statement<N: CheckNode>(
 #[inline(never)]
 pub fn check_block_statement<N: CheckNode>(
     node: &BlockStatement<N>,
-    around: Surroundings<'_>,
+    around: &Surroundings<'_>,
 ) -> Result<u64, TreeFault>
-    ensures { result ≡ tree_verdict around.entry (block_statement_row N.plain node.now) }
+    ensures { result ≡ tree_verdict around.now (block_statement_row N.plain node.now) }
 {
     let body = check_statements(&node.body, around);
     check_node(around, node.span, Ok(()), body)
@@ -93,9 +93,9 @@ pub fn check_block_statement<N: CheckNode>(
 #[inline(never)]
 pub fn check_if_statement<N: CheckNode>(
     node: &IfStatement<N>,
-    around: Surroundings<'_>,
+    around: &Surroundings<'_>,
 ) -> Result<u64, TreeFault>
-    ensures { result ≡ tree_verdict around.entry (if_statement_row N.plain node.now) }
+    ensures { result ≡ tree_verdict around.now (if_statement_row N.plain node.now) }
 {
     let rules = check_if_statement_rules(node, around);
     let test = check_child(node.test.get(), NodeSet::Expression, around);
@@ -111,9 +111,9 @@ pub fn check_if_statement<N: CheckNode>(
 
 pub fn check_empty_statement(
     node: &EmptyStatement,
-    around: Surroundings<'_>,
+    around: &Surroundings<'_>,
 ) -> Result<u64, TreeFault>
-    ensures { result ≡ tree_verdict around.entry (empty_statement_row node.now) }
+    ensures { result ≡ tree_verdict around.now (empty_statement_row node.now) }
 {
     check_node(around, node.span, Ok(()), Ok(0))
 }

@@ -24,12 +24,12 @@ pub struct Surroundings<'a> {
 impl<'a> Surroundings<'a> {
     /// What surrounds the children of a function's body that this surrounds.
     #[tactic(auto, unfolding(crate::specs::Verdict::surroundings_plain))]
-    pub fn within_body(self) -> Surroundings<'a>
-        ensures { surroundings_plain result ≡ around_children (surroundings_plain self.entry) types.FunctionBody }
+    pub fn within_body(&self) -> Surroundings<'a>
+        ensures { surroundings_plain result ≡ around_children (surroundings_plain self.now) types.FunctionBody }
     {
         Surroundings {
             in_function: true,
-            ..self
+            ..*self
         }
     }
 }

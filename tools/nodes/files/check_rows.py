@@ -10,7 +10,7 @@ from table import snake
 CHECK = "crates/jsgen_check"
 PROOFS = "Rattle.jsgen_check.proofs"
 VERDICT = "Rattle.jsgen_check.specs.Verdict"
-AROUND = "around: Surroundings<'_>"
+AROUND = "around: &Surroundings<'_>"
 STEPS = ["no_rules", "two_children", "last_child", "of_row", "none_before", "turn", "turn_copied", "turns_end", "turn_or_hole", "turns_or_holes_end"]
 BODIES = ["FunctionBody"]  # what surrounds their children differs, by `within_body` of crates/jsgen_check/src/surroundings.rt
 PROGRAM = "Program"  # its row stands by hand, in crates/jsgen_check/src/program.rt
@@ -95,7 +95,7 @@ def check_optional(kind):
 def calls(table, n):
     """The checks of a row's children: the field, the call, the fact of the call that gives its argument, and whether the
     child is of a type, so that it is surely of its set."""
-    found, around = [], "within" if n.name in BODIES else "around"
+    found, around = [], "&within" if n.name in BODIES else "around"
     for f in table.children(n):
         here = f"node.{f.rust}"
         if f.many == "*":
@@ -128,7 +128,7 @@ def of_row(table, n):
     # (one function that has all of them has a frame for all of them at each level of a nested tree)
     own_frame = "#[inline(never)]\n" if table.children(n) else ""
     return f"""{own_frame}pub fn {check(n.name)}{parameter}(node: &{of}, {AROUND}) -> {RESULT}
-    ensures {{ result ≡ tree_verdict around.entry ({plain(table, n.name)} node.now) }}
+    ensures {{ result ≡ tree_verdict around.now ({plain(table, n.name)} node.now) }}
 {{
 {body}    check_node(around, node.span, {own}, {children})
 }}"""
@@ -155,7 +155,7 @@ def row_answers(table, n):
         return f"two_children c.{numbered('higher', len(below) - 2 - at)}.ensures {said[at]} ({children(at + 1)})"
 
     own = f"c.{rules(n)}-rules.ensures" if n.rules else "no_rules"
-    within = "c.within_body-within.result _ _ _ _ c.within_body-within.ensures" if n.name in BODIES else "c.args.around _ _ _ _ refl"
+    within = "c.within_body-within.result _ _ _ _ c.within_body-within.ensures" if n.name in BODIES else "c.args.around.now _ _ _ _ refl"
     end = f"{within} c.check_node.ensures {own} " + (f"({children(0)})" if below else "refl")
     body = f"pub returns : goal.returns\nreturns {'g ' if table.generic(n.name) else ''}c = of_row {end}"
     homes = [("Rattle.std.proofs.Common", ["◌≡◌", "refl", "sym", "◌∙◌"]), (f"{PROOFS}.Verdicts", ["of_right_set"]),
@@ -173,7 +173,7 @@ def of_list(table, kind):
     if nests(table, kind):
         call = f"check_child(node.get(), NodeSet::{kind}, around)"
     return f"""pub fn {check_all(kind)}{parameter}(nodes: &[{of}], {AROUND}) -> {RESULT}
-    ensures {{ result ≡ children_verdict around.entry sets.{kind} (trees (map {each(table, kind)} nodes.now)) }}
+    ensures {{ result ≡ children_verdict around.now sets.{kind} (trees (map {each(table, kind)} nodes.now)) }}
 {{
     let mut below = Ok(0);
     for node in nodes {{
@@ -187,7 +187,7 @@ def of_list(table, kind):
 def of_holed_list(table, kind):
     of, parameter = child_type(table, kind)
     return f"""pub fn {check_all_or_holes(kind)}{parameter}(nodes: &[Option<{of}>], {AROUND}) -> {RESULT}
-    ensures {{ result ≡ children_verdict around.entry sets.{kind} (holed (map (option_map {each(table, kind)}) nodes.now)) }}
+    ensures {{ result ≡ children_verdict around.now sets.{kind} (holed (map (option_map {each(table, kind)}) nodes.now)) }}
 {{
     let mut below = Ok(0);
     for node in nodes {{
@@ -205,7 +205,7 @@ def of_optional(table, kind):
     if kind in table.nodes:
         of, row = f"Box<{of}>", f"(λ b. {plain(table, kind)} b.value)"
     return f"""pub fn {check_optional(kind)}{parameter}(node: &Option<{of}>, {AROUND}) -> {RESULT}
-    ensures {{ result ≡ maybe_verdict around.entry sets.{kind} (optional (option_map {row} node.now)) }}
+    ensures {{ result ≡ maybe_verdict around.now sets.{kind} (optional (option_map {row} node.now)) }}
 {{
     match node {{
         Some(node) => {call},
@@ -221,7 +221,7 @@ def of_inner_set(table, s):
         call = f"check_child(node.get(), NodeSet::{s.name}, around)" if m in table.sets else f"{check(m)}(node, around)"
         arms += f"        {s.name}::{m}(node) => {call},\n"
     return f"""pub fn {check(s.name)}{parameter}(node: &{of}, {AROUND}) -> {RESULT}
-    ensures {{ result ≡ child_verdict around.entry sets.{s.name} ({plain(table, s.name)} node.now) }}
+    ensures {{ result ≡ child_verdict around.now sets.{s.name} ({plain(table, s.name)} node.now) }}
 {{
     match node {{
 {arms}    }}
@@ -251,7 +251,7 @@ def list_answers(table, kind):
     elif kind in table.nodes:
         said = f"({said} ∙ sym (of_right_set _ sets.{kind} _ refl))"
     row = each(table, kind, "g.N.CheckNode.plain")
-    every = f"c.loop-node.below c.args.around sets.{kind} {row} c.args.nodes.now c.loop-node.node-index"
+    every = f"c.loop-node.below c.args.around.now sets.{kind} {row} c.args.nodes.now c.loop-node.node-index"
     item = "c.node-item.result c.loop-node-test.true c.node-item.is"
     step = f"turn {every} {item}"
     if kind in table.nodes and table.nodes[kind].is_copy:  # the proof has no name for such an item
@@ -289,7 +289,7 @@ invariant-loop-node {"g " if generic else ""}l =
 def holed_answers(table, kind):
     g = "g " if child_type(table, kind)[1] else ""
     row = each(table, kind, "g.N.CheckNode.plain")
-    every = f"c.loop-node.below c.args.around sets.{kind} {row} c.args.nodes.now c.loop-node.node-index"
+    every = f"c.loop-node.below c.args.around.now sets.{kind} {row} c.args.nodes.now c.loop-node.node-index"
     item = "c.node-item.result c.loop-node-test.true c.node-item.is"
     body = f"""pub loop-node-init : goal.loop-node-init
 loop-node-init {g}c = none_before _
@@ -340,7 +340,7 @@ def of_set(table, s):
         arms += f"        {s.name}::{m}(node) => {call},\n"
     return f"""#[inline(never)]
 pub fn {check(s.name)}_set{parameter}(node: &{of}, {AROUND}) -> {RESULT}
-    ensures {{ result ≡ tree_verdict around.entry ({s.plain}{" N.plain" if parameter else ""} node.now) }}
+    ensures {{ result ≡ tree_verdict around.now ({s.plain}{" N.plain" if parameter else ""} node.now) }}
 {{
     match node {{
 {arms}    }}

@@ -17,9 +17,9 @@ use jsgen_tree::{Function, PropertyKind, ReturnStatement};
 #[tactic(auto)]
 pub fn check_function_rules<N: CheckNode>(
     node: &Function<N>,
-    around: Surroundings<'_>,
+    around: &Surroundings<'_>,
 ) -> Result<(), TreeFault>
-    ensures { result ≡ verdict (own_faults (surroundings_plain around.entry) (function_row N.plain node.now)) }
+    ensures { result ≡ verdict (own_faults (surroundings_plain around.now) (function_row N.plain node.now)) }
 {
     let _ = around;
     check_function(node.kind, node.id.is_some(), node.body.is_some(), node.span)
@@ -28,9 +28,9 @@ pub fn check_function_rules<N: CheckNode>(
 #[tactic(auto, unfolding(crate::specs::Verdict::surroundings_plain))]
 pub fn check_return_statement_rules<N: CheckNode>(
     node: &ReturnStatement<N>,
-    around: Surroundings<'_>,
+    around: &Surroundings<'_>,
 ) -> Result<(), TreeFault>
-    ensures { result ≡ verdict (own_faults (surroundings_plain around.entry) (return_statement_row N.plain node.now)) }
+    ensures { result ≡ verdict (own_faults (surroundings_plain around.now) (return_statement_row N.plain node.now)) }
 {
     check_return(around.in_function, node.span)
 }

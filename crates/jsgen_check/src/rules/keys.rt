@@ -202,9 +202,9 @@ fn check_method<N: CheckNode>(node: &ObjectProperty<N>) -> Result<(), TreeFault>
 #[tactic(auto)]
 pub fn check_object_property_rules<N: CheckNode>(
     node: &ObjectProperty<N>,
-    around: Surroundings<'_>,
+    around: &Surroundings<'_>,
 ) -> Result<(), TreeFault>
-    ensures { result ≡ verdict (own_faults (surroundings_plain around.entry) (object_property_row N.plain node.now)) }
+    ensures { result ≡ verdict (own_faults (surroundings_plain around.now) (object_property_row N.plain node.now)) }
 {
     check_key(node.computed, &node.key)?;
     if node.is_method() {

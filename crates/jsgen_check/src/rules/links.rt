@@ -34,9 +34,9 @@ fn check_super<N: CheckNode>(optional: bool, object: &N) -> Result<(), TreeFault
 #[tactic(auto)]
 pub fn check_static_member_expression_rules<N: CheckNode>(
     node: &StaticMemberExpression<N>,
-    around: Surroundings<'_>,
+    around: &Surroundings<'_>,
 ) -> Result<(), TreeFault>
-    ensures { result ≡ verdict (own_faults (surroundings_plain around.entry) (static_member_expression_row N.plain node.now)) }
+    ensures { result ≡ verdict (own_faults (surroundings_plain around.now) (static_member_expression_row N.plain node.now)) }
 {
     let _ = around;
     check_super(node.optional, node.object.get())
@@ -45,9 +45,9 @@ pub fn check_static_member_expression_rules<N: CheckNode>(
 #[tactic(auto)]
 pub fn check_computed_member_expression_rules<N: CheckNode>(
     node: &ComputedMemberExpression<N>,
-    around: Surroundings<'_>,
+    around: &Surroundings<'_>,
 ) -> Result<(), TreeFault>
-    ensures { result ≡ verdict (own_faults (surroundings_plain around.entry) (computed_member_expression_row N.plain node.now)) }
+    ensures { result ≡ verdict (own_faults (surroundings_plain around.now) (computed_member_expression_row N.plain node.now)) }
 {
     let _ = around;
     check_super(node.optional, node.object.get())
@@ -56,9 +56,9 @@ pub fn check_computed_member_expression_rules<N: CheckNode>(
 #[tactic(auto)]
 pub fn check_call_expression_rules<N: CheckNode>(
     node: &CallExpression<N>,
-    around: Surroundings<'_>,
+    around: &Surroundings<'_>,
 ) -> Result<(), TreeFault>
-    ensures { result ≡ verdict (own_faults (surroundings_plain around.entry) (call_expression_row N.plain node.now)) }
+    ensures { result ≡ verdict (own_faults (surroundings_plain around.now) (call_expression_row N.plain node.now)) }
 {
     let _ = around;
     check_super(node.optional, node.callee.get())
@@ -66,9 +66,9 @@ pub fn check_call_expression_rules<N: CheckNode>(
 
 pub fn check_chain_expression_rules<N: CheckNode>(
     node: &ChainExpression<N>,
-    around: Surroundings<'_>,
+    around: &Surroundings<'_>,
 ) -> Result<(), TreeFault>
-    ensures { result ≡ verdict (own_faults (surroundings_plain around.entry) (chain_expression_row N.plain node.now)) }
+    ensures { result ≡ verdict (own_faults (surroundings_plain around.now) (chain_expression_row N.plain node.now)) }
 {
     let _ = around;
     if !element_has_optional_link(&node.expression) {
@@ -92,9 +92,9 @@ fn target_start<N: CheckNode>(target: &SimpleAssignmentTarget<N>) -> u32
 #[tactic(auto)]
 pub fn check_update_expression_rules<N: CheckNode>(
     node: &UpdateExpression<N>,
-    around: Surroundings<'_>,
+    around: &Surroundings<'_>,
 ) -> Result<(), TreeFault>
-    ensures { result ≡ verdict (own_faults (surroundings_plain around.entry) (update_expression_row N.plain node.now)) }
+    ensures { result ≡ verdict (own_faults (surroundings_plain around.now) (update_expression_row N.plain node.now)) }
 {
     let _ = around;
     check_target(&node.argument)
@@ -127,9 +127,9 @@ fn check_assigned<N: CheckNode>(target: &AssignmentTarget<N>) -> Result<(), Tree
 #[tactic(auto)]
 pub fn check_assignment_expression_rules<N: CheckNode>(
     node: &AssignmentExpression<N>,
-    around: Surroundings<'_>,
+    around: &Surroundings<'_>,
 ) -> Result<(), TreeFault>
-    ensures { result ≡ verdict (own_faults (surroundings_plain around.entry) (assignment_expression_row N.plain node.now)) }
+    ensures { result ≡ verdict (own_faults (surroundings_plain around.now) (assignment_expression_row N.plain node.now)) }
 {
     let _ = around;
     check_assigned(&node.left)

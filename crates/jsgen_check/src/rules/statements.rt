@@ -37,9 +37,9 @@ fn check_alternate<N: CheckNode>(alternate: &Option<StatementNode<N>>) -> Result
 #[tactic(auto)]
 pub fn check_if_statement_rules<N: CheckNode>(
     node: &IfStatement<N>,
-    around: Surroundings<'_>,
+    around: &Surroundings<'_>,
 ) -> Result<(), TreeFault>
-    ensures { result ≡ verdict (own_faults (surroundings_plain around.entry) (if_statement_row N.plain node.now)) }
+    ensures { result ≡ verdict (own_faults (surroundings_plain around.now) (if_statement_row N.plain node.now)) }
 {
     let _ = around;
     check_followed(node.consequent.get())?;
@@ -49,9 +49,9 @@ pub fn check_if_statement_rules<N: CheckNode>(
 #[tactic(auto)]
 pub fn check_for_statement_rules<N: CheckNode>(
     node: &ForStatement<N>,
-    around: Surroundings<'_>,
+    around: &Surroundings<'_>,
 ) -> Result<(), TreeFault>
-    ensures { result ≡ verdict (own_faults (surroundings_plain around.entry) (for_statement_row N.plain node.now)) }
+    ensures { result ≡ verdict (own_faults (surroundings_plain around.now) (for_statement_row N.plain node.now)) }
 {
     let _ = around;
     check_followed(node.body.get())
@@ -91,9 +91,9 @@ fn check_left<N: CheckNode>(left: &ForStatementLeft<N>) -> Result<(), TreeFault>
 #[tactic(auto)]
 pub fn check_for_in_statement_rules<N: CheckNode>(
     node: &ForInStatement<N>,
-    around: Surroundings<'_>,
+    around: &Surroundings<'_>,
 ) -> Result<(), TreeFault>
-    ensures { result ≡ verdict (own_faults (surroundings_plain around.entry) (for_in_statement_row N.plain node.now)) }
+    ensures { result ≡ verdict (own_faults (surroundings_plain around.now) (for_in_statement_row N.plain node.now)) }
 {
     let _ = around;
     check_left(&node.left)?;
@@ -103,9 +103,9 @@ pub fn check_for_in_statement_rules<N: CheckNode>(
 #[tactic(auto)]
 pub fn check_for_of_statement_rules<N: CheckNode>(
     node: &ForOfStatement<N>,
-    around: Surroundings<'_>,
+    around: &Surroundings<'_>,
 ) -> Result<(), TreeFault>
-    ensures { result ≡ verdict (own_faults (surroundings_plain around.entry) (for_of_statement_row N.plain node.now)) }
+    ensures { result ≡ verdict (own_faults (surroundings_plain around.now) (for_of_statement_row N.plain node.now)) }
 {
     let _ = around;
     check_left(&node.left)?;
@@ -115,9 +115,9 @@ pub fn check_for_of_statement_rules<N: CheckNode>(
 #[tactic(auto)]
 pub fn check_while_statement_rules<N: CheckNode>(
     node: &WhileStatement<N>,
-    around: Surroundings<'_>,
+    around: &Surroundings<'_>,
 ) -> Result<(), TreeFault>
-    ensures { result ≡ verdict (own_faults (surroundings_plain around.entry) (while_statement_row N.plain node.now)) }
+    ensures { result ≡ verdict (own_faults (surroundings_plain around.now) (while_statement_row N.plain node.now)) }
 {
     let _ = around;
     check_followed(node.body.get())
@@ -126,9 +126,9 @@ pub fn check_while_statement_rules<N: CheckNode>(
 #[tactic(auto)]
 pub fn check_do_while_statement_rules<N: CheckNode>(
     node: &DoWhileStatement<N>,
-    around: Surroundings<'_>,
+    around: &Surroundings<'_>,
 ) -> Result<(), TreeFault>
-    ensures { result ≡ verdict (own_faults (surroundings_plain around.entry) (do_while_statement_row N.plain node.now)) }
+    ensures { result ≡ verdict (own_faults (surroundings_plain around.now) (do_while_statement_row N.plain node.now)) }
 {
     let _ = around;
     check_followed(node.body.get())
@@ -137,9 +137,9 @@ pub fn check_do_while_statement_rules<N: CheckNode>(
 #[tactic(auto)]
 pub fn check_labeled_statement_rules<N: CheckNode>(
     node: &LabeledStatement<N>,
-    around: Surroundings<'_>,
+    around: &Surroundings<'_>,
 ) -> Result<(), TreeFault>
-    ensures { result ≡ verdict (own_faults (surroundings_plain around.entry) (labeled_statement_row N.plain node.now)) }
+    ensures { result ≡ verdict (own_faults (surroundings_plain around.now) (labeled_statement_row N.plain node.now)) }
 {
     let _ = around;
     check_followed(node.body.get())
@@ -161,9 +161,9 @@ fn defaults<N: CheckNode>(cases: &[SwitchCase<N>]) -> usize
 #[tactic(auto)]
 pub fn check_switch_statement_rules<N: CheckNode>(
     node: &SwitchStatement<N>,
-    around: Surroundings<'_>,
+    around: &Surroundings<'_>,
 ) -> Result<(), TreeFault>
-    ensures { result ≡ verdict (own_faults (surroundings_plain around.entry) (switch_statement_row N.plain node.now)) }
+    ensures { result ≡ verdict (own_faults (surroundings_plain around.now) (switch_statement_row N.plain node.now)) }
 {
     let _ = around;
     check_defaults(defaults(&node.cases), node.span)
@@ -172,9 +172,9 @@ pub fn check_switch_statement_rules<N: CheckNode>(
 #[tactic(auto)]
 pub fn check_try_statement_rules<N: CheckNode>(
     node: &TryStatement<N>,
-    around: Surroundings<'_>,
+    around: &Surroundings<'_>,
 ) -> Result<(), TreeFault>
-    ensures { result ≡ verdict (own_faults (surroundings_plain around.entry) (try_statement_row N.plain node.now)) }
+    ensures { result ≡ verdict (own_faults (surroundings_plain around.now) (try_statement_row N.plain node.now)) }
 {
     let _ = around;
     check_ends(node.handler.is_some(), node.finalizer.is_some(), node.span)

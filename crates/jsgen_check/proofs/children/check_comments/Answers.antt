@@ -11,7 +11,7 @@ pub loop-node-init : goal.loop-node-init
 loop-node-init c = none_before _
 
 pub loop-node-preserved : goal.loop-node-preserved
-loop-node-preserved c = turn_copied c.loop-node.below c.args.around sets.Comment comment_row c.args.nodes.now c.loop-node.node-index _ c.loop-node-test.true c.loop-node.invariant c.higher-below.ensures (c.check_comment-found.ensures ∙ sym (of_right_set _ sets.Comment _ refl))
+loop-node-preserved c = turn_copied c.loop-node.below c.args.around.now sets.Comment comment_row c.args.nodes.now c.loop-node.node-index _ c.loop-node-test.true c.loop-node.invariant c.higher-below.ensures (c.check_comment-found.ensures ∙ sym (of_right_set _ sets.Comment _ refl))
 
 pub returns : goal.returns
-returns c = turns_end c.loop-node.below c.args.around sets.Comment comment_row c.args.nodes.now c.loop-node.node-index c.loop-node-test.false c.loop-node.invariant
+returns c = turns_end c.loop-node.below c.args.around.now sets.Comment comment_row c.args.nodes.now c.loop-node.node-index c.loop-node-test.false c.loop-node.invariant

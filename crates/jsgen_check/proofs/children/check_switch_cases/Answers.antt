@@ -11,7 +11,7 @@ pub loop-node-init : goal.loop-node-init
 loop-node-init g c = none_before _
 
 pub loop-node-preserved : goal.loop-node-preserved
-loop-node-preserved g c = turn c.loop-node.below c.args.around sets.SwitchCase (switch_case_row g.N.CheckNode.plain) c.args.nodes.now c.loop-node.node-index c.node-item.result c.loop-node-test.true c.node-item.is c.loop-node.invariant c.higher-below.ensures (c.check_switch_case-found.ensures ∙ sym (of_right_set _ sets.SwitchCase _ refl))
+loop-node-preserved g c = turn c.loop-node.below c.args.around.now sets.SwitchCase (switch_case_row g.N.CheckNode.plain) c.args.nodes.now c.loop-node.node-index c.node-item.result c.loop-node-test.true c.node-item.is c.loop-node.invariant c.higher-below.ensures (c.check_switch_case-found.ensures ∙ sym (of_right_set _ sets.SwitchCase _ refl))
 
 pub returns : goal.returns
-returns g c = turns_end c.loop-node.below c.args.around sets.SwitchCase (switch_case_row g.N.CheckNode.plain) c.args.nodes.now c.loop-node.node-index c.loop-node-test.false c.loop-node.invariant
+returns g c = turns_end c.loop-node.below c.args.around.now sets.SwitchCase (switch_case_row g.N.CheckNode.plain) c.args.nodes.now c.loop-node.node-index c.loop-node-test.false c.loop-node.invariant

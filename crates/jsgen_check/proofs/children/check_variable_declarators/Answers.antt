@@ -11,7 +11,7 @@ pub loop-node-init : goal.loop-node-init
 loop-node-init g c = none_before _
 
 pub loop-node-preserved : goal.loop-node-preserved
-loop-node-preserved g c = turn c.loop-node.below c.args.around sets.VariableDeclarator (variable_declarator_row g.N.CheckNode.plain) c.args.nodes.now c.loop-node.node-index c.node-item.result c.loop-node-test.true c.node-item.is c.loop-node.invariant c.higher-below.ensures (c.check_variable_declarator-found.ensures ∙ sym (of_right_set _ sets.VariableDeclarator _ refl))
+loop-node-preserved g c = turn c.loop-node.below c.args.around.now sets.VariableDeclarator (variable_declarator_row g.N.CheckNode.plain) c.args.nodes.now c.loop-node.node-index c.node-item.result c.loop-node-test.true c.node-item.is c.loop-node.invariant c.higher-below.ensures (c.check_variable_declarator-found.ensures ∙ sym (of_right_set _ sets.VariableDeclarator _ refl))
 
 pub returns : goal.returns
-returns g c = turns_end c.loop-node.below c.args.around sets.VariableDeclarator (variable_declarator_row g.N.CheckNode.plain) c.args.nodes.now c.loop-node.node-index c.loop-node-test.false c.loop-node.invariant
+returns g c = turns_end c.loop-node.below c.args.around.now sets.VariableDeclarator (variable_declarator_row g.N.CheckNode.plain) c.args.nodes.now c.loop-node.node-index c.loop-node-test.false c.loop-node.invariant

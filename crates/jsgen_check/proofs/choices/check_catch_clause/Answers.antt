@@ -7,4 +7,4 @@ use Rattle.jsgen_tree.specs.declared.types.NodeSet.TheVariants as sets
 use Rattle.jsgen_check.proofs.choices.check_catch_clause.Goals as goal
 
 pub returns : goal.returns
-returns g c = of_row c.args.around _ _ _ _ refl c.check_node.ensures no_rules (two_children c.higher.ensures c.check_optional_binding_pattern-param.ensures (last_child ((rw c.deref.ensures at c.check_block_statement-body.ensures) ∙ sym (of_right_set _ sets.BlockStatement _ refl))))
+returns g c = of_row c.args.around.now _ _ _ _ refl c.check_node.ensures no_rules (two_children c.higher.ensures c.check_optional_binding_pattern-param.ensures (last_child ((rw c.deref.ensures at c.check_block_statement-body.ensures) ∙ sym (of_right_set _ sets.BlockStatement _ refl))))

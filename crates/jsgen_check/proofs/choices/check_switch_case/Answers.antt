@@ -5,4 +5,4 @@ use Rattle.jsgen_check.proofs.Steps.{no_rules, two_children, last_child, of_row}
 use Rattle.jsgen_check.proofs.choices.check_switch_case.Goals as goal
 
 pub returns : goal.returns
-returns g c = of_row c.args.around _ _ _ _ refl c.check_node.ensures no_rules (two_children c.higher.ensures c.check_optional_expression-test.ensures (last_child (rw c.deref.ensures.value at c.check_statements-consequent.ensures)))
+returns g c = of_row c.args.around.now _ _ _ _ refl c.check_node.ensures no_rules (two_children c.higher.ensures c.check_optional_expression-test.ensures (last_child (rw c.deref.ensures.value at c.check_statements-consequent.ensures)))

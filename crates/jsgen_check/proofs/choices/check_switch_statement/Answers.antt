@@ -5,4 +5,4 @@ use Rattle.jsgen_check.proofs.Steps.{two_children, last_child, of_row}
 use Rattle.jsgen_check.proofs.choices.check_switch_statement.Goals as goal
 
 pub returns : goal.returns
-returns g c = of_row c.args.around _ _ _ _ refl c.check_node.ensures c.check_switch_statement_rules-rules.ensures (two_children c.higher.ensures (rw c.get.ensures at c.check_child-discriminant.ensures) (last_child (rw c.deref.ensures.value at c.check_switch_cases-cases.ensures)))
+returns g c = of_row c.args.around.now _ _ _ _ refl c.check_node.ensures c.check_switch_statement_rules-rules.ensures (two_children c.higher.ensures (rw c.get.ensures at c.check_child-discriminant.ensures) (last_child (rw c.deref.ensures.value at c.check_switch_cases-cases.ensures)))

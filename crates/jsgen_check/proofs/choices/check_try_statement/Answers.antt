@@ -7,4 +7,4 @@ use Rattle.jsgen_tree.specs.declared.types.NodeSet.TheVariants as sets
 use Rattle.jsgen_check.proofs.choices.check_try_statement.Goals as goal
 
 pub returns : goal.returns
-returns g c = of_row c.args.around _ _ _ _ refl c.check_node.ensures c.check_try_statement_rules-rules.ensures (two_children c.higher-2.ensures ((rw c.deref.ensures at c.check_block_statement-block.ensures) ∙ sym (of_right_set _ sets.BlockStatement _ refl)) (two_children c.higher.ensures c.check_optional_catch_clause-handler.ensures (last_child c.check_optional_block_statement-finalizer.ensures)))
+returns g c = of_row c.args.around.now _ _ _ _ refl c.check_node.ensures c.check_try_statement_rules-rules.ensures (two_children c.higher-2.ensures ((rw c.deref.ensures at c.check_block_statement-block.ensures) ∙ sym (of_right_set _ sets.BlockStatement _ refl)) (two_children c.higher.ensures c.check_optional_catch_clause-handler.ensures (last_child c.check_optional_block_statement-finalizer.ensures)))

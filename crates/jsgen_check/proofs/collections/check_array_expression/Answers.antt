@@ -5,4 +5,4 @@ use Rattle.jsgen_check.proofs.Steps.{no_rules, last_child, of_row}
 use Rattle.jsgen_check.proofs.collections.check_array_expression.Goals as goal
 
 pub returns : goal.returns
-returns g c = of_row c.args.around _ _ _ _ refl c.check_node.ensures no_rules (last_child (rw c.deref.ensures.value at c.check_array_expression_elements_or_holes-elements.ensures))
+returns g c = of_row c.args.around.now _ _ _ _ refl c.check_node.ensures no_rules (last_child (rw c.deref.ensures.value at c.check_array_expression_elements_or_holes-elements.ensures))

@@ -5,4 +5,4 @@ use Rattle.jsgen_check.proofs.Steps.{no_rules, last_child, of_row}
 use Rattle.jsgen_check.proofs.collections.check_object_expression.Goals as goal
 
 pub returns : goal.returns
-returns g c = of_row c.args.around _ _ _ _ refl c.check_node.ensures no_rules (last_child (rw c.deref.ensures.value at c.check_object_property_kinds-properties.ensures))
+returns g c = of_row c.args.around.now _ _ _ _ refl c.check_node.ensures no_rules (last_child (rw c.deref.ensures.value at c.check_object_property_kinds-properties.ensures))

@@ -5,4 +5,4 @@ use Rattle.jsgen_check.proofs.Steps.{two_children, last_child, of_row}
 use Rattle.jsgen_check.proofs.collections.check_object_property.Goals as goal
 
 pub returns : goal.returns
-returns g c = of_row c.args.around _ _ _ _ refl c.check_node.ensures c.check_object_property_rules-rules.ensures (two_children c.higher.ensures c.check_property_key-key.ensures (last_child (rw c.get.ensures at c.check_child-value.ensures)))
+returns g c = of_row c.args.around.now _ _ _ _ refl c.check_node.ensures c.check_object_property_rules-rules.ensures (two_children c.higher.ensures c.check_property_key-key.ensures (last_child (rw c.get.ensures at c.check_child-value.ensures)))

@@ -5,4 +5,4 @@ use Rattle.jsgen_check.proofs.Steps.{last_child, of_row}
 use Rattle.jsgen_check.proofs.expressions.check_chain_expression.Goals as goal
 
 pub returns : goal.returns
-returns g c = of_row c.args.around _ _ _ _ refl c.check_node.ensures c.check_chain_expression_rules-rules.ensures (last_child c.check_chain_element-expression.ensures)
+returns g c = of_row c.args.around.now _ _ _ _ refl c.check_node.ensures c.check_chain_expression_rules-rules.ensures (last_child c.check_chain_element-expression.ensures)

@@ -7,4 +7,4 @@ use Rattle.jsgen_tree.specs.declared.types.NodeSet.TheVariants as sets
 use Rattle.jsgen_check.proofs.expressions.check_static_member_expression.Goals as goal
 
 pub returns : goal.returns
-returns g c = of_row c.args.around _ _ _ _ refl c.check_node.ensures c.check_static_member_expression_rules-rules.ensures (two_children c.higher.ensures (rw c.get.ensures at c.check_child-object.ensures) (last_child ((rw c.deref.ensures at c.check_identifier_name-property.ensures) ∙ sym (of_right_set _ sets.IdentifierName _ refl))))
+returns g c = of_row c.args.around.now _ _ _ _ refl c.check_node.ensures c.check_static_member_expression_rules-rules.ensures (two_children c.higher.ensures (rw c.get.ensures at c.check_child-object.ensures) (last_child ((rw c.deref.ensures at c.check_identifier_name-property.ensures) ∙ sym (of_right_set _ sets.IdentifierName _ refl))))

@@ -5,4 +5,4 @@ use Rattle.jsgen_check.proofs.Steps.{no_rules, last_child, of_row}
 use Rattle.jsgen_check.proofs.functions.check_formal_parameter_rest.Goals as goal
 
 pub returns : goal.returns
-returns g c = of_row c.args.around _ _ _ _ refl c.check_node.ensures no_rules (last_child (rw c.get.ensures at c.check_child-argument.ensures))
+returns g c = of_row c.args.around.now _ _ _ _ refl c.check_node.ensures no_rules (last_child (rw c.get.ensures at c.check_child-argument.ensures))

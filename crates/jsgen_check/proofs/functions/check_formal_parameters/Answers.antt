@@ -5,4 +5,4 @@ use Rattle.jsgen_check.proofs.Steps.{no_rules, two_children, last_child, of_row}
 use Rattle.jsgen_check.proofs.functions.check_formal_parameters.Goals as goal
 
 pub returns : goal.returns
-returns g c = of_row c.args.around _ _ _ _ refl c.check_node.ensures no_rules (two_children c.higher.ensures (rw c.deref.ensures.value at c.check_each_formal_parameter-items.ensures) (last_child c.check_optional_formal_parameter_rest-rest.ensures))
+returns g c = of_row c.args.around.now _ _ _ _ refl c.check_node.ensures no_rules (two_children c.higher.ensures (rw c.deref.ensures.value at c.check_each_formal_parameter-items.ensures) (last_child c.check_optional_formal_parameter_rest-rest.ensures))

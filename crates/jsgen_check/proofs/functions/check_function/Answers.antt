@@ -7,4 +7,4 @@ use Rattle.jsgen_tree.specs.declared.types.NodeSet.TheVariants as sets
 use Rattle.jsgen_check.proofs.functions.check_function.Goals as goal
 
 pub returns : goal.returns
-returns g c = of_row c.args.around _ _ _ _ refl c.check_node.ensures c.check_function_rules-rules.ensures (two_children c.higher-2.ensures c.check_optional_binding_identifier-id.ensures (two_children c.higher.ensures ((rw c.deref.ensures at c.check_formal_parameters-params.ensures) ∙ sym (of_right_set _ sets.FormalParameters _ refl)) (last_child c.check_optional_function_body-body.ensures)))
+returns g c = of_row c.args.around.now _ _ _ _ refl c.check_node.ensures c.check_function_rules-rules.ensures (two_children c.higher-2.ensures c.check_optional_binding_identifier-id.ensures (two_children c.higher.ensures ((rw c.deref.ensures at c.check_formal_parameters-params.ensures) ∙ sym (of_right_set _ sets.FormalParameters _ refl)) (last_child c.check_optional_function_body-body.ensures)))

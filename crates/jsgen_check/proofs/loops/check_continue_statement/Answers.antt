@@ -5,4 +5,4 @@ use Rattle.jsgen_check.proofs.Steps.{no_rules, last_child, of_row}
 use Rattle.jsgen_check.proofs.loops.check_continue_statement.Goals as goal
 
 pub returns : goal.returns
-returns c = of_row c.args.around _ _ _ _ refl c.check_node.ensures no_rules (last_child c.check_optional_label_identifier-label.ensures)
+returns c = of_row c.args.around.now _ _ _ _ refl c.check_node.ensures no_rules (last_child c.check_optional_label_identifier-label.ensures)

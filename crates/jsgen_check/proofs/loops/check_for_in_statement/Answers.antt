@@ -5,4 +5,4 @@ use Rattle.jsgen_check.proofs.Steps.{two_children, last_child, of_row}
 use Rattle.jsgen_check.proofs.loops.check_for_in_statement.Goals as goal
 
 pub returns : goal.returns
-returns g c = of_row c.args.around _ _ _ _ refl c.check_node.ensures c.check_for_in_statement_rules-rules.ensures (two_children c.higher-2.ensures c.check_for_statement_left-left.ensures (two_children c.higher.ensures (rw c.get.ensures at c.check_child-right.ensures) (last_child (rw c.get-2.ensures at c.check_child-body.ensures))))
+returns g c = of_row c.args.around.now _ _ _ _ refl c.check_node.ensures c.check_for_in_statement_rules-rules.ensures (two_children c.higher-2.ensures c.check_for_statement_left-left.ensures (two_children c.higher.ensures (rw c.get.ensures at c.check_child-right.ensures) (last_child (rw c.get-2.ensures at c.check_child-body.ensures))))

@@ -5,4 +5,4 @@ use Rattle.jsgen_check.proofs.Steps.{two_children, last_child, of_row}
 use Rattle.jsgen_check.proofs.loops.check_for_statement.Goals as goal
 
 pub returns : goal.returns
-returns g c = of_row c.args.around _ _ _ _ refl c.check_node.ensures c.check_for_statement_rules-rules.ensures (two_children c.higher-3.ensures c.check_optional_for_statement_init-init.ensures (two_children c.higher-2.ensures c.check_optional_expression-test.ensures (two_children c.higher.ensures c.check_optional_expression-update.ensures (last_child (rw c.get.ensures at c.check_child-body.ensures)))))
+returns g c = of_row c.args.around.now _ _ _ _ refl c.check_node.ensures c.check_for_statement_rules-rules.ensures (two_children c.higher-3.ensures c.check_optional_for_statement_init-init.ensures (two_children c.higher-2.ensures c.check_optional_expression-test.ensures (two_children c.higher.ensures c.check_optional_expression-update.ensures (last_child (rw c.get.ensures at c.check_child-body.ensures)))))

@@ -7,4 +7,4 @@ use Rattle.jsgen_tree.specs.declared.types.NodeSet.TheVariants as sets
 use Rattle.jsgen_check.proofs.loops.check_labeled_statement.Goals as goal
 
 pub returns : goal.returns
-returns g c = of_row c.args.around _ _ _ _ refl c.check_node.ensures c.check_labeled_statement_rules-rules.ensures (two_children c.higher.ensures ((rw c.deref.ensures at c.check_label_identifier-label.ensures) ∙ sym (of_right_set _ sets.LabelIdentifier _ refl)) (last_child (rw c.get.ensures at c.check_child-body.ensures)))
+returns g c = of_row c.args.around.now _ _ _ _ refl c.check_node.ensures c.check_labeled_statement_rules-rules.ensures (two_children c.higher.ensures ((rw c.deref.ensures at c.check_label_identifier-label.ensures) ∙ sym (of_right_set _ sets.LabelIdentifier _ refl)) (last_child (rw c.get.ensures at c.check_child-body.ensures)))

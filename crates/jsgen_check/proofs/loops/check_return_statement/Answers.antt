@@ -5,4 +5,4 @@ use Rattle.jsgen_check.proofs.Steps.{last_child, of_row}
 use Rattle.jsgen_check.proofs.loops.check_return_statement.Goals as goal
 
 pub returns : goal.returns
-returns g c = of_row c.args.around _ _ _ _ refl c.check_node.ensures c.check_return_statement_rules-rules.ensures (last_child c.check_optional_expression-argument.ensures)
+returns g c = of_row c.args.around.now _ _ _ _ refl c.check_node.ensures c.check_return_statement_rules-rules.ensures (last_child c.check_optional_expression-argument.ensures)

@@ -5,4 +5,4 @@ use Rattle.jsgen_check.proofs.Steps.{of_row}
 use Rattle.jsgen_check.proofs.statements.check_comment.Goals as goal
 
 pub returns : goal.returns
-returns c = of_row c.args.around _ _ _ _ refl c.check_node.ensures c.check_comment_rules-rules.ensures refl
+returns c = of_row c.args.around.now _ _ _ _ refl c.check_node.ensures c.check_comment_rules-rules.ensures refl

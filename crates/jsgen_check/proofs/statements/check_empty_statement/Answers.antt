@@ -5,4 +5,4 @@ use Rattle.jsgen_check.proofs.Steps.{no_rules, of_row}
 use Rattle.jsgen_check.proofs.statements.check_empty_statement.Goals as goal
 
 pub returns : goal.returns
-returns c = of_row c.args.around _ _ _ _ refl c.check_node.ensures no_rules refl
+returns c = of_row c.args.around.now _ _ _ _ refl c.check_node.ensures no_rules refl

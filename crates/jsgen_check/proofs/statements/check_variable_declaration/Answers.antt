@@ -5,4 +5,4 @@ use Rattle.jsgen_check.proofs.Steps.{last_child, of_row}
 use Rattle.jsgen_check.proofs.statements.check_variable_declaration.Goals as goal
 
 pub returns : goal.returns
-returns g c = of_row c.args.around _ _ _ _ refl c.check_node.ensures c.check_variable_declaration_rules-rules.ensures (last_child (rw c.deref.ensures.value at c.check_variable_declarators-declarations.ensures))
+returns g c = of_row c.args.around.now _ _ _ _ refl c.check_node.ensures c.check_variable_declaration_rules-rules.ensures (last_child (rw c.deref.ensures.value at c.check_variable_declarators-declarations.ensures))

@@ -5,4 +5,4 @@ use Rattle.jsgen_check.proofs.Steps.{no_rules, two_children, last_child, of_row}
 use Rattle.jsgen_check.proofs.statements.check_variable_declarator.Goals as goal
 
 pub returns : goal.returns
-returns g c = of_row c.args.around _ _ _ _ refl c.check_node.ensures no_rules (two_children c.higher.ensures (rw c.get.ensures at c.check_child-id.ensures) (last_child c.check_optional_expression-init.ensures))
+returns g c = of_row c.args.around.now _ _ _ _ refl c.check_node.ensures no_rules (two_children c.higher.ensures (rw c.get.ensures at c.check_child-id.ensures) (last_child c.check_optional_expression-init.ensures))
