@@ -1,14 +1,14 @@
 use Rattle.jsgen_tree.proofs.Knot.{plain_expression, plain_statement, plain_declaration, plain_binding_pattern}
 use Rattle.jsgen_check.proofs.NodeCheckNode.+node.Goals as goal
 
-pub check-returns-in-Expression : goal.check-returns-in-Expression
-check-returns-in-Expression t c = rw (c.in-Expression.is, plain_expression c.in-Expression.expression) c.check_expression_set.ensures
+pub returns-in-Expression : goal.returns-in-Expression
+returns-in-Expression t c = rw (c.in-Expression.is, plain_expression c.in-Expression.expression) c.check_expression_set.ensures
 
-pub check-returns-in-Statement : goal.check-returns-in-Statement
-check-returns-in-Statement t c = rw (c.in-Statement.is, plain_statement c.in-Statement.statement) c.check_statement_set.ensures
+pub returns-in-Statement : goal.returns-in-Statement
+returns-in-Statement t c = rw (c.in-Statement.is, plain_statement c.in-Statement.statement) c.check_statement_set.ensures
 
-pub check-returns-in-Declaration : goal.check-returns-in-Declaration
-check-returns-in-Declaration t c = rw (c.in-Declaration.is, plain_declaration c.in-Declaration.declaration) c.check_declaration_set.ensures
+pub returns-in-Declaration : goal.returns-in-Declaration
+returns-in-Declaration t c = rw (c.in-Declaration.is, plain_declaration c.in-Declaration.declaration) c.check_declaration_set.ensures
 
-pub check-returns-in-BindingPattern : goal.check-returns-in-BindingPattern
-check-returns-in-BindingPattern t c = rw (c.in-BindingPattern.is, plain_binding_pattern c.in-BindingPattern.pattern) c.check_binding_pattern_set.ensures
+pub returns-in-BindingPattern : goal.returns-in-BindingPattern
+returns-in-BindingPattern t c = rw (c.in-BindingPattern.is, plain_binding_pattern c.in-BindingPattern.pattern) c.check_binding_pattern_set.ensures
