@@ -21,6 +21,7 @@ mod chain;
 mod characters;
 mod choices;
 mod directive;
+mod field;
 mod form;
 mod functions;
 mod loops;

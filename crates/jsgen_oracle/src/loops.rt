@@ -1,19 +1,19 @@
 // The normal forms of loops, of labels, of jumps and of `return`.
-ghost use Rattle.std.specs.Prelude.{◌≡◌, option_map, IfOk};
-ghost use Rattle.jsgen_tree.specs.Tree.{optional};
+ghost use Rattle.std.specs.Prelude.{◌≡◌, IfOk};
 ghost use Rattle.jsgen_tree.specs.Rows.{for_statement_row, for_in_statement_row, for_of_statement_row, while_statement_row, do_while_statement_row, label_identifier_row, labeled_statement_row, continue_statement_row, break_statement_row, return_statement_row, in_for_statement_init, in_for_statement_left};
 ghost use Rattle.jsgen_tree.specs.Scoping.{tables_plain};
-ghost use Rattle.jsgen_model.specs.Renamed.{renamed, renamed_maybe};
-ghost use Rattle.jsgen_model.specs.Normal.{normal, normal_maybe};
-ghost use Rattle.jsgen_oracle.specs.Form.{form_plain, optional_plain};
+ghost use Rattle.jsgen_model.specs.Renamed.{renamed};
+ghost use Rattle.jsgen_model.specs.Normal.{normal};
+ghost use Rattle.jsgen_oracle.specs.Form.{form_plain};
 
-use crate::form::{Form, Slot, Value};
+use crate::field::{Field, HasForm, row_of_four, row_of_one, row_of_three, row_of_two};
+use crate::form::{Form, Value};
 use crate::names::reference_form;
 use crate::normal::{
-    NormalNode, computed_member_expression_form, optional_expression_form,
-    static_member_expression_form, variable_declaration_form,
+    NormalNode, computed_member_expression_form, static_member_expression_form,
+    variable_declaration_form,
 };
-use crate::shape::{literal, one_value, row, row_of_three, row_of_two};
+use crate::shape::{Values, leaf};
 use jsgen_syntax::Memory;
 use jsgen_tree::{
     BreakStatement, ContinueStatement, DoWhileStatement, ForInStatement, ForOfStatement,
@@ -22,7 +22,6 @@ use jsgen_tree::{
 };
 use std::alloc::Global;
 
-#[tactic(auto, using(crate::proofs::Forms::forms))]
 pub(crate) fn for_statement_form<N: NormalNode>(
     alloc: Global,
     tables: Tables<'_>,
@@ -30,47 +29,27 @@ pub(crate) fn for_statement_form<N: NormalNode>(
 ) -> Result<Form, Memory>
     ensures { IfOk result (λ f. form_plain f ≡ normal (renamed (tables_plain tables.entry) (for_statement_row N.plain node.now))) }
 {
-    let init = for_init_form(alloc, tables, &node.init)?;
-    let test = optional_expression_form(alloc, tables, &node.test)?;
-    let update = optional_expression_form(alloc, tables, &node.update)?;
-    let body = node.body.get().normal_form(alloc, tables)?;
-    Ok(Form {
-        node_type: NodeType::ForStatement,
-        values: Vec::new(alloc),
-        slots: vec![in alloc;
-            Slot::Maybe(init),
-            Slot::Maybe(test),
-            Slot::Maybe(update),
-            Slot::One(body),
-        ]?,
-    })
+    row_of_four(
+        alloc,
+        tables,
+        NodeType::ForStatement,
+        Field::Maybe(&node.init),
+        Field::Maybe(&node.test),
+        Field::Maybe(&node.update),
+        Field::One(&node.body),
+    )
 }
 
-fn for_init_form<N: NormalNode>(
-    alloc: Global,
-    tables: Tables<'_>,
-    init: &Option<ForStatementInit<N>>,
-) -> Result<Option<Form>, Memory>
-    ensures { IfOk result (λ o. optional_plain o ≡ normal_maybe (renamed_maybe (tables_plain tables.entry) (optional (option_map (in_for_statement_init N.plain) init.now)))) }
-{
-    match init {
-        Some(init) => Ok(Some(first_form(alloc, tables, init)?)),
-        None => Ok(None),
-    }
-}
+impl<N: NormalNode> HasForm for ForStatementInit<N> {
+    ghost plain = { in_for_statement_init N.plain };
 
-fn first_form<N: NormalNode>(
-    alloc: Global,
-    tables: Tables<'_>,
-    init: &ForStatementInit<N>,
-) -> Result<Form, Memory>
-    ensures { IfOk result (λ f. form_plain f ≡ normal (renamed (tables_plain tables.entry) (in_for_statement_init N.plain init.now))) }
-{
-    match init {
-        ForStatementInit::VariableDeclaration(node) => variable_declaration_form(
-            alloc, tables, node,
-        ),
-        ForStatementInit::Expression(expression) => expression.get().normal_form(alloc, tables),
+    fn form(&self, alloc: Global, tables: Tables<'_>) -> Result<Form, Memory> {
+        match self {
+            ForStatementInit::VariableDeclaration(node) => {
+                variable_declaration_form(alloc, tables, node)
+            }
+            ForStatementInit::Expression(expression) => expression.form(alloc, tables),
+        }
     }
 }
 
@@ -81,16 +60,14 @@ pub(crate) fn for_in_statement_form<N: NormalNode>(
 ) -> Result<Form, Memory>
     ensures { IfOk result (λ f. form_plain f ≡ normal (renamed (tables_plain tables.entry) (for_in_statement_row N.plain node.now))) }
 {
-    let left = left_form(alloc, tables, &node.left)?;
-    let right = node.right.get().normal_form(alloc, tables)?;
-    let body = node.body.get().normal_form(alloc, tables)?;
     row_of_three(
         alloc,
+        tables,
         NodeType::ForInStatement,
-        Vec::new(alloc),
-        Slot::One(left),
-        Slot::One(right),
-        Slot::One(body),
+        Values::None,
+        Field::One(&node.left),
+        Field::One(&node.right),
+        Field::One(&node.body),
     )
 }
 
@@ -101,37 +78,32 @@ pub(crate) fn for_of_statement_form<N: NormalNode>(
 ) -> Result<Form, Memory>
     ensures { IfOk result (λ f. form_plain f ≡ normal (renamed (tables_plain tables.entry) (for_of_statement_row N.plain node.now))) }
 {
-    let values = one_value(alloc, Value::Nothing)?;
-    let left = left_form(alloc, tables, &node.left)?;
-    let right = node.right.get().normal_form(alloc, tables)?;
-    let body = node.body.get().normal_form(alloc, tables)?;
     row_of_three(
         alloc,
+        tables,
         NodeType::ForOfStatement,
-        values,
-        Slot::One(left),
-        Slot::One(right),
-        Slot::One(body),
+        Values::One(Value::Nothing),
+        Field::One(&node.left),
+        Field::One(&node.right),
+        Field::One(&node.body),
     )
 }
 
-fn left_form<N: NormalNode>(
-    alloc: Global,
-    tables: Tables<'_>,
-    left: &ForStatementLeft<N>,
-) -> Result<Form, Memory>
-    ensures { IfOk result (λ f. form_plain f ≡ normal (renamed (tables_plain tables.entry) (in_for_statement_left N.plain left.now))) }
-{
-    match left {
-        ForStatementLeft::VariableDeclaration(node) => variable_declaration_form(
-            alloc, tables, node,
-        ),
-        ForStatementLeft::IdentifierReference(node) => { reference_form(alloc, tables, node) }
-        ForStatementLeft::StaticMemberExpression(node) => {
-            static_member_expression_form(alloc, tables, node)
-        }
-        ForStatementLeft::ComputedMemberExpression(node) => {
-            computed_member_expression_form(alloc, tables, node)
+impl<N: NormalNode> HasForm for ForStatementLeft<N> {
+    ghost plain = { in_for_statement_left N.plain };
+
+    fn form(&self, alloc: Global, tables: Tables<'_>) -> Result<Form, Memory> {
+        match self {
+            ForStatementLeft::VariableDeclaration(node) => {
+                variable_declaration_form(alloc, tables, node)
+            }
+            ForStatementLeft::IdentifierReference(node) => reference_form(alloc, tables, node),
+            ForStatementLeft::StaticMemberExpression(node) => {
+                static_member_expression_form(alloc, tables, node)
+            }
+            ForStatementLeft::ComputedMemberExpression(node) => {
+                computed_member_expression_form(alloc, tables, node)
+            }
         }
     }
 }
@@ -143,14 +115,13 @@ pub(crate) fn while_statement_form<N: NormalNode>(
 ) -> Result<Form, Memory>
     ensures { IfOk result (λ f. form_plain f ≡ normal (renamed (tables_plain tables.entry) (while_statement_row N.plain node.now))) }
 {
-    let test = node.test.get().normal_form(alloc, tables)?;
-    let body = node.body.get().normal_form(alloc, tables)?;
     row_of_two(
         alloc,
+        tables,
         NodeType::WhileStatement,
-        Vec::new(alloc),
-        Slot::One(test),
-        Slot::One(body),
+        Values::None,
+        Field::One(&node.test),
+        Field::One(&node.body),
     )
 }
 
@@ -161,24 +132,29 @@ pub(crate) fn do_while_statement_form<N: NormalNode>(
 ) -> Result<Form, Memory>
     ensures { IfOk result (λ f. form_plain f ≡ normal (renamed (tables_plain tables.entry) (do_while_statement_row N.plain node.now))) }
 {
-    let body = node.body.get().normal_form(alloc, tables)?;
-    let test = node.test.get().normal_form(alloc, tables)?;
     row_of_two(
         alloc,
+        tables,
         NodeType::DoWhileStatement,
-        Vec::new(alloc),
-        Slot::One(body),
-        Slot::One(test),
+        Values::None,
+        Field::One(&node.body),
+        Field::One(&node.test),
     )
 }
 
 // ---- labels and jumps
 
-fn label_form(alloc: Global, node: &LabelIdentifier) -> Result<Form, Memory>
-    ensures { IfOk result (λ f. form_plain f ≡ normal (label_identifier_row node.now)) }
-{
-    let name = node.name.clone()?;
-    literal(alloc, NodeType::LabelIdentifier, Value::Text(name))
+impl HasForm for LabelIdentifier {
+    ghost plain = { label_identifier_row };
+
+    fn form(&self, alloc: Global, tables: Tables<'_>) -> Result<Form, Memory> {
+        let name = self.name.clone()?;
+        leaf(
+            alloc,
+            NodeType::LabelIdentifier,
+            Values::One(Value::Text(name)),
+        )
+    }
 }
 
 pub(crate) fn labeled_statement_form<N: NormalNode>(
@@ -188,29 +164,14 @@ pub(crate) fn labeled_statement_form<N: NormalNode>(
 ) -> Result<Form, Memory>
     ensures { IfOk result (λ f. form_plain f ≡ normal (renamed (tables_plain tables.entry) (labeled_statement_row N.plain node.now))) }
 {
-    let label = label_form(alloc, &node.label)?;
-    let body = node.body.get().normal_form(alloc, tables)?;
     row_of_two(
         alloc,
+        tables,
         NodeType::LabeledStatement,
-        Vec::new(alloc),
-        Slot::One(label),
-        Slot::One(body),
+        Values::None,
+        Field::One(&node.label),
+        Field::One(&node.body),
     )
-}
-
-fn optional_label_form(
-    alloc: Global,
-    tables: Tables<'_>,
-    label: &Option<Box<LabelIdentifier>>,
-) -> Result<Option<Form>, Memory>
-    ensures { IfOk result (λ o. optional_plain o ≡ normal_maybe (renamed_maybe (tables_plain tables.entry) (optional (option_map (λ b. label_identifier_row b.value) label.now)))) }
-{
-    let _ = tables;
-    match label {
-        Some(label) => Ok(Some(label_form(alloc, label)?)),
-        None => Ok(None),
-    }
 }
 
 pub(crate) fn continue_statement_form(
@@ -220,12 +181,12 @@ pub(crate) fn continue_statement_form(
 ) -> Result<Form, Memory>
     ensures { IfOk result (λ f. form_plain f ≡ normal (renamed (tables_plain tables.entry) (continue_statement_row node.now))) }
 {
-    let label = optional_label_form(alloc, tables, &node.label)?;
-    row(
+    row_of_one(
         alloc,
+        tables,
         NodeType::ContinueStatement,
-        Vec::new(alloc),
-        Slot::Maybe(label),
+        Values::None,
+        Field::Maybe(&node.label),
     )
 }
 
@@ -236,12 +197,12 @@ pub(crate) fn break_statement_form(
 ) -> Result<Form, Memory>
     ensures { IfOk result (λ f. form_plain f ≡ normal (renamed (tables_plain tables.entry) (break_statement_row node.now))) }
 {
-    let label = optional_label_form(alloc, tables, &node.label)?;
-    row(
+    row_of_one(
         alloc,
+        tables,
         NodeType::BreakStatement,
-        Vec::new(alloc),
-        Slot::Maybe(label),
+        Values::None,
+        Field::Maybe(&node.label),
     )
 }
 
@@ -252,11 +213,11 @@ pub(crate) fn return_statement_form<N: NormalNode>(
 ) -> Result<Form, Memory>
     ensures { IfOk result (λ f. form_plain f ≡ normal (renamed (tables_plain tables.entry) (return_statement_row N.plain node.now))) }
 {
-    let argument = optional_expression_form(alloc, tables, &node.argument)?;
-    row(
+    row_of_one(
         alloc,
+        tables,
         NodeType::ReturnStatement,
-        Vec::new(alloc),
-        Slot::Maybe(argument),
+        Values::None,
+        Field::Maybe(&node.argument),
     )
 }

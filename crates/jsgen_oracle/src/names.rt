@@ -10,8 +10,9 @@ ghost use Rattle.jsgen_model.specs.Renamed.{renamed};
 ghost use Rattle.jsgen_model.specs.Normal.{normal};
 ghost use Rattle.jsgen_oracle.specs.Form.{form_plain};
 
+use crate::field::HasForm;
 use crate::form::{Form, Value};
-use crate::shape::{leaf, two_values};
+use crate::shape::{Values, leaf};
 use jsgen_syntax::Memory;
 use jsgen_tree::{BindingIdentifier, IdentifierReference, NodeType, Tables};
 use std::alloc::Global;
@@ -20,11 +21,13 @@ fn identifier(alloc: Global, node_type: NodeType, name: &str) -> Result<Form, Me
     ensures { IfOk result (λ f. form_plain f ≡ node node_type (bare (text (chars name.now) ∷ no_value ∷ [])) no_slots) }
 {
     let name = String::from_str(alloc, name)?;
-    let values = two_values(alloc, Value::Text(name), Value::Nothing)?;
-    Ok(leaf(alloc, node_type, values))
+    leaf(
+        alloc,
+        node_type,
+        Values::Two(Value::Text(name), Value::Nothing),
+    )
 }
 
-#[tactic(auto)]
 pub(crate) fn reference_form(
     alloc: Global,
     tables: Tables<'_>,
@@ -36,14 +39,11 @@ pub(crate) fn reference_form(
     identifier(alloc, NodeType::IdentifierReference, name)
 }
 
-#[tactic(auto)]
-pub(crate) fn binding_form(
-    alloc: Global,
-    tables: Tables<'_>,
-    node: &BindingIdentifier,
-) -> Result<Form, Memory>
-    ensures { IfOk result (λ f. form_plain f ≡ normal (renamed (tables_plain tables.entry) (binding_identifier_row node.now))) }
-{
-    let name = tables.binding_name(node.symbol, &node.name);
-    identifier(alloc, NodeType::BindingIdentifier, name)
+impl HasForm for BindingIdentifier {
+    ghost plain = { binding_identifier_row };
+
+    fn form(&self, alloc: Global, tables: Tables<'_>) -> Result<Form, Memory> {
+        let name = tables.binding_name(self.symbol, &self.name);
+        identifier(alloc, NodeType::BindingIdentifier, name)
+    }
 }

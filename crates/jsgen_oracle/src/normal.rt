@@ -1,18 +1,16 @@
 // The normal form of each type of node.
-ghost use Rattle.std.specs.Prelude.{◌≡◌, ◌∷◌, [], map, option_map, IfOk};
-ghost use Rattle.jsgen_tree.specs.Tree.{trees, holed, optional};
-ghost use Rattle.jsgen_tree.specs.Rows.{program_row, block_statement_row, if_statement_row, variable_declaration_row, variable_declarator_row, string_literal_row, logical_expression_row, identifier_name_row, static_member_expression_row, call_expression_row, spread_element_row, array_expression_row, expression_plain, statement_plain, declaration_plain, binding_pattern_plain, in_expression, in_statement, in_argument, in_array_expression_element, new_expression_row, update_expression_row, in_simple_assignment_target, numeric_literal_row, conditional_expression_row, sequence_expression_row, assignment_expression_row, in_assignment_target, computed_member_expression_row, chain_expression_row, in_chain_element};
+ghost use Rattle.std.specs.Prelude.{◌≡◌, map, IfOk};
+ghost use Rattle.jsgen_tree.specs.Tree.{trees};
+ghost use Rattle.jsgen_tree.specs.Rows.{program_row, block_statement_row, if_statement_row, variable_declaration_row, variable_declarator_row, string_literal_row, binary_expression_row, logical_expression_row, identifier_name_row, static_member_expression_row, call_expression_row, spread_element_row, array_expression_row, expression_plain, statement_plain, declaration_plain, binding_pattern_plain, in_expression, in_argument, in_array_expression_element, unary_expression_row, new_expression_row, update_expression_row, in_simple_assignment_target, conditional_expression_row, sequence_expression_row, assignment_expression_row, in_assignment_target, computed_member_expression_row, chain_expression_row, in_chain_element};
 ghost use Rattle.jsgen_tree.specs.Plain.{node_plain};
 ghost use Rattle.jsgen_tree.specs.Scoping.{tables_plain};
-ghost use Rattle.jsgen_model.specs.Renamed.{renamed, renamed_maybe, renamed_trees};
-ghost use Rattle.jsgen_model.specs.Normal.{normal, normal_maybe, normal_trees, links, unbraced, flattened};
-ghost use Rattle.jsgen_oracle.specs.Form.{form_plain, forms_plain, holed_plain, optional_plain};
-ghost use Rattle.jsgen_oracle.specs.declared.form.Value.TheVariants.{Nothing};
+ghost use Rattle.jsgen_model.specs.Renamed.{renamed, renamed_trees};
+ghost use Rattle.jsgen_model.specs.Normal.{normal, normal_trees, joined, links, flattened};
+ghost use Rattle.jsgen_oracle.specs.Form.{form_plain, forms_plain};
 
-use crate::braces::unbraced;
 use crate::chain::{joined, links, parts};
 use crate::choices::{switch_statement_form, try_statement_form};
-use crate::directive::directive_forms;
+use crate::field::{Field, HasForm, row_of_one, row_of_three, row_of_two, single};
 use crate::form::{Form, Slot, Value};
 use crate::functions::{arrow_function_form, function_form};
 use crate::loops::{
@@ -20,22 +18,19 @@ use crate::loops::{
     for_of_statement_form, for_statement_form, labeled_statement_form, return_statement_form,
     while_statement_form,
 };
-use crate::names::{binding_form, reference_form};
+use crate::names::reference_form;
 use crate::number_forms::{big_int_literal_form, is_negative_number, numeric_literal_form};
 use crate::objects::object_expression_form;
-use crate::shape::{
-    holed_list, leaf, list, literal, one_value, pair, row, row_of_three, row_of_two, single,
-    single_by, two_values,
-};
+use crate::shape::{Values, leaf, row};
 use jsgen_syntax::{LogicalOperator, Memory};
 use jsgen_tree::{
     Argument, ArrayExpression, ArrayExpressionElement, AssignmentExpression, AssignmentTarget,
-    BindingPattern, BlockStatement, CallExpression, ChainElement, ChainExpression,
-    ComputedMemberExpression, ConditionalExpression, Declaration, Expression, ExpressionNode,
-    IdentifierName, IfStatement, LogicalExpression, NewExpression, Node, NodeType, Program,
-    SequenceExpression, SimpleAssignmentTarget, SpreadElement, Statement, StatementNode,
-    StaticMemberExpression, StringLiteral, Tables, UpdateExpression, VariableDeclaration,
-    VariableDeclarator,
+    BinaryExpression, BindingPattern, BlockStatement, CallExpression, ChainElement,
+    ChainExpression, ComputedMemberExpression, ConditionalExpression, Declaration, Directive,
+    Expression, ExpressionNode, IdentifierName, IfStatement, LogicalExpression, NewExpression,
+    Node, NodeType, Program, SequenceExpression, SimpleAssignmentTarget, SpreadElement, Statement,
+    StaticMemberExpression, StringLiteral, Tables, UnaryExpression, UpdateExpression,
+    VariableDeclaration, VariableDeclarator,
 };
 use std::alloc::Global;
 
@@ -64,19 +59,6 @@ pub trait NormalNode {
 
 // ---- programs and statements
 
-// The values of a program, none of which counts.
-fn nothing(alloc: Global) -> Result<Vec<Value>, Memory>
-    ensures { IfOk result (λ v. v.items ≡ Nothing ∷ Nothing ∷ Nothing ∷ Nothing ∷ []) }
-{
-    Ok(vec![in alloc;
-        Value::Nothing,
-        Value::Nothing,
-        Value::Nothing,
-        Value::Nothing,
-    ]?)
-}
-
-#[tactic(auto, using(crate::proofs::Forms::forms))]
 pub fn program_form<N: NormalNode>(
     alloc: Global,
     tables: Tables<'_>,
@@ -84,43 +66,34 @@ pub fn program_form<N: NormalNode>(
 ) -> Result<Form, Memory>
     ensures { IfOk result (λ f. form_plain f ≡ normal (renamed (tables_plain tables.entry) (program_row N.plain node.now))) }
 {
-    let values = nothing(alloc)?;
-    let directives = directive_forms(alloc, tables, &node.directives)?;
-    let body = statement_forms(alloc, tables, &node.body)?;
-    Ok(Form {
-        node_type: NodeType::Program,
-        values,
-        slots: vec![in alloc;
-            Slot::Many(Vec::new(alloc)),
-            Slot::Many(directives),
-            Slot::Many(body),
-        ]?,
-    })
+    row_of_three(
+        alloc,
+        tables,
+        NodeType::Program,
+        Values::Four(
+            Value::Nothing,
+            Value::Nothing,
+            Value::Nothing,
+            Value::Nothing,
+        ),
+        Field::<Directive>::Empty,
+        Field::Many(&node.directives),
+        Field::Many(&node.body),
+    )
 }
 
-pub(crate) fn statement_forms<N: NormalNode>(
-    alloc: Global,
-    tables: Tables<'_>,
-    statements: &[StatementNode<N>],
-) -> Result<Vec<Form>, Memory>
-    ensures { IfOk result (λ fs. forms_plain fs.items ≡ normal_trees (renamed_trees (tables_plain tables.entry) (trees (map (in_statement N.plain) statements.now)))) }
-{
-    let mut forms = Vec::new(alloc);
-    for statement in statements {
-        forms.push(statement.get().normal_form(alloc, tables)?)?;
+impl<N: NormalNode> HasForm for BlockStatement<N> {
+    ghost plain = { block_statement_row N.plain };
+
+    fn form(&self, alloc: Global, tables: Tables<'_>) -> Result<Form, Memory> {
+        row_of_one(
+            alloc,
+            tables,
+            NodeType::BlockStatement,
+            Values::None,
+            Field::Many(&self.body),
+        )
     }
-    Ok(forms)
-}
-
-pub(crate) fn block_statement_form<N: NormalNode>(
-    alloc: Global,
-    tables: Tables<'_>,
-    node: &BlockStatement<N>,
-) -> Result<Form, Memory>
-    ensures { IfOk result (λ f. form_plain f ≡ normal (renamed (tables_plain tables.entry) (block_statement_row N.plain node.now))) }
-{
-    let body = statement_forms(alloc, tables, &node.body)?;
-    list(alloc, NodeType::BlockStatement, Vec::new(alloc), body)
 }
 
 fn if_statement_form<N: NormalNode>(
@@ -130,41 +103,15 @@ fn if_statement_form<N: NormalNode>(
 ) -> Result<Form, Memory>
     ensures { IfOk result (λ f. form_plain f ≡ normal (renamed (tables_plain tables.entry) (if_statement_row N.plain node.now))) }
 {
-    let test = node.test.get().normal_form(alloc, tables)?;
-    let consequent = consequent_form(alloc, tables, &node.consequent)?;
-    let alternate = alternate_form(alloc, tables, &node.alternate)?;
     row_of_three(
         alloc,
+        tables,
         NodeType::IfStatement,
-        Vec::new(alloc),
-        Slot::One(test),
-        Slot::One(consequent),
-        Slot::Maybe(alternate),
+        Values::None,
+        Field::One(&node.test),
+        Field::Unbraced(&node.consequent),
+        Field::Maybe(&node.alternate),
     )
-}
-
-fn consequent_form<N: NormalNode>(
-    alloc: Global,
-    tables: Tables<'_>,
-    consequent: &StatementNode<N>,
-) -> Result<Form, Memory>
-    ensures { IfOk result (λ f. form_plain f ≡ unbraced (normal (renamed (tables_plain tables.entry) (in_statement N.plain consequent.now)))) }
-{
-    let form = consequent.get().normal_form(alloc, tables)?;
-    unbraced(alloc, form)
-}
-
-fn alternate_form<N: NormalNode>(
-    alloc: Global,
-    tables: Tables<'_>,
-    alternate: &Option<StatementNode<N>>,
-) -> Result<Option<Form>, Memory>
-    ensures { IfOk result (λ o. optional_plain o ≡ normal_maybe (renamed_maybe (tables_plain tables.entry) (optional (option_map (in_statement N.plain) alternate.now)))) }
-{
-    match alternate {
-        Some(alternate) => Ok(Some(alternate.get().normal_form(alloc, tables)?)),
-        None => Ok(None),
-    }
 }
 
 pub(crate) fn variable_declaration_form<N: NormalNode>(
@@ -174,54 +121,27 @@ pub(crate) fn variable_declaration_form<N: NormalNode>(
 ) -> Result<Form, Memory>
     ensures { IfOk result (λ f. form_plain f ≡ normal (renamed (tables_plain tables.entry) (variable_declaration_row N.plain node.now))) }
 {
-    let values = two_values(alloc, Value::DeclarationKind(node.kind), Value::Nothing)?;
-    let declarations = declarator_forms(alloc, tables, &node.declarations)?;
-    list(alloc, NodeType::VariableDeclaration, values, declarations)
-}
-
-fn declarator_forms<N: NormalNode>(
-    alloc: Global,
-    tables: Tables<'_>,
-    declarators: &[VariableDeclarator<N>],
-) -> Result<Vec<Form>, Memory>
-    ensures { IfOk result (λ fs. forms_plain fs.items ≡ normal_trees (renamed_trees (tables_plain tables.entry) (trees (map (variable_declarator_row N.plain) declarators.now)))) }
-{
-    let mut forms = Vec::new(alloc);
-    for declarator in declarators {
-        forms.push(variable_declarator_form(alloc, tables, declarator)?)?;
-    }
-    Ok(forms)
-}
-
-fn variable_declarator_form<N: NormalNode>(
-    alloc: Global,
-    tables: Tables<'_>,
-    node: &VariableDeclarator<N>,
-) -> Result<Form, Memory>
-    ensures { IfOk result (λ f. form_plain f ≡ normal (renamed (tables_plain tables.entry) (variable_declarator_row N.plain node.now))) }
-{
-    let values = one_value(alloc, Value::Nothing)?;
-    let id = node.id.get().normal_form(alloc, tables)?;
-    let init = optional_expression_form(alloc, tables, &node.init)?;
-    row_of_two(
+    row_of_one(
         alloc,
-        NodeType::VariableDeclarator,
-        values,
-        Slot::One(id),
-        Slot::Maybe(init),
+        tables,
+        NodeType::VariableDeclaration,
+        Values::Two(Value::DeclarationKind(node.kind), Value::Nothing),
+        Field::Many(&node.declarations),
     )
 }
 
-pub(crate) fn optional_expression_form<N: NormalNode>(
-    alloc: Global,
-    tables: Tables<'_>,
-    init: &Option<ExpressionNode<N>>,
-) -> Result<Option<Form>, Memory>
-    ensures { IfOk result (λ o. optional_plain o ≡ normal_maybe (renamed_maybe (tables_plain tables.entry) (optional (option_map (in_expression N.plain) init.now)))) }
-{
-    match init {
-        Some(init) => Ok(Some(init.get().normal_form(alloc, tables)?)),
-        None => Ok(None),
+impl<N: NormalNode> HasForm for VariableDeclarator<N> {
+    ghost plain = { variable_declarator_row N.plain };
+
+    fn form(&self, alloc: Global, tables: Tables<'_>) -> Result<Form, Memory> {
+        row_of_two(
+            alloc,
+            tables,
+            NodeType::VariableDeclarator,
+            Values::One(Value::Nothing),
+            Field::One(&self.id),
+            Field::Maybe(&self.init),
+        )
     }
 }
 
@@ -231,7 +151,28 @@ fn string_literal_form(alloc: Global, node: &StringLiteral) -> Result<Form, Memo
     ensures { IfOk result (λ f. form_plain f ≡ normal (string_literal_row node.now)) }
 {
     let value = node.value.try_clone()?;
-    literal(alloc, NodeType::StringLiteral, Value::Units(value))
+    leaf(
+        alloc,
+        NodeType::StringLiteral,
+        Values::One(Value::Units(value)),
+    )
+}
+
+fn binary_expression_form<N: NormalNode>(
+    alloc: Global,
+    tables: Tables<'_>,
+    node: &BinaryExpression<N>,
+) -> Result<Form, Memory>
+    ensures { IfOk result (λ f. form_plain f ≡ normal (renamed (tables_plain tables.entry) (binary_expression_row N.plain node.now))) }
+{
+    row_of_two(
+        alloc,
+        tables,
+        NodeType::BinaryExpression,
+        Values::One(Value::BinaryOperator(node.operator)),
+        Field::One(&node.left),
+        Field::One(&node.right),
+    )
 }
 
 fn logical_expression_form<N: NormalNode>(
@@ -241,11 +182,25 @@ fn logical_expression_form<N: NormalNode>(
 ) -> Result<Form, Memory>
     ensures { IfOk result (λ f. form_plain f ≡ normal (renamed (tables_plain tables.entry) (logical_expression_row N.plain node.now))) }
 {
-    let values = one_value(alloc, Value::LogicalOperator(node.operator))?;
-    let left = operands_of(alloc, tables, node.operator, node.left.get())?;
-    let right = operands_of(alloc, tables, node.operator, node.right.get())?;
-    let operands = joined(left, right)?;
-    list(alloc, NodeType::LogicalExpression, values, operands)
+    let operands = chain_of(alloc, tables, node)?;
+    row(
+        alloc,
+        NodeType::LogicalExpression,
+        Values::One(Value::LogicalOperator(node.operator)),
+        Slot::Many(operands),
+    )
+}
+
+fn chain_of<N: NormalNode>(
+    alloc: Global,
+    tables: Tables<'_>,
+    node: &LogicalExpression<N>,
+) -> Result<Vec<Form>, Memory>
+    ensures { IfOk result (λ fs. forms_plain fs.items ≡ joined (links node.now.operator (normal (renamed (tables_plain tables.entry) (in_expression N.plain node.now.left)))) (links node.now.operator (normal (renamed (tables_plain tables.entry) (in_expression N.plain node.now.right))))) }
+{
+    let left = operands_of(alloc, tables, node.operator, &node.left)?;
+    let right = operands_of(alloc, tables, node.operator, &node.right)?;
+    joined(left, right)
 }
 
 // What an operand adds to a chain of the operator.
@@ -253,19 +208,25 @@ fn operands_of<N: NormalNode>(
     alloc: Global,
     tables: Tables<'_>,
     operator: LogicalOperator,
-    operand: &N,
+    operand: &ExpressionNode<N>,
 ) -> Result<Vec<Form>, Memory>
-    ensures { IfOk result (λ fs. forms_plain fs.items ≡ links operator (normal (renamed (tables_plain tables.entry) (N.plain operand.now)))) }
+    ensures { IfOk result (λ fs. forms_plain fs.items ≡ links operator (normal (renamed (tables_plain tables.entry) (in_expression N.plain operand.now)))) }
 {
-    let form = operand.normal_form(alloc, tables)?;
+    let form = operand.form(alloc, tables)?;
     links(alloc, operator, form)
 }
 
-pub(crate) fn identifier_name_form(alloc: Global, node: &IdentifierName) -> Result<Form, Memory>
-    ensures { IfOk result (λ f. form_plain f ≡ normal (identifier_name_row node.now)) }
-{
-    let name = node.name.clone()?;
-    literal(alloc, NodeType::IdentifierName, Value::Text(name))
+impl HasForm for IdentifierName {
+    ghost plain = { identifier_name_row };
+
+    fn form(&self, alloc: Global, tables: Tables<'_>) -> Result<Form, Memory> {
+        let name = self.name.clone()?;
+        leaf(
+            alloc,
+            NodeType::IdentifierName,
+            Values::One(Value::Text(name)),
+        )
+    }
 }
 
 pub(crate) fn static_member_expression_form<N: NormalNode>(
@@ -275,15 +236,13 @@ pub(crate) fn static_member_expression_form<N: NormalNode>(
 ) -> Result<Form, Memory>
     ensures { IfOk result (λ f. form_plain f ≡ normal (renamed (tables_plain tables.entry) (static_member_expression_row N.plain node.now))) }
 {
-    let values = one_value(alloc, Value::Flag(node.optional))?;
-    let object = node.object.get().normal_form(alloc, tables)?;
-    let property = identifier_name_form(alloc, &node.property)?;
     row_of_two(
         alloc,
+        tables,
         NodeType::StaticMemberExpression,
-        values,
-        Slot::One(object),
-        Slot::One(property),
+        Values::One(Value::Flag(node.optional)),
+        Field::One(&node.object),
+        Field::One(&node.property),
     )
 }
 
@@ -294,15 +253,13 @@ fn call_expression_form<N: NormalNode>(
 ) -> Result<Form, Memory>
     ensures { IfOk result (λ f. form_plain f ≡ normal (renamed (tables_plain tables.entry) (call_expression_row N.plain node.now))) }
 {
-    let values = two_values(alloc, Value::Flag(node.optional), Value::Nothing)?;
-    let callee = node.callee.get().normal_form(alloc, tables)?;
-    let arguments = argument_forms(alloc, tables, &node.arguments)?;
     row_of_two(
         alloc,
+        tables,
         NodeType::CallExpression,
-        values,
-        Slot::One(callee),
-        Slot::Many(arguments),
+        Values::Two(Value::Flag(node.optional), Value::Nothing),
+        Field::One(&node.callee),
+        Field::Many(&node.arguments),
     )
 }
 
@@ -313,16 +270,14 @@ fn conditional_expression_form<N: NormalNode>(
 ) -> Result<Form, Memory>
     ensures { IfOk result (λ f. form_plain f ≡ normal (renamed (tables_plain tables.entry) (conditional_expression_row N.plain node.now))) }
 {
-    let test = node.test.get().normal_form(alloc, tables)?;
-    let consequent = node.consequent.get().normal_form(alloc, tables)?;
-    let alternate = node.alternate.get().normal_form(alloc, tables)?;
     row_of_three(
         alloc,
+        tables,
         NodeType::ConditionalExpression,
-        Vec::new(alloc),
-        Slot::One(test),
-        Slot::One(consequent),
-        Slot::One(alternate),
+        Values::None,
+        Field::One(&node.test),
+        Field::One(&node.consequent),
+        Field::One(&node.alternate),
     )
 }
 
@@ -334,7 +289,12 @@ fn sequence_expression_form<N: NormalNode>(
     ensures { IfOk result (λ f. form_plain f ≡ normal (renamed (tables_plain tables.entry) (sequence_expression_row N.plain node.now))) }
 {
     let forms = part_forms(alloc, tables, &node.expressions)?;
-    list(alloc, NodeType::SequenceExpression, Vec::new(alloc), forms)
+    row(
+        alloc,
+        NodeType::SequenceExpression,
+        Values::None,
+        Slot::Many(forms),
+    )
 }
 
 fn part_forms<N: NormalNode>(
@@ -346,7 +306,7 @@ fn part_forms<N: NormalNode>(
 {
     let mut forms = Vec::new(alloc);
     for expression in expressions {
-        let form = expression.get().normal_form(alloc, tables)?;
+        let form = expression.form(alloc, tables)?;
         let mut added = parts(alloc, form)?;
         forms.append(&mut added)?;
     }
@@ -360,13 +320,13 @@ pub(crate) fn computed_member_expression_form<N: NormalNode>(
 ) -> Result<Form, Memory>
     ensures { IfOk result (λ f. form_plain f ≡ normal (renamed (tables_plain tables.entry) (computed_member_expression_row N.plain node.now))) }
 {
-    pair(
+    row_of_two(
         alloc,
         tables,
         NodeType::ComputedMemberExpression,
-        Value::Flag(node.optional),
-        node.object.get(),
-        node.expression.get(),
+        Values::One(Value::Flag(node.optional)),
+        Field::One(&node.object),
+        Field::One(&node.expression),
     )
 }
 
@@ -377,31 +337,45 @@ fn chain_expression_form<N: NormalNode>(
 ) -> Result<Form, Memory>
     ensures { IfOk result (λ f. form_plain f ≡ normal (renamed (tables_plain tables.entry) (chain_expression_row N.plain node.now))) }
 {
-    let element = chain_element_form(alloc, tables, &node.expression)?;
-    row(
+    row_of_one(
         alloc,
+        tables,
         NodeType::ChainExpression,
-        Vec::new(alloc),
-        Slot::One(element),
+        Values::None,
+        Field::One(&node.expression),
     )
 }
 
-fn chain_element_form<N: NormalNode>(
+impl<N: NormalNode> HasForm for ChainElement<N> {
+    ghost plain = { in_chain_element N.plain };
+
+    fn form(&self, alloc: Global, tables: Tables<'_>) -> Result<Form, Memory> {
+        match self {
+            ChainElement::StaticMemberExpression(node) => {
+                static_member_expression_form(alloc, tables, node)
+            }
+            ChainElement::ComputedMemberExpression(node) => {
+                computed_member_expression_form(alloc, tables, node)
+            }
+            ChainElement::CallExpression(node) => call_expression_form(alloc, tables, node),
+        }
+    }
+}
+
+fn unary_expression_form<N: NormalNode>(
     alloc: Global,
     tables: Tables<'_>,
-    element: &ChainElement<N>,
+    node: &UnaryExpression<N>,
 ) -> Result<Form, Memory>
-    ensures { IfOk result (λ f. form_plain f ≡ normal (renamed (tables_plain tables.entry) (in_chain_element N.plain element.now))) }
+    ensures { IfOk result (λ f. form_plain f ≡ normal (renamed (tables_plain tables.entry) (unary_expression_row N.plain node.now))) }
 {
-    match element {
-        ChainElement::StaticMemberExpression(node) => static_member_expression_form(
-            alloc, tables, node,
-        ),
-        ChainElement::ComputedMemberExpression(node) => {
-            computed_member_expression_form(alloc, tables, node)
-        }
-        ChainElement::CallExpression(node) => call_expression_form(alloc, tables, node),
-    }
+    row_of_one(
+        alloc,
+        tables,
+        NodeType::UnaryExpression,
+        Values::One(Value::UnaryOperator(node.operator)),
+        Field::One(&node.argument),
+    )
 }
 
 fn update_expression_form<N: NormalNode>(
@@ -411,17 +385,15 @@ fn update_expression_form<N: NormalNode>(
 ) -> Result<Form, Memory>
     ensures { IfOk result (λ f. form_plain f ≡ normal (renamed (tables_plain tables.entry) (update_expression_row N.plain node.now))) }
 {
-    let values = two_values(
+    row_of_one(
         alloc,
-        Value::UpdateOperator(node.operator),
-        Value::Flag(node.prefix),
-    )?;
-    let argument = target_form(alloc, tables, &node.argument)?;
-    row(
-        alloc,
+        tables,
         NodeType::UpdateExpression,
-        values,
-        Slot::One(argument),
+        Values::Two(
+            Value::UpdateOperator(node.operator),
+            Value::Flag(node.prefix),
+        ),
+        Field::One(&node.argument),
     )
 }
 
@@ -432,50 +404,46 @@ fn assignment_expression_form<N: NormalNode>(
 ) -> Result<Form, Memory>
     ensures { IfOk result (λ f. form_plain f ≡ normal (renamed (tables_plain tables.entry) (assignment_expression_row N.plain node.now))) }
 {
-    let values = one_value(alloc, Value::AssignmentOperator(node.operator))?;
-    let left = assignment_target_form(alloc, tables, &node.left)?;
-    let right = node.right.get().normal_form(alloc, tables)?;
     row_of_two(
         alloc,
+        tables,
         NodeType::AssignmentExpression,
-        values,
-        Slot::One(left),
-        Slot::One(right),
+        Values::One(Value::AssignmentOperator(node.operator)),
+        Field::One(&node.left),
+        Field::One(&node.right),
     )
 }
 
-fn assignment_target_form<N: NormalNode>(
-    alloc: Global,
-    tables: Tables<'_>,
-    target: &AssignmentTarget<N>,
-) -> Result<Form, Memory>
-    ensures { IfOk result (λ f. form_plain f ≡ normal (renamed (tables_plain tables.entry) (in_assignment_target N.plain target.now))) }
-{
-    match target {
-        AssignmentTarget::IdentifierReference(node) => { reference_form(alloc, tables, node) }
-        AssignmentTarget::StaticMemberExpression(node) => {
-            static_member_expression_form(alloc, tables, node)
-        }
-        AssignmentTarget::ComputedMemberExpression(node) => {
-            computed_member_expression_form(alloc, tables, node)
+impl<N: NormalNode> HasForm for AssignmentTarget<N> {
+    ghost plain = { in_assignment_target N.plain };
+
+    fn form(&self, alloc: Global, tables: Tables<'_>) -> Result<Form, Memory> {
+        match self {
+            AssignmentTarget::IdentifierReference(node) => reference_form(alloc, tables, node),
+            AssignmentTarget::StaticMemberExpression(node) => {
+                static_member_expression_form(alloc, tables, node)
+            }
+            AssignmentTarget::ComputedMemberExpression(node) => {
+                computed_member_expression_form(alloc, tables, node)
+            }
         }
     }
 }
 
-fn target_form<N: NormalNode>(
-    alloc: Global,
-    tables: Tables<'_>,
-    target: &SimpleAssignmentTarget<N>,
-) -> Result<Form, Memory>
-    ensures { IfOk result (λ f. form_plain f ≡ normal (renamed (tables_plain tables.entry) (in_simple_assignment_target N.plain target.now))) }
-{
-    match target {
-        SimpleAssignmentTarget::IdentifierReference(node) => { reference_form(alloc, tables, node) }
-        SimpleAssignmentTarget::StaticMemberExpression(node) => {
-            static_member_expression_form(alloc, tables, node)
-        }
-        SimpleAssignmentTarget::ComputedMemberExpression(node) => {
-            computed_member_expression_form(alloc, tables, node)
+impl<N: NormalNode> HasForm for SimpleAssignmentTarget<N> {
+    ghost plain = { in_simple_assignment_target N.plain };
+
+    fn form(&self, alloc: Global, tables: Tables<'_>) -> Result<Form, Memory> {
+        match self {
+            SimpleAssignmentTarget::IdentifierReference(node) => reference_form(
+                alloc, tables, node,
+            ),
+            SimpleAssignmentTarget::StaticMemberExpression(node) => {
+                static_member_expression_form(alloc, tables, node)
+            }
+            SimpleAssignmentTarget::ComputedMemberExpression(node) => {
+                computed_member_expression_form(alloc, tables, node)
+            }
         }
     }
 }
@@ -487,42 +455,24 @@ fn new_expression_form<N: NormalNode>(
 ) -> Result<Form, Memory>
     ensures { IfOk result (λ f. form_plain f ≡ normal (renamed (tables_plain tables.entry) (new_expression_row N.plain node.now))) }
 {
-    let values = one_value(alloc, Value::Nothing)?;
-    let callee = node.callee.get().normal_form(alloc, tables)?;
-    let arguments = argument_forms(alloc, tables, &node.arguments)?;
     row_of_two(
         alloc,
+        tables,
         NodeType::NewExpression,
-        values,
-        Slot::One(callee),
-        Slot::Many(arguments),
+        Values::One(Value::Nothing),
+        Field::One(&node.callee),
+        Field::Many(&node.arguments),
     )
 }
 
-fn argument_forms<N: NormalNode>(
-    alloc: Global,
-    tables: Tables<'_>,
-    arguments: &[Argument<N>],
-) -> Result<Vec<Form>, Memory>
-    ensures { IfOk result (λ fs. forms_plain fs.items ≡ normal_trees (renamed_trees (tables_plain tables.entry) (trees (map (in_argument N.plain) arguments.now)))) }
-{
-    let mut forms = Vec::new(alloc);
-    for argument in arguments {
-        forms.push(argument_form(alloc, tables, argument)?)?;
-    }
-    Ok(forms)
-}
+impl<N: NormalNode> HasForm for Argument<N> {
+    ghost plain = { in_argument N.plain };
 
-fn argument_form<N: NormalNode>(
-    alloc: Global,
-    tables: Tables<'_>,
-    argument: &Argument<N>,
-) -> Result<Form, Memory>
-    ensures { IfOk result (λ f. form_plain f ≡ normal (renamed (tables_plain tables.entry) (in_argument N.plain argument.now))) }
-{
-    match argument {
-        Argument::SpreadElement(node) => spread_element_form(alloc, tables, node),
-        Argument::Expression(expression) => expression.get().normal_form(alloc, tables),
+    fn form(&self, alloc: Global, tables: Tables<'_>) -> Result<Form, Memory> {
+        match self {
+            Argument::SpreadElement(node) => spread_element_form(alloc, tables, node),
+            Argument::Expression(expression) => expression.form(alloc, tables),
+        }
     }
 }
 
@@ -533,7 +483,7 @@ pub(crate) fn spread_element_form<N: NormalNode>(
 ) -> Result<Form, Memory>
     ensures { IfOk result (λ f. form_plain f ≡ normal (renamed (tables_plain tables.entry) (spread_element_row N.plain node.now))) }
 {
-    single(alloc, tables, NodeType::SpreadElement, node.argument.get())
+    single(alloc, tables, NodeType::SpreadElement, &node.argument)
 }
 
 fn array_expression_form<N: NormalNode>(
@@ -543,49 +493,23 @@ fn array_expression_form<N: NormalNode>(
 ) -> Result<Form, Memory>
     ensures { IfOk result (λ f. form_plain f ≡ normal (renamed (tables_plain tables.entry) (array_expression_row N.plain node.now))) }
 {
-    let elements = element_forms(alloc, tables, &node.elements)?;
-    holed_list(alloc, NodeType::ArrayExpression, elements)
+    row_of_one(
+        alloc,
+        tables,
+        NodeType::ArrayExpression,
+        Values::None,
+        Field::Holed(&node.elements),
+    )
 }
 
-fn element_forms<N: NormalNode>(
-    alloc: Global,
-    tables: Tables<'_>,
-    elements: &[Option<ArrayExpressionElement<N>>],
-) -> Result<Vec<Option<Form>>, Memory>
-    ensures { IfOk result (λ fs. holed_plain fs.items ≡ normal_trees (renamed_trees (tables_plain tables.entry) (holed (map (option_map (in_array_expression_element N.plain)) elements.now)))) }
-{
-    let mut forms = Vec::new(alloc);
-    for element in elements {
-        forms.push(element_or_hole_form(alloc, tables, element)?)?;
-    }
-    Ok(forms)
-}
+impl<N: NormalNode> HasForm for ArrayExpressionElement<N> {
+    ghost plain = { in_array_expression_element N.plain };
 
-fn element_or_hole_form<N: NormalNode>(
-    alloc: Global,
-    tables: Tables<'_>,
-    element: &Option<ArrayExpressionElement<N>>,
-) -> Result<Option<Form>, Memory>
-    ensures { IfOk result (λ o. option_map form_plain o ≡ option_map (λ e. normal (renamed (tables_plain tables.entry) (in_array_expression_element N.plain e))) element.now) }
-{
-    match element {
-        Some(element) => Ok(Some(element_form(alloc, tables, element)?)),
-        None => Ok(None),
-    }
-}
-
-fn element_form<N: NormalNode>(
-    alloc: Global,
-    tables: Tables<'_>,
-    element: &ArrayExpressionElement<N>,
-) -> Result<Form, Memory>
-    ensures { IfOk result (λ f. form_plain f ≡ normal (renamed (tables_plain tables.entry) (in_array_expression_element N.plain element.now))) }
-{
-    match element {
-        ArrayExpressionElement::SpreadElement(node) => spread_element_form(alloc, tables, node),
-        ArrayExpressionElement::Expression(expression) => expression
-            .get()
-            .normal_form(alloc, tables),
+    fn form(&self, alloc: Global, tables: Tables<'_>) -> Result<Form, Memory> {
+        match self {
+            ArrayExpressionElement::SpreadElement(node) => spread_element_form(alloc, tables, node),
+            ArrayExpressionElement::Expression(expression) => expression.form(alloc, tables),
+        }
     }
 }
 
@@ -600,29 +524,21 @@ fn expression_form<N: NormalNode>(
 {
     match node {
         Expression::IdentifierReference(node) => { reference_form(alloc, tables, node) }
-        Expression::ThisExpression(_) => Ok(leaf(alloc, NodeType::ThisExpression, Vec::new(alloc))),
-        Expression::NullLiteral(_) => Ok(leaf(alloc, NodeType::NullLiteral, Vec::new(alloc))),
+        Expression::ThisExpression(_) => leaf(alloc, NodeType::ThisExpression, Values::None),
+        Expression::NullLiteral(_) => leaf(alloc, NodeType::NullLiteral, Values::None),
         Expression::BooleanLiteral(node) => {
-            literal(alloc, NodeType::BooleanLiteral, Value::Flag(node.value))
+            leaf(
+                alloc,
+                NodeType::BooleanLiteral,
+                Values::One(Value::Flag(node.value)),
+            )
         }
         Expression::NumericLiteral(node) => numeric_literal_form(alloc, node),
         Expression::BigIntLiteral(node) => big_int_literal_form(alloc, node),
         Expression::StringLiteral(node) => string_literal_form(alloc, node),
-        Expression::BinaryExpression(node) => {
-            pair(
-                alloc,
-                tables,
-                NodeType::BinaryExpression,
-                Value::BinaryOperator(node.operator),
-                node.left.get(),
-                node.right.get(),
-            )
-        }
+        Expression::BinaryExpression(node) => binary_expression_form(alloc, tables, node),
         Expression::LogicalExpression(node) => logical_expression_form(alloc, tables, node),
-        Expression::ParenthesizedExpression(node) => node
-            .expression
-            .get()
-            .normal_form(alloc, tables),
+        Expression::ParenthesizedExpression(node) => node.expression.form(alloc, tables),
         Expression::StaticMemberExpression(node) => static_member_expression_form(
             alloc, tables, node,
         ),
@@ -632,19 +548,11 @@ fn expression_form<N: NormalNode>(
         Expression::ChainExpression(node) => chain_expression_form(alloc, tables, node),
         Expression::CallExpression(node) => call_expression_form(alloc, tables, node),
         Expression::ArrayExpression(node) => array_expression_form(alloc, tables, node),
-        Expression::UnaryExpression(node) => {
-            single_by(
-                alloc,
-                tables,
-                NodeType::UnaryExpression,
-                Value::UnaryOperator(node.operator),
-                node.argument.get(),
-            )
-        }
+        Expression::UnaryExpression(node) => unary_expression_form(alloc, tables, node),
         Expression::UpdateExpression(node) => update_expression_form(alloc, tables, node),
         Expression::NewExpression(node) => new_expression_form(alloc, tables, node),
-        Expression::Super(_) => Ok(leaf(alloc, NodeType::Super, Vec::new(alloc))),
-        Expression::NewTarget(_) => Ok(leaf(alloc, NodeType::NewTarget, Vec::new(alloc))),
+        Expression::Super(_) => leaf(alloc, NodeType::Super, Values::None),
+        Expression::NewTarget(_) => leaf(alloc, NodeType::NewTarget, Values::None),
         Expression::ObjectExpression(node) => object_expression_form(alloc, tables, node),
         Expression::ConditionalExpression(node) => conditional_expression_form(alloc, tables, node),
         Expression::SequenceExpression(node) => sequence_expression_form(alloc, tables, node),
@@ -681,12 +589,12 @@ fn statement_form<N: NormalNode>(
                 alloc,
                 tables,
                 NodeType::ExpressionStatement,
-                node.expression.get(),
+                &node.expression,
             )
         }
-        Statement::BlockStatement(node) => block_statement_form(alloc, tables, node),
+        Statement::BlockStatement(node) => node.form(alloc, tables),
         Statement::IfStatement(node) => if_statement_form(alloc, tables, node),
-        Statement::EmptyStatement(_) => Ok(leaf(alloc, NodeType::EmptyStatement, Vec::new(alloc))),
+        Statement::EmptyStatement(_) => leaf(alloc, NodeType::EmptyStatement, Values::None),
         Statement::ForStatement(node) => for_statement_form(alloc, tables, node),
         Statement::ForInStatement(node) => for_in_statement_form(alloc, tables, node),
         Statement::ForOfStatement(node) => for_of_statement_form(alloc, tables, node),
@@ -697,13 +605,9 @@ fn statement_form<N: NormalNode>(
         Statement::BreakStatement(node) => break_statement_form(alloc, tables, node),
         Statement::ReturnStatement(node) => return_statement_form(alloc, tables, node),
         Statement::ThrowStatement(node) => {
-            single(alloc, tables, NodeType::ThrowStatement, node.argument.get())
+            single(alloc, tables, NodeType::ThrowStatement, &node.argument)
         }
-        Statement::DebuggerStatement(_) => Ok(leaf(
-            alloc,
-            NodeType::DebuggerStatement,
-            Vec::new(alloc),
-        )),
+        Statement::DebuggerStatement(_) => leaf(alloc, NodeType::DebuggerStatement, Values::None),
         Statement::SwitchStatement(node) => switch_statement_form(alloc, tables, node),
         Statement::TryStatement(node) => try_statement_form(alloc, tables, node),
     }
@@ -717,7 +621,7 @@ fn binding_pattern_form(
     ensures { IfOk result (λ f. form_plain f ≡ normal (renamed (tables_plain tables.entry) (binding_pattern_plain node.now))) }
 {
     match node {
-        BindingPattern::BindingIdentifier(node) => { binding_form(alloc, tables, node) }
+        BindingPattern::BindingIdentifier(node) => { node.form(alloc, tables) }
     }
 }
 

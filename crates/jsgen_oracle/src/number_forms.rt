@@ -12,7 +12,7 @@ ghost use Rattle.jsgen_model.specs.Normal.{normal, named, by_text, number_text, 
 ghost use Rattle.jsgen_oracle.specs.Form.{form_plain, is_number};
 
 use crate::form::{Form, Slot, Value};
-use crate::shape::{leaf, literal, one_value, row};
+use crate::shape::{Values, leaf, row};
 use jsgen_syntax::{Memory, UnaryOperator};
 use jsgen_tree::{BigIntLiteral, Node, NodeType, NumericLiteral, NumericValue, behind_minus};
 use std::alloc::Global;
@@ -22,8 +22,12 @@ fn minus_before(alloc: Global, negative: bool, form: Form) -> Result<Form, Memor
     ensures { IfOk result (λ f. form_plain f ≡ minus_before negative (form_plain form)) }
 {
     if negative {
-        let values = one_value(alloc, Value::UnaryOperator(UnaryOperator::UnaryNegation))?;
-        row(alloc, NodeType::UnaryExpression, values, Slot::One(form))
+        row(
+            alloc,
+            NodeType::UnaryExpression,
+            Values::One(Value::UnaryOperator(UnaryOperator::UnaryNegation)),
+            Slot::One(form),
+        )
     } else {
         Ok(form)
     }
@@ -39,13 +43,16 @@ fn decimal_text(alloc: Global, digits: u128) -> Result<String, Memory>
 fn by_text(alloc: Global, text: String) -> Result<Form, Memory>
     ensures { IfOk result (λ f. form_plain f ≡ numeric_literal (by_text (characters text))) }
 {
-    let values = vec![in alloc;
-        Value::ByText,
-        Value::Nothing,
-        Value::Nothing,
-        Value::Text(text),
-    ]?;
-    Ok(leaf(alloc, NodeType::NumericLiteral, values))
+    leaf(
+        alloc,
+        NodeType::NumericLiteral,
+        Values::Four(
+            Value::ByText,
+            Value::Nothing,
+            Value::Nothing,
+            Value::Text(text),
+        ),
+    )
 }
 
 fn number_text(alloc: Global, node: &NumericLiteral) -> Result<String, Memory>
@@ -69,7 +76,11 @@ fn big_integer(alloc: Global, digits: &str) -> Result<Form, Memory>
     ensures { IfOk result (λ f. form_plain f ≡ big_int_literal (named (chars digits.now))) }
 {
     let text = String::from_str(alloc, digits)?;
-    literal(alloc, NodeType::BigIntLiteral, Value::Text(text))
+    leaf(
+        alloc,
+        NodeType::BigIntLiteral,
+        Values::One(Value::Text(text)),
+    )
 }
 
 pub fn big_int_literal_form(alloc: Global, node: &BigIntLiteral) -> Result<Form, Memory>
