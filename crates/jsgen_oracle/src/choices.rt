@@ -14,21 +14,19 @@ use jsgen_syntax::Memory;
 use jsgen_tree::{CatchClause, NodeType, SwitchCase, SwitchStatement, Tables, TryStatement};
 use std::alloc::Global;
 
-pub(crate) fn switch_statement_form<N: NormalNode>(
-    alloc: Global,
-    tables: Tables<'_>,
-    node: &SwitchStatement<N>,
-) -> Result<Form, Memory>
-    ensures { IfOk result (λ f. form_plain f ≡ normal (renamed (tables_plain tables.entry) (switch_statement_row N.plain node.now))) }
-{
-    row_of_two(
-        alloc,
-        tables,
-        NodeType::SwitchStatement,
-        Values::None,
-        Field::One(&node.discriminant),
-        Field::Many(&node.cases),
-    )
+impl<N: NormalNode> HasForm for SwitchStatement<N> {
+    ghost plain = { switch_statement_row N.plain };
+
+    fn form(&self, alloc: Global, tables: Tables<'_>) -> Result<Form, Memory> {
+        row_of_two(
+            alloc,
+            tables,
+            NodeType::SwitchStatement,
+            Values::None,
+            Field::One(&self.discriminant),
+            Field::Many(&self.cases),
+        )
+    }
 }
 
 impl<N: NormalNode> HasForm for SwitchCase<N> {
@@ -46,22 +44,20 @@ impl<N: NormalNode> HasForm for SwitchCase<N> {
     }
 }
 
-pub(crate) fn try_statement_form<N: NormalNode>(
-    alloc: Global,
-    tables: Tables<'_>,
-    node: &TryStatement<N>,
-) -> Result<Form, Memory>
-    ensures { IfOk result (λ f. form_plain f ≡ normal (renamed (tables_plain tables.entry) (try_statement_row N.plain node.now))) }
-{
-    row_of_three(
-        alloc,
-        tables,
-        NodeType::TryStatement,
-        Values::None,
-        Field::One(&node.block),
-        Field::Maybe(&node.handler),
-        Field::Maybe(&node.finalizer),
-    )
+impl<N: NormalNode> HasForm for TryStatement<N> {
+    ghost plain = { try_statement_row N.plain };
+
+    fn form(&self, alloc: Global, tables: Tables<'_>) -> Result<Form, Memory> {
+        row_of_three(
+            alloc,
+            tables,
+            NodeType::TryStatement,
+            Values::None,
+            Field::One(&self.block),
+            Field::Maybe(&self.handler),
+            Field::Maybe(&self.finalizer),
+        )
+    }
 }
 
 impl<N: NormalNode> HasForm for CatchClause<N> {

@@ -18,29 +18,27 @@ use jsgen_tree::{
 use std::alloc::Global;
 
 // Of the values only one counts so far: where the function stands.
-pub(crate) fn function_form<N: NormalNode>(
-    alloc: Global,
-    tables: Tables<'_>,
-    node: &Function<N>,
-) -> Result<Form, Memory>
-    ensures { IfOk result (λ f. form_plain f ≡ normal (renamed (tables_plain tables.entry) (function_row N.plain node.now))) }
-{
-    row_of_three(
-        alloc,
-        tables,
-        NodeType::Function,
-        Values::Six(
-            Value::FunctionKind(node.kind),
-            Value::Nothing,
-            Value::Nothing,
-            Value::Nothing,
-            Value::Nothing,
-            Value::Nothing,
-        ),
-        Field::Maybe(&node.id),
-        Field::One(&node.params),
-        Field::Maybe(&node.body),
-    )
+impl<N: NormalNode> HasForm for Function<N> {
+    ghost plain = { function_row N.plain };
+
+    fn form(&self, alloc: Global, tables: Tables<'_>) -> Result<Form, Memory> {
+        row_of_three(
+            alloc,
+            tables,
+            NodeType::Function,
+            Values::Six(
+                Value::FunctionKind(self.kind),
+                Value::Nothing,
+                Value::Nothing,
+                Value::Nothing,
+                Value::Nothing,
+                Value::Nothing,
+            ),
+            Field::Maybe(&self.id),
+            Field::One(&self.params),
+            Field::Maybe(&self.body),
+        )
+    }
 }
 
 impl<N: NormalNode> HasForm for FunctionBody<N> {
@@ -58,21 +56,19 @@ impl<N: NormalNode> HasForm for FunctionBody<N> {
     }
 }
 
-pub(crate) fn arrow_function_form<N: NormalNode>(
-    alloc: Global,
-    tables: Tables<'_>,
-    node: &ArrowFunctionExpression<N>,
-) -> Result<Form, Memory>
-    ensures { IfOk result (λ f. form_plain f ≡ normal (renamed (tables_plain tables.entry) (arrow_function_expression_row N.plain node.now))) }
-{
-    row_of_two(
-        alloc,
-        tables,
-        NodeType::ArrowFunctionExpression,
-        Values::Three(Value::Nothing, Value::Nothing, Value::Nothing),
-        Field::One(&node.params),
-        Field::One(&node.body),
-    )
+impl<N: NormalNode> HasForm for ArrowFunctionExpression<N> {
+    ghost plain = { arrow_function_expression_row N.plain };
+
+    fn form(&self, alloc: Global, tables: Tables<'_>) -> Result<Form, Memory> {
+        row_of_two(
+            alloc,
+            tables,
+            NodeType::ArrowFunctionExpression,
+            Values::Three(Value::Nothing, Value::Nothing, Value::Nothing),
+            Field::One(&self.params),
+            Field::One(&self.body),
+        )
+    }
 }
 
 impl<N: NormalNode> HasForm for ArrowFunctionBody<N> {

@@ -8,11 +8,7 @@ ghost use Rattle.jsgen_oracle.specs.Form.{form_plain};
 
 use crate::field::{Field, HasForm, row_of_four, row_of_one, row_of_three, row_of_two};
 use crate::form::{Form, Value};
-use crate::names::reference_form;
-use crate::normal::{
-    NormalNode, computed_member_expression_form, static_member_expression_form,
-    variable_declaration_form,
-};
+use crate::normal::NormalNode;
 use crate::shape::{Values, leaf};
 use jsgen_syntax::Memory;
 use jsgen_tree::{
@@ -22,22 +18,20 @@ use jsgen_tree::{
 };
 use std::alloc::Global;
 
-pub(crate) fn for_statement_form<N: NormalNode>(
-    alloc: Global,
-    tables: Tables<'_>,
-    node: &ForStatement<N>,
-) -> Result<Form, Memory>
-    ensures { IfOk result (λ f. form_plain f ≡ normal (renamed (tables_plain tables.entry) (for_statement_row N.plain node.now))) }
-{
-    row_of_four(
-        alloc,
-        tables,
-        NodeType::ForStatement,
-        Field::Maybe(&node.init),
-        Field::Maybe(&node.test),
-        Field::Maybe(&node.update),
-        Field::One(&node.body),
-    )
+impl<N: NormalNode> HasForm for ForStatement<N> {
+    ghost plain = { for_statement_row N.plain };
+
+    fn form(&self, alloc: Global, tables: Tables<'_>) -> Result<Form, Memory> {
+        row_of_four(
+            alloc,
+            tables,
+            NodeType::ForStatement,
+            Field::Maybe(&self.init),
+            Field::Maybe(&self.test),
+            Field::Maybe(&self.update),
+            Field::One(&self.body),
+        )
+    }
 }
 
 impl<N: NormalNode> HasForm for ForStatementInit<N> {
@@ -45,48 +39,42 @@ impl<N: NormalNode> HasForm for ForStatementInit<N> {
 
     fn form(&self, alloc: Global, tables: Tables<'_>) -> Result<Form, Memory> {
         match self {
-            ForStatementInit::VariableDeclaration(node) => {
-                variable_declaration_form(alloc, tables, node)
-            }
+            ForStatementInit::VariableDeclaration(node) => node.form(alloc, tables),
             ForStatementInit::Expression(expression) => expression.form(alloc, tables),
         }
     }
 }
 
-pub(crate) fn for_in_statement_form<N: NormalNode>(
-    alloc: Global,
-    tables: Tables<'_>,
-    node: &ForInStatement<N>,
-) -> Result<Form, Memory>
-    ensures { IfOk result (λ f. form_plain f ≡ normal (renamed (tables_plain tables.entry) (for_in_statement_row N.plain node.now))) }
-{
-    row_of_three(
-        alloc,
-        tables,
-        NodeType::ForInStatement,
-        Values::None,
-        Field::One(&node.left),
-        Field::One(&node.right),
-        Field::One(&node.body),
-    )
+impl<N: NormalNode> HasForm for ForInStatement<N> {
+    ghost plain = { for_in_statement_row N.plain };
+
+    fn form(&self, alloc: Global, tables: Tables<'_>) -> Result<Form, Memory> {
+        row_of_three(
+            alloc,
+            tables,
+            NodeType::ForInStatement,
+            Values::None,
+            Field::One(&self.left),
+            Field::One(&self.right),
+            Field::One(&self.body),
+        )
+    }
 }
 
-pub(crate) fn for_of_statement_form<N: NormalNode>(
-    alloc: Global,
-    tables: Tables<'_>,
-    node: &ForOfStatement<N>,
-) -> Result<Form, Memory>
-    ensures { IfOk result (λ f. form_plain f ≡ normal (renamed (tables_plain tables.entry) (for_of_statement_row N.plain node.now))) }
-{
-    row_of_three(
-        alloc,
-        tables,
-        NodeType::ForOfStatement,
-        Values::One(Value::Nothing),
-        Field::One(&node.left),
-        Field::One(&node.right),
-        Field::One(&node.body),
-    )
+impl<N: NormalNode> HasForm for ForOfStatement<N> {
+    ghost plain = { for_of_statement_row N.plain };
+
+    fn form(&self, alloc: Global, tables: Tables<'_>) -> Result<Form, Memory> {
+        row_of_three(
+            alloc,
+            tables,
+            NodeType::ForOfStatement,
+            Values::One(Value::Nothing),
+            Field::One(&self.left),
+            Field::One(&self.right),
+            Field::One(&self.body),
+        )
+    }
 }
 
 impl<N: NormalNode> HasForm for ForStatementLeft<N> {
@@ -94,52 +82,42 @@ impl<N: NormalNode> HasForm for ForStatementLeft<N> {
 
     fn form(&self, alloc: Global, tables: Tables<'_>) -> Result<Form, Memory> {
         match self {
-            ForStatementLeft::VariableDeclaration(node) => {
-                variable_declaration_form(alloc, tables, node)
-            }
-            ForStatementLeft::IdentifierReference(node) => reference_form(alloc, tables, node),
-            ForStatementLeft::StaticMemberExpression(node) => {
-                static_member_expression_form(alloc, tables, node)
-            }
-            ForStatementLeft::ComputedMemberExpression(node) => {
-                computed_member_expression_form(alloc, tables, node)
-            }
+            ForStatementLeft::VariableDeclaration(node) => node.form(alloc, tables),
+            ForStatementLeft::IdentifierReference(node) => node.form(alloc, tables),
+            ForStatementLeft::StaticMemberExpression(node) => node.form(alloc, tables),
+            ForStatementLeft::ComputedMemberExpression(node) => node.form(alloc, tables),
         }
     }
 }
 
-pub(crate) fn while_statement_form<N: NormalNode>(
-    alloc: Global,
-    tables: Tables<'_>,
-    node: &WhileStatement<N>,
-) -> Result<Form, Memory>
-    ensures { IfOk result (λ f. form_plain f ≡ normal (renamed (tables_plain tables.entry) (while_statement_row N.plain node.now))) }
-{
-    row_of_two(
-        alloc,
-        tables,
-        NodeType::WhileStatement,
-        Values::None,
-        Field::One(&node.test),
-        Field::One(&node.body),
-    )
+impl<N: NormalNode> HasForm for WhileStatement<N> {
+    ghost plain = { while_statement_row N.plain };
+
+    fn form(&self, alloc: Global, tables: Tables<'_>) -> Result<Form, Memory> {
+        row_of_two(
+            alloc,
+            tables,
+            NodeType::WhileStatement,
+            Values::None,
+            Field::One(&self.test),
+            Field::One(&self.body),
+        )
+    }
 }
 
-pub(crate) fn do_while_statement_form<N: NormalNode>(
-    alloc: Global,
-    tables: Tables<'_>,
-    node: &DoWhileStatement<N>,
-) -> Result<Form, Memory>
-    ensures { IfOk result (λ f. form_plain f ≡ normal (renamed (tables_plain tables.entry) (do_while_statement_row N.plain node.now))) }
-{
-    row_of_two(
-        alloc,
-        tables,
-        NodeType::DoWhileStatement,
-        Values::None,
-        Field::One(&node.body),
-        Field::One(&node.test),
-    )
+impl<N: NormalNode> HasForm for DoWhileStatement<N> {
+    ghost plain = { do_while_statement_row N.plain };
+
+    fn form(&self, alloc: Global, tables: Tables<'_>) -> Result<Form, Memory> {
+        row_of_two(
+            alloc,
+            tables,
+            NodeType::DoWhileStatement,
+            Values::None,
+            Field::One(&self.body),
+            Field::One(&self.test),
+        )
+    }
 }
 
 // ---- labels and jumps
@@ -157,67 +135,59 @@ impl HasForm for LabelIdentifier {
     }
 }
 
-pub(crate) fn labeled_statement_form<N: NormalNode>(
-    alloc: Global,
-    tables: Tables<'_>,
-    node: &LabeledStatement<N>,
-) -> Result<Form, Memory>
-    ensures { IfOk result (λ f. form_plain f ≡ normal (renamed (tables_plain tables.entry) (labeled_statement_row N.plain node.now))) }
-{
-    row_of_two(
-        alloc,
-        tables,
-        NodeType::LabeledStatement,
-        Values::None,
-        Field::One(&node.label),
-        Field::One(&node.body),
-    )
+impl<N: NormalNode> HasForm for LabeledStatement<N> {
+    ghost plain = { labeled_statement_row N.plain };
+
+    fn form(&self, alloc: Global, tables: Tables<'_>) -> Result<Form, Memory> {
+        row_of_two(
+            alloc,
+            tables,
+            NodeType::LabeledStatement,
+            Values::None,
+            Field::One(&self.label),
+            Field::One(&self.body),
+        )
+    }
 }
 
-pub(crate) fn continue_statement_form(
-    alloc: Global,
-    tables: Tables<'_>,
-    node: &ContinueStatement,
-) -> Result<Form, Memory>
-    ensures { IfOk result (λ f. form_plain f ≡ normal (renamed (tables_plain tables.entry) (continue_statement_row node.now))) }
-{
-    row_of_one(
-        alloc,
-        tables,
-        NodeType::ContinueStatement,
-        Values::None,
-        Field::Maybe(&node.label),
-    )
+impl HasForm for ContinueStatement {
+    ghost plain = { continue_statement_row };
+
+    fn form(&self, alloc: Global, tables: Tables<'_>) -> Result<Form, Memory> {
+        row_of_one(
+            alloc,
+            tables,
+            NodeType::ContinueStatement,
+            Values::None,
+            Field::Maybe(&self.label),
+        )
+    }
 }
 
-pub(crate) fn break_statement_form(
-    alloc: Global,
-    tables: Tables<'_>,
-    node: &BreakStatement,
-) -> Result<Form, Memory>
-    ensures { IfOk result (λ f. form_plain f ≡ normal (renamed (tables_plain tables.entry) (break_statement_row node.now))) }
-{
-    row_of_one(
-        alloc,
-        tables,
-        NodeType::BreakStatement,
-        Values::None,
-        Field::Maybe(&node.label),
-    )
+impl HasForm for BreakStatement {
+    ghost plain = { break_statement_row };
+
+    fn form(&self, alloc: Global, tables: Tables<'_>) -> Result<Form, Memory> {
+        row_of_one(
+            alloc,
+            tables,
+            NodeType::BreakStatement,
+            Values::None,
+            Field::Maybe(&self.label),
+        )
+    }
 }
 
-pub(crate) fn return_statement_form<N: NormalNode>(
-    alloc: Global,
-    tables: Tables<'_>,
-    node: &ReturnStatement<N>,
-) -> Result<Form, Memory>
-    ensures { IfOk result (λ f. form_plain f ≡ normal (renamed (tables_plain tables.entry) (return_statement_row N.plain node.now))) }
-{
-    row_of_one(
-        alloc,
-        tables,
-        NodeType::ReturnStatement,
-        Values::None,
-        Field::Maybe(&node.argument),
-    )
+impl<N: NormalNode> HasForm for ReturnStatement<N> {
+    ghost plain = { return_statement_row N.plain };
+
+    fn form(&self, alloc: Global, tables: Tables<'_>) -> Result<Form, Memory> {
+        row_of_one(
+            alloc,
+            tables,
+            NodeType::ReturnStatement,
+            Values::None,
+            Field::Maybe(&self.argument),
+        )
+    }
 }

@@ -28,15 +28,13 @@ fn identifier(alloc: Global, node_type: NodeType, name: &str) -> Result<Form, Me
     )
 }
 
-pub(crate) fn reference_form(
-    alloc: Global,
-    tables: Tables<'_>,
-    node: &IdentifierReference,
-) -> Result<Form, Memory>
-    ensures { IfOk result (λ f. form_plain f ≡ normal (renamed (tables_plain tables.entry) (identifier_reference_row node.now))) }
-{
-    let name = tables.reference_name(node.reference, &node.name);
-    identifier(alloc, NodeType::IdentifierReference, name)
+impl HasForm for IdentifierReference {
+    ghost plain = { identifier_reference_row };
+
+    fn form(&self, alloc: Global, tables: Tables<'_>) -> Result<Form, Memory> {
+        let name = tables.reference_name(self.reference, &self.name);
+        identifier(alloc, NodeType::IdentifierReference, name)
+    }
 }
 
 impl HasForm for BindingIdentifier {

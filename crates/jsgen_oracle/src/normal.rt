@@ -9,18 +9,9 @@ ghost use Rattle.jsgen_model.specs.Normal.{normal, normal_trees, joined, links, 
 ghost use Rattle.jsgen_oracle.specs.Form.{form_plain, forms_plain};
 
 use crate::chain::{joined, links, parts};
-use crate::choices::{switch_statement_form, try_statement_form};
 use crate::field::{Field, HasForm, row_of_one, row_of_three, row_of_two, single};
 use crate::form::{Form, Slot, Value};
-use crate::functions::{arrow_function_form, function_form};
-use crate::loops::{
-    break_statement_form, continue_statement_form, do_while_statement_form, for_in_statement_form,
-    for_of_statement_form, for_statement_form, labeled_statement_form, return_statement_form,
-    while_statement_form,
-};
-use crate::names::reference_form;
-use crate::number_forms::{big_int_literal_form, is_negative_number, numeric_literal_form};
-use crate::objects::object_expression_form;
+use crate::number_forms::is_negative_number;
 use crate::shape::{Values, leaf, row};
 use jsgen_syntax::{LogicalOperator, Memory};
 use jsgen_tree::{
@@ -96,38 +87,34 @@ impl<N: NormalNode> HasForm for BlockStatement<N> {
     }
 }
 
-fn if_statement_form<N: NormalNode>(
-    alloc: Global,
-    tables: Tables<'_>,
-    node: &IfStatement<N>,
-) -> Result<Form, Memory>
-    ensures { IfOk result (λ f. form_plain f ≡ normal (renamed (tables_plain tables.entry) (if_statement_row N.plain node.now))) }
-{
-    row_of_three(
-        alloc,
-        tables,
-        NodeType::IfStatement,
-        Values::None,
-        Field::One(&node.test),
-        Field::Unbraced(&node.consequent),
-        Field::Maybe(&node.alternate),
-    )
+impl<N: NormalNode> HasForm for IfStatement<N> {
+    ghost plain = { if_statement_row N.plain };
+
+    fn form(&self, alloc: Global, tables: Tables<'_>) -> Result<Form, Memory> {
+        row_of_three(
+            alloc,
+            tables,
+            NodeType::IfStatement,
+            Values::None,
+            Field::One(&self.test),
+            Field::Unbraced(&self.consequent),
+            Field::Maybe(&self.alternate),
+        )
+    }
 }
 
-pub(crate) fn variable_declaration_form<N: NormalNode>(
-    alloc: Global,
-    tables: Tables<'_>,
-    node: &VariableDeclaration<N>,
-) -> Result<Form, Memory>
-    ensures { IfOk result (λ f. form_plain f ≡ normal (renamed (tables_plain tables.entry) (variable_declaration_row N.plain node.now))) }
-{
-    row_of_one(
-        alloc,
-        tables,
-        NodeType::VariableDeclaration,
-        Values::Two(Value::DeclarationKind(node.kind), Value::Nothing),
-        Field::Many(&node.declarations),
-    )
+impl<N: NormalNode> HasForm for VariableDeclaration<N> {
+    ghost plain = { variable_declaration_row N.plain };
+
+    fn form(&self, alloc: Global, tables: Tables<'_>) -> Result<Form, Memory> {
+        row_of_one(
+            alloc,
+            tables,
+            NodeType::VariableDeclaration,
+            Values::Two(Value::DeclarationKind(self.kind), Value::Nothing),
+            Field::Many(&self.declarations),
+        )
+    }
 }
 
 impl<N: NormalNode> HasForm for VariableDeclarator<N> {
@@ -147,48 +134,46 @@ impl<N: NormalNode> HasForm for VariableDeclarator<N> {
 
 // ---- expressions
 
-fn string_literal_form(alloc: Global, node: &StringLiteral) -> Result<Form, Memory>
-    ensures { IfOk result (λ f. form_plain f ≡ normal (string_literal_row node.now)) }
-{
-    let value = node.value.try_clone()?;
-    leaf(
-        alloc,
-        NodeType::StringLiteral,
-        Values::One(Value::Units(value)),
-    )
+impl HasForm for StringLiteral {
+    ghost plain = { string_literal_row };
+
+    fn form(&self, alloc: Global, tables: Tables<'_>) -> Result<Form, Memory> {
+        let value = self.value.try_clone()?;
+        leaf(
+            alloc,
+            NodeType::StringLiteral,
+            Values::One(Value::Units(value)),
+        )
+    }
 }
 
-fn binary_expression_form<N: NormalNode>(
-    alloc: Global,
-    tables: Tables<'_>,
-    node: &BinaryExpression<N>,
-) -> Result<Form, Memory>
-    ensures { IfOk result (λ f. form_plain f ≡ normal (renamed (tables_plain tables.entry) (binary_expression_row N.plain node.now))) }
-{
-    row_of_two(
-        alloc,
-        tables,
-        NodeType::BinaryExpression,
-        Values::One(Value::BinaryOperator(node.operator)),
-        Field::One(&node.left),
-        Field::One(&node.right),
-    )
+impl<N: NormalNode> HasForm for BinaryExpression<N> {
+    ghost plain = { binary_expression_row N.plain };
+
+    fn form(&self, alloc: Global, tables: Tables<'_>) -> Result<Form, Memory> {
+        row_of_two(
+            alloc,
+            tables,
+            NodeType::BinaryExpression,
+            Values::One(Value::BinaryOperator(self.operator)),
+            Field::One(&self.left),
+            Field::One(&self.right),
+        )
+    }
 }
 
-fn logical_expression_form<N: NormalNode>(
-    alloc: Global,
-    tables: Tables<'_>,
-    node: &LogicalExpression<N>,
-) -> Result<Form, Memory>
-    ensures { IfOk result (λ f. form_plain f ≡ normal (renamed (tables_plain tables.entry) (logical_expression_row N.plain node.now))) }
-{
-    let operands = chain_of(alloc, tables, node)?;
-    row(
-        alloc,
-        NodeType::LogicalExpression,
-        Values::One(Value::LogicalOperator(node.operator)),
-        Slot::Many(operands),
-    )
+impl<N: NormalNode> HasForm for LogicalExpression<N> {
+    ghost plain = { logical_expression_row N.plain };
+
+    fn form(&self, alloc: Global, tables: Tables<'_>) -> Result<Form, Memory> {
+        let operands = chain_of(alloc, tables, self)?;
+        row(
+            alloc,
+            NodeType::LogicalExpression,
+            Values::One(Value::LogicalOperator(self.operator)),
+            Slot::Many(operands),
+        )
+    }
 }
 
 fn chain_of<N: NormalNode>(
@@ -229,72 +214,64 @@ impl HasForm for IdentifierName {
     }
 }
 
-pub(crate) fn static_member_expression_form<N: NormalNode>(
-    alloc: Global,
-    tables: Tables<'_>,
-    node: &StaticMemberExpression<N>,
-) -> Result<Form, Memory>
-    ensures { IfOk result (λ f. form_plain f ≡ normal (renamed (tables_plain tables.entry) (static_member_expression_row N.plain node.now))) }
-{
-    row_of_two(
-        alloc,
-        tables,
-        NodeType::StaticMemberExpression,
-        Values::One(Value::Flag(node.optional)),
-        Field::One(&node.object),
-        Field::One(&node.property),
-    )
+impl<N: NormalNode> HasForm for StaticMemberExpression<N> {
+    ghost plain = { static_member_expression_row N.plain };
+
+    fn form(&self, alloc: Global, tables: Tables<'_>) -> Result<Form, Memory> {
+        row_of_two(
+            alloc,
+            tables,
+            NodeType::StaticMemberExpression,
+            Values::One(Value::Flag(self.optional)),
+            Field::One(&self.object),
+            Field::One(&self.property),
+        )
+    }
 }
 
-fn call_expression_form<N: NormalNode>(
-    alloc: Global,
-    tables: Tables<'_>,
-    node: &CallExpression<N>,
-) -> Result<Form, Memory>
-    ensures { IfOk result (λ f. form_plain f ≡ normal (renamed (tables_plain tables.entry) (call_expression_row N.plain node.now))) }
-{
-    row_of_two(
-        alloc,
-        tables,
-        NodeType::CallExpression,
-        Values::Two(Value::Flag(node.optional), Value::Nothing),
-        Field::One(&node.callee),
-        Field::Many(&node.arguments),
-    )
+impl<N: NormalNode> HasForm for CallExpression<N> {
+    ghost plain = { call_expression_row N.plain };
+
+    fn form(&self, alloc: Global, tables: Tables<'_>) -> Result<Form, Memory> {
+        row_of_two(
+            alloc,
+            tables,
+            NodeType::CallExpression,
+            Values::Two(Value::Flag(self.optional), Value::Nothing),
+            Field::One(&self.callee),
+            Field::Many(&self.arguments),
+        )
+    }
 }
 
-fn conditional_expression_form<N: NormalNode>(
-    alloc: Global,
-    tables: Tables<'_>,
-    node: &ConditionalExpression<N>,
-) -> Result<Form, Memory>
-    ensures { IfOk result (λ f. form_plain f ≡ normal (renamed (tables_plain tables.entry) (conditional_expression_row N.plain node.now))) }
-{
-    row_of_three(
-        alloc,
-        tables,
-        NodeType::ConditionalExpression,
-        Values::None,
-        Field::One(&node.test),
-        Field::One(&node.consequent),
-        Field::One(&node.alternate),
-    )
+impl<N: NormalNode> HasForm for ConditionalExpression<N> {
+    ghost plain = { conditional_expression_row N.plain };
+
+    fn form(&self, alloc: Global, tables: Tables<'_>) -> Result<Form, Memory> {
+        row_of_three(
+            alloc,
+            tables,
+            NodeType::ConditionalExpression,
+            Values::None,
+            Field::One(&self.test),
+            Field::One(&self.consequent),
+            Field::One(&self.alternate),
+        )
+    }
 }
 
-fn sequence_expression_form<N: NormalNode>(
-    alloc: Global,
-    tables: Tables<'_>,
-    node: &SequenceExpression<N>,
-) -> Result<Form, Memory>
-    ensures { IfOk result (λ f. form_plain f ≡ normal (renamed (tables_plain tables.entry) (sequence_expression_row N.plain node.now))) }
-{
-    let forms = part_forms(alloc, tables, &node.expressions)?;
-    row(
-        alloc,
-        NodeType::SequenceExpression,
-        Values::None,
-        Slot::Many(forms),
-    )
+impl<N: NormalNode> HasForm for SequenceExpression<N> {
+    ghost plain = { sequence_expression_row N.plain };
+
+    fn form(&self, alloc: Global, tables: Tables<'_>) -> Result<Form, Memory> {
+        let forms = part_forms(alloc, tables, &self.expressions)?;
+        row(
+            alloc,
+            NodeType::SequenceExpression,
+            Values::None,
+            Slot::Many(forms),
+        )
+    }
 }
 
 fn part_forms<N: NormalNode>(
@@ -313,37 +290,33 @@ fn part_forms<N: NormalNode>(
     Ok(forms)
 }
 
-pub(crate) fn computed_member_expression_form<N: NormalNode>(
-    alloc: Global,
-    tables: Tables<'_>,
-    node: &ComputedMemberExpression<N>,
-) -> Result<Form, Memory>
-    ensures { IfOk result (λ f. form_plain f ≡ normal (renamed (tables_plain tables.entry) (computed_member_expression_row N.plain node.now))) }
-{
-    row_of_two(
-        alloc,
-        tables,
-        NodeType::ComputedMemberExpression,
-        Values::One(Value::Flag(node.optional)),
-        Field::One(&node.object),
-        Field::One(&node.expression),
-    )
+impl<N: NormalNode> HasForm for ComputedMemberExpression<N> {
+    ghost plain = { computed_member_expression_row N.plain };
+
+    fn form(&self, alloc: Global, tables: Tables<'_>) -> Result<Form, Memory> {
+        row_of_two(
+            alloc,
+            tables,
+            NodeType::ComputedMemberExpression,
+            Values::One(Value::Flag(self.optional)),
+            Field::One(&self.object),
+            Field::One(&self.expression),
+        )
+    }
 }
 
-fn chain_expression_form<N: NormalNode>(
-    alloc: Global,
-    tables: Tables<'_>,
-    node: &ChainExpression<N>,
-) -> Result<Form, Memory>
-    ensures { IfOk result (λ f. form_plain f ≡ normal (renamed (tables_plain tables.entry) (chain_expression_row N.plain node.now))) }
-{
-    row_of_one(
-        alloc,
-        tables,
-        NodeType::ChainExpression,
-        Values::None,
-        Field::One(&node.expression),
-    )
+impl<N: NormalNode> HasForm for ChainExpression<N> {
+    ghost plain = { chain_expression_row N.plain };
+
+    fn form(&self, alloc: Global, tables: Tables<'_>) -> Result<Form, Memory> {
+        row_of_one(
+            alloc,
+            tables,
+            NodeType::ChainExpression,
+            Values::None,
+            Field::One(&self.expression),
+        )
+    }
 }
 
 impl<N: NormalNode> HasForm for ChainElement<N> {
@@ -351,67 +324,57 @@ impl<N: NormalNode> HasForm for ChainElement<N> {
 
     fn form(&self, alloc: Global, tables: Tables<'_>) -> Result<Form, Memory> {
         match self {
-            ChainElement::StaticMemberExpression(node) => {
-                static_member_expression_form(alloc, tables, node)
-            }
-            ChainElement::ComputedMemberExpression(node) => {
-                computed_member_expression_form(alloc, tables, node)
-            }
-            ChainElement::CallExpression(node) => call_expression_form(alloc, tables, node),
+            ChainElement::StaticMemberExpression(node) => node.form(alloc, tables),
+            ChainElement::ComputedMemberExpression(node) => node.form(alloc, tables),
+            ChainElement::CallExpression(node) => node.form(alloc, tables),
         }
     }
 }
 
-fn unary_expression_form<N: NormalNode>(
-    alloc: Global,
-    tables: Tables<'_>,
-    node: &UnaryExpression<N>,
-) -> Result<Form, Memory>
-    ensures { IfOk result (λ f. form_plain f ≡ normal (renamed (tables_plain tables.entry) (unary_expression_row N.plain node.now))) }
-{
-    row_of_one(
-        alloc,
-        tables,
-        NodeType::UnaryExpression,
-        Values::One(Value::UnaryOperator(node.operator)),
-        Field::One(&node.argument),
-    )
+impl<N: NormalNode> HasForm for UnaryExpression<N> {
+    ghost plain = { unary_expression_row N.plain };
+
+    fn form(&self, alloc: Global, tables: Tables<'_>) -> Result<Form, Memory> {
+        row_of_one(
+            alloc,
+            tables,
+            NodeType::UnaryExpression,
+            Values::One(Value::UnaryOperator(self.operator)),
+            Field::One(&self.argument),
+        )
+    }
 }
 
-fn update_expression_form<N: NormalNode>(
-    alloc: Global,
-    tables: Tables<'_>,
-    node: &UpdateExpression<N>,
-) -> Result<Form, Memory>
-    ensures { IfOk result (λ f. form_plain f ≡ normal (renamed (tables_plain tables.entry) (update_expression_row N.plain node.now))) }
-{
-    row_of_one(
-        alloc,
-        tables,
-        NodeType::UpdateExpression,
-        Values::Two(
-            Value::UpdateOperator(node.operator),
-            Value::Flag(node.prefix),
-        ),
-        Field::One(&node.argument),
-    )
+impl<N: NormalNode> HasForm for UpdateExpression<N> {
+    ghost plain = { update_expression_row N.plain };
+
+    fn form(&self, alloc: Global, tables: Tables<'_>) -> Result<Form, Memory> {
+        row_of_one(
+            alloc,
+            tables,
+            NodeType::UpdateExpression,
+            Values::Two(
+                Value::UpdateOperator(self.operator),
+                Value::Flag(self.prefix),
+            ),
+            Field::One(&self.argument),
+        )
+    }
 }
 
-fn assignment_expression_form<N: NormalNode>(
-    alloc: Global,
-    tables: Tables<'_>,
-    node: &AssignmentExpression<N>,
-) -> Result<Form, Memory>
-    ensures { IfOk result (λ f. form_plain f ≡ normal (renamed (tables_plain tables.entry) (assignment_expression_row N.plain node.now))) }
-{
-    row_of_two(
-        alloc,
-        tables,
-        NodeType::AssignmentExpression,
-        Values::One(Value::AssignmentOperator(node.operator)),
-        Field::One(&node.left),
-        Field::One(&node.right),
-    )
+impl<N: NormalNode> HasForm for AssignmentExpression<N> {
+    ghost plain = { assignment_expression_row N.plain };
+
+    fn form(&self, alloc: Global, tables: Tables<'_>) -> Result<Form, Memory> {
+        row_of_two(
+            alloc,
+            tables,
+            NodeType::AssignmentExpression,
+            Values::One(Value::AssignmentOperator(self.operator)),
+            Field::One(&self.left),
+            Field::One(&self.right),
+        )
+    }
 }
 
 impl<N: NormalNode> HasForm for AssignmentTarget<N> {
@@ -419,13 +382,9 @@ impl<N: NormalNode> HasForm for AssignmentTarget<N> {
 
     fn form(&self, alloc: Global, tables: Tables<'_>) -> Result<Form, Memory> {
         match self {
-            AssignmentTarget::IdentifierReference(node) => reference_form(alloc, tables, node),
-            AssignmentTarget::StaticMemberExpression(node) => {
-                static_member_expression_form(alloc, tables, node)
-            }
-            AssignmentTarget::ComputedMemberExpression(node) => {
-                computed_member_expression_form(alloc, tables, node)
-            }
+            AssignmentTarget::IdentifierReference(node) => node.form(alloc, tables),
+            AssignmentTarget::StaticMemberExpression(node) => node.form(alloc, tables),
+            AssignmentTarget::ComputedMemberExpression(node) => node.form(alloc, tables),
         }
     }
 }
@@ -435,34 +394,26 @@ impl<N: NormalNode> HasForm for SimpleAssignmentTarget<N> {
 
     fn form(&self, alloc: Global, tables: Tables<'_>) -> Result<Form, Memory> {
         match self {
-            SimpleAssignmentTarget::IdentifierReference(node) => reference_form(
-                alloc, tables, node,
-            ),
-            SimpleAssignmentTarget::StaticMemberExpression(node) => {
-                static_member_expression_form(alloc, tables, node)
-            }
-            SimpleAssignmentTarget::ComputedMemberExpression(node) => {
-                computed_member_expression_form(alloc, tables, node)
-            }
+            SimpleAssignmentTarget::IdentifierReference(node) => node.form(alloc, tables),
+            SimpleAssignmentTarget::StaticMemberExpression(node) => node.form(alloc, tables),
+            SimpleAssignmentTarget::ComputedMemberExpression(node) => node.form(alloc, tables),
         }
     }
 }
 
-fn new_expression_form<N: NormalNode>(
-    alloc: Global,
-    tables: Tables<'_>,
-    node: &NewExpression<N>,
-) -> Result<Form, Memory>
-    ensures { IfOk result (λ f. form_plain f ≡ normal (renamed (tables_plain tables.entry) (new_expression_row N.plain node.now))) }
-{
-    row_of_two(
-        alloc,
-        tables,
-        NodeType::NewExpression,
-        Values::One(Value::Nothing),
-        Field::One(&node.callee),
-        Field::Many(&node.arguments),
-    )
+impl<N: NormalNode> HasForm for NewExpression<N> {
+    ghost plain = { new_expression_row N.plain };
+
+    fn form(&self, alloc: Global, tables: Tables<'_>) -> Result<Form, Memory> {
+        row_of_two(
+            alloc,
+            tables,
+            NodeType::NewExpression,
+            Values::One(Value::Nothing),
+            Field::One(&self.callee),
+            Field::Many(&self.arguments),
+        )
+    }
 }
 
 impl<N: NormalNode> HasForm for Argument<N> {
@@ -470,36 +421,32 @@ impl<N: NormalNode> HasForm for Argument<N> {
 
     fn form(&self, alloc: Global, tables: Tables<'_>) -> Result<Form, Memory> {
         match self {
-            Argument::SpreadElement(node) => spread_element_form(alloc, tables, node),
+            Argument::SpreadElement(node) => node.form(alloc, tables),
             Argument::Expression(expression) => expression.form(alloc, tables),
         }
     }
 }
 
-pub(crate) fn spread_element_form<N: NormalNode>(
-    alloc: Global,
-    tables: Tables<'_>,
-    node: &SpreadElement<N>,
-) -> Result<Form, Memory>
-    ensures { IfOk result (λ f. form_plain f ≡ normal (renamed (tables_plain tables.entry) (spread_element_row N.plain node.now))) }
-{
-    single(alloc, tables, NodeType::SpreadElement, &node.argument)
+impl<N: NormalNode> HasForm for SpreadElement<N> {
+    ghost plain = { spread_element_row N.plain };
+
+    fn form(&self, alloc: Global, tables: Tables<'_>) -> Result<Form, Memory> {
+        single(alloc, tables, NodeType::SpreadElement, &self.argument)
+    }
 }
 
-fn array_expression_form<N: NormalNode>(
-    alloc: Global,
-    tables: Tables<'_>,
-    node: &ArrayExpression<N>,
-) -> Result<Form, Memory>
-    ensures { IfOk result (λ f. form_plain f ≡ normal (renamed (tables_plain tables.entry) (array_expression_row N.plain node.now))) }
-{
-    row_of_one(
-        alloc,
-        tables,
-        NodeType::ArrayExpression,
-        Values::None,
-        Field::Holed(&node.elements),
-    )
+impl<N: NormalNode> HasForm for ArrayExpression<N> {
+    ghost plain = { array_expression_row N.plain };
+
+    fn form(&self, alloc: Global, tables: Tables<'_>) -> Result<Form, Memory> {
+        row_of_one(
+            alloc,
+            tables,
+            NodeType::ArrayExpression,
+            Values::None,
+            Field::Holed(&self.elements),
+        )
+    }
 }
 
 impl<N: NormalNode> HasForm for ArrayExpressionElement<N> {
@@ -507,7 +454,7 @@ impl<N: NormalNode> HasForm for ArrayExpressionElement<N> {
 
     fn form(&self, alloc: Global, tables: Tables<'_>) -> Result<Form, Memory> {
         match self {
-            ArrayExpressionElement::SpreadElement(node) => spread_element_form(alloc, tables, node),
+            ArrayExpressionElement::SpreadElement(node) => node.form(alloc, tables),
             ArrayExpressionElement::Expression(expression) => expression.form(alloc, tables),
         }
     }
@@ -523,7 +470,7 @@ fn expression_form<N: NormalNode>(
     ensures { IfOk result (λ f. form_plain f ≡ normal (renamed (tables_plain tables.entry) (expression_plain N.plain node.now))) }
 {
     match node {
-        Expression::IdentifierReference(node) => { reference_form(alloc, tables, node) }
+        Expression::IdentifierReference(node) => node.form(alloc, tables),
         Expression::ThisExpression(_) => leaf(alloc, NodeType::ThisExpression, Values::None),
         Expression::NullLiteral(_) => leaf(alloc, NodeType::NullLiteral, Values::None),
         Expression::BooleanLiteral(node) => {
@@ -533,32 +480,28 @@ fn expression_form<N: NormalNode>(
                 Values::One(Value::Flag(node.value)),
             )
         }
-        Expression::NumericLiteral(node) => numeric_literal_form(alloc, node),
-        Expression::BigIntLiteral(node) => big_int_literal_form(alloc, node),
-        Expression::StringLiteral(node) => string_literal_form(alloc, node),
-        Expression::BinaryExpression(node) => binary_expression_form(alloc, tables, node),
-        Expression::LogicalExpression(node) => logical_expression_form(alloc, tables, node),
+        Expression::NumericLiteral(node) => node.form(alloc, tables),
+        Expression::BigIntLiteral(node) => node.form(alloc, tables),
+        Expression::StringLiteral(node) => node.form(alloc, tables),
+        Expression::BinaryExpression(node) => node.form(alloc, tables),
+        Expression::LogicalExpression(node) => node.form(alloc, tables),
         Expression::ParenthesizedExpression(node) => node.expression.form(alloc, tables),
-        Expression::StaticMemberExpression(node) => static_member_expression_form(
-            alloc, tables, node,
-        ),
-        Expression::ComputedMemberExpression(node) => computed_member_expression_form(
-            alloc, tables, node,
-        ),
-        Expression::ChainExpression(node) => chain_expression_form(alloc, tables, node),
-        Expression::CallExpression(node) => call_expression_form(alloc, tables, node),
-        Expression::ArrayExpression(node) => array_expression_form(alloc, tables, node),
-        Expression::UnaryExpression(node) => unary_expression_form(alloc, tables, node),
-        Expression::UpdateExpression(node) => update_expression_form(alloc, tables, node),
-        Expression::NewExpression(node) => new_expression_form(alloc, tables, node),
+        Expression::StaticMemberExpression(node) => node.form(alloc, tables),
+        Expression::ComputedMemberExpression(node) => node.form(alloc, tables),
+        Expression::ChainExpression(node) => node.form(alloc, tables),
+        Expression::CallExpression(node) => node.form(alloc, tables),
+        Expression::ArrayExpression(node) => node.form(alloc, tables),
+        Expression::UnaryExpression(node) => node.form(alloc, tables),
+        Expression::UpdateExpression(node) => node.form(alloc, tables),
+        Expression::NewExpression(node) => node.form(alloc, tables),
         Expression::Super(_) => leaf(alloc, NodeType::Super, Values::None),
         Expression::NewTarget(_) => leaf(alloc, NodeType::NewTarget, Values::None),
-        Expression::ObjectExpression(node) => object_expression_form(alloc, tables, node),
-        Expression::ConditionalExpression(node) => conditional_expression_form(alloc, tables, node),
-        Expression::SequenceExpression(node) => sequence_expression_form(alloc, tables, node),
-        Expression::AssignmentExpression(node) => assignment_expression_form(alloc, tables, node),
-        Expression::Function(node) => function_form(alloc, tables, node),
-        Expression::ArrowFunctionExpression(node) => arrow_function_form(alloc, tables, node),
+        Expression::ObjectExpression(node) => node.form(alloc, tables),
+        Expression::ConditionalExpression(node) => node.form(alloc, tables),
+        Expression::SequenceExpression(node) => node.form(alloc, tables),
+        Expression::AssignmentExpression(node) => node.form(alloc, tables),
+        Expression::Function(node) => node.form(alloc, tables),
+        Expression::ArrowFunctionExpression(node) => node.form(alloc, tables),
     }
 }
 
@@ -570,8 +513,8 @@ fn declaration_form<N: NormalNode>(
     ensures { IfOk result (λ f. form_plain f ≡ normal (renamed (tables_plain tables.entry) (declaration_plain N.plain node.now))) }
 {
     match node {
-        Declaration::VariableDeclaration(node) => variable_declaration_form(alloc, tables, node),
-        Declaration::Function(node) => function_form(alloc, tables, node),
+        Declaration::VariableDeclaration(node) => node.form(alloc, tables),
+        Declaration::Function(node) => node.form(alloc, tables),
     }
 }
 
@@ -593,23 +536,23 @@ fn statement_form<N: NormalNode>(
             )
         }
         Statement::BlockStatement(node) => node.form(alloc, tables),
-        Statement::IfStatement(node) => if_statement_form(alloc, tables, node),
+        Statement::IfStatement(node) => node.form(alloc, tables),
         Statement::EmptyStatement(_) => leaf(alloc, NodeType::EmptyStatement, Values::None),
-        Statement::ForStatement(node) => for_statement_form(alloc, tables, node),
-        Statement::ForInStatement(node) => for_in_statement_form(alloc, tables, node),
-        Statement::ForOfStatement(node) => for_of_statement_form(alloc, tables, node),
-        Statement::WhileStatement(node) => while_statement_form(alloc, tables, node),
-        Statement::DoWhileStatement(node) => do_while_statement_form(alloc, tables, node),
-        Statement::LabeledStatement(node) => labeled_statement_form(alloc, tables, node),
-        Statement::ContinueStatement(node) => continue_statement_form(alloc, tables, node),
-        Statement::BreakStatement(node) => break_statement_form(alloc, tables, node),
-        Statement::ReturnStatement(node) => return_statement_form(alloc, tables, node),
+        Statement::ForStatement(node) => node.form(alloc, tables),
+        Statement::ForInStatement(node) => node.form(alloc, tables),
+        Statement::ForOfStatement(node) => node.form(alloc, tables),
+        Statement::WhileStatement(node) => node.form(alloc, tables),
+        Statement::DoWhileStatement(node) => node.form(alloc, tables),
+        Statement::LabeledStatement(node) => node.form(alloc, tables),
+        Statement::ContinueStatement(node) => node.form(alloc, tables),
+        Statement::BreakStatement(node) => node.form(alloc, tables),
+        Statement::ReturnStatement(node) => node.form(alloc, tables),
         Statement::ThrowStatement(node) => {
             single(alloc, tables, NodeType::ThrowStatement, &node.argument)
         }
         Statement::DebuggerStatement(_) => leaf(alloc, NodeType::DebuggerStatement, Values::None),
-        Statement::SwitchStatement(node) => switch_statement_form(alloc, tables, node),
-        Statement::TryStatement(node) => try_statement_form(alloc, tables, node),
+        Statement::SwitchStatement(node) => node.form(alloc, tables),
+        Statement::TryStatement(node) => node.form(alloc, tables),
     }
 }
 
@@ -621,7 +564,7 @@ fn binding_pattern_form(
     ensures { IfOk result (λ f. form_plain f ≡ normal (renamed (tables_plain tables.entry) (binding_pattern_plain node.now))) }
 {
     match node {
-        BindingPattern::BindingIdentifier(node) => { node.form(alloc, tables) }
+        BindingPattern::BindingIdentifier(node) => node.form(alloc, tables),
     }
 }
 

@@ -8,13 +8,18 @@ ghost use Rattle.jsgen_tree.specs.Values.{numeric_literal_kind};
 ghost use Rattle.jsgen_tree.specs.Inside.{is_negative_number};
 ghost use Rattle.jsgen_tree.specs.Plain.{node_plain};
 ghost use Rattle.jsgen_tree.specs.Rows.{numeric_literal_row, big_int_literal_row};
+ghost use Rattle.jsgen_tree.specs.Scoping.{tables_plain};
+ghost use Rattle.jsgen_model.specs.Renamed.{renamed};
 ghost use Rattle.jsgen_model.specs.Normal.{normal, named, by_text, number_text, minus_before};
 ghost use Rattle.jsgen_oracle.specs.Form.{form_plain, is_number};
 
+use crate::field::HasForm;
 use crate::form::{Form, Slot, Value};
 use crate::shape::{Values, leaf, row};
 use jsgen_syntax::{Memory, UnaryOperator};
-use jsgen_tree::{BigIntLiteral, Node, NodeType, NumericLiteral, NumericValue, behind_minus};
+use jsgen_tree::{
+    BigIntLiteral, Node, NodeType, NumericLiteral, NumericValue, Tables, behind_minus,
+};
 use std::alloc::Global;
 
 // The positive one, or an operation on it.
@@ -64,12 +69,14 @@ fn number_text(alloc: Global, node: &NumericLiteral) -> Result<String, Memory>
     }
 }
 
-pub fn numeric_literal_form(alloc: Global, node: &NumericLiteral) -> Result<Form, Memory>
-    ensures { IfOk result (λ f. form_plain f ≡ normal (numeric_literal_row node.now)) }
-{
-    let text = number_text(alloc, node)?;
-    let form = by_text(alloc, text)?;
-    minus_before(alloc, node.is_negative(), form)
+impl HasForm for NumericLiteral {
+    ghost plain = { numeric_literal_row };
+
+    fn form(&self, alloc: Global, tables: Tables<'_>) -> Result<Form, Memory> {
+        let text = number_text(alloc, self)?;
+        let form = by_text(alloc, text)?;
+        minus_before(alloc, self.is_negative(), form)
+    }
 }
 
 fn big_integer(alloc: Global, digits: &str) -> Result<Form, Memory>
@@ -83,16 +90,18 @@ fn big_integer(alloc: Global, digits: &str) -> Result<Form, Memory>
     )
 }
 
-pub fn big_int_literal_form(alloc: Global, node: &BigIntLiteral) -> Result<Form, Memory>
-    ensures { IfOk result (λ f. form_plain f ≡ normal (big_int_literal_row node.now)) }
-{
-    let value = node.value.as_str();
-    match behind_minus(value) {
-        Some(digits) => {
-            let form = big_integer(alloc, digits)?;
-            minus_before(alloc, true, form)
+impl HasForm for BigIntLiteral {
+    ghost plain = { big_int_literal_row };
+
+    fn form(&self, alloc: Global, tables: Tables<'_>) -> Result<Form, Memory> {
+        let value = self.value.as_str();
+        match behind_minus(value) {
+            Some(digits) => {
+                let form = big_integer(alloc, digits)?;
+                minus_before(alloc, true, form)
+            }
+            None => big_integer(alloc, value),
         }
-        None => big_integer(alloc, value),
     }
 }
 

@@ -13,7 +13,7 @@ ghost use Rattle.jsgen_oracle.specs.Field.{values_plain};
 
 use crate::field::{Field, HasForm, row_of_one, row_of_two};
 use crate::form::{Form, Value};
-use crate::normal::{NormalNode, spread_element_form};
+use crate::normal::NormalNode;
 use crate::shape::Values;
 use jsgen_syntax::Memory;
 use jsgen_tree::{
@@ -22,20 +22,18 @@ use jsgen_tree::{
 };
 use std::alloc::Global;
 
-pub(crate) fn object_expression_form<N: NormalNode>(
-    alloc: Global,
-    tables: Tables<'_>,
-    node: &ObjectExpression<N>,
-) -> Result<Form, Memory>
-    ensures { IfOk result (λ f. form_plain f ≡ normal (renamed (tables_plain tables.entry) (object_expression_row N.plain node.now))) }
-{
-    row_of_one(
-        alloc,
-        tables,
-        NodeType::ObjectExpression,
-        Values::None,
-        Field::Many(&node.properties),
-    )
+impl<N: NormalNode> HasForm for ObjectExpression<N> {
+    ghost plain = { object_expression_row N.plain };
+
+    fn form(&self, alloc: Global, tables: Tables<'_>) -> Result<Form, Memory> {
+        row_of_one(
+            alloc,
+            tables,
+            NodeType::ObjectExpression,
+            Values::None,
+            Field::Many(&self.properties),
+        )
+    }
 }
 
 impl<N: NormalNode> HasForm for ObjectPropertyKind<N> {
@@ -43,29 +41,27 @@ impl<N: NormalNode> HasForm for ObjectPropertyKind<N> {
 
     fn form(&self, alloc: Global, tables: Tables<'_>) -> Result<Form, Memory> {
         match self {
-            ObjectPropertyKind::ObjectProperty(node) => object_property_form(alloc, tables, node),
-            ObjectPropertyKind::SpreadElement(node) => spread_element_form(alloc, tables, node),
+            ObjectPropertyKind::ObjectProperty(node) => node.form(alloc, tables),
+            ObjectPropertyKind::SpreadElement(node) => node.form(alloc, tables),
         }
     }
 }
 
-#[tactic(auto, using(crate::proofs::Renamed::kept))]
-fn object_property_form<N: NormalNode>(
-    alloc: Global,
-    tables: Tables<'_>,
-    node: &ObjectProperty<N>,
-) -> Result<Form, Memory>
-    ensures { IfOk result (λ f. form_plain f ≡ normal (renamed (tables_plain tables.entry) (object_property_row N.plain node.now))) }
-{
-    let values = property_values(node);
-    row_of_two(
-        alloc,
-        tables,
-        NodeType::ObjectProperty,
-        values,
-        Field::One(&node.key),
-        Field::One(&node.value),
-    )
+impl<N: NormalNode> HasForm for ObjectProperty<N> {
+    ghost plain = { object_property_row N.plain };
+
+    #[tactic(auto, using(crate::proofs::Renamed::kept))]
+    fn form(&self, alloc: Global, tables: Tables<'_>) -> Result<Form, Memory> {
+        let values = property_values(self);
+        row_of_two(
+            alloc,
+            tables,
+            NodeType::ObjectProperty,
+            values,
+            Field::One(&self.key),
+            Field::One(&self.value),
+        )
+    }
 }
 
 fn property_values<N: NormalNode>(node: &ObjectProperty<N>) -> Values
