@@ -11,7 +11,7 @@ ghost use Rattle.jsgen_oracle.specs.Form.{form_plain, forms_plain};
 use crate::chain::{joined, links, parts};
 use crate::field::{Field, HasForm, row_of_one, row_of_three, row_of_two, single};
 use crate::form::{Form, Slot, Value};
-use crate::number_forms::is_negative_number;
+use crate::number_forms::is_number;
 use crate::shape::{Values, leaf, row};
 use jsgen_syntax::{LogicalOperator, Memory};
 use jsgen_tree::{
@@ -587,6 +587,10 @@ impl NormalNode for Node {
     }
 
     fn is_negative_number(&self) -> bool {
-        is_negative_number(self)
+        if is_number(self.node_type()) {
+            self.is_negative()
+        } else {
+            false
+        }
     }
 }

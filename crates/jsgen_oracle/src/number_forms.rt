@@ -5,8 +5,6 @@ ghost use Rattle.jsgen_tree.specs.Characters.{characters};
 ghost use Rattle.jsgen_tree.specs.Nodes.{numeric_literal, big_int_literal};
 ghost use Rattle.jsgen_tree.specs.Tree.{atoms_of};
 ghost use Rattle.jsgen_tree.specs.Values.{numeric_literal_kind};
-ghost use Rattle.jsgen_tree.specs.Inside.{is_negative_number};
-ghost use Rattle.jsgen_tree.specs.Plain.{node_plain};
 ghost use Rattle.jsgen_tree.specs.Rows.{numeric_literal_row, big_int_literal_row};
 ghost use Rattle.jsgen_tree.specs.Scoping.{tables_plain};
 ghost use Rattle.jsgen_model.specs.Renamed.{renamed};
@@ -17,9 +15,7 @@ use crate::field::HasForm;
 use crate::form::{Form, Slot, Value};
 use crate::shape::{Values, leaf, row};
 use jsgen_syntax::{Memory, UnaryOperator};
-use jsgen_tree::{
-    BigIntLiteral, Node, NodeType, NumericLiteral, NumericValue, Tables, behind_minus,
-};
+use jsgen_tree::{BigIntLiteral, NodeType, NumericLiteral, NumericValue, Tables, behind_minus};
 use std::alloc::Global;
 
 // The positive one, or an operation on it.
@@ -105,19 +101,9 @@ impl HasForm for BigIntLiteral {
     }
 }
 
-fn is_number(node_type: NodeType) -> bool
+/// Whether it is the type of numbers.
+pub fn is_number(node_type: NodeType) -> bool
     ensures { result ≡ is_number node_type }
 {
     matches!(node_type, NodeType::NumericLiteral)
-}
-
-/// Whether it is a number with a minus before it, and no parentheses are round it.
-pub fn is_negative_number(node: &Node) -> bool
-    ensures { result ≡ is_negative_number (node_plain node.now) }
-{
-    if is_number(node.node_type()) {
-        node.is_negative()
-    } else {
-        false
-    }
 }
