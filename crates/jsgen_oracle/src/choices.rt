@@ -6,21 +6,19 @@ ghost use Rattle.jsgen_model.specs.Renamed.{renamed};
 ghost use Rattle.jsgen_model.specs.Normal.{normal};
 ghost use Rattle.jsgen_oracle.specs.Form.{form_plain};
 
-use crate::field::{Field, HasForm, row_of_three, row_of_two};
+use crate::field::{Field, HasForm, Making, row_of_three, row_of_two};
 use crate::form::Form;
 use crate::normal::NormalNode;
 use crate::shape::Values;
 use jsgen_syntax::Memory;
-use jsgen_tree::{CatchClause, NodeType, SwitchCase, SwitchStatement, Tables, TryStatement};
-use std::alloc::Global;
+use jsgen_tree::{CatchClause, NodeType, SwitchCase, SwitchStatement, TryStatement};
 
 impl<N: NormalNode> HasForm for SwitchStatement<N> {
     ghost plain = { switch_statement_row N.plain };
 
-    fn form(&self, alloc: Global, tables: Tables<'_>) -> Result<Form, Memory> {
+    fn form(&self, making: &Making<'_>) -> Result<Form, Memory> {
         row_of_two(
-            alloc,
-            tables,
+            making,
             NodeType::SwitchStatement,
             Values::None,
             Field::One(&self.discriminant),
@@ -32,10 +30,9 @@ impl<N: NormalNode> HasForm for SwitchStatement<N> {
 impl<N: NormalNode> HasForm for SwitchCase<N> {
     ghost plain = { switch_case_row N.plain };
 
-    fn form(&self, alloc: Global, tables: Tables<'_>) -> Result<Form, Memory> {
+    fn form(&self, making: &Making<'_>) -> Result<Form, Memory> {
         row_of_two(
-            alloc,
-            tables,
+            making,
             NodeType::SwitchCase,
             Values::None,
             Field::Maybe(&self.test),
@@ -47,10 +44,9 @@ impl<N: NormalNode> HasForm for SwitchCase<N> {
 impl<N: NormalNode> HasForm for TryStatement<N> {
     ghost plain = { try_statement_row N.plain };
 
-    fn form(&self, alloc: Global, tables: Tables<'_>) -> Result<Form, Memory> {
+    fn form(&self, making: &Making<'_>) -> Result<Form, Memory> {
         row_of_three(
-            alloc,
-            tables,
+            making,
             NodeType::TryStatement,
             Values::None,
             Field::One(&self.block),
@@ -63,10 +59,9 @@ impl<N: NormalNode> HasForm for TryStatement<N> {
 impl<N: NormalNode> HasForm for CatchClause<N> {
     ghost plain = { catch_clause_row N.plain };
 
-    fn form(&self, alloc: Global, tables: Tables<'_>) -> Result<Form, Memory> {
+    fn form(&self, making: &Making<'_>) -> Result<Form, Memory> {
         row_of_two(
-            alloc,
-            tables,
+            making,
             NodeType::CatchClause,
             Values::None,
             Field::Maybe(&self.param),

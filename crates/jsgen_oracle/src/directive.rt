@@ -9,12 +9,12 @@ ghost use Rattle.jsgen_oracle.specs.Form.{form_plain};
 ghost use Rattle.jsgen_oracle.specs.Values.{items_of};
 
 use crate::characters::characters_of;
-use crate::field::HasForm;
+use crate::field::{HasForm, Making};
 use crate::form::{Form, Value};
 use crate::shape::{Values, leaf};
 use crate::string::string_value_of;
 use jsgen_syntax::{JsStr, Memory, Quote};
-use jsgen_tree::{Directive, NodeType, Tables};
+use jsgen_tree::{Directive, NodeType};
 use std::alloc::Global;
 
 /// The units of the directive that has this raw text between its quotes, `"` or else `'`, or none where the text spells
@@ -41,10 +41,14 @@ fn directive_units(alloc: Global, raw: &[char]) -> Result<Vec<u16>, Memory>
 impl HasForm for Directive {
     ghost plain = { directive_row };
 
-    fn form(&self, alloc: Global, tables: Tables<'_>) -> Result<Form, Memory> {
-        let raw = characters_of(alloc, &self.directive)?;
-        let units = directive_units(alloc, &raw)?;
-        let value = JsStr::from_units(alloc, &units)?;
-        leaf(alloc, NodeType::Directive, Values::One(Value::Units(value)))
+    fn form(&self, making: &Making<'_>) -> Result<Form, Memory> {
+        let raw = characters_of(making.alloc, &self.directive)?;
+        let units = directive_units(making.alloc, &raw)?;
+        let value = JsStr::from_units(making.alloc, &units)?;
+        leaf(
+            making.alloc,
+            NodeType::Directive,
+            Values::One(Value::Units(value)),
+        )
     }
 }

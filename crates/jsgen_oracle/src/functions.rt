@@ -6,25 +6,23 @@ ghost use Rattle.jsgen_model.specs.Renamed.{renamed};
 ghost use Rattle.jsgen_model.specs.Normal.{normal};
 ghost use Rattle.jsgen_oracle.specs.Form.{form_plain};
 
-use crate::field::{Field, HasForm, row_of_one, row_of_three, row_of_two};
+use crate::field::{Field, HasForm, Making, row_of_one, row_of_three, row_of_two};
 use crate::form::{Form, Value};
 use crate::normal::NormalNode;
 use crate::shape::Values;
 use jsgen_syntax::Memory;
 use jsgen_tree::{
     ArrowFunctionBody, ArrowFunctionExpression, FormalParameter, FormalParameterRest,
-    FormalParameters, Function, FunctionBody, NodeType, Tables,
+    FormalParameters, Function, FunctionBody, NodeType,
 };
-use std::alloc::Global;
 
 // Of the values only one counts so far: where the function stands.
 impl<N: NormalNode> HasForm for Function<N> {
     ghost plain = { function_row N.plain };
 
-    fn form(&self, alloc: Global, tables: Tables<'_>) -> Result<Form, Memory> {
+    fn form(&self, making: &Making<'_>) -> Result<Form, Memory> {
         row_of_three(
-            alloc,
-            tables,
+            making,
             NodeType::Function,
             Values::Six(
                 Value::FunctionKind(self.kind),
@@ -44,10 +42,9 @@ impl<N: NormalNode> HasForm for Function<N> {
 impl<N: NormalNode> HasForm for FunctionBody<N> {
     ghost plain = { function_body_row N.plain };
 
-    fn form(&self, alloc: Global, tables: Tables<'_>) -> Result<Form, Memory> {
+    fn form(&self, making: &Making<'_>) -> Result<Form, Memory> {
         row_of_two(
-            alloc,
-            tables,
+            making,
             NodeType::FunctionBody,
             Values::None,
             Field::Many(&self.directives),
@@ -59,10 +56,9 @@ impl<N: NormalNode> HasForm for FunctionBody<N> {
 impl<N: NormalNode> HasForm for ArrowFunctionExpression<N> {
     ghost plain = { arrow_function_expression_row N.plain };
 
-    fn form(&self, alloc: Global, tables: Tables<'_>) -> Result<Form, Memory> {
+    fn form(&self, making: &Making<'_>) -> Result<Form, Memory> {
         row_of_two(
-            alloc,
-            tables,
+            making,
             NodeType::ArrowFunctionExpression,
             Values::Three(Value::Nothing, Value::Nothing, Value::Nothing),
             Field::One(&self.params),
@@ -74,10 +70,10 @@ impl<N: NormalNode> HasForm for ArrowFunctionExpression<N> {
 impl<N: NormalNode> HasForm for ArrowFunctionBody<N> {
     ghost plain = { in_arrow_function_body N.plain };
 
-    fn form(&self, alloc: Global, tables: Tables<'_>) -> Result<Form, Memory> {
+    fn form(&self, making: &Making<'_>) -> Result<Form, Memory> {
         match self {
-            ArrowFunctionBody::FunctionBody(node) => node.form(alloc, tables),
-            ArrowFunctionBody::Expression(expression) => expression.form(alloc, tables),
+            ArrowFunctionBody::FunctionBody(node) => node.form(making),
+            ArrowFunctionBody::Expression(expression) => expression.form(making),
         }
     }
 }
@@ -85,10 +81,9 @@ impl<N: NormalNode> HasForm for ArrowFunctionBody<N> {
 impl<N: NormalNode> HasForm for FormalParameters<N> {
     ghost plain = { formal_parameters_row N.plain };
 
-    fn form(&self, alloc: Global, tables: Tables<'_>) -> Result<Form, Memory> {
+    fn form(&self, making: &Making<'_>) -> Result<Form, Memory> {
         row_of_two(
-            alloc,
-            tables,
+            making,
             NodeType::FormalParameters,
             Values::None,
             Field::Many(&self.items),
@@ -100,10 +95,9 @@ impl<N: NormalNode> HasForm for FormalParameters<N> {
 impl<N: NormalNode> HasForm for FormalParameter<N> {
     ghost plain = { formal_parameter_row N.plain };
 
-    fn form(&self, alloc: Global, tables: Tables<'_>) -> Result<Form, Memory> {
+    fn form(&self, making: &Making<'_>) -> Result<Form, Memory> {
         row_of_two(
-            alloc,
-            tables,
+            making,
             NodeType::FormalParameter,
             Values::Three(Value::Nothing, Value::Nothing, Value::Nothing),
             Field::One(&self.pattern),
@@ -115,10 +109,9 @@ impl<N: NormalNode> HasForm for FormalParameter<N> {
 impl<N: NormalNode> HasForm for FormalParameterRest<N> {
     ghost plain = { formal_parameter_rest_row N.plain };
 
-    fn form(&self, alloc: Global, tables: Tables<'_>) -> Result<Form, Memory> {
+    fn form(&self, making: &Making<'_>) -> Result<Form, Memory> {
         row_of_one(
-            alloc,
-            tables,
+            making,
             NodeType::FormalParameterRest,
             Values::None,
             Field::One(&self.argument),

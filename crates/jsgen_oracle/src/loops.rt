@@ -6,7 +6,7 @@ ghost use Rattle.jsgen_model.specs.Renamed.{renamed};
 ghost use Rattle.jsgen_model.specs.Normal.{normal};
 ghost use Rattle.jsgen_oracle.specs.Form.{form_plain};
 
-use crate::field::{Field, HasForm, row_of_four, row_of_one, row_of_three, row_of_two};
+use crate::field::{Field, HasForm, Making, row_of_one, row_of_three, row_of_two, with_field};
 use crate::form::{Form, Value};
 use crate::normal::NormalNode;
 use crate::shape::{Values, leaf};
@@ -14,33 +14,32 @@ use jsgen_syntax::Memory;
 use jsgen_tree::{
     BreakStatement, ContinueStatement, DoWhileStatement, ForInStatement, ForOfStatement,
     ForStatement, ForStatementInit, ForStatementLeft, LabelIdentifier, LabeledStatement, NodeType,
-    ReturnStatement, Tables, WhileStatement,
+    ReturnStatement, WhileStatement,
 };
-use std::alloc::Global;
 
 impl<N: NormalNode> HasForm for ForStatement<N> {
     ghost plain = { for_statement_row N.plain };
 
-    fn form(&self, alloc: Global, tables: Tables<'_>) -> Result<Form, Memory> {
-        row_of_four(
-            alloc,
-            tables,
+    fn form(&self, making: &Making<'_>) -> Result<Form, Memory> {
+        let form = row_of_three(
+            making,
             NodeType::ForStatement,
+            Values::None,
             Field::Maybe(&self.init),
             Field::Maybe(&self.test),
             Field::Maybe(&self.update),
-            Field::One(&self.body),
-        )
+        )?;
+        with_field(making, form, Field::One(&self.body))
     }
 }
 
 impl<N: NormalNode> HasForm for ForStatementInit<N> {
     ghost plain = { in_for_statement_init N.plain };
 
-    fn form(&self, alloc: Global, tables: Tables<'_>) -> Result<Form, Memory> {
+    fn form(&self, making: &Making<'_>) -> Result<Form, Memory> {
         match self {
-            ForStatementInit::VariableDeclaration(node) => node.form(alloc, tables),
-            ForStatementInit::Expression(expression) => expression.form(alloc, tables),
+            ForStatementInit::VariableDeclaration(node) => node.form(making),
+            ForStatementInit::Expression(expression) => expression.form(making),
         }
     }
 }
@@ -48,10 +47,9 @@ impl<N: NormalNode> HasForm for ForStatementInit<N> {
 impl<N: NormalNode> HasForm for ForInStatement<N> {
     ghost plain = { for_in_statement_row N.plain };
 
-    fn form(&self, alloc: Global, tables: Tables<'_>) -> Result<Form, Memory> {
+    fn form(&self, making: &Making<'_>) -> Result<Form, Memory> {
         row_of_three(
-            alloc,
-            tables,
+            making,
             NodeType::ForInStatement,
             Values::None,
             Field::One(&self.left),
@@ -64,10 +62,9 @@ impl<N: NormalNode> HasForm for ForInStatement<N> {
 impl<N: NormalNode> HasForm for ForOfStatement<N> {
     ghost plain = { for_of_statement_row N.plain };
 
-    fn form(&self, alloc: Global, tables: Tables<'_>) -> Result<Form, Memory> {
+    fn form(&self, making: &Making<'_>) -> Result<Form, Memory> {
         row_of_three(
-            alloc,
-            tables,
+            making,
             NodeType::ForOfStatement,
             Values::One(Value::Nothing),
             Field::One(&self.left),
@@ -80,12 +77,12 @@ impl<N: NormalNode> HasForm for ForOfStatement<N> {
 impl<N: NormalNode> HasForm for ForStatementLeft<N> {
     ghost plain = { in_for_statement_left N.plain };
 
-    fn form(&self, alloc: Global, tables: Tables<'_>) -> Result<Form, Memory> {
+    fn form(&self, making: &Making<'_>) -> Result<Form, Memory> {
         match self {
-            ForStatementLeft::VariableDeclaration(node) => node.form(alloc, tables),
-            ForStatementLeft::IdentifierReference(node) => node.form(alloc, tables),
-            ForStatementLeft::StaticMemberExpression(node) => node.form(alloc, tables),
-            ForStatementLeft::ComputedMemberExpression(node) => node.form(alloc, tables),
+            ForStatementLeft::VariableDeclaration(node) => node.form(making),
+            ForStatementLeft::IdentifierReference(node) => node.form(making),
+            ForStatementLeft::StaticMemberExpression(node) => node.form(making),
+            ForStatementLeft::ComputedMemberExpression(node) => node.form(making),
         }
     }
 }
@@ -93,10 +90,9 @@ impl<N: NormalNode> HasForm for ForStatementLeft<N> {
 impl<N: NormalNode> HasForm for WhileStatement<N> {
     ghost plain = { while_statement_row N.plain };
 
-    fn form(&self, alloc: Global, tables: Tables<'_>) -> Result<Form, Memory> {
+    fn form(&self, making: &Making<'_>) -> Result<Form, Memory> {
         row_of_two(
-            alloc,
-            tables,
+            making,
             NodeType::WhileStatement,
             Values::None,
             Field::One(&self.test),
@@ -108,10 +104,9 @@ impl<N: NormalNode> HasForm for WhileStatement<N> {
 impl<N: NormalNode> HasForm for DoWhileStatement<N> {
     ghost plain = { do_while_statement_row N.plain };
 
-    fn form(&self, alloc: Global, tables: Tables<'_>) -> Result<Form, Memory> {
+    fn form(&self, making: &Making<'_>) -> Result<Form, Memory> {
         row_of_two(
-            alloc,
-            tables,
+            making,
             NodeType::DoWhileStatement,
             Values::None,
             Field::One(&self.body),
@@ -125,10 +120,10 @@ impl<N: NormalNode> HasForm for DoWhileStatement<N> {
 impl HasForm for LabelIdentifier {
     ghost plain = { label_identifier_row };
 
-    fn form(&self, alloc: Global, tables: Tables<'_>) -> Result<Form, Memory> {
+    fn form(&self, making: &Making<'_>) -> Result<Form, Memory> {
         let name = self.name.clone()?;
         leaf(
-            alloc,
+            making.alloc,
             NodeType::LabelIdentifier,
             Values::One(Value::Text(name)),
         )
@@ -138,10 +133,9 @@ impl HasForm for LabelIdentifier {
 impl<N: NormalNode> HasForm for LabeledStatement<N> {
     ghost plain = { labeled_statement_row N.plain };
 
-    fn form(&self, alloc: Global, tables: Tables<'_>) -> Result<Form, Memory> {
+    fn form(&self, making: &Making<'_>) -> Result<Form, Memory> {
         row_of_two(
-            alloc,
-            tables,
+            making,
             NodeType::LabeledStatement,
             Values::None,
             Field::One(&self.label),
@@ -153,10 +147,9 @@ impl<N: NormalNode> HasForm for LabeledStatement<N> {
 impl HasForm for ContinueStatement {
     ghost plain = { continue_statement_row };
 
-    fn form(&self, alloc: Global, tables: Tables<'_>) -> Result<Form, Memory> {
+    fn form(&self, making: &Making<'_>) -> Result<Form, Memory> {
         row_of_one(
-            alloc,
-            tables,
+            making,
             NodeType::ContinueStatement,
             Values::None,
             Field::Maybe(&self.label),
@@ -167,10 +160,9 @@ impl HasForm for ContinueStatement {
 impl HasForm for BreakStatement {
     ghost plain = { break_statement_row };
 
-    fn form(&self, alloc: Global, tables: Tables<'_>) -> Result<Form, Memory> {
+    fn form(&self, making: &Making<'_>) -> Result<Form, Memory> {
         row_of_one(
-            alloc,
-            tables,
+            making,
             NodeType::BreakStatement,
             Values::None,
             Field::Maybe(&self.label),
@@ -181,10 +173,9 @@ impl HasForm for BreakStatement {
 impl<N: NormalNode> HasForm for ReturnStatement<N> {
     ghost plain = { return_statement_row N.plain };
 
-    fn form(&self, alloc: Global, tables: Tables<'_>) -> Result<Form, Memory> {
+    fn form(&self, making: &Making<'_>) -> Result<Form, Memory> {
         row_of_one(
-            alloc,
-            tables,
+            making,
             NodeType::ReturnStatement,
             Values::None,
             Field::Maybe(&self.argument),

@@ -10,11 +10,11 @@ ghost use Rattle.jsgen_model.specs.Renamed.{renamed};
 ghost use Rattle.jsgen_model.specs.Normal.{normal};
 ghost use Rattle.jsgen_oracle.specs.Form.{form_plain};
 
-use crate::field::HasForm;
+use crate::field::{HasForm, Making};
 use crate::form::{Form, Value};
 use crate::shape::{Values, leaf};
 use jsgen_syntax::Memory;
-use jsgen_tree::{BindingIdentifier, IdentifierReference, NodeType, Tables};
+use jsgen_tree::{BindingIdentifier, IdentifierReference, NodeType};
 use std::alloc::Global;
 
 fn identifier(alloc: Global, node_type: NodeType, name: &str) -> Result<Form, Memory>
@@ -31,17 +31,17 @@ fn identifier(alloc: Global, node_type: NodeType, name: &str) -> Result<Form, Me
 impl HasForm for IdentifierReference {
     ghost plain = { identifier_reference_row };
 
-    fn form(&self, alloc: Global, tables: Tables<'_>) -> Result<Form, Memory> {
-        let name = tables.reference_name(self.reference, &self.name);
-        identifier(alloc, NodeType::IdentifierReference, name)
+    fn form(&self, making: &Making<'_>) -> Result<Form, Memory> {
+        let name = making.tables.reference_name(self.reference, &self.name);
+        identifier(making.alloc, NodeType::IdentifierReference, name)
     }
 }
 
 impl HasForm for BindingIdentifier {
     ghost plain = { binding_identifier_row };
 
-    fn form(&self, alloc: Global, tables: Tables<'_>) -> Result<Form, Memory> {
-        let name = tables.binding_name(self.symbol, &self.name);
-        identifier(alloc, NodeType::BindingIdentifier, name)
+    fn form(&self, making: &Making<'_>) -> Result<Form, Memory> {
+        let name = making.tables.binding_name(self.symbol, &self.name);
+        identifier(making.alloc, NodeType::BindingIdentifier, name)
     }
 }

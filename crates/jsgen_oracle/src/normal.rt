@@ -9,7 +9,7 @@ ghost use Rattle.jsgen_model.specs.Normal.{normal, normal_trees, joined, links, 
 ghost use Rattle.jsgen_oracle.specs.Form.{form_plain, forms_plain};
 
 use crate::chain::{joined, links, parts};
-use crate::field::{Field, HasForm, row_of_one, row_of_three, row_of_two, single};
+use crate::field::{Field, HasForm, Making, row_of_one, row_of_three, row_of_two, single};
 use crate::form::{Form, Slot, Value};
 use crate::number_forms::is_number;
 use crate::shape::{Values, leaf, row};
@@ -20,10 +20,9 @@ use jsgen_tree::{
     ChainExpression, ComputedMemberExpression, ConditionalExpression, Declaration, Directive,
     Expression, ExpressionNode, IdentifierName, IfStatement, LogicalExpression, NewExpression,
     Node, NodeType, Program, SequenceExpression, SimpleAssignmentTarget, SpreadElement, Statement,
-    StaticMemberExpression, StringLiteral, Tables, UnaryExpression, UpdateExpression,
-    VariableDeclaration, VariableDeclarator,
+    StaticMemberExpression, StringLiteral, UnaryExpression, UpdateExpression, VariableDeclaration,
+    VariableDeclarator,
 };
-use std::alloc::Global;
 
 /// What the normal form asks of a child. Only `Node` implements it.
 pub trait NormalNode {
@@ -36,8 +35,8 @@ pub trait NormalNode {
 
     ghost plain: { Self → Tree };
 
-    fn normal_form(&self, alloc: Global, tables: Tables<'_>) -> Result<Form, Memory>
-        ensures { IfOk result (λ f. form_plain f ≡ normal (renamed (tables_plain tables.entry) (plain self.now))) };
+    fn normal_form(&self, making: &Making<'_>) -> Result<Form, Memory>
+        ensures { IfOk result (λ f. form_plain f ≡ normal (renamed (tables_plain making.now.tables) (plain self.now))) };
 
     /// The name that stands there as it is written.
     fn written_name(&self) -> Option<&str>
@@ -50,16 +49,11 @@ pub trait NormalNode {
 
 // ---- programs and statements
 
-pub fn program_form<N: NormalNode>(
-    alloc: Global,
-    tables: Tables<'_>,
-    node: &Program<N>,
-) -> Result<Form, Memory>
-    ensures { IfOk result (λ f. form_plain f ≡ normal (renamed (tables_plain tables.entry) (program_row N.plain node.now))) }
+pub fn program_form<N: NormalNode>(making: &Making<'_>, node: &Program<N>) -> Result<Form, Memory>
+    ensures { IfOk result (λ f. form_plain f ≡ normal (renamed (tables_plain making.now.tables) (program_row N.plain node.now))) }
 {
     row_of_three(
-        alloc,
-        tables,
+        making,
         NodeType::Program,
         Values::Four(
             Value::Nothing,
@@ -76,10 +70,9 @@ pub fn program_form<N: NormalNode>(
 impl<N: NormalNode> HasForm for BlockStatement<N> {
     ghost plain = { block_statement_row N.plain };
 
-    fn form(&self, alloc: Global, tables: Tables<'_>) -> Result<Form, Memory> {
+    fn form(&self, making: &Making<'_>) -> Result<Form, Memory> {
         row_of_one(
-            alloc,
-            tables,
+            making,
             NodeType::BlockStatement,
             Values::None,
             Field::Many(&self.body),
@@ -90,10 +83,9 @@ impl<N: NormalNode> HasForm for BlockStatement<N> {
 impl<N: NormalNode> HasForm for IfStatement<N> {
     ghost plain = { if_statement_row N.plain };
 
-    fn form(&self, alloc: Global, tables: Tables<'_>) -> Result<Form, Memory> {
+    fn form(&self, making: &Making<'_>) -> Result<Form, Memory> {
         row_of_three(
-            alloc,
-            tables,
+            making,
             NodeType::IfStatement,
             Values::None,
             Field::One(&self.test),
@@ -106,10 +98,9 @@ impl<N: NormalNode> HasForm for IfStatement<N> {
 impl<N: NormalNode> HasForm for VariableDeclaration<N> {
     ghost plain = { variable_declaration_row N.plain };
 
-    fn form(&self, alloc: Global, tables: Tables<'_>) -> Result<Form, Memory> {
+    fn form(&self, making: &Making<'_>) -> Result<Form, Memory> {
         row_of_one(
-            alloc,
-            tables,
+            making,
             NodeType::VariableDeclaration,
             Values::Two(Value::DeclarationKind(self.kind), Value::Nothing),
             Field::Many(&self.declarations),
@@ -120,10 +111,9 @@ impl<N: NormalNode> HasForm for VariableDeclaration<N> {
 impl<N: NormalNode> HasForm for VariableDeclarator<N> {
     ghost plain = { variable_declarator_row N.plain };
 
-    fn form(&self, alloc: Global, tables: Tables<'_>) -> Result<Form, Memory> {
+    fn form(&self, making: &Making<'_>) -> Result<Form, Memory> {
         row_of_two(
-            alloc,
-            tables,
+            making,
             NodeType::VariableDeclarator,
             Values::One(Value::Nothing),
             Field::One(&self.id),
@@ -137,10 +127,10 @@ impl<N: NormalNode> HasForm for VariableDeclarator<N> {
 impl HasForm for StringLiteral {
     ghost plain = { string_literal_row };
 
-    fn form(&self, alloc: Global, tables: Tables<'_>) -> Result<Form, Memory> {
+    fn form(&self, making: &Making<'_>) -> Result<Form, Memory> {
         let value = self.value.try_clone()?;
         leaf(
-            alloc,
+            making.alloc,
             NodeType::StringLiteral,
             Values::One(Value::Units(value)),
         )
@@ -150,10 +140,9 @@ impl HasForm for StringLiteral {
 impl<N: NormalNode> HasForm for BinaryExpression<N> {
     ghost plain = { binary_expression_row N.plain };
 
-    fn form(&self, alloc: Global, tables: Tables<'_>) -> Result<Form, Memory> {
+    fn form(&self, making: &Making<'_>) -> Result<Form, Memory> {
         row_of_two(
-            alloc,
-            tables,
+            making,
             NodeType::BinaryExpression,
             Values::One(Value::BinaryOperator(self.operator)),
             Field::One(&self.left),
@@ -165,10 +154,10 @@ impl<N: NormalNode> HasForm for BinaryExpression<N> {
 impl<N: NormalNode> HasForm for LogicalExpression<N> {
     ghost plain = { logical_expression_row N.plain };
 
-    fn form(&self, alloc: Global, tables: Tables<'_>) -> Result<Form, Memory> {
-        let operands = chain_of(alloc, tables, self)?;
+    fn form(&self, making: &Making<'_>) -> Result<Form, Memory> {
+        let operands = chain_of(making, self)?;
         row(
-            alloc,
+            making.alloc,
             NodeType::LogicalExpression,
             Values::One(Value::LogicalOperator(self.operator)),
             Slot::Many(operands),
@@ -177,37 +166,35 @@ impl<N: NormalNode> HasForm for LogicalExpression<N> {
 }
 
 fn chain_of<N: NormalNode>(
-    alloc: Global,
-    tables: Tables<'_>,
+    making: &Making<'_>,
     node: &LogicalExpression<N>,
 ) -> Result<Vec<Form>, Memory>
-    ensures { IfOk result (λ fs. forms_plain fs.items ≡ joined (links node.now.operator (normal (renamed (tables_plain tables.entry) (in_expression N.plain node.now.left)))) (links node.now.operator (normal (renamed (tables_plain tables.entry) (in_expression N.plain node.now.right))))) }
+    ensures { IfOk result (λ fs. forms_plain fs.items ≡ joined (links node.now.operator (normal (renamed (tables_plain making.now.tables) (in_expression N.plain node.now.left)))) (links node.now.operator (normal (renamed (tables_plain making.now.tables) (in_expression N.plain node.now.right))))) }
 {
-    let left = operands_of(alloc, tables, node.operator, &node.left)?;
-    let right = operands_of(alloc, tables, node.operator, &node.right)?;
+    let left = operands_of(making, node.operator, &node.left)?;
+    let right = operands_of(making, node.operator, &node.right)?;
     joined(left, right)
 }
 
 // What an operand adds to a chain of the operator.
 fn operands_of<N: NormalNode>(
-    alloc: Global,
-    tables: Tables<'_>,
+    making: &Making<'_>,
     operator: LogicalOperator,
     operand: &ExpressionNode<N>,
 ) -> Result<Vec<Form>, Memory>
-    ensures { IfOk result (λ fs. forms_plain fs.items ≡ links operator (normal (renamed (tables_plain tables.entry) (in_expression N.plain operand.now)))) }
+    ensures { IfOk result (λ fs. forms_plain fs.items ≡ links operator (normal (renamed (tables_plain making.now.tables) (in_expression N.plain operand.now)))) }
 {
-    let form = operand.form(alloc, tables)?;
-    links(alloc, operator, form)
+    let form = operand.form(making)?;
+    links(making.alloc, operator, form)
 }
 
 impl HasForm for IdentifierName {
     ghost plain = { identifier_name_row };
 
-    fn form(&self, alloc: Global, tables: Tables<'_>) -> Result<Form, Memory> {
+    fn form(&self, making: &Making<'_>) -> Result<Form, Memory> {
         let name = self.name.clone()?;
         leaf(
-            alloc,
+            making.alloc,
             NodeType::IdentifierName,
             Values::One(Value::Text(name)),
         )
@@ -217,10 +204,9 @@ impl HasForm for IdentifierName {
 impl<N: NormalNode> HasForm for StaticMemberExpression<N> {
     ghost plain = { static_member_expression_row N.plain };
 
-    fn form(&self, alloc: Global, tables: Tables<'_>) -> Result<Form, Memory> {
+    fn form(&self, making: &Making<'_>) -> Result<Form, Memory> {
         row_of_two(
-            alloc,
-            tables,
+            making,
             NodeType::StaticMemberExpression,
             Values::One(Value::Flag(self.optional)),
             Field::One(&self.object),
@@ -232,10 +218,9 @@ impl<N: NormalNode> HasForm for StaticMemberExpression<N> {
 impl<N: NormalNode> HasForm for CallExpression<N> {
     ghost plain = { call_expression_row N.plain };
 
-    fn form(&self, alloc: Global, tables: Tables<'_>) -> Result<Form, Memory> {
+    fn form(&self, making: &Making<'_>) -> Result<Form, Memory> {
         row_of_two(
-            alloc,
-            tables,
+            making,
             NodeType::CallExpression,
             Values::Two(Value::Flag(self.optional), Value::Nothing),
             Field::One(&self.callee),
@@ -247,10 +232,9 @@ impl<N: NormalNode> HasForm for CallExpression<N> {
 impl<N: NormalNode> HasForm for ConditionalExpression<N> {
     ghost plain = { conditional_expression_row N.plain };
 
-    fn form(&self, alloc: Global, tables: Tables<'_>) -> Result<Form, Memory> {
+    fn form(&self, making: &Making<'_>) -> Result<Form, Memory> {
         row_of_three(
-            alloc,
-            tables,
+            making,
             NodeType::ConditionalExpression,
             Values::None,
             Field::One(&self.test),
@@ -263,10 +247,10 @@ impl<N: NormalNode> HasForm for ConditionalExpression<N> {
 impl<N: NormalNode> HasForm for SequenceExpression<N> {
     ghost plain = { sequence_expression_row N.plain };
 
-    fn form(&self, alloc: Global, tables: Tables<'_>) -> Result<Form, Memory> {
-        let forms = part_forms(alloc, tables, &self.expressions)?;
+    fn form(&self, making: &Making<'_>) -> Result<Form, Memory> {
+        let forms = part_forms(making, &self.expressions)?;
         row(
-            alloc,
+            making.alloc,
             NodeType::SequenceExpression,
             Values::None,
             Slot::Many(forms),
@@ -275,16 +259,15 @@ impl<N: NormalNode> HasForm for SequenceExpression<N> {
 }
 
 fn part_forms<N: NormalNode>(
-    alloc: Global,
-    tables: Tables<'_>,
+    making: &Making<'_>,
     expressions: &[ExpressionNode<N>],
 ) -> Result<Vec<Form>, Memory>
-    ensures { IfOk result (λ fs. forms_plain fs.items ≡ flattened (normal_trees (renamed_trees (tables_plain tables.entry) (trees (map (in_expression N.plain) expressions.now))))) }
+    ensures { IfOk result (λ fs. forms_plain fs.items ≡ flattened (normal_trees (renamed_trees (tables_plain making.now.tables) (trees (map (in_expression N.plain) expressions.now))))) }
 {
-    let mut forms = Vec::new(alloc);
+    let mut forms = Vec::new(making.alloc);
     for expression in expressions {
-        let form = expression.form(alloc, tables)?;
-        let mut added = parts(alloc, form)?;
+        let form = expression.form(making)?;
+        let mut added = parts(making.alloc, form)?;
         forms.append(&mut added)?;
     }
     Ok(forms)
@@ -293,10 +276,9 @@ fn part_forms<N: NormalNode>(
 impl<N: NormalNode> HasForm for ComputedMemberExpression<N> {
     ghost plain = { computed_member_expression_row N.plain };
 
-    fn form(&self, alloc: Global, tables: Tables<'_>) -> Result<Form, Memory> {
+    fn form(&self, making: &Making<'_>) -> Result<Form, Memory> {
         row_of_two(
-            alloc,
-            tables,
+            making,
             NodeType::ComputedMemberExpression,
             Values::One(Value::Flag(self.optional)),
             Field::One(&self.object),
@@ -308,10 +290,9 @@ impl<N: NormalNode> HasForm for ComputedMemberExpression<N> {
 impl<N: NormalNode> HasForm for ChainExpression<N> {
     ghost plain = { chain_expression_row N.plain };
 
-    fn form(&self, alloc: Global, tables: Tables<'_>) -> Result<Form, Memory> {
+    fn form(&self, making: &Making<'_>) -> Result<Form, Memory> {
         row_of_one(
-            alloc,
-            tables,
+            making,
             NodeType::ChainExpression,
             Values::None,
             Field::One(&self.expression),
@@ -322,11 +303,11 @@ impl<N: NormalNode> HasForm for ChainExpression<N> {
 impl<N: NormalNode> HasForm for ChainElement<N> {
     ghost plain = { in_chain_element N.plain };
 
-    fn form(&self, alloc: Global, tables: Tables<'_>) -> Result<Form, Memory> {
+    fn form(&self, making: &Making<'_>) -> Result<Form, Memory> {
         match self {
-            ChainElement::StaticMemberExpression(node) => node.form(alloc, tables),
-            ChainElement::ComputedMemberExpression(node) => node.form(alloc, tables),
-            ChainElement::CallExpression(node) => node.form(alloc, tables),
+            ChainElement::StaticMemberExpression(node) => node.form(making),
+            ChainElement::ComputedMemberExpression(node) => node.form(making),
+            ChainElement::CallExpression(node) => node.form(making),
         }
     }
 }
@@ -334,10 +315,9 @@ impl<N: NormalNode> HasForm for ChainElement<N> {
 impl<N: NormalNode> HasForm for UnaryExpression<N> {
     ghost plain = { unary_expression_row N.plain };
 
-    fn form(&self, alloc: Global, tables: Tables<'_>) -> Result<Form, Memory> {
+    fn form(&self, making: &Making<'_>) -> Result<Form, Memory> {
         row_of_one(
-            alloc,
-            tables,
+            making,
             NodeType::UnaryExpression,
             Values::One(Value::UnaryOperator(self.operator)),
             Field::One(&self.argument),
@@ -348,10 +328,9 @@ impl<N: NormalNode> HasForm for UnaryExpression<N> {
 impl<N: NormalNode> HasForm for UpdateExpression<N> {
     ghost plain = { update_expression_row N.plain };
 
-    fn form(&self, alloc: Global, tables: Tables<'_>) -> Result<Form, Memory> {
+    fn form(&self, making: &Making<'_>) -> Result<Form, Memory> {
         row_of_one(
-            alloc,
-            tables,
+            making,
             NodeType::UpdateExpression,
             Values::Two(
                 Value::UpdateOperator(self.operator),
@@ -365,10 +344,9 @@ impl<N: NormalNode> HasForm for UpdateExpression<N> {
 impl<N: NormalNode> HasForm for AssignmentExpression<N> {
     ghost plain = { assignment_expression_row N.plain };
 
-    fn form(&self, alloc: Global, tables: Tables<'_>) -> Result<Form, Memory> {
+    fn form(&self, making: &Making<'_>) -> Result<Form, Memory> {
         row_of_two(
-            alloc,
-            tables,
+            making,
             NodeType::AssignmentExpression,
             Values::One(Value::AssignmentOperator(self.operator)),
             Field::One(&self.left),
@@ -380,11 +358,11 @@ impl<N: NormalNode> HasForm for AssignmentExpression<N> {
 impl<N: NormalNode> HasForm for AssignmentTarget<N> {
     ghost plain = { in_assignment_target N.plain };
 
-    fn form(&self, alloc: Global, tables: Tables<'_>) -> Result<Form, Memory> {
+    fn form(&self, making: &Making<'_>) -> Result<Form, Memory> {
         match self {
-            AssignmentTarget::IdentifierReference(node) => node.form(alloc, tables),
-            AssignmentTarget::StaticMemberExpression(node) => node.form(alloc, tables),
-            AssignmentTarget::ComputedMemberExpression(node) => node.form(alloc, tables),
+            AssignmentTarget::IdentifierReference(node) => node.form(making),
+            AssignmentTarget::StaticMemberExpression(node) => node.form(making),
+            AssignmentTarget::ComputedMemberExpression(node) => node.form(making),
         }
     }
 }
@@ -392,11 +370,11 @@ impl<N: NormalNode> HasForm for AssignmentTarget<N> {
 impl<N: NormalNode> HasForm for SimpleAssignmentTarget<N> {
     ghost plain = { in_simple_assignment_target N.plain };
 
-    fn form(&self, alloc: Global, tables: Tables<'_>) -> Result<Form, Memory> {
+    fn form(&self, making: &Making<'_>) -> Result<Form, Memory> {
         match self {
-            SimpleAssignmentTarget::IdentifierReference(node) => node.form(alloc, tables),
-            SimpleAssignmentTarget::StaticMemberExpression(node) => node.form(alloc, tables),
-            SimpleAssignmentTarget::ComputedMemberExpression(node) => node.form(alloc, tables),
+            SimpleAssignmentTarget::IdentifierReference(node) => node.form(making),
+            SimpleAssignmentTarget::StaticMemberExpression(node) => node.form(making),
+            SimpleAssignmentTarget::ComputedMemberExpression(node) => node.form(making),
         }
     }
 }
@@ -404,10 +382,9 @@ impl<N: NormalNode> HasForm for SimpleAssignmentTarget<N> {
 impl<N: NormalNode> HasForm for NewExpression<N> {
     ghost plain = { new_expression_row N.plain };
 
-    fn form(&self, alloc: Global, tables: Tables<'_>) -> Result<Form, Memory> {
+    fn form(&self, making: &Making<'_>) -> Result<Form, Memory> {
         row_of_two(
-            alloc,
-            tables,
+            making,
             NodeType::NewExpression,
             Values::One(Value::Nothing),
             Field::One(&self.callee),
@@ -419,10 +396,10 @@ impl<N: NormalNode> HasForm for NewExpression<N> {
 impl<N: NormalNode> HasForm for Argument<N> {
     ghost plain = { in_argument N.plain };
 
-    fn form(&self, alloc: Global, tables: Tables<'_>) -> Result<Form, Memory> {
+    fn form(&self, making: &Making<'_>) -> Result<Form, Memory> {
         match self {
-            Argument::SpreadElement(node) => node.form(alloc, tables),
-            Argument::Expression(expression) => expression.form(alloc, tables),
+            Argument::SpreadElement(node) => node.form(making),
+            Argument::Expression(expression) => expression.form(making),
         }
     }
 }
@@ -430,18 +407,17 @@ impl<N: NormalNode> HasForm for Argument<N> {
 impl<N: NormalNode> HasForm for SpreadElement<N> {
     ghost plain = { spread_element_row N.plain };
 
-    fn form(&self, alloc: Global, tables: Tables<'_>) -> Result<Form, Memory> {
-        single(alloc, tables, NodeType::SpreadElement, &self.argument)
+    fn form(&self, making: &Making<'_>) -> Result<Form, Memory> {
+        single(making, NodeType::SpreadElement, &self.argument)
     }
 }
 
 impl<N: NormalNode> HasForm for ArrayExpression<N> {
     ghost plain = { array_expression_row N.plain };
 
-    fn form(&self, alloc: Global, tables: Tables<'_>) -> Result<Form, Memory> {
+    fn form(&self, making: &Making<'_>) -> Result<Form, Memory> {
         row_of_one(
-            alloc,
-            tables,
+            making,
             NodeType::ArrayExpression,
             Values::None,
             Field::Holed(&self.elements),
@@ -452,119 +428,105 @@ impl<N: NormalNode> HasForm for ArrayExpression<N> {
 impl<N: NormalNode> HasForm for ArrayExpressionElement<N> {
     ghost plain = { in_array_expression_element N.plain };
 
-    fn form(&self, alloc: Global, tables: Tables<'_>) -> Result<Form, Memory> {
+    fn form(&self, making: &Making<'_>) -> Result<Form, Memory> {
         match self {
-            ArrayExpressionElement::SpreadElement(node) => node.form(alloc, tables),
-            ArrayExpressionElement::Expression(expression) => expression.form(alloc, tables),
+            ArrayExpressionElement::SpreadElement(node) => node.form(making),
+            ArrayExpressionElement::Expression(expression) => expression.form(making),
         }
     }
 }
 
 // ---- sets; a row that the normal form only copies is an arm
 
-fn expression_form<N: NormalNode>(
-    alloc: Global,
-    tables: Tables<'_>,
-    node: &Expression<N>,
-) -> Result<Form, Memory>
-    ensures { IfOk result (λ f. form_plain f ≡ normal (renamed (tables_plain tables.entry) (expression_plain N.plain node.now))) }
+fn expression_form<N: NormalNode>(making: &Making<'_>, node: &Expression<N>) -> Result<Form, Memory>
+    ensures { IfOk result (λ f. form_plain f ≡ normal (renamed (tables_plain making.now.tables) (expression_plain N.plain node.now))) }
 {
     match node {
-        Expression::IdentifierReference(node) => node.form(alloc, tables),
-        Expression::ThisExpression(_) => leaf(alloc, NodeType::ThisExpression, Values::None),
-        Expression::NullLiteral(_) => leaf(alloc, NodeType::NullLiteral, Values::None),
+        Expression::IdentifierReference(node) => node.form(making),
+        Expression::ThisExpression(_) => leaf(making.alloc, NodeType::ThisExpression, Values::None),
+        Expression::NullLiteral(_) => leaf(making.alloc, NodeType::NullLiteral, Values::None),
         Expression::BooleanLiteral(node) => {
             leaf(
-                alloc,
+                making.alloc,
                 NodeType::BooleanLiteral,
                 Values::One(Value::Flag(node.value)),
             )
         }
-        Expression::NumericLiteral(node) => node.form(alloc, tables),
-        Expression::BigIntLiteral(node) => node.form(alloc, tables),
-        Expression::StringLiteral(node) => node.form(alloc, tables),
-        Expression::BinaryExpression(node) => node.form(alloc, tables),
-        Expression::LogicalExpression(node) => node.form(alloc, tables),
-        Expression::ParenthesizedExpression(node) => node.expression.form(alloc, tables),
-        Expression::StaticMemberExpression(node) => node.form(alloc, tables),
-        Expression::ComputedMemberExpression(node) => node.form(alloc, tables),
-        Expression::ChainExpression(node) => node.form(alloc, tables),
-        Expression::CallExpression(node) => node.form(alloc, tables),
-        Expression::ArrayExpression(node) => node.form(alloc, tables),
-        Expression::UnaryExpression(node) => node.form(alloc, tables),
-        Expression::UpdateExpression(node) => node.form(alloc, tables),
-        Expression::NewExpression(node) => node.form(alloc, tables),
-        Expression::Super(_) => leaf(alloc, NodeType::Super, Values::None),
-        Expression::NewTarget(_) => leaf(alloc, NodeType::NewTarget, Values::None),
-        Expression::ObjectExpression(node) => node.form(alloc, tables),
-        Expression::ConditionalExpression(node) => node.form(alloc, tables),
-        Expression::SequenceExpression(node) => node.form(alloc, tables),
-        Expression::AssignmentExpression(node) => node.form(alloc, tables),
-        Expression::Function(node) => node.form(alloc, tables),
-        Expression::ArrowFunctionExpression(node) => node.form(alloc, tables),
+        Expression::NumericLiteral(node) => node.form(making),
+        Expression::BigIntLiteral(node) => node.form(making),
+        Expression::StringLiteral(node) => node.form(making),
+        Expression::BinaryExpression(node) => node.form(making),
+        Expression::LogicalExpression(node) => node.form(making),
+        Expression::ParenthesizedExpression(node) => node.expression.form(making),
+        Expression::StaticMemberExpression(node) => node.form(making),
+        Expression::ComputedMemberExpression(node) => node.form(making),
+        Expression::ChainExpression(node) => node.form(making),
+        Expression::CallExpression(node) => node.form(making),
+        Expression::ArrayExpression(node) => node.form(making),
+        Expression::UnaryExpression(node) => node.form(making),
+        Expression::UpdateExpression(node) => node.form(making),
+        Expression::NewExpression(node) => node.form(making),
+        Expression::Super(_) => leaf(making.alloc, NodeType::Super, Values::None),
+        Expression::NewTarget(_) => leaf(making.alloc, NodeType::NewTarget, Values::None),
+        Expression::ObjectExpression(node) => node.form(making),
+        Expression::ConditionalExpression(node) => node.form(making),
+        Expression::SequenceExpression(node) => node.form(making),
+        Expression::AssignmentExpression(node) => node.form(making),
+        Expression::Function(node) => node.form(making),
+        Expression::ArrowFunctionExpression(node) => node.form(making),
     }
 }
 
 fn declaration_form<N: NormalNode>(
-    alloc: Global,
-    tables: Tables<'_>,
+    making: &Making<'_>,
     node: &Declaration<N>,
 ) -> Result<Form, Memory>
-    ensures { IfOk result (λ f. form_plain f ≡ normal (renamed (tables_plain tables.entry) (declaration_plain N.plain node.now))) }
+    ensures { IfOk result (λ f. form_plain f ≡ normal (renamed (tables_plain making.now.tables) (declaration_plain N.plain node.now))) }
 {
     match node {
-        Declaration::VariableDeclaration(node) => node.form(alloc, tables),
-        Declaration::Function(node) => node.form(alloc, tables),
+        Declaration::VariableDeclaration(node) => node.form(making),
+        Declaration::Function(node) => node.form(making),
     }
 }
 
-fn statement_form<N: NormalNode>(
-    alloc: Global,
-    tables: Tables<'_>,
-    node: &Statement<N>,
-) -> Result<Form, Memory>
-    ensures { IfOk result (λ f. form_plain f ≡ normal (renamed (tables_plain tables.entry) (statement_plain N.plain node.now))) }
+fn statement_form<N: NormalNode>(making: &Making<'_>, node: &Statement<N>) -> Result<Form, Memory>
+    ensures { IfOk result (λ f. form_plain f ≡ normal (renamed (tables_plain making.now.tables) (statement_plain N.plain node.now))) }
 {
     match node {
-        Statement::Declaration(declaration) => declaration.get().normal_form(alloc, tables),
+        Statement::Declaration(declaration) => declaration.get().normal_form(making),
         Statement::ExpressionStatement(node) => {
-            single(
-                alloc,
-                tables,
-                NodeType::ExpressionStatement,
-                &node.expression,
-            )
+            single(making, NodeType::ExpressionStatement, &node.expression)
         }
-        Statement::BlockStatement(node) => node.form(alloc, tables),
-        Statement::IfStatement(node) => node.form(alloc, tables),
-        Statement::EmptyStatement(_) => leaf(alloc, NodeType::EmptyStatement, Values::None),
-        Statement::ForStatement(node) => node.form(alloc, tables),
-        Statement::ForInStatement(node) => node.form(alloc, tables),
-        Statement::ForOfStatement(node) => node.form(alloc, tables),
-        Statement::WhileStatement(node) => node.form(alloc, tables),
-        Statement::DoWhileStatement(node) => node.form(alloc, tables),
-        Statement::LabeledStatement(node) => node.form(alloc, tables),
-        Statement::ContinueStatement(node) => node.form(alloc, tables),
-        Statement::BreakStatement(node) => node.form(alloc, tables),
-        Statement::ReturnStatement(node) => node.form(alloc, tables),
+        Statement::BlockStatement(node) => node.form(making),
+        Statement::IfStatement(node) => node.form(making),
+        Statement::EmptyStatement(_) => leaf(making.alloc, NodeType::EmptyStatement, Values::None),
+        Statement::ForStatement(node) => node.form(making),
+        Statement::ForInStatement(node) => node.form(making),
+        Statement::ForOfStatement(node) => node.form(making),
+        Statement::WhileStatement(node) => node.form(making),
+        Statement::DoWhileStatement(node) => node.form(making),
+        Statement::LabeledStatement(node) => node.form(making),
+        Statement::ContinueStatement(node) => node.form(making),
+        Statement::BreakStatement(node) => node.form(making),
+        Statement::ReturnStatement(node) => node.form(making),
         Statement::ThrowStatement(node) => {
-            single(alloc, tables, NodeType::ThrowStatement, &node.argument)
+            single(making, NodeType::ThrowStatement, &node.argument)
         }
-        Statement::DebuggerStatement(_) => leaf(alloc, NodeType::DebuggerStatement, Values::None),
-        Statement::SwitchStatement(node) => node.form(alloc, tables),
-        Statement::TryStatement(node) => node.form(alloc, tables),
+        Statement::DebuggerStatement(_) => leaf(
+            making.alloc,
+            NodeType::DebuggerStatement,
+            Values::None,
+        ),
+        Statement::SwitchStatement(node) => node.form(making),
+        Statement::TryStatement(node) => node.form(making),
     }
 }
 
-fn binding_pattern_form(
-    alloc: Global,
-    tables: Tables<'_>,
-    node: &BindingPattern,
-) -> Result<Form, Memory>
-    ensures { IfOk result (λ f. form_plain f ≡ normal (renamed (tables_plain tables.entry) (binding_pattern_plain node.now))) }
+fn binding_pattern_form(making: &Making<'_>, node: &BindingPattern) -> Result<Form, Memory>
+    ensures { IfOk result (λ f. form_plain f ≡ normal (renamed (tables_plain making.now.tables) (binding_pattern_plain node.now))) }
 {
     match node {
-        BindingPattern::BindingIdentifier(node) => node.form(alloc, tables),
+        BindingPattern::BindingIdentifier(node) => node.form(making),
     }
 }
 
@@ -573,12 +535,12 @@ impl NormalNode for Node {
     ghost plain = { λ n. node_plain n };
 
     #[cycle(node)]
-    fn normal_form(&self, alloc: Global, tables: Tables<'_>) -> Result<Form, Memory> {
+    fn normal_form(&self, making: &Making<'_>) -> Result<Form, Memory> {
         match self {
-            Node::Expression(expression) => expression_form(alloc, tables, expression),
-            Node::Statement(statement) => statement_form(alloc, tables, statement),
-            Node::Declaration(declaration) => declaration_form(alloc, tables, declaration),
-            Node::BindingPattern(pattern) => binding_pattern_form(alloc, tables, pattern),
+            Node::Expression(expression) => expression_form(making, expression),
+            Node::Statement(statement) => statement_form(making, statement),
+            Node::Declaration(declaration) => declaration_form(making, declaration),
+            Node::BindingPattern(pattern) => binding_pattern_form(making, pattern),
         }
     }
 

@@ -11,11 +11,11 @@ ghost use Rattle.jsgen_model.specs.Renamed.{renamed};
 ghost use Rattle.jsgen_model.specs.Normal.{normal, named, by_text, number_text, minus_before};
 ghost use Rattle.jsgen_oracle.specs.Form.{form_plain, is_number};
 
-use crate::field::HasForm;
+use crate::field::{HasForm, Making};
 use crate::form::{Form, Slot, Value};
 use crate::shape::{Values, leaf, row};
 use jsgen_syntax::{Memory, UnaryOperator};
-use jsgen_tree::{BigIntLiteral, NodeType, NumericLiteral, NumericValue, Tables, behind_minus};
+use jsgen_tree::{BigIntLiteral, NodeType, NumericLiteral, NumericValue, behind_minus};
 use std::alloc::Global;
 
 // The positive one, or an operation on it.
@@ -68,10 +68,10 @@ fn number_text(alloc: Global, node: &NumericLiteral) -> Result<String, Memory>
 impl HasForm for NumericLiteral {
     ghost plain = { numeric_literal_row };
 
-    fn form(&self, alloc: Global, tables: Tables<'_>) -> Result<Form, Memory> {
-        let text = number_text(alloc, self)?;
-        let form = by_text(alloc, text)?;
-        minus_before(alloc, self.is_negative(), form)
+    fn form(&self, making: &Making<'_>) -> Result<Form, Memory> {
+        let text = number_text(making.alloc, self)?;
+        let form = by_text(making.alloc, text)?;
+        minus_before(making.alloc, self.is_negative(), form)
     }
 }
 
@@ -89,14 +89,14 @@ fn big_integer(alloc: Global, digits: &str) -> Result<Form, Memory>
 impl HasForm for BigIntLiteral {
     ghost plain = { big_int_literal_row };
 
-    fn form(&self, alloc: Global, tables: Tables<'_>) -> Result<Form, Memory> {
+    fn form(&self, making: &Making<'_>) -> Result<Form, Memory> {
         let value = self.value.as_str();
         match behind_minus(value) {
             Some(digits) => {
-                let form = big_integer(alloc, digits)?;
-                minus_before(alloc, true, form)
+                let form = big_integer(making.alloc, digits)?;
+                minus_before(making.alloc, true, form)
             }
-            None => big_integer(alloc, value),
+            None => big_integer(making.alloc, value),
         }
     }
 }

@@ -11,24 +11,22 @@ ghost use Rattle.jsgen_model.specs.Normal.{normal, is_written_as_method, is_comp
 ghost use Rattle.jsgen_oracle.specs.Form.{form_plain};
 ghost use Rattle.jsgen_oracle.specs.Field.{values_plain};
 
-use crate::field::{Field, HasForm, row_of_one, row_of_two};
+use crate::field::{Field, HasForm, Making, row_of_one, row_of_two};
 use crate::form::{Form, Value};
 use crate::normal::NormalNode;
 use crate::shape::Values;
 use jsgen_syntax::Memory;
 use jsgen_tree::{
     NodeType, ObjectExpression, ObjectProperty, ObjectPropertyKind, PropertyKey, PropertyKind,
-    Tables, is_proto,
+    is_proto,
 };
-use std::alloc::Global;
 
 impl<N: NormalNode> HasForm for ObjectExpression<N> {
     ghost plain = { object_expression_row N.plain };
 
-    fn form(&self, alloc: Global, tables: Tables<'_>) -> Result<Form, Memory> {
+    fn form(&self, making: &Making<'_>) -> Result<Form, Memory> {
         row_of_one(
-            alloc,
-            tables,
+            making,
             NodeType::ObjectExpression,
             Values::None,
             Field::Many(&self.properties),
@@ -39,10 +37,10 @@ impl<N: NormalNode> HasForm for ObjectExpression<N> {
 impl<N: NormalNode> HasForm for ObjectPropertyKind<N> {
     ghost plain = { in_object_property_kind N.plain };
 
-    fn form(&self, alloc: Global, tables: Tables<'_>) -> Result<Form, Memory> {
+    fn form(&self, making: &Making<'_>) -> Result<Form, Memory> {
         match self {
-            ObjectPropertyKind::ObjectProperty(node) => node.form(alloc, tables),
-            ObjectPropertyKind::SpreadElement(node) => node.form(alloc, tables),
+            ObjectPropertyKind::ObjectProperty(node) => node.form(making),
+            ObjectPropertyKind::SpreadElement(node) => node.form(making),
         }
     }
 }
@@ -50,12 +48,10 @@ impl<N: NormalNode> HasForm for ObjectPropertyKind<N> {
 impl<N: NormalNode> HasForm for ObjectProperty<N> {
     ghost plain = { object_property_row N.plain };
 
-    #[tactic(auto, using(crate::proofs::Renamed::kept))]
-    fn form(&self, alloc: Global, tables: Tables<'_>) -> Result<Form, Memory> {
+    fn form(&self, making: &Making<'_>) -> Result<Form, Memory> {
         let values = property_values(self);
         row_of_two(
-            alloc,
-            tables,
+            making,
             NodeType::ObjectProperty,
             values,
             Field::One(&self.key),
@@ -118,10 +114,10 @@ fn is_negative_key<N: NormalNode>(key: &PropertyKey<N>) -> bool
 impl<N: NormalNode> HasForm for PropertyKey<N> {
     ghost plain = { in_property_key N.plain };
 
-    fn form(&self, alloc: Global, tables: Tables<'_>) -> Result<Form, Memory> {
+    fn form(&self, making: &Making<'_>) -> Result<Form, Memory> {
         match self {
-            PropertyKey::IdentifierName(node) => node.form(alloc, tables),
-            PropertyKey::Expression(node) => node.form(alloc, tables),
+            PropertyKey::IdentifierName(node) => node.form(making),
+            PropertyKey::Expression(node) => node.form(making),
         }
     }
 }
