@@ -57,5 +57,3 @@ kept_sign tables (node types.NumericLiteral a (maybe m slots)) = refl
 kept_sign tables (node types.NumericLiteral a (many ts slots)) = refl
 kept_sign tables (node types.NumericLiteral a (maybe_many ts slots)) = refl
 kept_sign tables t = refl
-
-pub ruleset kept = (kept_name, kept_sign)

@@ -1,10 +1,6 @@
 // The normal forms of choices between cases, and of handlers.
-ghost use Rattle.std.specs.Prelude.{◌≡◌, IfOk};
 ghost use Rattle.jsgen_tree.specs.Rows.{switch_statement_row, switch_case_row, try_statement_row, catch_clause_row};
-ghost use Rattle.jsgen_tree.specs.Scoping.{tables_plain};
-ghost use Rattle.jsgen_model.specs.Renamed.{renamed};
 ghost use Rattle.jsgen_model.specs.Normal.{normal};
-ghost use Rattle.jsgen_oracle.specs.Form.{form_plain};
 
 use crate::field::{Field, HasForm, Making, row_of_three, row_of_two};
 use crate::form::Form;

@@ -2,10 +2,7 @@
 ghost use Rattle.std.specs.Prelude.{◌≡◌, IfOk};
 ghost use Rattle.jsgen_syntax.specs.Raw.{directive_value};
 ghost use Rattle.jsgen_tree.specs.Rows.{directive_row};
-ghost use Rattle.jsgen_tree.specs.Scoping.{tables_plain};
-ghost use Rattle.jsgen_model.specs.Renamed.{renamed};
 ghost use Rattle.jsgen_model.specs.Normal.{normal, or_none};
-ghost use Rattle.jsgen_oracle.specs.Form.{form_plain};
 ghost use Rattle.jsgen_oracle.specs.Values.{items_of};
 
 use crate::characters::characters_of;

@@ -1,10 +1,6 @@
 // The normal forms of functions, of their parameters and of their bodies.
-ghost use Rattle.std.specs.Prelude.{◌≡◌, IfOk};
 ghost use Rattle.jsgen_tree.specs.Rows.{formal_parameter_row, formal_parameter_rest_row, formal_parameters_row, function_row, function_body_row, arrow_function_expression_row, in_arrow_function_body};
-ghost use Rattle.jsgen_tree.specs.Scoping.{tables_plain};
-ghost use Rattle.jsgen_model.specs.Renamed.{renamed};
 ghost use Rattle.jsgen_model.specs.Normal.{normal};
-ghost use Rattle.jsgen_oracle.specs.Form.{form_plain};
 
 use crate::field::{Field, HasForm, Making, row_of_one, row_of_three, row_of_two};
 use crate::form::{Form, Value};

@@ -1,10 +1,6 @@
 // The normal forms of loops, of labels, of jumps and of `return`.
-ghost use Rattle.std.specs.Prelude.{◌≡◌, IfOk};
 ghost use Rattle.jsgen_tree.specs.Rows.{for_statement_row, for_in_statement_row, for_of_statement_row, while_statement_row, do_while_statement_row, label_identifier_row, labeled_statement_row, continue_statement_row, break_statement_row, return_statement_row, in_for_statement_init, in_for_statement_left};
-ghost use Rattle.jsgen_tree.specs.Scoping.{tables_plain};
-ghost use Rattle.jsgen_model.specs.Renamed.{renamed};
 ghost use Rattle.jsgen_model.specs.Normal.{normal};
-ghost use Rattle.jsgen_oracle.specs.Form.{form_plain};
 
 use crate::field::{Field, HasForm, Making, row_of_one, row_of_three, row_of_two, with_field};
 use crate::form::{Form, Value};

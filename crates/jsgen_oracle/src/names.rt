@@ -4,9 +4,7 @@ ghost use Rattle.std.specs.Str.{chars};
 ghost use Rattle.jsgen_tree.specs.Atom.{no_value, text};
 ghost use Rattle.jsgen_tree.specs.Places.{bare};
 ghost use Rattle.jsgen_tree.specs.Rows.{identifier_reference_row, binding_identifier_row};
-ghost use Rattle.jsgen_tree.specs.Scoping.{tables_plain};
 ghost use Rattle.jsgen_tree.specs.Tree.{node, no_slots};
-ghost use Rattle.jsgen_model.specs.Renamed.{renamed};
 ghost use Rattle.jsgen_model.specs.Normal.{normal};
 ghost use Rattle.jsgen_oracle.specs.Form.{form_plain};
 

@@ -6,8 +6,6 @@ ghost use Rattle.jsgen_tree.specs.Nodes.{numeric_literal, big_int_literal};
 ghost use Rattle.jsgen_tree.specs.Tree.{atoms_of};
 ghost use Rattle.jsgen_tree.specs.Values.{numeric_literal_kind};
 ghost use Rattle.jsgen_tree.specs.Rows.{numeric_literal_row, big_int_literal_row};
-ghost use Rattle.jsgen_tree.specs.Scoping.{tables_plain};
-ghost use Rattle.jsgen_model.specs.Renamed.{renamed};
 ghost use Rattle.jsgen_model.specs.Normal.{normal, named, by_text, number_text, minus_before};
 ghost use Rattle.jsgen_oracle.specs.Form.{form_plain, is_number};
 

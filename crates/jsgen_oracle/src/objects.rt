@@ -1,14 +1,11 @@
 // The normal forms of objects and of their properties.
-ghost use Rattle.std.specs.Prelude.{◌≡◌, ◌∷◌, [], false, option_map, IfOk};
+ghost use Rattle.std.specs.Prelude.{◌≡◌, ◌∷◌, [], false, option_map};
 ghost use Rattle.std.specs.Option.{option_map_or};
 ghost use Rattle.std.specs.Str.{chars};
 ghost use Rattle.jsgen_tree.specs.Rows.{object_property_row, object_expression_row, in_object_property_kind, in_property_key};
 ghost use Rattle.jsgen_tree.specs.Atom.{flag, property_kind};
 ghost use Rattle.jsgen_tree.specs.Inside.{written_name_in, is_proto, is_method, is_negative_number};
-ghost use Rattle.jsgen_tree.specs.Scoping.{tables_plain};
-ghost use Rattle.jsgen_model.specs.Renamed.{renamed};
 ghost use Rattle.jsgen_model.specs.Normal.{normal, is_written_as_method, is_computed, is_proto_shorthand};
-ghost use Rattle.jsgen_oracle.specs.Form.{form_plain};
 ghost use Rattle.jsgen_oracle.specs.Field.{values_plain};
 
 use crate::field::{Field, HasForm, Making, row_of_one, row_of_two};
