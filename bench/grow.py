@@ -84,6 +84,19 @@ class Copy:
             for path in (proofs / changed(function)).rglob("*.antt"):
                 path.write_text(changed(path.read_text()))
 
+    def copy_impl(self, name, head, *changes):
+        """Copies an `impl` block of Rust, which begins so, likewise."""
+
+        def change(old):
+            found = re.search(rf"^{re.escape(head)} \{{\n(?:.*\n)+?\}}\n", old, re.M)
+            assert found, (name, head)
+            made = found[0]
+            for word, new in changes:
+                made = re.sub(rf"\b{word}\b", new, made)
+            return old[: found.end()] + "\n" + made + old[found.end() :]
+
+        self.change(name, change)
+
     def import_type(self, name, row, type):
         lines = f"ghost use Rattle.jsgen_tree.specs.Rows.{{{row}_row}};\nuse jsgen_tree::{type};\n"
         self.change(name, lambda old: re.sub(r"^(?=(?:ghost )?use )", lines, old, count=1, flags=re.M))
@@ -136,10 +149,10 @@ mutual
 
 
 def into_normal_forms(copy, of_set, old, row, name):
-    """The slow program's arm."""
+    """The slow program's arm, and what makes the form."""
     snake = re.sub(r"(?<!^)(?=[A-Z])", "_", old).lower()
-    copy.copy_clause(NORMAL, f"{of_set}::{old}(node) =>", (f"{of_set}::{old}", f"{of_set}::{name}"), (f"{snake}_form", f"{row}_form"))
-    copy.copy_function(NORMAL, f"{snake}_form", (f"{snake}_form", f"{row}_form"), (f"{snake}_row", f"{row}_row"), (f"{old}(?=<)", name))
+    copy.copy_clause(NORMAL, f"{of_set}::{old}(node) =>", (f"{of_set}::{old}", f"{of_set}::{name}"))
+    copy.copy_impl(NORMAL, f"impl<N: NormalNode> HasForm for {old}<N>", (f"{snake}_row", f"{row}_row"), (f"{old}(?=<)", name))
     copy.import_type(NORMAL, row, name)
 
 

@@ -12,11 +12,12 @@ use Rattle.jsgen_oracle.specs.declared.form.Value.TheVariants as values
 use Rattle.jsgen_tree.specs.declared.types.NodeType.{NodeType}
 use Rattle.jsgen_tree.specs.declared.types.NodeType.TheVariants as types
 use Rattle.jsgen_tree.specs.Inside.{ends_open}
-use Rattle.jsgen_tree.specs.Tree.{Trees, Atoms, Tree, node, Slots, no_slots, many, trees, holed, no_trees, more, hole}
+use Rattle.jsgen_tree.specs.Tree.{Trees, Atoms, Tree, node, Slots, no_slots, one, maybe, many, trees, holed, no_trees, more, hole}
 use Rattle.jsgen_tree.specs.Places.{bare}
 use Rattle.std.specs.declared.alloc.Global.{Global}
 use Rattle.jsgen_tree.proofs.Layers.{map_after, with_hole}
-use Rattle.jsgen_oracle.specs.Form.{form_layer, form_plain, forms_plain, holed_plain, before, slots_by, slots_plain, value_plain, is_one, is_list, body_of}
+use Rattle.jsgen_oracle.specs.Field.{appended, with_slots}
+use Rattle.jsgen_oracle.specs.Form.{form_layer, form_plain, forms_plain, holed_plain, optional_plain, before, slots_by, slots_plain, value_plain, is_one, is_list, body_of}
 use Rattle.jsgen_oracle.specs.declared.form.Slot.{Slot}
 use Rattle.jsgen_oracle.specs.declared.form.Slot.TheVariants as slots
 use Rattle.jsgen_oracle.specs.declared.form.Form.{Form}
@@ -364,6 +365,19 @@ of_out f = of_layer (out-Form f) ∙ sym (plain_out f)
 
 pub other_slots : (f : Form) (ss : Vec (Slot Form) Global) → ss.items ≡ (out-Form f).slots.items → form_plain (roll-Form (record { node_type = (out-Form f).node_type; values = (out-Form f).values; slots = ss })) ≡ form_plain f
 other_slots f ss e = of_layer (record { node_type = (out-Form f).node_type; values = (out-Form f).values; slots = ss }) ∙ (ap (λ x. node (out-Form f).node_type (bare (map value_plain (out-Form f).values.items)) (slots_plain x)) e ∙ sym (plain_out f))
+
+slots_behind : (ss : List (Slot Form)) (s : Slot Form) → slots_plain (ss ++ (s ∷ [])) ≡ appended (slots_plain ss) (before form_plain s no_slots)
+slots_behind [] s = refl
+slots_behind (slots.One f ∷ ss) s = ap (one (form_plain f)) (slots_behind ss s)
+slots_behind (slots.Maybe o ∷ ss) s = ap (maybe (optional_plain o)) (slots_behind ss s)
+slots_behind (slots.Many fs ∷ ss) s = ap (many (forms_plain fs.items)) (slots_behind ss s)
+slots_behind (slots.Holed os ∷ ss) s = ap (many (holed_plain os.items)) (slots_behind ss s)
+
+pub one_slot_more : (f : Form) (ss : Vec (Slot Form) Global) (s : Slot Form) → ss.items ≡ (out-Form f).slots.items ++ (s ∷ []) → form_plain (roll-Form (record { node_type = (out-Form f).node_type; values = (out-Form f).values; slots = ss })) ≡ with_slots (form_plain f) (before form_plain s no_slots)
+one_slot_more f ss s e =
+    let g = out-Form f in
+    let a = bare (map value_plain g.values.items) in
+    of_layer (record { node_type = g.node_type; values = g.values; slots = ss }) ∙ (ap (λ x. node g.node_type a (slots_plain x)) e ∙ (ap (node g.node_type a) (slots_behind g.slots.items s) ∙ sym (ap (λ t. with_slots t (before form_plain s no_slots)) (plain_out f))))
 
 pub as_list : (f : Form) (t : NodeType) (fs : Vec Form Global) → (out-Form f).node_type ≡ t → (out-Form f).slots.items ≡ slots.Many fs ∷ [] → form_plain f ≡ node t (bare (map value_plain (out-Form f).values.items)) (many (forms_plain fs.items) no_slots)
 as_list f t fs d e =

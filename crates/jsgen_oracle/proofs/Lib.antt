@@ -21,6 +21,5 @@ pub mod Joined
 pub mod Alone
 pub mod Declared
 pub mod Ended
-pub mod Negative
 pub mod Forms
 pub mod Renamed

@@ -3,10 +3,10 @@ use Rattle.std.proofs.Common.{◌≡◌, ℕ, ◌≤◌, List, [], ◌∷◌, le
 use Rattle.jsgen_tree.specs.Inside.{written_name_in, is_negative_number}
 use Rattle.jsgen_tree.specs.Job.{Tables}
 use Rattle.jsgen_tree.specs.Nodes as tree
-use Rattle.jsgen_tree.specs.Tree.{Tree, node, no_slots, one, maybe, many, maybe_many, trees, holed, more, hole}
+use Rattle.jsgen_tree.specs.Tree.{Tree, node, no_slots, one, maybe, many, maybe_many, optional, trees, holed, more, hole}
 use Rattle.jsgen_tree.specs.declared.types.NodeType.TheVariants as types
-use Rattle.jsgen_model.specs.Normal.{normal, normal_trees, flattened}
-use Rattle.jsgen_model.specs.Renamed.{renamed, renamed_trees}
+use Rattle.jsgen_model.specs.Normal.{normal, normal_maybe, normal_trees, flattened}
+use Rattle.jsgen_model.specs.Renamed.{renamed, renamed_maybe, renamed_trees}
 use Rattle.jsgen_oracle.specs.declared.form.Form.{Form}
 use Rattle.jsgen_oracle.specs.Form.{form_plain, forms_plain, holed_plain}
 use Rattle.jsgen_oracle.proofs.Forms.{whole_list, whole_holed_list, whole_parts, parts_by}
@@ -21,6 +21,10 @@ renamed_holed : {A : Type 0} (tables : Tables) (f : A → Tree) (xs : List (Opti
 renamed_holed tables f [] = refl
 renamed_holed tables f (None ∷ xs) = ap (λ ts. hole ts) (renamed_holed tables f xs)
 renamed_holed tables f (Some x ∷ xs) = ap (more (renamed tables (f x))) (renamed_holed tables f xs)
+
+pub renamed_option : {A : Type 0} (tables : Tables) (f : A → Tree) (x : Option A) → optional (option_map (λ y. normal (renamed tables (f y))) x) ≡ normal_maybe (renamed_maybe tables (optional (option_map f x)))
+renamed_option tables f None = refl
+renamed_option tables f (Some x) = refl
 
 -- forms of all elements, which a loop made
 pub whole_renamed : {A : Type 0} (tables : Tables) (f : A → Tree) (xs : List A) (i : ℕ) (fs : List Form) → length xs ≤ i → map form_plain fs ≡ map (λ x. normal (renamed tables (f x))) (take i xs) → forms_plain fs ≡ normal_trees (renamed_trees tables (trees (map f xs)))
@@ -53,5 +57,3 @@ kept_sign tables (node types.NumericLiteral a (maybe m slots)) = refl
 kept_sign tables (node types.NumericLiteral a (many ts slots)) = refl
 kept_sign tables (node types.NumericLiteral a (maybe_many ts slots)) = refl
 kept_sign tables t = refl
-
-pub ruleset kept = (kept_name, kept_sign)

@@ -6,6 +6,7 @@ pub mod Samples
 pub mod StatementSamples
 pub mod FunctionSamples
 pub mod NumberSamples
+pub mod Field
 pub mod Form
 pub mod Values
 pub mod Only

@@ -1,20 +1,17 @@
 // What the raw text of a directive stands for (ECMA-262, 11.2.1), and the normal forms of directives.
-ghost use Rattle.std.specs.Prelude.{◌≡◌, map, IfOk};
+ghost use Rattle.std.specs.Prelude.{◌≡◌, IfOk};
 ghost use Rattle.jsgen_syntax.specs.Raw.{directive_value};
-ghost use Rattle.jsgen_tree.specs.Tree.{trees};
 ghost use Rattle.jsgen_tree.specs.Rows.{directive_row};
-ghost use Rattle.jsgen_tree.specs.Scoping.{tables_plain};
-ghost use Rattle.jsgen_model.specs.Renamed.{renamed_trees};
-ghost use Rattle.jsgen_model.specs.Normal.{normal, normal_trees, or_none};
-ghost use Rattle.jsgen_oracle.specs.Form.{form_plain, forms_plain};
+ghost use Rattle.jsgen_model.specs.Normal.{normal, or_none};
 ghost use Rattle.jsgen_oracle.specs.Values.{items_of};
 
 use crate::characters::characters_of;
+use crate::field::{HasForm, Making};
 use crate::form::{Form, Value};
-use crate::shape::literal;
+use crate::shape::{Values, leaf};
 use crate::string::string_value_of;
 use jsgen_syntax::{JsStr, Memory, Quote};
-use jsgen_tree::{Directive, NodeType, Tables};
+use jsgen_tree::{Directive, NodeType};
 use std::alloc::Global;
 
 /// The units of the directive that has this raw text between its quotes, `"` or else `'`, or none where the text spells
@@ -38,25 +35,17 @@ fn directive_units(alloc: Global, raw: &[char]) -> Result<Vec<u16>, Memory>
     }
 }
 
-pub(crate) fn directive_forms(
-    alloc: Global,
-    tables: Tables<'_>,
-    directives: &[Directive],
-) -> Result<Vec<Form>, Memory>
-    ensures { IfOk result (λ fs. forms_plain fs.items ≡ normal_trees (renamed_trees (tables_plain tables.entry) (trees (map directive_row directives.now)))) }
-{
-    let mut forms = Vec::new(alloc);
-    for directive in directives {
-        forms.push(directive_form(alloc, directive)?)?;
-    }
-    Ok(forms)
-}
+impl HasForm for Directive {
+    ghost plain = { directive_row };
 
-fn directive_form(alloc: Global, node: &Directive) -> Result<Form, Memory>
-    ensures { IfOk result (λ f. form_plain f ≡ normal (directive_row node.now)) }
-{
-    let raw = characters_of(alloc, &node.directive)?;
-    let units = directive_units(alloc, &raw)?;
-    let value = JsStr::from_units(alloc, &units)?;
-    literal(alloc, NodeType::Directive, Value::Units(value))
+    fn form(&self, making: &Making<'_>) -> Result<Form, Memory> {
+        let raw = characters_of(making.alloc, &self.directive)?;
+        let units = directive_units(making.alloc, &raw)?;
+        let value = JsStr::from_units(making.alloc, &units)?;
+        leaf(
+            making.alloc,
+            NodeType::Directive,
+            Values::One(Value::Units(value)),
+        )
+    }
 }

@@ -21,6 +21,7 @@ mod chain;
 mod characters;
 mod choices;
 mod directive;
+mod field;
 mod form;
 mod functions;
 mod loops;
@@ -38,6 +39,7 @@ mod word;
 
 use characters::characters_of;
 pub use directive::directive_value_of;
+use field::Making;
 pub use form::{Form, Slot, Value};
 use jsgen_syntax::Memory;
 use jsgen_tree::{Program, Tables};
@@ -71,7 +73,7 @@ pub fn tokens_of(alloc: Global, text: &str) -> Result<Option<Vec<Token>>, Memory
 pub fn normal_form(alloc: Global, tables: Tables<'_>, program: &Program) -> Result<Form, Memory>
     ensures { IfOk result (λ f. form_plain f ≡ normal (renamed (tables_plain tables.entry) (program_plain program.now))) }
 {
-    program_form(alloc, tables, program)
+    program_form(&Making { alloc, tables }, program)
 }
 
 /// A few texts spell a number by the model, and a few don't, as ECMA-262 has it.

@@ -5,16 +5,15 @@ ghost use Rattle.jsgen_tree.specs.Characters.{characters};
 ghost use Rattle.jsgen_tree.specs.Nodes.{numeric_literal, big_int_literal};
 ghost use Rattle.jsgen_tree.specs.Tree.{atoms_of};
 ghost use Rattle.jsgen_tree.specs.Values.{numeric_literal_kind};
-ghost use Rattle.jsgen_tree.specs.Inside.{is_negative_number};
-ghost use Rattle.jsgen_tree.specs.Plain.{node_plain};
 ghost use Rattle.jsgen_tree.specs.Rows.{numeric_literal_row, big_int_literal_row};
 ghost use Rattle.jsgen_model.specs.Normal.{normal, named, by_text, number_text, minus_before};
 ghost use Rattle.jsgen_oracle.specs.Form.{form_plain, is_number};
 
+use crate::field::{HasForm, Making};
 use crate::form::{Form, Slot, Value};
-use crate::shape::{leaf, literal, one_value, row};
+use crate::shape::{Values, leaf, row};
 use jsgen_syntax::{Memory, UnaryOperator};
-use jsgen_tree::{BigIntLiteral, Node, NodeType, NumericLiteral, NumericValue, behind_minus};
+use jsgen_tree::{BigIntLiteral, NodeType, NumericLiteral, NumericValue, behind_minus};
 use std::alloc::Global;
 
 // The positive one, or an operation on it.
@@ -22,8 +21,12 @@ fn minus_before(alloc: Global, negative: bool, form: Form) -> Result<Form, Memor
     ensures { IfOk result (λ f. form_plain f ≡ minus_before negative (form_plain form)) }
 {
     if negative {
-        let values = one_value(alloc, Value::UnaryOperator(UnaryOperator::UnaryNegation))?;
-        row(alloc, NodeType::UnaryExpression, values, Slot::One(form))
+        row(
+            alloc,
+            NodeType::UnaryExpression,
+            Values::One(Value::UnaryOperator(UnaryOperator::UnaryNegation)),
+            Slot::One(form),
+        )
     } else {
         Ok(form)
     }
@@ -39,13 +42,16 @@ fn decimal_text(alloc: Global, digits: u128) -> Result<String, Memory>
 fn by_text(alloc: Global, text: String) -> Result<Form, Memory>
     ensures { IfOk result (λ f. form_plain f ≡ numeric_literal (by_text (characters text))) }
 {
-    let values = vec![in alloc;
-        Value::ByText,
-        Value::Nothing,
-        Value::Nothing,
-        Value::Text(text),
-    ]?;
-    Ok(leaf(alloc, NodeType::NumericLiteral, values))
+    leaf(
+        alloc,
+        NodeType::NumericLiteral,
+        Values::Four(
+            Value::ByText,
+            Value::Nothing,
+            Value::Nothing,
+            Value::Text(text),
+        ),
+    )
 }
 
 fn number_text(alloc: Global, node: &NumericLiteral) -> Result<String, Memory>
@@ -57,47 +63,45 @@ fn number_text(alloc: Global, node: &NumericLiteral) -> Result<String, Memory>
     }
 }
 
-pub fn numeric_literal_form(alloc: Global, node: &NumericLiteral) -> Result<Form, Memory>
-    ensures { IfOk result (λ f. form_plain f ≡ normal (numeric_literal_row node.now)) }
-{
-    let text = number_text(alloc, node)?;
-    let form = by_text(alloc, text)?;
-    minus_before(alloc, node.is_negative(), form)
+impl HasForm for NumericLiteral {
+    ghost plain = { numeric_literal_row };
+
+    fn form(&self, making: &Making<'_>) -> Result<Form, Memory> {
+        let text = number_text(making.alloc, self)?;
+        let form = by_text(making.alloc, text)?;
+        minus_before(making.alloc, self.is_negative(), form)
+    }
 }
 
 fn big_integer(alloc: Global, digits: &str) -> Result<Form, Memory>
     ensures { IfOk result (λ f. form_plain f ≡ big_int_literal (named (chars digits.now))) }
 {
     let text = String::from_str(alloc, digits)?;
-    literal(alloc, NodeType::BigIntLiteral, Value::Text(text))
+    leaf(
+        alloc,
+        NodeType::BigIntLiteral,
+        Values::One(Value::Text(text)),
+    )
 }
 
-pub fn big_int_literal_form(alloc: Global, node: &BigIntLiteral) -> Result<Form, Memory>
-    ensures { IfOk result (λ f. form_plain f ≡ normal (big_int_literal_row node.now)) }
-{
-    let value = node.value.as_str();
-    match behind_minus(value) {
-        Some(digits) => {
-            let form = big_integer(alloc, digits)?;
-            minus_before(alloc, true, form)
+impl HasForm for BigIntLiteral {
+    ghost plain = { big_int_literal_row };
+
+    fn form(&self, making: &Making<'_>) -> Result<Form, Memory> {
+        let value = self.value.as_str();
+        match behind_minus(value) {
+            Some(digits) => {
+                let form = big_integer(making.alloc, digits)?;
+                minus_before(making.alloc, true, form)
+            }
+            None => big_integer(making.alloc, value),
         }
-        None => big_integer(alloc, value),
     }
 }
 
-fn is_number(node_type: NodeType) -> bool
+/// Whether it is the type of numbers.
+pub fn is_number(node_type: NodeType) -> bool
     ensures { result ≡ is_number node_type }
 {
     matches!(node_type, NodeType::NumericLiteral)
-}
-
-/// Whether it is a number with a minus before it, and no parentheses are round it.
-pub fn is_negative_number(node: &Node) -> bool
-    ensures { result ≡ is_negative_number (node_plain node.now) }
-{
-    if is_number(node.node_type()) {
-        node.is_negative()
-    } else {
-        false
-    }
 }

@@ -209,15 +209,15 @@ fn encoded(alloc: Global, code: u32) -> Result<Vec<u16>, Memory>
     requires { code < 0x11_0000 }
     ensures { IfOk result (λ v. v.items ≡ encode_utf16 code) }
 {
-    let mut units = Vec::new(alloc);
     if code < 0x1_0000 {
-        units.push(code as u16)?;
+        Ok(vec![in alloc; code as u16]?)
     } else {
         let over = code - 0x1_0000;
-        units.push((0xD800 + over / 0x400) as u16)?;
-        units.push((0xDC00 + over % 0x400) as u16)?;
+        Ok(vec![in alloc;
+            (0xD800 + over / 0x400) as u16,
+            (0xDC00 + over % 0x400) as u16,
+        ]?)
     }
-    Ok(units)
 }
 
 // Whether the character may stand for itself, with this text behind it.

@@ -8,4 +8,4 @@ use Rattle.jsgen_oracle.proofs.normal.part_forms.Given as goal
 
 -- the forms so far are the parts of the expressions so far
 abbrev pub invariant-loop-expression : goal.invariant-loop-expression
-invariant-loop-expression g l = forms_plain l.forms.items ≡ parts_by (λ x. renamed (tables_plain l.tables) (in_expression g.N.NormalNode.plain x)) (take l.expression-index l.expressions)
+invariant-loop-expression g l = forms_plain l.forms.items ≡ parts_by (λ x. renamed (tables_plain l.making.tables) (in_expression g.N.NormalNode.plain x)) (take l.expression-index l.expressions)
