@@ -14,15 +14,35 @@ use std::alloc::Global;
 pub fn push_printed(alloc: Global, job: &str, answer: &mut String) -> Result<(), Memory> {
     let printed = run_over(alloc, &["print"], job.as_bytes(), &[], &[])?;
     let checked = run_over(alloc, &["check"], job.as_bytes(), &[], &[])?;
-    let by_program = text_of(alloc, &printed)?;
-    let by_library = library_text(alloc, job)?;
+    push_runs(alloc, job, &printed, &checked, answer)
+}
+
+fn push_runs(
+    alloc: Global,
+    job: &str,
+    printed: &Seen,
+    checked: &Seen,
+    answer: &mut String,
+) -> Result<(), Memory> {
+    let by_program = text_of(alloc, printed)?;
     push_shown(answer, &by_program)?;
-    if !is_verdict_on(&checked, &printed) {
+    if !is_verdict_on(checked, printed) {
         answer.push_str(" but check: ")?;
-        push_shown(answer, &text_of(alloc, &checked)?)?;
+        push_shown(answer, &text_of(alloc, checked)?)?;
     }
+    push_library(alloc, job, &by_program, answer)
+}
+
+// What the library prints, where that is another text.
+fn push_library(
+    alloc: Global,
+    job: &str,
+    by_program: &String,
+    answer: &mut String,
+) -> Result<(), Memory> {
+    let by_library = library_text(alloc, job)?;
     let is_printed = by_program.starts_with("0 ");
-    if (is_printed || by_library.starts_with("0 ")) && by_library != by_program {
+    if (is_printed || by_library.starts_with("0 ")) && by_library != *by_program {
         answer.push_str(" but the library: ")?;
         push_shown(answer, &by_library)?;
     }
