@@ -48,7 +48,7 @@ impl<N: PlainNode + Drop> Child<N> for Comment {
         match row {
             Row::Comment(row) => Ok(Some(Box::into_inner(row))),
             rest => {
-                drop(rest);
+                rest.let_go();
                 Ok(None)
             }
         }
@@ -73,7 +73,7 @@ impl<N: PlainNode + Drop> Child<N> for Directive {
         match row {
             Row::Directive(row) => Ok(Some(Box::into_inner(row))),
             rest => {
-                drop(rest);
+                rest.let_go();
                 Ok(None)
             }
         }
@@ -105,7 +105,7 @@ impl<N: HoldsDeclaration + HoldsStatement + Drop> Child<N> for StatementNode<N> 
                 N::declaration_node(Declaration::Function(row)),
             ),
             rest => {
-                drop(rest);
+                rest.let_go();
                 Ok(None)
             }
         }
@@ -130,7 +130,7 @@ impl<N: PlainNode + Drop> Child<N> for VariableDeclarator<N> {
         match row {
             Row::VariableDeclarator(row) => Ok(Some(Box::into_inner(row))),
             rest => {
-                drop(rest);
+                rest.let_go();
                 Ok(None)
             }
         }
@@ -155,7 +155,7 @@ impl<N: HoldsBindingPattern + Drop> Child<N> for BindingPatternNode<N> {
         match row {
             Row::BindingPattern(row) => Ok(Some(N::binding_pattern_node(Box::into_inner(row)))),
             rest => {
-                drop(rest);
+                rest.let_go();
                 Ok(None)
             }
         }
@@ -181,7 +181,7 @@ impl<N: HoldsExpression + Drop> Child<N> for ExpressionNode<N> {
             Row::Expression(row) => Ok(Some(N::expression_node(Box::into_inner(row).expression))),
             Row::Function(row) => Ok(Some(N::expression_node(Expression::Function(row)))),
             rest => {
-                drop(rest);
+                rest.let_go();
                 Ok(None)
             }
         }
@@ -206,7 +206,7 @@ impl<N: PlainNode + Drop> Child<N> for Box<IdentifierName> {
         match row {
             Row::IdentifierName(row) => Ok(Some(row)),
             rest => {
-                drop(rest);
+                rest.let_go();
                 Ok(None)
             }
         }
@@ -238,7 +238,7 @@ impl<N: HoldsExpression + Drop> Child<N> for Argument<N> {
                 N::expression_node(Expression::Function(row)),
             ),
             rest => {
-                drop(rest);
+                rest.let_go();
                 Ok(None)
             }
         }
@@ -263,7 +263,7 @@ impl<N: PlainNode + Drop> Child<N> for ChainElement<N> {
         match row {
             Row::Expression(row) => Ok(chain_element_of_expression(Box::into_inner(row))),
             rest => {
-                drop(rest);
+                rest.let_go();
                 Ok(None)
             }
         }
@@ -295,7 +295,7 @@ impl<N: HoldsExpression + Drop> Child<N> for ArrayExpressionElement<N> {
                 N::expression_node(Expression::Function(row)),
             ),
             rest => {
-                drop(rest);
+                rest.let_go();
                 Ok(None)
             }
         }
@@ -327,7 +327,7 @@ impl<N: HoldsExpression + Drop> Child<N> for PropertyKey<N> {
                 N::expression_node(Expression::Function(row)),
             ),
             rest => {
-                drop(rest);
+                rest.let_go();
                 Ok(None)
             }
         }
@@ -353,7 +353,7 @@ impl<N: PlainNode + Drop> Child<N> for ObjectPropertyKind<N> {
             Row::SpreadElement(row) => Ok(Some(ObjectPropertyKind::SpreadElement(row))),
             Row::ObjectProperty(row) => Ok(Some(ObjectPropertyKind::ObjectProperty(row))),
             rest => {
-                drop(rest);
+                rest.let_go();
                 Ok(None)
             }
         }
@@ -380,7 +380,7 @@ impl<N: PlainNode + Drop> Child<N> for SimpleAssignmentTarget<N> {
                 row,
             ))),
             rest => {
-                drop(rest);
+                rest.let_go();
                 Ok(None)
             }
         }
@@ -405,7 +405,7 @@ impl<N: PlainNode + Drop> Child<N> for AssignmentTarget<N> {
         match row {
             Row::Expression(row) => Ok(assignment_target_of_expression(Box::into_inner(row))),
             rest => {
-                drop(rest);
+                rest.let_go();
                 Ok(None)
             }
         }
@@ -430,7 +430,7 @@ impl<N: PlainNode + Drop> Child<N> for FormalParameter<N> {
         match row {
             Row::FormalParameter(row) => Ok(Some(Box::into_inner(row))),
             rest => {
-                drop(rest);
+                rest.let_go();
                 Ok(None)
             }
         }
@@ -458,7 +458,7 @@ impl<N: PlainNode + Drop> Child<N> for Box<FormalParameterRest<N>> {
         match row {
             Row::FormalParameterRest(row) => Ok(Some(row)),
             rest => {
-                drop(rest);
+                rest.let_go();
                 Ok(None)
             }
         }
@@ -485,7 +485,7 @@ impl<N: PlainNode + Drop> Child<N> for Box<BindingIdentifier> {
                 Box::into_inner(row),
             )),
             rest => {
-                drop(rest);
+                rest.let_go();
                 Ok(None)
             }
         }
@@ -510,7 +510,7 @@ impl<N: PlainNode + Drop> Child<N> for Box<FormalParameters<N>> {
         match row {
             Row::FormalParameters(row) => Ok(Some(row)),
             rest => {
-                drop(rest);
+                rest.let_go();
                 Ok(None)
             }
         }
@@ -535,7 +535,7 @@ impl<N: PlainNode + Drop> Child<N> for Box<FunctionBody<N>> {
         match row {
             Row::FunctionBody(row) => Ok(Some(row)),
             rest => {
-                drop(rest);
+                rest.let_go();
                 Ok(None)
             }
         }
@@ -567,7 +567,7 @@ impl<N: HoldsExpression + Drop> Child<N> for ArrowFunctionBody<N> {
             ),
             Row::FunctionBody(row) => Ok(Some(ArrowFunctionBody::FunctionBody(row))),
             rest => {
-                drop(rest);
+                rest.let_go();
                 Ok(None)
             }
         }
@@ -599,7 +599,7 @@ impl<N: HoldsExpression + Drop> Child<N> for ForStatementInit<N> {
                 N::expression_node(Expression::Function(row)),
             ),
             rest => {
-                drop(rest);
+                rest.let_go();
                 Ok(None)
             }
         }
@@ -625,7 +625,7 @@ impl<N: PlainNode + Drop> Child<N> for ForStatementLeft<N> {
             Row::Declaration(row) => Ok(for_statement_left_of_declaration(Box::into_inner(row))),
             Row::Expression(row) => Ok(for_statement_left_of_expression(Box::into_inner(row))),
             rest => {
-                drop(rest);
+                rest.let_go();
                 Ok(None)
             }
         }
@@ -650,7 +650,7 @@ impl<N: PlainNode + Drop> Child<N> for Box<LabelIdentifier> {
         match row {
             Row::LabelIdentifier(row) => Ok(Some(row)),
             rest => {
-                drop(rest);
+                rest.let_go();
                 Ok(None)
             }
         }
@@ -675,7 +675,7 @@ impl<N: PlainNode + Drop> Child<N> for SwitchCase<N> {
         match row {
             Row::SwitchCase(row) => Ok(Some(Box::into_inner(row))),
             rest => {
-                drop(rest);
+                rest.let_go();
                 Ok(None)
             }
         }
@@ -700,7 +700,7 @@ impl<N: PlainNode + Drop> Child<N> for Box<BlockStatement<N>> {
         match row {
             Row::Statement(row) => Ok(block_statement_of_statement_in_box(Box::into_inner(row))),
             rest => {
-                drop(rest);
+                rest.let_go();
                 Ok(None)
             }
         }
@@ -725,7 +725,7 @@ impl<N: PlainNode + Drop> Child<N> for Box<CatchClause<N>> {
         match row {
             Row::CatchClause(row) => Ok(Some(row)),
             rest => {
-                drop(rest);
+                rest.let_go();
                 Ok(None)
             }
         }

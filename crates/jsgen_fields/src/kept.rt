@@ -45,6 +45,13 @@ pub enum Row<N = Node> {
     CatchClause(Box<CatchClause<N>>),
 }
 
+impl<N: Drop> Row<N> {
+    /// Lets go of the row, by a call that asks nothing of its types where it is made.
+    pub fn let_go(self) {
+        drop(self);
+    }
+}
+
 /// A row as it is kept. Its `drop` is written out, so that it is proved here alone: a derived one is proved again, for all types,
 /// in each crate that lets go of a row.
 pub struct AnyRow<N = Node> {
@@ -54,7 +61,7 @@ pub struct AnyRow<N = Node> {
 impl<N: Drop> Drop for AnyRow<N> {
     fn drop(self) {
         let AnyRow { row } = self;
-        let _ = row;
+        row.let_go();
     }
 }
 
@@ -111,7 +118,10 @@ impl<N: PlainNode + Drop> AnyRow<N> {
         let AnyRow { row } = self;
         match row {
             Row::Program(program) => Some(Box::into_inner(program)),
-            _ => None,
+            rest => {
+                rest.let_go();
+                None
+            }
         }
     }
 }

@@ -126,7 +126,7 @@ def impl(table, name, boxed):
     {{
 {unused}        match row {{
 {arms}            rest => {{
-                drop(rest);
+                rest.let_go();
                 Ok(None)
             }}
         }}

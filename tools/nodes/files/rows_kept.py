@@ -73,7 +73,7 @@ def write(table):
 
 def rust(table, ghosts):
     """src/kept.rt. rows_children.py has what is made of a row at each place."""
-    parts = [rows_enum(table), ANY_ROW, typed(table), AS_CHILD, into_program(), "// ---- rows of nodes"]
+    parts = [rows_enum(table), LET_GO, ANY_ROW, typed(table), AS_CHILD, into_program(), "// ---- rows of nodes"]
     parts += [row_of(table, g) for g in groups(table)]
     plains = [s.plain for s in table.nesting()] + ["program_row"]
     ghosts = [(m, ns + ["Ok"] if m.endswith("Prelude") else ns + plains if m.endswith("specs.Rows") else ns) for m, ns in ghosts]
@@ -81,6 +81,14 @@ def rust(table, ghosts):
     homes = [("crate::asked", ["Child", "PlainNode", "ReadNode", "RowOf"]), ("jsgen_pool", ["Typed"])] + homes_of(table)
     about = "The rows that were read, by the set that they are children of."
     return layout.rust(about, ghosts, TYPES, homes, "\n\n".join(parts))
+
+
+LET_GO = """impl<N: Drop> Row<N> {
+    /// Lets go of the row, by a call that asks nothing of its types where it is made.
+    pub fn let_go(self) {
+        drop(self);
+    }
+}"""
 
 
 ANY_ROW = """/// A row as it is kept. Its `drop` is written out, so that it is proved here alone: a derived one is proved again, for all types,
@@ -92,7 +100,7 @@ pub struct AnyRow<N = Node> {
 impl<N: Drop> Drop for AnyRow<N> {
     fn drop(self) {
         let AnyRow { row } = self;
-        let _ = row;
+        row.let_go();
     }
 }"""
 
@@ -276,7 +284,10 @@ def into_program():
         let AnyRow { row } = self;
         match row {
             Row::Program(program) => Some(Box::into_inner(program)),
-            _ => None,
+            rest => {
+                rest.let_go();
+                None
+            }
         }
     }
 }"""
