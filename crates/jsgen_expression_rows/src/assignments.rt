@@ -9,7 +9,7 @@ ghost use Rattle.jsgen_fields.specs.Parts.{is_in_assignments};
 ghost use Rattle.jsgen_tree.specs.declared.types.NodeType.TheVariants as types;
 
 use jsgen_fields::InputFault;
-use jsgen_fields::asked::{ReadNode, RowOf};
+use jsgen_fields::asked::{HoldsExpression, ReadNode, RowOf};
 use jsgen_fields::fields::boxed;
 use jsgen_fields::kept::row_of_expression;
 use jsgen_fields::others::OtherExpression;
@@ -24,7 +24,7 @@ use serde_json::Value;
 use std::alloc::Global;
 
 #[tactic(auto, unfolding(jsgen_fields::specs::Reads::read_node))]
-fn read_conditional_expression<N: ReadNode + Drop, R: RowOf<N> + Drop>(
+fn read_conditional_expression<N: HoldsExpression + Drop, R: RowOf<N> + Drop>(
     alloc: Global,
     kept: &mut Vec<Kept<R>>,
     number: usize,
@@ -64,7 +64,7 @@ fn read_conditional_expression<N: ReadNode + Drop, R: RowOf<N> + Drop>(
 }
 
 #[tactic(auto, unfolding(jsgen_fields::specs::Reads::read_node))]
-fn read_sequence_expression<N: ReadNode + Drop, R: RowOf<N> + Drop>(
+fn read_sequence_expression<N: HoldsExpression + Drop, R: RowOf<N> + Drop>(
     alloc: Global,
     kept: &mut Vec<Kept<R>>,
     number: usize,
@@ -91,7 +91,7 @@ fn read_sequence_expression<N: ReadNode + Drop, R: RowOf<N> + Drop>(
 }
 
 #[tactic(auto, unfolding(jsgen_fields::specs::Reads::read_node))]
-fn read_assignment_expression<N: ReadNode + Drop, R: RowOf<N> + Drop>(
+fn read_assignment_expression<N: HoldsExpression + Drop, R: RowOf<N> + Drop>(
     alloc: Global,
     kept: &mut Vec<Kept<R>>,
     number: usize,

@@ -9,7 +9,7 @@ ghost use Rattle.jsgen_fields.specs.Parts.{is_in_collections};
 ghost use Rattle.jsgen_tree.specs.declared.types.NodeType.TheVariants as types;
 
 use jsgen_fields::InputFault;
-use jsgen_fields::asked::{ReadNode, RowOf};
+use jsgen_fields::asked::{HoldsExpression, PlainNode, ReadNode, RowOf};
 use jsgen_fields::fields::boxed;
 use jsgen_fields::kept::{row_of_expression, row_of_object_property, row_of_spread_element};
 use jsgen_fields::others::OtherExpression;
@@ -28,7 +28,7 @@ use serde_json::Value;
 use std::alloc::Global;
 
 #[tactic(auto, unfolding(jsgen_fields::specs::Reads::read_node))]
-fn read_spread_element<N: ReadNode + Drop, R: RowOf<N> + Drop>(
+fn read_spread_element<N: HoldsExpression + Drop, R: RowOf<N> + Drop>(
     alloc: Global,
     kept: &mut Vec<Kept<R>>,
     number: usize,
@@ -50,7 +50,7 @@ fn read_spread_element<N: ReadNode + Drop, R: RowOf<N> + Drop>(
 }
 
 #[tactic(auto, unfolding(jsgen_fields::specs::Reads::read_node))]
-fn read_array_expression<N: ReadNode + Drop, R: RowOf<N> + Drop>(
+fn read_array_expression<N: HoldsExpression + Drop, R: RowOf<N> + Drop>(
     alloc: Global,
     kept: &mut Vec<Kept<R>>,
     number: usize,
@@ -79,7 +79,7 @@ fn read_array_expression<N: ReadNode + Drop, R: RowOf<N> + Drop>(
 }
 
 #[tactic(auto, unfolding(jsgen_fields::specs::Reads::read_node))]
-fn read_object_property<N: ReadNode + Drop, R: RowOf<N> + Drop>(
+fn read_object_property<N: HoldsExpression + Drop, R: RowOf<N> + Drop>(
     alloc: Global,
     kept: &mut Vec<Kept<R>>,
     number: usize,
@@ -129,7 +129,7 @@ fn read_object_property<N: ReadNode + Drop, R: RowOf<N> + Drop>(
 }
 
 #[tactic(auto, unfolding(jsgen_fields::specs::Reads::read_node))]
-fn read_object_expression<N: ReadNode + Drop, R: RowOf<N> + Drop>(
+fn read_object_expression<N: PlainNode + Drop, R: RowOf<N> + Drop>(
     alloc: Global,
     kept: &mut Vec<Kept<R>>,
     number: usize,

@@ -10,7 +10,7 @@ ghost use Rattle.jsgen_tree.specs.declared.types.NodeType.TheVariants as types;
 
 use crate::literals::read_numeric_literal;
 use jsgen_fields::InputFault;
-use jsgen_fields::asked::{ReadNode, RowOf};
+use jsgen_fields::asked::{HoldsExpression, PlainNode, ReadNode, RowOf};
 use jsgen_fields::fields::boxed;
 use jsgen_fields::kept::{row_of_expression, row_of_identifier_name};
 use jsgen_fields::others::OtherExpression;
@@ -34,7 +34,7 @@ use serde_json::Value;
 use std::alloc::Global;
 
 #[tactic(auto, unfolding(jsgen_fields::specs::Reads::read_node))]
-fn read_identifier_reference<N: ReadNode + Drop, R: RowOf<N> + Drop>(
+fn read_identifier_reference<N: PlainNode + Drop, R: RowOf<N> + Drop>(
     alloc: Global,
     kept: &mut Vec<Kept<R>>,
     number: usize,
@@ -70,7 +70,7 @@ fn read_identifier_reference<N: ReadNode + Drop, R: RowOf<N> + Drop>(
 }
 
 #[tactic(auto, unfolding(jsgen_fields::specs::Reads::read_node))]
-fn read_this_expression<N: ReadNode + Drop, R: RowOf<N> + Drop>(
+fn read_this_expression<N: PlainNode + Drop, R: RowOf<N> + Drop>(
     alloc: Global,
     kept: &mut Vec<Kept<R>>,
     number: usize,
@@ -96,7 +96,7 @@ fn read_this_expression<N: ReadNode + Drop, R: RowOf<N> + Drop>(
 }
 
 #[tactic(auto, unfolding(jsgen_fields::specs::Reads::read_node))]
-fn read_null_literal<N: ReadNode + Drop, R: RowOf<N> + Drop>(
+fn read_null_literal<N: PlainNode + Drop, R: RowOf<N> + Drop>(
     alloc: Global,
     kept: &mut Vec<Kept<R>>,
     number: usize,
@@ -122,7 +122,7 @@ fn read_null_literal<N: ReadNode + Drop, R: RowOf<N> + Drop>(
 }
 
 #[tactic(auto, unfolding(jsgen_fields::specs::Reads::read_node))]
-fn read_boolean_literal<N: ReadNode + Drop, R: RowOf<N> + Drop>(
+fn read_boolean_literal<N: PlainNode + Drop, R: RowOf<N> + Drop>(
     alloc: Global,
     kept: &mut Vec<Kept<R>>,
     number: usize,
@@ -150,7 +150,7 @@ fn read_boolean_literal<N: ReadNode + Drop, R: RowOf<N> + Drop>(
 }
 
 #[tactic(auto, unfolding(jsgen_fields::specs::Reads::read_node))]
-fn read_big_int_literal<N: ReadNode + Drop, R: RowOf<N> + Drop>(
+fn read_big_int_literal<N: PlainNode + Drop, R: RowOf<N> + Drop>(
     alloc: Global,
     kept: &mut Vec<Kept<R>>,
     number: usize,
@@ -178,7 +178,7 @@ fn read_big_int_literal<N: ReadNode + Drop, R: RowOf<N> + Drop>(
 }
 
 #[tactic(auto, unfolding(jsgen_fields::specs::Reads::read_node))]
-fn read_string_literal<N: ReadNode + Drop, R: RowOf<N> + Drop>(
+fn read_string_literal<N: PlainNode + Drop, R: RowOf<N> + Drop>(
     alloc: Global,
     kept: &mut Vec<Kept<R>>,
     number: usize,
@@ -206,7 +206,7 @@ fn read_string_literal<N: ReadNode + Drop, R: RowOf<N> + Drop>(
 }
 
 #[tactic(auto, unfolding(jsgen_fields::specs::Reads::read_node))]
-fn read_parenthesized_expression<N: ReadNode + Drop, R: RowOf<N> + Drop>(
+fn read_parenthesized_expression<N: HoldsExpression + Drop, R: RowOf<N> + Drop>(
     alloc: Global,
     kept: &mut Vec<Kept<R>>,
     number: usize,
@@ -233,7 +233,7 @@ fn read_parenthesized_expression<N: ReadNode + Drop, R: RowOf<N> + Drop>(
 }
 
 #[tactic(auto, unfolding(jsgen_fields::specs::Reads::read_node))]
-fn read_binary_expression<N: ReadNode + Drop, R: RowOf<N> + Drop>(
+fn read_binary_expression<N: HoldsExpression + Drop, R: RowOf<N> + Drop>(
     alloc: Global,
     kept: &mut Vec<Kept<R>>,
     number: usize,
@@ -273,7 +273,7 @@ fn read_binary_expression<N: ReadNode + Drop, R: RowOf<N> + Drop>(
 }
 
 #[tactic(auto, unfolding(jsgen_fields::specs::Reads::read_node))]
-fn read_logical_expression<N: ReadNode + Drop, R: RowOf<N> + Drop>(
+fn read_logical_expression<N: HoldsExpression + Drop, R: RowOf<N> + Drop>(
     alloc: Global,
     kept: &mut Vec<Kept<R>>,
     number: usize,
@@ -313,7 +313,7 @@ fn read_logical_expression<N: ReadNode + Drop, R: RowOf<N> + Drop>(
 }
 
 #[tactic(auto, unfolding(jsgen_fields::specs::Reads::read_node))]
-fn read_identifier_name<N: ReadNode + Drop, R: RowOf<N> + Drop>(
+fn read_identifier_name<N: PlainNode + Drop, R: RowOf<N> + Drop>(
     alloc: Global,
     kept: &mut Vec<Kept<R>>,
     number: usize,
@@ -336,7 +336,7 @@ fn read_identifier_name<N: ReadNode + Drop, R: RowOf<N> + Drop>(
 }
 
 #[tactic(auto, unfolding(jsgen_fields::specs::Reads::read_node))]
-fn read_static_member_expression<N: ReadNode + Drop, R: RowOf<N> + Drop>(
+fn read_static_member_expression<N: HoldsExpression + Drop, R: RowOf<N> + Drop>(
     alloc: Global,
     kept: &mut Vec<Kept<R>>,
     number: usize,
@@ -376,7 +376,7 @@ fn read_static_member_expression<N: ReadNode + Drop, R: RowOf<N> + Drop>(
 }
 
 #[tactic(auto, unfolding(jsgen_fields::specs::Reads::read_node))]
-fn read_computed_member_expression<N: ReadNode + Drop, R: RowOf<N> + Drop>(
+fn read_computed_member_expression<N: HoldsExpression + Drop, R: RowOf<N> + Drop>(
     alloc: Global,
     kept: &mut Vec<Kept<R>>,
     number: usize,
@@ -416,7 +416,7 @@ fn read_computed_member_expression<N: ReadNode + Drop, R: RowOf<N> + Drop>(
 }
 
 #[tactic(auto, unfolding(jsgen_fields::specs::Reads::read_node))]
-fn read_call_expression<N: ReadNode + Drop, R: RowOf<N> + Drop>(
+fn read_call_expression<N: HoldsExpression + Drop, R: RowOf<N> + Drop>(
     alloc: Global,
     kept: &mut Vec<Kept<R>>,
     number: usize,
@@ -465,7 +465,7 @@ fn read_call_expression<N: ReadNode + Drop, R: RowOf<N> + Drop>(
 }
 
 #[tactic(auto, unfolding(jsgen_fields::specs::Reads::read_node))]
-fn read_chain_expression<N: ReadNode + Drop, R: RowOf<N> + Drop>(
+fn read_chain_expression<N: PlainNode + Drop, R: RowOf<N> + Drop>(
     alloc: Global,
     kept: &mut Vec<Kept<R>>,
     number: usize,

@@ -9,7 +9,10 @@ ghost use Rattle.jsgen_fields.specs.Parts.{is_in_functions};
 ghost use Rattle.jsgen_tree.specs.declared.types.NodeType.TheVariants as types;
 
 use jsgen_fields::InputFault;
-use jsgen_fields::asked::{ReadNode, RowOf};
+use jsgen_fields::asked::{
+    HoldsBindingPattern, HoldsDeclaration, HoldsExpression, HoldsStatement, PlainNode, ReadNode,
+    RowOf,
+};
 use jsgen_fields::fields::boxed;
 use jsgen_fields::kept::{
     row_of_expression, row_of_formal_parameter, row_of_formal_parameter_rest,
@@ -33,7 +36,7 @@ use serde_json::Value;
 use std::alloc::Global;
 
 #[tactic(auto, unfolding(jsgen_fields::specs::Reads::read_node))]
-fn read_formal_parameter<N: ReadNode + Drop, R: RowOf<N> + Drop>(
+fn read_formal_parameter<N: HoldsExpression + HoldsBindingPattern + Drop, R: RowOf<N> + Drop>(
     alloc: Global,
     kept: &mut Vec<Kept<R>>,
     number: usize,
@@ -82,7 +85,7 @@ fn read_formal_parameter<N: ReadNode + Drop, R: RowOf<N> + Drop>(
 }
 
 #[tactic(auto, unfolding(jsgen_fields::specs::Reads::read_node))]
-fn read_formal_parameter_rest<N: ReadNode + Drop, R: RowOf<N> + Drop>(
+fn read_formal_parameter_rest<N: HoldsBindingPattern + Drop, R: RowOf<N> + Drop>(
     alloc: Global,
     kept: &mut Vec<Kept<R>>,
     number: usize,
@@ -112,7 +115,7 @@ fn read_formal_parameter_rest<N: ReadNode + Drop, R: RowOf<N> + Drop>(
 }
 
 #[tactic(auto, unfolding(jsgen_fields::specs::Reads::read_node))]
-fn read_formal_parameters<N: ReadNode + Drop, R: RowOf<N> + Drop>(
+fn read_formal_parameters<N: PlainNode + Drop, R: RowOf<N> + Drop>(
     alloc: Global,
     kept: &mut Vec<Kept<R>>,
     number: usize,
@@ -138,7 +141,7 @@ fn read_formal_parameters<N: ReadNode + Drop, R: RowOf<N> + Drop>(
 }
 
 #[tactic(auto, unfolding(jsgen_fields::specs::Reads::read_node))]
-fn read_function<N: ReadNode + Drop, R: RowOf<N> + Drop>(
+fn read_function<N: PlainNode + Drop, R: RowOf<N> + Drop>(
     alloc: Global,
     kept: &mut Vec<Kept<R>>,
     number: usize,
@@ -204,7 +207,7 @@ fn read_function<N: ReadNode + Drop, R: RowOf<N> + Drop>(
 }
 
 #[tactic(auto, unfolding(jsgen_fields::specs::Reads::read_node))]
-fn read_function_body<N: ReadNode + Drop, R: RowOf<N> + Drop>(
+fn read_function_body<N: HoldsDeclaration + HoldsStatement + Drop, R: RowOf<N> + Drop>(
     alloc: Global,
     kept: &mut Vec<Kept<R>>,
     number: usize,
@@ -234,7 +237,7 @@ fn read_function_body<N: ReadNode + Drop, R: RowOf<N> + Drop>(
 }
 
 #[tactic(auto, unfolding(jsgen_fields::specs::Reads::read_node))]
-fn read_arrow_function_expression<N: ReadNode + Drop, R: RowOf<N> + Drop>(
+fn read_arrow_function_expression<N: HoldsExpression + Drop, R: RowOf<N> + Drop>(
     alloc: Global,
     kept: &mut Vec<Kept<R>>,
     number: usize,

@@ -9,7 +9,7 @@ ghost use Rattle.jsgen_fields.specs.Parts.{is_in_operations};
 ghost use Rattle.jsgen_tree.specs.declared.types.NodeType.TheVariants as types;
 
 use jsgen_fields::InputFault;
-use jsgen_fields::asked::{ReadNode, RowOf};
+use jsgen_fields::asked::{HoldsExpression, PlainNode, ReadNode, RowOf};
 use jsgen_fields::fields::boxed;
 use jsgen_fields::kept::row_of_expression;
 use jsgen_fields::others::OtherExpression;
@@ -25,7 +25,7 @@ use serde_json::Value;
 use std::alloc::Global;
 
 #[tactic(auto, unfolding(jsgen_fields::specs::Reads::read_node))]
-fn read_unary_expression<N: ReadNode + Drop, R: RowOf<N> + Drop>(
+fn read_unary_expression<N: HoldsExpression + Drop, R: RowOf<N> + Drop>(
     alloc: Global,
     kept: &mut Vec<Kept<R>>,
     number: usize,
@@ -60,7 +60,7 @@ fn read_unary_expression<N: ReadNode + Drop, R: RowOf<N> + Drop>(
 }
 
 #[tactic(auto, unfolding(jsgen_fields::specs::Reads::read_node))]
-fn read_new_target<N: ReadNode + Drop, R: RowOf<N> + Drop>(
+fn read_new_target<N: PlainNode + Drop, R: RowOf<N> + Drop>(
     alloc: Global,
     kept: &mut Vec<Kept<R>>,
     number: usize,
@@ -86,7 +86,7 @@ fn read_new_target<N: ReadNode + Drop, R: RowOf<N> + Drop>(
 }
 
 #[tactic(auto, unfolding(jsgen_fields::specs::Reads::read_node))]
-fn read_update_expression<N: ReadNode + Drop, R: RowOf<N> + Drop>(
+fn read_update_expression<N: PlainNode + Drop, R: RowOf<N> + Drop>(
     alloc: Global,
     kept: &mut Vec<Kept<R>>,
     number: usize,
@@ -128,7 +128,7 @@ fn read_update_expression<N: ReadNode + Drop, R: RowOf<N> + Drop>(
 }
 
 #[tactic(auto, unfolding(jsgen_fields::specs::Reads::read_node))]
-fn read_new_expression<N: ReadNode + Drop, R: RowOf<N> + Drop>(
+fn read_new_expression<N: HoldsExpression + Drop, R: RowOf<N> + Drop>(
     alloc: Global,
     kept: &mut Vec<Kept<R>>,
     number: usize,
@@ -172,7 +172,7 @@ fn read_new_expression<N: ReadNode + Drop, R: RowOf<N> + Drop>(
 }
 
 #[tactic(auto, unfolding(jsgen_fields::specs::Reads::read_node))]
-fn read_super<N: ReadNode + Drop, R: RowOf<N> + Drop>(
+fn read_super<N: PlainNode + Drop, R: RowOf<N> + Drop>(
     alloc: Global,
     kept: &mut Vec<Kept<R>>,
     number: usize,

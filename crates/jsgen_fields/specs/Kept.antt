@@ -6,6 +6,7 @@ use Rattle.jsgen_tree.specs.Rows.{program_row, comment_row, directive_row, varia
 use Rattle.jsgen_pool.specs.Pool.{Entry}
 use Rattle.jsgen_pool.specs.declared.Kept.{Kept}
 use Rattle.jsgen_fields.specs.declared.kept.Row.{Row}
+use Rattle.jsgen_fields.specs.declared.kept.AnyRow.{AnyRow}
 use Rattle.jsgen_pool.specs.Pool as pool
 use Rattle.jsgen_fields.specs.declared.kept.Row.TheVariants as rows
 
@@ -30,8 +31,11 @@ row_plain plain (rows.LabelIdentifier b) = label_identifier_row b.value
 row_plain plain (rows.SwitchCase b) = switch_case_row plain b.value
 row_plain plain (rows.CatchClause b) = catch_clause_row plain b.value
 
-abbrev pub entry : {N : Type 0} → (N → Tree) → Kept (Row N) → Entry
-entry plain k = pool.entry (row_plain plain) k
+abbrev pub any_row_plain : {N : Type 0} → (N → Tree) → AnyRow N → Tree
+any_row_plain plain any = row_plain plain any.row
 
-abbrev pub entries : {N : Type 0} → (N → Tree) → List (Kept (Row N)) → List Entry
-entries plain ks = pool.entries (row_plain plain) ks
+abbrev pub entry : {N : Type 0} → (N → Tree) → Kept (AnyRow N) → Entry
+entry plain k = pool.entry (any_row_plain plain) k
+
+abbrev pub entries : {N : Type 0} → (N → Tree) → List (Kept (AnyRow N)) → List Entry
+entries plain ks = pool.entries (any_row_plain plain) ks

@@ -16,76 +16,69 @@ use jsgen_tree::{
 };
 use std::alloc::{AllocError, Global};
 
-/// What the reader asks of a node where trees nest. Only `Node` implements it.
-pub trait ReadNode: Sized {
+/// A node where trees nest, with what it is as plain data.
+pub trait PlainNode: Sized {
     ghost use Rattle.jsgen_tree.specs.Tree.{Tree};
 
     ghost plain: { Self → Tree };
-
-    fn expression_node(expression: Expression<Self>) -> ExpressionNode<Self>
-        ensures { in_expression plain result ≡ expression_plain plain expression };
-
-    fn expression_type(expression: &Expression<Self>) -> NodeType
-        ensures { result ≡ type_of (expression_plain plain expression.now) };
-
-    fn declaration_node(declaration: Declaration<Self>) -> DeclarationNode<Self>
-        ensures { in_declaration plain result ≡ declaration_plain plain declaration };
-
-    fn declaration_type(declaration: &Declaration<Self>) -> NodeType
-        ensures { result ≡ type_of (declaration_plain plain declaration.now) };
-
-    fn statement_node(statement: Statement<Self>) -> StatementNode<Self>
-        ensures { in_statement plain result ≡ statement_plain plain statement };
-
-    fn statement_type(statement: &Statement<Self>) -> NodeType
-        ensures { result ≡ type_of (statement_plain plain statement.now) };
-
-    fn binding_pattern_node(binding_pattern: BindingPattern) -> BindingPatternNode<Self>
-        ensures { in_binding_pattern plain result ≡ binding_pattern_plain binding_pattern };
 }
 
-impl ReadNode for Node {
+impl PlainNode for Node {
     ghost plain = { λ n. node_plain n };
+}
 
+/// A node that may be an expression.
+pub trait HoldsExpression: PlainNode {
+    fn expression_node(expression: Expression<Self>) -> ExpressionNode<Self>
+        ensures { in_expression Self.plain result ≡ expression_plain Self.plain expression };
+}
+
+impl HoldsExpression for Node {
     #[tactic(auto, using(jsgen_tree::proofs::Knot::plain_expression))]
     fn expression_node(expression: Expression) -> ExpressionNode
         ensures { in_expression node_plain result ≡ expression_plain node_plain expression }
     {
         expression.into()
     }
+}
 
-    fn expression_type(expression: &Expression) -> NodeType
-        ensures { result ≡ type_of (expression_plain node_plain expression.now) }
-    {
-        expression.node_type()
-    }
+/// A node that may be a declaration.
+pub trait HoldsDeclaration: PlainNode {
+    fn declaration_node(declaration: Declaration<Self>) -> DeclarationNode<Self>
+        ensures { in_declaration Self.plain result ≡ declaration_plain Self.plain declaration };
+}
 
+impl HoldsDeclaration for Node {
     #[tactic(auto, using(jsgen_tree::proofs::Knot::plain_declaration))]
     fn declaration_node(declaration: Declaration) -> DeclarationNode
         ensures { in_declaration node_plain result ≡ declaration_plain node_plain declaration }
     {
         declaration.into()
     }
+}
 
-    fn declaration_type(declaration: &Declaration) -> NodeType
-        ensures { result ≡ type_of (declaration_plain node_plain declaration.now) }
-    {
-        declaration.node_type()
-    }
+/// A node that may be a statement.
+pub trait HoldsStatement: PlainNode {
+    fn statement_node(statement: Statement<Self>) -> StatementNode<Self>
+        ensures { in_statement Self.plain result ≡ statement_plain Self.plain statement };
+}
 
+impl HoldsStatement for Node {
     #[tactic(auto, using(jsgen_tree::proofs::Knot::plain_statement))]
     fn statement_node(statement: Statement) -> StatementNode
         ensures { in_statement node_plain result ≡ statement_plain node_plain statement }
     {
         statement.into()
     }
+}
 
-    fn statement_type(statement: &Statement) -> NodeType
-        ensures { result ≡ type_of (statement_plain node_plain statement.now) }
-    {
-        statement.node_type()
-    }
+/// A node that may be a binding pattern.
+pub trait HoldsBindingPattern: PlainNode {
+    fn binding_pattern_node(binding_pattern: BindingPattern) -> BindingPatternNode<Self>
+        ensures { in_binding_pattern Self.plain result ≡ binding_pattern_plain binding_pattern };
+}
 
+impl HoldsBindingPattern for Node {
     #[tactic(auto, using(jsgen_tree::proofs::Knot::plain_binding_pattern))]
     fn binding_pattern_node(binding_pattern: BindingPattern) -> BindingPatternNode
         ensures { in_binding_pattern node_plain result ≡ binding_pattern_plain binding_pattern }
@@ -94,8 +87,40 @@ impl ReadNode for Node {
     }
 }
 
+/// What the reader asks of a node where trees nest. Only `Node` implements it.
+pub trait ReadNode: HoldsExpression + HoldsDeclaration + HoldsStatement + HoldsBindingPattern {
+    fn expression_type(expression: &Expression<Self>) -> NodeType
+        ensures { result ≡ type_of (expression_plain Self.plain expression.now) };
+
+    fn declaration_type(declaration: &Declaration<Self>) -> NodeType
+        ensures { result ≡ type_of (declaration_plain Self.plain declaration.now) };
+
+    fn statement_type(statement: &Statement<Self>) -> NodeType
+        ensures { result ≡ type_of (statement_plain Self.plain statement.now) };
+}
+
+impl ReadNode for Node {
+    fn expression_type(expression: &Expression) -> NodeType
+        ensures { result ≡ type_of (expression_plain node_plain expression.now) }
+    {
+        expression.node_type()
+    }
+
+    fn declaration_type(declaration: &Declaration) -> NodeType
+        ensures { result ≡ type_of (declaration_plain node_plain declaration.now) }
+    {
+        declaration.node_type()
+    }
+
+    fn statement_type(statement: &Statement) -> NodeType
+        ensures { result ≡ type_of (statement_plain node_plain statement.now) }
+    {
+        statement.node_type()
+    }
+}
+
 /// What a place for children takes: a set of types, and what is made of a row of one of them.
-pub trait Child<N: ReadNode>: Sized {
+pub trait Child<N: PlainNode>: Sized {
     ghost use Rattle.jsgen_tree.specs.Tree.{Tree};
     ghost use Rattle.jsgen_tree.specs.declared.types.NodeSet.{NodeSet};
 
@@ -112,9 +137,9 @@ pub trait Child<N: ReadNode>: Sized {
             ≡ (if in_set of_set (type_of (row_plain N.plain row)) then Some (row_plain N.plain row) else None)) };
 }
 
-/// What the reader asks of a row: the child that it is at a place, and to be made of one. Only `Row` implements it; the reader is
+/// What the reader asks of a row: the child that it is at a place, and to be made of one. Only `AnyRow` implements it; the reader is
 /// generic in it, since a proof of what has to do with `Row` itself looks at all types.
-pub trait RowOf<N: ReadNode>: Typed + Sized {
+pub trait RowOf<N: PlainNode>: Typed + Sized {
     fn into_child<C: Child<N> + Drop>(self, alloc: Global) -> Result<Option<C>, AllocError>
         ensures { IfOk result (λ child. option_map C.plain child
             ≡ (if in_set C.of_set (type_of (Self.plain self)) then Some (Self.plain self) else None)) };

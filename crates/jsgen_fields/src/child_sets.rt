@@ -7,18 +7,30 @@ ghost use Rattle.jsgen_tree.specs.Rows.{in_expression, in_argument, in_array_exp
 ghost use Rattle.jsgen_fields.specs.Kept.{row_plain};
 ghost use Rattle.jsgen_tree.specs.declared.types.NodeSet.TheVariants as sets;
 
-use crate::asked::{Child, ReadNode};
+use crate::asked::{
+    Child, HoldsBindingPattern, HoldsDeclaration, HoldsExpression, HoldsStatement, PlainNode,
+};
 use crate::kept::Row;
+use crate::members::{
+    argument_of_expression, array_expression_element_of_expression,
+    arrow_function_body_of_expression, assignment_target_of_expression,
+    binding_identifier_of_binding_pattern_in_box, block_statement_of_statement_in_box,
+    chain_element_of_expression, for_statement_init_of_declaration,
+    for_statement_init_of_expression, for_statement_left_of_declaration,
+    for_statement_left_of_expression, property_key_of_expression,
+    simple_assignment_target_of_expression, statement_of_declaration,
+};
 use jsgen_tree::{
     Argument, ArrayExpressionElement, ArrowFunctionBody, AssignmentTarget, BindingIdentifier,
-    BindingPatternNode, BlockStatement, CatchClause, ChainElement, Comment, Directive,
-    ExpressionNode, ForStatementInit, ForStatementLeft, FormalParameter, FormalParameterRest,
-    FormalParameters, FunctionBody, IdentifierName, LabelIdentifier, NodeSet, ObjectPropertyKind,
-    PropertyKey, SimpleAssignmentTarget, StatementNode, SwitchCase, VariableDeclarator,
+    BindingPatternNode, BlockStatement, CatchClause, ChainElement, Comment, Declaration, Directive,
+    Expression, ExpressionNode, ForStatementInit, ForStatementLeft, FormalParameter,
+    FormalParameterRest, FormalParameters, FunctionBody, IdentifierName, LabelIdentifier, NodeSet,
+    ObjectPropertyKind, PropertyKey, SimpleAssignmentTarget, StatementNode, SwitchCase,
+    VariableDeclarator,
 };
 use std::alloc::{AllocError, Global};
 
-impl<N: ReadNode + Drop> Child<N> for Comment {
+impl<N: PlainNode + Drop> Child<N> for Comment {
     ghost plain = { λ n. comment_row n };
 
     ghost of_set = { sets.Comment };
@@ -27,15 +39,23 @@ impl<N: ReadNode + Drop> Child<N> for Comment {
         NodeSet::Comment
     }
 
+    #[tactic(auto, using(crate::proofs::Sets::takes_comments))]
     fn from_row(alloc: Global, row: Row<N>) -> Result<Option<Comment>, AllocError>
         ensures { IfOk result (λ child. option_map comment_row child
             ≡ (if in_set sets.Comment (type_of (row_plain N.plain row)) then Some (row_plain N.plain row) else None)) }
     {
-        row.into_comment(alloc)
+        let _ = alloc;
+        match row {
+            Row::Comment(row) => Ok(Some(Box::into_inner(row))),
+            rest => {
+                rest.let_go();
+                Ok(None)
+            }
+        }
     }
 }
 
-impl<N: ReadNode + Drop> Child<N> for Directive {
+impl<N: PlainNode + Drop> Child<N> for Directive {
     ghost plain = { λ n. directive_row n };
 
     ghost of_set = { sets.Directive };
@@ -44,15 +64,23 @@ impl<N: ReadNode + Drop> Child<N> for Directive {
         NodeSet::Directive
     }
 
+    #[tactic(auto, using(crate::proofs::Sets::takes_directives))]
     fn from_row(alloc: Global, row: Row<N>) -> Result<Option<Directive>, AllocError>
         ensures { IfOk result (λ child. option_map directive_row child
             ≡ (if in_set sets.Directive (type_of (row_plain N.plain row)) then Some (row_plain N.plain row) else None)) }
     {
-        row.into_directive(alloc)
+        let _ = alloc;
+        match row {
+            Row::Directive(row) => Ok(Some(Box::into_inner(row))),
+            rest => {
+                rest.let_go();
+                Ok(None)
+            }
+        }
     }
 }
 
-impl<N: ReadNode + Drop> Child<N> for StatementNode<N> {
+impl<N: HoldsDeclaration + HoldsStatement + Drop> Child<N> for StatementNode<N> {
     ghost plain = { λ n. in_statement N.plain n };
 
     ghost of_set = { sets.Statement };
@@ -61,15 +89,30 @@ impl<N: ReadNode + Drop> Child<N> for StatementNode<N> {
         NodeSet::Statement
     }
 
+    #[tactic(auto, using(crate::proofs::Sets::takes_statements))]
     fn from_row(alloc: Global, row: Row<N>) -> Result<Option<StatementNode<N>>, AllocError>
         ensures { IfOk result (λ child. option_map (in_statement N.plain) child
             ≡ (if in_set sets.Statement (type_of (row_plain N.plain row)) then Some (row_plain N.plain row) else None)) }
     {
-        row.into_statement(alloc)
+        match row {
+            Row::Declaration(row) => statement_of_declaration(
+                alloc,
+                N::declaration_node(Box::into_inner(row).declaration),
+            ),
+            Row::Statement(row) => Ok(Some(N::statement_node(Box::into_inner(row).statement))),
+            Row::Function(row) => statement_of_declaration(
+                alloc,
+                N::declaration_node(Declaration::Function(row)),
+            ),
+            rest => {
+                rest.let_go();
+                Ok(None)
+            }
+        }
     }
 }
 
-impl<N: ReadNode + Drop> Child<N> for VariableDeclarator<N> {
+impl<N: PlainNode + Drop> Child<N> for VariableDeclarator<N> {
     ghost plain = { λ n. variable_declarator_row N.plain n };
 
     ghost of_set = { sets.VariableDeclarator };
@@ -78,15 +121,23 @@ impl<N: ReadNode + Drop> Child<N> for VariableDeclarator<N> {
         NodeSet::VariableDeclarator
     }
 
+    #[tactic(auto, using(crate::proofs::Sets::takes_variable_declarators))]
     fn from_row(alloc: Global, row: Row<N>) -> Result<Option<VariableDeclarator<N>>, AllocError>
         ensures { IfOk result (λ child. option_map (variable_declarator_row N.plain) child
             ≡ (if in_set sets.VariableDeclarator (type_of (row_plain N.plain row)) then Some (row_plain N.plain row) else None)) }
     {
-        row.into_variable_declarator(alloc)
+        let _ = alloc;
+        match row {
+            Row::VariableDeclarator(row) => Ok(Some(Box::into_inner(row))),
+            rest => {
+                rest.let_go();
+                Ok(None)
+            }
+        }
     }
 }
 
-impl<N: ReadNode + Drop> Child<N> for BindingPatternNode<N> {
+impl<N: HoldsBindingPattern + Drop> Child<N> for BindingPatternNode<N> {
     ghost plain = { λ n. in_binding_pattern N.plain n };
 
     ghost of_set = { sets.BindingPattern };
@@ -95,15 +146,23 @@ impl<N: ReadNode + Drop> Child<N> for BindingPatternNode<N> {
         NodeSet::BindingPattern
     }
 
+    #[tactic(auto, using(crate::proofs::Sets::takes_binding_patterns))]
     fn from_row(alloc: Global, row: Row<N>) -> Result<Option<BindingPatternNode<N>>, AllocError>
         ensures { IfOk result (λ child. option_map (in_binding_pattern N.plain) child
             ≡ (if in_set sets.BindingPattern (type_of (row_plain N.plain row)) then Some (row_plain N.plain row) else None)) }
     {
-        row.into_binding_pattern(alloc)
+        let _ = alloc;
+        match row {
+            Row::BindingPattern(row) => Ok(Some(N::binding_pattern_node(Box::into_inner(row)))),
+            rest => {
+                rest.let_go();
+                Ok(None)
+            }
+        }
     }
 }
 
-impl<N: ReadNode + Drop> Child<N> for ExpressionNode<N> {
+impl<N: HoldsExpression + Drop> Child<N> for ExpressionNode<N> {
     ghost plain = { λ n. in_expression N.plain n };
 
     ghost of_set = { sets.Expression };
@@ -112,15 +171,24 @@ impl<N: ReadNode + Drop> Child<N> for ExpressionNode<N> {
         NodeSet::Expression
     }
 
+    #[tactic(auto, using(crate::proofs::Sets::takes_expressions))]
     fn from_row(alloc: Global, row: Row<N>) -> Result<Option<ExpressionNode<N>>, AllocError>
         ensures { IfOk result (λ child. option_map (in_expression N.plain) child
             ≡ (if in_set sets.Expression (type_of (row_plain N.plain row)) then Some (row_plain N.plain row) else None)) }
     {
-        row.into_expression(alloc)
+        let _ = alloc;
+        match row {
+            Row::Expression(row) => Ok(Some(N::expression_node(Box::into_inner(row).expression))),
+            Row::Function(row) => Ok(Some(N::expression_node(Expression::Function(row)))),
+            rest => {
+                rest.let_go();
+                Ok(None)
+            }
+        }
     }
 }
 
-impl<N: ReadNode + Drop> Child<N> for Box<IdentifierName> {
+impl<N: PlainNode + Drop> Child<N> for Box<IdentifierName> {
     ghost plain = { λ n. identifier_name_row n.value };
 
     ghost of_set = { sets.IdentifierName };
@@ -129,15 +197,23 @@ impl<N: ReadNode + Drop> Child<N> for Box<IdentifierName> {
         NodeSet::IdentifierName
     }
 
+    #[tactic(auto, using(crate::proofs::Sets::takes_identifier_names))]
     fn from_row(alloc: Global, row: Row<N>) -> Result<Option<Box<IdentifierName>>, AllocError>
         ensures { IfOk result (λ child. option_map (λ b. identifier_name_row b.value) child
             ≡ (if in_set sets.IdentifierName (type_of (row_plain N.plain row)) then Some (row_plain N.plain row) else None)) }
     {
-        row.into_identifier_name(alloc)
+        let _ = alloc;
+        match row {
+            Row::IdentifierName(row) => Ok(Some(row)),
+            rest => {
+                rest.let_go();
+                Ok(None)
+            }
+        }
     }
 }
 
-impl<N: ReadNode + Drop> Child<N> for Argument<N> {
+impl<N: HoldsExpression + Drop> Child<N> for Argument<N> {
     ghost plain = { λ n. in_argument N.plain n };
 
     ghost of_set = { sets.Argument };
@@ -146,15 +222,30 @@ impl<N: ReadNode + Drop> Child<N> for Argument<N> {
         NodeSet::Argument
     }
 
+    #[tactic(auto, using(crate::proofs::Sets::takes_arguments))]
     fn from_row(alloc: Global, row: Row<N>) -> Result<Option<Argument<N>>, AllocError>
         ensures { IfOk result (λ child. option_map (in_argument N.plain) child
             ≡ (if in_set sets.Argument (type_of (row_plain N.plain row)) then Some (row_plain N.plain row) else None)) }
     {
-        row.into_argument(alloc)
+        match row {
+            Row::Expression(row) => argument_of_expression(
+                alloc,
+                N::expression_node(Box::into_inner(row).expression),
+            ),
+            Row::SpreadElement(row) => Ok(Some(Argument::SpreadElement(row))),
+            Row::Function(row) => argument_of_expression(
+                alloc,
+                N::expression_node(Expression::Function(row)),
+            ),
+            rest => {
+                rest.let_go();
+                Ok(None)
+            }
+        }
     }
 }
 
-impl<N: ReadNode + Drop> Child<N> for ChainElement<N> {
+impl<N: PlainNode + Drop> Child<N> for ChainElement<N> {
     ghost plain = { λ n. in_chain_element N.plain n };
 
     ghost of_set = { sets.ChainElement };
@@ -163,15 +254,23 @@ impl<N: ReadNode + Drop> Child<N> for ChainElement<N> {
         NodeSet::ChainElement
     }
 
+    #[tactic(auto, using(crate::proofs::Sets::takes_chain_elements))]
     fn from_row(alloc: Global, row: Row<N>) -> Result<Option<ChainElement<N>>, AllocError>
         ensures { IfOk result (λ child. option_map (in_chain_element N.plain) child
             ≡ (if in_set sets.ChainElement (type_of (row_plain N.plain row)) then Some (row_plain N.plain row) else None)) }
     {
-        row.into_chain_element(alloc)
+        let _ = alloc;
+        match row {
+            Row::Expression(row) => Ok(chain_element_of_expression(Box::into_inner(row))),
+            rest => {
+                rest.let_go();
+                Ok(None)
+            }
+        }
     }
 }
 
-impl<N: ReadNode + Drop> Child<N> for ArrayExpressionElement<N> {
+impl<N: HoldsExpression + Drop> Child<N> for ArrayExpressionElement<N> {
     ghost plain = { λ n. in_array_expression_element N.plain n };
 
     ghost of_set = { sets.ArrayExpressionElement };
@@ -180,15 +279,30 @@ impl<N: ReadNode + Drop> Child<N> for ArrayExpressionElement<N> {
         NodeSet::ArrayExpressionElement
     }
 
+    #[tactic(auto, using(crate::proofs::Sets::takes_array_expression_elements))]
     fn from_row(alloc: Global, row: Row<N>) -> Result<Option<ArrayExpressionElement<N>>, AllocError>
         ensures { IfOk result (λ child. option_map (in_array_expression_element N.plain) child
             ≡ (if in_set sets.ArrayExpressionElement (type_of (row_plain N.plain row)) then Some (row_plain N.plain row) else None)) }
     {
-        row.into_array_expression_element(alloc)
+        match row {
+            Row::Expression(row) => array_expression_element_of_expression(
+                alloc,
+                N::expression_node(Box::into_inner(row).expression),
+            ),
+            Row::SpreadElement(row) => Ok(Some(ArrayExpressionElement::SpreadElement(row))),
+            Row::Function(row) => array_expression_element_of_expression(
+                alloc,
+                N::expression_node(Expression::Function(row)),
+            ),
+            rest => {
+                rest.let_go();
+                Ok(None)
+            }
+        }
     }
 }
 
-impl<N: ReadNode + Drop> Child<N> for PropertyKey<N> {
+impl<N: HoldsExpression + Drop> Child<N> for PropertyKey<N> {
     ghost plain = { λ n. in_property_key N.plain n };
 
     ghost of_set = { sets.PropertyKey };
@@ -197,15 +311,30 @@ impl<N: ReadNode + Drop> Child<N> for PropertyKey<N> {
         NodeSet::PropertyKey
     }
 
+    #[tactic(auto, using(crate::proofs::Sets::takes_property_keys))]
     fn from_row(alloc: Global, row: Row<N>) -> Result<Option<PropertyKey<N>>, AllocError>
         ensures { IfOk result (λ child. option_map (in_property_key N.plain) child
             ≡ (if in_set sets.PropertyKey (type_of (row_plain N.plain row)) then Some (row_plain N.plain row) else None)) }
     {
-        row.into_property_key(alloc)
+        match row {
+            Row::Expression(row) => property_key_of_expression(
+                alloc,
+                N::expression_node(Box::into_inner(row).expression),
+            ),
+            Row::IdentifierName(row) => Ok(Some(PropertyKey::IdentifierName(row))),
+            Row::Function(row) => property_key_of_expression(
+                alloc,
+                N::expression_node(Expression::Function(row)),
+            ),
+            rest => {
+                rest.let_go();
+                Ok(None)
+            }
+        }
     }
 }
 
-impl<N: ReadNode + Drop> Child<N> for ObjectPropertyKind<N> {
+impl<N: PlainNode + Drop> Child<N> for ObjectPropertyKind<N> {
     ghost plain = { λ n. in_object_property_kind N.plain n };
 
     ghost of_set = { sets.ObjectPropertyKind };
@@ -214,15 +343,24 @@ impl<N: ReadNode + Drop> Child<N> for ObjectPropertyKind<N> {
         NodeSet::ObjectPropertyKind
     }
 
+    #[tactic(auto, using(crate::proofs::Sets::takes_object_property_kinds))]
     fn from_row(alloc: Global, row: Row<N>) -> Result<Option<ObjectPropertyKind<N>>, AllocError>
         ensures { IfOk result (λ child. option_map (in_object_property_kind N.plain) child
             ≡ (if in_set sets.ObjectPropertyKind (type_of (row_plain N.plain row)) then Some (row_plain N.plain row) else None)) }
     {
-        row.into_object_property_kind(alloc)
+        let _ = alloc;
+        match row {
+            Row::SpreadElement(row) => Ok(Some(ObjectPropertyKind::SpreadElement(row))),
+            Row::ObjectProperty(row) => Ok(Some(ObjectPropertyKind::ObjectProperty(row))),
+            rest => {
+                rest.let_go();
+                Ok(None)
+            }
+        }
     }
 }
 
-impl<N: ReadNode + Drop> Child<N> for SimpleAssignmentTarget<N> {
+impl<N: PlainNode + Drop> Child<N> for SimpleAssignmentTarget<N> {
     ghost plain = { λ n. in_simple_assignment_target N.plain n };
 
     ghost of_set = { sets.SimpleAssignmentTarget };
@@ -231,15 +369,25 @@ impl<N: ReadNode + Drop> Child<N> for SimpleAssignmentTarget<N> {
         NodeSet::SimpleAssignmentTarget
     }
 
+    #[tactic(auto, using(crate::proofs::Sets::takes_simple_assignment_targets))]
     fn from_row(alloc: Global, row: Row<N>) -> Result<Option<SimpleAssignmentTarget<N>>, AllocError>
         ensures { IfOk result (λ child. option_map (in_simple_assignment_target N.plain) child
             ≡ (if in_set sets.SimpleAssignmentTarget (type_of (row_plain N.plain row)) then Some (row_plain N.plain row) else None)) }
     {
-        row.into_simple_assignment_target(alloc)
+        let _ = alloc;
+        match row {
+            Row::Expression(row) => Ok(simple_assignment_target_of_expression(Box::into_inner(
+                row,
+            ))),
+            rest => {
+                rest.let_go();
+                Ok(None)
+            }
+        }
     }
 }
 
-impl<N: ReadNode + Drop> Child<N> for AssignmentTarget<N> {
+impl<N: PlainNode + Drop> Child<N> for AssignmentTarget<N> {
     ghost plain = { λ n. in_assignment_target N.plain n };
 
     ghost of_set = { sets.AssignmentTarget };
@@ -248,15 +396,23 @@ impl<N: ReadNode + Drop> Child<N> for AssignmentTarget<N> {
         NodeSet::AssignmentTarget
     }
 
+    #[tactic(auto, using(crate::proofs::Sets::takes_assignment_targets))]
     fn from_row(alloc: Global, row: Row<N>) -> Result<Option<AssignmentTarget<N>>, AllocError>
         ensures { IfOk result (λ child. option_map (in_assignment_target N.plain) child
             ≡ (if in_set sets.AssignmentTarget (type_of (row_plain N.plain row)) then Some (row_plain N.plain row) else None)) }
     {
-        row.into_assignment_target(alloc)
+        let _ = alloc;
+        match row {
+            Row::Expression(row) => Ok(assignment_target_of_expression(Box::into_inner(row))),
+            rest => {
+                rest.let_go();
+                Ok(None)
+            }
+        }
     }
 }
 
-impl<N: ReadNode + Drop> Child<N> for FormalParameter<N> {
+impl<N: PlainNode + Drop> Child<N> for FormalParameter<N> {
     ghost plain = { λ n. formal_parameter_row N.plain n };
 
     ghost of_set = { sets.FormalParameter };
@@ -265,15 +421,23 @@ impl<N: ReadNode + Drop> Child<N> for FormalParameter<N> {
         NodeSet::FormalParameter
     }
 
+    #[tactic(auto, using(crate::proofs::Sets::takes_formal_parameters))]
     fn from_row(alloc: Global, row: Row<N>) -> Result<Option<FormalParameter<N>>, AllocError>
         ensures { IfOk result (λ child. option_map (formal_parameter_row N.plain) child
             ≡ (if in_set sets.FormalParameter (type_of (row_plain N.plain row)) then Some (row_plain N.plain row) else None)) }
     {
-        row.into_formal_parameter(alloc)
+        let _ = alloc;
+        match row {
+            Row::FormalParameter(row) => Ok(Some(Box::into_inner(row))),
+            rest => {
+                rest.let_go();
+                Ok(None)
+            }
+        }
     }
 }
 
-impl<N: ReadNode + Drop> Child<N> for Box<FormalParameterRest<N>> {
+impl<N: PlainNode + Drop> Child<N> for Box<FormalParameterRest<N>> {
     ghost plain = { λ n. formal_parameter_rest_row N.plain n.value };
 
     ghost of_set = { sets.FormalParameterRest };
@@ -282,6 +446,7 @@ impl<N: ReadNode + Drop> Child<N> for Box<FormalParameterRest<N>> {
         NodeSet::FormalParameterRest
     }
 
+    #[tactic(auto, using(crate::proofs::Sets::takes_formal_parameter_rests))]
     fn from_row(
         alloc: Global,
         row: Row<N>,
@@ -289,11 +454,18 @@ impl<N: ReadNode + Drop> Child<N> for Box<FormalParameterRest<N>> {
         ensures { IfOk result (λ child. option_map (λ b. formal_parameter_rest_row N.plain b.value) child
             ≡ (if in_set sets.FormalParameterRest (type_of (row_plain N.plain row)) then Some (row_plain N.plain row) else None)) }
     {
-        row.into_formal_parameter_rest(alloc)
+        let _ = alloc;
+        match row {
+            Row::FormalParameterRest(row) => Ok(Some(row)),
+            rest => {
+                rest.let_go();
+                Ok(None)
+            }
+        }
     }
 }
 
-impl<N: ReadNode + Drop> Child<N> for Box<BindingIdentifier> {
+impl<N: PlainNode + Drop> Child<N> for Box<BindingIdentifier> {
     ghost plain = { λ n. binding_identifier_row n.value };
 
     ghost of_set = { sets.BindingIdentifier };
@@ -302,15 +474,25 @@ impl<N: ReadNode + Drop> Child<N> for Box<BindingIdentifier> {
         NodeSet::BindingIdentifier
     }
 
+    #[tactic(auto, using(crate::proofs::Sets::takes_binding_identifiers))]
     fn from_row(alloc: Global, row: Row<N>) -> Result<Option<Box<BindingIdentifier>>, AllocError>
         ensures { IfOk result (λ child. option_map (λ b. binding_identifier_row b.value) child
             ≡ (if in_set sets.BindingIdentifier (type_of (row_plain N.plain row)) then Some (row_plain N.plain row) else None)) }
     {
-        row.into_binding_identifier(alloc)
+        let _ = alloc;
+        match row {
+            Row::BindingPattern(row) => Ok(binding_identifier_of_binding_pattern_in_box(
+                Box::into_inner(row),
+            )),
+            rest => {
+                rest.let_go();
+                Ok(None)
+            }
+        }
     }
 }
 
-impl<N: ReadNode + Drop> Child<N> for Box<FormalParameters<N>> {
+impl<N: PlainNode + Drop> Child<N> for Box<FormalParameters<N>> {
     ghost plain = { λ n. formal_parameters_row N.plain n.value };
 
     ghost of_set = { sets.FormalParameters };
@@ -319,15 +501,23 @@ impl<N: ReadNode + Drop> Child<N> for Box<FormalParameters<N>> {
         NodeSet::FormalParameters
     }
 
+    #[tactic(auto, using(crate::proofs::Sets::takes_formal_parameterss))]
     fn from_row(alloc: Global, row: Row<N>) -> Result<Option<Box<FormalParameters<N>>>, AllocError>
         ensures { IfOk result (λ child. option_map (λ b. formal_parameters_row N.plain b.value) child
             ≡ (if in_set sets.FormalParameters (type_of (row_plain N.plain row)) then Some (row_plain N.plain row) else None)) }
     {
-        row.into_formal_parameters(alloc)
+        let _ = alloc;
+        match row {
+            Row::FormalParameters(row) => Ok(Some(row)),
+            rest => {
+                rest.let_go();
+                Ok(None)
+            }
+        }
     }
 }
 
-impl<N: ReadNode + Drop> Child<N> for Box<FunctionBody<N>> {
+impl<N: PlainNode + Drop> Child<N> for Box<FunctionBody<N>> {
     ghost plain = { λ n. function_body_row N.plain n.value };
 
     ghost of_set = { sets.FunctionBody };
@@ -336,15 +526,23 @@ impl<N: ReadNode + Drop> Child<N> for Box<FunctionBody<N>> {
         NodeSet::FunctionBody
     }
 
+    #[tactic(auto, using(crate::proofs::Sets::takes_function_bodys))]
     fn from_row(alloc: Global, row: Row<N>) -> Result<Option<Box<FunctionBody<N>>>, AllocError>
         ensures { IfOk result (λ child. option_map (λ b. function_body_row N.plain b.value) child
             ≡ (if in_set sets.FunctionBody (type_of (row_plain N.plain row)) then Some (row_plain N.plain row) else None)) }
     {
-        row.into_function_body(alloc)
+        let _ = alloc;
+        match row {
+            Row::FunctionBody(row) => Ok(Some(row)),
+            rest => {
+                rest.let_go();
+                Ok(None)
+            }
+        }
     }
 }
 
-impl<N: ReadNode + Drop> Child<N> for ArrowFunctionBody<N> {
+impl<N: HoldsExpression + Drop> Child<N> for ArrowFunctionBody<N> {
     ghost plain = { λ n. in_arrow_function_body N.plain n };
 
     ghost of_set = { sets.ArrowFunctionBody };
@@ -353,15 +551,30 @@ impl<N: ReadNode + Drop> Child<N> for ArrowFunctionBody<N> {
         NodeSet::ArrowFunctionBody
     }
 
+    #[tactic(auto, using(crate::proofs::Sets::takes_arrow_function_bodys))]
     fn from_row(alloc: Global, row: Row<N>) -> Result<Option<ArrowFunctionBody<N>>, AllocError>
         ensures { IfOk result (λ child. option_map (in_arrow_function_body N.plain) child
             ≡ (if in_set sets.ArrowFunctionBody (type_of (row_plain N.plain row)) then Some (row_plain N.plain row) else None)) }
     {
-        row.into_arrow_function_body(alloc)
+        match row {
+            Row::Expression(row) => arrow_function_body_of_expression(
+                alloc,
+                N::expression_node(Box::into_inner(row).expression),
+            ),
+            Row::Function(row) => arrow_function_body_of_expression(
+                alloc,
+                N::expression_node(Expression::Function(row)),
+            ),
+            Row::FunctionBody(row) => Ok(Some(ArrowFunctionBody::FunctionBody(row))),
+            rest => {
+                rest.let_go();
+                Ok(None)
+            }
+        }
     }
 }
 
-impl<N: ReadNode + Drop> Child<N> for ForStatementInit<N> {
+impl<N: HoldsExpression + Drop> Child<N> for ForStatementInit<N> {
     ghost plain = { λ n. in_for_statement_init N.plain n };
 
     ghost of_set = { sets.ForStatementInit };
@@ -370,15 +583,30 @@ impl<N: ReadNode + Drop> Child<N> for ForStatementInit<N> {
         NodeSet::ForStatementInit
     }
 
+    #[tactic(auto, using(crate::proofs::Sets::takes_for_statement_inits))]
     fn from_row(alloc: Global, row: Row<N>) -> Result<Option<ForStatementInit<N>>, AllocError>
         ensures { IfOk result (λ child. option_map (in_for_statement_init N.plain) child
             ≡ (if in_set sets.ForStatementInit (type_of (row_plain N.plain row)) then Some (row_plain N.plain row) else None)) }
     {
-        row.into_for_statement_init(alloc)
+        match row {
+            Row::Declaration(row) => Ok(for_statement_init_of_declaration(Box::into_inner(row))),
+            Row::Expression(row) => for_statement_init_of_expression(
+                alloc,
+                N::expression_node(Box::into_inner(row).expression),
+            ),
+            Row::Function(row) => for_statement_init_of_expression(
+                alloc,
+                N::expression_node(Expression::Function(row)),
+            ),
+            rest => {
+                rest.let_go();
+                Ok(None)
+            }
+        }
     }
 }
 
-impl<N: ReadNode + Drop> Child<N> for ForStatementLeft<N> {
+impl<N: PlainNode + Drop> Child<N> for ForStatementLeft<N> {
     ghost plain = { λ n. in_for_statement_left N.plain n };
 
     ghost of_set = { sets.ForStatementLeft };
@@ -387,15 +615,24 @@ impl<N: ReadNode + Drop> Child<N> for ForStatementLeft<N> {
         NodeSet::ForStatementLeft
     }
 
+    #[tactic(auto, using(crate::proofs::Sets::takes_for_statement_lefts))]
     fn from_row(alloc: Global, row: Row<N>) -> Result<Option<ForStatementLeft<N>>, AllocError>
         ensures { IfOk result (λ child. option_map (in_for_statement_left N.plain) child
             ≡ (if in_set sets.ForStatementLeft (type_of (row_plain N.plain row)) then Some (row_plain N.plain row) else None)) }
     {
-        row.into_for_statement_left(alloc)
+        let _ = alloc;
+        match row {
+            Row::Declaration(row) => Ok(for_statement_left_of_declaration(Box::into_inner(row))),
+            Row::Expression(row) => Ok(for_statement_left_of_expression(Box::into_inner(row))),
+            rest => {
+                rest.let_go();
+                Ok(None)
+            }
+        }
     }
 }
 
-impl<N: ReadNode + Drop> Child<N> for Box<LabelIdentifier> {
+impl<N: PlainNode + Drop> Child<N> for Box<LabelIdentifier> {
     ghost plain = { λ n. label_identifier_row n.value };
 
     ghost of_set = { sets.LabelIdentifier };
@@ -404,15 +641,23 @@ impl<N: ReadNode + Drop> Child<N> for Box<LabelIdentifier> {
         NodeSet::LabelIdentifier
     }
 
+    #[tactic(auto, using(crate::proofs::Sets::takes_label_identifiers))]
     fn from_row(alloc: Global, row: Row<N>) -> Result<Option<Box<LabelIdentifier>>, AllocError>
         ensures { IfOk result (λ child. option_map (λ b. label_identifier_row b.value) child
             ≡ (if in_set sets.LabelIdentifier (type_of (row_plain N.plain row)) then Some (row_plain N.plain row) else None)) }
     {
-        row.into_label_identifier(alloc)
+        let _ = alloc;
+        match row {
+            Row::LabelIdentifier(row) => Ok(Some(row)),
+            rest => {
+                rest.let_go();
+                Ok(None)
+            }
+        }
     }
 }
 
-impl<N: ReadNode + Drop> Child<N> for SwitchCase<N> {
+impl<N: PlainNode + Drop> Child<N> for SwitchCase<N> {
     ghost plain = { λ n. switch_case_row N.plain n };
 
     ghost of_set = { sets.SwitchCase };
@@ -421,15 +666,23 @@ impl<N: ReadNode + Drop> Child<N> for SwitchCase<N> {
         NodeSet::SwitchCase
     }
 
+    #[tactic(auto, using(crate::proofs::Sets::takes_switch_cases))]
     fn from_row(alloc: Global, row: Row<N>) -> Result<Option<SwitchCase<N>>, AllocError>
         ensures { IfOk result (λ child. option_map (switch_case_row N.plain) child
             ≡ (if in_set sets.SwitchCase (type_of (row_plain N.plain row)) then Some (row_plain N.plain row) else None)) }
     {
-        row.into_switch_case(alloc)
+        let _ = alloc;
+        match row {
+            Row::SwitchCase(row) => Ok(Some(Box::into_inner(row))),
+            rest => {
+                rest.let_go();
+                Ok(None)
+            }
+        }
     }
 }
 
-impl<N: ReadNode + Drop> Child<N> for Box<BlockStatement<N>> {
+impl<N: PlainNode + Drop> Child<N> for Box<BlockStatement<N>> {
     ghost plain = { λ n. block_statement_row N.plain n.value };
 
     ghost of_set = { sets.BlockStatement };
@@ -438,15 +691,23 @@ impl<N: ReadNode + Drop> Child<N> for Box<BlockStatement<N>> {
         NodeSet::BlockStatement
     }
 
+    #[tactic(auto, using(crate::proofs::Sets::takes_block_statements))]
     fn from_row(alloc: Global, row: Row<N>) -> Result<Option<Box<BlockStatement<N>>>, AllocError>
         ensures { IfOk result (λ child. option_map (λ b. block_statement_row N.plain b.value) child
             ≡ (if in_set sets.BlockStatement (type_of (row_plain N.plain row)) then Some (row_plain N.plain row) else None)) }
     {
-        row.into_block_statement(alloc)
+        let _ = alloc;
+        match row {
+            Row::Statement(row) => Ok(block_statement_of_statement_in_box(Box::into_inner(row))),
+            rest => {
+                rest.let_go();
+                Ok(None)
+            }
+        }
     }
 }
 
-impl<N: ReadNode + Drop> Child<N> for Box<CatchClause<N>> {
+impl<N: PlainNode + Drop> Child<N> for Box<CatchClause<N>> {
     ghost plain = { λ n. catch_clause_row N.plain n.value };
 
     ghost of_set = { sets.CatchClause };
@@ -455,10 +716,18 @@ impl<N: ReadNode + Drop> Child<N> for Box<CatchClause<N>> {
         NodeSet::CatchClause
     }
 
+    #[tactic(auto, using(crate::proofs::Sets::takes_catch_clauses))]
     fn from_row(alloc: Global, row: Row<N>) -> Result<Option<Box<CatchClause<N>>>, AllocError>
         ensures { IfOk result (λ child. option_map (λ b. catch_clause_row N.plain b.value) child
             ≡ (if in_set sets.CatchClause (type_of (row_plain N.plain row)) then Some (row_plain N.plain row) else None)) }
     {
-        row.into_catch_clause(alloc)
+        let _ = alloc;
+        match row {
+            Row::CatchClause(row) => Ok(Some(row)),
+            rest => {
+                rest.let_go();
+                Ok(None)
+            }
+        }
     }
 }

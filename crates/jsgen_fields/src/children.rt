@@ -8,7 +8,7 @@ ghost use Rattle.jsgen_fields.specs.Values.{Same};
 ghost use Rattle.jsgen_fields.specs.Reads.{Gives, number_in, take_child, take_or_hole, take_each};
 ghost use Rattle.jsgen_pool.specs.Pool.{entries};
 
-use crate::asked::{Child, ReadNode, RowOf};
+use crate::asked::{Child, PlainNode, RowOf};
 use crate::{At, InputFault};
 use jsgen_pool::{Kept, TakeFault, Typed, take};
 use jsgen_tree::NodeSet;
@@ -50,7 +50,7 @@ fn take_child<R: Typed + Drop>(
     }
 }
 
-pub fn take_as<N: ReadNode + Drop, R: RowOf<N> + Drop, C: Child<N> + Drop>(
+pub fn take_as<N: PlainNode + Drop, R: RowOf<N> + Drop, C: Child<N> + Drop>(
     alloc: Global,
     kept: &mut Vec<Kept<R>>,
     at: At,
@@ -66,7 +66,7 @@ pub fn take_as<N: ReadNode + Drop, R: RowOf<N> + Drop, C: Child<N> + Drop>(
     }
 }
 
-pub fn take_all<N: ReadNode + Drop, R: RowOf<N> + Drop, C: Child<N> + Drop>(
+pub fn take_all<N: PlainNode + Drop, R: RowOf<N> + Drop, C: Child<N> + Drop>(
     alloc: Global,
     kept: &mut Vec<Kept<R>>,
     at: At,
@@ -86,7 +86,7 @@ pub fn take_all<N: ReadNode + Drop, R: RowOf<N> + Drop, C: Child<N> + Drop>(
 // ---- lists with holes
 
 // Null is a hole.
-fn take_or_hole<N: ReadNode + Drop, R: RowOf<N> + Drop, C: Child<N> + Drop>(
+fn take_or_hole<N: PlainNode + Drop, R: RowOf<N> + Drop, C: Child<N> + Drop>(
     alloc: Global,
     kept: &mut Vec<Kept<R>>,
     at: At,
@@ -102,7 +102,7 @@ fn take_or_hole<N: ReadNode + Drop, R: RowOf<N> + Drop, C: Child<N> + Drop>(
     Ok(Some(child))
 }
 
-pub fn take_all_or_holes<N: ReadNode + Drop, R: RowOf<N> + Drop, C: Child<N> + Drop>(
+pub fn take_all_or_holes<N: PlainNode + Drop, R: RowOf<N> + Drop, C: Child<N> + Drop>(
     alloc: Global,
     kept: &mut Vec<Kept<R>>,
     at: At,

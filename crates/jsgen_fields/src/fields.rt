@@ -8,7 +8,7 @@ ghost use Rattle.jsgen_fields.specs.Meaning.{a_child, a_maybe, a_list};
 ghost use Rattle.jsgen_fields.specs.Reads.{Gives, read_children};
 ghost use Rattle.jsgen_pool.specs.Pool.{entries};
 
-use crate::asked::{Child, ReadNode, RowOf};
+use crate::asked::{Child, PlainNode, RowOf};
 use crate::children::{take_all, take_all_or_holes, take_as};
 use crate::values::{items_in, needed_value, optional_value};
 use crate::{At, InputFault};
@@ -17,7 +17,7 @@ use serde_json::Value;
 use std::alloc::Global;
 
 #[tactic(auto, unfolding(crate::specs::Reads::read_children))]
-pub fn needed_child<N: ReadNode + Drop, R: RowOf<N> + Drop, C: Child<N> + Drop>(
+pub fn needed_child<N: PlainNode + Drop, R: RowOf<N> + Drop, C: Child<N> + Drop>(
     alloc: Global,
     kept: &mut Vec<Kept<R>>,
     number: usize,
@@ -34,7 +34,7 @@ pub fn needed_child<N: ReadNode + Drop, R: RowOf<N> + Drop, C: Child<N> + Drop>(
 }
 
 #[tactic(auto, unfolding(crate::specs::Reads::read_children))]
-pub fn optional_child<N: ReadNode + Drop, R: RowOf<N> + Drop, C: Child<N> + Drop>(
+pub fn optional_child<N: PlainNode + Drop, R: RowOf<N> + Drop, C: Child<N> + Drop>(
     alloc: Global,
     kept: &mut Vec<Kept<R>>,
     number: usize,
@@ -55,7 +55,7 @@ pub fn optional_child<N: ReadNode + Drop, R: RowOf<N> + Drop, C: Child<N> + Drop
 
 /// A list that is empty where it is absent.
 #[tactic(auto, unfolding(crate::specs::Reads::read_children))]
-pub fn children<N: ReadNode + Drop, R: RowOf<N> + Drop, C: Child<N> + Drop>(
+pub fn children<N: PlainNode + Drop, R: RowOf<N> + Drop, C: Child<N> + Drop>(
     alloc: Global,
     kept: &mut Vec<Kept<R>>,
     number: usize,
@@ -76,7 +76,7 @@ pub fn children<N: ReadNode + Drop, R: RowOf<N> + Drop, C: Child<N> + Drop>(
 
 /// A list with a hole at each null, empty where it is absent.
 #[tactic(auto, unfolding(crate::specs::Reads::read_children))]
-pub fn children_or_holes<N: ReadNode + Drop, R: RowOf<N> + Drop, C: Child<N> + Drop>(
+pub fn children_or_holes<N: PlainNode + Drop, R: RowOf<N> + Drop, C: Child<N> + Drop>(
     alloc: Global,
     kept: &mut Vec<Kept<R>>,
     number: usize,

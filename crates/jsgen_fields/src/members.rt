@@ -6,7 +6,7 @@ ghost use Rattle.jsgen_tree.specs.Sets.{in_set};
 ghost use Rattle.jsgen_tree.specs.Rows.{in_expression, in_argument, in_array_expression_element, in_chain_element, in_simple_assignment_target, in_assignment_target, in_arrow_function_body, in_for_statement_init, in_for_statement_left, in_property_key, in_declaration, in_statement, binding_identifier_row, block_statement_row, expression_plain, declaration_plain, statement_plain, binding_pattern_plain};
 ghost use Rattle.jsgen_tree.specs.declared.types.NodeSet.TheVariants as sets;
 
-use crate::asked::ReadNode;
+use crate::asked::{HoldsStatement, PlainNode};
 use crate::others::{OtherDeclaration, OtherExpression, OtherStatement};
 use jsgen_tree::{
     Argument, ArrayExpressionElement, ArrowFunctionBody, AssignmentTarget, BindingIdentifier,
@@ -18,7 +18,7 @@ use std::alloc::{AllocError, Global};
 
 // ---- a member of a set within the set, which stands in a box of its own
 
-pub fn statement_of_declaration<N: ReadNode + Drop>(
+pub fn statement_of_declaration<N: HoldsStatement + Drop>(
     alloc: Global,
     declaration: DeclarationNode<N>,
 ) -> Result<Option<StatementNode<N>>, AllocError>
@@ -28,7 +28,7 @@ pub fn statement_of_declaration<N: ReadNode + Drop>(
     Ok(Some(N::statement_node(Statement::Declaration(declaration))))
 }
 
-pub fn argument_of_expression<N: ReadNode + Drop>(
+pub fn argument_of_expression<N: PlainNode + Drop>(
     alloc: Global,
     expression: ExpressionNode<N>,
 ) -> Result<Option<Argument<N>>, AllocError>
@@ -38,7 +38,7 @@ pub fn argument_of_expression<N: ReadNode + Drop>(
     Ok(Some(Argument::Expression(expression)))
 }
 
-pub fn array_expression_element_of_expression<N: ReadNode + Drop>(
+pub fn array_expression_element_of_expression<N: PlainNode + Drop>(
     alloc: Global,
     expression: ExpressionNode<N>,
 ) -> Result<Option<ArrayExpressionElement<N>>, AllocError>
@@ -48,7 +48,7 @@ pub fn array_expression_element_of_expression<N: ReadNode + Drop>(
     Ok(Some(ArrayExpressionElement::Expression(expression)))
 }
 
-pub fn property_key_of_expression<N: ReadNode + Drop>(
+pub fn property_key_of_expression<N: PlainNode + Drop>(
     alloc: Global,
     expression: ExpressionNode<N>,
 ) -> Result<Option<PropertyKey<N>>, AllocError>
@@ -58,7 +58,7 @@ pub fn property_key_of_expression<N: ReadNode + Drop>(
     Ok(Some(PropertyKey::Expression(expression)))
 }
 
-pub fn arrow_function_body_of_expression<N: ReadNode + Drop>(
+pub fn arrow_function_body_of_expression<N: PlainNode + Drop>(
     alloc: Global,
     expression: ExpressionNode<N>,
 ) -> Result<Option<ArrowFunctionBody<N>>, AllocError>
@@ -68,7 +68,7 @@ pub fn arrow_function_body_of_expression<N: ReadNode + Drop>(
     Ok(Some(ArrowFunctionBody::Expression(expression)))
 }
 
-pub fn for_statement_init_of_expression<N: ReadNode + Drop>(
+pub fn for_statement_init_of_expression<N: PlainNode + Drop>(
     alloc: Global,
     expression: ExpressionNode<N>,
 ) -> Result<Option<ForStatementInit<N>>, AllocError>
@@ -80,7 +80,7 @@ pub fn for_statement_init_of_expression<N: ReadNode + Drop>(
 
 // ---- a place that takes some types of a set
 
-pub fn chain_element_of_expression<N: ReadNode + Drop>(
+pub fn chain_element_of_expression<N: PlainNode + Drop>(
     row: OtherExpression<N>,
 ) -> Option<ChainElement<N>>
     ensures { option_map (in_chain_element N.plain) result
@@ -93,11 +93,14 @@ pub fn chain_element_of_expression<N: ReadNode + Drop>(
             row,
         )),
         Expression::CallExpression(row) => Some(ChainElement::CallExpression(row)),
-        _ => None,
+        rest => {
+            drop(rest);
+            None
+        }
     }
 }
 
-pub fn simple_assignment_target_of_expression<N: ReadNode + Drop>(
+pub fn simple_assignment_target_of_expression<N: PlainNode + Drop>(
     row: OtherExpression<N>,
 ) -> Option<SimpleAssignmentTarget<N>>
     ensures { option_map (in_simple_assignment_target N.plain) result
@@ -114,11 +117,14 @@ pub fn simple_assignment_target_of_expression<N: ReadNode + Drop>(
         Expression::ComputedMemberExpression(row) => Some(
             SimpleAssignmentTarget::ComputedMemberExpression(row),
         ),
-        _ => None,
+        rest => {
+            drop(rest);
+            None
+        }
     }
 }
 
-pub fn assignment_target_of_expression<N: ReadNode + Drop>(
+pub fn assignment_target_of_expression<N: PlainNode + Drop>(
     row: OtherExpression<N>,
 ) -> Option<AssignmentTarget<N>>
     ensures { option_map (in_assignment_target N.plain) result
@@ -133,7 +139,10 @@ pub fn assignment_target_of_expression<N: ReadNode + Drop>(
         Expression::ComputedMemberExpression(row) => Some(
             AssignmentTarget::ComputedMemberExpression(row),
         ),
-        _ => None,
+        rest => {
+            drop(rest);
+            None
+        }
     }
 }
 
@@ -148,7 +157,7 @@ pub fn binding_identifier_of_binding_pattern_in_box(
     }
 }
 
-pub fn for_statement_init_of_declaration<N: ReadNode + Drop>(
+pub fn for_statement_init_of_declaration<N: PlainNode + Drop>(
     row: OtherDeclaration<N>,
 ) -> Option<ForStatementInit<N>>
     ensures { option_map (in_for_statement_init N.plain) result
@@ -157,11 +166,14 @@ pub fn for_statement_init_of_declaration<N: ReadNode + Drop>(
     let declaration = row.declaration;
     match declaration {
         Declaration::VariableDeclaration(row) => Some(ForStatementInit::VariableDeclaration(row)),
-        _ => None,
+        rest => {
+            drop(rest);
+            None
+        }
     }
 }
 
-pub fn for_statement_left_of_declaration<N: ReadNode + Drop>(
+pub fn for_statement_left_of_declaration<N: PlainNode + Drop>(
     row: OtherDeclaration<N>,
 ) -> Option<ForStatementLeft<N>>
     ensures { option_map (in_for_statement_left N.plain) result
@@ -170,11 +182,14 @@ pub fn for_statement_left_of_declaration<N: ReadNode + Drop>(
     let declaration = row.declaration;
     match declaration {
         Declaration::VariableDeclaration(row) => Some(ForStatementLeft::VariableDeclaration(row)),
-        _ => None,
+        rest => {
+            drop(rest);
+            None
+        }
     }
 }
 
-pub fn for_statement_left_of_expression<N: ReadNode + Drop>(
+pub fn for_statement_left_of_expression<N: PlainNode + Drop>(
     row: OtherExpression<N>,
 ) -> Option<ForStatementLeft<N>>
     ensures { option_map (in_for_statement_left N.plain) result
@@ -189,11 +204,14 @@ pub fn for_statement_left_of_expression<N: ReadNode + Drop>(
         Expression::ComputedMemberExpression(row) => Some(
             ForStatementLeft::ComputedMemberExpression(row),
         ),
-        _ => None,
+        rest => {
+            drop(rest);
+            None
+        }
     }
 }
 
-pub fn block_statement_of_statement_in_box<N: ReadNode + Drop>(
+pub fn block_statement_of_statement_in_box<N: PlainNode + Drop>(
     row: OtherStatement<N>,
 ) -> Option<Box<BlockStatement<N>>>
     ensures { option_map (λ b. block_statement_row N.plain b.value) result
@@ -202,6 +220,9 @@ pub fn block_statement_of_statement_in_box<N: ReadNode + Drop>(
     let statement = row.statement;
     match statement {
         Statement::BlockStatement(row) => Some(row),
-        _ => None,
+        rest => {
+            drop(rest);
+            None
+        }
     }
 }

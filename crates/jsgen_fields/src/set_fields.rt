@@ -12,7 +12,9 @@ ghost use Rattle.jsgen_pool.specs.Pool.{entries};
 ghost use Rattle.jsgen_tree.specs.declared.types.NodeSet.TheVariants as sets;
 
 use crate::InputFault;
-use crate::asked::{ReadNode, RowOf};
+use crate::asked::{
+    HoldsBindingPattern, HoldsDeclaration, HoldsExpression, HoldsStatement, PlainNode, RowOf,
+};
 use crate::fields::{children, children_or_holes, needed_child, optional_child};
 use jsgen_pool::Kept;
 use jsgen_tree::{
@@ -25,7 +27,7 @@ use jsgen_tree::{
 use serde_json::Value;
 use std::alloc::Global;
 
-pub fn comment_list<N: ReadNode + Drop, R: RowOf<N> + Drop>(
+pub fn comment_list<N: PlainNode + Drop, R: RowOf<N> + Drop>(
     alloc: Global,
     kept: &mut Vec<Kept<R>>,
     number: usize,
@@ -39,7 +41,7 @@ pub fn comment_list<N: ReadNode + Drop, R: RowOf<N> + Drop>(
     children::<N, R, _>(alloc, kept, number, field, row, name)
 }
 
-pub fn directive_list<N: ReadNode + Drop, R: RowOf<N> + Drop>(
+pub fn directive_list<N: PlainNode + Drop, R: RowOf<N> + Drop>(
     alloc: Global,
     kept: &mut Vec<Kept<R>>,
     number: usize,
@@ -53,7 +55,7 @@ pub fn directive_list<N: ReadNode + Drop, R: RowOf<N> + Drop>(
     children::<N, R, _>(alloc, kept, number, field, row, name)
 }
 
-pub fn statement_list<N: ReadNode + Drop, R: RowOf<N> + Drop>(
+pub fn statement_list<N: HoldsDeclaration + HoldsStatement + Drop, R: RowOf<N> + Drop>(
     alloc: Global,
     kept: &mut Vec<Kept<R>>,
     number: usize,
@@ -67,7 +69,7 @@ pub fn statement_list<N: ReadNode + Drop, R: RowOf<N> + Drop>(
     children::<N, R, _>(alloc, kept, number, field, row, name)
 }
 
-pub fn variable_declarator_list<N: ReadNode + Drop, R: RowOf<N> + Drop>(
+pub fn variable_declarator_list<N: PlainNode + Drop, R: RowOf<N> + Drop>(
     alloc: Global,
     kept: &mut Vec<Kept<R>>,
     number: usize,
@@ -81,7 +83,7 @@ pub fn variable_declarator_list<N: ReadNode + Drop, R: RowOf<N> + Drop>(
     children::<N, R, _>(alloc, kept, number, field, row, name)
 }
 
-pub fn needed_binding_pattern<N: ReadNode + Drop, R: RowOf<N> + Drop>(
+pub fn needed_binding_pattern<N: HoldsBindingPattern + Drop, R: RowOf<N> + Drop>(
     alloc: Global,
     kept: &mut Vec<Kept<R>>,
     number: usize,
@@ -95,7 +97,7 @@ pub fn needed_binding_pattern<N: ReadNode + Drop, R: RowOf<N> + Drop>(
     needed_child::<N, R, _>(alloc, kept, number, field, row, name)
 }
 
-pub fn optional_expression<N: ReadNode + Drop, R: RowOf<N> + Drop>(
+pub fn optional_expression<N: HoldsExpression + Drop, R: RowOf<N> + Drop>(
     alloc: Global,
     kept: &mut Vec<Kept<R>>,
     number: usize,
@@ -109,7 +111,7 @@ pub fn optional_expression<N: ReadNode + Drop, R: RowOf<N> + Drop>(
     optional_child::<N, R, _>(alloc, kept, number, field, row, name)
 }
 
-pub fn needed_expression<N: ReadNode + Drop, R: RowOf<N> + Drop>(
+pub fn needed_expression<N: HoldsExpression + Drop, R: RowOf<N> + Drop>(
     alloc: Global,
     kept: &mut Vec<Kept<R>>,
     number: usize,
@@ -123,7 +125,7 @@ pub fn needed_expression<N: ReadNode + Drop, R: RowOf<N> + Drop>(
     needed_child::<N, R, _>(alloc, kept, number, field, row, name)
 }
 
-pub fn needed_statement<N: ReadNode + Drop, R: RowOf<N> + Drop>(
+pub fn needed_statement<N: HoldsDeclaration + HoldsStatement + Drop, R: RowOf<N> + Drop>(
     alloc: Global,
     kept: &mut Vec<Kept<R>>,
     number: usize,
@@ -137,7 +139,7 @@ pub fn needed_statement<N: ReadNode + Drop, R: RowOf<N> + Drop>(
     needed_child::<N, R, _>(alloc, kept, number, field, row, name)
 }
 
-pub fn optional_statement<N: ReadNode + Drop, R: RowOf<N> + Drop>(
+pub fn optional_statement<N: HoldsDeclaration + HoldsStatement + Drop, R: RowOf<N> + Drop>(
     alloc: Global,
     kept: &mut Vec<Kept<R>>,
     number: usize,
@@ -151,7 +153,7 @@ pub fn optional_statement<N: ReadNode + Drop, R: RowOf<N> + Drop>(
     optional_child::<N, R, _>(alloc, kept, number, field, row, name)
 }
 
-pub fn needed_identifier_name<N: ReadNode + Drop, R: RowOf<N> + Drop>(
+pub fn needed_identifier_name<N: PlainNode + Drop, R: RowOf<N> + Drop>(
     alloc: Global,
     kept: &mut Vec<Kept<R>>,
     number: usize,
@@ -165,7 +167,7 @@ pub fn needed_identifier_name<N: ReadNode + Drop, R: RowOf<N> + Drop>(
     needed_child::<N, R, _>(alloc, kept, number, field, row, name)
 }
 
-pub fn argument_list<N: ReadNode + Drop, R: RowOf<N> + Drop>(
+pub fn argument_list<N: HoldsExpression + Drop, R: RowOf<N> + Drop>(
     alloc: Global,
     kept: &mut Vec<Kept<R>>,
     number: usize,
@@ -179,7 +181,7 @@ pub fn argument_list<N: ReadNode + Drop, R: RowOf<N> + Drop>(
     children::<N, R, _>(alloc, kept, number, field, row, name)
 }
 
-pub fn needed_chain_element<N: ReadNode + Drop, R: RowOf<N> + Drop>(
+pub fn needed_chain_element<N: PlainNode + Drop, R: RowOf<N> + Drop>(
     alloc: Global,
     kept: &mut Vec<Kept<R>>,
     number: usize,
@@ -193,7 +195,7 @@ pub fn needed_chain_element<N: ReadNode + Drop, R: RowOf<N> + Drop>(
     needed_child::<N, R, _>(alloc, kept, number, field, row, name)
 }
 
-pub fn array_expression_element_or_hole_list<N: ReadNode + Drop, R: RowOf<N> + Drop>(
+pub fn array_expression_element_or_hole_list<N: HoldsExpression + Drop, R: RowOf<N> + Drop>(
     alloc: Global,
     kept: &mut Vec<Kept<R>>,
     number: usize,
@@ -207,7 +209,7 @@ pub fn array_expression_element_or_hole_list<N: ReadNode + Drop, R: RowOf<N> + D
     children_or_holes::<N, R, _>(alloc, kept, number, field, row, name)
 }
 
-pub fn needed_property_key<N: ReadNode + Drop, R: RowOf<N> + Drop>(
+pub fn needed_property_key<N: HoldsExpression + Drop, R: RowOf<N> + Drop>(
     alloc: Global,
     kept: &mut Vec<Kept<R>>,
     number: usize,
@@ -221,7 +223,7 @@ pub fn needed_property_key<N: ReadNode + Drop, R: RowOf<N> + Drop>(
     needed_child::<N, R, _>(alloc, kept, number, field, row, name)
 }
 
-pub fn object_property_kind_list<N: ReadNode + Drop, R: RowOf<N> + Drop>(
+pub fn object_property_kind_list<N: PlainNode + Drop, R: RowOf<N> + Drop>(
     alloc: Global,
     kept: &mut Vec<Kept<R>>,
     number: usize,
@@ -235,7 +237,7 @@ pub fn object_property_kind_list<N: ReadNode + Drop, R: RowOf<N> + Drop>(
     children::<N, R, _>(alloc, kept, number, field, row, name)
 }
 
-pub fn needed_simple_assignment_target<N: ReadNode + Drop, R: RowOf<N> + Drop>(
+pub fn needed_simple_assignment_target<N: PlainNode + Drop, R: RowOf<N> + Drop>(
     alloc: Global,
     kept: &mut Vec<Kept<R>>,
     number: usize,
@@ -249,7 +251,7 @@ pub fn needed_simple_assignment_target<N: ReadNode + Drop, R: RowOf<N> + Drop>(
     needed_child::<N, R, _>(alloc, kept, number, field, row, name)
 }
 
-pub fn expression_list<N: ReadNode + Drop, R: RowOf<N> + Drop>(
+pub fn expression_list<N: HoldsExpression + Drop, R: RowOf<N> + Drop>(
     alloc: Global,
     kept: &mut Vec<Kept<R>>,
     number: usize,
@@ -263,7 +265,7 @@ pub fn expression_list<N: ReadNode + Drop, R: RowOf<N> + Drop>(
     children::<N, R, _>(alloc, kept, number, field, row, name)
 }
 
-pub fn needed_assignment_target<N: ReadNode + Drop, R: RowOf<N> + Drop>(
+pub fn needed_assignment_target<N: PlainNode + Drop, R: RowOf<N> + Drop>(
     alloc: Global,
     kept: &mut Vec<Kept<R>>,
     number: usize,
@@ -277,7 +279,7 @@ pub fn needed_assignment_target<N: ReadNode + Drop, R: RowOf<N> + Drop>(
     needed_child::<N, R, _>(alloc, kept, number, field, row, name)
 }
 
-pub fn formal_parameter_list<N: ReadNode + Drop, R: RowOf<N> + Drop>(
+pub fn formal_parameter_list<N: PlainNode + Drop, R: RowOf<N> + Drop>(
     alloc: Global,
     kept: &mut Vec<Kept<R>>,
     number: usize,
@@ -291,7 +293,7 @@ pub fn formal_parameter_list<N: ReadNode + Drop, R: RowOf<N> + Drop>(
     children::<N, R, _>(alloc, kept, number, field, row, name)
 }
 
-pub fn optional_formal_parameter_rest<N: ReadNode + Drop, R: RowOf<N> + Drop>(
+pub fn optional_formal_parameter_rest<N: PlainNode + Drop, R: RowOf<N> + Drop>(
     alloc: Global,
     kept: &mut Vec<Kept<R>>,
     number: usize,
@@ -305,7 +307,7 @@ pub fn optional_formal_parameter_rest<N: ReadNode + Drop, R: RowOf<N> + Drop>(
     optional_child::<N, R, _>(alloc, kept, number, field, row, name)
 }
 
-pub fn optional_binding_identifier<N: ReadNode + Drop, R: RowOf<N> + Drop>(
+pub fn optional_binding_identifier<N: PlainNode + Drop, R: RowOf<N> + Drop>(
     alloc: Global,
     kept: &mut Vec<Kept<R>>,
     number: usize,
@@ -319,7 +321,7 @@ pub fn optional_binding_identifier<N: ReadNode + Drop, R: RowOf<N> + Drop>(
     optional_child::<N, R, _>(alloc, kept, number, field, row, name)
 }
 
-pub fn needed_formal_parameters<N: ReadNode + Drop, R: RowOf<N> + Drop>(
+pub fn needed_formal_parameters<N: PlainNode + Drop, R: RowOf<N> + Drop>(
     alloc: Global,
     kept: &mut Vec<Kept<R>>,
     number: usize,
@@ -333,7 +335,7 @@ pub fn needed_formal_parameters<N: ReadNode + Drop, R: RowOf<N> + Drop>(
     needed_child::<N, R, _>(alloc, kept, number, field, row, name)
 }
 
-pub fn optional_function_body<N: ReadNode + Drop, R: RowOf<N> + Drop>(
+pub fn optional_function_body<N: PlainNode + Drop, R: RowOf<N> + Drop>(
     alloc: Global,
     kept: &mut Vec<Kept<R>>,
     number: usize,
@@ -347,7 +349,7 @@ pub fn optional_function_body<N: ReadNode + Drop, R: RowOf<N> + Drop>(
     optional_child::<N, R, _>(alloc, kept, number, field, row, name)
 }
 
-pub fn needed_arrow_function_body<N: ReadNode + Drop, R: RowOf<N> + Drop>(
+pub fn needed_arrow_function_body<N: HoldsExpression + Drop, R: RowOf<N> + Drop>(
     alloc: Global,
     kept: &mut Vec<Kept<R>>,
     number: usize,
@@ -361,7 +363,7 @@ pub fn needed_arrow_function_body<N: ReadNode + Drop, R: RowOf<N> + Drop>(
     needed_child::<N, R, _>(alloc, kept, number, field, row, name)
 }
 
-pub fn optional_for_statement_init<N: ReadNode + Drop, R: RowOf<N> + Drop>(
+pub fn optional_for_statement_init<N: HoldsExpression + Drop, R: RowOf<N> + Drop>(
     alloc: Global,
     kept: &mut Vec<Kept<R>>,
     number: usize,
@@ -375,7 +377,7 @@ pub fn optional_for_statement_init<N: ReadNode + Drop, R: RowOf<N> + Drop>(
     optional_child::<N, R, _>(alloc, kept, number, field, row, name)
 }
 
-pub fn needed_for_statement_left<N: ReadNode + Drop, R: RowOf<N> + Drop>(
+pub fn needed_for_statement_left<N: PlainNode + Drop, R: RowOf<N> + Drop>(
     alloc: Global,
     kept: &mut Vec<Kept<R>>,
     number: usize,
@@ -389,7 +391,7 @@ pub fn needed_for_statement_left<N: ReadNode + Drop, R: RowOf<N> + Drop>(
     needed_child::<N, R, _>(alloc, kept, number, field, row, name)
 }
 
-pub fn needed_label_identifier<N: ReadNode + Drop, R: RowOf<N> + Drop>(
+pub fn needed_label_identifier<N: PlainNode + Drop, R: RowOf<N> + Drop>(
     alloc: Global,
     kept: &mut Vec<Kept<R>>,
     number: usize,
@@ -403,7 +405,7 @@ pub fn needed_label_identifier<N: ReadNode + Drop, R: RowOf<N> + Drop>(
     needed_child::<N, R, _>(alloc, kept, number, field, row, name)
 }
 
-pub fn optional_label_identifier<N: ReadNode + Drop, R: RowOf<N> + Drop>(
+pub fn optional_label_identifier<N: PlainNode + Drop, R: RowOf<N> + Drop>(
     alloc: Global,
     kept: &mut Vec<Kept<R>>,
     number: usize,
@@ -417,7 +419,7 @@ pub fn optional_label_identifier<N: ReadNode + Drop, R: RowOf<N> + Drop>(
     optional_child::<N, R, _>(alloc, kept, number, field, row, name)
 }
 
-pub fn switch_case_list<N: ReadNode + Drop, R: RowOf<N> + Drop>(
+pub fn switch_case_list<N: PlainNode + Drop, R: RowOf<N> + Drop>(
     alloc: Global,
     kept: &mut Vec<Kept<R>>,
     number: usize,
@@ -431,7 +433,7 @@ pub fn switch_case_list<N: ReadNode + Drop, R: RowOf<N> + Drop>(
     children::<N, R, _>(alloc, kept, number, field, row, name)
 }
 
-pub fn needed_block_statement<N: ReadNode + Drop, R: RowOf<N> + Drop>(
+pub fn needed_block_statement<N: PlainNode + Drop, R: RowOf<N> + Drop>(
     alloc: Global,
     kept: &mut Vec<Kept<R>>,
     number: usize,
@@ -445,7 +447,7 @@ pub fn needed_block_statement<N: ReadNode + Drop, R: RowOf<N> + Drop>(
     needed_child::<N, R, _>(alloc, kept, number, field, row, name)
 }
 
-pub fn optional_catch_clause<N: ReadNode + Drop, R: RowOf<N> + Drop>(
+pub fn optional_catch_clause<N: PlainNode + Drop, R: RowOf<N> + Drop>(
     alloc: Global,
     kept: &mut Vec<Kept<R>>,
     number: usize,
@@ -459,7 +461,7 @@ pub fn optional_catch_clause<N: ReadNode + Drop, R: RowOf<N> + Drop>(
     optional_child::<N, R, _>(alloc, kept, number, field, row, name)
 }
 
-pub fn optional_block_statement<N: ReadNode + Drop, R: RowOf<N> + Drop>(
+pub fn optional_block_statement<N: PlainNode + Drop, R: RowOf<N> + Drop>(
     alloc: Global,
     kept: &mut Vec<Kept<R>>,
     number: usize,
@@ -473,7 +475,7 @@ pub fn optional_block_statement<N: ReadNode + Drop, R: RowOf<N> + Drop>(
     optional_child::<N, R, _>(alloc, kept, number, field, row, name)
 }
 
-pub fn optional_binding_pattern<N: ReadNode + Drop, R: RowOf<N> + Drop>(
+pub fn optional_binding_pattern<N: HoldsBindingPattern + Drop, R: RowOf<N> + Drop>(
     alloc: Global,
     kept: &mut Vec<Kept<R>>,
     number: usize,

@@ -7,11 +7,11 @@ use Rattle.jsgen_pool.specs.Pool.{Entry}
 use Rattle.jsgen_fields.specs.Reads.{root_of, root_found}
 use Rattle.jsgen_fields.specs.Kept.{entry, entries}
 use Rattle.jsgen_pool.specs.declared.Kept.{Kept}
-use Rattle.jsgen_fields.specs.declared.kept.Row.{Row}
+use Rattle.jsgen_fields.specs.declared.kept.AnyRow.{AnyRow}
 use Rattle.jsgen_fields.proofs.Listed.{slice_get-last, length-last}
 
 at_last : (es : List Entry) (e : Entry) → root_of (es ++ e ∷ []) ≡ root_found (at (length es) 0) (Some e)
 at_last es e = ap (λ o. root_found (at (length (es ++ e ∷ []) - 1) 0) o) (slice_get-last es e) ∙ ap (λ n. root_found (at n 0) (Some e)) (length-last es e)
 
-pub root_pushed : {N : Type 0} (plain : N → Tree) (all before : List (Kept (Row N))) (k : Kept (Row N)) → all ≡ before ++ k ∷ [] → root_of (entries plain all) ≡ root_found (at (length before) 0) (Some (entry plain k))
+pub root_pushed : {N : Type 0} (plain : N → Tree) (all before : List (Kept (AnyRow N))) (k : Kept (AnyRow N)) → all ≡ before ++ k ∷ [] → root_of (entries plain all) ≡ root_found (at (length before) 0) (Some (entry plain k))
 root_pushed plain all before k e = ap (λ x. root_of (entries plain x)) e ∙ ap root_of (map-append (entry plain) before (k ∷ [])) ∙ at_last (entries plain before) (entry plain k) ∙ ap (λ n. root_found (at n 0) (Some (entry plain k))) (length-map before (entry plain))

@@ -4,13 +4,13 @@ ghost use Rattle.serde_json.specs.View.{view};
 ghost use Rattle.jsgen_tree.specs.Plain.{node_plain, program_plain};
 ghost use Rattle.jsgen_fields.specs.Values.{Same, at, rows_listed, rows_in};
 ghost use Rattle.jsgen_fields.specs.Reads.{Gives, root_found, read_row, read_rows, root_of};
-ghost use Rattle.jsgen_fields.specs.Kept.{entry, entries, row_plain};
+ghost use Rattle.jsgen_fields.specs.Kept.{entry, entries, any_row_plain};
 ghost use Rattle.jsgen_pool.specs.Pool.{entries as entries_of};
 
 use crate::rows::read_typed;
 use jsgen_fields::asked::{ReadNode, RowOf};
 use jsgen_fields::floats::holds_float;
-use jsgen_fields::kept::Row;
+use jsgen_fields::kept::AnyRow;
 use jsgen_fields::values::{present, span_of, type_of};
 use jsgen_fields::{At, InputFault};
 use jsgen_pool::Kept;
@@ -34,17 +34,17 @@ fn read_any_row<N: ReadNode + Drop, R: RowOf<N> + Drop>(
 
 fn read_row<N: ReadNode + Drop>(
     alloc: Global,
-    kept: &mut Vec<Kept<Row<N>>>,
+    kept: &mut Vec<Kept<AnyRow<N>>>,
     number: usize,
     row: &Value,
-) -> Result<Row<N>, InputFault>
-    ensures { Gives (row_plain N.plain) result (entries N.plain kept.new.items)
+) -> Result<AnyRow<N>, InputFault>
+    ensures { Gives (any_row_plain N.plain) result (entries N.plain kept.new.items)
         (read_row number (view row.now) (entries N.plain kept.old.items)) }
 {
-    read_any_row::<N, Row<N>>(alloc, kept, number, row)
+    read_any_row::<N, AnyRow<N>>(alloc, kept, number, row)
 }
 
-pub fn read_rows(alloc: Global, rows: &[Value]) -> Result<Vec<Kept<Row>>, InputFault>
+pub fn read_rows(alloc: Global, rows: &[Value]) -> Result<Vec<Kept<AnyRow>>, InputFault>
     ensures { Same (λ v. entries node_plain v.items) result (read_rows (map view rows.now) []) }
 {
     let mut kept = Vec::with_capacity(alloc, rows.len())?;
@@ -58,7 +58,7 @@ pub fn read_rows(alloc: Global, rows: &[Value]) -> Result<Vec<Kept<Row>>, InputF
 
 // ---- the last row
 
-fn root_at(at: At, last: Kept<Row>) -> Result<Program, InputFault>
+fn root_at(at: At, last: Kept<AnyRow>) -> Result<Program, InputFault>
     ensures { Same program_plain result (root_found at (Some (entry node_plain last))) }
 {
     match last {
@@ -70,7 +70,7 @@ fn root_at(at: At, last: Kept<Row>) -> Result<Program, InputFault>
     }
 }
 
-fn last_of(kept: &mut Vec<Kept<Row>>) -> Option<(usize, Kept<Row>)>
+fn last_of(kept: &mut Vec<Kept<AnyRow>>) -> Option<(usize, Kept<AnyRow>)>
     ensures { MatchOption result (root_of (entries node_plain kept.old.items) ≡ root_found (at 0 0) None)
         (λ p. root_of (entries node_plain kept.old.items) ≡ root_found (at p.0 0) (Some (entry node_plain p.1))) }
 {
@@ -78,7 +78,7 @@ fn last_of(kept: &mut Vec<Kept<Row>>) -> Option<(usize, Kept<Row>)>
     Some((kept.len(), last))
 }
 
-pub fn root_of(mut kept: Vec<Kept<Row>>) -> Result<Program, InputFault>
+pub fn root_of(mut kept: Vec<Kept<AnyRow>>) -> Result<Program, InputFault>
     ensures { Same program_plain result (root_of (entries node_plain kept.items)) }
 {
     match last_of(&mut kept) {

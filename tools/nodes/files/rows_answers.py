@@ -54,7 +54,7 @@ def answer(goal, said):
 
 def last(table, n):
     s, row = set_of(table, n.name), n.row
-    row = f"({row} g.N.ReadNode.plain)" if table.generic(n.name) else row
+    row = f"({row} g.N.PlainNode.plain)" if table.generic(n.name) else row
     if not s:
         return f"gives_node g.R.Typed.plain c.row_of_{snake(n.name)}.result _ {row} _ _ c.in-Ok-boxed.ensures c.row_of_{snake(n.name)}.ensures"
     return f"gives_row _ _ _ {row} _ _ c.in-Ok-boxed.ensures c.row_of_{snake(s.name)}.ensures"

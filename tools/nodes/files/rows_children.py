@@ -1,9 +1,9 @@
-"""The reader's src/child_sets.rt, src/members.rt and the functions of src/kept.rt and src/asked.rt: what is made of a row at a place for
-children of each set; and src/set_fields.rt: the readers of fields that hold them."""
+"""The reader's src/child_sets.rt, src/members.rt and src/asked.rt: what is made of a row at a place for children of each set; and
+src/set_fields.rt: the readers of fields that hold them."""
 
 import layout
 from files import rows_kept
-from files.rows_kept import groups, held, inner, kept, large, outer, own, parameter, plain_of_set
+from files.rows_kept import groups, held, holds, inner, kept, large, outer, own, parameter, plain_of_set
 from files.rows_sets import rules_of
 from names import READER, SPECS, TYPES, plain_of, row_names
 from table import snake
@@ -53,12 +53,12 @@ PRELUDE = ["◌≡◌", "IfOk", "Some", "None", "option_map", "if◌then◌else�
 
 def ghosts_of(table):
     return [("Rattle.std.specs.Prelude", PRELUDE), (f"{SPECS}.Tree", ["type_of"]), (f"{SPECS}.Sets", ["in_set"])] \
-        + row_names(table) + [(f"{READER}.specs.Kept", ["row_plain"])]
+        + row_names(table) + [(f"{READER}.specs.Kept", ["row_plain", "any_row_plain"])]
 
 
 def file_of(table, about, homes, body):
     tree = list(table.nodes) + list(table.sets) + [s.name + "Node" for s in table.nesting()] + ["NodeSet"]
-    homes = homes + [("crate::asked", ["Child", "ReadNode"]), ("crate::kept", ["Row"]), ("jsgen_tree", tree),
+    homes = homes + [("crate::asked", ["Child", "PlainNode"] + [holds(s) for s in table.nesting()]), ("crate::kept", ["Row"]), ("jsgen_tree", tree),
                      ("crate::others", [kept(table, s) for s in outer(table)]), ("std::alloc", ["AllocError", "Global"])]
     return layout.rust(about, ghosts_of(table), TYPES, homes, body)
 
@@ -71,13 +71,13 @@ def members_within(table):
 def impls(table):
     body = "\n\n".join(impl(table, name, boxed) for name, boxed in places(table))
     about = "What is made of a row where it is a child: a member of the set that the place is for."
-    return file_of(table, about, [], body)
+    functions = [within(name, g) for name, g in members_within(table)]
+    functions += [part(name, g, boxed) for name, boxed in places(table) for g in large(table) if has_part(table, name, g)]
+    return file_of(table, about, [("crate::members", functions)], body)
 
 
 def rows(table):
-    functions = [within(name, g) for name, g in members_within(table)]
-    functions += [part(name, g, boxed) for name, boxed in places(table) for g in large(table) if has_part(table, name, g)]
-    return rows_kept.rust(table, ghosts_of(table), functions, "\n".join(taken_apart(table, name, boxed) for name, boxed in places(table)))
+    return rows_kept.rust(table, ghosts_of(table))
 
 
 def asked(table):
@@ -96,23 +96,22 @@ def contract(table, name, boxed, row):
     return CHILD.format(plain=child_plain(table, name, boxed), set=name, row=f"(row_plain N.plain {row})")
 
 
-def taken_apart(table, name, boxed):
-    arms = made(table, name, boxed)
-    unused = "" if "alloc" in arms else "        let _ = alloc;\n"
-    return f"""    #[tactic(auto, using(crate::proofs::Sets::{rules_of(table, name)}))]
-    pub fn into_{snake(name)}(self, alloc: Global) -> Result<Option<{child_type(table, name, boxed)}>, AllocError>
-        {contract(table, name, boxed, "self")}
-    {{
-{unused}        match self {{
-{arms}            _ => Ok(None),
-        }}
-    }}
-"""
+def asked_of_node(table, *code):
+    """The bounds of a node for which the code makes wrappers, itself or by a function of members.rt."""
+    code = "".join(code)
+    wrapped = [s for s in table.nesting() if f"N::{snake(s.name)}_node(" in code or f" {snake(s.name)}_of_" in code]
+    return " + ".join([holds(s) for s in wrapped] or ["PlainNode"])
+
+
+def asked_by(table, fields):
+    """The bounds of a node for the fields that hold children."""
+    return asked_of_node(table, *[made(table, f.kind, f.kind in table.nodes and not f.is_list) for f in fields])
 
 
 def impl(table, name, boxed):
-    of = child_type(table, name, boxed)
-    return f"""impl<N: ReadNode + Drop> Child<N> for {of} {{
+    of, arms = child_type(table, name, boxed), made(table, name, boxed)
+    unused = "" if "alloc" in arms else "        let _ = alloc;\n"
+    return f"""impl<N: {asked_of_node(table, arms)} + Drop> Child<N> for {of} {{
     ghost plain = {{ λ n. {plain_at(table, name, boxed, "n")} }};
 
     ghost of_set = {{ sets.{name} }};
@@ -121,10 +120,16 @@ def impl(table, name, boxed):
         NodeSet::{name}
     }}
 
+    #[tactic(auto, using(crate::proofs::Sets::{rules_of(table, name)}))]
     fn from_row(alloc: Global, row: Row<N>) -> Result<Option<{of}>, AllocError>
         {contract(table, name, boxed, "row")}
     {{
-        row.into_{snake(name)}(alloc)
+{unused}        match row {{
+{arms}            rest => {{
+                rest.let_go();
+                Ok(None)
+            }}
+        }}
     }}
 }}"""
 
@@ -181,7 +186,7 @@ def one_within(table, name, g):
     m, of = snake(g.name), child_type(table, name, False)
     made = f"{name}::{g.name}({m})"
     made = f"N::{snake(name)}_node({made})" if table.sets[name].nests else made
-    return f"""pub fn {within(name, g)}<N: ReadNode + Drop>(
+    return f"""pub fn {within(name, g)}<N: {asked_of_node(table, made)} + Drop>(
     alloc: Global,
     {m}: {g.name}Node<N>,
 ) -> Result<Option<{of}>, AllocError>
@@ -211,14 +216,21 @@ def has_part(table, name, g):
     return g.name != name and not is_within(table, name, g) and some(table, name, g)
 
 
+REST = """        rest => {
+            drop(rest);
+            None
+        }
+"""
+
+
 def one_part(table, name, g, boxed):
     of, plain = child_type(table, name, boxed), child_plain(table, name, boxed)
     row_type = kept(table, g) + parameter(table, g.name)
     arms = "".join(f"        {g.name}::{m}(row) => Some({member(table, name, m, boxed)}),\n" for m in some(table, name, g))
-    rest = "        _ => None,\n" if len(some(table, name, g)) < len(g.members) else ""
+    rest = REST if len(some(table, name, g)) < len(g.members) else ""
     row = f"({plain_of_set(table, g)} {held(table, g, 'row')})"
     taken = f"    let {snake(g.name)} = row.{snake(g.name)};\n" if inner(table, g) else ""
-    nests = "<N: ReadNode + Drop>" if "<N>" in row_type + of else ""
+    nests = f"<N: {asked_of_node(table, arms)} + Drop>" if "<N>" in row_type + of else ""
     return f"""pub fn {part(name, g, boxed)}{nests}(row: {row_type}) -> Option<{of}>
     ensures {{ option_map {plain} result
         ≡ (if in_set sets.{name} (type_of {row}) then Some {row} else None) }}
@@ -254,7 +266,7 @@ def readers(table):
                (f"{READER}.specs.Reads", ["Gives", "read_children"]), ("Rattle.jsgen_pool.specs.Pool", ["entries"])]
     tree = list(table.nodes) + list(table.sets) + [s.name + "Node" for s in table.nesting()]
     homes = [("crate", ["InputFault"]), ("crate::fields", ["needed_child", "optional_child", "children", "children_or_holes"]),
-             ("crate::asked", ["ReadNode", "RowOf"]), ("jsgen_pool", ["Kept"]), ("jsgen_tree", tree)]
+             ("crate::asked", ["PlainNode", "RowOf"] + [holds(s) for s in table.nesting()]), ("jsgen_pool", ["Kept"]), ("jsgen_tree", tree)]
     homes += [("serde_json", ["Value"]), ("std::alloc", ["Global"])]
     about = "Fields that hold children, by set: a row that calls one of these passes no impl of `Child`, which would be " \
             "proved at each call."
@@ -266,7 +278,7 @@ def reader(table, f):
     boxed = f.kind in table.nodes and not f.is_list
     of = result.format(child_type(table, f.kind, boxed))
     plain = plain_at(table, f.kind, boxed, "c") if f.many == "" else child_plain(table, f.kind, boxed)
-    return f"""pub fn {name.format(snake(f.kind))}<N: ReadNode + Drop, R: RowOf<N> + Drop>(
+    return f"""pub fn {name.format(snake(f.kind))}<N: {asked_by(table, [f])} + Drop, R: RowOf<N> + Drop>(
     alloc: Global,
     kept: &mut Vec<Kept<R>>,
     number: usize,

@@ -3,8 +3,8 @@ the table names; the choice among them is in crates/jsgen_rows/src/rows.rt, and 
 crates/jsgen_fields/specs/Parts.antt."""
 
 import layout
-from files.rows_children import reader_of
-from files.rows_kept import inner, kept, made_of, set_of
+from files.rows_children import asked_by, reader_of
+from files.rows_kept import holds, inner, kept, made_of, set_of
 from names import READER, SPECS, TYPES, types_in_antt
 from table import snake
 
@@ -74,7 +74,7 @@ def one_file(table, name, text, every):
              ("jsgen_fields::set_fields", [reader_of(f) for n in nodes for f in table.children(n)]),
              ("jsgen_fields::fields", ["boxed"]), ("jsgen_fields::strings", ["needed_units"]), ("jsgen_fields::values", values),
              ("jsgen_fields::words", [f"needed_{w.short}" for w in table.words.values()]),
-             ("jsgen_fields::asked", ["ReadNode", "RowOf"]),
+             ("jsgen_fields::asked", ["PlainNode", "ReadNode", "RowOf"] + [holds(s) for s in table.nesting()]),
              ("jsgen_fields::kept", [f"row_of_{snake(s.name)}" for s in sets] + [f"row_of_{snake(n.name)}" for n in nodes]),
              ("jsgen_fields::others", [kept(table, s) for s in sets if inner(table, s)]),
              ("jsgen_fields", ["InputFault"]), ("jsgen_pool", ["Kept"]), ("jsgen_syntax", ["Span"]),
@@ -90,7 +90,7 @@ def function(table, n):
     lines = "".join(f"    let _ = {name};\n" for name in unused(table, n)) + fields(table, n)
     held = "".join(f", {f.rust}" for f in n.in_rust())
     return f"""#[tactic(auto, unfolding(jsgen_fields::specs::Reads::read_node))]
-fn read_{snake(n.name)}<N: ReadNode + Drop, R: RowOf<N> + Drop>(
+fn read_{snake(n.name)}<N: {asked_by(table, table.children(n))} + Drop, R: RowOf<N> + Drop>(
     alloc: Global,
     kept: &mut Vec<Kept<R>>,
     number: usize,

@@ -1,5 +1,4 @@
-"""The reader's src/kept.rt and specs/Kept.antt: the rows that were read, by the set that they are children of, and what is made of
-each at a place for children; and src/others.rt and specs/Others.antt: the members of a set whose rows are kept by it, where others are
+"""The reader's src/kept.rt and specs/Kept.antt: the rows that were read, by the set that they are children of; and src/others.rt and specs/Others.antt: the members of a set whose rows are kept by it, where others are
 kept elsewhere. What the reader asks of a node where trees nest stands in src/asked.rt."""
 
 import layout
@@ -72,30 +71,53 @@ def write(table):
             "crates/jsgen_fields/src/others.rt": others(table), "crates/jsgen_fields/specs/Others.antt": others_specs(table)}
 
 
-def rust(table, ghosts, functions, at_places):
-    """src/kept.rt: a row can only be taken apart here. rows_children.py has what is made of it at each place."""
-    parts = [rows_enum(table), letting_go(table), typed(table), AS_CHILD, "// ---- what is made of a row, by place", into_program()]
-    parts += [f"impl<N: ReadNode + Drop> Row<N> {{\n{at_places}}}", "// ---- rows of nodes"] + [row_of(table, g) for g in groups(table)]
+def rust(table, ghosts):
+    """src/kept.rt. rows_children.py has what is made of a row at each place."""
+    parts = [rows_enum(table), LET_GO, ANY_ROW, typed(table), AS_CHILD, into_program(), "// ---- rows of nodes"]
+    parts += [row_of(table, g) for g in groups(table)]
     plains = [s.plain for s in table.nesting()] + ["program_row"]
     ghosts = [(m, ns + ["Ok"] if m.endswith("Prelude") else ns + plains if m.endswith("specs.Rows") else ns) for m, ns in ghosts]
     ghosts += [(f"{READER}.specs.Values", ["Same"]), (f"{READER}.specs.Meaning", ["is_program"])]
-    homes = [("crate::asked", ["Child", "ReadNode", "RowOf"]), ("crate::members", functions), ("jsgen_pool", ["Typed"])] + homes_of(table)
-    about = "The rows that were read, by the set that they are children of, and what is made of them at a place for children."
+    homes = [("crate::asked", ["Child", "PlainNode", "ReadNode", "RowOf"]), ("jsgen_pool", ["Typed"])] + homes_of(table)
+    about = "The rows that were read, by the set that they are children of."
     return layout.rust(about, ghosts, TYPES, homes, "\n\n".join(parts))
 
 
-AS_CHILD = """impl<N: ReadNode + Drop> RowOf<N> for Row<N> {
+LET_GO = """impl<N: Drop> Row<N> {
+    /// Lets go of the row, by a call that asks nothing of its types where it is made.
+    pub fn let_go(self) {
+        drop(self);
+    }
+}"""
+
+
+ANY_ROW = """/// A row as it is kept. Its `drop` is written out, so that it is proved here alone: a derived one is proved again, for all types,
+/// in each crate that lets go of a row.
+pub struct AnyRow<N = Node> {
+    row: Row<N>,
+}
+
+impl<N: Drop> Drop for AnyRow<N> {
+    fn drop(self) {
+        let AnyRow { row } = self;
+        row.let_go();
+    }
+}"""
+
+
+AS_CHILD = """impl<N: ReadNode + Drop> RowOf<N> for AnyRow<N> {
     fn into_child<C: Child<N> + Drop>(self, alloc: Global) -> Result<Option<C>, AllocError>
         ensures { IfOk result (λ child. option_map C.plain child
-            ≡ (if in_set C.of_set (type_of (row_plain N.plain self)) then Some (row_plain N.plain self) else None)) }
+            ≡ (if in_set C.of_set (type_of (any_row_plain N.plain self)) then Some (any_row_plain N.plain self) else None)) }
     {
-        C::from_row(alloc, self)
+        let AnyRow { row } = self;
+        C::from_row(alloc, row)
     }
 
-    fn of_row(row: Row<N>) -> Row<N>
-        ensures { row_plain N.plain result ≡ row_plain N.plain row }
+    fn of_row(row: Row<N>) -> AnyRow<N>
+        ensures { any_row_plain N.plain result ≡ row_plain N.plain row }
     {
-        row
+        AnyRow { row }
     }
 }"""
 
@@ -107,7 +129,7 @@ def homes_of(table):
 
 
 CHILD = """/// What a place for children takes: a set of types, and what is made of a row of one of them.
-pub trait Child<N: ReadNode>: Sized {
+pub trait Child<N: PlainNode>: Sized {
     ghost use Rattle.jsgen_tree.specs.Tree.{Tree};
     ghost use Rattle.jsgen_tree.specs.declared.types.NodeSet.{NodeSet};
 
@@ -131,12 +153,12 @@ def asked(table, ghosts):
     ghosts = [(m, ns + plains if m.endswith("specs.Rows") else ns) for m, ns in ghosts] + [(f"{SPECS}.Plain", ["node_plain"])]
     about = "What the reader asks of a node where trees nest, of a child, and of a row."
     homes = [("jsgen_pool", ["Typed"]), ("crate::kept", ["Row"])] + homes_of(table)
-    return layout.rust(about, ghosts, TYPES, homes, "\n\n".join([read_node(table), CHILD, ROW]))
+    return layout.rust(about, ghosts, TYPES, homes, "\n\n".join([PLAIN_NODE] + [holds_set(table, s) for s in table.nesting()] + [read_node(table), CHILD, ROW]))
 
 
-ROW = """/// What the reader asks of a row: the child that it is at a place, and to be made of one. Only `Row` implements it; the reader is
+ROW = """/// What the reader asks of a row: the child that it is at a place, and to be made of one. Only `AnyRow` implements it; the reader is
 /// generic in it, since a proof of what has to do with `Row` itself looks at all types.
-pub trait RowOf<N: ReadNode>: Typed + Sized {
+pub trait RowOf<N: PlainNode>: Typed + Sized {
     fn into_child<C: Child<N> + Drop>(self, alloc: Global) -> Result<Option<C>, AllocError>
         ensures { IfOk result (λ child. option_map C.plain child
             ≡ (if in_set C.of_set (type_of (Self.plain self)) then Some (Self.plain self) else None)) };
@@ -153,50 +175,83 @@ def rows_enum(table):
         variants += f"    {name}(Box<{of}{parameter(table, name)}>),\n"
     return f"""/// A row that was read, by the set that it is a child of. Sets are in boxes, so that a row is small whatever
 /// they have.
+#[derive(Drop)]
 pub enum Row<N = Node> {{
 {variants}}}"""
 
 
-def letting_go(table):
-    arms = ""
-    for g in groups(table):
-        arms += f"            Row::{g if isinstance(g, str) else g.name}(row) => {{\n                let _ = row;\n            }}\n"
-    return f"""// Written out, so that it is proved here alone: a derived one is proved again, for all types, in each crate that lets go of a row.
-impl<N: Drop> Drop for Row<N> {{
-    fn drop(self) {{
-        match self {{
-{arms}        }}
-    }}
-}}"""
+def holds(s):
+    """The trait of a node that may be a member of the set."""
+    return "Holds" + s.name
 
 
-def signatures(table, s):
-    """What the reader asks of a node for a set: its wrapper, and the type of a member."""
-    name, member = snake(s.name), s.name + (f"<{{}}>" if table.generic(s.name) else "")
-    plain = s.plain + (" {}" if table.generic(s.name) else "")
-    wrapper = (f"fn {name}_node({name}: {member}) -> {s.name}Node<{{}}>",
-               f"in_{name} {{}} result ≡ {plain} {name}")
-    asked = (f"fn {name}_type({name}: &{member}) -> NodeType", f"result ≡ type_of ({plain} {name}.now)")
-    return [wrapper, asked] if table.generic(s.name) else [wrapper]
+def of_set(table, s):
+    """The set's type for the node {}, and its plain data."""
+    return (s.name + "<{}>", s.plain + " {}") if table.generic(s.name) else (s.name, s.plain)
+
+
+def method(head, fact, body="", using=""):
+    """A call of a trait, or of its impl where it has a body."""
+    body = f"\n    {{\n        {body}\n    }}" if body else ";"
+    return f"{using}    {head}\n        ensures {{ {fact} }}{body}\n"
+
+
+def wrapped(table, s, body="", using=""):
+    """The call that makes the set's wrapper of a member."""
+    name, (member, plain) = snake(s.name), of_set(table, s)
+    call = method(f"fn {name}_node({name}: {member}) -> {s.name}Node<{{}}>", f"in_{name} [] result ≡ {plain.replace('{}', '[]')} {name}", "BODY" if body else "", using)
+    return call.replace("BODY", body)
+
+
+def typed_member(table, s, body=""):
+    """The call that tells the type of a member."""
+    name, (member, plain) = snake(s.name), of_set(table, s)
+    call = method(f"fn {name}_type({name}: &{member}) -> NodeType", f"result ≡ type_of ({plain.replace('{}', '[]')} {name}.now)", "BODY" if body else "")
+    return call.replace("BODY", body)
+
+
+def asked_of(call):
+    return call.replace("{}", "Self").replace("[]", "Self.plain")
+
+
+def of_node(call):
+    return call.replace("<{}>", "").replace("[]", "node_plain")
+
+
+PLAIN_NODE = """/// A node where trees nest, with what it is as plain data.
+pub trait PlainNode: Sized {
+    ghost use Rattle.jsgen_tree.specs.Tree.{Tree};
+
+    ghost plain: { Self → Tree };
+}
+
+impl PlainNode for Node {
+    ghost plain = { λ n. node_plain n };
+}"""
+
+
+def holds_set(table, s):
+    """The trait of a set that nests, and that `Node` has it."""
+    name = snake(s.name)
+    using = f"    #[tactic(auto, using(jsgen_tree::proofs::Knot::plain_{name}))]\n"
+    return f"""/// A node that may be {spoken(s.name)}.
+pub trait {holds(s)}: PlainNode {{
+{asked_of(wrapped(table, s))}}}
+
+impl {holds(s)} for Node {{
+{of_node(wrapped(table, s, f"{name}.into()", using))}}}"""
 
 
 def read_node(table):
-    asked, given = "", ""
-    for s in table.nesting():
-        for (head, fact), body in zip(signatures(table, s), [f"{snake(s.name)}.into()", f"{snake(s.name)}.node_type()"]):
-            asked += f"\n    {head.replace('{}', 'Self')}\n        ensures {{ {fact.replace('{}', 'plain')} }};\n"
-            using = f"    #[tactic(auto, using(jsgen_tree::proofs::Knot::plain_{snake(s.name)}))]\n" if "into" in body else ""
-            head = head.replace("<{}>", "")
-            given += f"\n{using}    {head}\n        ensures {{ {fact.replace('{}', 'node_plain')} }}\n    {{\n        {body}\n    }}\n"
+    typed = [s for s in table.nesting() if table.generic(s.name)]
+    asked = "\n".join(asked_of(typed_member(table, s)) for s in typed)
+    given = "\n".join(of_node(typed_member(table, s, f"{snake(s.name)}.node_type()")) for s in typed)
+    every = " + ".join(holds(s) for s in table.nesting())
     return f"""/// What the reader asks of a node where trees nest. Only `Node` implements it.
-pub trait ReadNode: Sized {{
-    ghost use Rattle.jsgen_tree.specs.Tree.{{Tree}};
-
-    ghost plain: {{ Self → Tree }};
+pub trait ReadNode: {every} {{
 {asked}}}
 
 impl ReadNode for Node {{
-    ghost plain = {{ λ n. node_plain n }};
 {given}}}"""
 
 
@@ -209,26 +264,30 @@ def typed(table):
             arms += f"            Row::{g.name}(row) => N::{snake(g.name)}_type(&{held(table, g, '(**row)' if inner(table, g) else '**row')}),\n"
         else:
             arms += f"            Row::{g.name}(row) => (**row).node_type(),\n"
-    return f"""impl<N: ReadNode> Typed for Row<N> {{
-    ghost plain = {{ λ row. row_plain N.plain row }};
+    return f"""impl<N: ReadNode> Typed for AnyRow<N> {{
+    ghost plain = {{ λ row. any_row_plain N.plain row }};
 
     fn node_type(&self) -> NodeType {{
-        match self {{
+        match &self.row {{
 {arms}        }}
     }}
 }}"""
 
 
 def into_program():
-    return """impl<N: ReadNode + Drop> Row<N> {
+    return """impl<N: PlainNode + Drop> AnyRow<N> {
     #[tactic(auto, using(crate::proofs::Sets::takes_programs))]
     pub fn into_program(self) -> Option<Program<N>>
         ensures { option_map (program_row N.plain) result
-            ≡ (if is_program (type_of (row_plain N.plain self)) then Some (row_plain N.plain self) else None) }
+            ≡ (if is_program (type_of (any_row_plain N.plain self)) then Some (any_row_plain N.plain self) else None) }
     {
-        match self {
+        let AnyRow { row } = self;
+        match row {
             Row::Program(program) => Some(Box::into_inner(program)),
-            _ => None,
+            rest => {
+                rest.let_go();
+                None
+            }
         }
     }
 }"""
@@ -239,14 +298,14 @@ def row_of(table, g):
     if isinstance(g, str):
         name, of = snake(g), f"Box<{g}{parameter(table, g)}>"
         row = f"{table.nodes[g].row}{' N.plain' if table.generic(g) else ''} {name}.value"
-        return f"""pub fn row_of_{name}<N: ReadNode + Drop, R: RowOf<N>>({name}: {of}) -> R
+        return f"""pub fn row_of_{name}<N: PlainNode + Drop, R: RowOf<N>>({name}: {of}) -> R
     ensures {{ R.plain result ≡ {row} }}
 {{
     R::of_row(Row::{g}({name}))
 }}"""
     name, of = snake(g.name), kept(table, g) + parameter(table, g.name)
     given = "other" if inner(table, g) else name
-    return f"""pub fn row_of_{name}<N: ReadNode + Drop, R: RowOf<N>>(alloc: Global, {given}: {of}) -> Result<R, InputFault>
+    return f"""pub fn row_of_{name}<N: PlainNode + Drop, R: RowOf<N>>(alloc: Global, {given}: {of}) -> Result<R, InputFault>
     ensures {{ Same R.plain result (Ok ({plain_of_set(table, g)} {held(table, g, given)})) }}
 {{
     let {given} = Box::new(alloc, {given})?;
@@ -287,14 +346,17 @@ def others_specs(table):
 # ---- specs/Kept.antt
 
 def specs(table):
-    parts = [row_plain(table), """abbrev pub entry : {N : Type 0} → (N → Tree) → Kept (Row N) → Entry
-entry plain k = pool.entry (row_plain plain) k
+    parts = [row_plain(table), """abbrev pub any_row_plain : {N : Type 0} → (N → Tree) → AnyRow N → Tree
+any_row_plain plain any = row_plain plain any.row
 
-abbrev pub entries : {N : Type 0} → (N → Tree) → List (Kept (Row N)) → List Entry
-entries plain ks = pool.entries (row_plain plain) ks"""]
+abbrev pub entry : {N : Type 0} → (N → Tree) → Kept (AnyRow N) → Entry
+entry plain k = pool.entry (any_row_plain plain) k
+
+abbrev pub entries : {N : Type 0} → (N → Tree) → List (Kept (AnyRow N)) → List Entry
+entries plain ks = pool.entries (any_row_plain plain) ks"""]
     homes = [("Rattle.std.specs.Prelude", ["List"]), (f"{SPECS}.Tree", ["Tree"])] + row_names(table)
     homes += [("Rattle.jsgen_pool.specs.Pool", ["Entry"]), ("Rattle.jsgen_pool.specs.declared.Kept", ["Kept"])]
-    homes += [(f"{READER}.specs.declared.kept.Row", ["Row"])]
+    homes += [(f"{READER}.specs.declared.kept.Row", ["Row"]), (f"{READER}.specs.declared.kept.AnyRow", ["AnyRow"])]
     aliases = [("Rattle.jsgen_pool.specs.Pool", "pool"), (f"{READER}.specs.declared.kept.Row.TheVariants", "rows")]
     return layout.antt("The plain data of what the reader keeps.", homes, aliases, "\n\n".join(parts))
 

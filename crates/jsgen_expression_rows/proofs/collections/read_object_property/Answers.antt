@@ -31,4 +31,4 @@ returns-in-Err-optional_flag-3 g c = λ told. rw (c.in-Ok.ensures, c.in-Ok-neede
 
 pub returns-in-Ok-boxed : goal.returns-in-Ok-boxed
 unfolding read_node
-returns-in-Ok-boxed g c = rw (c.in-Ok.ensures, c.in-Ok-needed_property_key.ensures, c.in-Ok-needed_expression.ensures, c.in-Ok-optional_flag.ensures, c.in-Ok-optional_flag-2.ensures, c.in-Ok-optional_flag-3.ensures) (gives_node g.R.Typed.plain c.row_of_object_property.result _ (object_property_row g.N.ReadNode.plain) _ _ c.in-Ok-boxed.ensures c.row_of_object_property.ensures)
+returns-in-Ok-boxed g c = rw (c.in-Ok.ensures, c.in-Ok-needed_property_key.ensures, c.in-Ok-needed_expression.ensures, c.in-Ok-optional_flag.ensures, c.in-Ok-optional_flag-2.ensures, c.in-Ok-optional_flag-3.ensures) (gives_node g.R.Typed.plain c.row_of_object_property.result _ (object_property_row g.N.PlainNode.plain) _ _ c.in-Ok-boxed.ensures c.row_of_object_property.ensures)

@@ -11,4 +11,4 @@ returns-in-Err g c = λ told. rw (c.in-Err.ensures told)
 
 pub returns-in-Ok-boxed : goal.returns-in-Ok-boxed
 unfolding read_node
-returns-in-Ok-boxed g c = rw (c.in-Ok.ensures) (gives_node g.R.Typed.plain c.row_of_spread_element.result _ (spread_element_row g.N.ReadNode.plain) _ _ c.in-Ok-boxed.ensures c.row_of_spread_element.ensures)
+returns-in-Ok-boxed g c = rw (c.in-Ok.ensures) (gives_node g.R.Typed.plain c.row_of_spread_element.result _ (spread_element_row g.N.PlainNode.plain) _ _ c.in-Ok-boxed.ensures c.row_of_spread_element.ensures)

@@ -19,4 +19,4 @@ returns-in-Err-needed_identifier_name g c = λ told. rw (c.in-Ok.ensures, c.in-O
 
 pub returns-in-Ok-boxed : goal.returns-in-Ok-boxed
 unfolding read_node
-returns-in-Ok-boxed g c = rw (c.in-Ok.ensures, c.in-Ok-optional_flag.ensures, c.in-Ok-needed_identifier_name.ensures) (gives_row _ _ _ (static_member_expression_row g.N.ReadNode.plain) _ _ c.in-Ok-boxed.ensures c.row_of_expression.ensures)
+returns-in-Ok-boxed g c = rw (c.in-Ok.ensures, c.in-Ok-optional_flag.ensures, c.in-Ok-needed_identifier_name.ensures) (gives_row _ _ _ (static_member_expression_row g.N.PlainNode.plain) _ _ c.in-Ok-boxed.ensures c.row_of_expression.ensures)

@@ -35,4 +35,4 @@ returns-in-Err-needed_arrow_function_body g c = λ told. rw (c.in-Ok.ensures, c.
 
 pub returns-in-Ok-boxed : goal.returns-in-Ok-boxed
 unfolding read_node
-returns-in-Ok-boxed g c = rw (c.in-Ok.ensures, c.in-Ok-optional_flag.ensures, c.in-Ok-optional_flag-2.ensures, c.in-Ok-field_not_given.ensures, c.in-Ok-needed_formal_parameters.ensures, c.in-Ok-field_not_given-2.ensures, c.in-Ok-needed_arrow_function_body.ensures) (gives_row _ _ _ (arrow_function_expression_row g.N.ReadNode.plain) _ _ c.in-Ok-boxed.ensures c.row_of_expression.ensures)
+returns-in-Ok-boxed g c = rw (c.in-Ok.ensures, c.in-Ok-optional_flag.ensures, c.in-Ok-optional_flag-2.ensures, c.in-Ok-field_not_given.ensures, c.in-Ok-needed_formal_parameters.ensures, c.in-Ok-field_not_given-2.ensures, c.in-Ok-needed_arrow_function_body.ensures) (gives_row _ _ _ (arrow_function_expression_row g.N.PlainNode.plain) _ _ c.in-Ok-boxed.ensures c.row_of_expression.ensures)

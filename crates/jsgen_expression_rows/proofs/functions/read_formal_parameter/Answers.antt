@@ -18,4 +18,4 @@ returns-in-Err-optional_expression g c = λ told. rw (first_of_two (not_given (a
 
 pub returns-in-Ok-boxed : goal.returns-in-Ok-boxed
 unfolding read_node
-returns-in-Ok-boxed g c = rw (first_of_two (not_given (at c.args.number 2) (field (codes "decorators") (view c.args.row.now))) (not_given (at c.args.number 3) (field (codes "accessibility") (view c.args.row.now))) c.in-Ok.ensures, second_of_two (not_given (at c.args.number 2) (field (codes "decorators") (view c.args.row.now))) (not_given (at c.args.number 3) (field (codes "accessibility") (view c.args.row.now))) c.in-Ok.ensures, first_of_two (not_given (at c.args.number 4) (field (codes "is_override") (view c.args.row.now))) (not_given (at c.args.number 5) (field (codes "readonly") (view c.args.row.now))) c.in-Ok-neither_given.ensures, second_of_two (not_given (at c.args.number 4) (field (codes "is_override") (view c.args.row.now))) (not_given (at c.args.number 5) (field (codes "readonly") (view c.args.row.now))) c.in-Ok-neither_given.ensures, c.in-Ok-needed_binding_pattern.ensures, first_of_two (not_given (at c.args.number 7) (field (codes "optional") (view c.args.row.now))) (not_given (at c.args.number 8) (field (codes "type_annotation") (view c.args.row.now))) c.in-Ok-neither_given-2.ensures, second_of_two (not_given (at c.args.number 7) (field (codes "optional") (view c.args.row.now))) (not_given (at c.args.number 8) (field (codes "type_annotation") (view c.args.row.now))) c.in-Ok-neither_given-2.ensures, c.in-Ok-optional_expression.ensures) (gives_node g.R.Typed.plain c.row_of_formal_parameter.result _ (formal_parameter_row g.N.ReadNode.plain) _ _ c.in-Ok-boxed.ensures c.row_of_formal_parameter.ensures)
+returns-in-Ok-boxed g c = rw (first_of_two (not_given (at c.args.number 2) (field (codes "decorators") (view c.args.row.now))) (not_given (at c.args.number 3) (field (codes "accessibility") (view c.args.row.now))) c.in-Ok.ensures, second_of_two (not_given (at c.args.number 2) (field (codes "decorators") (view c.args.row.now))) (not_given (at c.args.number 3) (field (codes "accessibility") (view c.args.row.now))) c.in-Ok.ensures, first_of_two (not_given (at c.args.number 4) (field (codes "is_override") (view c.args.row.now))) (not_given (at c.args.number 5) (field (codes "readonly") (view c.args.row.now))) c.in-Ok-neither_given.ensures, second_of_two (not_given (at c.args.number 4) (field (codes "is_override") (view c.args.row.now))) (not_given (at c.args.number 5) (field (codes "readonly") (view c.args.row.now))) c.in-Ok-neither_given.ensures, c.in-Ok-needed_binding_pattern.ensures, first_of_two (not_given (at c.args.number 7) (field (codes "optional") (view c.args.row.now))) (not_given (at c.args.number 8) (field (codes "type_annotation") (view c.args.row.now))) c.in-Ok-neither_given-2.ensures, second_of_two (not_given (at c.args.number 7) (field (codes "optional") (view c.args.row.now))) (not_given (at c.args.number 8) (field (codes "type_annotation") (view c.args.row.now))) c.in-Ok-neither_given-2.ensures, c.in-Ok-optional_expression.ensures) (gives_node g.R.Typed.plain c.row_of_formal_parameter.result _ (formal_parameter_row g.N.PlainNode.plain) _ _ c.in-Ok-boxed.ensures c.row_of_formal_parameter.ensures)

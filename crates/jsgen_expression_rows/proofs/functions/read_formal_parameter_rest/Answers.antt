@@ -19,4 +19,4 @@ returns-in-Err-field_not_given g c = λ told. rw (c.in-Ok.ensures, c.in-Ok-neede
 
 pub returns-in-Ok-boxed : goal.returns-in-Ok-boxed
 unfolding read_node
-returns-in-Ok-boxed g c = rw (c.in-Ok.ensures, c.in-Ok-needed_binding_pattern.ensures, c.in-Ok-field_not_given.ensures) (gives_node g.R.Typed.plain c.row_of_formal_parameter_rest.result _ (formal_parameter_rest_row g.N.ReadNode.plain) _ _ c.in-Ok-boxed.ensures c.row_of_formal_parameter_rest.ensures)
+returns-in-Ok-boxed g c = rw (c.in-Ok.ensures, c.in-Ok-needed_binding_pattern.ensures, c.in-Ok-field_not_given.ensures) (gives_node g.R.Typed.plain c.row_of_formal_parameter_rest.result _ (formal_parameter_rest_row g.N.PlainNode.plain) _ _ c.in-Ok-boxed.ensures c.row_of_formal_parameter_rest.ensures)

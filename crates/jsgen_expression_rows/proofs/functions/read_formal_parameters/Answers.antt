@@ -15,4 +15,4 @@ returns-in-Err-optional_formal_parameter_rest g c = λ told. rw (c.in-Ok.ensures
 
 pub returns-in-Ok-boxed : goal.returns-in-Ok-boxed
 unfolding read_node
-returns-in-Ok-boxed g c = rw (c.in-Ok.ensures, c.in-Ok-optional_formal_parameter_rest.ensures) (gives_node g.R.Typed.plain c.row_of_formal_parameters.result _ (formal_parameters_row g.N.ReadNode.plain) _ _ c.in-Ok-boxed.ensures c.row_of_formal_parameters.ensures)
+returns-in-Ok-boxed g c = rw (c.in-Ok.ensures, c.in-Ok-optional_formal_parameter_rest.ensures) (gives_node g.R.Typed.plain c.row_of_formal_parameters.result _ (formal_parameters_row g.N.PlainNode.plain) _ _ c.in-Ok-boxed.ensures c.row_of_formal_parameters.ensures)

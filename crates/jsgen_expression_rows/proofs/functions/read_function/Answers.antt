@@ -42,4 +42,4 @@ returns-in-Err-optional_function_body g c = λ told. rw (c.in-Ok.ensures, c.in-O
 
 pub returns-in-Ok-boxed : goal.returns-in-Ok-boxed
 unfolding read_node
-returns-in-Ok-boxed g c = rw (c.in-Ok.ensures, c.in-Ok-optional_binding_identifier.ensures, first_of_two (not_given (at c.args.number 4) (field (codes "is_async") (view c.args.row.now))) (not_given (at c.args.number 5) (field (codes "generator") (view c.args.row.now))) c.in-Ok-neither_given.ensures, second_of_two (not_given (at c.args.number 4) (field (codes "is_async") (view c.args.row.now))) (not_given (at c.args.number 5) (field (codes "generator") (view c.args.row.now))) c.in-Ok-neither_given.ensures, c.in-Ok-field_not_given.ensures, c.in-Ok-optional_flag.ensures, c.in-Ok-optional_flag-2.ensures, first_of_two (not_given (at c.args.number 9) (field (codes "type_parameters") (view c.args.row.now))) (not_given (at c.args.number 10) (field (codes "this_param") (view c.args.row.now))) c.in-Ok-neither_given-2.ensures, second_of_two (not_given (at c.args.number 9) (field (codes "type_parameters") (view c.args.row.now))) (not_given (at c.args.number 10) (field (codes "this_param") (view c.args.row.now))) c.in-Ok-neither_given-2.ensures, c.in-Ok-needed_formal_parameters.ensures, c.in-Ok-field_not_given-2.ensures, c.in-Ok-optional_function_body.ensures) (gives_node g.R.Typed.plain c.row_of_function.result _ (function_row g.N.ReadNode.plain) _ _ c.in-Ok-boxed.ensures c.row_of_function.ensures)
+returns-in-Ok-boxed g c = rw (c.in-Ok.ensures, c.in-Ok-optional_binding_identifier.ensures, first_of_two (not_given (at c.args.number 4) (field (codes "is_async") (view c.args.row.now))) (not_given (at c.args.number 5) (field (codes "generator") (view c.args.row.now))) c.in-Ok-neither_given.ensures, second_of_two (not_given (at c.args.number 4) (field (codes "is_async") (view c.args.row.now))) (not_given (at c.args.number 5) (field (codes "generator") (view c.args.row.now))) c.in-Ok-neither_given.ensures, c.in-Ok-field_not_given.ensures, c.in-Ok-optional_flag.ensures, c.in-Ok-optional_flag-2.ensures, first_of_two (not_given (at c.args.number 9) (field (codes "type_parameters") (view c.args.row.now))) (not_given (at c.args.number 10) (field (codes "this_param") (view c.args.row.now))) c.in-Ok-neither_given-2.ensures, second_of_two (not_given (at c.args.number 9) (field (codes "type_parameters") (view c.args.row.now))) (not_given (at c.args.number 10) (field (codes "this_param") (view c.args.row.now))) c.in-Ok-neither_given-2.ensures, c.in-Ok-needed_formal_parameters.ensures, c.in-Ok-field_not_given-2.ensures, c.in-Ok-optional_function_body.ensures) (gives_node g.R.Typed.plain c.row_of_function.result _ (function_row g.N.PlainNode.plain) _ _ c.in-Ok-boxed.ensures c.row_of_function.ensures)

@@ -15,4 +15,4 @@ returns-in-Err-statement_list g c = λ told. rw (c.in-Ok.ensures, c.in-Err-state
 
 pub returns-in-Ok-boxed : goal.returns-in-Ok-boxed
 unfolding read_node
-returns-in-Ok-boxed g c = rw (c.in-Ok.ensures, c.in-Ok-statement_list.ensures) (gives_node g.R.Typed.plain c.row_of_function_body.result _ (function_body_row g.N.ReadNode.plain) _ _ c.in-Ok-boxed.ensures c.row_of_function_body.ensures)
+returns-in-Ok-boxed g c = rw (c.in-Ok.ensures, c.in-Ok-statement_list.ensures) (gives_node g.R.Typed.plain c.row_of_function_body.result _ (function_body_row g.N.PlainNode.plain) _ _ c.in-Ok-boxed.ensures c.row_of_function_body.ensures)

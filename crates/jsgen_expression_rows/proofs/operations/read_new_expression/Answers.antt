@@ -23,4 +23,4 @@ returns-in-Err-optional_flag g c = λ told. rw (c.in-Ok.ensures, c.in-Ok-field_n
 
 pub returns-in-Ok-boxed : goal.returns-in-Ok-boxed
 unfolding read_node
-returns-in-Ok-boxed g c = rw (c.in-Ok.ensures, c.in-Ok-field_not_given.ensures, c.in-Ok-argument_list.ensures, c.in-Ok-optional_flag.ensures) (gives_row _ _ _ (new_expression_row g.N.ReadNode.plain) _ _ c.in-Ok-boxed.ensures c.row_of_expression.ensures)
+returns-in-Ok-boxed g c = rw (c.in-Ok.ensures, c.in-Ok-field_not_given.ensures, c.in-Ok-argument_list.ensures, c.in-Ok-optional_flag.ensures) (gives_row _ _ _ (new_expression_row g.N.PlainNode.plain) _ _ c.in-Ok-boxed.ensures c.row_of_expression.ensures)

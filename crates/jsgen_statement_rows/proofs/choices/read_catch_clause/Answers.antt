@@ -19,4 +19,4 @@ returns-in-Err-needed_block_statement g c = λ told. rw (c.in-Ok.ensures, c.in-O
 
 pub returns-in-Ok-boxed : goal.returns-in-Ok-boxed
 unfolding read_node
-returns-in-Ok-boxed g c = rw (c.in-Ok.ensures, c.in-Ok-field_not_given.ensures, c.in-Ok-needed_block_statement.ensures) (gives_node g.R.Typed.plain c.row_of_catch_clause.result _ (catch_clause_row g.N.ReadNode.plain) _ _ c.in-Ok-boxed.ensures c.row_of_catch_clause.ensures)
+returns-in-Ok-boxed g c = rw (c.in-Ok.ensures, c.in-Ok-field_not_given.ensures, c.in-Ok-needed_block_statement.ensures) (gives_node g.R.Typed.plain c.row_of_catch_clause.result _ (catch_clause_row g.N.PlainNode.plain) _ _ c.in-Ok-boxed.ensures c.row_of_catch_clause.ensures)

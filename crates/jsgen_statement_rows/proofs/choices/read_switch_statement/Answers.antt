@@ -15,4 +15,4 @@ returns-in-Err-switch_case_list g c = λ told. rw (c.in-Ok.ensures, c.in-Err-swi
 
 pub returns-in-Ok-boxed : goal.returns-in-Ok-boxed
 unfolding read_node
-returns-in-Ok-boxed g c = rw (c.in-Ok.ensures, c.in-Ok-switch_case_list.ensures) (gives_row _ _ _ (switch_statement_row g.N.ReadNode.plain) _ _ c.in-Ok-boxed.ensures c.row_of_statement.ensures)
+returns-in-Ok-boxed g c = rw (c.in-Ok.ensures, c.in-Ok-switch_case_list.ensures) (gives_row _ _ _ (switch_statement_row g.N.PlainNode.plain) _ _ c.in-Ok-boxed.ensures c.row_of_statement.ensures)

@@ -15,4 +15,4 @@ returns-in-Err-needed_statement g c = λ told. rw (c.in-Ok.ensures, c.in-Err-nee
 
 pub returns-in-Ok-boxed : goal.returns-in-Ok-boxed
 unfolding read_node
-returns-in-Ok-boxed g c = rw (c.in-Ok.ensures, c.in-Ok-needed_statement.ensures) (gives_row _ _ _ (labeled_statement_row g.N.ReadNode.plain) _ _ c.in-Ok-boxed.ensures c.row_of_statement.ensures)
+returns-in-Ok-boxed g c = rw (c.in-Ok.ensures, c.in-Ok-needed_statement.ensures) (gives_row _ _ _ (labeled_statement_row g.N.PlainNode.plain) _ _ c.in-Ok-boxed.ensures c.row_of_statement.ensures)

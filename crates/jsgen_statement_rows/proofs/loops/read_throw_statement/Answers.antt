@@ -11,4 +11,4 @@ returns-in-Err g c = λ told. rw (c.in-Err.ensures told)
 
 pub returns-in-Ok-boxed : goal.returns-in-Ok-boxed
 unfolding read_node
-returns-in-Ok-boxed g c = rw (c.in-Ok.ensures) (gives_row _ _ _ (throw_statement_row g.N.ReadNode.plain) _ _ c.in-Ok-boxed.ensures c.row_of_statement.ensures)
+returns-in-Ok-boxed g c = rw (c.in-Ok.ensures) (gives_row _ _ _ (throw_statement_row g.N.PlainNode.plain) _ _ c.in-Ok-boxed.ensures c.row_of_statement.ensures)

@@ -34,4 +34,4 @@ returns-in-Err-statement_list g c = λ told. rw (c.in-Ok.ensures, c.in-Ok-needed
 
 pub returns-in-Ok-boxed : goal.returns-in-Ok-boxed
 unfolding read_node
-returns-in-Ok-boxed g c = rw (c.in-Ok.ensures, c.in-Ok-needed_source_kind.ensures, first_of_two (not_given (at c.args.number 4) (field (codes "jsx") (view c.args.row.now))) (not_given (at c.args.number 5) (field (codes "typescript") (view c.args.row.now))) c.in-Ok-neither_given.ensures, second_of_two (not_given (at c.args.number 4) (field (codes "jsx") (view c.args.row.now))) (not_given (at c.args.number 5) (field (codes "typescript") (view c.args.row.now))) c.in-Ok-neither_given.ensures, c.in-Ok-comment_list.ensures, c.in-Ok-field_not_given.ensures, c.in-Ok-directive_list.ensures, c.in-Ok-statement_list.ensures) (gives_node g.R.Typed.plain c.row_of_program.result _ (program_row g.N.ReadNode.plain) _ _ c.in-Ok-boxed.ensures c.row_of_program.ensures)
+returns-in-Ok-boxed g c = rw (c.in-Ok.ensures, c.in-Ok-needed_source_kind.ensures, first_of_two (not_given (at c.args.number 4) (field (codes "jsx") (view c.args.row.now))) (not_given (at c.args.number 5) (field (codes "typescript") (view c.args.row.now))) c.in-Ok-neither_given.ensures, second_of_two (not_given (at c.args.number 4) (field (codes "jsx") (view c.args.row.now))) (not_given (at c.args.number 5) (field (codes "typescript") (view c.args.row.now))) c.in-Ok-neither_given.ensures, c.in-Ok-comment_list.ensures, c.in-Ok-field_not_given.ensures, c.in-Ok-directive_list.ensures, c.in-Ok-statement_list.ensures) (gives_node g.R.Typed.plain c.row_of_program.result _ (program_row g.N.PlainNode.plain) _ _ c.in-Ok-boxed.ensures c.row_of_program.ensures)

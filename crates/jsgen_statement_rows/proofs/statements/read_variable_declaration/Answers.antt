@@ -19,4 +19,4 @@ returns-in-Err-variable_declarator_list g c = λ told. rw (c.in-Ok.ensures, c.in
 
 pub returns-in-Ok-boxed : goal.returns-in-Ok-boxed
 unfolding read_node
-returns-in-Ok-boxed g c = rw (c.in-Ok.ensures, c.in-Ok-field_not_given.ensures, c.in-Ok-variable_declarator_list.ensures) (gives_row _ _ _ (variable_declaration_row g.N.ReadNode.plain) _ _ c.in-Ok-boxed.ensures c.row_of_declaration.ensures)
+returns-in-Ok-boxed g c = rw (c.in-Ok.ensures, c.in-Ok-field_not_given.ensures, c.in-Ok-variable_declarator_list.ensures) (gives_row _ _ _ (variable_declaration_row g.N.PlainNode.plain) _ _ c.in-Ok-boxed.ensures c.row_of_declaration.ensures)

@@ -18,4 +18,4 @@ returns-in-Err-optional_expression g c = λ told. rw (c.in-Ok.ensures, first_of_
 
 pub returns-in-Ok-boxed : goal.returns-in-Ok-boxed
 unfolding read_node
-returns-in-Ok-boxed g c = rw (c.in-Ok.ensures, first_of_two (not_given (at c.args.number 3) (field (codes "definite") (view c.args.row.now))) (not_given (at c.args.number 4) (field (codes "type_annotation") (view c.args.row.now))) c.in-Ok-neither_given.ensures, second_of_two (not_given (at c.args.number 3) (field (codes "definite") (view c.args.row.now))) (not_given (at c.args.number 4) (field (codes "type_annotation") (view c.args.row.now))) c.in-Ok-neither_given.ensures, c.in-Ok-optional_expression.ensures) (gives_node g.R.Typed.plain c.row_of_variable_declarator.result _ (variable_declarator_row g.N.ReadNode.plain) _ _ c.in-Ok-boxed.ensures c.row_of_variable_declarator.ensures)
+returns-in-Ok-boxed g c = rw (c.in-Ok.ensures, first_of_two (not_given (at c.args.number 3) (field (codes "definite") (view c.args.row.now))) (not_given (at c.args.number 4) (field (codes "type_annotation") (view c.args.row.now))) c.in-Ok-neither_given.ensures, second_of_two (not_given (at c.args.number 3) (field (codes "definite") (view c.args.row.now))) (not_given (at c.args.number 4) (field (codes "type_annotation") (view c.args.row.now))) c.in-Ok-neither_given.ensures, c.in-Ok-optional_expression.ensures) (gives_node g.R.Typed.plain c.row_of_variable_declarator.result _ (variable_declarator_row g.N.PlainNode.plain) _ _ c.in-Ok-boxed.ensures c.row_of_variable_declarator.ensures)
