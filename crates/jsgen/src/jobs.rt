@@ -1,4 +1,4 @@
-// From the bytes of a job to its text.
+// From the bytes of a job to its text, or to what is wrong.
 ghost use Rattle.std.specs.Prelude.{◌≡◌, option_map};
 ghost use Rattle.jsgen_tree.specs.Scoping.{scoping_plain, private_plain};
 ghost use Rattle.jsgen_jobs.specs.Job.{Reads, Verdict, Answers};
@@ -39,9 +39,9 @@ fn job_in(alloc: Global, bytes: &[u8]) -> Result<Job, JobFault>
     }
 }
 
-/// Reads a job from its bytes (docs/FORMAT.md), and says Ok exactly where it is one whose program keeps each rule of a tree.
-/// Where the bytes are no job, that is answered before any rule, and it is their first fault. Of several rules that are
-/// broken any may be named. Memory is taken to read the job alone.
+/// Reads a job from its bytes (docs/FORMAT.md), and says Ok where its program keeps each rule of a tree. Bytes that are no job
+/// are answered by their first fault, before any rule is looked at; of several rules that are broken any may be named. Memory
+/// is taken for reading alone, and want of it may come in place of any answer.
 pub fn check_job(alloc: Global, bytes: &[u8]) -> Result<(), JobFault>
     ensures { Verdict bytes.now result }
 {
@@ -65,8 +65,8 @@ pub fn check_job(alloc: Global, bytes: &[u8]) -> Result<(), JobFault>
     }
 }
 
-/// Reads a job from its bytes and prints its program, under the job's options and by its tables. What is wrong is answered
-/// as by `check_job`; where it says Ok, the only error is want of memory.
+/// Reads a job from its bytes, and prints its program under the job's options and by its tables. What is wrong is answered as
+/// by `check_job`, before anything is printed; printing takes memory too.
 pub fn print_job(alloc: Global, bytes: &[u8]) -> Result<String, JobFault>
     ensures { Answers bytes.now result }
 {
