@@ -1,15 +1,18 @@
-//! The printer's public calls, beside those of the checker of trees and the reader of jobs, and the types of trees: what a
-//! caller needs comes from here.
+//! The printer's public calls, beside those of the checker of trees and the reader of jobs, from a job's bytes to its text, and
+//! the types of trees: what a caller needs comes from here.
 #![tactic(auto)]
 
 mod codegen;
 mod gens;
 mod impls;
+mod jobs;
 mod laws;
 
 pub use codegen::{Codegen, CodegenError, CodegenReturn};
 pub use gens::{Gen, GenExpr};
+pub use jobs::{Library, check_job, print_job};
 pub use jsgen_fields::{At, InputFault};
+pub use jsgen_jobs::{JobFault, PrintJobs};
 pub use jsgen_model::{TreeFault, programs_are_plain};
 pub use jsgen_printer::{Context, Operator};
 pub use jsgen_rows::{Job, job_faults_are_told, read_job};

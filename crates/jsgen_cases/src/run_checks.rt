@@ -1,11 +1,12 @@
 // Checks of the program from bytes to bytes, over devices in memory.
 ghost use Rattle.std.specs.Prelude.{◌≡◌, ◌⊎◌, Some};
 ghost use Rattle.jsgen_tool.specs.Answers.{IsPrint};
-ghost use Rattle.jsgen_tool.specs.Job.{IsSomeJob};
+ghost use Rattle.jsgen_jobs.specs.Job.{IsSomeJob};
 ghost use Rattle.jsgen_device.specs.Memory.{source_left, source_faults};
 ghost use Rattle.jsgen_device.specs.Transfer.{IsWithin};
 
 use crate::runs::{Seen, run_over, words_of};
+use jsgen::Library;
 use jsgen_device::{Failed, LIMIT, MemSource, Source, StdSink, StdSource, SureSink, SureSource};
 use jsgen_syntax::Memory;
 use jsgen_tool::{Status, run};
@@ -69,7 +70,7 @@ fn trickled(alloc: Global, job: &str, failing: u64, room: usize) -> Result<Seen,
     let mut source = Trickle {
         inner: MemSource::new(job.as_bytes().to_vec(alloc)?, failing),
     };
-    let status = run(alloc, &words, &mut source, &mut out, &mut err);
+    let status = run::<Library, _, _>(alloc, &words, &mut source, &mut out, &mut err);
     Seen::new(alloc, status, out.bytes(), err.bytes())
 }
 
@@ -133,7 +134,7 @@ pub fn readers_and_writers_of_std_serve(alloc: Global) -> Result<bool, Memory> {
     let mut source = StdSource::new(JOB.as_bytes());
     let mut out = StdSink::new(&mut text);
     let mut err = StdSink::new(&mut line);
-    let status = run(alloc, &words, &mut source, &mut out, &mut err);
+    let status = run::<Library, _, _>(alloc, &words, &mut source, &mut out, &mut err);
     Ok(
         status == Status::Done
             && line.is_empty()
@@ -156,5 +157,5 @@ fn print_surely(
     ensures { (result ≡ Status.Done) ⊎ ((result ≡ Status.Memory) ⊎ (result ≡ Status.WriteFault)) }
 {
     let mut source = SureSource::new(job);
-    run(alloc, words, &mut source, out, err)
+    run::<Library, _, _>(alloc, words, &mut source, out, err)
 }

@@ -1,4 +1,5 @@
 // Runs of the program over devices in memory.
+use jsgen::Library;
 use jsgen_device::{MemSink, MemSource};
 use jsgen_syntax::Memory;
 use jsgen_tool::{Status, run};
@@ -51,6 +52,6 @@ pub fn run_over(
     let mut out = MemSink::new(alloc, 1000, pushes.to_vec(alloc)?)?;
     let mut err = MemSink::new(alloc, 100, Vec::new(alloc))?;
     let mut source = MemSource::new(input.to_vec(alloc)?, pulls.to_vec(alloc)?);
-    let status = run(alloc, &words, &mut source, &mut out, &mut err);
+    let status = run::<Library, _, _>(alloc, &words, &mut source, &mut out, &mut err);
     Seen::new(alloc, status, out.bytes(), err.bytes())
 }

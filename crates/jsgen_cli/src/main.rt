@@ -1,6 +1,7 @@
 // Reads a job from standard input and writes its text to standard output.
 #![tactic(auto)]
 
+use jsgen::Library;
 use jsgen_device::{StdSink, StdSource};
 use jsgen_tool::{Status, run, say};
 use std::env;
@@ -56,7 +57,7 @@ fn main(rt: HostRuntime) -> ExitCode {
         Ok(words) => {
             let mut source = StdSource::new(rt.stdin());
             let mut out = StdSink::new(Stream::Out(rt.stdout()));
-            run(rt.alloc(), &words, &mut source, &mut out, &mut err)
+            run::<Library, _, _>(rt.alloc(), &words, &mut source, &mut out, &mut err)
         }
         Err(status) => {
             say(&mut err, status);

@@ -13,7 +13,7 @@ use Rattle.jsgen_rows.proofs.Program.{job_is_program}
 use Rattle.jsgen_device.specs.Device.{Rose}
 use Rattle.jsgen_tool.specs.Answers.{InputRow, OutputRow, SourceCount, OutCount, Due}
 use Rattle.jsgen_tool.specs.Headline.{HoldsJob, Prints, TookText}
-use Rattle.jsgen_tool.specs.Job.{IsJobOf}
+use Rattle.jsgen_jobs.specs.Job.{IsJobOf}
 use Rattle.jsgen_tool.specs.declared.status.Status.{Status}
 use Rattle.jsgen_tool.specs.declared.status.Status.TheVariants.{Done, Refused, Usage, NotJob, ReadFault, WriteFault, Memory, TooLong}
 

@@ -1,4 +1,3 @@
 pub mod Answers
 pub mod Headline
-pub mod Job
 pub mod Lines

@@ -1,7 +1,6 @@
 //! The program over any source and sink: a job is read, and its text or what is wrong is written.
 #![tactic(auto)]
 
-mod job;
 mod line;
 mod status;
 mod top;

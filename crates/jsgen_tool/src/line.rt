@@ -6,8 +6,8 @@ ghost use Rattle.jsgen_tool.specs.Lines.{Says, spot_row, spot_field, spot_text, 
 
 use crate::status::{Spot, Status};
 use itoa::Buffer;
-use jsgen::At;
 use jsgen_device::{Failed, Sink, push_both};
+use jsgen_fields::At;
 
 // Pushes a text and a number behind it.
 fn push_number<K: Sink>(sink: &mut K, text: &[u8], number: usize) -> Result<(), Failed>

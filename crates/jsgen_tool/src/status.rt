@@ -4,7 +4,8 @@ ghost use Rattle.jsgen_model.specs.Fault.{rule_text};
 ghost use Rattle.jsgen_fields.specs.Texts.{fault_text};
 ghost use Rattle.jsgen_tool.specs.Lines.{code_of, line_of, spot_text};
 
-use jsgen::{At, InputFault, TreeFault};
+use jsgen_fields::{At, InputFault};
+use jsgen_model::TreeFault;
 
 /// How a run ended.
 #[derive(Clone, Copy, Debug, PartialEq, Eq)]

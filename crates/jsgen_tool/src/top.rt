@@ -8,11 +8,11 @@ ghost use Rattle.jsgen_device.specs.Device.{Rose};
 ghost use Rattle.jsgen_device.specs.Transfer.{TakesAtMost, limit};
 ghost use Rattle.jsgen_tool.specs.Lines.{Says, line_of};
 
-use crate::job::{Fault, answer, verdict};
 use crate::line::say;
 use crate::status::Status;
-use jsgen::InputFault;
 use jsgen_device::{Failed, Sink, Source, Unread, push_all, read_all};
+use jsgen_fields::InputFault;
+use jsgen_jobs::{JobFault, PrintJobs};
 use std::alloc::Global;
 
 // Whether the words are this one.
@@ -25,7 +25,7 @@ fn is_word(words: &[String], text: &str) -> bool
     }
 }
 
-fn print<S: Source, K: Sink>(alloc: Global, source: &mut S, out: &mut K) -> Status
+fn print<P: PrintJobs, S: Source, K: Sink>(alloc: Global, source: &mut S, out: &mut K) -> Status
     ensures usage { result ≡ Status.Usage → ⊥ }
     ensures read { SourceCount result (S.faults source.old) (S.faults source.new) }
     ensures write { OutCount result (K.faults out.old) (K.faults out.new) }
@@ -40,11 +40,11 @@ fn print<S: Source, K: Sink>(alloc: Global, source: &mut S, out: &mut K) -> Stat
         Err(Unread::TooLong) => return Status::TooLong,
         Err(Unread::Memory) => return Status::Memory,
     };
-    let text = match answer(alloc, &bytes) {
+    let text = match P::print_job(alloc, &bytes) {
         Ok(text) => text,
-        Err(Fault::NotJob(fault)) => return Status::NotJob(fault),
-        Err(Fault::Refused(fault)) => return Status::Refused(fault),
-        Err(Fault::Memory) => return Status::Memory,
+        Err(JobFault::NotJob(fault)) => return Status::NotJob(fault),
+        Err(JobFault::Refused(fault)) => return Status::Refused(fault),
+        Err(JobFault::Memory) => return Status::Memory,
     };
     match push_all(out, text.as_bytes()) {
         Ok(()) => Status::Done,
@@ -52,7 +52,7 @@ fn print<S: Source, K: Sink>(alloc: Global, source: &mut S, out: &mut K) -> Stat
     }
 }
 
-fn check<S: Source>(alloc: Global, source: &mut S) -> Status
+fn check<P: PrintJobs, S: Source>(alloc: Global, source: &mut S) -> Status
     ensures usage { result ≡ Status.Usage → ⊥ }
     ensures write { result ≡ Status.WriteFault → ⊥ }
     ensures read { SourceCount result (S.faults source.old) (S.faults source.new) }
@@ -66,15 +66,20 @@ fn check<S: Source>(alloc: Global, source: &mut S) -> Status
         Err(Unread::TooLong) => return Status::TooLong,
         Err(Unread::Memory) => return Status::Memory,
     };
-    match verdict(alloc, &bytes) {
+    match P::check_job(alloc, &bytes) {
         Ok(()) => Status::Done,
-        Err(Fault::NotJob(fault)) => Status::NotJob(fault),
-        Err(Fault::Refused(fault)) => Status::Refused(fault),
-        Err(Fault::Memory) => Status::Memory,
+        Err(JobFault::NotJob(fault)) => Status::NotJob(fault),
+        Err(JobFault::Refused(fault)) => Status::Refused(fault),
+        Err(JobFault::Memory) => Status::Memory,
     }
 }
 
-fn work<S: Source, K: Sink>(alloc: Global, words: &[String], source: &mut S, out: &mut K) -> Status
+fn work<P: PrintJobs, S: Source, K: Sink>(
+    alloc: Global,
+    words: &[String],
+    source: &mut S,
+    out: &mut K,
+) -> Status
     ensures usage { result ≡ Status.Usage ↔ (IsCommand words.now → ⊥) }
     ensures read { SourceCount result (S.faults source.old) (S.faults source.new) }
     ensures write { OutCount result (K.faults out.old) (K.faults out.new) }
@@ -86,10 +91,10 @@ fn work<S: Source, K: Sink>(alloc: Global, words: &[String], source: &mut S, out
     ensures idle { result ≡ Status.Usage → source.new ≡ source.old }
 {
     if is_word(words, "print") {
-        return print(alloc, source, out);
+        return print::<P, S, K>(alloc, source, out);
     }
     if is_word(words, "check") {
-        return check(alloc, source);
+        return check::<P, S>(alloc, source);
     }
     Status::Usage
 }
@@ -98,7 +103,7 @@ fn work<S: Source, K: Sink>(alloc: Global, words: &[String], source: &mut S, out
 /// job's text, and for `check` nothing, so that the status alone tells whether the job keeps the rules. The text is
 /// complete before its first byte is written. Where several things are wrong, the first of these is
 /// answered: the words, reading, the length, the job, the rules, writing.
-pub fn run<S: Source, K: Sink>(
+pub fn run<P: PrintJobs, S: Source, K: Sink>(
     alloc: Global,
     words: &[String],
     source: &mut S,
@@ -131,7 +136,7 @@ pub fn run<S: Source, K: Sink>(
     ensures taken { TakesAtMost (limit + 1) (S.left source.old) (S.left source.new) }
     ensures idle { result ≡ Status.Usage → source.new ≡ source.old }
 {
-    let status = work(alloc, words, source, out);
+    let status = work::<P, S, K>(alloc, words, source, out);
     say(err, status);
     status
 }

@@ -9,8 +9,8 @@ use Rattle.jsgen_rows.specs.Job.{job_of, job_plain}
 use Rattle.jsgen_rows.specs.declared.Job.{Job}
 use Rattle.jsgen_fields.specs.declared.InputFault.{InputFault}
 use Rattle.jsgen_fields.specs.declared.InputFault.TheVariants as faults
-use Rattle.jsgen_tool.specs.declared.job.Fault.{Fault}
-use Rattle.jsgen_tool.specs.declared.job.Fault.TheVariants.{NotJob, Refused, Memory}
+use Rattle.jsgen_jobs.specs.declared.JobFault.{JobFault}
+use Rattle.jsgen_jobs.specs.declared.JobFault.TheVariants.{NotJob, Refused, Memory}
 
 -- the bytes are this job, whose program keeps the rules under its options and tables
 abbrev pub IsJobOf : JobData → List ℕ → Type 0
@@ -29,22 +29,22 @@ abbrev pub IsNoJob : InputFault → List ℕ → Type 0
 IsNoJob fault bytes = job_of bytes ≡ Err fault
 
 -- what a fault says of an input; want of memory may come in place of any answer
-abbrev pub IsFaulty : List ℕ → Fault → Type 0
+abbrev pub IsFaulty : List ℕ → JobFault → Type 0
 IsFaulty bytes (NotJob fault) = IsNoJob fault bytes × (fault ≡ faults.Memory → ⊥)
 IsFaulty bytes (Refused fault) = Breaks fault bytes
 IsFaulty bytes Memory = ⊤
 
 -- what is read of an input
-abbrev pub Reads : List ℕ → Result Job Fault → Type 0
+abbrev pub Reads : List ℕ → Result Job JobFault → Type 0
 Reads bytes (Ok job) = job_of bytes ≡ Ok (job_plain job)
 Reads bytes (Err fault) = IsFaulty bytes fault
 
 -- the verdict on an input
-abbrev pub Verdict : List ℕ → Result (Unit {0}) Fault → Type 0
+abbrev pub Verdict : List ℕ → Result (Unit {0}) JobFault → Type 0
 Verdict bytes (Ok done) = IsSomeJob bytes
 Verdict bytes (Err fault) = IsFaulty bytes fault
 
 -- the answer to an input
-abbrev pub Answers : List ℕ → Result (String Global) Fault → Type 0
+abbrev pub Answers : List ℕ → Result (String Global) JobFault → Type 0
 Answers bytes (Ok text) = (job : JobData) × IsJobOf job bytes × (string_bytes text ≡ text_bytes job)
 Answers bytes (Err fault) = IsFaulty bytes fault

@@ -1,0 +1,30 @@
+//! What the bytes of a job are answered with: the definitions, why there is no text, and what gives the answers.
+#![tactic(auto)]
+
+ghost use Rattle.jsgen_jobs.specs.Job.{Verdict, Answers};
+
+use jsgen_fields::InputFault;
+use jsgen_model::TreeFault;
+use std::alloc::Global;
+
+/// Why a job has no text.
+#[derive(Clone, Copy, Debug, PartialEq, Eq)]
+pub enum JobFault {
+    /// The bytes are no job. It isn't want of memory.
+    NotJob(InputFault),
+    /// The job breaks a rule.
+    Refused(TreeFault),
+    /// Memory ran out, which may come in place of any answer.
+    Memory,
+}
+
+/// What prints and checks jobs. Which of the broken rules is told, and when memory runs out, is all that it may choose.
+pub trait PrintJobs {
+    /// The text of a job.
+    fn print_job(alloc: Global, bytes: &[u8]) -> Result<String, JobFault>
+        ensures { Answers bytes.now result };
+
+    /// Whether the bytes are a job that keeps the rules, or what is wrong.
+    fn check_job(alloc: Global, bytes: &[u8]) -> Result<(), JobFault>
+        ensures { Verdict bytes.now result };
+}
