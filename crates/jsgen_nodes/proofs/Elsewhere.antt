@@ -1,7 +1,6 @@
 -- What a question of all types answers for those that it doesn't name.
-use Rattle.std.proofs.Common.{◌≡◌, Bool, true, false, None, refl}
+use Rattle.std.proofs.Common.{◌≡◌, None, refl}
 use Rattle.jsgen_tree.specs.Tree.{Tree}
-use Rattle.jsgen_tree.specs.Inside.{ends_open}
 use Rattle.jsgen_tree.specs.Plain.{node_plain}
 use Rattle.jsgen_tree.specs.Rows.{expression_plain, statement_plain, declaration_plain, binding_pattern_plain}
 use Rattle.jsgen_tree.specs.declared.nodes.Node.{Node}
@@ -15,29 +14,6 @@ use Rattle.jsgen_tree.specs.declared.sets.Declaration.TheVariants as declaration
 use Rattle.jsgen_tree.specs.declared.sets.BindingPattern.TheVariants as binding_patterns
 use Rattle.jsgen_nodes.proofs.IsNot.{IsNot}
 use Rattle.jsgen_model.specs.Spell.{string_statement}
-
--- ---- whether it ends in an `if` without `else`
-
-pub no_open_expression : (n : Expression Node) → false ≡ ends_open (expression_plain node_plain n)
-no_open_expression (expressions.StringLiteral b) = refl
-no_open_expression n = refl
-
-pub no_open_declaration : (n : Declaration Node) → false ≡ ends_open (declaration_plain node_plain n)
-no_open_declaration (declarations.VariableDeclaration b) = refl
-no_open_declaration (declarations.Function b) = refl
-
-pub no_open_pattern : (n : BindingPattern) → false ≡ ends_open (binding_pattern_plain n)
-no_open_pattern (binding_patterns.BindingIdentifier b) = refl
-
-pub no_open_statement : (n : Statement Node) → IsNot n statements.Declaration → IsNot n statements.IfStatement → IsNot n statements.ForStatement → IsNot n statements.ForInStatement → IsNot n statements.ForOfStatement → IsNot n statements.WhileStatement → IsNot n statements.LabeledStatement → false ≡ ends_open (statement_plain node_plain n)
-no_open_statement (statements.Declaration b) no_declaration no_if no_for no_for_in no_for_of no_while no_label = absurd (no_declaration b refl)
-no_open_statement (statements.IfStatement b) no_declaration no_if no_for no_for_in no_for_of no_while no_label = absurd (no_if b refl)
-no_open_statement (statements.ForStatement b) no_declaration no_if no_for no_for_in no_for_of no_while no_label = absurd (no_for b refl)
-no_open_statement (statements.ForInStatement b) no_declaration no_if no_for no_for_in no_for_of no_while no_label = absurd (no_for_in b refl)
-no_open_statement (statements.ForOfStatement b) no_declaration no_if no_for no_for_in no_for_of no_while no_label = absurd (no_for_of b refl)
-no_open_statement (statements.WhileStatement b) no_declaration no_if no_for no_for_in no_for_of no_while no_label = absurd (no_while b refl)
-no_open_statement (statements.LabeledStatement b) no_declaration no_if no_for no_for_in no_for_of no_while no_label = absurd (no_label b refl)
-no_open_statement n no_declaration no_if no_for no_for_in no_for_of no_while no_label = refl
 
 -- ---- the string that is the whole of a statement
 

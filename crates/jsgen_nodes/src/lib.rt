@@ -42,7 +42,7 @@ ghost use Rattle.jsgen_nodes.specs.Names.{is_binding_name};
 ghost use Rattle.jsgen_nodes.specs.Place.{pen_after};
 
 use definitions::print_behind_name;
-use jsgen_place::{Context, Operand, Place, Settings};
+use jsgen_place::{Context, Operand, Place, Settings, ends_open};
 use jsgen_printer::Printer;
 use jsgen_syntax::{JsStr, Memory};
 use jsgen_tree::{Declaration, Expression, IdentifierReference, Node, NodeType, Statement};
@@ -53,7 +53,6 @@ pub use quotes::{
     try_print_require_call,
 };
 use sets::{print_binding_pattern, print_declaration, print_expression, print_statement};
-use shapes::ends_open;
 pub use statements::print_program;
 use strings::{string, string_statement};
 

@@ -9,7 +9,7 @@ mod place;
 mod properties;
 mod quotes;
 
-pub use endings::if_ends_open;
+pub use endings::ends_open;
 pub use numbers::{needs_brackets, takes_no_dot};
 pub use operands::{Operand, left_level, right_level, unmixed, update_level};
 pub use parameters::is_bare;

@@ -1,0 +1,40 @@
+-- What ends in an `if` without `else`: nothing but the statements that are named.
+use Rattle.std.proofs.Common.{◌≡◌, false, refl}
+use Rattle.jsgen_tree.specs.Tree.{Tree}
+use Rattle.jsgen_tree.specs.Inside.{ends_open}
+use Rattle.jsgen_tree.specs.Plain.{node_plain}
+use Rattle.jsgen_tree.specs.Rows.{expression_plain, statement_plain, declaration_plain, binding_pattern_plain}
+use Rattle.jsgen_tree.specs.declared.nodes.Node.{Node}
+use Rattle.jsgen_tree.specs.declared.sets.Expression.{Expression}
+use Rattle.jsgen_tree.specs.declared.sets.Statement.{Statement}
+use Rattle.jsgen_tree.specs.declared.sets.Declaration.{Declaration}
+use Rattle.jsgen_tree.specs.declared.sets.BindingPattern.{BindingPattern}
+use Rattle.jsgen_tree.specs.declared.sets.Expression.TheVariants as expressions
+use Rattle.jsgen_tree.specs.declared.sets.Statement.TheVariants as statements
+use Rattle.jsgen_tree.specs.declared.sets.Declaration.TheVariants as declarations
+use Rattle.jsgen_tree.specs.declared.sets.BindingPattern.TheVariants as binding_patterns
+
+-- a member of a set is none of a type
+abbrev IsNot : {B S : Type 0} → S → (B → S) → Type 0
+IsNot {B} n variant = (b : B) → n ≡ variant b → ⊥
+
+pub no_open_expression : (n : Expression Node) → false ≡ ends_open (expression_plain node_plain n)
+no_open_expression (expressions.StringLiteral b) = refl
+no_open_expression n = refl
+
+pub no_open_declaration : (n : Declaration Node) → false ≡ ends_open (declaration_plain node_plain n)
+no_open_declaration (declarations.VariableDeclaration b) = refl
+no_open_declaration (declarations.Function b) = refl
+
+pub no_open_pattern : (n : BindingPattern) → false ≡ ends_open (binding_pattern_plain n)
+no_open_pattern (binding_patterns.BindingIdentifier b) = refl
+
+pub no_open_statement : (n : Statement Node) → IsNot n statements.Declaration → IsNot n statements.IfStatement → IsNot n statements.ForStatement → IsNot n statements.ForInStatement → IsNot n statements.ForOfStatement → IsNot n statements.WhileStatement → IsNot n statements.LabeledStatement → false ≡ ends_open (statement_plain node_plain n)
+no_open_statement (statements.Declaration b) no_declaration no_if no_for no_for_in no_for_of no_while no_label = absurd (no_declaration b refl)
+no_open_statement (statements.IfStatement b) no_declaration no_if no_for no_for_in no_for_of no_while no_label = absurd (no_if b refl)
+no_open_statement (statements.ForStatement b) no_declaration no_if no_for no_for_in no_for_of no_while no_label = absurd (no_for b refl)
+no_open_statement (statements.ForInStatement b) no_declaration no_if no_for no_for_in no_for_of no_while no_label = absurd (no_for_in b refl)
+no_open_statement (statements.ForOfStatement b) no_declaration no_if no_for no_for_in no_for_of no_while no_label = absurd (no_for_of b refl)
+no_open_statement (statements.WhileStatement b) no_declaration no_if no_for no_for_in no_for_of no_while no_label = absurd (no_while b refl)
+no_open_statement (statements.LabeledStatement b) no_declaration no_if no_for no_for_in no_for_of no_while no_label = absurd (no_label b refl)
+no_open_statement n no_declaration no_if no_for no_for_in no_for_of no_while no_label = refl
