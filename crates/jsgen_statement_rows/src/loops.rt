@@ -9,20 +9,32 @@ ghost use Rattle.jsgen_fields.specs.Parts.{is_in_loops};
 ghost use Rattle.jsgen_tree.specs.declared.types.NodeType.TheVariants as types;
 
 use jsgen_fields::InputFault;
-use jsgen_fields::asked::{HoldsDeclaration, HoldsExpression, HoldsStatement, PlainNode, ReadNode, RowOf};
+use jsgen_fields::asked::{
+    HoldsDeclaration, HoldsExpression, HoldsStatement, PlainNode, ReadNode, RowOf,
+};
 use jsgen_fields::fields::boxed;
 use jsgen_fields::kept::{row_of_label_identifier, row_of_statement};
 use jsgen_fields::others::OtherStatement;
-use jsgen_fields::set_fields::{needed_expression, needed_for_statement_left, needed_label_identifier, needed_statement, optional_expression, optional_for_statement_init, optional_label_identifier};
+use jsgen_fields::set_fields::{
+    needed_expression, needed_for_statement_left, needed_label_identifier, needed_statement,
+    optional_expression, optional_for_statement_init, optional_label_identifier,
+};
 use jsgen_fields::values::{field_not_given, needed_text};
 use jsgen_pool::Kept;
 use jsgen_syntax::Span;
-use jsgen_tree::{BreakStatement, ContinueStatement, DebuggerStatement, DoWhileStatement, ForInStatement, ForOfStatement, ForStatement, LabelIdentifier, LabeledStatement, NodeType, ReturnStatement, Statement, ThrowStatement, WhileStatement};
+use jsgen_tree::{
+    BreakStatement, ContinueStatement, DebuggerStatement, DoWhileStatement, ForInStatement,
+    ForOfStatement, ForStatement, LabelIdentifier, LabeledStatement, NodeType, ReturnStatement,
+    Statement, ThrowStatement, WhileStatement,
+};
 use serde_json::Value;
 use std::alloc::Global;
 
 #[tactic(auto, unfolding(jsgen_fields::specs::Reads::read_node))]
-fn read_for_statement<N: HoldsExpression + HoldsDeclaration + HoldsStatement + Drop, R: RowOf<N> + Drop>(
+fn read_for_statement<
+    N: HoldsExpression + HoldsDeclaration + HoldsStatement + Drop,
+    R: RowOf<N> + Drop,
+>(
     alloc: Global,
     kept: &mut Vec<Kept<R>>,
     number: usize,
@@ -48,15 +60,29 @@ fn read_for_statement<N: HoldsExpression + HoldsDeclaration + HoldsStatement + D
         Ok(body) => body,
         Err(fault) => return Err(fault),
     };
-    let node = ForStatement { span, init, test, update, body };
+    let node = ForStatement {
+        span,
+        init,
+        test,
+        update,
+        body,
+    };
     match boxed(alloc, node) {
-        Ok(node) => row_of_statement::<N, R>(alloc, OtherStatement { statement: Statement::ForStatement(node) }),
+        Ok(node) => row_of_statement::<N, R>(
+            alloc,
+            OtherStatement {
+                statement: Statement::ForStatement(node),
+            },
+        ),
         Err(fault) => Err(fault),
     }
 }
 
 #[tactic(auto, unfolding(jsgen_fields::specs::Reads::read_node))]
-fn read_for_in_statement<N: HoldsExpression + HoldsDeclaration + HoldsStatement + Drop, R: RowOf<N> + Drop>(
+fn read_for_in_statement<
+    N: HoldsExpression + HoldsDeclaration + HoldsStatement + Drop,
+    R: RowOf<N> + Drop,
+>(
     alloc: Global,
     kept: &mut Vec<Kept<R>>,
     number: usize,
@@ -78,15 +104,28 @@ fn read_for_in_statement<N: HoldsExpression + HoldsDeclaration + HoldsStatement 
         Ok(body) => body,
         Err(fault) => return Err(fault),
     };
-    let node = ForInStatement { span, left, right, body };
+    let node = ForInStatement {
+        span,
+        left,
+        right,
+        body,
+    };
     match boxed(alloc, node) {
-        Ok(node) => row_of_statement::<N, R>(alloc, OtherStatement { statement: Statement::ForInStatement(node) }),
+        Ok(node) => row_of_statement::<N, R>(
+            alloc,
+            OtherStatement {
+                statement: Statement::ForInStatement(node),
+            },
+        ),
         Err(fault) => Err(fault),
     }
 }
 
 #[tactic(auto, unfolding(jsgen_fields::specs::Reads::read_node))]
-fn read_for_of_statement<N: HoldsExpression + HoldsDeclaration + HoldsStatement + Drop, R: RowOf<N> + Drop>(
+fn read_for_of_statement<
+    N: HoldsExpression + HoldsDeclaration + HoldsStatement + Drop,
+    R: RowOf<N> + Drop,
+>(
     alloc: Global,
     kept: &mut Vec<Kept<R>>,
     number: usize,
@@ -112,15 +151,28 @@ fn read_for_of_statement<N: HoldsExpression + HoldsDeclaration + HoldsStatement 
         Ok(body) => body,
         Err(fault) => return Err(fault),
     };
-    let node = ForOfStatement { span, left, right, body };
+    let node = ForOfStatement {
+        span,
+        left,
+        right,
+        body,
+    };
     match boxed(alloc, node) {
-        Ok(node) => row_of_statement::<N, R>(alloc, OtherStatement { statement: Statement::ForOfStatement(node) }),
+        Ok(node) => row_of_statement::<N, R>(
+            alloc,
+            OtherStatement {
+                statement: Statement::ForOfStatement(node),
+            },
+        ),
         Err(fault) => Err(fault),
     }
 }
 
 #[tactic(auto, unfolding(jsgen_fields::specs::Reads::read_node))]
-fn read_while_statement<N: HoldsExpression + HoldsDeclaration + HoldsStatement + Drop, R: RowOf<N> + Drop>(
+fn read_while_statement<
+    N: HoldsExpression + HoldsDeclaration + HoldsStatement + Drop,
+    R: RowOf<N> + Drop,
+>(
     alloc: Global,
     kept: &mut Vec<Kept<R>>,
     number: usize,
@@ -140,13 +192,21 @@ fn read_while_statement<N: HoldsExpression + HoldsDeclaration + HoldsStatement +
     };
     let node = WhileStatement { span, test, body };
     match boxed(alloc, node) {
-        Ok(node) => row_of_statement::<N, R>(alloc, OtherStatement { statement: Statement::WhileStatement(node) }),
+        Ok(node) => row_of_statement::<N, R>(
+            alloc,
+            OtherStatement {
+                statement: Statement::WhileStatement(node),
+            },
+        ),
         Err(fault) => Err(fault),
     }
 }
 
 #[tactic(auto, unfolding(jsgen_fields::specs::Reads::read_node))]
-fn read_do_while_statement<N: HoldsExpression + HoldsDeclaration + HoldsStatement + Drop, R: RowOf<N> + Drop>(
+fn read_do_while_statement<
+    N: HoldsExpression + HoldsDeclaration + HoldsStatement + Drop,
+    R: RowOf<N> + Drop,
+>(
     alloc: Global,
     kept: &mut Vec<Kept<R>>,
     number: usize,
@@ -166,7 +226,12 @@ fn read_do_while_statement<N: HoldsExpression + HoldsDeclaration + HoldsStatemen
     };
     let node = DoWhileStatement { span, body, test };
     match boxed(alloc, node) {
-        Ok(node) => row_of_statement::<N, R>(alloc, OtherStatement { statement: Statement::DoWhileStatement(node) }),
+        Ok(node) => row_of_statement::<N, R>(
+            alloc,
+            OtherStatement {
+                statement: Statement::DoWhileStatement(node),
+            },
+        ),
         Err(fault) => Err(fault),
     }
 }
@@ -215,7 +280,12 @@ fn read_labeled_statement<N: HoldsDeclaration + HoldsStatement + Drop, R: RowOf<
     };
     let node = LabeledStatement { span, label, body };
     match boxed(alloc, node) {
-        Ok(node) => row_of_statement::<N, R>(alloc, OtherStatement { statement: Statement::LabeledStatement(node) }),
+        Ok(node) => row_of_statement::<N, R>(
+            alloc,
+            OtherStatement {
+                statement: Statement::LabeledStatement(node),
+            },
+        ),
         Err(fault) => Err(fault),
     }
 }
@@ -237,7 +307,12 @@ fn read_continue_statement<N: PlainNode + Drop, R: RowOf<N> + Drop>(
     };
     let node = ContinueStatement { span, label };
     match boxed(alloc, node) {
-        Ok(node) => row_of_statement::<N, R>(alloc, OtherStatement { statement: Statement::ContinueStatement(node) }),
+        Ok(node) => row_of_statement::<N, R>(
+            alloc,
+            OtherStatement {
+                statement: Statement::ContinueStatement(node),
+            },
+        ),
         Err(fault) => Err(fault),
     }
 }
@@ -259,7 +334,12 @@ fn read_break_statement<N: PlainNode + Drop, R: RowOf<N> + Drop>(
     };
     let node = BreakStatement { span, label };
     match boxed(alloc, node) {
-        Ok(node) => row_of_statement::<N, R>(alloc, OtherStatement { statement: Statement::BreakStatement(node) }),
+        Ok(node) => row_of_statement::<N, R>(
+            alloc,
+            OtherStatement {
+                statement: Statement::BreakStatement(node),
+            },
+        ),
         Err(fault) => Err(fault),
     }
 }
@@ -281,7 +361,12 @@ fn read_return_statement<N: HoldsExpression + Drop, R: RowOf<N> + Drop>(
     };
     let node = ReturnStatement { span, argument };
     match boxed(alloc, node) {
-        Ok(node) => row_of_statement::<N, R>(alloc, OtherStatement { statement: Statement::ReturnStatement(node) }),
+        Ok(node) => row_of_statement::<N, R>(
+            alloc,
+            OtherStatement {
+                statement: Statement::ReturnStatement(node),
+            },
+        ),
         Err(fault) => Err(fault),
     }
 }
@@ -303,7 +388,12 @@ fn read_throw_statement<N: HoldsExpression + Drop, R: RowOf<N> + Drop>(
     };
     let node = ThrowStatement { span, argument };
     match boxed(alloc, node) {
-        Ok(node) => row_of_statement::<N, R>(alloc, OtherStatement { statement: Statement::ThrowStatement(node) }),
+        Ok(node) => row_of_statement::<N, R>(
+            alloc,
+            OtherStatement {
+                statement: Statement::ThrowStatement(node),
+            },
+        ),
         Err(fault) => Err(fault),
     }
 }
@@ -324,7 +414,12 @@ fn read_debugger_statement<N: PlainNode + Drop, R: RowOf<N> + Drop>(
     let _ = row;
     let node = DebuggerStatement { span };
     match boxed(alloc, node) {
-        Ok(node) => row_of_statement::<N, R>(alloc, OtherStatement { statement: Statement::DebuggerStatement(node) }),
+        Ok(node) => row_of_statement::<N, R>(
+            alloc,
+            OtherStatement {
+                statement: Statement::DebuggerStatement(node),
+            },
+        ),
         Err(fault) => Err(fault),
     }
 }
@@ -347,14 +442,22 @@ pub fn read_in_loops<N: ReadNode + Drop, R: RowOf<N> + Drop>(
         NodeType::ForInStatement => read_for_in_statement::<N, R>(alloc, kept, number, span, row),
         NodeType::ForOfStatement => read_for_of_statement::<N, R>(alloc, kept, number, span, row),
         NodeType::WhileStatement => read_while_statement::<N, R>(alloc, kept, number, span, row),
-        NodeType::DoWhileStatement => read_do_while_statement::<N, R>(alloc, kept, number, span, row),
+        NodeType::DoWhileStatement => read_do_while_statement::<N, R>(
+            alloc, kept, number, span, row,
+        ),
         NodeType::LabelIdentifier => read_label_identifier::<N, R>(alloc, kept, number, span, row),
-        NodeType::LabeledStatement => read_labeled_statement::<N, R>(alloc, kept, number, span, row),
-        NodeType::ContinueStatement => read_continue_statement::<N, R>(alloc, kept, number, span, row),
+        NodeType::LabeledStatement => read_labeled_statement::<N, R>(
+            alloc, kept, number, span, row,
+        ),
+        NodeType::ContinueStatement => read_continue_statement::<N, R>(
+            alloc, kept, number, span, row,
+        ),
         NodeType::BreakStatement => read_break_statement::<N, R>(alloc, kept, number, span, row),
         NodeType::ReturnStatement => read_return_statement::<N, R>(alloc, kept, number, span, row),
         NodeType::ThrowStatement => read_throw_statement::<N, R>(alloc, kept, number, span, row),
-        NodeType::DebuggerStatement => read_debugger_statement::<N, R>(alloc, kept, number, span, row),
+        NodeType::DebuggerStatement => read_debugger_statement::<N, R>(
+            alloc, kept, number, span, row,
+        ),
         _ => unreachable!(),
     }
 }

@@ -9,16 +9,34 @@ ghost use Rattle.jsgen_fields.specs.Parts.{is_in_statements};
 ghost use Rattle.jsgen_tree.specs.declared.types.NodeType.TheVariants as types;
 
 use jsgen_fields::InputFault;
-use jsgen_fields::asked::{HoldsBindingPattern, HoldsDeclaration, HoldsExpression, HoldsStatement, PlainNode, ReadNode, RowOf};
+use jsgen_fields::asked::{
+    HoldsBindingPattern, HoldsDeclaration, HoldsExpression, HoldsStatement, PlainNode, ReadNode,
+    RowOf,
+};
 use jsgen_fields::fields::boxed;
-use jsgen_fields::kept::{row_of_binding_pattern, row_of_comment, row_of_declaration, row_of_directive, row_of_program, row_of_statement, row_of_variable_declarator};
+use jsgen_fields::kept::{
+    row_of_binding_pattern, row_of_comment, row_of_declaration, row_of_directive, row_of_program,
+    row_of_statement, row_of_variable_declarator,
+};
 use jsgen_fields::others::{OtherDeclaration, OtherStatement};
-use jsgen_fields::set_fields::{comment_list, directive_list, needed_binding_pattern, needed_expression, needed_statement, optional_expression, optional_statement, statement_list, variable_declarator_list};
-use jsgen_fields::values::{field_not_given, needed_number, needed_text, neither_given, optional_flag, optional_number, optional_text};
-use jsgen_fields::words::{needed_content_of_comment, needed_declaration_kind, needed_kind_of_comment, needed_source_kind};
+use jsgen_fields::set_fields::{
+    comment_list, directive_list, needed_binding_pattern, needed_expression, needed_statement,
+    optional_expression, optional_statement, statement_list, variable_declarator_list,
+};
+use jsgen_fields::values::{
+    field_not_given, needed_number, needed_text, neither_given, optional_flag, optional_number,
+    optional_text,
+};
+use jsgen_fields::words::{
+    needed_content_of_comment, needed_declaration_kind, needed_kind_of_comment, needed_source_kind,
+};
 use jsgen_pool::Kept;
 use jsgen_syntax::Span;
-use jsgen_tree::{BindingIdentifier, BindingPattern, BlockStatement, Comment, Declaration, Directive, EmptyStatement, ExpressionStatement, IfStatement, NodeType, Program, Statement, VariableDeclaration, VariableDeclarator};
+use jsgen_tree::{
+    BindingIdentifier, BindingPattern, BlockStatement, Comment, Declaration, Directive,
+    EmptyStatement, ExpressionStatement, IfStatement, NodeType, Program, Statement,
+    VariableDeclaration, VariableDeclarator,
+};
 use serde_json::Value;
 use std::alloc::Global;
 
@@ -61,7 +79,14 @@ fn read_program<N: HoldsDeclaration + HoldsStatement + Drop, R: RowOf<N> + Drop>
         Ok(body) => body,
         Err(fault) => return Err(fault),
     };
-    let node = Program { span, source, kind, comments, directives, body };
+    let node = Program {
+        span,
+        source,
+        kind,
+        comments,
+        directives,
+        body,
+    };
     match boxed(alloc, node) {
         Ok(node) => Ok(row_of_program::<N, R>(node)),
         Err(fault) => Err(fault),
@@ -104,7 +129,15 @@ fn read_comment<N: PlainNode + Drop, R: RowOf<N> + Drop>(
         Ok(followed_by_newline) => followed_by_newline,
         Err(fault) => return Err(fault),
     };
-    let node = Comment { span, kind, content, leading, attached_to, preceded_by_newline, followed_by_newline };
+    let node = Comment {
+        span,
+        kind,
+        content,
+        leading,
+        attached_to,
+        preceded_by_newline,
+        followed_by_newline,
+    };
     match boxed(alloc, node) {
         Ok(node) => Ok(row_of_comment::<N, R>(node)),
         Err(fault) => Err(fault),
@@ -153,13 +186,29 @@ fn read_variable_declaration<N: PlainNode + Drop, R: RowOf<N> + Drop>(
         Ok(()) => {}
         Err(fault) => return Err(fault),
     }
-    let declarations = match variable_declarator_list::<N, R>(alloc, kept, number, 4, row, "declarations") {
+    let declarations = match variable_declarator_list::<N, R>(
+        alloc,
+        kept,
+        number,
+        4,
+        row,
+        "declarations",
+    ) {
         Ok(declarations) => declarations,
         Err(fault) => return Err(fault),
     };
-    let node = VariableDeclaration { span, kind, declarations };
+    let node = VariableDeclaration {
+        span,
+        kind,
+        declarations,
+    };
     match boxed(alloc, node) {
-        Ok(node) => row_of_declaration::<N, R>(alloc, OtherDeclaration { declaration: Declaration::VariableDeclaration(node) }),
+        Ok(node) => row_of_declaration::<N, R>(
+            alloc,
+            OtherDeclaration {
+                declaration: Declaration::VariableDeclaration(node),
+            },
+        ),
         Err(fault) => Err(fault),
     }
 }
@@ -238,7 +287,12 @@ fn read_expression_statement<N: HoldsExpression + Drop, R: RowOf<N> + Drop>(
     };
     let node = ExpressionStatement { span, expression };
     match boxed(alloc, node) {
-        Ok(node) => row_of_statement::<N, R>(alloc, OtherStatement { statement: Statement::ExpressionStatement(node) }),
+        Ok(node) => row_of_statement::<N, R>(
+            alloc,
+            OtherStatement {
+                statement: Statement::ExpressionStatement(node),
+            },
+        ),
         Err(fault) => Err(fault),
     }
 }
@@ -260,13 +314,21 @@ fn read_block_statement<N: HoldsDeclaration + HoldsStatement + Drop, R: RowOf<N>
     };
     let node = BlockStatement { span, body };
     match boxed(alloc, node) {
-        Ok(node) => row_of_statement::<N, R>(alloc, OtherStatement { statement: Statement::BlockStatement(node) }),
+        Ok(node) => row_of_statement::<N, R>(
+            alloc,
+            OtherStatement {
+                statement: Statement::BlockStatement(node),
+            },
+        ),
         Err(fault) => Err(fault),
     }
 }
 
 #[tactic(auto, unfolding(jsgen_fields::specs::Reads::read_node))]
-fn read_if_statement<N: HoldsExpression + HoldsDeclaration + HoldsStatement + Drop, R: RowOf<N> + Drop>(
+fn read_if_statement<
+    N: HoldsExpression + HoldsDeclaration + HoldsStatement + Drop,
+    R: RowOf<N> + Drop,
+>(
     alloc: Global,
     kept: &mut Vec<Kept<R>>,
     number: usize,
@@ -288,9 +350,19 @@ fn read_if_statement<N: HoldsExpression + HoldsDeclaration + HoldsStatement + Dr
         Ok(alternate) => alternate,
         Err(fault) => return Err(fault),
     };
-    let node = IfStatement { span, test, consequent, alternate };
+    let node = IfStatement {
+        span,
+        test,
+        consequent,
+        alternate,
+    };
     match boxed(alloc, node) {
-        Ok(node) => row_of_statement::<N, R>(alloc, OtherStatement { statement: Statement::IfStatement(node) }),
+        Ok(node) => row_of_statement::<N, R>(
+            alloc,
+            OtherStatement {
+                statement: Statement::IfStatement(node),
+            },
+        ),
         Err(fault) => Err(fault),
     }
 }
@@ -311,7 +383,12 @@ fn read_empty_statement<N: PlainNode + Drop, R: RowOf<N> + Drop>(
     let _ = row;
     let node = EmptyStatement { span };
     match boxed(alloc, node) {
-        Ok(node) => row_of_statement::<N, R>(alloc, OtherStatement { statement: Statement::EmptyStatement(node) }),
+        Ok(node) => row_of_statement::<N, R>(
+            alloc,
+            OtherStatement {
+                statement: Statement::EmptyStatement(node),
+            },
+        ),
         Err(fault) => Err(fault),
     }
 }
@@ -333,10 +410,18 @@ pub fn read_in_statements<N: ReadNode + Drop, R: RowOf<N> + Drop>(
         NodeType::Program => read_program::<N, R>(alloc, kept, number, span, row),
         NodeType::Comment => read_comment::<N, R>(alloc, kept, number, span, row),
         NodeType::Directive => read_directive::<N, R>(alloc, kept, number, span, row),
-        NodeType::VariableDeclaration => read_variable_declaration::<N, R>(alloc, kept, number, span, row),
-        NodeType::VariableDeclarator => read_variable_declarator::<N, R>(alloc, kept, number, span, row),
-        NodeType::BindingIdentifier => read_binding_identifier::<N, R>(alloc, kept, number, span, row),
-        NodeType::ExpressionStatement => read_expression_statement::<N, R>(alloc, kept, number, span, row),
+        NodeType::VariableDeclaration => read_variable_declaration::<N, R>(
+            alloc, kept, number, span, row,
+        ),
+        NodeType::VariableDeclarator => read_variable_declarator::<N, R>(
+            alloc, kept, number, span, row,
+        ),
+        NodeType::BindingIdentifier => read_binding_identifier::<N, R>(
+            alloc, kept, number, span, row,
+        ),
+        NodeType::ExpressionStatement => read_expression_statement::<N, R>(
+            alloc, kept, number, span, row,
+        ),
         NodeType::BlockStatement => read_block_statement::<N, R>(alloc, kept, number, span, row),
         NodeType::IfStatement => read_if_statement::<N, R>(alloc, kept, number, span, row),
         NodeType::EmptyStatement => read_empty_statement::<N, R>(alloc, kept, number, span, row),
