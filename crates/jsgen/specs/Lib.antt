@@ -1,2 +1,3 @@
 pub mod Codegen
 pub mod Context
+pub mod Answer

@@ -1,14 +1,18 @@
 // From the bytes of a job to its text, or to what is wrong.
-ghost use Rattle.std.specs.Prelude.{◌≡◌, option_map};
+ghost use Rattle.std.specs.Prelude.{◌≡◌, false, option_map};
+ghost use Rattle.jsgen_tree.specs.Options.{options_plain};
 ghost use Rattle.jsgen_tree.specs.Scoping.{scoping_plain, private_plain};
 ghost use Rattle.jsgen_jobs.specs.Job.{Reads, Verdict, Answers};
+ghost use Rattle.jsgen_tree.specs.Plain.{program_plain};
+ghost use Rattle.jsgen.specs.Codegen.{options_of, tables_of, job_for, has_printed};
+ghost use Rattle.jsgen.specs.Answer.{VerdictOn, AnswersOn};
 
 use crate::codegen::Codegen;
 use jsgen_fields::InputFault;
 use jsgen_jobs::{JobFault, PrintJobs};
 use jsgen_model::TreeFault;
 use jsgen_rows::{Job, read_job};
-use jsgen_tree::{PrivateMappings, Scoping};
+use jsgen_tree::{CodegenOptions, PrivateMappings, Program, Scoping};
 use std::alloc::Global;
 
 fn lent_scoping(scoping: &Option<Scoping>) -> Option<&Scoping>
@@ -29,6 +33,24 @@ fn lent_mappings(mappings: &Option<PrivateMappings>) -> Option<&PrivateMappings>
     }
 }
 
+// A printer under a job's options and by its tables.
+fn printer_for<'a>(
+    alloc: Global,
+    options: CodegenOptions,
+    scoping: &'a Option<Scoping>,
+    private: &'a Option<PrivateMappings>,
+) -> Codegen<'a>
+    ensures options { options_of result ≡ options_plain options }
+    ensures scoping { (tables_of result).scoping ≡ option_map scoping_plain scoping.now }
+    ensures private { (tables_of result).private ≡ option_map private_plain private.now }
+    ensures printed { has_printed result ≡ false }
+{
+    Codegen::new(alloc)
+        .with_options(options)
+        .with_scoping(lent_scoping(scoping))
+        .with_private_member_mappings(lent_mappings(private))
+}
+
 fn job_in(alloc: Global, bytes: &[u8]) -> Result<Job, JobFault>
     ensures { Reads bytes.now result }
 {
@@ -39,29 +61,54 @@ fn job_in(alloc: Global, bytes: &[u8]) -> Result<Job, JobFault>
     }
 }
 
+// Whether the program keeps the rules under the printer's options and by its tables.
+fn verdict_on(printer: Codegen<'_>, program: &Program) -> Result<(), JobFault>
+    ensures { VerdictOn (job_for printer.entry (program_plain program.now)) result }
+{
+    match printer.check(program) {
+        Ok(()) => Ok(()),
+        Err(fault) => Err(JobFault::Refused(fault)),
+    }
+}
+
+// The text of a program that keeps them.
+fn text_of(printer: Codegen<'_>, program: &Program) -> Result<String, JobFault>
+    requires { has_printed printer ≡ false }
+    ensures { AnswersOn (job_for printer.entry (program_plain program.now)) result }
+{
+    if let Err(fault) = printer.check(program) {
+        return Err(JobFault::Refused(fault));
+    }
+    match printer.build(program) {
+        Ok(printed) => Ok(printed.code),
+        Err(_) => Err(JobFault::Memory),
+    }
+}
+
+// Lets go of what was lent, in one place.
+fn let_go(_program: Program, _scoping: Option<Scoping>, _private: Option<PrivateMappings>) {}
+
 /// Reads a job from its bytes (docs/FORMAT.md), and says Ok where its program keeps each rule of a tree. Bytes that are no job
 /// are answered by their first fault, before any rule is looked at; of several rules that are broken any may be named. Memory
 /// is taken for reading alone, and want of it may come in place of any answer.
 pub fn check_job(alloc: Global, bytes: &[u8]) -> Result<(), JobFault>
     ensures { Verdict bytes.now result }
 {
-    let Job {
-        options,
-        scoping,
-        private,
-        program,
-    } = match job_in(alloc, bytes) {
-        Ok(job) => job,
-        Err(fault) => return Err(fault),
-    };
-    let (scoping, private) = (lent_scoping(&scoping), lent_mappings(&private));
-    let printer = Codegen::new(alloc)
-        .with_options(options)
-        .with_scoping(scoping)
-        .with_private_member_mappings(private);
-    match printer.check(&program) {
-        Ok(()) => Ok(()),
-        Err(fault) => Err(JobFault::Refused(fault)),
+    match job_in(alloc, bytes) {
+        Ok(
+            Job {
+                options,
+                scoping,
+                private,
+                program,
+            },
+        ) => {
+            let printer = printer_for(alloc, options, &scoping, &private);
+            let verdict = verdict_on(printer, &program);
+            let_go(program, scoping, private);
+            verdict
+        }
+        Err(fault) => Err(fault),
     }
 }
 
@@ -70,25 +117,21 @@ pub fn check_job(alloc: Global, bytes: &[u8]) -> Result<(), JobFault>
 pub fn print_job(alloc: Global, bytes: &[u8]) -> Result<String, JobFault>
     ensures { Answers bytes.now result }
 {
-    let Job {
-        options,
-        scoping,
-        private,
-        program,
-    } = match job_in(alloc, bytes) {
-        Ok(job) => job,
-        Err(fault) => return Err(fault),
-    };
-    let printer = Codegen::new(alloc)
-        .with_options(options)
-        .with_scoping(lent_scoping(&scoping))
-        .with_private_member_mappings(lent_mappings(&private));
-    if let Err(fault) = printer.check(&program) {
-        return Err(JobFault::Refused(fault));
-    }
-    match printer.build(&program) {
-        Ok(printed) => Ok(printed.code),
-        Err(_) => Err(JobFault::Memory),
+    match job_in(alloc, bytes) {
+        Ok(
+            Job {
+                options,
+                scoping,
+                private,
+                program,
+            },
+        ) => {
+            let printer = printer_for(alloc, options, &scoping, &private);
+            let text = text_of(printer, &program);
+            let_go(program, scoping, private);
+            text
+        }
+        Err(fault) => Err(fault),
     }
 }
 

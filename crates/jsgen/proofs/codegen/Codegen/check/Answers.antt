@@ -1,5 +1,4 @@
-use Rattle.std.proofs.Common.{rules}
 use Rattle.jsgen.proofs.codegen.Codegen.check.Goals as goal
 
 pub returns : goal.returns
-returns c = search rules
+returns c = c.check_program.ensures

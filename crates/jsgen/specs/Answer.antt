@@ -1,0 +1,24 @@
+-- What is answered of a job that was read.
+use Rattle.std.specs.Prelude.{◌≡◌, ⊤, Contains, String, string_bytes, Result, Ok, Err}
+use Rattle.std.specs.declared.alloc.Global.{Global}
+use Rattle.jsgen_tree.specs.Job.{JobData}
+use Rattle.jsgen_model.specs.Spell.{text_bytes}
+use Rattle.jsgen_model.specs.Valid.{job_breaches, IsValid}
+use Rattle.jsgen_jobs.specs.declared.JobFault.{JobFault}
+use Rattle.jsgen_jobs.specs.declared.JobFault.TheVariants.{NotJob, Refused, Memory}
+
+-- a fault of it: a rule that it breaks, or want of memory
+abbrev pub IsFaultOf : JobData → JobFault → Type 0
+IsFaultOf job (NotJob fault) = ⊥
+IsFaultOf job (Refused fault) = Contains (job_breaches job) fault
+IsFaultOf job Memory = ⊤
+
+-- the verdict on it
+abbrev pub VerdictOn : JobData → Result (Unit {0}) JobFault → Type 0
+VerdictOn job (Ok done) = IsValid job
+VerdictOn job (Err fault) = IsFaultOf job fault
+
+-- its text
+abbrev pub AnswersOn : JobData → Result (String Global) JobFault → Type 0
+AnswersOn job (Ok text) = IsValid job × (string_bytes text ≡ text_bytes job)
+AnswersOn job (Err fault) = IsFaultOf job fault
