@@ -1,4 +1,3 @@
 pub mod Device
 pub mod Memory
 pub mod Standard
-pub mod Transfer

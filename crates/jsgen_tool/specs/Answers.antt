@@ -7,7 +7,7 @@ use Rattle.jsgen_tree.specs.Job.{JobData}
 use Rattle.jsgen_model.specs.Spell.{text_bytes}
 use Rattle.jsgen_fields.specs.declared.InputFault.{InputFault}
 use Rattle.jsgen_device.specs.Device.{Rose, AppendsPart}
-use Rattle.jsgen_device.specs.Transfer.{IsWithin, limit}
+use Rattle.jsgen_tool.specs.Transfer.{IsWithin, limit}
 use Rattle.jsgen_jobs.specs.Job.{IsJobOf, IsSomeJob, Breaks, IsNoJob}
 use Rattle.jsgen_tool.specs.declared.status.Status.{Status}
 use Rattle.jsgen_tool.specs.declared.status.Status.TheVariants.{Done, Refused, NotJob, ReadFault, WriteFault, Memory, TooLong}

@@ -4,7 +4,7 @@ use Rattle.std.specs.Str.{chars, IsUtf8}
 use Rattle.std.specs.Io.KnownBytes.{Appends}
 use Rattle.jsgen_tree.specs.Job.{JobData}
 use Rattle.jsgen_model.specs.Reading.{IsReadAs}
-use Rattle.jsgen_device.specs.Transfer.{IsWithin}
+use Rattle.jsgen_tool.specs.Transfer.{IsWithin}
 use Rattle.jsgen_jobs.specs.Job.{IsJobOf}
 use Rattle.jsgen_tool.specs.declared.status.Status.{Status}
 use Rattle.jsgen_tool.specs.declared.status.Status.TheVariants.{Done, ReadFault, WriteFault, Memory}

@@ -4,7 +4,9 @@
 mod line;
 mod status;
 mod top;
+mod transfer;
 
 pub use line::say;
 pub use status::Status;
 pub use top::run;
+pub use transfer::{LIMIT, Unread, push_all, push_both, read_all};

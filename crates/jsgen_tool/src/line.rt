@@ -6,7 +6,8 @@ ghost use Rattle.jsgen_tool.specs.Lines.{Says, spot_row, spot_field, spot_text, 
 
 use crate::status::{Spot, Status};
 use itoa::Buffer;
-use jsgen_device::{Failed, Sink, push_both};
+use crate::transfer::push_both;
+use jsgen_device::{Failed, Sink};
 use jsgen_fields::At;
 
 // Pushes a text and a number behind it.

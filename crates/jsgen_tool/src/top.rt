@@ -5,12 +5,13 @@ ghost use Rattle.jsgen_model.specs.Plain.{IsPlain, IsQuiet};
 ghost use Rattle.jsgen_tool.specs.Headline.{HoldsJob, Prints};
 ghost use Rattle.jsgen_tool.specs.Answers.{IsPrint, IsCommand, InputRow, OutputRow, SourceCount, OutCount, Due};
 ghost use Rattle.jsgen_device.specs.Device.{Rose};
-ghost use Rattle.jsgen_device.specs.Transfer.{TakesAtMost, limit};
+ghost use Rattle.jsgen_tool.specs.Transfer.{TakesAtMost, limit};
 ghost use Rattle.jsgen_tool.specs.Lines.{Says, line_of};
 
 use crate::line::say;
 use crate::status::Status;
-use jsgen_device::{Failed, Sink, Source, Unread, push_all, read_all};
+use crate::transfer::{Unread, push_all, read_all};
+use jsgen_device::{Failed, Sink, Source};
 use jsgen_fields::InputFault;
 use jsgen_jobs::{JobFault, PrintJobs};
 use std::alloc::Global;

@@ -1,6 +1,6 @@
 use Rattle.std.proofs.Common.{◌∙◌, sym, ◌++◌, codes}
 use Rattle.jsgen_tool.specs.Lines.{spot_text}
-use Rattle.jsgen_device.proofs.Steps.{then_part, first_part, on_ok, on_err}
+use Rattle.jsgen_tool.proofs.Loops.{then_part, first_part, on_ok, on_err}
 use Rattle.jsgen_tool.proofs.line.push_line.Goals as goal
 
 pub returns-then-is_err-clause-part : goal.returns-then-is_err-clause-part

@@ -1,6 +1,6 @@
 use Rattle.std.proofs.Common.{◌≡◌, ℕ, arith, ◌++◌, take, length-append, length-take, rules}
-use Rattle.jsgen_device.proofs.Steps.{read_next, longer}
-use Rattle.jsgen_device.proofs.transfer.read_all.Goals as goal
+use Rattle.jsgen_tool.proofs.Loops.{read_next, longer}
+use Rattle.jsgen_tool.proofs.transfer.read_all.Goals as goal
 
 pub returns-in_default : goal.returns-in_default
 returns-in_default g c = record { held = tt; count = search rules; taken = search rules }

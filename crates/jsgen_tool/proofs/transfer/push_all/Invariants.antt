@@ -1,6 +1,6 @@
 use Rattle.std.proofs.Common.{length, ◌-◌}
-use Rattle.jsgen_device.proofs.Steps.{PushedSoFar}
-use Rattle.jsgen_device.proofs.transfer.push_all.Given as goal
+use Rattle.jsgen_tool.proofs.Loops.{PushedSoFar}
+use Rattle.jsgen_tool.proofs.transfer.push_all.Given as goal
 
 abbrev pub invariant-loop-at : goal.invariant-loop-at
 invariant-loop-at g l = PushedSoFar (g.K.Sink.got l.initial.sink) (g.K.Sink.got l.sink)

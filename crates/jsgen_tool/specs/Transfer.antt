@@ -3,8 +3,8 @@ use Rattle.std.specs.Prelude.{◌≡◌, ⊤, ℕ, ◌<◌, ◌≤◌, List, len
 use Rattle.std.specs.declared.alloc.Global.{Global}
 use Rattle.std.specs.Io.KnownBytes.{Consumes}
 use Rattle.jsgen_device.specs.Device.{Rose}
-use Rattle.jsgen_device.specs.declared.transfer.Unread.{Unread}
-use Rattle.jsgen_device.specs.declared.transfer.Unread.TheVariants.{Failed, TooLong, Memory}
+use Rattle.jsgen_tool.specs.declared.transfer.Unread.{Unread}
+use Rattle.jsgen_tool.specs.declared.transfer.Unread.TheVariants.{Failed, TooLong, Memory}
 
 -- the most bytes of an input: 32 MiB
 abbrev pub limit : ℕ

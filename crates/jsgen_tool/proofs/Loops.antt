@@ -5,7 +5,7 @@ use Rattle.std.proofs.lemmas.List.{take_min, take-append-le}
 use Rattle.std.specs.Io.KnownBytes.{Appends, Consumes}
 use Rattle.std.specs.declared.option.Option.{Option}
 use Rattle.jsgen_device.specs.Device.{AppendsPart}
-use Rattle.jsgen_device.specs.Transfer.{limit}
+use Rattle.jsgen_tool.specs.Transfer.{limit}
 
 -- the first bytes of the text are pushed, and no push failed
 pub record PushedSoFar (old now : Option (List ℕ)) (before faults : ℕ) (text : List ℕ) (at : ℕ) : Type 0 where

@@ -1,7 +1,7 @@
 use Rattle.std.proofs.Common.{arith, ◌∙◌, ◌+◌, OnErr, Ok, Err}
 use Rattle.jsgen_device.specs.Device.{AppendsPart}
-use Rattle.jsgen_device.proofs.Steps.{push_next, push_part}
-use Rattle.jsgen_device.proofs.transfer.push_all.Goals as goal
+use Rattle.jsgen_tool.proofs.Loops.{push_next, push_part}
+use Rattle.jsgen_tool.proofs.transfer.push_all.Goals as goal
 
 pub returns-in_err-push-clause-part : goal.returns-in_err-push-clause-part
 returns-in_err-push-clause-part g c =

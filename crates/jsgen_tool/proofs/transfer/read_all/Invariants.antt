@@ -1,7 +1,7 @@
 use Rattle.std.proofs.Common.{length, ◌-◌, ◌+◌}
-use Rattle.jsgen_device.specs.Transfer.{limit}
-use Rattle.jsgen_device.proofs.Steps.{ReadSoFar}
-use Rattle.jsgen_device.proofs.transfer.read_all.Given as goal
+use Rattle.jsgen_tool.specs.Transfer.{limit}
+use Rattle.jsgen_tool.proofs.Loops.{ReadSoFar}
+use Rattle.jsgen_tool.proofs.transfer.read_all.Given as goal
 
 abbrev pub invariant-loop-chunk : goal.invariant-loop-chunk
 invariant-loop-chunk g l = ReadSoFar (g.S.Source.left l.initial.source) (g.S.Source.left l.source)

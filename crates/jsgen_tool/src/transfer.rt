@@ -2,9 +2,9 @@
 ghost use Rattle.std.specs.Prelude.{◌+◌, ◌++◌, Some, OnOk, OnErr};
 ghost use Rattle.std.specs.Io.KnownBytes.{Appends};
 ghost use Rattle.jsgen_device.specs.Device.{HasCause, AppendsPart};
-ghost use Rattle.jsgen_device.specs.Transfer.{HeldBy, UnreadCount, TakesAtMost, limit, unread_text};
+ghost use Rattle.jsgen_tool.specs.Transfer.{HeldBy, UnreadCount, TakesAtMost, limit, unread_text};
 
-use crate::device::{Failed, Sink, Source};
+use jsgen_device::{Failed, Sink, Source};
 use std::alloc::Global;
 use std::error::Error;
 use std::fmt;
