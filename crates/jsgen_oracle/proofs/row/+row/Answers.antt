@@ -1,4 +1,5 @@
 use Rattle.std.proofs.Common.{◌≡◌, ℕ, Bool, ◌||◌, List, ◌++◌, Option, option_map, Result, Some, None, refl, sym, ◌∙◌, ap, subst, arith}
+use Rattle.std.proofs.lemmas.Grind.{common_steps}
 use Rattle.std.specs.Option.{option_copied, MatchOption}
 use Rattle.std.specs.Result.{IfOk}
 use Rattle.jsgen_syntax.specs.declared.memory.Memory.{Memory}
@@ -60,3 +61,6 @@ take_row-returns-in-Some-clause-row t c =
     let group : opening (bracket_plain c.in-Some.bracket) ++ c.split_at-in-Some.result.1.now ≡ behind_blanks c.args.text.now = ap (λ x. opening (bracket_plain c.in-Some.bracket) ++ x) c.split_at-in-Some.ensures.back ∙ (sym (opening_start _ _ bracket) ∙ start) in
     let mark : c.mark_at-line.result ≡ mark_at c.args.line c.args.text.now = c.mark_at-line.ensures ∙ ap (λ x. c.args.line || has_line_end x) (rw count at c.split_at.ensures.front) in
     subst (λ x. RowFrom c.take_group.result x (behind_blanks c.args.text.now)) mark (subst (λ x. RowFrom c.take_group.result c.mark_at-line.result x) group c.take_group.ensures.row)
+
+pub take_others-returns-clause-within : goal.take_others-returns-clause-within
+take_others-returns-clause-within t c = grind (arith, common_steps)
