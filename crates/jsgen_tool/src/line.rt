@@ -5,8 +5,8 @@ ghost use Rattle.jsgen_device.specs.Device.{HasCause, AppendsPart};
 ghost use Rattle.jsgen_tool.specs.Lines.{Says, spot_row, spot_field, spot_text, line_of};
 
 use crate::status::{Spot, Status};
-use itoa::Buffer;
 use crate::transfer::push_both;
+use itoa::Buffer;
 use jsgen_device::{Failed, Sink};
 use jsgen_fields::At;
 

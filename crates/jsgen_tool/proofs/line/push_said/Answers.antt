@@ -1,4 +1,5 @@
-use Rattle.std.proofs.Common.{◌∙◌, sym}
+use Rattle.std.proofs.Common.{◌∙◌, sym, arith}
+use Rattle.std.proofs.lemmas.Grind.{common_steps}
 use Rattle.jsgen_tool.specs.Lines.{spot_text}
 use Rattle.jsgen_tool.proofs.Loops.{then_part, first_part, on_ok, on_err}
 use Rattle.jsgen_tool.proofs.line.push_said.Goals as goal
@@ -12,3 +13,6 @@ pub returns-clause-part : goal.returns-clause-part
 returns-clause-part g c =
     then_part (g.K.Sink.got c.args.sink.now) (g.K.Sink.got c.push.new.self) (g.K.Sink.got c.push_spot.new.sink) (c.args.text.now) (spot_text c.args.spot) c.push_spot.result
     (on_ok c.push.result (sym c.is_err.ensures.value ∙ c.if-is_err.false) c.push.ensures.all) c.push_spot.ensures.part
+
+pub returns-clause-all : goal.returns-clause-all
+returns-clause-all g c = grind (arith, common_steps)

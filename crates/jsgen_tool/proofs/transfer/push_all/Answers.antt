@@ -1,4 +1,5 @@
 use Rattle.std.proofs.Common.{arith, ◌∙◌, ◌+◌, OnErr, Ok, Err}
+use Rattle.std.proofs.lemmas.Grind.{common_steps}
 use Rattle.jsgen_device.specs.Device.{AppendsPart}
 use Rattle.jsgen_tool.proofs.Loops.{push_next, push_part}
 use Rattle.jsgen_tool.proofs.transfer.push_all.Goals as goal
@@ -19,3 +20,6 @@ loop-at-preserved g c = record {
       c.loop-at.invariant.pushed c.in_ok-push.ensures.all;
   kept = c.in_ok-push.ensures.cause.kept ∙ c.loop-at.invariant.kept;
 }
+
+pub returns-clause-all : goal.returns-clause-all
+returns-clause-all g c = grind (arith, common_steps)
