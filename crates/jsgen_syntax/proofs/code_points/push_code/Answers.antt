@@ -1,4 +1,5 @@
-use Rattle.std.proofs.Common.{◌++◌, ap, sym, ◌∙◌}
+use Rattle.std.proofs.Common.{◌++◌, ap, sym, ◌∙◌, arith}
+use Rattle.std.proofs.lemmas.Grind.{common_steps}
 use Rattle.jsgen_syntax.proofs.Wtf8.{encode_two, encode_three, encode_four}
 use Rattle.jsgen_syntax.proofs.code_points.push_code.Goals as goal
 
@@ -10,3 +11,6 @@ returns-in_ok-extend_from_slice-2 c = c.in_ok-extend_from_slice-2.ensures.items 
 
 pub returns-in_ok-extend_from_slice-3 : goal.returns-in_ok-extend_from_slice-3
 returns-in_ok-extend_from_slice-3 c = c.in_ok-extend_from_slice-3.ensures.items ∙ ap (λ l. c.args.bytes.now.items ++ l) (sym (encode_four c.args.code c.if-code-lt65536.false))
+
+pub returns-then-code-lt128 : goal.returns-then-code-lt128
+returns-then-code-lt128 c = grind (arith, common_steps)

@@ -1,4 +1,5 @@
 use Rattle.std.proofs.Common.{◌<◌, true, length, refl, sym, ap, ◌∙◌, subst, arith}
+use Rattle.std.proofs.lemmas.Grind.{common_steps}
 use Rattle.std.specs.Str.{chars, encode_utf8_all}
 use Rattle.std.proofs.lemmas.Bool.{eqb-true}
 use Rattle.jsgen_syntax.specs.Buffer.{buffer_bytes}
@@ -43,3 +44,6 @@ points-preserved c =
 
 pub returns-clause-appended : goal.returns-clause-appended
 returns-clause-appended c = printed_end _ _ _ _ c.points.invariant.printed (name_end c.points.rest.now (eqb-true (length c.points.rest.now) 0 (sym c.points-test.ensures)))
+
+pub points-preserved-then-n-eq0 : goal.points-preserved-then-n-eq0
+points-preserved-then-n-eq0 c = grind (arith, common_steps)
