@@ -1,4 +1,5 @@
 use Rattle.std.proofs.Common.{map, ap, sym, ◌∙◌}
+use Rattle.std.proofs.lemmas.List.{nil_from_length}
 use Rattle.jsgen_tree.specs.Tree.{trees}
 use Rattle.jsgen_model.specs.Punctuator.{comma}
 use Rattle.jsgen_model.specs.Items.{◌⊕◌, punctuator, soft_space}
@@ -52,3 +53,6 @@ returns-in_ok-print_member-in-Some g c =
     let all = ap (λ ms. layout (spell_behind_first c.args.plain_second (trees (map plain ms)) place) before) (sym c.in-Some.ensures.cases.0) in
     let behind_first = rw c.quoted_plainly.ensures at (spaced_member c.quoted_plainly.result (pen_of c.print_comma.new.self) (pen_of c.print_soft_space.new.self) (pen_of c.print_member.new.p) (plain c.in-Some.second.now) (ap (λ p. p.start) c.in_ok-print_comma-in-Some.ensures) c.in_ok-print_soft_space-in-Some.ensures c.in_ok-print_member-in-Some.ensures) in
     last_reaches c.print_more.result (punctuator comma ⊕ first) more before (pen_of c.print_member.new.p) (pen_of c.print_more.new.p) (behind_first ∙ ap (λ p. layout first p) c.in_ok-print_comma-in-Some.ensures) all c.print_more.ensures
+
+pub returns-in-None : goal.returns-in-None
+returns-in-None g c = ap (λ xs. layout (spell_behind_first c.args.plain_second (trees (map g.L.PrintMember.plain xs)) (listed c.args.place)) (pen_of c.args.p.now)) (sym (nil_from_length c.args.arguments.now c.in-None.ensures.cases))
