@@ -3,8 +3,8 @@ use Rattle.std.proofs.Common.{◌≡◌, ℕ, ◌+◌, ◌<◌, Bool, true, fals
 use Rattle.std.proofs.Math.ListN.{get_or}
 use Rattle.std.proofs.lemmas.List.{at_drop_more}
 use Rattle.jsgen_tree.specs.Tree.{Tree}
-use Rattle.jsgen_model.specs.Punctuator.{Bracket, opening, closing}
-use Rattle.jsgen_model.specs.Items.{Items, ◌⊕◌, brackets, soft_space}
+use Rattle.jsgen_model.specs.Punctuator.{Bracket, opening, closing, comma}
+use Rattle.jsgen_model.specs.Items.{Items, ◌⊕◌, brackets, punctuator, soft_space}
 use Rattle.jsgen_model.specs.Layout.{Pen, nowhere, layout, written, other_end, unless_printed, not}
 use Rattle.jsgen_model.specs.Spell.{spell, quoted_plainly}
 use Rattle.jsgen_model.specs.Printing.{IsPrefix, Stops, Reaches}
@@ -52,6 +52,17 @@ spaced_member place at spaced next member none hs h = h ∙ (ap (λ q. layout (s
 
 pub spaced_stopped : (place : Place) (at spaced new : Pen) (member : Tree) → at.start ≡ nowhere → spaced ≡ layout soft_space at → Stops spaced new (layout (spell member (place_of place spaced)) spaced) → Stops at new (layout (soft_space ⊕ spell member (listed place)) at)
 spaced_stopped place at spaced new member none hs s = stops_second soft_space (spell member (listed place)) hs (subst (λ q. Stops spaced new (layout (spell member q) spaced)) (behind_space place at spaced none hs) s)
+
+-- behind a comma and a space, nothing begins
+behind_comma : (place : Place) (at spaced : Pen) → spaced ≡ layout (punctuator comma ⊕ soft_space) at → place_of place spaced ≡ listed place
+behind_comma place at spaced hs = begun_nowhere place spaced (ap (λ p. p.start) hs ∙ still_nowhere (not at.style.minified))
+
+-- a member there, on Ok and where memory runs out
+pub member_behind_comma : (place : Place) (at spaced next : Pen) (member : Tree) → spaced ≡ layout (punctuator comma ⊕ soft_space) at → next ≡ layout (spell member (place_of place spaced)) spaced → next ≡ layout ((punctuator comma ⊕ soft_space) ⊕ spell member (listed place)) at
+member_behind_comma place at spaced next member hs h = h ∙ (ap (λ q. layout (spell member q) spaced) (behind_comma place at spaced hs) ∙ ap (λ p. layout (spell member (listed place)) p) hs)
+
+pub stopped_behind_comma : (place : Place) (at spaced new : Pen) (member : Tree) → spaced ≡ layout (punctuator comma ⊕ soft_space) at → Stops spaced new (layout (spell member (place_of place spaced)) spaced) → Stops at new (layout ((punctuator comma ⊕ soft_space) ⊕ spell member (listed place)) at)
+stopped_behind_comma place at spaced new member hs s = stops_second (punctuator comma ⊕ soft_space) (spell member (listed place)) hs (subst (λ q. Stops spaced new (layout (spell member q) spaced)) (behind_comma place at spaced hs) s)
 
 -- in brackets, where memory runs out and at their end
 pub stops_in_brackets : (bracket : Bracket) (items : Items) {old mid new : Pen} → mid ≡ written (opening bracket) other_end old → Stops mid new (layout items mid) → Stops old new (layout (brackets bracket items) old)
