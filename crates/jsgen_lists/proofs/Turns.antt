@@ -1,7 +1,7 @@
 -- Lists: what a turn leaves, on Ok and where memory runs out, and where a member stands.
-use Rattle.std.proofs.Common.{◌≡◌, ℕ, ◌+◌, ◌<◌, Bool, true, false, Result, List, ◌∷◌, length, drop, refl, ap, sym, subst, ◌∙◌}
+use Rattle.std.proofs.Common.{◌≡◌, ℕ, ◌+◌, ◌<◌, ◌≤◌, Bool, true, false, Result, List, [], ◌∷◌, length, drop, refl, ap, sym, subst, ◌∙◌}
 use Rattle.std.proofs.Math.ListN.{get_or}
-use Rattle.std.proofs.lemmas.List.{at_drop_more}
+use Rattle.std.proofs.lemmas.List.{at_drop_more, at_drop_all}
 use Rattle.jsgen_tree.specs.Tree.{Tree}
 use Rattle.jsgen_model.specs.Punctuator.{Bracket, opening, closing, comma}
 use Rattle.jsgen_model.specs.Items.{Items, ◌⊕◌, brackets, punctuator, soft_space}
@@ -21,6 +21,10 @@ last_reaches r first rest old mid new {whole} e all h = reaches_last r old mid n
 -- the members left are the one of this turn and those behind it
 pub turn_left : {A : Type 0} (items : List A → Items) (xs : List A) (i : ℕ) (x : A) (at : Pen) {whole : Pen} → i < length xs → x ≡ get_or xs i x → layout (items (drop i xs)) at ≡ whole → layout (items (x ∷ drop (i + 1) xs)) at ≡ whole
 turn_left items xs i x at h e left = ap (λ y. layout (items (y ∷ drop (i + 1) xs)) at) e ∙ (sym (at_drop_more (λ ys. layout (items ys) at) xs i x h) ∙ left)
+
+-- behind the last turn none is left
+pub turn_last : {A : Type 0} (items : List A → Items) (xs : List A) (i : ℕ) (at : Pen) {whole : Pen} → length xs ≤ i → layout (items (drop i xs)) at ≡ whole → layout (items []) at ≡ whole
+turn_last items xs i at h left = sym (at_drop_all (λ ys. layout (items ys) at) xs i h) ∙ left
 
 -- what stopped within items that give the whole
 pub part_stopped : (at : Pen) {old new part whole : Pen} → IsPrefix old.code at.code → part ≡ whole → Stops at new part → Stops old new whole

@@ -1,5 +1,4 @@
-use Rattle.std.proofs.Common.{map, drop, ◌+◌, arith}
-use Rattle.std.proofs.lemmas.Grind.{common_steps}
+use Rattle.std.proofs.Common.{map, drop, ◌+◌}
 use Rattle.jsgen_tree.specs.Tree.{trees}
 use Rattle.jsgen_model.specs.Punctuator.{comma}
 use Rattle.jsgen_model.specs.Items.{◌⊕◌, punctuator, soft_space}
@@ -7,7 +6,7 @@ use Rattle.jsgen_model.specs.Spell.{spell, spell_more}
 use Rattle.jsgen_printer.specs.Printer.{pen_of}
 use Rattle.jsgen_printer.proofs.Stops.{stopped, stops_first}
 use Rattle.jsgen_lists.specs.Lists.{listed}
-use Rattle.jsgen_lists.proofs.Turns.{turn_left, turn_done, part_stopped, member_behind_comma, stopped_behind_comma}
+use Rattle.jsgen_lists.proofs.Turns.{turn_left, turn_last, turn_done, part_stopped, member_behind_comma, stopped_behind_comma}
 use Rattle.jsgen_lists.proofs.members.print_more.Goals as goal
 
 pub loop-member-preserved : goal.loop-member-preserved
@@ -23,7 +22,7 @@ loop-member-preserved g l =
     turn_done first rest (pen_of l.args.p.now) at (pen_of l.print_member.new.p) l.loop-member.invariant.0 left behind_first
 
 pub returns : goal.returns
-returns g l = grind (arith, common_steps)
+returns g l = turn_last (λ ms. spell_more (trees (map g.L.PrintMember.plain ms)) (listed l.args.place)) l.args.members.now l.loop-member.member-index (pen_of l.loop-member.p) l.loop-member-test.false l.loop-member.invariant.1
 
 pub returns-in_err-print_comma_and_space : goal.returns-in_err-print_comma_and_space
 returns-in_err-print_comma_and_space g c =
