@@ -1,8 +1,9 @@
 -- Braces round statements, on Ok and where memory runs out.
-use Rattle.std.proofs.Common.{◌≡◌, ℕ, List, [], ◌∷◌, map, length, false, ◌==◌, Result, refl, ap, sym, subst}
+use Rattle.std.proofs.Common.{◌≡◌, ℕ, suc, List, [], ◌∷◌, map, length, true, false, ◌==◌, Result, refl, ap, sym, subst, arith}
+use Rattle.std.proofs.lemmas.Bool.{eqb-true}
 use Rattle.jsgen_tree.specs.Tree.{Tree, trees}
 use Rattle.jsgen_model.specs.Punctuator.{Brace, opening, closing}
-use Rattle.jsgen_model.specs.Items.{Items, soft_line, indentation}
+use Rattle.jsgen_model.specs.Items.{Items, nothing, ◌⊕◌, brackets, soft_line, indentation, drop_semicolon}
 use Rattle.jsgen_model.specs.Layout.{Pen, layout, written, other_end}
 use Rattle.jsgen_model.specs.Spell.{braces, filled_braces}
 use Rattle.jsgen_model.specs.Printing.{IsPrefix, Stops, Reaches}
@@ -10,6 +11,11 @@ use Rattle.jsgen_printer.specs.Printer.{at_depth}
 use Rattle.jsgen_printer.proofs.Prefixes.{whole_prefix, prefix_append, more_prefix, prefix_of_prefix}
 use Rattle.jsgen_printer.proofs.Stops.{layout_appends, layout_more, stops_within, reaches_last}
 use Rattle.jsgen_lists.specs.Lists.{braces_opened, braces_closed}
+
+-- where there is no statement, braces are empty
+pub no_braces : {N : Type 0} (f : N → Tree) (xs : List N) (items : Items) (pen : Pen) → (length xs == 0) ≡ true → layout (brackets Brace nothing ⊕ drop_semicolon) pen ≡ layout (braces (trees (map f xs)) items) pen
+no_braces f [] items pen h = refl
+no_braces f (x ∷ xs) items pen h = absurd (omega (arith, eqb-true (suc (length xs)) 0 h))
 
 -- where there is a statement, braces aren't empty
 pub some_braces : {N : Type 0} (f : N → Tree) (xs : List N) (items : Items) (pen : Pen) → (length xs == 0) ≡ false → layout (filled_braces items) pen ≡ layout (braces (trees (map f xs)) items) pen

@@ -1,7 +1,7 @@
 -- Lists in which members may be left out: what a turn leaves, and where a member stands.
 use Rattle.std.proofs.Common.{◌≡◌, ℕ, Bool, true, false, Option, Some, None, is_some, List, [], ◌∷◌, map, length, slice_get, zero, suc, ◌-◌, ◌≤◌, ◌<◌, nat_lt, Result, refl, ap, sym, subst, ◌∙◌, arith}
 use Rattle.std.specs.Bool.{◌==◌}
-use Rattle.std.proofs.lemmas.Bool.{both_ways, lt-ltb}
+use Rattle.std.proofs.lemmas.Bool.{both_ways, eqb-true, lt-ltb}
 use Rattle.std.proofs.lemmas.Option.{same_Some}
 use Rattle.jsgen_tree.specs.Tree.{Tree, holed}
 use Rattle.jsgen_model.specs.Punctuator.{comma}
@@ -126,6 +126,10 @@ padded_end r items old spaced mid new hs hm h =
     reaches_last r old mid new (layout soft_space mid) (layout (soft_space ⊕ (items ⊕ soft_space)) old) h (subst (λ p. IsPrefix old.code p.code) (sym inside) (layout_more items (layout soft_space old) (layout_appends soft_space old))) (ap (λ p. layout soft_space p) inside)
 
 -- ---- an object, by how many properties it has
+
+pub none_inside : {A : Type 0} (f : A → Option Tree) (xs : List A) (place : spells.Place) → length xs == 0 ≡ true → all_elements false (holed (map f xs)) place ≡ object_inside (holed (map f xs)) (all_elements (are_more 1 (holed (map f xs))) (holed (map f xs)) place)
+none_inside f [] place e = refl
+none_inside f (x ∷ xs) place e = absurd (omega (arith, eqb-true (suc (length xs)) 0 e))
 
 one_inside : (o : Option Tree) (place : spells.Place) → soft_space ⊕ (all_elements false (holed (o ∷ [])) place ⊕ soft_space) ≡ object_inside (holed (o ∷ [])) (all_elements (are_more 1 (holed (o ∷ []))) (holed (o ∷ [])) place)
 one_inside None place = refl

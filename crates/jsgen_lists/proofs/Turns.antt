@@ -1,10 +1,10 @@
 -- Lists: what a turn leaves, on Ok and where memory runs out, and where a member stands.
-use Rattle.std.proofs.Common.{◌≡◌, ℕ, ◌+◌, ◌<◌, Bool, true, false, Result, List, ◌∷◌, length, drop, refl, ap, sym, subst, ◌∙◌}
+use Rattle.std.proofs.Common.{◌≡◌, ℕ, ◌+◌, ◌<◌, ◌≤◌, Bool, true, false, Result, List, [], ◌∷◌, length, drop, refl, ap, sym, subst, ◌∙◌}
 use Rattle.std.proofs.Math.ListN.{get_or}
-use Rattle.std.proofs.lemmas.List.{at_drop_more}
+use Rattle.std.proofs.lemmas.List.{at_drop_more, at_drop_all}
 use Rattle.jsgen_tree.specs.Tree.{Tree}
-use Rattle.jsgen_model.specs.Punctuator.{Bracket, opening, closing}
-use Rattle.jsgen_model.specs.Items.{Items, ◌⊕◌, brackets, soft_space}
+use Rattle.jsgen_model.specs.Punctuator.{Bracket, opening, closing, comma}
+use Rattle.jsgen_model.specs.Items.{Items, ◌⊕◌, brackets, punctuator, soft_space}
 use Rattle.jsgen_model.specs.Layout.{Pen, nowhere, layout, written, other_end, unless_printed, not}
 use Rattle.jsgen_model.specs.Spell.{spell, quoted_plainly}
 use Rattle.jsgen_model.specs.Printing.{IsPrefix, Stops, Reaches}
@@ -21,6 +21,10 @@ last_reaches r first rest old mid new {whole} e all h = reaches_last r old mid n
 -- the members left are the one of this turn and those behind it
 pub turn_left : {A : Type 0} (items : List A → Items) (xs : List A) (i : ℕ) (x : A) (at : Pen) {whole : Pen} → i < length xs → x ≡ get_or xs i x → layout (items (drop i xs)) at ≡ whole → layout (items (x ∷ drop (i + 1) xs)) at ≡ whole
 turn_left items xs i x at h e left = ap (λ y. layout (items (y ∷ drop (i + 1) xs)) at) e ∙ (sym (at_drop_more (λ ys. layout (items ys) at) xs i x h) ∙ left)
+
+-- behind the last turn none is left
+pub turn_last : {A : Type 0} (items : List A → Items) (xs : List A) (i : ℕ) (at : Pen) {whole : Pen} → length xs ≤ i → layout (items (drop i xs)) at ≡ whole → layout (items []) at ≡ whole
+turn_last items xs i at h left = sym (at_drop_all (λ ys. layout (items ys) at) xs i h) ∙ left
 
 -- what stopped within items that give the whole
 pub part_stopped : (at : Pen) {old new part whole : Pen} → IsPrefix old.code at.code → part ≡ whole → Stops at new part → Stops old new whole
@@ -52,6 +56,17 @@ spaced_member place at spaced next member none hs h = h ∙ (ap (λ q. layout (s
 
 pub spaced_stopped : (place : Place) (at spaced new : Pen) (member : Tree) → at.start ≡ nowhere → spaced ≡ layout soft_space at → Stops spaced new (layout (spell member (place_of place spaced)) spaced) → Stops at new (layout (soft_space ⊕ spell member (listed place)) at)
 spaced_stopped place at spaced new member none hs s = stops_second soft_space (spell member (listed place)) hs (subst (λ q. Stops spaced new (layout (spell member q) spaced)) (behind_space place at spaced none hs) s)
+
+-- behind a comma and a space, nothing begins
+behind_comma : (place : Place) (at spaced : Pen) → spaced ≡ layout (punctuator comma ⊕ soft_space) at → place_of place spaced ≡ listed place
+behind_comma place at spaced hs = begun_nowhere place spaced (ap (λ p. p.start) hs ∙ still_nowhere (not at.style.minified))
+
+-- a member there, on Ok and where memory runs out
+pub member_behind_comma : (place : Place) (at spaced next : Pen) (member : Tree) → spaced ≡ layout (punctuator comma ⊕ soft_space) at → next ≡ layout (spell member (place_of place spaced)) spaced → next ≡ layout ((punctuator comma ⊕ soft_space) ⊕ spell member (listed place)) at
+member_behind_comma place at spaced next member hs h = h ∙ (ap (λ q. layout (spell member q) spaced) (behind_comma place at spaced hs) ∙ ap (λ p. layout (spell member (listed place)) p) hs)
+
+pub stopped_behind_comma : (place : Place) (at spaced new : Pen) (member : Tree) → spaced ≡ layout (punctuator comma ⊕ soft_space) at → Stops spaced new (layout (spell member (place_of place spaced)) spaced) → Stops at new (layout ((punctuator comma ⊕ soft_space) ⊕ spell member (listed place)) at)
+stopped_behind_comma place at spaced new member hs s = stops_second (punctuator comma ⊕ soft_space) (spell member (listed place)) hs (subst (λ q. Stops spaced new (layout (spell member q) spaced)) (behind_comma place at spaced hs) s)
 
 -- in brackets, where memory runs out and at their end
 pub stops_in_brackets : (bracket : Bracket) (items : Items) {old mid new : Pen} → mid ≡ written (opening bracket) other_end old → Stops mid new (layout items mid) → Stops old new (layout (brackets bracket items) old)

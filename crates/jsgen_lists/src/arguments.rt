@@ -9,6 +9,7 @@ ghost use Rattle.jsgen_model.specs.Printing.{Reaches};
 ghost use Rattle.jsgen_printer.specs.Printer.{pen_of};
 ghost use Rattle.jsgen_lists.specs.Lists.{listed};
 
+use crate::maybe::print_comma_and_space;
 use crate::members::{PrintMember, print_more};
 use jsgen_place::Place;
 use jsgen_printer::{Bracket, Printer};
@@ -76,8 +77,7 @@ fn print_behind_first<E, L: PrintMember<E>>(
 {
     match arguments.split_first() {
         Some((second, others)) => {
-            p.print_comma()?;
-            p.print_soft_space()?;
+            print_comma_and_space(p)?;
             L::print_member(second, p, place.quoted_plainly(plain_second))?;
             print_more::<E, L>(others, p, place)
         }

@@ -70,7 +70,8 @@ fn print_comma_behind<E, L: PrintMember<E>>(
     }
 }
 
-fn print_comma_and_space(p: &mut Printer<'_>) -> Result<(), Memory>
+/// A comma, and a space behind it.
+pub fn print_comma_and_space(p: &mut Printer<'_>) -> Result<(), Memory>
     ensures { Reaches result (pen_of p.old) (pen_of p.new) (layout (punctuator comma ⊕ soft_space) (pen_of p.old)) }
 {
     p.print_comma()?;

@@ -9,6 +9,7 @@ ghost use Rattle.jsgen_printer.specs.Printer.{pen_of, bracket_of};
 ghost use Rattle.jsgen_place.specs.Place.{place_of};
 ghost use Rattle.jsgen_lists.specs.Lists.{listed};
 
+use crate::maybe::print_comma_and_space;
 use jsgen_place::Place;
 use jsgen_printer::{Bracket, Printer};
 use jsgen_syntax::Memory;
@@ -79,8 +80,7 @@ pub fn print_more<E, L: PrintMember<E>>(
     ensures { Reaches result (pen_of p.old) (pen_of p.new) (layout (spell_more (trees (map L.plain members.now)) (listed place)) (pen_of p.old)) }
 {
     for member in members {
-        p.print_comma()?;
-        p.print_soft_space()?;
+        print_comma_and_space(p)?;
         L::print_member(member, p, place)?;
     }
     Ok(())

@@ -1,6 +1,5 @@
 -- What ends in an `if` without `else`: nothing but the statements that are named.
 use Rattle.std.proofs.Common.{◌≡◌, false, refl}
-use Rattle.jsgen_tree.specs.Tree.{Tree}
 use Rattle.jsgen_tree.specs.Inside.{ends_open}
 use Rattle.jsgen_tree.specs.Plain.{node_plain}
 use Rattle.jsgen_tree.specs.Rows.{expression_plain, statement_plain, declaration_plain, binding_pattern_plain}

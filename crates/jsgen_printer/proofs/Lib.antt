@@ -6,3 +6,4 @@ pub mod Prefixes
 pub mod Stops
 pub mod Texts
 pub mod Numbers
+pub mod Starts

@@ -1,12 +1,12 @@
 -- Where memory runs out among steps in a row: what a step left is what the whole left, since the steps behind it only append.
-use Rattle.std.proofs.Common.{◌≡◌, ℕ, codes, Bool, true, false, List, [], ◌∷◌, ◌++◌, Result, Ok, Err, IsErr, subst, ◌∙◌, append_assoc, if◌then◌else◌}
+use Rattle.std.proofs.Common.{◌≡◌, ℕ, codes, Bool, true, false, List, [], ◌∷◌, ◌++◌, Result, Ok, Err, IsErr, ap, sym, subst, ◌∙◌, append_assoc, if◌then◌else◌}
 use Rattle.std.specs.Str.{chars}
 use Rattle.jsgen_model.specs.Punctuator.{Bracket, Round, opening, closing}
 use Rattle.jsgen_model.specs.Items.{Items, ◌⊕◌, indentation, deeper, brackets, wrapped, where_same, statement_end}
 use Rattle.jsgen_model.specs.Layout.{Pen, Ending, space_if, layout, written, written_if, text_if, other_end, indented, indent_or_space, at_indentation, end_statement, deeper_level, are_same}
 use Rattle.jsgen_model.specs.Printing.{IsPrefix, Stops, Reaches}
 use Rattle.jsgen_printer.proofs.Prefixes.{whole_prefix, prefix_append, more_prefix, prefix_of_prefix, prefix_behind}
-use Rattle.jsgen_printer.proofs.Texts.{written_apart}
+use Rattle.jsgen_printer.proofs.Texts.{written_apart, between}
 
 -- ---- what a step adds stands behind the code before
 
@@ -72,6 +72,11 @@ first_of_three a text b pen new s = stops_within s (whole_prefix pen.code) (pref
 pub second_of_three : (a text b : List ℕ) (pen new : Pen) → Stops (written a other_end pen) new (written text other_end (written a other_end pen)) → Stops pen new (written (a ++ (text ++ b)) other_end pen)
 second_of_three a text b pen new s =
     stops_within s (prefix_append pen.code a) (rw append_assoc (prefix_behind pen.code (prefix_behind a (prefix_append text b))))
+
+-- at the last of them
+pub third_reaches : {T E : Type 0} (r : Result T E) (a text b : List ℕ) (pen mid new : Pen) → mid ≡ written text other_end (written a other_end pen) → Reaches r mid new (written b other_end mid) → Reaches r pen new (written (a ++ (text ++ b)) other_end pen)
+third_reaches r a text b pen mid new e h =
+    reaches_last r pen mid new (written b other_end mid) (written (a ++ (text ++ b)) other_end pen) h (subst (λ p. IsPrefix pen.code p.code) (sym e) (more_prefix text (prefix_append pen.code a))) (ap (λ p. written b other_end p) e ∙ between a text b pen)
 
 -- of two, in the first
 pub stops_first : (a b : Items) {old new : Pen} → Stops old new (layout a old) → Stops old new (layout (a ⊕ b) old)

@@ -101,6 +101,12 @@ large_bytes ds d c h l e f = brace_bytes ds (d ∷ []) c h (omega arith) e (ap (
 pub largest_bytes : (ds : List ℕ) (c : ℕ) → 0x10_0000 ≤ c → c < 0x11_0000 → ds ≡ four_digits upper_digit (c % 0x1_0000) → 92 ∷ 117 ∷ 123 ∷ 49 ∷ 48 ∷ four_of ds (125 ∷ []) ≡ encodes (character_escape c)
 largest_bytes ds c h l e = brace_bytes ds (49 ∷ 48 ∷ []) c (omega arith) l e (sym (ap (λ b. cond b (upper_digit (c / 65536) ∷ []) (codes "10")) (le-ltb c 0x10_0000 h)))
 
+pub unit_bytes : (ds : List ℕ) (c : ℕ) → c < 0x1_0000 → ds ≡ four_digits upper_digit c → 92 ∷ 117 ∷ four_of ds [] ≡ encodes (flat_map (unit_escape upper_digit) (encode_utf16 c))
+unit_bytes ds c l e =
+    ap (λ x. 92 ∷ 117 ∷ four_of x []) e
+    ∙ (sym (ap (flat_map (unit_escape upper_digit)) (one_unit c l))
+    ∙ sym (encodes_ascii (flat_map (unit_escape upper_digit) (encode_utf16 c)) (units_ascii c (omega (arith, l)))))
+
 pub pair_bytes : (ds es : List ℕ) (c : ℕ) → 0x1_0000 ≤ c → c < 0x11_0000 → ds ≡ four_digits upper_digit (0xD800 + (c - 0x1_0000) / 0x400) → es ≡ four_digits upper_digit (0xDC00 + (c - 0x1_0000) % 0x400) → 92 ∷ 117 ∷ four_of ds (92 ∷ 117 ∷ four_of es []) ≡ encodes (flat_map (unit_escape upper_digit) (encode_utf16 c))
 pair_bytes ds es c h l e f =
     ap₂ (λ x y. 92 ∷ 117 ∷ four_of x (92 ∷ 117 ∷ four_of y [])) e f

@@ -5,3 +5,4 @@ pub mod Escaped
 pub mod Fronts
 pub mod Looks
 pub mod Plain
+pub mod PointTexts

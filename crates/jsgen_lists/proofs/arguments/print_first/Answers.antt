@@ -1,4 +1,5 @@
 use Rattle.std.proofs.Common.{map, ap, sym, subst, ◌∙◌}
+use Rattle.std.proofs.lemmas.List.{nil_from_length}
 use Rattle.jsgen_tree.specs.Tree.{trees}
 use Rattle.jsgen_model.specs.Layout.{layout}
 use Rattle.jsgen_model.specs.Spell.{spell, spell_arguments, spell_behind_first, quoted_plainly}
@@ -33,3 +34,6 @@ returns-in_ok-print_member-in-Some g c =
     let all = ap (λ ms. layout (spell_arguments c.args.quotes.first c.args.quotes.second (trees (map plain ms)) place) before) (sym c.in-Some.ensures.cases.0) in
     let behind_first = (rw c.quoted_plainly.ensures at c.in_ok-print_member-in-Some.ensures) ∙ ap (λ q. layout (spell first q) before) (quoted_nowhere c.args.quotes.first c.args.place before c.requires) in
     last_reaches c.print_behind_first.result (spell first there) more before (pen_of c.print_member.new.p) (pen_of c.print_behind_first.new.p) behind_first all c.print_behind_first.ensures
+
+pub returns-in-None : goal.returns-in-None
+returns-in-None g c = ap (λ xs. layout (spell_arguments c.args.quotes.first c.args.quotes.second (trees (map g.L.PrintMember.plain xs)) (listed c.args.place)) (pen_of c.args.p.now)) (sym (nil_from_length c.args.arguments.now c.in-None.ensures.cases))

@@ -1,4 +1,5 @@
 use Rattle.std.proofs.Common.{map, ap, sym, subst, ◌∙◌}
+use Rattle.std.proofs.lemmas.List.{nil_from_length}
 use Rattle.jsgen_tree.specs.Tree.{holed}
 use Rattle.jsgen_model.specs.Layout.{layout}
 use Rattle.jsgen_model.specs.Spell.{spell_elements, spell_more_elements}
@@ -34,3 +35,6 @@ returns-in_ok-print_element-in-Some g c =
     let all = ap (λ es. layout (spell_elements lines (holed (map plain es)) place) before) (sym c.in-Some.ensures.cases.0) in
     let behind_first = c.in_ok-print_element-in-Some.ensures ∙ ap (λ q. layout (element_items first q) before) (begun_nowhere c.args.place before c.requires) in
     last_reaches c.print_more_elements.result (element_items first place) (spell_more_elements lines (holed others) place) before (pen_of c.print_element.new.p) (pen_of c.print_more_elements.new.p) behind_first (sym (elements_first lines first others place before) ∙ all) c.print_more_elements.ensures
+
+pub returns-in-None : goal.returns-in-None
+returns-in-None g c = ap (λ xs. layout (spell_elements c.args.lines (holed (map g.L.PrintElement.plain xs)) (listed c.args.place)) (pen_of c.args.p.now)) (sym (nil_from_length c.args.elements.now c.in-None.ensures.cases))

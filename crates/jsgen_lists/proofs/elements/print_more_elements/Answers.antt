@@ -1,5 +1,4 @@
-use Rattle.std.proofs.Common.{map, drop, ◌+◌, ap, sym, ◌∙◌, arith}
-use Rattle.std.proofs.lemmas.Grind.{common_steps}
+use Rattle.std.proofs.Common.{map, drop, ◌+◌, ap, sym, ◌∙◌}
 use Rattle.jsgen_tree.specs.Tree.{holed}
 use Rattle.jsgen_model.specs.Punctuator.{comma}
 use Rattle.jsgen_model.specs.Items.{◌⊕◌, punctuator}
@@ -8,7 +7,7 @@ use Rattle.jsgen_model.specs.Spell.{spell_more_elements, line_or_space}
 use Rattle.jsgen_printer.specs.Printer.{pen_of}
 use Rattle.jsgen_printer.proofs.Stops.{stopped, stops_first, stops_second}
 use Rattle.jsgen_lists.specs.Lists.{listed, element_items}
-use Rattle.jsgen_lists.proofs.Turns.{turn_left, turn_done, part_stopped}
+use Rattle.jsgen_lists.proofs.Turns.{turn_left, turn_last, turn_done, part_stopped}
 use Rattle.jsgen_lists.proofs.Holes.{more_first, between_member, between_stopped}
 use Rattle.jsgen_lists.proofs.elements.print_more_elements.Goals as goal
 
@@ -27,7 +26,7 @@ loop-element-preserved g l =
     turn_done (punctuator comma ⊕ first) (items others) (pen_of l.args.p.now) at (pen_of l.print_element.new.p) l.loop-element.invariant.0 (sym (more_first lines o (map plain others) place at) ∙ left) (behind_first ∙ ap (λ p. layout first p) l.in_ok-print_comma.ensures)
 
 pub returns : goal.returns
-returns g l = grind (arith, common_steps)
+returns g l = turn_last (λ ms. spell_more_elements l.args.lines (holed (map g.L.PrintElement.plain ms)) (listed l.args.place)) l.args.elements.now l.loop-element.element-index (pen_of l.loop-element.p) l.loop-element-test.false l.loop-element.invariant.1
 
 pub returns-in_err-print_comma : goal.returns-in_err-print_comma
 returns-in_err-print_comma g c =

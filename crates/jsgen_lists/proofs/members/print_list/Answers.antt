@@ -1,4 +1,5 @@
 use Rattle.std.proofs.Common.{map, ap, sym, subst, ◌∙◌}
+use Rattle.std.proofs.lemmas.List.{nil_from_length}
 use Rattle.jsgen_tree.specs.Tree.{trees}
 use Rattle.jsgen_model.specs.Layout.{layout}
 use Rattle.jsgen_model.specs.Spell.{spell, spell_list, spell_more}
@@ -31,3 +32,6 @@ returns-in_ok-print_member-in-Some g c =
     let all = ap (λ ms. layout (spell_list (trees (map plain ms)) place) before) (sym c.in-Some.ensures.cases.0) in
     let behind_first = c.in_ok-print_member-in-Some.ensures ∙ ap (λ q. layout (spell first q) before) (begun_nowhere c.args.place before c.requires) in
     last_reaches c.print_more.result (spell first place) more before (pen_of c.print_member.new.p) (pen_of c.print_more.new.p) behind_first all c.print_more.ensures
+
+pub returns-in-None : goal.returns-in-None
+returns-in-None g c = ap (λ xs. layout (spell_list (trees (map g.L.PrintMember.plain xs)) (listed c.args.place)) (pen_of c.args.p.now)) (sym (nil_from_length c.args.members.now c.in-None.ensures.cases))

@@ -1,4 +1,5 @@
 use Rattle.std.proofs.Common.{map, ap, sym}
+use Rattle.std.proofs.lemmas.List.{nil_from_length}
 use Rattle.jsgen_tree.specs.Tree.{trees}
 use Rattle.jsgen_model.specs.Layout.{layout}
 use Rattle.jsgen_model.specs.Spell.{spell, spell_parts, spell_more}
@@ -29,3 +30,6 @@ returns-in_ok-print_member-in-Some g c =
     let more = spell_more (trees (map plain c.in-Some.rest.now)) (listed c.args.place) in
     let all = ap (λ ms. layout (spell_parts (trees (map plain ms)) place) before) (sym c.in-Some.ensures.cases.0) in
     last_reaches c.print_more.result (spell first place) more before (pen_of c.print_member.new.p) (pen_of c.print_more.new.p) c.in_ok-print_member-in-Some.ensures all c.print_more.ensures
+
+pub returns-in-None : goal.returns-in-None
+returns-in-None g c = ap (λ xs. layout (spell_parts (trees (map g.L.PrintMember.plain xs)) (place_of c.args.place (pen_of c.args.p.now))) (pen_of c.args.p.now)) (sym (nil_from_length c.args.parts.now c.in-None.ensures.cases))

@@ -1,4 +1,5 @@
 use Rattle.std.proofs.Common.{map, ap, sym, refl}
+use Rattle.std.proofs.lemmas.List.{nil_from_length}
 use Rattle.jsgen_tree.specs.Tree.{trees}
 use Rattle.jsgen_model.specs.Items.{◌⊕◌, due_semicolon}
 use Rattle.jsgen_model.specs.Layout.{layout}
@@ -42,3 +43,6 @@ returns-in_ok-print_first_statement-in-Some g c =
     let all = ap (λ ss. layout (spell_body (trees (map plain ss)) settings) before) (sym c.in-Some.ensures.cases.0) in
     let behind_first = rw (c.in_ok-print_due_semicolon-in-Some.ensures, c.among_statements.ensures) at c.in_ok-print_first_statement-in-Some.ensures in
     last_reaches c.print_statements.result (due_semicolon ⊕ whole) rest before (pen_of c.print_first_statement.new.p) (pen_of c.print_statements.new.p) behind_first all c.print_statements.ensures
+
+pub returns-in-None : goal.returns-in-None
+returns-in-None g c = ap (λ xs. layout (spell_body (trees (map g.S.PrintStatement.plain xs)) (settings_of c.args.settings)) (pen_of c.args.p.now)) (sym (nil_from_length c.args.statements.now c.in-None.ensures.cases))

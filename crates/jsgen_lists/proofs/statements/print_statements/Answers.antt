@@ -1,12 +1,11 @@
-use Rattle.std.proofs.Common.{map, drop, ◌+◌, refl, arith}
-use Rattle.std.proofs.lemmas.Grind.{common_steps}
+use Rattle.std.proofs.Common.{map, drop, ◌+◌, refl}
 use Rattle.jsgen_tree.specs.Tree.{trees}
 use Rattle.jsgen_model.specs.Items.{◌⊕◌, due_semicolon}
 use Rattle.jsgen_model.specs.Spell.{spell, spell_statements, among_statements}
 use Rattle.jsgen_printer.specs.Printer.{pen_of}
 use Rattle.jsgen_printer.proofs.Stops.{stopped, stops_first, stops_second}
 use Rattle.jsgen_place.specs.Place.{settings_of}
-use Rattle.jsgen_lists.proofs.Turns.{turn_left, part_stopped, turn_done}
+use Rattle.jsgen_lists.proofs.Turns.{turn_left, turn_last, part_stopped, turn_done}
 use Rattle.jsgen_lists.proofs.statements.print_statements.Goals as goal
 
 pub loop-statement-preserved : goal.loop-statement-preserved
@@ -20,7 +19,7 @@ loop-statement-preserved g l =
     turn_done (due_semicolon ⊕ first) (items (drop (l.loop-statement.statement-index + 1) l.args.statements.now)) (pen_of l.args.p.now) at (pen_of l.print_statement.new.p) l.loop-statement.invariant.0 left (rw (l.in_ok-print_due_semicolon.ensures, l.among_statements.ensures) at l.in_ok-print_statement.ensures)
 
 pub returns : goal.returns
-returns g l = grind (arith, common_steps)
+returns g l = turn_last (λ ms. spell_statements (trees (map g.S.PrintStatement.plain ms)) (settings_of l.args.settings)) l.args.statements.now l.loop-statement.statement-index (pen_of l.loop-statement.p) l.loop-statement-test.false l.loop-statement.invariant.1
 
 pub returns-in_err-print_due_semicolon : goal.returns-in_err-print_due_semicolon
 returns-in_err-print_due_semicolon g c =
