@@ -18,7 +18,7 @@ use Rattle.jsgen_place.specs.declared.place.Place.{Place}
 use Rattle.jsgen_place.specs.Place.{settings_of, context_of, place_of, place_within}
 use Rattle.jsgen_model.specs.Printing.{Reaches, IsPrefix, Stops}
 use Rattle.jsgen_printer.proofs.Prefixes.{whole_prefix, prefix_append, more_prefix}
-use Rattle.jsgen_printer.proofs.Stops.{reaches_last, stops_within, layout_appends, layout_more, appends}
+use Rattle.jsgen_printer.proofs.Stops.{reaches_last, stops_first, stops_second, stops_within, layout_appends, layout_more, appends}
 
 -- nothing begins behind an operator
 pub operator_nowhere : (o : BinaryOperator) (pen : Pen) → (layout (operator_item o) pen).start ≡ nowhere
@@ -41,6 +41,16 @@ operation_laid r z a b c d e item left right place lp rp ll rl lq rq none at_lef
     let before : e ≡ layout soft_space (layout item (layout soft_space (layout (spell left (quoted_plainly lq (left_of ll (place_of place a)))) a))) = he ∙ ap (λ p. layout soft_space p) (hd ∙ ap (λ p. layout item p) (hc ∙ ap (λ p. layout soft_space p) (hb ∙ ap (λ q. layout (spell left (place_of q a)) a) at_left))) in
     let kept : IsPrefix a.code e.code = rw (he, hd, hc, hb) (search appends) in
     reaches_last r a e z _ _ h kept (ap (λ q. layout (spell right q) e) behind_it ∙ ap (λ p. layout (spell right (quoted_plainly rq (behind rl (place_of place a)))) p) before)
+
+-- where memory runs out at the spaces and at the operator
+pub stops_before_sign : (left item right : Items) {a b z : Pen} → b ≡ layout left a → Stops b z (layout soft_space b) → Stops a z (layout (left ⊕ (soft_space ⊕ (item ⊕ (soft_space ⊕ right)))) a)
+stops_before_sign left item right hb s = stops_second left (soft_space ⊕ (item ⊕ (soft_space ⊕ right))) hb (stops_first soft_space (item ⊕ (soft_space ⊕ right)) s)
+
+pub stops_at_sign : (left item right : Items) {a b c z : Pen} → b ≡ layout left a → c ≡ layout soft_space b → Stops c z (layout item c) → Stops a z (layout (left ⊕ (soft_space ⊕ (item ⊕ (soft_space ⊕ right)))) a)
+stops_at_sign left item right hb hc s = stops_second left (soft_space ⊕ (item ⊕ (soft_space ⊕ right))) hb (stops_second soft_space (item ⊕ (soft_space ⊕ right)) hc (stops_first item (soft_space ⊕ right) s))
+
+pub stops_behind_sign : (left item right : Items) {a b c d z : Pen} → b ≡ layout left a → c ≡ layout soft_space b → d ≡ layout item c → Stops d z (layout soft_space d) → Stops a z (layout (left ⊕ (soft_space ⊕ (item ⊕ (soft_space ⊕ right)))) a)
+stops_behind_sign left item right hb hc hd s = stops_second left (soft_space ⊕ (item ⊕ (soft_space ⊕ right))) hb (stops_second soft_space (item ⊕ (soft_space ⊕ right)) hc (stops_second item (soft_space ⊕ right) hd (stops_first soft_space right s)))
 
 within_printed : (test : Bool) (place : Place) (pen : Pen) → place_of (place_within test place) (written_if test (opening Round) pen) ≡ within test (place_of place pen)
 within_printed true place pen = refl

@@ -1,12 +1,15 @@
-use Rattle.std.proofs.Common.{refl}
+use Rattle.std.proofs.Common.{refl, ap, ◌∙◌}
 use Rattle.jsgen_model.specs.Items.{◌⊕◌, soft_space}
 use Rattle.jsgen_model.specs.Spell.{spell, filled_braces, braces_end, among_statements}
 use Rattle.jsgen_printer.specs.Printer.{pen_of}
 use Rattle.jsgen_place.specs.Place.{settings_of}
 use Rattle.jsgen_nodes.specs.Place.{pen_after}
-use Rattle.jsgen_printer.proofs.Stops.{appends, stopped, stops_within, reaches_last, layout_appends}
-use Rattle.jsgen_lists.proofs.Braced.{stops_opening, stops_in_braces}
-use Rattle.jsgen_nodes.proofs.BlockStops.{stops_in_braced}
+use Rattle.jsgen_printer.proofs.Stops.{appends, stopped, stops_within, stops_first, stops_second, reaches_last, layout_appends}
+use Rattle.jsgen_lists.proofs.Braced.{stops_opening}
+use Rattle.jsgen_lists.proofs.Turns.{begun_nowhere}
+use Rattle.jsgen_lists.specs.Lists.{listed}
+use Rattle.jsgen_nodes.proofs.BlockStops.{stops_in_braced, stops_between}
+use Rattle.jsgen_nodes.proofs.Placed.{stops_as}
 use Rattle.jsgen_nodes.proofs.blocks.print_braced.Goals as goal
 
 pub returns-in_err-print_soft_space : goal.returns-in_err-print_soft_space
@@ -23,7 +26,10 @@ pub returns-in_err-print : goal.returns-in_err-print
 unfolding pen_after
 returns-in_err-print g c =
     let items = spell (g.N.PrintNode.plain c.args.consequent.now) (among_statements (settings_of c.args.settings)) in
-    stopped _ c.from_residual-in_err-print.ensures.0 (stops_in_braced items (braces_end c.args.else_follows) (stops_in_braces items (rw (c.among_statements.ensures, c.in_ok-depth.ensures.pen, c.in_ok-print_soft_space.ensures) at c.in_err-print.ensures)))
+    let opened = pen_of c.open_braces.new.p in
+    let here = begun_nowhere c.among_statements.result opened (ap (λ p. p.start) c.in_ok-depth.ensures.pen) ∙ ap (λ place. listed place) c.among_statements.ensures in
+    let within = stops_as (ap (λ place. spell (g.N.PrintNode.plain c.args.consequent.now) place) here) c.in_err-print.ensures in
+    stopped _ c.from_residual-in_err-print.ensures.0 (stops_second soft_space (filled_braces items ⊕ braces_end c.args.else_follows) c.in_ok-print_soft_space.ensures (stops_first (filled_braces items) (braces_end c.args.else_follows) (stops_between items (pen_of c.print_soft_space.new.self) opened (pen_of c.print.new.p) c.in_ok-depth.ensures.pen within)))
 
 pub returns-in_err-close_braces : goal.returns-in_err-close_braces
 unfolding pen_after
