@@ -14,3 +14,7 @@ returns-in_err-print_braces g c = rw c.if-place.true (stopped _ c.from_residual-
 pub returns-in_ok-print_braces : goal.returns-in_ok-print_braces
 unfolding pen_after
 returns-in_ok-print_braces g c = rw c.if-place.true (reaches_last _ _ _ _ _ _ (rw (c.in_ok-print_braces.ensures, c.deref.ensures.value, c.in_ok-print_indentation.ensures) at c.print_soft_line.ensures) (search appends) refl)
+
+pub returns-else-place : goal.returns-else-place
+unfolding pen_after
+returns-else-place g c = rw c.if-place.false (rw c.deref-else-place.ensures.value at c.print_braces-else-place.ensures)

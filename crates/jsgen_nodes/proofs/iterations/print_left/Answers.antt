@@ -1,9 +1,11 @@
 use Rattle.std.proofs.Common.{subst, ap, ◌∙◌}
+use Rattle.jsgen_syntax.specs.declared.precedence.Precedence.TheVariants.{Comma}
 use Rattle.jsgen_tree.specs.Rows.{variable_declaration_row, static_member_expression_row, computed_member_expression_row}
 use Rattle.jsgen_model.specs.Layout.{layout}
-use Rattle.jsgen_model.specs.Spell.{spell}
+use Rattle.jsgen_model.specs.Spell.{spell, in_brackets, among_statements}
 use Rattle.jsgen_model.specs.Printing.{Reaches}
 use Rattle.jsgen_printer.specs.Printer.{pen_of}
+use Rattle.jsgen_place.specs.Place.{settings_of}
 use Rattle.jsgen_lists.specs.Lists.{listed}
 use Rattle.jsgen_lists.proofs.Turns.{begun_nowhere}
 use Rattle.jsgen_nodes.specs.Place.{pen_after}
@@ -28,7 +30,7 @@ returns-in-StaticMemberExpression g c =
     let before = pen_of c.args.p.now in
     let row = static_member_expression_row g.N.PrintNode.plain in
     let here = begun_nowhere c.in_brackets-target.result before c.requires ∙ ap (λ q. listed q) c.in_brackets-target.ensures in
-    rw (c.in-StaticMemberExpression.is, ← c.deref-in-StaticMemberExpression.ensures) (reaches_as c.print_static_member_expression.result before (pen_of c.print_static_member_expression.new.p) (ap (λ q. spell (row c.deref-in-StaticMemberExpression.result.now) q) here) c.print_static_member_expression.ensures)
+    rw c.in-StaticMemberExpression.is (reaches_as c.print_static_member_expression.result before (pen_of c.print_static_member_expression.new.p) (ap (λ q. spell (row c.deref-in-StaticMemberExpression.result.now) q) here ∙ ap (λ n. spell (row n) (in_brackets Comma (among_statements (settings_of c.args.settings)))) c.deref-in-StaticMemberExpression.ensures) c.print_static_member_expression.ensures)
 
 pub returns-in-ComputedMemberExpression : goal.returns-in-ComputedMemberExpression
 unfolding pen_after
@@ -36,4 +38,4 @@ returns-in-ComputedMemberExpression g c =
     let before = pen_of c.args.p.now in
     let row = computed_member_expression_row g.N.PrintNode.plain in
     let here = begun_nowhere c.in_brackets-target.result before c.requires ∙ ap (λ q. listed q) c.in_brackets-target.ensures in
-    rw (c.in-ComputedMemberExpression.is, ← c.deref-in-ComputedMemberExpression.ensures) (reaches_as c.print_computed_member_expression.result before (pen_of c.print_computed_member_expression.new.p) (ap (λ q. spell (row c.deref-in-ComputedMemberExpression.result.now) q) here) c.print_computed_member_expression.ensures)
+    rw c.in-ComputedMemberExpression.is (reaches_as c.print_computed_member_expression.result before (pen_of c.print_computed_member_expression.new.p) (ap (λ q. spell (row c.deref-in-ComputedMemberExpression.result.now) q) here ∙ ap (λ n. spell (row n) (in_brackets Comma (among_statements (settings_of c.args.settings)))) c.deref-in-ComputedMemberExpression.ensures) c.print_computed_member_expression.ensures)
