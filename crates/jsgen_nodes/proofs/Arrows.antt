@@ -33,7 +33,7 @@ parameters_within true place = refl
 parameters_within false place = refl
 
 -- where nothing begins, parameters are a list
-parts_listed : (ts : Trees) (place : spells.Place) → place.start ≡ nowhere → spell_parts ts place ≡ spell_list ts place
+pub parts_listed : (ts : Trees) (place : spells.Place) → place.start ≡ nowhere → spell_parts ts place ≡ spell_list ts place
 parts_listed no_trees place none = refl
 parts_listed (more t ts) place none = ap (λ s. spell t place ⊕ spells.spell_more ts (record place { start = s })) (sym none)
 parts_listed (hole ts) place none = parts_listed ts place none

@@ -1,3 +1,4 @@
+use Rattle.std.proofs.Common.{ap, ◌∙◌}
 use Rattle.jsgen_model.specs.Items.{◌⊕◌, soft_space}
 use Rattle.jsgen_model.specs.Spell.{spell, left_of, behind, quoted_plainly, left_level, right_level}
 use Rattle.jsgen_model.specs.Operators.{operator_item}
@@ -6,7 +7,7 @@ use Rattle.jsgen_printer.specs.Printer.{pen_of}
 use Rattle.jsgen_printer.proofs.Stops.{stopped, stops_first}
 use Rattle.jsgen_place.specs.Place.{place_of}
 use Rattle.jsgen_nodes.specs.Place.{pen_after}
-use Rattle.jsgen_nodes.proofs.Operations.{operation_laid, operator_nowhere, stops_before_sign, stops_at_sign, stops_behind_sign}
+use Rattle.jsgen_nodes.proofs.Operations.{operation_laid, operator_nowhere, stops_before_sign, stops_at_sign}
 use Rattle.jsgen_nodes.proofs.expressions.print_binary_operation.Goals as goal
 
 pub returns-in_err-print : goal.returns-in_err-print
@@ -45,30 +46,18 @@ returns-in_err-print_operator g c =
     let right = spell b (quoted_plainly (is_export_mark minified o b) (behind (right_level o) place)) in
     stopped _ c.from_residual-in_err-print_operator.ensures.0 (stops_at_sign left (operator_item o) right (rw (c.quoted_plainly.ensures, c.left_operand.ensures, c.is_mark-quoted.ensures, c.left_level-level.ensures (g.N.PrintNode.plain c.get-left.result.now) c.operand.ensures, c.get-left.ensures) at c.in_ok-print.ensures) c.in_ok-print_soft_space.ensures c.in_err-print_operator.ensures)
 
-pub returns-in_err-print_soft_space-2 : goal.returns-in_err-print_soft_space-2
+pub print_behind_space-requires : goal.print_behind_space-requires
 unfolding pen_after
-returns-in_err-print_soft_space-2 g c =
+print_behind_space-requires g c = ap (λ p. p.start) c.in_ok-print_operator.ensures ∙ operator_nowhere c.args.node.now.operator (pen_of c.print_soft_space.new.self)
+
+pub returns : goal.returns
+unfolding pen_after
+returns g c =
     let o = c.args.node.now.operator in
     let a = g.N.PrintNode.plain c.args.node.now.left.node in
     let b = g.N.PrintNode.plain c.args.node.now.right.node in
     let minified = c.args.place.settings.minified in
     let place = place_of c.args.place (pen_of c.args.p.now) in
     let left = spell a (quoted_plainly (is_export_mark minified o a) (left_of (left_level o a) place)) in
-    let right = spell b (quoted_plainly (is_export_mark minified o b) (behind (right_level o) place)) in
-    stopped _ c.from_residual-in_err-print_soft_space-2.ensures.0 (stops_behind_sign left (operator_item o) right (rw (c.quoted_plainly.ensures, c.left_operand.ensures, c.is_mark-quoted.ensures, c.left_level-level.ensures (g.N.PrintNode.plain c.get-left.result.now) c.operand.ensures, c.get-left.ensures) at c.in_ok-print.ensures) c.in_ok-print_soft_space.ensures c.in_ok-print_operator.ensures c.in_err-print_soft_space-2.ensures)
-
-pub returns : goal.returns
-unfolding pen_after
-returns g c =
-    let plain = g.N.PrintNode.plain in
-    let o = c.args.node.now.operator in
-    let left = c.args.node.now.left.node in
-    let right = c.args.node.now.right.node in
-    let before = pen_of c.args.p.now in
-    let between = pen_of c.print_soft_space-2.new.self in
-    operation_laid c.print-2.result (pen_of c.print-2.new.p) before _ _ _ between (operator_item o) (plain left) (plain right) c.args.place c.quoted_plainly.result c.quoted_plainly-2.result (left_level o (plain left)) (right_level o) (is_export_mark c.args.place.settings.minified o (plain left)) (is_export_mark c.args.place.settings.minified o (plain right)) (operator_nowhere o)
-    (rw (c.left_operand.ensures, c.left_level-level.ensures (g.N.PrintNode.plain c.get-left.result.now) c.operand.ensures, c.is_mark-quoted.ensures, c.get-left.ensures) at c.quoted_plainly.ensures)
-    (rw (c.child-below.ensures, c.right_level.ensures, c.is_mark-quoted-2.ensures, c.get-right.ensures) at c.quoted_plainly-2.ensures)
-    (rw c.get-left.ensures at c.in_ok-print.ensures)
-    c.in_ok-print_soft_space.ensures c.in_ok-print_operator.ensures c.in_ok-print_soft_space-2.ensures
-    (rw c.get-right.ensures at c.print-2.ensures)
+    let here = rw (c.child-below.ensures, c.right_level.ensures, c.is_mark-quoted-2.ensures, c.get.ensures) at c.quoted_plainly-2.ensures in
+    operation_laid c.print_behind_space.result left (operator_item o) b (pen_of c.args.p.now) (pen_of c.print.new.p) (pen_of c.print_soft_space.new.self) (pen_of c.print_operator.new.self) (pen_of c.print_behind_space.new.p) here (rw (c.quoted_plainly.ensures, c.left_operand.ensures, c.is_mark-quoted.ensures, c.left_level-level.ensures (g.N.PrintNode.plain c.get-left.result.now) c.operand.ensures, c.get-left.ensures) at c.in_ok-print.ensures) c.in_ok-print_soft_space.ensures c.in_ok-print_operator.ensures c.print_behind_space.ensures
