@@ -1,6 +1,5 @@
 -- What a question of all types answers for those that it doesn't name.
 use Rattle.std.proofs.Common.{◌≡◌, None, refl}
-use Rattle.jsgen_tree.specs.Tree.{Tree}
 use Rattle.jsgen_tree.specs.Plain.{node_plain}
 use Rattle.jsgen_tree.specs.Rows.{expression_plain, statement_plain, declaration_plain, binding_pattern_plain}
 use Rattle.jsgen_tree.specs.declared.nodes.Node.{Node}

@@ -1,6 +1,5 @@
 -- Operations, from the steps that print them.
 use Rattle.std.proofs.Common.{◌≡◌, Bool, true, false, Result, refl, ap, subst, ◌∙◌}
-use Rattle.jsgen_syntax.specs.declared.precedence.Precedence.{Precedence}
 use Rattle.jsgen_syntax.specs.Operator.{logical_level, logical_lower_level}
 use Rattle.jsgen_syntax.specs.declared.operator.BinaryOperator.{BinaryOperator}
 use Rattle.jsgen_syntax.specs.declared.operator.BinaryOperator.TheVariants as operators
@@ -9,18 +8,18 @@ use Rattle.jsgen_syntax.specs.declared.operator.LogicalOperator.TheVariants as l
 use Rattle.jsgen_tree.specs.Tree.{Tree}
 use Rattle.jsgen_model.specs.Punctuator.{Round, opening, closing}
 use Rattle.jsgen_model.specs.Items.{Items, ◌⊕◌, soft_space, wrapped}
-use Rattle.jsgen_model.specs.Layout.{Pen, nowhere, layout, written_if, text_if, unless_printed, not}
+use Rattle.jsgen_model.specs.Layout.{Pen, nowhere, layout, written_if, text_if}
 use Rattle.jsgen_model.specs.Spell as spells
 use Rattle.jsgen_model.specs.Spell.{spell, left_of, behind, within, left_level, right_level, unmixed, quoted_plainly}
 use Rattle.jsgen_model.specs.Operators.{operator_item, logical_item}
 use Rattle.jsgen_model.specs.Quotes.{is_export_mark}
 use Rattle.jsgen_place.specs.declared.place.Place.{Place}
-use Rattle.jsgen_place.specs.Place.{settings_of, context_of, place_of, place_within}
+use Rattle.jsgen_place.specs.Place.{place_of, place_within}
 use Rattle.jsgen_model.specs.Printing.{Reaches, IsPrefix, Stops}
 use Rattle.jsgen_lists.specs.Lists.{listed}
 use Rattle.jsgen_lists.proofs.Turns.{last_reaches}
 use Rattle.jsgen_printer.proofs.Prefixes.{whole_prefix, prefix_append, more_prefix}
-use Rattle.jsgen_printer.proofs.Stops.{reaches_last, stops_first, stops_second, stops_within, layout_appends, layout_more, appends}
+use Rattle.jsgen_printer.proofs.Stops.{reaches_last, stops_first, stops_second, stops_within, layout_appends, layout_more}
 
 -- nothing begins behind an operator
 pub operator_nowhere : (o : BinaryOperator) (pen : Pen) → (layout (operator_item o) pen).start ≡ nowhere
