@@ -73,7 +73,7 @@ one_alone (tree.formal_parameter b (tree.binding_identifier i) absent) f g (x �
     go false h = rw h refl
 one_alone t f g xs rest a = refl
 
-pub alone_or_not : {A B : Type 0} (f : A → Tree) (g : B → Tree) (x : A) (xs : List A) (rest : Option B) (a : Atoms) → (is_name_parameter (f x) && ((length xs == 0) && is_none rest)) ≡ is_name_alone (tree.formal_parameters a (trees (map f (x ∷ xs))) (optional (option_map g rest)))
+alone_or_not : {A B : Type 0} (f : A → Tree) (g : B → Tree) (x : A) (xs : List A) (rest : Option B) (a : Atoms) → (is_name_parameter (f x) && ((length xs == 0) && is_none rest)) ≡ is_name_alone (tree.formal_parameters a (trees (map f (x ∷ xs))) (optional (option_map g rest)))
 alone_or_not f g x xs rest a = one_alone (f x) f g xs rest a
 
 pub alone_there : {N : Type 0} (h : N → Tree) (ps : FormalParameters N) (x : FormalParameter N) (xs : List (FormalParameter N)) (test : Bool) → ps.items.items ≡ x ∷ xs → test ≡ (is_name_parameter (formal_parameter_row h x) && ((length xs == 0) && is_none ps.rest)) → test ≡ is_name_alone (formal_parameters_row h ps)

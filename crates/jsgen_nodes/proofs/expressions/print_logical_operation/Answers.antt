@@ -7,6 +7,7 @@ use Rattle.jsgen_printer.specs.Printer.{pen_of}
 use Rattle.jsgen_printer.proofs.Stops.{stopped, stops_first}
 use Rattle.jsgen_place.specs.Place.{place_of}
 use Rattle.jsgen_nodes.specs.Place.{pen_after}
+use Rattle.jsgen_nodes.proofs.Placed.{laid_as, stops_as, there}
 use Rattle.jsgen_nodes.proofs.Operations.{operation_laid, logical_nowhere, stops_before_sign, stops_at_sign}
 use Rattle.jsgen_nodes.proofs.expressions.print_logical_operation.Goals as goal
 
@@ -19,7 +20,8 @@ returns-in_err-print g c =
     let place = place_of c.args.place (pen_of c.args.p.now) in
     let left = spell a (left_of (unmixed o a (logical_lower_level o)) place) in
     let right = spell b (behind (unmixed o b (logical_level o)) place) in
-    stopped _ c.from_residual.ensures.0 (stops_first left (soft_space ⊕ ((logical_item o) ⊕ (soft_space ⊕ right))) (rw (c.left_operand.ensures, c.unmixed-level.ensures (g.N.PrintNode.plain c.get-left.result.now) c.operand.ensures, c.lower_precedence.ensures, c.get-left.ensures) at c.in_err-print.ensures))
+    let same = ap (λ n. spell (g.N.PrintNode.plain n) (place_of c.left_operand.result (pen_of c.args.p.now))) c.get-left.ensures ∙ there a (pen_of c.args.p.now) (rw (c.unmixed-level.ensures (g.N.PrintNode.plain c.get-left.result.now) c.operand.ensures, c.lower_precedence.ensures, c.get-left.ensures) at c.left_operand.ensures) in
+    stopped _ c.from_residual.ensures.0 (stops_first left (soft_space ⊕ ((logical_item o) ⊕ (soft_space ⊕ right))) (stops_as same c.in_err-print.ensures))
 
 pub returns-in_err-print_soft_space : goal.returns-in_err-print_soft_space
 unfolding pen_after
@@ -30,7 +32,8 @@ returns-in_err-print_soft_space g c =
     let place = place_of c.args.place (pen_of c.args.p.now) in
     let left = spell a (left_of (unmixed o a (logical_lower_level o)) place) in
     let right = spell b (behind (unmixed o b (logical_level o)) place) in
-    stopped _ c.from_residual-in_err-print_soft_space.ensures.0 (stops_before_sign left (logical_item o) right (rw (c.left_operand.ensures, c.unmixed-level.ensures (g.N.PrintNode.plain c.get-left.result.now) c.operand.ensures, c.lower_precedence.ensures, c.get-left.ensures) at c.in_ok-print.ensures) c.in_err-print_soft_space.ensures)
+    let same = ap (λ n. spell (g.N.PrintNode.plain n) (place_of c.left_operand.result (pen_of c.args.p.now))) c.get-left.ensures ∙ there a (pen_of c.args.p.now) (rw (c.unmixed-level.ensures (g.N.PrintNode.plain c.get-left.result.now) c.operand.ensures, c.lower_precedence.ensures, c.get-left.ensures) at c.left_operand.ensures) in
+    stopped _ c.from_residual-in_err-print_soft_space.ensures.0 (stops_before_sign left (logical_item o) right (laid_as (pen_of c.args.p.now) same c.in_ok-print.ensures) c.in_err-print_soft_space.ensures)
 
 pub returns-in_err-print_logical_sign : goal.returns-in_err-print_logical_sign
 unfolding pen_after
@@ -41,7 +44,8 @@ returns-in_err-print_logical_sign g c =
     let place = place_of c.args.place (pen_of c.args.p.now) in
     let left = spell a (left_of (unmixed o a (logical_lower_level o)) place) in
     let right = spell b (behind (unmixed o b (logical_level o)) place) in
-    stopped _ c.from_residual-in_err-print_logical_sign.ensures.0 (stops_at_sign left (logical_item o) right (rw (c.left_operand.ensures, c.unmixed-level.ensures (g.N.PrintNode.plain c.get-left.result.now) c.operand.ensures, c.lower_precedence.ensures, c.get-left.ensures) at c.in_ok-print.ensures) c.in_ok-print_soft_space.ensures c.in_err-print_logical_sign.ensures)
+    let same = ap (λ n. spell (g.N.PrintNode.plain n) (place_of c.left_operand.result (pen_of c.args.p.now))) c.get-left.ensures ∙ there a (pen_of c.args.p.now) (rw (c.unmixed-level.ensures (g.N.PrintNode.plain c.get-left.result.now) c.operand.ensures, c.lower_precedence.ensures, c.get-left.ensures) at c.left_operand.ensures) in
+    stopped _ c.from_residual-in_err-print_logical_sign.ensures.0 (stops_at_sign left (logical_item o) right (laid_as (pen_of c.args.p.now) same c.in_ok-print.ensures) c.in_ok-print_soft_space.ensures c.in_err-print_logical_sign.ensures)
 
 pub print_behind_space-requires : goal.print_behind_space-requires
 unfolding pen_after
@@ -56,4 +60,5 @@ returns g c =
     let place = place_of c.args.place (pen_of c.args.p.now) in
     let left = spell a (left_of (unmixed o a (logical_lower_level o)) place) in
     let here = rw (c.unmixed-level-2.ensures (g.N.PrintNode.plain c.get.result.now) c.operand-right.ensures, c.precedence.ensures, c.get.ensures) at c.child.ensures in
-    operation_laid c.print_behind_space.result left (logical_item o) b (pen_of c.args.p.now) (pen_of c.print.new.p) (pen_of c.print_soft_space.new.self) (pen_of c.print_logical_sign.new.self) (pen_of c.print_behind_space.new.p) here (rw (c.left_operand.ensures, c.unmixed-level.ensures (g.N.PrintNode.plain c.get-left.result.now) c.operand.ensures, c.lower_precedence.ensures, c.get-left.ensures) at c.in_ok-print.ensures) c.in_ok-print_soft_space.ensures c.in_ok-print_logical_sign.ensures c.print_behind_space.ensures
+    let same = ap (λ n. spell (g.N.PrintNode.plain n) (place_of c.left_operand.result (pen_of c.args.p.now))) c.get-left.ensures ∙ there a (pen_of c.args.p.now) (rw (c.unmixed-level.ensures (g.N.PrintNode.plain c.get-left.result.now) c.operand.ensures, c.lower_precedence.ensures, c.get-left.ensures) at c.left_operand.ensures) in
+    operation_laid c.print_behind_space.result left (logical_item o) b (pen_of c.args.p.now) (pen_of c.print.new.p) (pen_of c.print_soft_space.new.self) (pen_of c.print_logical_sign.new.self) (pen_of c.print_behind_space.new.p) here (laid_as (pen_of c.args.p.now) same c.in_ok-print.ensures) c.in_ok-print_soft_space.ensures c.in_ok-print_logical_sign.ensures c.print_behind_space.ensures
