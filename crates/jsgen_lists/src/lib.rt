@@ -21,7 +21,9 @@ pub use heads::{
     print_accessor_word, print_behind_spaced_word, print_behind_word, print_head,
     print_in_parentheses, print_jump,
 };
-pub use maybe::{print_apart, print_caught, print_comma_between, print_if_given, print_value};
+pub use maybe::{
+    print_apart, print_behind_space, print_caught, print_comma_between, print_if_given, print_value,
+};
 pub use members::{PrintMember, print_in_brackets, print_more, print_parts};
 pub use parts::print_loop_parts;
 pub use statements::{PrintStatement, print_body, print_statements, print_whole_body};

@@ -13,6 +13,10 @@ one_string f x (y ∷ ys) = go (length (y ∷ ys) == 0) refl
     go true h = absurd (omega (arith, eqb-true (suc (length ys)) 0 h))
     go false h = rw h refl
 
+pub no_string : {A : Type 0} (f : A → Tree) (xs : List A) → length xs ≡ 0 → false ≡ is_one_string (trees (map f xs))
+no_string f [] h = refl
+no_string f (y ∷ ys) h = absurd (omega arith)
+
 pub no_second : {A : Type 0} (f : A → Tree) (xs : List A) → false ≡ nat_lt 1 (length xs) → false ≡ has_second_string (trees (map f xs))
 no_second f [] h = refl
 no_second f (y ∷ []) h = refl

@@ -1,11 +1,13 @@
 -- Blocks and `if` statements, and where memory runs out in them.
-use Rattle.std.proofs.Common.{◌≡◌, ◌⊎◌, inl, inr, Bool, false, true, Result, refl, ap}
+use Rattle.std.proofs.Common.{◌≡◌, ◌⊎◌, inl, inr, Bool, false, true, Result, Err, refl, ap, subst, ◌∙◌}
 use Rattle.jsgen_tree.specs.Tree.{Tree}
 use Rattle.jsgen_tree.specs.Inside.{ends_open}
 use Rattle.jsgen_model.specs.Items.{Items, ◌⊕◌, indentation, soft_space, body_space}
 use Rattle.jsgen_model.specs.Layout.{Pen, layout}
 use Rattle.jsgen_model.specs.Spell.{Settings, spell, shape, consequent_items, among_or_within, filled_braces, body_end, within_statement, among_statements}
 use Rattle.jsgen_model.specs.Printing.{Stops, Reaches}
+use Rattle.jsgen_lists.specs.Lists.{braces_opened, braces_closed}
+use Rattle.jsgen_lists.proofs.Braced.{stops_in_braces, braces_reach}
 use Rattle.jsgen_nodes.specs.Blocks.{shape_of, consequent_of}
 use Rattle.jsgen_nodes.specs.declared.shapes.BodyShape.{BodyShape}
 use Rattle.jsgen_nodes.specs.declared.shapes.BodyShape.TheVariants as shapes
@@ -16,6 +18,16 @@ use Rattle.jsgen_printer.proofs.Stops.{layout_appends, stops_within, reaches_las
 
 pub stops_in_braced : (items end : Items) {old new : Pen} → Stops (layout soft_space old) new (layout (filled_braces items) (layout soft_space old)) → Stops old new (layout (soft_space ⊕ (filled_braces items ⊕ end)) old)
 stops_in_braced items end {old} s = stops_within s (layout_appends soft_space old) (layout_appends end (layout (soft_space ⊕ filled_braces items) old))
+
+-- the braces' own steps, and in what stands within
+pub stops_between : (items : Items) (old mid new : Pen) → mid ≡ braces_opened old → Stops mid new (layout items mid) → Stops old new (layout (filled_braces items) old)
+stops_between items old mid new e s = stops_in_braces items (subst (λ p. Stops p new (layout items p)) e s)
+
+pub stops_closing : (items : Items) (old inner new : Pen) → inner ≡ layout items (braces_opened old) → Stops inner new (braces_closed old.depth inner) → Stops old new (layout (filled_braces items) old)
+stops_closing items old inner new e s = braces_reach {T = Bool} (Err true) items old inner new e s
+
+pub braces_done : (items : Items) (old inner new : Pen) → inner ≡ layout items (braces_opened old) → new ≡ braces_closed old.depth inner → new ≡ layout (filled_braces items) old
+braces_done items old inner new e h = h ∙ ap (λ p. braces_closed old.depth p) e
 
 -- ---- a consequent that is neither a block nor empty
 

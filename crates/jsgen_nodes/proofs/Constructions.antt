@@ -10,7 +10,7 @@ use Rattle.jsgen_model.specs.Spell as spells
 use Rattle.jsgen_model.specs.Spell.{spell, spell_list, in_brackets, constructed, any_given, needs_arguments, new_arguments}
 use Rattle.jsgen_place.specs.declared.place.Place.{Place}
 use Rattle.jsgen_place.specs.Place.{settings_of, place_of}
-use Rattle.jsgen_nodes.proofs.Operations.{still_nowhere}
+use Rattle.jsgen_lists.proofs.Turns.{still_nowhere}
 
 -- `new`, what it stands before and what that is given
 abbrev pub new_items : Tree → Trees → spells.Place → Items

@@ -1,5 +1,5 @@
 -- What `if`, `else`, loops, labels and cases are followed by, from the steps that print it.
-use Rattle.std.proofs.Common.{◌≡◌, ◌⊎◌, inl, inr, Result, refl, ap, subst, ◌∙◌}
+use Rattle.std.proofs.Common.{◌≡◌, ℕ, ◌⊎◌, inl, inr, Result, refl, ap, subst, ◌∙◌}
 use Rattle.jsgen_tree.specs.Tree.{Tree}
 use Rattle.jsgen_model.specs.Items.{Items, ◌⊕◌, soft_line, body_space, deeper, due_semicolon, indentation}
 use Rattle.jsgen_model.specs.Layout.{Pen, nowhere, layout, unless_printed, not}
@@ -7,6 +7,7 @@ use Rattle.jsgen_model.specs.Spell.{Settings, spell, shape, body_items, do_items
 use Rattle.jsgen_model.specs.Printing.{Stops, Reaches}
 use Rattle.jsgen_place.specs.declared.place.Place.{Place}
 use Rattle.jsgen_place.specs.Place.{place_of}
+use Rattle.jsgen_printer.specs.Printer.{deepened, at_depth}
 use Rattle.jsgen_printer.proofs.Stops.{stops_second}
 use Rattle.jsgen_lists.specs.Lists.{listed}
 use Rattle.jsgen_lists.proofs.Turns.{begun_nowhere, last_reaches, still_nowhere}
@@ -29,6 +30,10 @@ do_other_items s inner whole (inr h) = rw h refl
 
 pub do_is_other : (s : BodyShape) (t : Tree) (settings : Settings) → (s ≡ shapes.If) ⊎ (s ≡ shapes.Other) → shape_of s ≡ shape t → do_body_of t settings ≡ soft_line ⊕ (deeper (spell t (among_statements settings) ⊕ due_semicolon) ⊕ indentation)
 do_is_other s t settings either hs = rw (← hs) (do_other_items s (spell t (within_statement settings)) (spell t (among_statements settings)) either)
+
+-- what stands at the level below, and the level before behind it
+pub deeper_done : (items : Items) (depth : ℕ) (old line opened inner new : Pen) → line ≡ layout soft_line old → depth ≡ line.depth → opened ≡ deepened line → inner ≡ layout items opened → new ≡ at_depth depth inner → new ≡ layout (soft_line ⊕ deeper items) old
+deeper_done items depth old line opened inner new hl hd ho hi hn = rw (hn, hi, ho, hd, hl) refl
 
 -- ---- behind `else`, what is no `if`
 

@@ -1,13 +1,14 @@
 -- Keys of properties, and properties of which none is left out.
 use Rattle.std.proofs.Common.{◌≡◌, ℕ, Bool, true, false, Option, Some, None, List, [], ◌∷◌, map, refl, sym, ap, ◌∙◌, if◌then◌else◌}
+use Rattle.std.specs.Option.{option_map_or}
 use Rattle.std.proofs.lemmas.Bool.{both_ways}
 use Rattle.jsgen_tree.specs.Tree.{Tree, more, holed, trees, type_of}
 use Rattle.jsgen_tree.specs.Nodes as tree
 use Rattle.jsgen_tree.specs.Named.{Named}
 use Rattle.jsgen_tree.specs.Inside.{without_parentheses, is_proto, is_negative, is_negative_number}
-use Rattle.jsgen_model.specs.Items.{Items}
+use Rattle.jsgen_model.specs.Items.{Items, string}
 use Rattle.jsgen_model.specs.Layout.{Pen, layout}
-use Rattle.jsgen_model.specs.Spell.{string_in, alone_if, alone_where_said, by_key, property_items}
+use Rattle.jsgen_model.specs.Spell.{string_in, key_text, alone_if, alone_where_said, by_key, property_items}
 use Rattle.jsgen_nodes.specs.Keys.{is_string, is_number, is_said, is_value_alone}
 
 pub bare_string : (t : Tree) → is_string (type_of t) ≡ true → string_in (without_parentheses t) ≡ string_in t
@@ -17,6 +18,11 @@ bare_string t h = refl
 pub no_string : (t : Tree) → is_string (type_of t) ≡ false → string_in t ≡ None
 no_string (tree.string_literal a) h = absurd (both_ways true h refl)
 no_string t h = refl
+
+-- the text of a key, by the string that it is
+pub key_by_string : (t : Tree) (items : Items) → option_map_or (λ v. string false v) (string_in t) items ≡ key_text t items
+key_by_string (tree.string_literal a) items = refl
+key_by_string t items = refl
 
 pub none_left_out : {A : Type 0} (f : A → Tree) (xs : List A) → holed (map (λ x. Some (f x)) xs) ≡ trees (map f xs)
 none_left_out f [] = refl

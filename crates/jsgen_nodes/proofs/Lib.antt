@@ -9,6 +9,7 @@ pub mod IsNot
 pub mod Keys
 pub mod Accessors
 pub mod Operations
+pub mod Placed
 pub mod Parts
 pub mod Prefixes
 pub mod Chains

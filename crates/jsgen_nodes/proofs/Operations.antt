@@ -1,6 +1,5 @@
 -- Operations, from the steps that print them.
 use Rattle.std.proofs.Common.{◌≡◌, Bool, true, false, Result, refl, ap, subst, ◌∙◌}
-use Rattle.jsgen_syntax.specs.declared.precedence.Precedence.{Precedence}
 use Rattle.jsgen_syntax.specs.Operator.{logical_level, logical_lower_level}
 use Rattle.jsgen_syntax.specs.declared.operator.BinaryOperator.{BinaryOperator}
 use Rattle.jsgen_syntax.specs.declared.operator.BinaryOperator.TheVariants as operators
@@ -9,16 +8,18 @@ use Rattle.jsgen_syntax.specs.declared.operator.LogicalOperator.TheVariants as l
 use Rattle.jsgen_tree.specs.Tree.{Tree}
 use Rattle.jsgen_model.specs.Punctuator.{Round, opening, closing}
 use Rattle.jsgen_model.specs.Items.{Items, ◌⊕◌, soft_space, wrapped}
-use Rattle.jsgen_model.specs.Layout.{Pen, nowhere, layout, written_if, text_if, unless_printed, not}
+use Rattle.jsgen_model.specs.Layout.{Pen, nowhere, layout, written_if, text_if}
 use Rattle.jsgen_model.specs.Spell as spells
 use Rattle.jsgen_model.specs.Spell.{spell, left_of, behind, within, left_level, right_level, unmixed, quoted_plainly}
 use Rattle.jsgen_model.specs.Operators.{operator_item, logical_item}
 use Rattle.jsgen_model.specs.Quotes.{is_export_mark}
 use Rattle.jsgen_place.specs.declared.place.Place.{Place}
-use Rattle.jsgen_place.specs.Place.{settings_of, context_of, place_of, place_within}
+use Rattle.jsgen_place.specs.Place.{place_of, place_within}
 use Rattle.jsgen_model.specs.Printing.{Reaches, IsPrefix, Stops}
+use Rattle.jsgen_lists.specs.Lists.{listed}
+use Rattle.jsgen_lists.proofs.Turns.{last_reaches}
 use Rattle.jsgen_printer.proofs.Prefixes.{whole_prefix, prefix_append, more_prefix}
-use Rattle.jsgen_printer.proofs.Stops.{reaches_last, stops_within, layout_appends, layout_more, appends}
+use Rattle.jsgen_printer.proofs.Stops.{reaches_last, stops_first, stops_second, stops_within, layout_appends, layout_more}
 
 -- nothing begins behind an operator
 pub operator_nowhere : (o : BinaryOperator) (pen : Pen) → (layout (operator_item o) pen).start ≡ nowhere
@@ -29,18 +30,20 @@ pub logical_nowhere : (o : LogicalOperator) (pen : Pen) → (layout (logical_ite
 logical_nowhere logical_operators.Or pen = refl
 logical_nowhere o pen = refl
 
-pub still_nowhere : (printed : Bool) → unless_printed printed nowhere ≡ nowhere
-still_nowhere true = refl
-still_nowhere false = refl
+-- a space, a sign, and a member behind another space
+pub behind_sign : {T E : Type 0} (r : Result T E) (item : Items) (t : Tree) (a b c z : Pen) {p q : Place} → p ≡ q → b ≡ layout soft_space a → c ≡ layout item b → Reaches r c z (layout (soft_space ⊕ spell t (listed p)) c) → Reaches r a z (layout (soft_space ⊕ (item ⊕ (soft_space ⊕ spell t (listed q)))) a)
+behind_sign r item t a b c z {p} {q} e hb hc h = last_reaches r (soft_space ⊕ item) (soft_space ⊕ spell t (listed q)) a c z (hc ∙ ap (λ pen. layout item pen) hb) refl (subst (λ place. Reaches r c z (layout (soft_space ⊕ spell t (listed place)) c)) e h)
 
 -- the operands and the operator between them, one after another
-pub operation_laid : {T E : Type 0} (r : Result T E) (z a b c d e : Pen) (item : Items) (left right : Tree) (place lp rp : Place) (ll rl : Precedence) (lq rq : Bool) → ((pen : Pen) → (layout item pen).start ≡ nowhere) → lp ≡ record { settings = place.settings; level = ll; context = place.context; in_list = false; left_operand = true; plain_quotes = lq } → rp ≡ record { settings = place.settings; level = rl; context = place.context; in_list = false; left_operand = false; plain_quotes = rq } → b ≡ layout (spell left (place_of lp a)) a → c ≡ layout soft_space b → d ≡ layout item c → e ≡ layout soft_space d → Reaches r e z (layout (spell right (place_of rp e)) e) → Reaches r a z (layout (spell left (quoted_plainly lq (left_of ll (place_of place a))) ⊕ (soft_space ⊕ (item ⊕ (soft_space ⊕ spell right (quoted_plainly rq (behind rl (place_of place a))))))) a)
-operation_laid r z a b c d e item left right place lp rp ll rl lq rq none at_left at_right hb hc hd he h =
-    let start : e.start ≡ nowhere = ap (λ p. p.start) he ∙ ap (λ s. unless_printed (not d.style.minified) s) (ap (λ p. p.start) hd ∙ none c) ∙ still_nowhere (not d.style.minified) in
-    let behind_it : place_of rp e ≡ quoted_plainly rq (behind rl (place_of place a)) = ap (λ q. place_of q e) at_right ∙ ap (λ s. record { settings = settings_of place.settings; level = rl; context = context_of place.context; start = s; in_list = false; left_operand = false; plain_quotes = rq }) start in
-    let before : e ≡ layout soft_space (layout item (layout soft_space (layout (spell left (quoted_plainly lq (left_of ll (place_of place a)))) a))) = he ∙ ap (λ p. layout soft_space p) (hd ∙ ap (λ p. layout item p) (hc ∙ ap (λ p. layout soft_space p) (hb ∙ ap (λ q. layout (spell left (place_of q a)) a) at_left))) in
-    let kept : IsPrefix a.code e.code = rw (he, hd, hc, hb) (search appends) in
-    reaches_last r a e z _ _ h kept (ap (λ q. layout (spell right q) e) behind_it ∙ ap (λ p. layout (spell right (quoted_plainly rq (behind rl (place_of place a)))) p) before)
+pub operation_laid : {T E : Type 0} (r : Result T E) (left item : Items) (right : Tree) (a b c d z : Pen) {p q : Place} → p ≡ q → b ≡ layout left a → c ≡ layout soft_space b → d ≡ layout item c → Reaches r d z (layout (soft_space ⊕ spell right (listed p)) d) → Reaches r a z (layout (left ⊕ (soft_space ⊕ (item ⊕ (soft_space ⊕ spell right (listed q))))) a)
+operation_laid r left item right a b c d z {p} {q} e hb hc hd h = last_reaches r left (soft_space ⊕ (item ⊕ (soft_space ⊕ spell right (listed q)))) a b z hb refl (behind_sign r item right b c d z e hc hd h)
+
+-- where memory runs out at the space and at the operator
+pub stops_before_sign : (left item right : Items) {a b z : Pen} → b ≡ layout left a → Stops b z (layout soft_space b) → Stops a z (layout (left ⊕ (soft_space ⊕ (item ⊕ (soft_space ⊕ right)))) a)
+stops_before_sign left item right hb s = stops_second left (soft_space ⊕ (item ⊕ (soft_space ⊕ right))) hb (stops_first soft_space (item ⊕ (soft_space ⊕ right)) s)
+
+pub stops_at_sign : (left item right : Items) {a b c z : Pen} → b ≡ layout left a → c ≡ layout soft_space b → Stops c z (layout item c) → Stops a z (layout (left ⊕ (soft_space ⊕ (item ⊕ (soft_space ⊕ right)))) a)
+stops_at_sign left item right hb hc s = stops_second left (soft_space ⊕ (item ⊕ (soft_space ⊕ right))) hb (stops_second soft_space (item ⊕ (soft_space ⊕ right)) hc (stops_first item (soft_space ⊕ right) s))
 
 within_printed : (test : Bool) (place : Place) (pen : Pen) → place_of (place_within test place) (written_if test (opening Round) pen) ≡ within test (place_of place pen)
 within_printed true place pen = refl

@@ -13,7 +13,7 @@ use Rattle.jsgen_model.specs.Printing.{Reaches, IsPrefix}
 use Rattle.jsgen_place.specs.declared.place.Place.{Place}
 use Rattle.jsgen_place.specs.Place.{settings_of, context_of, place_of}
 use Rattle.jsgen_printer.proofs.Stops.{reaches_last, appends}
-use Rattle.jsgen_nodes.proofs.Operations.{still_nowhere}
+use Rattle.jsgen_lists.proofs.Turns.{still_nowhere}
 
 -- nothing begins behind the operator
 unary_nowhere : (o : UnaryOperator) (pen : Pen) → (layout (behind_unary o) (layout (unary_sign o) pen)).start ≡ nowhere

@@ -14,7 +14,9 @@ ghost use Rattle.jsgen_nodes.specs.Place.{pen_after};
 
 use crate::PrintNode;
 use crate::quotes::is_export;
+use crate::sequences::Expressions;
 use crate::sets::print_assignment_target;
+use jsgen_lists::print_behind_space;
 use jsgen_place::Place;
 use jsgen_printer::Printer;
 use jsgen_syntax::{AssignmentOperator, Memory, Precedence};
@@ -65,6 +67,5 @@ fn print_value<N: PrintNode>(
 {
     p.print_soft_space()?;
     p.print_assignment_sign(operator)?;
-    p.print_soft_space()?;
-    value.get().print(p, place.child(Precedence::Comma))
+    print_behind_space::<_, Expressions>(value, p, place.child(Precedence::Comma))
 }

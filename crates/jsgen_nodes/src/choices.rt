@@ -12,6 +12,8 @@ ghost use Rattle.jsgen_place.specs.Place.{place_of};
 ghost use Rattle.jsgen_nodes.specs.Place.{pen_after};
 
 use crate::PrintNode;
+use crate::sequences::Expressions;
+use jsgen_lists::print_behind_space;
 use jsgen_place::Place;
 use jsgen_printer::Printer;
 use jsgen_syntax::{Memory, Precedence};
@@ -63,8 +65,7 @@ fn print_consequent<N: PrintNode>(
     let within = Place::in_brackets(Precedence::Yield, place.settings);
     p.print_soft_space()?;
     p.print_question()?;
-    p.print_soft_space()?;
-    node.get().print(p, within)
+    print_behind_space::<_, Expressions>(node, p, within)
 }
 
 // What is chosen otherwise, behind `:`.
@@ -79,6 +80,5 @@ fn print_alternate<N: PrintNode>(
 {
     p.print_soft_space()?;
     p.print_colon()?;
-    p.print_soft_space()?;
-    node.get().print(p, place.part(Precedence::Yield))
+    print_behind_space::<_, Expressions>(node, p, place.part(Precedence::Yield))
 }

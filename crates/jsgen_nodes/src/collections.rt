@@ -18,7 +18,10 @@ ghost use Rattle.jsgen_nodes.specs.Place.{pen_after};
 
 use crate::PrintNode;
 use crate::links::print_identifier_name;
-use jsgen_lists::{PrintElement, print_accessor_word, print_array, print_object};
+use crate::sequences::Expressions;
+use jsgen_lists::{
+    PrintElement, print_accessor_word, print_array, print_behind_space, print_object,
+};
 use jsgen_place::{Place, is_alone, needs_brackets};
 use jsgen_printer::{Bracket, Printer};
 use jsgen_syntax::{JsStr, Memory, Precedence};
@@ -354,9 +357,7 @@ fn print_property_value<N: PrintNode>(
 ) -> Result<(), Memory>
     ensures { Reaches result (pen_of p.old) (pen_of p.new) (layout (punctuator colon ⊕ (soft_space ⊕ spell (in_expression N.plain value.now) (in_brackets Comma (place_of place (pen_of p.old))))) (pen_of p.old)) }
 {
+    let within = Place::in_brackets(Precedence::Comma, place.settings);
     p.print_colon()?;
-    p.print_soft_space()?;
-    value
-        .get()
-        .print(p, Place::in_brackets(Precedence::Comma, place.settings))
+    print_behind_space::<_, Expressions>(value, p, within)
 }

@@ -14,6 +14,8 @@ ghost use Rattle.jsgen_nodes.specs.Place.{pen_after};
 
 use crate::PrintNode;
 use crate::quotes::is_mark;
+use crate::sequences::Expressions;
+use jsgen_lists::print_behind_space;
 use jsgen_place::{Place, left_level, right_level, takes_no_dot, unmixed};
 use jsgen_printer::Printer;
 use jsgen_syntax::{GetPrecedence, Memory};
@@ -176,11 +178,9 @@ fn print_binary_operation<N: PrintNode>(
     left.print(p, place.left_operand(level).quoted_plainly(quoted))?;
     p.print_soft_space()?;
     p.print_operator(node.operator)?;
-    p.print_soft_space()?;
-    let right = node.right.get();
-    let quoted = is_mark(place.settings.minified, node.operator, right);
+    let quoted = is_mark(place.settings.minified, node.operator, node.right.get());
     let below = place.child(right_level(node.operator));
-    right.print(p, below.quoted_plainly(quoted))
+    print_behind_space::<_, Expressions>(&node.right, p, below.quoted_plainly(quoted))
 }
 
 #[tactic(auto, unfolding(crate::specs::Place::pen_after))]
@@ -221,8 +221,7 @@ fn print_logical_operation<N: PrintNode>(
     left.print(p, place.left_operand(level))?;
     p.print_soft_space()?;
     p.print_logical_sign(node.operator)?;
-    p.print_soft_space()?;
-    let right = node.right.get();
-    let level = unmixed(node.operator, right.operand(), node.operator.precedence());
-    right.print(p, place.child(level))
+    let right = node.right.get().operand();
+    let level = unmixed(node.operator, right, node.operator.precedence());
+    print_behind_space::<_, Expressions>(&node.right, p, place.child(level))
 }

@@ -12,9 +12,10 @@ ghost use Rattle.jsgen_place.specs.Place.{place_of, settings_of};
 ghost use Rattle.jsgen_nodes.specs.Place.{pen_after};
 
 use crate::PrintNode;
-use crate::blocks::{Blocks, print_block_statement};
+use crate::blocks::Blocks;
 use jsgen_lists::{
-    PrintMember, print_behind_spaced_word, print_behind_word, print_caught, print_if_given,
+    PrintMember, print_behind_space, print_behind_spaced_word, print_behind_word, print_caught,
+    print_if_given,
 };
 use jsgen_place::{Place, Settings};
 use jsgen_printer::Printer;
@@ -92,9 +93,9 @@ pub fn print_catch_clause<N: PrintNode>(
 ) -> Result<(), Memory>
     ensures { Reaches result (pen_of p.old) (pen_of p.new) (pen_after (catch_clause_row N.plain node.now) place p.old) }
 {
+    let within = Place::within_statement(place.settings);
     print_catch(&node.param, p, place)?;
-    p.print_soft_space()?;
-    print_block_statement(&node.body, p, Place::within_statement(place.settings))
+    print_behind_space::<_, Blocks>(&node.body, p, within)
 }
 
 // The word and what stands in the parentheses behind it.

@@ -14,7 +14,7 @@ ghost use Rattle.jsgen_nodes.specs.Place.{pen_after};
 
 use crate::PrintNode;
 use crate::sequences::Expressions;
-use jsgen_lists::{PrintMember, PrintStatement, print_more, print_value, print_whole_body};
+use jsgen_lists::{PrintMember, PrintStatement, print_parts, print_value, print_whole_body};
 use jsgen_place::{Place, Settings};
 use jsgen_printer::Printer;
 use jsgen_syntax::{Memory, Precedence};
@@ -149,13 +149,7 @@ fn print_declarators<N: PrintNode>(
 {
     p.print_word(node.kind.as_str())?;
     p.print_soft_space()?;
-    match node.declarations.split_first() {
-        Some((first, others)) => {
-            print_variable_declarator(first, p, place.child(Precedence::Lowest))?;
-            print_more::<_, Declarators>(others, p, place.child(Precedence::Lowest))
-        }
-        None => Ok(()),
-    }
+    print_parts::<_, Declarators>(&node.declarations, p, place.child(Precedence::Lowest))
 }
 
 /// What a declaration declares.

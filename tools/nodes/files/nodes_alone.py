@@ -1,5 +1,5 @@
 """The crate of print functions: src/alone.rt and the files of its folder, where each type and set is printed by itself, or at a
-level, which is said by its name; and the answers of statements that have children, which a search finds too late."""
+level, which is said by its name; and the answers of those that have children, which a search finds too late."""
 
 import layout
 from files.nodes_sets import CRATE, chosen, printed, print_functions
@@ -26,6 +26,12 @@ PLACES = {"by_itself": "Place::by_itself(settings, context)", "as_member": "Plac
           "as_statement": "Place::among_statements(settings)"}
 
 
+CALLS = {"by_itself": "by_itself", "as_member": "in_brackets", "as_statement": "among_statements"}
+
+# What is printed by itself otherwise than it is spelled; and what has no children but a label.
+OTHERWISE, LABELLED = ("Program", "PropertyKey", "FormalParameters"), ("ContinueStatement", "BreakStatement")
+
+
 def at_level(name):
     return name in LEVELLED or name.endswith(ENDING) and name not in BUT
 
@@ -44,18 +50,55 @@ def write(table):
     for name, types in files.items():
         given[f"crates/jsgen_nodes/src/alone/{name}.rt"] = of_file(table, [t for t in types if t not in NEVER])
         for t in types:
-            if t in table.nodes and t.endswith(STATEMENTS) and table.generic(t):
-                given[f"crates/jsgen_nodes/proofs/alone/{name}/{t}PrintAlone/print_alone/Answers.antt"] = answers(name, t)
+            if has_answers(table, t):
+                given[f"crates/jsgen_nodes/proofs/alone/{name}/{t}PrintAlone/print_alone/Answers.antt"] = answers(table, name, t)
     return given
 
 
-def answers(file, name):
-    """A statement is printed by itself as it stands among statements."""
+# ---- answers
+
+def has_answers(table, name):
+    """What has children is given its answers; nothing of what is printed at a level, or otherwise than as it is spelled."""
+    return not at_level(name) and name not in NEVER + OTHERWISE and (table.generic(name) or name in LABELLED)
+
+
+def answers(table, file, name):
+    """It is printed by itself as it is at its place."""
     home = f"Rattle.jsgen_nodes.proofs.alone.{file}.{name}PrintAlone.print_alone.Goals"
-    line = "pub returns : goal.returns\nunfolding pen_after\n"
-    line += f"returns g c = rw c.among_statements.ensures at c.print_{snake(name)}.ensures"
-    homes = [("Rattle.jsgen_nodes.specs.Place", ["pen_after"])]
-    return layout.antt("A statement is printed by itself as it stands among statements.", homes, [(home, "goal")], line)
+    called, given = CALLS[place(name)], "g c" if table.generic(name) else "c"
+    if not is_chosen_here(table, name):
+        each = [answer("returns", given, printed_there(f"print_{snake(name)}", f"{row(table, name)} c.args.self.now", called))]
+    else:
+        each = [answer(f"returns-in-{m}", given, member(table, m, at, called)) for at, m in enumerate(table.sets[name].members)]
+    homes = row_names(table) + [("Rattle.jsgen_printer.specs.Printer", ["pen_of"]), ("Rattle.jsgen_nodes.specs.Place", ["pen_after"]),
+                                ("Rattle.jsgen_nodes.proofs.Placed", ["reaches_as", "there"])]
+    return layout.antt("It is printed by itself as it is at its place.", homes, [(home, "goal")], "\n\n".join(each))
+
+
+def answer(goal, given, term):
+    return f"pub {goal} : goal.{goal}\nunfolding pen_after\n{goal} {given} = {term}"
+
+
+def printed_there(function, tree, called):
+    there = f"there ({tree}) (pen_of c.args.p.now) c.{called}.ensures"
+    return f"reaches_as c.{function}.result (pen_of c.args.p.now) (pen_of c.{function}.new.p) ({there}) c.{function}.ensures"
+
+
+def member(table, m, at, called):
+    deref = "deref" if at == 0 else f"deref-in-{m}"
+    if m in table.sets:
+        return f"rw c.in-{m}.is (rw (c.get.ensures, c.{deref}.ensures, c.{called}-place.ensures) at c.print.ensures)"
+    there = printed_there(f"print_{snake(m)}", f"{row(table, m)} c.{deref}.result.now", f"{called}-place")
+    return f"rw (c.in-{m}.is, ← c.{deref}.ensures) ({there})"
+
+
+def row(table, name):
+    return plain(table, name).replace("N.plain", "g.N.PrintNode.plain")
+
+
+def is_chosen_here(table, name):
+    """Whether the member of a set is chosen where it is printed by itself, and not in src/sets.rt."""
+    return name in table.sets and not table.sets[name].nests and table.sets[name] not in chosen(table)
 
 
 def of_file(table, types):
@@ -117,7 +160,7 @@ def body(table, name, at):
         return "print_program(self, p, settings)"
     if name == "PropertyKey":
         return f"print_key_text(self, p, {at})"
-    if name in table.nodes or table.sets[name].nests or table.sets[name] in chosen(table):
+    if not is_chosen_here(table, name):
         return f"print_{snake(name)}(self, p, {at})"
     arms = "".join(f"            {name}::{m}(node) => {printed(table, m)},\n" for m in table.sets[name].members)
     binding = "" if at == "place" else f"let place = {at};\n        "

@@ -32,6 +32,8 @@ def write(table):
     for s in divided(table):
         for at in range(len(parts(table, s))):
             files[f"crates/jsgen_nodes/proofs/sets/{function_name(table, s, at)}/Answers.antt"] = answers(table, s, at)
+    for s in chosen(table):
+        files[f"crates/jsgen_nodes/proofs/sets/print_{snake(s.name)}/Answers.antt"] = choice_answers(table, s)
     return files
 
 
@@ -154,7 +156,30 @@ def lemma(table, s, at):
 def answers(table, s, at):
     every, name = parts(table, s), function_name(table, s, at)
     facts = " ".join((["c.requires"] if at else []) + [f"c.in_default.not-{m}" for m in every[at][1]])
-    goal = f"{function_name(table, s, at + 1)}-requires" if at + 1 < len(every) else "unreachable-requires"
-    line = f"pub {goal} : goal.{goal}\n{goal} g c = {snake(s.name)}_past_{at} c.args.node.now {facts}"
+    each, given = members_answers(table, s, every[at][1]), "g c" if table.generic(s.name) else "c"
+    if at + 1 < len(every):
+        goal, later = f"{function_name(table, s, at + 1)}-requires", function_name(table, s, at + 1)
+        each.append(f"pub returns-in_default : goal.returns-in_default\nreturns-in_default {given} = c.{later}.ensures")
+    else:
+        goal = "unreachable-requires"
+    each.append(f"pub {goal} : goal.{goal}\n{goal} {given} = {snake(s.name)}_past_{at} c.args.node.now {facts}")
     homes = [(f"{PROOFS}.Parts", [f"{snake(s.name)}_past_{at}"])]
-    return layout.antt("What this part doesn't print is in a later one.", homes, [(f"{PROOFS}.sets.{name}.Goals", "goal")], line)
+    about = "What this part prints is printed as it is elsewhere, and what it doesn't is in a later one."
+    return layout.antt(about, homes, [(f"{PROOFS}.sets.{name}.Goals", "goal")], "\n\n".join(each))
+
+
+def choice_answers(table, s):
+    about, home = "What it prints is printed as it is elsewhere.", f"{PROOFS}.sets.print_{snake(s.name)}.Goals"
+    homes = [("Rattle.jsgen_nodes.specs.Place", ["pen_after"])]
+    return layout.antt(about, homes, [(home, "goal")], "\n\n".join(members_answers(table, s, s.members)))
+
+
+def members_answers(table, s, members):
+    """An answer a member; the last of a part by itself has no name of its own."""
+    each, given = [], "g c" if table.generic(s.name) else "c"
+    for m in members:
+        deref = "deref" if m == members[0] else f"deref-in-{m}"
+        goal = "returns" if members == s.members[-1:] else f"returns-in-{m}"
+        called = f"(c.get.ensures, c.{deref}.ensures) at c.print" if m in table.sets else f"c.{deref}.ensures at c.print_{snake(m)}"
+        each.append(f"pub {goal} : goal.{goal}\n{goal} {given} = rw c.in-{m}.is (rw {called}.ensures)")
+    return each

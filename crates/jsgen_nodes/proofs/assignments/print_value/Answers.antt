@@ -1,6 +1,10 @@
+use Rattle.std.proofs.Common.{ap, ◌∙◌}
+use Rattle.jsgen_tree.specs.Rows.{in_expression}
+use Rattle.jsgen_model.specs.Operators.{assignment_item}
+use Rattle.jsgen_nodes.proofs.Given.{sign_nowhere}
 use Rattle.jsgen_printer.specs.Printer.{pen_of}
 use Rattle.jsgen_nodes.specs.Place.{pen_after}
-use Rattle.jsgen_nodes.proofs.Given.{value_laid}
+use Rattle.jsgen_nodes.proofs.Operations.{behind_sign}
 use Rattle.jsgen_printer.proofs.Stops.{appends, stopped, stops_within}
 use Rattle.jsgen_nodes.proofs.assignments.print_value.Goals as goal
 
@@ -12,12 +16,10 @@ pub returns-in_err-print_assignment_sign : goal.returns-in_err-print_assignment_
 unfolding pen_after
 returns-in_err-print_assignment_sign g c = stopped _ c.from_residual-in_err-print_assignment_sign.ensures.0 (stops_within (rw c.in_ok-print_soft_space.ensures at c.in_err-print_assignment_sign.ensures) (search appends) (search appends))
 
-pub returns-in_err-print_soft_space-2 : goal.returns-in_err-print_soft_space-2
+pub print_behind_space-requires : goal.print_behind_space-requires
 unfolding pen_after
-returns-in_err-print_soft_space-2 g c = stopped _ c.from_residual-in_err-print_soft_space-2.ensures.0 (stops_within (rw (c.in_ok-print_assignment_sign.ensures, c.in_ok-print_soft_space.ensures) at c.in_err-print_soft_space-2.ensures) (search appends) (search appends))
+print_behind_space-requires g c = ap (λ p. p.start) c.in_ok-print_assignment_sign.ensures ∙ sign_nowhere c.args.operator (pen_of c.print_soft_space.new.self)
 
 pub returns : goal.returns
 unfolding pen_after
-returns g c =
-    value_laid c.print.result (pen_of c.print.new.p) (pen_of c.args.p.now) _ _ (pen_of c.print_soft_space-2.new.self) c.args.operator (g.N.PrintNode.plain c.args.value.now.node) c.args.place c.child.result c.child.ensures
-    c.in_ok-print_soft_space.ensures c.in_ok-print_assignment_sign.ensures c.in_ok-print_soft_space-2.ensures (rw c.get.ensures at c.print.ensures)
+returns g c = behind_sign c.print_behind_space.result (assignment_item c.args.operator) (in_expression g.N.PrintNode.plain c.args.value.now) (pen_of c.args.p.now) (pen_of c.print_soft_space.new.self) (pen_of c.print_assignment_sign.new.self) (pen_of c.print_behind_space.new.p) c.child.ensures c.in_ok-print_soft_space.ensures c.in_ok-print_assignment_sign.ensures c.print_behind_space.ensures

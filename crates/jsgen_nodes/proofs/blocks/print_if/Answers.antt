@@ -12,6 +12,7 @@ use Rattle.jsgen_place.specs.Place.{settings_of}
 use Rattle.jsgen_lists.proofs.Turns.{last_reaches}
 use Rattle.jsgen_nodes.specs.Place.{pen_after}
 use Rattle.jsgen_nodes.specs.Blocks.{consequent_of}
+use Rattle.jsgen_nodes.proofs.Placed.{laid_as, stops_as, head_there}
 use Rattle.jsgen_nodes.proofs.blocks.print_if.Goals as goal
 
 pub print_consequent-requires : goal.print_consequent-requires
@@ -27,7 +28,7 @@ returns-in_err-print_head g c =
     let alternate = optional (option_map (in_statement plain) c.args.node.now.alternate) in
     let consequent = consequent_of (in_statement plain c.args.node.now.consequent) settings (is_given alternate) in
     let last = spell_alternate alternate settings in
-    stopped _ c.from_residual.ensures.0 (stops_first head (consequent ⊕ last) (rw c.in_brackets-within.ensures at c.in_err-print_head.ensures))
+    stopped _ c.from_residual.ensures.0 (stops_first head (consequent ⊕ last) (stops_as (head_there (codes "if") (in_expression plain c.args.node.now.test) c.in_brackets-within.ensures) c.in_err-print_head.ensures))
 
 pub returns-in_err-print_consequent : goal.returns-in_err-print_consequent
 unfolding pen_after
@@ -38,7 +39,7 @@ returns-in_err-print_consequent g c =
     let alternate = optional (option_map (in_statement plain) c.args.node.now.alternate) in
     let consequent = consequent_of (in_statement plain c.args.node.now.consequent) settings (is_given alternate) in
     let last = spell_alternate alternate settings in
-    stopped _ c.from_residual-in_err-print_consequent.ensures.0 (stops_second head (consequent ⊕ last) (rw c.in_brackets-within.ensures at c.in_ok-print_head.ensures) (stops_first consequent last (rw (c.get.ensures, c.has_alternate.ensures) at c.in_err-print_consequent.ensures)))
+    stopped _ c.from_residual-in_err-print_consequent.ensures.0 (stops_second head (consequent ⊕ last) (laid_as (pen_of c.args.p.now) (head_there (codes "if") (in_expression plain c.args.node.now.test) c.in_brackets-within.ensures) c.in_ok-print_head.ensures) (stops_first consequent last (stops_as (ap (λ n. consequent_of (plain n) settings c.has_alternate.result) c.get.ensures ∙ ap (λ given. consequent_of (in_statement plain c.args.node.now.consequent) settings given) c.has_alternate.ensures) c.in_err-print_consequent.ensures)))
 
 pub returns : goal.returns
 unfolding pen_after
@@ -49,4 +50,4 @@ returns g c =
     let alternate = optional (option_map (in_statement plain) c.args.node.now.alternate) in
     let consequent = consequent_of (in_statement plain c.args.node.now.consequent) settings (is_given alternate) in
     let last = spell_alternate alternate settings in
-    last_reaches c.print_alternate.result (head ⊕ consequent) last (pen_of c.args.p.now) (pen_of c.print_consequent.new.p) (pen_of c.print_alternate.new.p) ((rw (c.get.ensures, c.has_alternate.ensures) at c.in_ok-print_consequent.ensures) ∙ ap (λ p. layout consequent p) (rw c.in_brackets-within.ensures at c.in_ok-print_head.ensures)) refl c.print_alternate.ensures
+    last_reaches c.print_alternate.result (head ⊕ consequent) last (pen_of c.args.p.now) (pen_of c.print_consequent.new.p) (pen_of c.print_alternate.new.p) (laid_as (pen_of c.print_head.new.p) (ap (λ n. consequent_of (plain n) settings c.has_alternate.result) c.get.ensures ∙ ap (λ given. consequent_of (in_statement plain c.args.node.now.consequent) settings given) c.has_alternate.ensures) c.in_ok-print_consequent.ensures ∙ ap (λ p. layout consequent p) (laid_as (pen_of c.args.p.now) (head_there (codes "if") (in_expression plain c.args.node.now.test) c.in_brackets-within.ensures) c.in_ok-print_head.ensures)) refl c.print_alternate.ensures

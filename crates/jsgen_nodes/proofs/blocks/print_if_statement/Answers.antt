@@ -10,3 +10,7 @@ returns-in_err-print_indentation g c = stopped _ c.from_residual.ensures.0 (stop
 pub returns-in_ok-print_indentation : goal.returns-in_ok-print_indentation
 unfolding pen_after
 returns-in_ok-print_indentation g c = among_laid _ _ _ _ _ _ c.if-place.true c.in_ok-print_indentation.ensures c.print_if.ensures
+
+pub returns-else-place : goal.returns-else-place
+unfolding pen_after
+returns-else-place g c = rw c.if-place.false c.print_if-else-place.ensures

@@ -7,7 +7,7 @@ use Rattle.jsgen_place.specs.Place.{settings_of}
 use Rattle.jsgen_lists.proofs.Turns.{last_reaches}
 use Rattle.jsgen_lists.proofs.Deeper.{stops_at_level, stops_deeper}
 use Rattle.jsgen_nodes.specs.Place.{pen_after}
-use Rattle.jsgen_nodes.proofs.Followed.{still_begun}
+use Rattle.jsgen_nodes.proofs.Followed.{still_begun, deeper_done}
 use Rattle.jsgen_nodes.proofs.bodies.print_deeper_body.Goals as goal
 
 pub print_ended-requires : goal.print_ended-requires
@@ -37,4 +37,4 @@ unfolding pen_after
 returns g c =
     let items = spell (g.N.PrintNode.plain c.args.body.now) (among_statements (settings_of c.args.settings)) ⊕ due_semicolon in
     let before = pen_of c.args.p.now in
-    last_reaches c.print_indentation.result (soft_line ⊕ deeper items) indentation before (pen_of c.set_depth.new.self) (pen_of c.print_indentation.new.self) (rw (c.in_ok-print_ended.ensures, c.in_ok-depth.ensures.level, c.in_ok-depth.ensures.pen, c.in_ok-print_soft_line.ensures) at c.set_depth.ensures) refl c.print_indentation.ensures
+    last_reaches c.print_indentation.result (soft_line ⊕ deeper items) indentation before (pen_of c.set_depth.new.self) (pen_of c.print_indentation.new.self) (deeper_done items _ before (pen_of c.print_soft_line.new.self) _ (pen_of c.print_ended.new.p) (pen_of c.set_depth.new.self) c.in_ok-print_soft_line.ensures c.in_ok-depth.ensures.level c.in_ok-depth.ensures.pen c.in_ok-print_ended.ensures c.set_depth.ensures) refl c.print_indentation.ensures

@@ -11,6 +11,7 @@ use Rattle.jsgen_printer.proofs.Stops.{stopped, stops_first, stops_second}
 use Rattle.jsgen_place.specs.Place.{settings_of}
 use Rattle.jsgen_lists.proofs.Turns.{last_reaches}
 use Rattle.jsgen_nodes.specs.Place.{pen_after}
+use Rattle.jsgen_nodes.proofs.Placed.{laid_as, stops_as, head_there}
 use Rattle.jsgen_nodes.proofs.cases.print_switch_statement.Goals as goal
 
 pub returns-in_err-print_indentation : goal.returns-in_err-print_indentation
@@ -31,7 +32,7 @@ returns-in_err-print_head g c =
     let head = word (codes "switch") ⊕ (soft_space ⊕ brackets Round (spell (in_expression plain c.args.node.now.discriminant) (in_brackets Lowest (among_statements settings)))) in
     let rows = trees (map (switch_case_row plain) c.args.node.now.cases.items) in
     let cases = soft_space ⊕ (braces rows (spell_statements rows settings) ⊕ soft_line) in
-    stopped _ c.from_residual-in_err-print_head.ensures.0 (stops_second indentation (head ⊕ cases) c.in_ok-print_indentation.ensures (stops_first head cases (rw c.in_brackets-within.ensures at c.in_err-print_head.ensures)))
+    stopped _ c.from_residual-in_err-print_head.ensures.0 (stops_second indentation (head ⊕ cases) c.in_ok-print_indentation.ensures (stops_first head cases (stops_as (head_there (codes "switch") (in_expression plain c.args.node.now.discriminant) c.in_brackets-within.ensures) c.in_err-print_head.ensures)))
 
 pub returns : goal.returns
 unfolding pen_after
@@ -41,4 +42,4 @@ returns g c =
     let head = word (codes "switch") ⊕ (soft_space ⊕ brackets Round (spell (in_expression plain c.args.node.now.discriminant) (in_brackets Lowest (among_statements settings)))) in
     let rows = trees (map (switch_case_row plain) c.args.node.now.cases.items) in
     let cases = soft_space ⊕ (braces rows (spell_statements rows settings) ⊕ soft_line) in
-    last_reaches c.print_cases.result (indentation ⊕ head) cases (pen_of c.args.p.now) (pen_of c.print_head.new.p) (pen_of c.print_cases.new.p) ((rw c.in_brackets-within.ensures at c.in_ok-print_head.ensures) ∙ ap (λ p. layout head p) c.in_ok-print_indentation.ensures) refl (rw c.deref.ensures.value at c.print_cases.ensures)
+    last_reaches c.print_cases.result (indentation ⊕ head) cases (pen_of c.args.p.now) (pen_of c.print_head.new.p) (pen_of c.print_cases.new.p) (laid_as (pen_of c.print_indentation.new.self) (head_there (codes "switch") (in_expression plain c.args.node.now.discriminant) c.in_brackets-within.ensures) c.in_ok-print_head.ensures ∙ ap (λ p. layout head p) c.in_ok-print_indentation.ensures) refl (rw c.deref.ensures.value at c.print_cases.ensures)

@@ -1,10 +1,10 @@
-use Rattle.jsgen_syntax.specs.declared.precedence.Precedence.TheVariants.{Yield}
+use Rattle.std.proofs.Common.{ap}
+use Rattle.jsgen_tree.specs.Rows.{in_expression}
+use Rattle.jsgen_model.specs.Items.{punctuator}
 use Rattle.jsgen_model.specs.Punctuator.{colon}
-use Rattle.jsgen_model.specs.Spell.{behind, with_calls}
-use Rattle.jsgen_place.specs.Place.{place_of}
 use Rattle.jsgen_printer.specs.Printer.{pen_of}
 use Rattle.jsgen_nodes.specs.Place.{pen_after}
-use Rattle.jsgen_nodes.proofs.Conditionals.{behind_sign, part_behind}
+use Rattle.jsgen_nodes.proofs.Operations.{behind_sign}
 use Rattle.jsgen_printer.proofs.Stops.{appends, stopped, stops_within}
 use Rattle.jsgen_nodes.proofs.choices.print_alternate.Goals as goal
 
@@ -16,13 +16,10 @@ pub returns-in_err-print_colon : goal.returns-in_err-print_colon
 unfolding pen_after
 returns-in_err-print_colon g c = stopped _ c.from_residual-in_err-print_colon.ensures.0 (stops_within (rw c.in_ok-print_soft_space.ensures at c.in_err-print_colon.ensures) (search appends) (search appends))
 
-pub returns-in_err-print_soft_space-2 : goal.returns-in_err-print_soft_space-2
+pub print_behind_space-requires : goal.print_behind_space-requires
 unfolding pen_after
-returns-in_err-print_soft_space-2 g c = stopped _ c.from_residual-in_err-print_soft_space-2.ensures.0 (stops_within (rw (c.in_ok-print_colon.ensures, c.in_ok-print_soft_space.ensures) at c.in_err-print_soft_space-2.ensures) (search appends) (search appends))
+print_behind_space-requires g c = ap (λ p. p.start) c.in_ok-print_colon.ensures
 
 pub returns : goal.returns
 unfolding pen_after
-returns g c =
-    let before = pen_of c.args.p.now in
-    behind_sign c.print.result (pen_of c.print.new.p) before _ _ (pen_of c.print_soft_space-2.new.self) colon (g.N.PrintNode.plain c.args.node.now.node) c.part.result (with_calls (behind Yield (place_of c.args.place before))) (λ pen e. part_behind Yield c.args.place c.part.result before pen c.part.ensures e)
-    c.in_ok-print_soft_space.ensures c.in_ok-print_colon.ensures c.in_ok-print_soft_space-2.ensures (rw c.get.ensures at c.print.ensures)
+returns g c = behind_sign c.print_behind_space.result (punctuator colon) (in_expression g.N.PrintNode.plain c.args.node.now) (pen_of c.args.p.now) (pen_of c.print_soft_space.new.self) (pen_of c.print_colon.new.self) (pen_of c.print_behind_space.new.p) c.part.ensures c.in_ok-print_soft_space.ensures c.in_ok-print_colon.ensures c.print_behind_space.ensures

@@ -1,4 +1,4 @@
-use Rattle.std.proofs.Common.{option_map, refl}
+use Rattle.std.proofs.Common.{ap, option_map, refl}
 use Rattle.jsgen_tree.specs.Tree.{optional}
 use Rattle.jsgen_tree.specs.Rows.{formal_parameters_row, function_body_row}
 use Rattle.jsgen_model.specs.Punctuator.{Round}
@@ -28,3 +28,7 @@ returns g c =
     let params = brackets Round (spell (formal_parameters_row plain c.args.node.now.params.value) (function_parameters (place_of c.args.place before))) in
     let body = spell_apart (optional (option_map (λ b. function_body_row plain b.value) c.args.node.now.body)) (within_statement (settings_of c.args.place.settings)) in
     last_reaches c.print_apart.result params body before (pen_of c.print_parameters_in_brackets.new.p) (pen_of c.print_apart.new.p) (rw (c.deref.ensures, c.function_parameters.ensures) at c.in_ok-print_parameters_in_brackets.ensures) refl (rw c.within_statement-within.ensures at c.print_apart.ensures)
+
+pub print_apart-requires : goal.print_apart-requires
+unfolding pen_after
+print_apart-requires g c = ap (λ p. p.start) c.in_ok-print_parameters_in_brackets.ensures

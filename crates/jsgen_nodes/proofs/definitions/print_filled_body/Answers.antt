@@ -6,7 +6,8 @@ use Rattle.jsgen_model.specs.Spell.{spell_directives, spell_body}
 use Rattle.jsgen_printer.specs.Printer.{pen_of}
 use Rattle.jsgen_printer.proofs.Stops.{stopped}
 use Rattle.jsgen_place.specs.Place.{settings_of}
-use Rattle.jsgen_lists.proofs.Braced.{stops_opening, stops_in_braces, braces_reach}
+use Rattle.jsgen_lists.proofs.Braced.{stops_opening, braces_reach}
+use Rattle.jsgen_nodes.proofs.BlockStops.{stops_between}
 use Rattle.jsgen_nodes.proofs.definitions.print_filled_body.Goals as goal
 
 pub returns-in_err-depth : goal.returns-in_err-depth
@@ -19,7 +20,7 @@ pub returns-in_err-print_within_braces : goal.returns-in_err-print_within_braces
 returns-in_err-print_within_braces g c =
     let settings = settings_of c.args.settings in
     let items = spell_directives (trees (map directive_row c.args.node.now.directives.items)) settings ⊕ spell_body (trees (map (in_statement g.N.PrintNode.plain) c.args.node.now.statements.items)) settings in
-    stopped _ c.from_residual-in_err-print_within_braces.ensures.0 (stops_in_braces items (rw c.in_ok-depth.ensures.pen at c.in_err-print_within_braces.ensures))
+    stopped _ c.from_residual-in_err-print_within_braces.ensures.0 (stops_between items (pen_of c.args.p.now) (pen_of c.open_braces.new.p) (pen_of c.print_within_braces.new.p) c.in_ok-depth.ensures.pen c.in_err-print_within_braces.ensures)
 
 pub returns : goal.returns
 returns g c =

@@ -1,11 +1,15 @@
-use Rattle.std.proofs.Common.{subst}
+use Rattle.std.proofs.Common.{subst, ap, ◌∙◌}
+use Rattle.jsgen_syntax.specs.declared.precedence.Precedence.TheVariants.{Comma}
 use Rattle.jsgen_tree.specs.Rows.{variable_declaration_row, static_member_expression_row, computed_member_expression_row}
 use Rattle.jsgen_model.specs.Layout.{layout}
-use Rattle.jsgen_model.specs.Spell.{spell}
+use Rattle.jsgen_model.specs.Spell.{spell, in_brackets, among_statements}
 use Rattle.jsgen_model.specs.Printing.{Reaches}
 use Rattle.jsgen_printer.specs.Printer.{pen_of}
+use Rattle.jsgen_place.specs.Place.{settings_of}
+use Rattle.jsgen_lists.specs.Lists.{listed}
 use Rattle.jsgen_lists.proofs.Turns.{begun_nowhere}
 use Rattle.jsgen_nodes.specs.Place.{pen_after}
+use Rattle.jsgen_nodes.proofs.Placed.{reaches_as}
 use Rattle.jsgen_nodes.proofs.iterations.print_left.Goals as goal
 
 pub returns-in-VariableDeclaration : goal.returns-in-VariableDeclaration
@@ -24,14 +28,14 @@ pub returns-in-StaticMemberExpression : goal.returns-in-StaticMemberExpression
 unfolding pen_after
 returns-in-StaticMemberExpression g c =
     let before = pen_of c.args.p.now in
-    let there = begun_nowhere c.in_brackets-target.result before c.requires in
-    let row = static_member_expression_row g.N.PrintNode.plain c.deref-in-StaticMemberExpression.result.now in
-    rw c.in-StaticMemberExpression.is (rw (c.in_brackets-target.ensures, c.deref-in-StaticMemberExpression.ensures) at (subst (λ q. Reaches c.print_static_member_expression.result before (pen_of c.print_static_member_expression.new.p) (layout (spell row q) before)) there c.print_static_member_expression.ensures))
+    let row = static_member_expression_row g.N.PrintNode.plain in
+    let here = begun_nowhere c.in_brackets-target.result before c.requires ∙ ap (λ q. listed q) c.in_brackets-target.ensures in
+    rw c.in-StaticMemberExpression.is (reaches_as c.print_static_member_expression.result before (pen_of c.print_static_member_expression.new.p) (ap (λ q. spell (row c.deref-in-StaticMemberExpression.result.now) q) here ∙ ap (λ n. spell (row n) (in_brackets Comma (among_statements (settings_of c.args.settings)))) c.deref-in-StaticMemberExpression.ensures) c.print_static_member_expression.ensures)
 
 pub returns-in-ComputedMemberExpression : goal.returns-in-ComputedMemberExpression
 unfolding pen_after
 returns-in-ComputedMemberExpression g c =
     let before = pen_of c.args.p.now in
-    let there = begun_nowhere c.in_brackets-target.result before c.requires in
-    let row = computed_member_expression_row g.N.PrintNode.plain c.deref-in-ComputedMemberExpression.result.now in
-    rw c.in-ComputedMemberExpression.is (rw (c.in_brackets-target.ensures, c.deref-in-ComputedMemberExpression.ensures) at (subst (λ q. Reaches c.print_computed_member_expression.result before (pen_of c.print_computed_member_expression.new.p) (layout (spell row q) before)) there c.print_computed_member_expression.ensures))
+    let row = computed_member_expression_row g.N.PrintNode.plain in
+    let here = begun_nowhere c.in_brackets-target.result before c.requires ∙ ap (λ q. listed q) c.in_brackets-target.ensures in
+    rw c.in-ComputedMemberExpression.is (reaches_as c.print_computed_member_expression.result before (pen_of c.print_computed_member_expression.new.p) (ap (λ q. spell (row c.deref-in-ComputedMemberExpression.result.now) q) here ∙ ap (λ n. spell (row n) (in_brackets Comma (among_statements (settings_of c.args.settings)))) c.deref-in-ComputedMemberExpression.ensures) c.print_computed_member_expression.ensures)

@@ -9,6 +9,7 @@ use Rattle.jsgen_printer.proofs.Stops.{stopped, stops_first}
 use Rattle.jsgen_place.specs.Place.{settings_of}
 use Rattle.jsgen_lists.proofs.Turns.{last_reaches}
 use Rattle.jsgen_nodes.specs.Place.{pen_after}
+use Rattle.jsgen_nodes.proofs.Placed.{laid_as, stops_as, head_there}
 use Rattle.jsgen_nodes.proofs.loops.print_behind_do.Goals as goal
 
 pub returns-in_err-print_head : goal.returns-in_err-print_head
@@ -17,7 +18,7 @@ returns-in_err-print_head g c =
     let plain = g.N.PrintNode.plain in
     let settings = settings_of c.args.settings in
     let head = word (codes "while") ⊕ (soft_space ⊕ brackets Round (spell (in_expression plain c.args.test.now) (in_brackets Lowest (among_statements settings)))) in
-    stopped _ c.from_residual.ensures.0 (stops_first head statement_end (rw c.in_brackets-within.ensures at c.in_err-print_head.ensures))
+    stopped _ c.from_residual.ensures.0 (stops_first head statement_end (stops_as (head_there (codes "while") (in_expression plain c.args.test.now) c.in_brackets-within.ensures) c.in_err-print_head.ensures))
 
 pub returns : goal.returns
 unfolding pen_after
@@ -25,4 +26,4 @@ returns g c =
     let plain = g.N.PrintNode.plain in
     let settings = settings_of c.args.settings in
     let head = word (codes "while") ⊕ (soft_space ⊕ brackets Round (spell (in_expression plain c.args.test.now) (in_brackets Lowest (among_statements settings)))) in
-    last_reaches c.print_statement_end.result head statement_end (pen_of c.args.p.now) (pen_of c.print_head.new.p) (pen_of c.print_statement_end.new.self) (rw c.in_brackets-within.ensures at c.in_ok-print_head.ensures) refl c.print_statement_end.ensures
+    last_reaches c.print_statement_end.result head statement_end (pen_of c.args.p.now) (pen_of c.print_head.new.p) (pen_of c.print_statement_end.new.self) (laid_as (pen_of c.args.p.now) (head_there (codes "while") (in_expression plain c.args.test.now) c.in_brackets-within.ensures) c.in_ok-print_head.ensures) refl c.print_statement_end.ensures

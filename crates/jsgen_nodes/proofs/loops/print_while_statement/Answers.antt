@@ -11,6 +11,7 @@ use Rattle.jsgen_place.specs.Place.{settings_of}
 use Rattle.jsgen_lists.proofs.Turns.{last_reaches}
 use Rattle.jsgen_nodes.specs.Place.{pen_after}
 use Rattle.jsgen_nodes.specs.Blocks.{body_of}
+use Rattle.jsgen_nodes.proofs.Placed.{laid_as, stops_as, head_there}
 use Rattle.jsgen_nodes.proofs.loops.print_while_statement.Goals as goal
 
 pub print_body-requires : goal.print_body-requires
@@ -33,7 +34,7 @@ returns-in_err-print_head g c =
     let settings = settings_of c.args.place.settings in
     let head = word (codes "while") ⊕ (soft_space ⊕ brackets Round (spell (in_expression plain c.args.node.now.test) (in_brackets Lowest (among_statements settings)))) in
     let body = body_of (plain c.args.node.now.body.node) settings in
-    stopped _ c.from_residual-in_err-print_head.ensures.0 (stops_second indentation (head ⊕ body) c.in_ok-print_indentation.ensures (stops_first head body (rw c.in_brackets-within.ensures at c.in_err-print_head.ensures)))
+    stopped _ c.from_residual-in_err-print_head.ensures.0 (stops_second indentation (head ⊕ body) c.in_ok-print_indentation.ensures (stops_first head body (stops_as (head_there (codes "while") (in_expression plain c.args.node.now.test) c.in_brackets-within.ensures) c.in_err-print_head.ensures)))
 
 pub returns : goal.returns
 unfolding pen_after
@@ -42,4 +43,4 @@ returns g c =
     let settings = settings_of c.args.place.settings in
     let head = word (codes "while") ⊕ (soft_space ⊕ brackets Round (spell (in_expression plain c.args.node.now.test) (in_brackets Lowest (among_statements settings)))) in
     let body = body_of (plain c.args.node.now.body.node) settings in
-    last_reaches c.print_body.result (indentation ⊕ head) body (pen_of c.args.p.now) (pen_of c.print_head.new.p) (pen_of c.print_body.new.p) ((rw c.in_brackets-within.ensures at c.in_ok-print_head.ensures) ∙ ap (λ p. layout head p) c.in_ok-print_indentation.ensures) refl (rw c.get.ensures at c.print_body.ensures)
+    last_reaches c.print_body.result (indentation ⊕ head) body (pen_of c.args.p.now) (pen_of c.print_head.new.p) (pen_of c.print_body.new.p) (laid_as (pen_of c.print_indentation.new.self) (head_there (codes "while") (in_expression plain c.args.node.now.test) c.in_brackets-within.ensures) c.in_ok-print_head.ensures ∙ ap (λ p. layout head p) c.in_ok-print_indentation.ensures) refl (rw c.get.ensures at c.print_body.ensures)

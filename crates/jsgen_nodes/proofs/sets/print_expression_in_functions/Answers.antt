@@ -1,7 +1,13 @@
 -- Generated from tools/nodes/table.txt; edit that and run tools/nodes/generate.
--- What this part doesn't print is in a later one.
+-- What this part prints is printed as it is elsewhere, and what it doesn't is in a later one.
 use Rattle.jsgen_nodes.proofs.Parts.{expression_past_4}
 use Rattle.jsgen_nodes.proofs.sets.print_expression_in_functions.Goals as goal
+
+pub returns-in-Function : goal.returns-in-Function
+returns-in-Function g c = rw c.in-Function.is (rw c.deref.ensures at c.print_function.ensures)
+
+pub returns-in-ArrowFunctionExpression : goal.returns-in-ArrowFunctionExpression
+returns-in-ArrowFunctionExpression g c = rw c.in-ArrowFunctionExpression.is (rw c.deref-in-ArrowFunctionExpression.ensures at c.print_arrow_function_expression.ensures)
 
 pub unreachable-requires : goal.unreachable-requires
 unreachable-requires g c = expression_past_4 c.args.node.now c.requires c.in_default.not-Function c.in_default.not-ArrowFunctionExpression

@@ -32,3 +32,7 @@ returns-in_ok-print_declarators g c =
     let place = behind Lowest (place_of c.args.place (pen_of c.args.p.now)) in
     let declarators = word (declaration_word c.args.node.now.kind) ⊕ (soft_space ⊕ spell_list (trees (map (variable_declarator_row g.N.PrintNode.plain) c.args.node.now.declarations.items)) place) in
     rw c.if-place.true (last_reaches c.print_statement_end.result (indentation ⊕ declarators) statement_end (pen_of c.args.p.now) (pen_of c.print_declarators.new.p) (pen_of c.print_statement_end.new.self) (rw c.in_ok-print_indentation.ensures at c.in_ok-print_declarators.ensures) refl c.print_statement_end.ensures)
+
+pub returns-else-place : goal.returns-else-place
+unfolding pen_after
+returns-else-place g c = rw c.if-place.false c.print_declarators-else-place.ensures

@@ -1,0 +1,12 @@
+-- Generated from tools/nodes/table.txt; edit that and run tools/nodes/generate.
+-- What it prints is printed as it is elsewhere.
+use Rattle.jsgen_nodes.proofs.sets.print_simple_assignment_target.Goals as goal
+
+pub returns-in-IdentifierReference : goal.returns-in-IdentifierReference
+returns-in-IdentifierReference g c = rw c.in-IdentifierReference.is (rw c.deref.ensures at c.print_identifier_reference.ensures)
+
+pub returns-in-StaticMemberExpression : goal.returns-in-StaticMemberExpression
+returns-in-StaticMemberExpression g c = rw c.in-StaticMemberExpression.is (rw c.deref-in-StaticMemberExpression.ensures at c.print_static_member_expression.ensures)
+
+pub returns-in-ComputedMemberExpression : goal.returns-in-ComputedMemberExpression
+returns-in-ComputedMemberExpression g c = rw c.in-ComputedMemberExpression.is (rw c.deref-in-ComputedMemberExpression.ensures at c.print_computed_member_expression.ensures)
