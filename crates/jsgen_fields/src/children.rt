@@ -50,7 +50,7 @@ fn take_child<R: Typed + Drop>(
     }
 }
 
-pub fn take_as<N: PlainNode + Drop, R: RowOf<N> + Drop, C: Child<N> + Drop>(
+pub fn take_as<N: PlainNode, R: RowOf<N> + Drop, C: Child<N>>(
     alloc: Global,
     kept: &mut Vec<Kept<R>>,
     at: At,
@@ -66,7 +66,7 @@ pub fn take_as<N: PlainNode + Drop, R: RowOf<N> + Drop, C: Child<N> + Drop>(
     }
 }
 
-pub fn take_all<N: PlainNode + Drop, R: RowOf<N> + Drop, C: Child<N> + Drop>(
+pub fn take_all<N: PlainNode, R: RowOf<N> + Drop, C: Child<N> + Drop>(
     alloc: Global,
     kept: &mut Vec<Kept<R>>,
     at: At,
@@ -86,7 +86,7 @@ pub fn take_all<N: PlainNode + Drop, R: RowOf<N> + Drop, C: Child<N> + Drop>(
 // ---- lists with holes
 
 // Null is a hole.
-fn take_or_hole<N: PlainNode + Drop, R: RowOf<N> + Drop, C: Child<N> + Drop>(
+fn take_or_hole<N: PlainNode, R: RowOf<N> + Drop, C: Child<N>>(
     alloc: Global,
     kept: &mut Vec<Kept<R>>,
     at: At,
@@ -102,7 +102,7 @@ fn take_or_hole<N: PlainNode + Drop, R: RowOf<N> + Drop, C: Child<N> + Drop>(
     Ok(Some(child))
 }
 
-pub fn take_all_or_holes<N: PlainNode + Drop, R: RowOf<N> + Drop, C: Child<N> + Drop>(
+pub fn take_all_or_holes<N: PlainNode, R: RowOf<N> + Drop, C: Child<N> + Drop>(
     alloc: Global,
     kept: &mut Vec<Kept<R>>,
     at: At,

@@ -17,7 +17,7 @@ use serde_json::Value;
 use std::alloc::Global;
 
 #[tactic(auto, unfolding(crate::specs::Reads::read_children))]
-pub fn needed_child<N: PlainNode + Drop, R: RowOf<N> + Drop, C: Child<N> + Drop>(
+pub fn needed_child<N: PlainNode, R: RowOf<N> + Drop, C: Child<N>>(
     alloc: Global,
     kept: &mut Vec<Kept<R>>,
     number: usize,
@@ -34,7 +34,7 @@ pub fn needed_child<N: PlainNode + Drop, R: RowOf<N> + Drop, C: Child<N> + Drop>
 }
 
 #[tactic(auto, unfolding(crate::specs::Reads::read_children))]
-pub fn optional_child<N: PlainNode + Drop, R: RowOf<N> + Drop, C: Child<N> + Drop>(
+pub fn optional_child<N: PlainNode, R: RowOf<N> + Drop, C: Child<N>>(
     alloc: Global,
     kept: &mut Vec<Kept<R>>,
     number: usize,
@@ -55,7 +55,7 @@ pub fn optional_child<N: PlainNode + Drop, R: RowOf<N> + Drop, C: Child<N> + Dro
 
 /// A list that is empty where it is absent.
 #[tactic(auto, unfolding(crate::specs::Reads::read_children))]
-pub fn children<N: PlainNode + Drop, R: RowOf<N> + Drop, C: Child<N> + Drop>(
+pub fn children<N: PlainNode, R: RowOf<N> + Drop, C: Child<N> + Drop>(
     alloc: Global,
     kept: &mut Vec<Kept<R>>,
     number: usize,
@@ -76,7 +76,7 @@ pub fn children<N: PlainNode + Drop, R: RowOf<N> + Drop, C: Child<N> + Drop>(
 
 /// A list with a hole at each null, empty where it is absent.
 #[tactic(auto, unfolding(crate::specs::Reads::read_children))]
-pub fn children_or_holes<N: PlainNode + Drop, R: RowOf<N> + Drop, C: Child<N> + Drop>(
+pub fn children_or_holes<N: PlainNode, R: RowOf<N> + Drop, C: Child<N> + Drop>(
     alloc: Global,
     kept: &mut Vec<Kept<R>>,
     number: usize,
