@@ -54,8 +54,3 @@ pub handed_on : {T V : Type 0} (plain : T → V) (r : Result T InputFault) (e : 
     → IsErr r × IsErrAnd r (λ x. x ≡ e) → ((e ≡ Memory → ⊥) → meant ≡ Err e) → Same plain r meant
 handed_on plain (Ok x) e meant h told = cc h.0
 handed_on plain (Err x) e meant h told = λ other. told (λ is_memory. other (h.1 ∙ is_memory)) ∙ ap Err (sym h.1)
-
-pub handed_on_by : {T V : Type 0} (plain : T → V) (r : Result T InputFault) (kept : List Entry) (e : InputFault) (read : Read V)
-    → IsErr r × IsErrAnd r (λ x. x ≡ e) → ((e ≡ Memory → ⊥) → read ≡ Err e) → Gives plain r kept read
-handed_on_by plain (Ok x) kept e read h told = cc h.0
-handed_on_by plain (Err x) kept e read h told = λ other. told (λ is_memory. other (h.1 ∙ is_memory)) ∙ ap Err (sym h.1)

@@ -42,11 +42,13 @@ fn take_child<R: Typed + Drop>(
     ensures reads { Gives R.plain result (entries R.plain kept.new.items) (take_child at set (view value.now) (entries R.plain kept.old.items)) }
     ensures fits { IfOk result (λ r. true ≡ in_set set (type_of (R.plain r))) }
 {
-    let number = number_in(at, value)?;
-    match take(kept, set, number) {
-        Ok(row) => Ok(row),
-        Err(TakeFault::Absent) => Err(InputFault::Child(at)),
-        Err(TakeFault::Taken(index)) => Err(InputFault::Shared(index)),
+    match number_in(at, value) {
+        Ok(number) => match take(kept, set, number) {
+            Ok(row) => Ok(row),
+            Err(TakeFault::Absent) => Err(InputFault::Child(at)),
+            Err(TakeFault::Taken(index)) => Err(InputFault::Shared(index)),
+        },
+        Err(fault) => Err(fault),
     }
 }
 
@@ -98,8 +100,10 @@ fn take_or_hole<N: PlainNode, R: RowOf<N> + Drop, C: Child<N>>(
     if value.is_null() {
         return Ok(None);
     }
-    let child = take_as::<N, R, C>(alloc, kept, at, value)?;
-    Ok(Some(child))
+    match take_as::<N, R, C>(alloc, kept, at, value) {
+        Ok(child) => Ok(Some(child)),
+        Err(fault) => Err(fault),
+    }
 }
 
 pub fn take_all_or_holes<N: PlainNode, R: RowOf<N> + Drop, C: Child<N> + Drop>(

@@ -90,8 +90,10 @@ pub fn neither_given(
     ensures { Same (λ u. u) result (after (not_given (at number field) (value_under name.now (view row.now)))
         (λ given. not_given (at number (suc field)) (value_under other.now (view row.now)))) }
 {
-    not_given(At::of_row(number, usize::from(field)), row, name)?;
-    not_given(At::of_row(number, usize::from(field) + 1), row, other)
+    match not_given(At::of_row(number, usize::from(field)), row, name) {
+        Ok(()) => not_given(At::of_row(number, usize::from(field) + 1), row, other),
+        Err(fault) => Err(fault),
+    }
 }
 
 pub fn text_in(at: At, value: &Value) -> Result<&str, InputFault>
@@ -161,10 +163,12 @@ fn digits_in(at: At, value: &Value) -> Result<u128, InputFault>
     if let Some(number) = value.as_u64() {
         return Ok(u128::from(number));
     }
-    let text = text_in(at, value)?;
-    match decimal_number(text) {
-        Some(number) => Ok(number),
-        None => Err(InputFault::Wrong(at)),
+    match text_in(at, value) {
+        Ok(text) => match decimal_number(text) {
+            Some(number) => Ok(number),
+            None => Err(InputFault::Wrong(at)),
+        },
+        Err(fault) => Err(fault),
     }
 }
 
