@@ -1,4 +1,4 @@
-"""Proofs of the families of rows: the answers of a row's function, which name what its calls ensure, one after another."""
+"""Proofs of the families of rows: the answers of a row's function, which name what its calls ensure, field by field."""
 
 import re
 
