@@ -41,7 +41,7 @@ impl<N: PlainNode + Drop> Child<N> for Comment {
 
     #[tactic(auto, using(crate::proofs::Sets::takes_comments))]
     fn from_row(alloc: Global, row: Row<N>) -> Result<Option<Comment>, AllocError>
-        ensures { IfOk result (λ child. option_map (λ n. comment_row n) child
+        ensures { IfOk result (λ child. option_map comment_row child
             ≡ (if in_set sets.Comment (type_of (row_plain N.plain row)) then Some (row_plain N.plain row) else None)) }
     {
         let _ = alloc;
@@ -66,7 +66,7 @@ impl<N: PlainNode + Drop> Child<N> for Directive {
 
     #[tactic(auto, using(crate::proofs::Sets::takes_directives))]
     fn from_row(alloc: Global, row: Row<N>) -> Result<Option<Directive>, AllocError>
-        ensures { IfOk result (λ child. option_map (λ n. directive_row n) child
+        ensures { IfOk result (λ child. option_map directive_row child
             ≡ (if in_set sets.Directive (type_of (row_plain N.plain row)) then Some (row_plain N.plain row) else None)) }
     {
         let _ = alloc;
@@ -91,7 +91,7 @@ impl<N: HoldsDeclaration + HoldsStatement + Drop> Child<N> for StatementNode<N> 
 
     #[tactic(auto, using(crate::proofs::Sets::takes_statements))]
     fn from_row(alloc: Global, row: Row<N>) -> Result<Option<StatementNode<N>>, AllocError>
-        ensures { IfOk result (λ child. option_map (λ n. in_statement N.plain n) child
+        ensures { IfOk result (λ child. option_map (in_statement N.plain) child
             ≡ (if in_set sets.Statement (type_of (row_plain N.plain row)) then Some (row_plain N.plain row) else None)) }
     {
         match row {
@@ -123,7 +123,7 @@ impl<N: PlainNode + Drop> Child<N> for VariableDeclarator<N> {
 
     #[tactic(auto, using(crate::proofs::Sets::takes_variable_declarators))]
     fn from_row(alloc: Global, row: Row<N>) -> Result<Option<VariableDeclarator<N>>, AllocError>
-        ensures { IfOk result (λ child. option_map (λ n. variable_declarator_row N.plain n) child
+        ensures { IfOk result (λ child. option_map (variable_declarator_row N.plain) child
             ≡ (if in_set sets.VariableDeclarator (type_of (row_plain N.plain row)) then Some (row_plain N.plain row) else None)) }
     {
         let _ = alloc;
@@ -148,7 +148,7 @@ impl<N: HoldsBindingPattern + Drop> Child<N> for BindingPatternNode<N> {
 
     #[tactic(auto, using(crate::proofs::Sets::takes_binding_patterns))]
     fn from_row(alloc: Global, row: Row<N>) -> Result<Option<BindingPatternNode<N>>, AllocError>
-        ensures { IfOk result (λ child. option_map (λ n. in_binding_pattern N.plain n) child
+        ensures { IfOk result (λ child. option_map (in_binding_pattern N.plain) child
             ≡ (if in_set sets.BindingPattern (type_of (row_plain N.plain row)) then Some (row_plain N.plain row) else None)) }
     {
         let _ = alloc;
@@ -173,7 +173,7 @@ impl<N: HoldsExpression + Drop> Child<N> for ExpressionNode<N> {
 
     #[tactic(auto, using(crate::proofs::Sets::takes_expressions))]
     fn from_row(alloc: Global, row: Row<N>) -> Result<Option<ExpressionNode<N>>, AllocError>
-        ensures { IfOk result (λ child. option_map (λ n. in_expression N.plain n) child
+        ensures { IfOk result (λ child. option_map (in_expression N.plain) child
             ≡ (if in_set sets.Expression (type_of (row_plain N.plain row)) then Some (row_plain N.plain row) else None)) }
     {
         let _ = alloc;
@@ -199,7 +199,7 @@ impl<N: PlainNode + Drop> Child<N> for Box<IdentifierName> {
 
     #[tactic(auto, using(crate::proofs::Sets::takes_identifier_names))]
     fn from_row(alloc: Global, row: Row<N>) -> Result<Option<Box<IdentifierName>>, AllocError>
-        ensures { IfOk result (λ child. option_map (λ n. identifier_name_row n.value) child
+        ensures { IfOk result (λ child. option_map (λ b. identifier_name_row b.value) child
             ≡ (if in_set sets.IdentifierName (type_of (row_plain N.plain row)) then Some (row_plain N.plain row) else None)) }
     {
         let _ = alloc;
@@ -224,7 +224,7 @@ impl<N: HoldsExpression + Drop> Child<N> for Argument<N> {
 
     #[tactic(auto, using(crate::proofs::Sets::takes_arguments))]
     fn from_row(alloc: Global, row: Row<N>) -> Result<Option<Argument<N>>, AllocError>
-        ensures { IfOk result (λ child. option_map (λ n. in_argument N.plain n) child
+        ensures { IfOk result (λ child. option_map (in_argument N.plain) child
             ≡ (if in_set sets.Argument (type_of (row_plain N.plain row)) then Some (row_plain N.plain row) else None)) }
     {
         match row {
@@ -256,7 +256,7 @@ impl<N: PlainNode + Drop> Child<N> for ChainElement<N> {
 
     #[tactic(auto, using(crate::proofs::Sets::takes_chain_elements))]
     fn from_row(alloc: Global, row: Row<N>) -> Result<Option<ChainElement<N>>, AllocError>
-        ensures { IfOk result (λ child. option_map (λ n. in_chain_element N.plain n) child
+        ensures { IfOk result (λ child. option_map (in_chain_element N.plain) child
             ≡ (if in_set sets.ChainElement (type_of (row_plain N.plain row)) then Some (row_plain N.plain row) else None)) }
     {
         let _ = alloc;
@@ -281,7 +281,7 @@ impl<N: HoldsExpression + Drop> Child<N> for ArrayExpressionElement<N> {
 
     #[tactic(auto, using(crate::proofs::Sets::takes_array_expression_elements))]
     fn from_row(alloc: Global, row: Row<N>) -> Result<Option<ArrayExpressionElement<N>>, AllocError>
-        ensures { IfOk result (λ child. option_map (λ n. in_array_expression_element N.plain n) child
+        ensures { IfOk result (λ child. option_map (in_array_expression_element N.plain) child
             ≡ (if in_set sets.ArrayExpressionElement (type_of (row_plain N.plain row)) then Some (row_plain N.plain row) else None)) }
     {
         match row {
@@ -313,7 +313,7 @@ impl<N: HoldsExpression + Drop> Child<N> for PropertyKey<N> {
 
     #[tactic(auto, using(crate::proofs::Sets::takes_property_keys))]
     fn from_row(alloc: Global, row: Row<N>) -> Result<Option<PropertyKey<N>>, AllocError>
-        ensures { IfOk result (λ child. option_map (λ n. in_property_key N.plain n) child
+        ensures { IfOk result (λ child. option_map (in_property_key N.plain) child
             ≡ (if in_set sets.PropertyKey (type_of (row_plain N.plain row)) then Some (row_plain N.plain row) else None)) }
     {
         match row {
@@ -345,7 +345,7 @@ impl<N: PlainNode + Drop> Child<N> for ObjectPropertyKind<N> {
 
     #[tactic(auto, using(crate::proofs::Sets::takes_object_property_kinds))]
     fn from_row(alloc: Global, row: Row<N>) -> Result<Option<ObjectPropertyKind<N>>, AllocError>
-        ensures { IfOk result (λ child. option_map (λ n. in_object_property_kind N.plain n) child
+        ensures { IfOk result (λ child. option_map (in_object_property_kind N.plain) child
             ≡ (if in_set sets.ObjectPropertyKind (type_of (row_plain N.plain row)) then Some (row_plain N.plain row) else None)) }
     {
         let _ = alloc;
@@ -371,7 +371,7 @@ impl<N: PlainNode + Drop> Child<N> for SimpleAssignmentTarget<N> {
 
     #[tactic(auto, using(crate::proofs::Sets::takes_simple_assignment_targets))]
     fn from_row(alloc: Global, row: Row<N>) -> Result<Option<SimpleAssignmentTarget<N>>, AllocError>
-        ensures { IfOk result (λ child. option_map (λ n. in_simple_assignment_target N.plain n) child
+        ensures { IfOk result (λ child. option_map (in_simple_assignment_target N.plain) child
             ≡ (if in_set sets.SimpleAssignmentTarget (type_of (row_plain N.plain row)) then Some (row_plain N.plain row) else None)) }
     {
         let _ = alloc;
@@ -398,7 +398,7 @@ impl<N: PlainNode + Drop> Child<N> for AssignmentTarget<N> {
 
     #[tactic(auto, using(crate::proofs::Sets::takes_assignment_targets))]
     fn from_row(alloc: Global, row: Row<N>) -> Result<Option<AssignmentTarget<N>>, AllocError>
-        ensures { IfOk result (λ child. option_map (λ n. in_assignment_target N.plain n) child
+        ensures { IfOk result (λ child. option_map (in_assignment_target N.plain) child
             ≡ (if in_set sets.AssignmentTarget (type_of (row_plain N.plain row)) then Some (row_plain N.plain row) else None)) }
     {
         let _ = alloc;
@@ -423,7 +423,7 @@ impl<N: PlainNode + Drop> Child<N> for FormalParameter<N> {
 
     #[tactic(auto, using(crate::proofs::Sets::takes_formal_parameters))]
     fn from_row(alloc: Global, row: Row<N>) -> Result<Option<FormalParameter<N>>, AllocError>
-        ensures { IfOk result (λ child. option_map (λ n. formal_parameter_row N.plain n) child
+        ensures { IfOk result (λ child. option_map (formal_parameter_row N.plain) child
             ≡ (if in_set sets.FormalParameter (type_of (row_plain N.plain row)) then Some (row_plain N.plain row) else None)) }
     {
         let _ = alloc;
@@ -451,7 +451,7 @@ impl<N: PlainNode + Drop> Child<N> for Box<FormalParameterRest<N>> {
         alloc: Global,
         row: Row<N>,
     ) -> Result<Option<Box<FormalParameterRest<N>>>, AllocError>
-        ensures { IfOk result (λ child. option_map (λ n. formal_parameter_rest_row N.plain n.value) child
+        ensures { IfOk result (λ child. option_map (λ b. formal_parameter_rest_row N.plain b.value) child
             ≡ (if in_set sets.FormalParameterRest (type_of (row_plain N.plain row)) then Some (row_plain N.plain row) else None)) }
     {
         let _ = alloc;
@@ -476,7 +476,7 @@ impl<N: PlainNode + Drop> Child<N> for Box<BindingIdentifier> {
 
     #[tactic(auto, using(crate::proofs::Sets::takes_binding_identifiers))]
     fn from_row(alloc: Global, row: Row<N>) -> Result<Option<Box<BindingIdentifier>>, AllocError>
-        ensures { IfOk result (λ child. option_map (λ n. binding_identifier_row n.value) child
+        ensures { IfOk result (λ child. option_map (λ b. binding_identifier_row b.value) child
             ≡ (if in_set sets.BindingIdentifier (type_of (row_plain N.plain row)) then Some (row_plain N.plain row) else None)) }
     {
         let _ = alloc;
@@ -503,7 +503,7 @@ impl<N: PlainNode + Drop> Child<N> for Box<FormalParameters<N>> {
 
     #[tactic(auto, using(crate::proofs::Sets::takes_formal_parameterss))]
     fn from_row(alloc: Global, row: Row<N>) -> Result<Option<Box<FormalParameters<N>>>, AllocError>
-        ensures { IfOk result (λ child. option_map (λ n. formal_parameters_row N.plain n.value) child
+        ensures { IfOk result (λ child. option_map (λ b. formal_parameters_row N.plain b.value) child
             ≡ (if in_set sets.FormalParameters (type_of (row_plain N.plain row)) then Some (row_plain N.plain row) else None)) }
     {
         let _ = alloc;
@@ -528,7 +528,7 @@ impl<N: PlainNode + Drop> Child<N> for Box<FunctionBody<N>> {
 
     #[tactic(auto, using(crate::proofs::Sets::takes_function_bodys))]
     fn from_row(alloc: Global, row: Row<N>) -> Result<Option<Box<FunctionBody<N>>>, AllocError>
-        ensures { IfOk result (λ child. option_map (λ n. function_body_row N.plain n.value) child
+        ensures { IfOk result (λ child. option_map (λ b. function_body_row N.plain b.value) child
             ≡ (if in_set sets.FunctionBody (type_of (row_plain N.plain row)) then Some (row_plain N.plain row) else None)) }
     {
         let _ = alloc;
@@ -553,7 +553,7 @@ impl<N: HoldsExpression + Drop> Child<N> for ArrowFunctionBody<N> {
 
     #[tactic(auto, using(crate::proofs::Sets::takes_arrow_function_bodys))]
     fn from_row(alloc: Global, row: Row<N>) -> Result<Option<ArrowFunctionBody<N>>, AllocError>
-        ensures { IfOk result (λ child. option_map (λ n. in_arrow_function_body N.plain n) child
+        ensures { IfOk result (λ child. option_map (in_arrow_function_body N.plain) child
             ≡ (if in_set sets.ArrowFunctionBody (type_of (row_plain N.plain row)) then Some (row_plain N.plain row) else None)) }
     {
         match row {
@@ -585,7 +585,7 @@ impl<N: HoldsExpression + Drop> Child<N> for ForStatementInit<N> {
 
     #[tactic(auto, using(crate::proofs::Sets::takes_for_statement_inits))]
     fn from_row(alloc: Global, row: Row<N>) -> Result<Option<ForStatementInit<N>>, AllocError>
-        ensures { IfOk result (λ child. option_map (λ n. in_for_statement_init N.plain n) child
+        ensures { IfOk result (λ child. option_map (in_for_statement_init N.plain) child
             ≡ (if in_set sets.ForStatementInit (type_of (row_plain N.plain row)) then Some (row_plain N.plain row) else None)) }
     {
         match row {
@@ -617,7 +617,7 @@ impl<N: PlainNode + Drop> Child<N> for ForStatementLeft<N> {
 
     #[tactic(auto, using(crate::proofs::Sets::takes_for_statement_lefts))]
     fn from_row(alloc: Global, row: Row<N>) -> Result<Option<ForStatementLeft<N>>, AllocError>
-        ensures { IfOk result (λ child. option_map (λ n. in_for_statement_left N.plain n) child
+        ensures { IfOk result (λ child. option_map (in_for_statement_left N.plain) child
             ≡ (if in_set sets.ForStatementLeft (type_of (row_plain N.plain row)) then Some (row_plain N.plain row) else None)) }
     {
         let _ = alloc;
@@ -643,7 +643,7 @@ impl<N: PlainNode + Drop> Child<N> for Box<LabelIdentifier> {
 
     #[tactic(auto, using(crate::proofs::Sets::takes_label_identifiers))]
     fn from_row(alloc: Global, row: Row<N>) -> Result<Option<Box<LabelIdentifier>>, AllocError>
-        ensures { IfOk result (λ child. option_map (λ n. label_identifier_row n.value) child
+        ensures { IfOk result (λ child. option_map (λ b. label_identifier_row b.value) child
             ≡ (if in_set sets.LabelIdentifier (type_of (row_plain N.plain row)) then Some (row_plain N.plain row) else None)) }
     {
         let _ = alloc;
@@ -668,7 +668,7 @@ impl<N: PlainNode + Drop> Child<N> for SwitchCase<N> {
 
     #[tactic(auto, using(crate::proofs::Sets::takes_switch_cases))]
     fn from_row(alloc: Global, row: Row<N>) -> Result<Option<SwitchCase<N>>, AllocError>
-        ensures { IfOk result (λ child. option_map (λ n. switch_case_row N.plain n) child
+        ensures { IfOk result (λ child. option_map (switch_case_row N.plain) child
             ≡ (if in_set sets.SwitchCase (type_of (row_plain N.plain row)) then Some (row_plain N.plain row) else None)) }
     {
         let _ = alloc;
@@ -693,7 +693,7 @@ impl<N: PlainNode + Drop> Child<N> for Box<BlockStatement<N>> {
 
     #[tactic(auto, using(crate::proofs::Sets::takes_block_statements))]
     fn from_row(alloc: Global, row: Row<N>) -> Result<Option<Box<BlockStatement<N>>>, AllocError>
-        ensures { IfOk result (λ child. option_map (λ n. block_statement_row N.plain n.value) child
+        ensures { IfOk result (λ child. option_map (λ b. block_statement_row N.plain b.value) child
             ≡ (if in_set sets.BlockStatement (type_of (row_plain N.plain row)) then Some (row_plain N.plain row) else None)) }
     {
         let _ = alloc;
@@ -718,7 +718,7 @@ impl<N: PlainNode + Drop> Child<N> for Box<CatchClause<N>> {
 
     #[tactic(auto, using(crate::proofs::Sets::takes_catch_clauses))]
     fn from_row(alloc: Global, row: Row<N>) -> Result<Option<Box<CatchClause<N>>>, AllocError>
-        ensures { IfOk result (λ child. option_map (λ n. catch_clause_row N.plain n.value) child
+        ensures { IfOk result (λ child. option_map (λ b. catch_clause_row N.plain b.value) child
             ≡ (if in_set sets.CatchClause (type_of (row_plain N.plain row)) then Some (row_plain N.plain row) else None)) }
     {
         let _ = alloc;

@@ -41,11 +41,6 @@ def child_plain(table, name, boxed):
     return f"(λ b. {row}{takes} b.value)" if boxed else f"({row}{takes})" if takes else row
 
 
-def own_plain(table, name, boxed):
-    """The same as the impl has it; a clause that has it in other words is compared with the trait's by a search."""
-    return f"λ n. {plain_at(table, name, boxed, 'n')}"
-
-
 def plain_at(table, name, boxed, child):
     row, takes = plain_of(table, name)
     return f"{row}{' N.plain' if takes else ''} {child}{'.value' if boxed else ''}"
@@ -98,7 +93,7 @@ def members(table):
 
 
 def contract(table, name, boxed, row):
-    return CHILD.format(plain=f"({own_plain(table, name, boxed)})", set=name, row=f"(row_plain N.plain {row})")
+    return CHILD.format(plain=child_plain(table, name, boxed), set=name, row=f"(row_plain N.plain {row})")
 
 
 def asked_of_node(table, *code):
@@ -117,7 +112,7 @@ def impl(table, name, boxed):
     of, arms = child_type(table, name, boxed), made(table, name, boxed)
     unused = "" if "alloc" in arms else "        let _ = alloc;\n"
     return f"""impl<N: {asked_of_node(table, arms)} + Drop> Child<N> for {of} {{
-    ghost plain = {{ {own_plain(table, name, boxed)} }};
+    ghost plain = {{ λ n. {plain_at(table, name, boxed, "n")} }};
 
     ghost of_set = {{ sets.{name} }};
 
