@@ -1,8 +1,10 @@
 -- What the steps of a row's function give.
-use Rattle.std.proofs.Common.{◌≡◌, List, Result, Ok, Err, refl, ap}
+use Rattle.std.proofs.Common.{◌≡◌, ◌∙◌, List, Result, Ok, Err, refl, sym, ap}
 use Rattle.std.specs.Prelude.{⊤}
+use Rattle.std.specs.Result.{IsErr, IsErrAnd}
 use Rattle.jsgen_pool.specs.Pool.{Entry}
 use Rattle.jsgen_fields.specs.declared.InputFault.{InputFault}
+use Rattle.jsgen_fields.specs.declared.InputFault.TheVariants.{Memory}
 use Rattle.jsgen_fields.specs.Values.{Same}
 use Rattle.jsgen_fields.specs.Reads.{Gives, Read}
 use Rattle.jsgen_fields.specs.Values.{after}
@@ -16,6 +18,12 @@ first_of_two (Err f) y e = cc
 pub second_of_two : {u : ⊤} (x y : Result ⊤ InputFault) → after x (λ nothing. y) ≡ Ok u → y ≡ Ok tt
 second_of_two (Ok v) y e = e
 second_of_two (Err f) y e = cc
+
+-- what is so where the first is refused, and where the second is, is so where one of them is
+pub refused_of_two : {A : Type 0} {e : InputFault} (x y : Result ⊤ InputFault) → after x (λ nothing. y) ≡ Err e
+    → (x ≡ Err e → A) → (x ≡ Ok tt → y ≡ Err e → A) → A
+refused_of_two (Ok v) y h first second = second refl h
+refused_of_two (Err f) y h first second = first h
 
 -- ---- the last step
 
@@ -39,3 +47,10 @@ gives_node plain made kept row n m e h = cc
 pub gives_holding : {T X V : Type 0} (plain : T → X) (hold : X → V) (r : Result T InputFault) (kept : List Entry) (read : Read X) → Gives plain r kept read → Gives (λ t. hold (plain t)) r kept (after read (λ x. Ok (hold x.0, x.1)))
 gives_holding plain hold (Ok x) kept read h = ap (λ q. after q (λ x. Ok (hold x.0, x.1))) h
 gives_holding plain hold (Err f) kept read h = λ told. ap (λ q. after q (λ x. Ok (hold x.0, x.1))) (h told)
+
+-- ---- the fault e of a step is handed on as the result r
+
+pub handed_on : {T V : Type 0} (plain : T → V) (r : Result T InputFault) (e : InputFault) (meant : Result V InputFault)
+    → IsErr r × IsErrAnd r (λ x. x ≡ e) → ((e ≡ Memory → ⊥) → meant ≡ Err e) → Same plain r meant
+handed_on plain (Ok x) e meant h told = cc h.0
+handed_on plain (Err x) e meant h told = λ other. told (λ is_memory. other (h.1 ∙ is_memory)) ∙ ap Err (sym h.1)

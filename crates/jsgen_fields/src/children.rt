@@ -42,15 +42,17 @@ fn take_child<R: Typed + Drop>(
     ensures reads { Gives R.plain result (entries R.plain kept.new.items) (take_child at set (view value.now) (entries R.plain kept.old.items)) }
     ensures fits { IfOk result (λ r. true ≡ in_set set (type_of (R.plain r))) }
 {
-    let number = number_in(at, value)?;
-    match take(kept, set, number) {
-        Ok(row) => Ok(row),
-        Err(TakeFault::Absent) => Err(InputFault::Child(at)),
-        Err(TakeFault::Taken(index)) => Err(InputFault::Shared(index)),
+    match number_in(at, value) {
+        Ok(number) => match take(kept, set, number) {
+            Ok(row) => Ok(row),
+            Err(TakeFault::Absent) => Err(InputFault::Child(at)),
+            Err(TakeFault::Taken(index)) => Err(InputFault::Shared(index)),
+        },
+        Err(fault) => Err(fault),
     }
 }
 
-pub fn take_as<N: PlainNode + Drop, R: RowOf<N> + Drop, C: Child<N> + Drop>(
+pub fn take_as<N: PlainNode, R: RowOf<N> + Drop, C: Child<N>>(
     alloc: Global,
     kept: &mut Vec<Kept<R>>,
     at: At,
@@ -66,7 +68,7 @@ pub fn take_as<N: PlainNode + Drop, R: RowOf<N> + Drop, C: Child<N> + Drop>(
     }
 }
 
-pub fn take_all<N: PlainNode + Drop, R: RowOf<N> + Drop, C: Child<N> + Drop>(
+pub fn take_all<N: PlainNode, R: RowOf<N> + Drop, C: Child<N> + Drop>(
     alloc: Global,
     kept: &mut Vec<Kept<R>>,
     at: At,
@@ -86,7 +88,7 @@ pub fn take_all<N: PlainNode + Drop, R: RowOf<N> + Drop, C: Child<N> + Drop>(
 // ---- lists with holes
 
 // Null is a hole.
-fn take_or_hole<N: PlainNode + Drop, R: RowOf<N> + Drop, C: Child<N> + Drop>(
+fn take_or_hole<N: PlainNode, R: RowOf<N> + Drop, C: Child<N>>(
     alloc: Global,
     kept: &mut Vec<Kept<R>>,
     at: At,
@@ -98,11 +100,13 @@ fn take_or_hole<N: PlainNode + Drop, R: RowOf<N> + Drop, C: Child<N> + Drop>(
     if value.is_null() {
         return Ok(None);
     }
-    let child = take_as::<N, R, C>(alloc, kept, at, value)?;
-    Ok(Some(child))
+    match take_as::<N, R, C>(alloc, kept, at, value) {
+        Ok(child) => Ok(Some(child)),
+        Err(fault) => Err(fault),
+    }
 }
 
-pub fn take_all_or_holes<N: PlainNode + Drop, R: RowOf<N> + Drop, C: Child<N> + Drop>(
+pub fn take_all_or_holes<N: PlainNode, R: RowOf<N> + Drop, C: Child<N> + Drop>(
     alloc: Global,
     kept: &mut Vec<Kept<R>>,
     at: At,

@@ -17,7 +17,7 @@ use serde_json::Value;
 use std::alloc::Global;
 
 #[tactic(auto, unfolding(crate::specs::Reads::read_children))]
-pub fn needed_child<N: PlainNode + Drop, R: RowOf<N> + Drop, C: Child<N> + Drop>(
+pub fn needed_child<N: PlainNode, R: RowOf<N> + Drop, C: Child<N>>(
     alloc: Global,
     kept: &mut Vec<Kept<R>>,
     number: usize,
@@ -29,12 +29,14 @@ pub fn needed_child<N: PlainNode + Drop, R: RowOf<N> + Drop, C: Child<N> + Drop>
         (read_children (at number field) true needed (child C.of_set) (value_under name.now (view row.now)) (entries R.plain kept.old.items)) }
 {
     let at = At::of_row(number, field);
-    let value = needed_value(at, row, name)?;
-    take_as::<N, R, C>(alloc, kept, at, value)
+    match needed_value(at, row, name) {
+        Ok(value) => take_as::<N, R, C>(alloc, kept, at, value),
+        Err(fault) => Err(fault),
+    }
 }
 
 #[tactic(auto, unfolding(crate::specs::Reads::read_children))]
-pub fn optional_child<N: PlainNode + Drop, R: RowOf<N> + Drop, C: Child<N> + Drop>(
+pub fn optional_child<N: PlainNode, R: RowOf<N> + Drop, C: Child<N>>(
     alloc: Global,
     kept: &mut Vec<Kept<R>>,
     number: usize,
@@ -46,16 +48,19 @@ pub fn optional_child<N: PlainNode + Drop, R: RowOf<N> + Drop, C: Child<N> + Dro
         (read_children (at number field) false may_be_absent (child C.of_set) (value_under name.now (view row.now)) (entries R.plain kept.old.items)) }
 {
     let at = At::of_row(number, field);
-    let Some(value) = optional_value(at, row, name)? else {
-        return Ok(None);
-    };
-    let child = take_as::<N, R, C>(alloc, kept, at, value)?;
-    Ok(Some(child))
+    match optional_value(at, row, name) {
+        Ok(Some(value)) => match take_as::<N, R, C>(alloc, kept, at, value) {
+            Ok(child) => Ok(Some(child)),
+            Err(fault) => Err(fault),
+        },
+        Ok(None) => Ok(None),
+        Err(fault) => Err(fault),
+    }
 }
 
 /// A list that is empty where it is absent.
 #[tactic(auto, unfolding(crate::specs::Reads::read_children))]
-pub fn children<N: PlainNode + Drop, R: RowOf<N> + Drop, C: Child<N> + Drop>(
+pub fn children<N: PlainNode, R: RowOf<N> + Drop, C: Child<N> + Drop>(
     alloc: Global,
     kept: &mut Vec<Kept<R>>,
     number: usize,
@@ -67,16 +72,19 @@ pub fn children<N: PlainNode + Drop, R: RowOf<N> + Drop, C: Child<N> + Drop>(
         (read_children (at number field) false may_be_absent (children C.of_set) (value_under name.now (view row.now)) (entries R.plain kept.old.items)) }
 {
     let at = At::of_row(number, field);
-    let Some(value) = optional_value(at, row, name)? else {
-        return Ok(Vec::new(alloc));
-    };
-    let items = items_in(at, value)?;
-    take_all::<N, R, C>(alloc, kept, at, items)
+    match optional_value(at, row, name) {
+        Ok(Some(value)) => match items_in(at, value) {
+            Ok(items) => take_all::<N, R, C>(alloc, kept, at, items),
+            Err(fault) => Err(fault),
+        },
+        Ok(None) => Ok(Vec::new(alloc)),
+        Err(fault) => Err(fault),
+    }
 }
 
 /// A list with a hole at each null, empty where it is absent.
 #[tactic(auto, unfolding(crate::specs::Reads::read_children))]
-pub fn children_or_holes<N: PlainNode + Drop, R: RowOf<N> + Drop, C: Child<N> + Drop>(
+pub fn children_or_holes<N: PlainNode, R: RowOf<N> + Drop, C: Child<N> + Drop>(
     alloc: Global,
     kept: &mut Vec<Kept<R>>,
     number: usize,
@@ -88,11 +96,14 @@ pub fn children_or_holes<N: PlainNode + Drop, R: RowOf<N> + Drop, C: Child<N> + 
         (read_children (at number field) false may_be_absent (children_or_holes C.of_set) (value_under name.now (view row.now)) (entries R.plain kept.old.items)) }
 {
     let at = At::of_row(number, field);
-    let Some(value) = optional_value(at, row, name)? else {
-        return Ok(Vec::new(alloc));
-    };
-    let items = items_in(at, value)?;
-    take_all_or_holes::<N, R, C>(alloc, kept, at, items)
+    match optional_value(at, row, name) {
+        Ok(Some(value)) => match items_in(at, value) {
+            Ok(items) => take_all_or_holes::<N, R, C>(alloc, kept, at, items),
+            Err(fault) => Err(fault),
+        },
+        Ok(None) => Ok(Vec::new(alloc)),
+        Err(fault) => Err(fault),
+    }
 }
 
 /// In a box of its own.

@@ -94,7 +94,7 @@ impl<N: ReadNode> Typed for AnyRow<N> {
 }
 
 impl<N: ReadNode + Drop> RowOf<N> for AnyRow<N> {
-    fn into_child<C: Child<N> + Drop>(self, alloc: Global) -> Result<Option<C>, AllocError>
+    fn into_child<C: Child<N>>(self, alloc: Global) -> Result<Option<C>, AllocError>
         ensures { IfOk result (λ child. option_map C.plain child
             ≡ (if in_set C.of_set (type_of (any_row_plain N.plain self)) then Some (any_row_plain N.plain self) else None)) }
     {

@@ -62,6 +62,8 @@ pub fn needed_units(
         (read_value (at number field) true no_value units (value_under name.now (view row.now))) }
 {
     let at = At::of_row(number, field);
-    let value = needed_value(at, row, name)?;
-    units_in(alloc, at, value)
+    match needed_value(at, row, name) {
+        Ok(value) => units_in(alloc, at, value),
+        Err(fault) => Err(fault),
+    }
 }

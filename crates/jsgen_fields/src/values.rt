@@ -6,7 +6,7 @@ ghost use Rattle.jsgen_tree.specs.Characters.{characters, number_if_given};
 ghost use Rattle.jsgen_tree.specs.Atom.{no_value, text as text_atom, digits as digits_atom, number as number_atom, flag as flag_atom};
 ghost use Rattle.jsgen_tree.specs.Table.{text, digits, number as number_sort, flag, unset_flag, passed_over};
 ghost use Rattle.serde_json.specs.Find.{as_bool};
-ghost use Rattle.jsgen_fields.specs.declared.InputFault.TheVariants.{Wrong};
+ghost use Rattle.jsgen_fields.specs.declared.InputFault.TheVariants.{Wrong, Missing};
 ghost use Rattle.jsgen_fields.specs.Reads.{read_value};
 ghost use Rattle.jsgen_fields.specs.Values.{Same, after, or_fault, at, field, field as value_under, field_in, not_given, text_in, items_in, starts_plainly, decimal_number, digits_in, number_of_bits, value_in, type_of, span_of, offsets};
 
@@ -90,8 +90,10 @@ pub fn neither_given(
     ensures { Same (λ u. u) result (after (not_given (at number field) (value_under name.now (view row.now)))
         (λ given. not_given (at number (suc field)) (value_under other.now (view row.now)))) }
 {
-    not_given(At::of_row(number, usize::from(field)), row, name)?;
-    not_given(At::of_row(number, usize::from(field) + 1), row, other)
+    match not_given(At::of_row(number, usize::from(field)), row, name) {
+        Ok(()) => not_given(At::of_row(number, usize::from(field) + 1), row, other),
+        Err(fault) => Err(fault),
+    }
 }
 
 pub fn text_in(at: At, value: &Value) -> Result<&str, InputFault>
@@ -100,6 +102,23 @@ pub fn text_in(at: At, value: &Value) -> Result<&str, InputFault>
     match value.as_str() {
         Some(text) => Ok(text),
         None => Err(InputFault::Wrong(at)),
+    }
+}
+
+/// The text of a field that may not be absent.
+pub fn needed_word<'v>(
+    number: usize,
+    field: usize,
+    row: &'v Value,
+    name: &str,
+) -> Result<&'v str, InputFault>
+    ensures { Same (λ s. s.now) result (after (field_in (at number field) true (value_under name.now (view row.now)))
+        (λ given. after (or_fault (Missing (at number field)) given) (text_in (at number field)))) }
+{
+    let at = At::of_row(number, field);
+    match needed_value(at, row, name) {
+        Ok(value) => text_in(at, value),
+        Err(fault) => Err(fault),
     }
 }
 
@@ -144,10 +163,12 @@ fn digits_in(at: At, value: &Value) -> Result<u128, InputFault>
     if let Some(number) = value.as_u64() {
         return Ok(u128::from(number));
     }
-    let text = text_in(at, value)?;
-    match decimal_number(text) {
-        Some(number) => Ok(number),
-        None => Err(InputFault::Wrong(at)),
+    match text_in(at, value) {
+        Ok(text) => match decimal_number(text) {
+            Some(number) => Ok(number),
+            None => Err(InputFault::Wrong(at)),
+        },
+        Err(fault) => Err(fault),
     }
 }
 
@@ -200,8 +221,10 @@ pub fn needed_text(
         (read_value (at number field) true no_value text (value_under name.now (view row.now))) }
 {
     let at = At::of_row(number, field);
-    let value = needed_value(at, row, name)?;
-    text_value(alloc, at, value)
+    match needed_value(at, row, name) {
+        Ok(value) => text_value(alloc, at, value),
+        Err(fault) => Err(fault),
+    }
 }
 
 /// A text that is empty where it is absent.
@@ -217,9 +240,10 @@ pub fn optional_text(
         (read_value (at number field) false (text_atom []) text (value_under name.now (view row.now))) }
 {
     let at = At::of_row(number, field);
-    match optional_value(at, row, name)? {
-        Some(value) => text_value(alloc, at, value),
-        None => Ok(no_text(alloc)),
+    match optional_value(at, row, name) {
+        Ok(Some(value)) => text_value(alloc, at, value),
+        Ok(None) => Ok(no_text(alloc)),
+        Err(fault) => Err(fault),
     }
 }
 
@@ -234,8 +258,10 @@ pub fn needed_digits(
         (read_value (at number field) true no_value digits (value_under name.now (view row.now))) }
 {
     let at = At::of_row(number, field);
-    let value = needed_value(at, row, name)?;
-    digits_in(at, value)
+    match needed_value(at, row, name) {
+        Ok(value) => digits_in(at, value),
+        Err(fault) => Err(fault),
+    }
 }
 
 /// A number that is required.
@@ -250,8 +276,10 @@ pub fn needed_number(
         (read_value (at number field) true no_value number_sort (value_under name.now (view row.now))) }
 {
     let at = At::of_row(number, field);
-    let value = needed_value(at, row, name)?;
-    number_in(at, value)
+    match needed_value(at, row, name) {
+        Ok(value) => number_in(at, value),
+        Err(fault) => Err(fault),
+    }
 }
 
 /// A number that may be absent.
@@ -266,9 +294,10 @@ pub fn optional_number(
         (read_value (at number field) false no_value number_sort (value_under name.now (view row.now))) }
 {
     let at = At::of_row(number, field);
-    match optional_value(at, row, name)? {
-        Some(value) => Ok(Some(number_in(at, value)?)),
-        None => Ok(None),
+    match optional_value(at, row, name) {
+        Ok(Some(value)) => Ok(Some(number_in(at, value)?)),
+        Ok(None) => Ok(None),
+        Err(fault) => Err(fault),
     }
 }
 
@@ -284,9 +313,10 @@ pub fn passed_over_text(
         (read_value (at number field) false no_value (passed_over text) (value_under name.now (view row.now))) }
 {
     let at = At::of_row(number, field);
-    match optional_value(at, row, name)? {
-        Some(value) => pass_over_text(at, value),
-        None => Ok(()),
+    match optional_value(at, row, name) {
+        Ok(Some(value)) => pass_over_text(at, value),
+        Ok(None) => Ok(()),
+        Err(fault) => Err(fault),
     }
 }
 
@@ -311,9 +341,10 @@ pub fn passed_over_digits(
         (read_value (at number field) false no_value (passed_over digits) (value_under name.now (view row.now))) }
 {
     let at = At::of_row(number, field);
-    match optional_value(at, row, name)? {
-        Some(value) => pass_over_digits(at, value),
-        None => Ok(()),
+    match optional_value(at, row, name) {
+        Ok(Some(value)) => pass_over_digits(at, value),
+        Ok(None) => Ok(()),
+        Err(fault) => Err(fault),
     }
 }
 
@@ -342,8 +373,10 @@ pub fn needed_flag(number: usize, field: usize, row: &Value, name: &str) -> Resu
         (read_value (at number field) true no_value flag (value_under name.now (view row.now))) }
 {
     let at = At::of_row(number, field);
-    let value = needed_value(at, row, name)?;
-    flag_in(at, value)
+    match needed_value(at, row, name) {
+        Ok(value) => flag_in(at, value),
+        Err(fault) => Err(fault),
+    }
 }
 
 /// A flag that is false where it is absent.
@@ -358,9 +391,10 @@ pub fn optional_flag(
         (read_value (at number field) false (flag_atom false) flag (value_under name.now (view row.now))) }
 {
     let at = At::of_row(number, field);
-    match optional_value(at, row, name)? {
-        Some(value) => flag_in(at, value),
-        None => Ok(false),
+    match optional_value(at, row, name) {
+        Ok(Some(value)) => flag_in(at, value),
+        Ok(None) => Ok(false),
+        Err(fault) => Err(fault),
     }
 }
 
@@ -371,9 +405,10 @@ pub fn unset_flag(number: usize, field: usize, row: &Value, name: &str) -> Resul
         (read_value (at number field) false (flag_atom false) unset_flag (value_under name.now (view row.now))) }
 {
     let at = At::of_row(number, field);
-    match optional_value(at, row, name)? {
-        Some(value) => unset_in(at, value),
-        None => Ok(()),
+    match optional_value(at, row, name) {
+        Ok(Some(value)) => unset_in(at, value),
+        Ok(None) => Ok(()),
+        Err(fault) => Err(fault),
     }
 }
 

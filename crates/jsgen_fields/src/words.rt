@@ -8,7 +8,7 @@ ghost use Rattle.jsgen_tree.specs.Fields.{kind_of_comment_words, content_of_comm
 ghost use Rattle.jsgen_fields.specs.Reads.{read_value};
 ghost use Rattle.jsgen_fields.specs.Values.{Same, at, field as value_under, word_meaning, words_of_length};
 
-use crate::values::{needed_value, text_in};
+use crate::values::needed_word;
 use crate::{At, InputFault};
 use jsgen_syntax::{
     AssignmentOperator, BinaryOperator, LogicalOperator, SourceKind, UnaryOperator, UpdateOperator,
@@ -18,7 +18,19 @@ use jsgen_tree::{
 };
 use serde_json::Value;
 
-#[tactic(auto, unfolding(crate::specs::Reads::read_value))]
+fn kind_of_comment_by_word(word: &str) -> Option<CommentKind>
+    ensures { option_map kind_of_comment result ≡ word_meaning kind_of_comment_words word.now }
+{
+    match word {
+        "line" => Some(CommentKind::Line),
+        "block" => Some(CommentKind::SingleLineBlock),
+        "multiline" => Some(CommentKind::MultiLineBlock),
+        "htmlopen" => Some(CommentKind::HtmlOpen),
+        "htmlclose" => Some(CommentKind::HtmlClose),
+        _ => None,
+    }
+}
+
 pub fn needed_kind_of_comment(
     number: usize,
     field: usize,
@@ -28,15 +40,12 @@ pub fn needed_kind_of_comment(
     ensures { Same (λ o. kind_of_comment o) result
         (read_value (at number field) true no_value (word kind_of_comment_words) (value_under name.now (view row.now))) }
 {
-    let at = At::of_row(number, field);
-    let value = needed_value(at, row, name)?;
-    match text_in(at, value)? {
-        "line" => Ok(CommentKind::Line),
-        "block" => Ok(CommentKind::SingleLineBlock),
-        "multiline" => Ok(CommentKind::MultiLineBlock),
-        "htmlopen" => Ok(CommentKind::HtmlOpen),
-        "htmlclose" => Ok(CommentKind::HtmlClose),
-        _ => Err(InputFault::Wrong(at)),
+    match needed_word(number, field, row, name) {
+        Ok(word) => match kind_of_comment_by_word(word) {
+            Some(found) => Ok(found),
+            None => Err(InputFault::Wrong(At::of_row(number, field))),
+        },
+        Err(fault) => Err(fault),
     }
 }
 
@@ -140,7 +149,6 @@ fn content_of_comment_by_word(word: &str) -> Option<CommentContent>
     }
 }
 
-#[tactic(auto, unfolding(crate::specs::Reads::read_value))]
 pub fn needed_content_of_comment(
     number: usize,
     field: usize,
@@ -150,15 +158,24 @@ pub fn needed_content_of_comment(
     ensures { Same (λ o. content_of_comment o) result
         (read_value (at number field) true no_value (word content_of_comment_words) (value_under name.now (view row.now))) }
 {
-    let at = At::of_row(number, field);
-    let value = needed_value(at, row, name)?;
-    match content_of_comment_by_word(text_in(at, value)?) {
-        Some(found) => Ok(found),
-        None => Err(InputFault::Wrong(at)),
+    match needed_word(number, field, row, name) {
+        Ok(word) => match content_of_comment_by_word(word) {
+            Some(found) => Ok(found),
+            None => Err(InputFault::Wrong(At::of_row(number, field))),
+        },
+        Err(fault) => Err(fault),
     }
 }
 
-#[tactic(auto, unfolding(crate::specs::Reads::read_value))]
+fn source_kind_by_word(word: &str) -> Option<SourceKind>
+    ensures { option_map source_kind result ≡ word_meaning source_kind_words word.now }
+{
+    match word {
+        "module" => Some(SourceKind::Module),
+        _ => None,
+    }
+}
+
 pub fn needed_source_kind(
     number: usize,
     field: usize,
@@ -168,15 +185,26 @@ pub fn needed_source_kind(
     ensures { Same (λ o. source_kind o) result
         (read_value (at number field) true no_value (word source_kind_words) (value_under name.now (view row.now))) }
 {
-    let at = At::of_row(number, field);
-    let value = needed_value(at, row, name)?;
-    match text_in(at, value)? {
-        "module" => Ok(SourceKind::Module),
-        _ => Err(InputFault::Wrong(at)),
+    match needed_word(number, field, row, name) {
+        Ok(word) => match source_kind_by_word(word) {
+            Some(found) => Ok(found),
+            None => Err(InputFault::Wrong(At::of_row(number, field))),
+        },
+        Err(fault) => Err(fault),
     }
 }
 
-#[tactic(auto, unfolding(crate::specs::Reads::read_value))]
+fn declaration_kind_by_word(word: &str) -> Option<VariableDeclarationKind>
+    ensures { option_map declaration_kind result ≡ word_meaning declaration_kind_words word.now }
+{
+    match word {
+        "const" => Some(VariableDeclarationKind::Const),
+        "let" => Some(VariableDeclarationKind::Let),
+        "var" => Some(VariableDeclarationKind::Var),
+        _ => None,
+    }
+}
+
 pub fn needed_declaration_kind(
     number: usize,
     field: usize,
@@ -186,13 +214,12 @@ pub fn needed_declaration_kind(
     ensures { Same (λ o. declaration_kind o) result
         (read_value (at number field) true no_value (word declaration_kind_words) (value_under name.now (view row.now))) }
 {
-    let at = At::of_row(number, field);
-    let value = needed_value(at, row, name)?;
-    match text_in(at, value)? {
-        "const" => Ok(VariableDeclarationKind::Const),
-        "let" => Ok(VariableDeclarationKind::Let),
-        "var" => Ok(VariableDeclarationKind::Var),
-        _ => Err(InputFault::Wrong(at)),
+    match needed_word(number, field, row, name) {
+        Ok(word) => match declaration_kind_by_word(word) {
+            Some(found) => Ok(found),
+            None => Err(InputFault::Wrong(At::of_row(number, field))),
+        },
+        Err(fault) => Err(fault),
     }
 }
 
@@ -262,7 +289,6 @@ fn binary_operator_by_word(word: &str) -> Option<BinaryOperator>
     }
 }
 
-#[tactic(auto, unfolding(crate::specs::Reads::read_value))]
 pub fn needed_binary_operator(
     number: usize,
     field: usize,
@@ -272,15 +298,26 @@ pub fn needed_binary_operator(
     ensures { Same (λ o. binary_operator o) result
         (read_value (at number field) true no_value (word binary_operator_words) (value_under name.now (view row.now))) }
 {
-    let at = At::of_row(number, field);
-    let value = needed_value(at, row, name)?;
-    match binary_operator_by_word(text_in(at, value)?) {
-        Some(found) => Ok(found),
-        None => Err(InputFault::Wrong(at)),
+    match needed_word(number, field, row, name) {
+        Ok(word) => match binary_operator_by_word(word) {
+            Some(found) => Ok(found),
+            None => Err(InputFault::Wrong(At::of_row(number, field))),
+        },
+        Err(fault) => Err(fault),
     }
 }
 
-#[tactic(auto, unfolding(crate::specs::Reads::read_value))]
+fn logical_operator_by_word(word: &str) -> Option<LogicalOperator>
+    ensures { option_map logical_operator result ≡ word_meaning logical_operator_words word.now }
+{
+    match word {
+        "||" => Some(LogicalOperator::Or),
+        "&&" => Some(LogicalOperator::And),
+        "??" => Some(LogicalOperator::Coalesce),
+        _ => None,
+    }
+}
+
 pub fn needed_logical_operator(
     number: usize,
     field: usize,
@@ -290,17 +327,26 @@ pub fn needed_logical_operator(
     ensures { Same (λ o. logical_operator o) result
         (read_value (at number field) true no_value (word logical_operator_words) (value_under name.now (view row.now))) }
 {
-    let at = At::of_row(number, field);
-    let value = needed_value(at, row, name)?;
-    match text_in(at, value)? {
-        "||" => Ok(LogicalOperator::Or),
-        "&&" => Ok(LogicalOperator::And),
-        "??" => Ok(LogicalOperator::Coalesce),
-        _ => Err(InputFault::Wrong(at)),
+    match needed_word(number, field, row, name) {
+        Ok(word) => match logical_operator_by_word(word) {
+            Some(found) => Ok(found),
+            None => Err(InputFault::Wrong(At::of_row(number, field))),
+        },
+        Err(fault) => Err(fault),
     }
 }
 
-#[tactic(auto, unfolding(crate::specs::Reads::read_value))]
+fn property_kind_by_word(word: &str) -> Option<PropertyKind>
+    ensures { option_map property_kind result ≡ word_meaning property_kind_words word.now }
+{
+    match word {
+        "init" => Some(PropertyKind::Init),
+        "get" => Some(PropertyKind::Get),
+        "set" => Some(PropertyKind::Set),
+        _ => None,
+    }
+}
+
 pub fn needed_property_kind(
     number: usize,
     field: usize,
@@ -310,13 +356,12 @@ pub fn needed_property_kind(
     ensures { Same (λ o. property_kind o) result
         (read_value (at number field) true no_value (word property_kind_words) (value_under name.now (view row.now))) }
 {
-    let at = At::of_row(number, field);
-    let value = needed_value(at, row, name)?;
-    match text_in(at, value)? {
-        "init" => Ok(PropertyKind::Init),
-        "get" => Ok(PropertyKind::Get),
-        "set" => Ok(PropertyKind::Set),
-        _ => Err(InputFault::Wrong(at)),
+    match needed_word(number, field, row, name) {
+        Ok(word) => match property_kind_by_word(word) {
+            Some(found) => Ok(found),
+            None => Err(InputFault::Wrong(At::of_row(number, field))),
+        },
+        Err(fault) => Err(fault),
     }
 }
 
@@ -362,7 +407,6 @@ fn unary_operator_by_word(word: &str) -> Option<UnaryOperator>
     }
 }
 
-#[tactic(auto, unfolding(crate::specs::Reads::read_value))]
 pub fn needed_unary_operator(
     number: usize,
     field: usize,
@@ -372,15 +416,25 @@ pub fn needed_unary_operator(
     ensures { Same (λ o. unary_operator o) result
         (read_value (at number field) true no_value (word unary_operator_words) (value_under name.now (view row.now))) }
 {
-    let at = At::of_row(number, field);
-    let value = needed_value(at, row, name)?;
-    match unary_operator_by_word(text_in(at, value)?) {
-        Some(found) => Ok(found),
-        None => Err(InputFault::Wrong(at)),
+    match needed_word(number, field, row, name) {
+        Ok(word) => match unary_operator_by_word(word) {
+            Some(found) => Ok(found),
+            None => Err(InputFault::Wrong(At::of_row(number, field))),
+        },
+        Err(fault) => Err(fault),
     }
 }
 
-#[tactic(auto, unfolding(crate::specs::Reads::read_value))]
+fn update_operator_by_word(word: &str) -> Option<UpdateOperator>
+    ensures { option_map update_operator result ≡ word_meaning update_operator_words word.now }
+{
+    match word {
+        "++" => Some(UpdateOperator::Increment),
+        "--" => Some(UpdateOperator::Decrement),
+        _ => None,
+    }
+}
+
 pub fn needed_update_operator(
     number: usize,
     field: usize,
@@ -390,12 +444,12 @@ pub fn needed_update_operator(
     ensures { Same (λ o. update_operator o) result
         (read_value (at number field) true no_value (word update_operator_words) (value_under name.now (view row.now))) }
 {
-    let at = At::of_row(number, field);
-    let value = needed_value(at, row, name)?;
-    match text_in(at, value)? {
-        "++" => Ok(UpdateOperator::Increment),
-        "--" => Ok(UpdateOperator::Decrement),
-        _ => Err(InputFault::Wrong(at)),
+    match needed_word(number, field, row, name) {
+        Ok(word) => match update_operator_by_word(word) {
+            Some(found) => Ok(found),
+            None => Err(InputFault::Wrong(At::of_row(number, field))),
+        },
+        Err(fault) => Err(fault),
     }
 }
 
@@ -459,7 +513,6 @@ fn assignment_operator_by_word(word: &str) -> Option<AssignmentOperator>
     }
 }
 
-#[tactic(auto, unfolding(crate::specs::Reads::read_value))]
 pub fn needed_assignment_operator(
     number: usize,
     field: usize,
@@ -469,15 +522,25 @@ pub fn needed_assignment_operator(
     ensures { Same (λ o. assignment_operator o) result
         (read_value (at number field) true no_value (word assignment_operator_words) (value_under name.now (view row.now))) }
 {
-    let at = At::of_row(number, field);
-    let value = needed_value(at, row, name)?;
-    match assignment_operator_by_word(text_in(at, value)?) {
-        Some(found) => Ok(found),
-        None => Err(InputFault::Wrong(at)),
+    match needed_word(number, field, row, name) {
+        Ok(word) => match assignment_operator_by_word(word) {
+            Some(found) => Ok(found),
+            None => Err(InputFault::Wrong(At::of_row(number, field))),
+        },
+        Err(fault) => Err(fault),
     }
 }
 
-#[tactic(auto, unfolding(crate::specs::Reads::read_value))]
+fn kind_of_function_by_word(word: &str) -> Option<FunctionKind>
+    ensures { option_map kind_of_function result ≡ word_meaning kind_of_function_words word.now }
+{
+    match word {
+        "declaration" => Some(FunctionKind::Declaration),
+        "expression" => Some(FunctionKind::Expression),
+        _ => None,
+    }
+}
+
 pub fn needed_kind_of_function(
     number: usize,
     field: usize,
@@ -487,11 +550,11 @@ pub fn needed_kind_of_function(
     ensures { Same (λ o. kind_of_function o) result
         (read_value (at number field) true no_value (word kind_of_function_words) (value_under name.now (view row.now))) }
 {
-    let at = At::of_row(number, field);
-    let value = needed_value(at, row, name)?;
-    match text_in(at, value)? {
-        "declaration" => Ok(FunctionKind::Declaration),
-        "expression" => Ok(FunctionKind::Expression),
-        _ => Err(InputFault::Wrong(at)),
+    match needed_word(number, field, row, name) {
+        Ok(word) => match kind_of_function_by_word(word) {
+            Some(found) => Ok(found),
+            None => Err(InputFault::Wrong(At::of_row(number, field))),
+        },
+        Err(fault) => Err(fault),
     }
 }

@@ -2,6 +2,7 @@ pub mod JobLaw
 pub mod Json
 pub mod LastRow
 pub mod Names
+pub mod Objects
 pub mod Pool
 pub mod Program
 pub mod RowSteps

@@ -1,4 +1,4 @@
-"""Proofs of the families of rows: the answers of a row's function, which name what its calls ensure, one after another."""
+"""Proofs of the families of rows: the answers of a row's function, which name what its calls ensure, field by field."""
 
 import re
 
@@ -26,35 +26,68 @@ def suffixes(names):
 def answers(table, part, file, n):
     function = f"Rattle.{table.row_crates[file]}.proofs.{part}.read_{snake(n.name)}"
     every = [call.replace("::<N, R>", "") for _, call in calls(table, n)]
-    each, read = [], []
+    each, facts, read = [], [], []
     for call, end in zip(every, suffixes([call.split("(")[0] for call in every])):
-        if call.startswith("neither_given"):    # the proof that one of two fields is refused is searched for
-            read += of_two(call, f"c.in-Ok{end}.ensures")
+        ok, err = f"c.in-Ok{end}.ensures", f"c.in-Err{end}.ensures told"
+        if call.startswith("neither_given"):
+            either = f"refused_of_two {of_two(call)} ({err}) (λ e. rw e) (λ e f. rw (e, f))"
+            each.append(answer(f"returns-in-Err{end}", f"λ told. rw ({', '.join(facts)}) ({either})" if facts else f"λ told. {either}"))
+            both = [f"{lemma} {of_two(call)} {ok}" for lemma in ("first_of_two", "second_of_two")]
+            facts += both
+            read += [passed(f"({fact})") for fact in both]
+            continue
+        facts.append(ok)
+        if "(alloc, kept, " in call:
+            each.append(answer(f"returns-in-Err{end}", "λ told. " + refused(read, f"refused _ ({err})")))
+            read.append(ok)
         else:
-            each.append(answer(f"returns-in-Err{end}", f"λ told. rw ({', '.join(read + [f'c.in-Err{end}.ensures told'])})"))
-            read.append(f"c.in-Ok{end}.ensures")
-    each.append(answer("returns-in-Ok-boxed", f"rw ({', '.join(read)}) ({last(table, n)})"))
-    homes = [("Rattle.std.specs.Prelude", ["codes"]), ("Rattle.serde_json.specs.View", ["view"]),
+            each.append(answer(f"returns-in-Err{end}", "λ told. " + refused(read, f"refused _ (refused _ ({err}))")))
+            read.append(passed(ok))
+    each.append(answer("returns-in-Ok-boxed", last(table, n, whole(read))))
+    each.append("pub returns-in-Err-boxed : goal.returns-in-Err-boxed\n"
+                "returns-in-Err-boxed g c = λ told. let h = c.in-Err-boxed.ensures told in cc h")
+    homes = [("Rattle.std.proofs.Common", ["refl"]), ("Rattle.std.specs.Prelude", ["codes"]), ("Rattle.serde_json.specs.View", ["view"]),
              (f"{READER}.specs.Reads", ["read_node"]), (f"{READER}.specs.Values", ["at", "field", "not_given"])]
-    homes += [(f"{READER}.proofs.Gives", ["first_of_two", "second_of_two", "gives_row", "gives_node"])] + row_names(table)
-    return layout.antt("What each call ensures, one after another.", homes, [(f"{function}.Goals", "goal")], "\n\n".join(each))
+    homes += [(f"{READER}.proofs.FieldSteps", ["refused", "passed", "gives_by"])]
+    homes += [(f"{READER}.proofs.Gives", ["first_of_two", "second_of_two", "refused_of_two", "gives_row", "gives_node"])] + row_names(table)
+    return layout.antt("What each call ensures, field by field.", homes, [(f"{function}.Goals", "goal")], "\n\n".join(each))
 
 
-def of_two(call, fact):
-    """What the call that refuses two fields ensures of each."""
+def passed(fact):
+    """A field that is not read for children gives what it holds."""
+    return f"(passed _ {fact} refl)"
+
+
+def of_two(call):
+    """The two fields that the call refuses."""
     number, names = int(re.findall(r"\d+", call)[0]), re.findall(r'"(\w+)"', call)
-    unread = " ".join(f'(not_given (at c.args.number {i}) (field (codes "{name}") (view c.args.row.now)))'
-                      for i, name in enumerate(names, number))
-    return [f"{lemma} {unread} {fact}" for lemma in ("first_of_two", "second_of_two")]
+    return " ".join(f'(not_given (at c.args.number {i}) (field (codes "{name}") (view c.args.row.now)))'
+                    for i, name in enumerate(names, number))
+
+
+def refused(read, term):
+    """The row is refused after the fields that are read, where the next is."""
+    for ok in reversed(read):
+        term = f"passed _ {ok} (refused _ ({term}))"
+    return f"refused _ ({term})"
+
+
+def whole(read):
+    """All fields are read."""
+    term = "refl"
+    for ok in reversed(read):
+        term = f"(passed _ {ok} {'refl' if term == 'refl' else f'(passed _ {term} refl)'})"
+    return term
 
 
 def answer(goal, said):
     return f"pub {goal} : goal.{goal}\nunfolding read_node\n{goal} g c = {said}"
 
 
-def last(table, n):
+def last(table, n, fields):
     s, row = set_of(table, n.name), n.row
     row = f"({row} g.N.PlainNode.plain)" if table.generic(n.name) else row
     if not s:
-        return f"gives_node g.R.Typed.plain c.row_of_{snake(n.name)}.result _ {row} _ _ c.in-Ok-boxed.ensures c.row_of_{snake(n.name)}.ensures"
-    return f"gives_row _ _ _ {row} _ _ c.in-Ok-boxed.ensures c.row_of_{snake(s.name)}.ensures"
+        made = f"c.row_of_{snake(n.name)}"
+        return f"passed _ {fields} (gives_node g.R.Typed.plain {made}.result _ {row} _ _ c.in-Ok-boxed.ensures {made}.ensures)"
+    return f"gives_by _ _ _ (passed _ {fields} refl) (gives_row _ _ _ {row} _ _ c.in-Ok-boxed.ensures c.row_of_{snake(s.name)}.ensures)"

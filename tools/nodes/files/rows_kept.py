@@ -106,7 +106,7 @@ impl<N: Drop> Drop for AnyRow<N> {
 
 
 AS_CHILD = """impl<N: ReadNode + Drop> RowOf<N> for AnyRow<N> {
-    fn into_child<C: Child<N> + Drop>(self, alloc: Global) -> Result<Option<C>, AllocError>
+    fn into_child<C: Child<N>>(self, alloc: Global) -> Result<Option<C>, AllocError>
         ensures { IfOk result (λ child. option_map C.plain child
             ≡ (if in_set C.of_set (type_of (any_row_plain N.plain self)) then Some (any_row_plain N.plain self) else None)) }
     {
@@ -159,7 +159,7 @@ def asked(table, ghosts):
 ROW = """/// What the reader asks of a row: the child that it is at a place, and to be made of one. Only `AnyRow` implements it; the reader is
 /// generic in it, since a proof of what has to do with `Row` itself looks at all types.
 pub trait RowOf<N: PlainNode>: Typed + Sized {
-    fn into_child<C: Child<N> + Drop>(self, alloc: Global) -> Result<Option<C>, AllocError>
+    fn into_child<C: Child<N>>(self, alloc: Global) -> Result<Option<C>, AllocError>
         ensures { IfOk result (λ child. option_map C.plain child
             ≡ (if in_set C.of_set (type_of (Self.plain self)) then Some (Self.plain self) else None)) };
 

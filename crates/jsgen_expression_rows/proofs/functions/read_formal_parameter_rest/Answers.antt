@@ -1,22 +1,27 @@
 -- Generated from tools/nodes/table.txt; edit that and run tools/nodes/generate.
--- What each call ensures, one after another.
+-- What each call ensures, field by field.
+use Rattle.std.proofs.Common.{refl}
 use Rattle.jsgen_fields.specs.Reads.{read_node}
+use Rattle.jsgen_fields.proofs.FieldSteps.{refused, passed}
 use Rattle.jsgen_fields.proofs.Gives.{gives_node}
 use Rattle.jsgen_tree.specs.Rows.{formal_parameter_rest_row}
 use Rattle.jsgen_expression_rows.proofs.functions.read_formal_parameter_rest.Goals as goal
 
 pub returns-in-Err : goal.returns-in-Err
 unfolding read_node
-returns-in-Err g c = λ told. rw (c.in-Err.ensures told)
+returns-in-Err g c = λ told. refused _ (refused _ (refused _ (c.in-Err.ensures told)))
 
 pub returns-in-Err-needed_binding_pattern : goal.returns-in-Err-needed_binding_pattern
 unfolding read_node
-returns-in-Err-needed_binding_pattern g c = λ told. rw (c.in-Ok.ensures, c.in-Err-needed_binding_pattern.ensures told)
+returns-in-Err-needed_binding_pattern g c = λ told. refused _ (passed _ (passed _ c.in-Ok.ensures refl) (refused _ (refused _ (c.in-Err-needed_binding_pattern.ensures told))))
 
 pub returns-in-Err-field_not_given : goal.returns-in-Err-field_not_given
 unfolding read_node
-returns-in-Err-field_not_given g c = λ told. rw (c.in-Ok.ensures, c.in-Ok-needed_binding_pattern.ensures, c.in-Err-field_not_given.ensures told)
+returns-in-Err-field_not_given g c = λ told. refused _ (passed _ (passed _ c.in-Ok.ensures refl) (refused _ (passed _ c.in-Ok-needed_binding_pattern.ensures (refused _ (refused _ (refused _ (c.in-Err-field_not_given.ensures told)))))))
 
 pub returns-in-Ok-boxed : goal.returns-in-Ok-boxed
 unfolding read_node
-returns-in-Ok-boxed g c = rw (c.in-Ok.ensures, c.in-Ok-needed_binding_pattern.ensures, c.in-Ok-field_not_given.ensures) (gives_node g.R.Typed.plain c.row_of_formal_parameter_rest.result _ (formal_parameter_rest_row g.N.PlainNode.plain) _ _ c.in-Ok-boxed.ensures c.row_of_formal_parameter_rest.ensures)
+returns-in-Ok-boxed g c = passed _ (passed _ (passed _ c.in-Ok.ensures refl) (passed _ (passed _ c.in-Ok-needed_binding_pattern.ensures (passed _ (passed _ (passed _ c.in-Ok-field_not_given.ensures refl) refl) refl)) refl)) (gives_node g.R.Typed.plain c.row_of_formal_parameter_rest.result _ (formal_parameter_rest_row g.N.PlainNode.plain) _ _ c.in-Ok-boxed.ensures c.row_of_formal_parameter_rest.ensures)
+
+pub returns-in-Err-boxed : goal.returns-in-Err-boxed
+returns-in-Err-boxed g c = λ told. let h = c.in-Err-boxed.ensures told in cc h

@@ -1,18 +1,23 @@
 -- Generated from tools/nodes/table.txt; edit that and run tools/nodes/generate.
--- What each call ensures, one after another.
+-- What each call ensures, field by field.
+use Rattle.std.proofs.Common.{refl}
 use Rattle.jsgen_fields.specs.Reads.{read_node}
+use Rattle.jsgen_fields.proofs.FieldSteps.{refused, passed}
 use Rattle.jsgen_fields.proofs.Gives.{gives_node}
 use Rattle.jsgen_tree.specs.Rows.{switch_case_row}
 use Rattle.jsgen_statement_rows.proofs.choices.read_switch_case.Goals as goal
 
 pub returns-in-Err : goal.returns-in-Err
 unfolding read_node
-returns-in-Err g c = λ told. rw (c.in-Err.ensures told)
+returns-in-Err g c = λ told. refused _ (refused _ (c.in-Err.ensures told))
 
 pub returns-in-Err-statement_list : goal.returns-in-Err-statement_list
 unfolding read_node
-returns-in-Err-statement_list g c = λ told. rw (c.in-Ok.ensures, c.in-Err-statement_list.ensures told)
+returns-in-Err-statement_list g c = λ told. refused _ (passed _ c.in-Ok.ensures (refused _ (refused _ (c.in-Err-statement_list.ensures told))))
 
 pub returns-in-Ok-boxed : goal.returns-in-Ok-boxed
 unfolding read_node
-returns-in-Ok-boxed g c = rw (c.in-Ok.ensures, c.in-Ok-statement_list.ensures) (gives_node g.R.Typed.plain c.row_of_switch_case.result _ (switch_case_row g.N.PlainNode.plain) _ _ c.in-Ok-boxed.ensures c.row_of_switch_case.ensures)
+returns-in-Ok-boxed g c = passed _ (passed _ c.in-Ok.ensures (passed _ (passed _ c.in-Ok-statement_list.ensures refl) refl)) (gives_node g.R.Typed.plain c.row_of_switch_case.result _ (switch_case_row g.N.PlainNode.plain) _ _ c.in-Ok-boxed.ensures c.row_of_switch_case.ensures)
+
+pub returns-in-Err-boxed : goal.returns-in-Err-boxed
+returns-in-Err-boxed g c = λ told. let h = c.in-Err-boxed.ensures told in cc h
