@@ -49,3 +49,13 @@ pub fn push_number(alloc: Global, answer: &mut String, number: u32) -> Result<()
     let digits = format!(in alloc; " {number:x}")?;
     Ok(answer.push_str(&digits)?)
 }
+
+/// Each text whose flag is set.
+pub fn push_where(answer: &mut String, texts: &[(bool, &str)]) -> Result<(), Memory> {
+    for (holds, text) in texts {
+        if *holds {
+            answer.push_str(text)?;
+        }
+    }
+    Ok(())
+}

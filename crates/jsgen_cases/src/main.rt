@@ -4,30 +4,35 @@
 // tools/cases/generate writes both files.
 #![tactic(auto)]
 
-mod caller_checks;
-mod check;
-mod gen_checks;
+mod buffer;
+mod job;
+mod level;
 mod line;
+mod log;
 mod meaning;
-mod print_checks;
+mod nodes;
+mod operator;
 mod printed;
-mod quote_checks;
+mod quotes;
 mod raw;
-mod run_checks;
 mod runs;
+mod sets;
+mod spans;
 mod string;
-mod syntax_checks;
-mod text_checks;
 mod tokens;
-mod tree_checks;
 mod value;
 mod word;
 
-use check::push_check;
+use buffer::push_buffer;
+use job::push_of_job;
 use jsgen_syntax::Memory;
+use level::{push_context, push_level};
+use log::push_log;
 use meaning::push_comparison;
 use printed::push_printed;
 use raw::push_raw;
+use runs::push_run;
+use sets::push_sets;
 use std::alloc::Global;
 use std::io::{self, BufRead, BufReader, BufWriter, Write};
 use string::{push_cheapest, push_kept, push_printed_string, push_same};
@@ -54,8 +59,14 @@ fn push_answer(
         "cheapest_with_backticks" => push_cheapest(alloc, rest, true, answer),
         "spell" => push_printed_string(alloc, rest, answer),
         "raw" => push_raw(alloc, rest, answer),
-        "name" => push_name(rest, answer),
-        "check" => push_check(alloc, rest, answer),
+        "name" => push_name(alloc, rest, answer),
+        "of" => push_of_job(alloc, rest, answer),
+        "run" => push_run(alloc, rest, answer),
+        "level" => push_level(alloc, rest, answer),
+        "context" => push_context(alloc, rest, answer),
+        "sets" => push_sets(rest, answer),
+        "buffer" => push_buffer(alloc, rest, answer),
+        "log" => push_log(alloc, rest, answer),
         _ => Ok(answer.push_str("no question")?),
     }
 }
