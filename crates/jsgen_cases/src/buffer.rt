@@ -2,12 +2,10 @@
 ghost use Rattle.std.specs.Prelude.{◌≡◌, ◌*◌, ◌^◌, ◌<◌};
 ghost use Rattle.jsgen_syntax.specs.Buffer.{indent_width};
 
-use crate::line::push_shown;
 use jsgen_syntax::{CodeBuffer, IndentChar, Memory};
 use std::alloc::Global;
 
-/// A text that ends in indentation, which is named: whether the buffer was empty before, how many bytes it has, the last one, and
-/// those at distances from it, and the text.
+/// The text of a buffer behind what it shows of its end. The text ends in indentation, which is named.
 pub fn push_buffer(alloc: Global, indent: &str, answer: &mut String) -> Result<(), Memory> {
     match indent {
         "two tabs" => push_written(alloc, IndentChar::Tab, 1, 2, answer),
@@ -27,28 +25,23 @@ fn push_written(
     requires fits { depth * width < 2 ^ 64 }
 {
     let mut buffer = CodeBuffer::with_indent(alloc, indent, width);
-    let start = format!(in alloc;
-        "{} {:?} {:?}",
-        buffer.is_empty(),
-        buffer.last_byte(),
-        buffer.peek_nth_byte_back(0)
-    )?;
     write(&mut buffer, depth, width)?;
-    let end = format!(in alloc;
-        " {} {:?} {:?} {:?} ",
+    push_end(alloc, &buffer, answer)?;
+    Ok(answer.push_str(&buffer.into_string())?)
+}
+
+// Whether the buffer is empty, how long it is, and bytes of its end.
+fn push_end(alloc: Global, buffer: &CodeBuffer, answer: &mut String) -> Result<(), Memory> {
+    let said = format!(in alloc;
+        "{} {} {} {:?} {:?} {:?} ",
+        buffer.is_empty(),
         buffer.len(),
+        buffer.as_bytes().len(),
         buffer.last_byte(),
         buffer.peek_nth_byte_back(2),
         buffer.peek_nth_byte_back(8)
     )?;
-    answer.push_str(&start)?;
-    answer.push_str(&end)?;
-    answer.push_str(if buffer.as_bytes() == buffer.as_str().as_bytes() {
-        ""
-    } else {
-        "otherwise "
-    })?;
-    push_shown(answer, &buffer.into_string())
+    Ok(answer.push_str(&said)?)
 }
 
 fn write(buffer: &mut CodeBuffer, depth: usize, width: usize) -> Result<(), Memory>

@@ -2,37 +2,33 @@
 ghost use Rattle.std.specs.Prelude.{◌≡◌, false};
 ghost use Rattle.jsgen.specs.Codegen.{has_printed};
 
-use crate::line::{push_where, text_of};
-use crate::nodes::push_of_statement;
-use crate::spans::push_spans;
+use crate::nodes::{expression_in, push_code, push_spans};
+use crate::operator::push_operator;
+use crate::push::push_where;
+use crate::quotes::push_quotes;
 use jsgen::{Codegen, Job, read_job};
 use jsgen_syntax::Memory;
 use jsgen_tree::{CodegenOptions, CommentOptions, Program};
 use std::alloc::Global;
 
-/// The answer for a job: what is asked stands first, and behind a tab the job.
-pub fn push_of_job(alloc: Global, line: &str, answer: &mut String) -> Result<(), Memory> {
-    let (asked, job) = line.split_once('\t').unwrap_or(("", ""));
-    let asked = text_of(alloc, asked)?;
-    push_asked(alloc, &asked, job, answer)
+/// Here alone a job's tree is let go of, so that this is proved once.
+pub fn let_go(job: Job) {
+    let _ = job;
 }
 
-/// What is asked of this job.
-pub fn push_asked(
+/// The answer for a job.
+pub fn push_of_job(
     alloc: Global,
     asked: &str,
     job: &str,
     answer: &mut String,
 ) -> Result<(), Memory> {
-    match read_job(alloc, job.as_bytes()) {
-        Ok(job) => push_of_read(alloc, asked, job, answer),
-        Err(_) => Ok(answer.push_str("no job")?),
-    }
-}
-
-// Here alone the tree is let go of, so that this is proved once.
-fn push_of_read(alloc: Global, asked: &str, job: Job, answer: &mut String) -> Result<(), Memory> {
-    push_of(alloc, asked, &job, answer)
+    let Ok(job) = read_job(alloc, job.as_bytes()) else {
+        return Ok(answer.push_str("no job")?);
+    };
+    let outcome = push_of(alloc, asked, &job, answer);
+    let_go(job);
+    outcome
 }
 
 fn push_of(alloc: Global, asked: &str, job: &Job, answer: &mut String) -> Result<(), Memory> {
@@ -45,37 +41,30 @@ fn push_of(alloc: Global, asked: &str, job: &Job, answer: &mut String) -> Result
         "program" => push_program(printer, &job.program, answer),
         "spans" => push_spans(alloc, &job.program, answer),
         "options" => push_options(alloc, &job.options, answer),
-        _ => match job.program.body.as_slice().first() {
-            Some(statement) => push_of_statement(
-                alloc,
-                printer,
-                &job.options,
-                asked,
-                statement.get(),
-                answer,
-            ),
-            None => Ok(answer.push_str("no statement")?),
-        },
+        "quotes" => push_quotes(alloc, &job.options, expression_in(&job.program), answer),
+        "operator" => push_operator(alloc, expression_in(&job.program), answer),
+        _ => push_code(printer, asked, &job.program, answer),
     }
 }
 
-// What the library prints, behind the status that the program would end with.
+// What the library prints, as a run of the program is told.
 fn push_program(printer: Codegen<'_>, program: &Program, answer: &mut String) -> Result<(), Memory>
     requires unprinted { has_printed printer ≡ false }
 {
     if printer.check(program).is_err() {
-        return Ok(answer.push_str("1 ")?);
+        return Ok(answer.push_str("refused")?);
     }
     match printer.build(program) {
         Ok(printed) => {
             answer.push_str("0 ")?;
-            Ok(answer.push_str(&printed.code)?)
+            answer.push_str(&printed.code)?;
+            Ok(answer.push('|')?)
         }
         Err(_) => Err(Memory),
     }
 }
 
-// What is known of the options, and which legal comments they ask for, told of a copy of them.
+// What is known of a copy of the options, and which legal comments they ask for.
 fn push_options(
     alloc: Global,
     options: &CodegenOptions,

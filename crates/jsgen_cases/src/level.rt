@@ -1,7 +1,7 @@
 // Levels, and contexts.
-use crate::line::{push_number, push_where};
-use crate::nodes::context_of;
+use crate::push::{push_numbers, push_where};
 use bitflags::Flags;
+use jsgen::Context;
 use jsgen_syntax::{Memory, Precedence, Precedence as P};
 use std::alloc::Global;
 
@@ -51,7 +51,7 @@ pub fn push_level(alloc: Global, name: &str, answer: &mut String) -> Result<(), 
             below = below.saturating_add(1);
         }
     }
-    push_number(alloc, answer, below)?;
+    push_numbers(alloc, &[below], answer)?;
     push_where(
         answer,
         &[
@@ -61,20 +61,32 @@ pub fn push_level(alloc: Global, name: &str, answer: &mut String) -> Result<(), 
     )
 }
 
-/// The flags of the context of that name, and what it says of them; and its flags with two more, without one of these, and with
-/// types.
+/// The context of that name.
+pub fn context_of(name: &str) -> Context {
+    match name {
+        "no_in" => Context::FORBID_IN,
+        "no_call" => Context::FORBID_CALL,
+        "tagged" => Context::TAGGED_TEMPLATE,
+        _ => Context::default(),
+    }
+}
+
+/// The flags of the context of that name; those with two more, without one of these, and with types; and what it says of two.
 pub fn push_context(alloc: Global, name: &str, answer: &mut String) -> Result<(), Memory> {
     let context = context_of(name);
     let both = context.and_forbid_in(true).and_forbid_call(true);
     let call = both.and_forbid_in(false);
-    let said = format!(in alloc;
-        " {} {} {} {} {} {}",
-        context.bits(),
-        context.forbid_in(),
-        context.forbid_call(),
-        both.bits(),
-        call.bits(),
-        call.with_typescript().bits()
+    let types = call.with_typescript();
+    push_numbers(
+        alloc,
+        &[context.bits(), both.bits(), call.bits(), types.bits()],
+        answer,
     )?;
-    Ok(answer.push_str(&said)?)
+    push_where(
+        answer,
+        &[
+            (context.forbid_in(), " no_in"),
+            (context.forbid_call(), " no_call"),
+        ],
+    )
 }

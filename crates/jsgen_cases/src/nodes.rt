@@ -1,73 +1,55 @@
-// Questions of a statement and of the expression in it.
+// What is printed for the first statement of a program, and for the expression in it.
 ghost use Rattle.std.specs.Prelude.{◌≡◌, false, IfOk};
 ghost use Rattle.jsgen.specs.Codegen.{has_failed};
 
-use crate::level::level_of;
-use crate::line::push_shown;
-use crate::operator::push_operator;
-use crate::quotes::push_quotes;
+use crate::level::{context_of, level_of};
 use jsgen::{Codegen, CodegenError, Context, Gen, GenExpr, TreeFault};
-use jsgen_syntax::{Memory, Precedence};
-use jsgen_tree::{CodegenOptions, Declaration, Expression, Node, ObjectPropertyKind, Statement};
+use jsgen_syntax::{Memory, Precedence, Span};
+use jsgen_tree::{Declaration, Expression, GetSpan, Node, ObjectPropertyKind, Program, Statement};
 use std::alloc::Global;
 
-/// The expression of an expression statement, without parentheses round it.
-fn expression_in(statement: &Node) -> Option<&Expression> {
-    match statement {
-        Node::Statement(Statement::ExpressionStatement(node)) => node
-            .expression
-            .get()
-            .inner_expression(),
+/// The expression of the first statement, without parentheses round it.
+pub fn expression_in(program: &Program) -> Option<&Expression> {
+    match program.body.as_slice().first()?.get() {
+        Node::Statement(Statement::ExpressionStatement(node)) => {
+            node.expression.get().inner_expression()
+        }
         _ => None,
     }
 }
 
-/// The answer for a statement, the first of its program. A printer that hasn't printed anything prints what is to be printed.
-pub fn push_of_statement(
-    alloc: Global,
-    printer: Codegen<'_>,
-    options: &CodegenOptions,
-    asked: &str,
-    statement: &Node,
-    answer: &mut String,
-) -> Result<(), Memory>
-    requires unfailed { has_failed printer ≡ false }
-{
-    match (asked, expression_in(statement)) {
-        ("quotes", Some(node)) => push_quotes(alloc, options, node, answer),
-        ("operator", Some(node)) => push_operator(alloc, node, answer),
-        _ => push_code(printer, asked, statement, answer),
-    }
-}
-
-fn push_code(
+/// What a printer that hasn't printed anything prints.
+pub fn push_code(
     printer: Codegen<'_>,
     asked: &str,
-    statement: &Node,
+    program: &Program,
     answer: &mut String,
 ) -> Result<(), Memory>
     requires unfailed { has_failed printer ≡ false }
 {
     let mut printer = printer;
     let was_new = !printer.has_printed();
-    let outcome = print_asked(&mut printer, asked, statement);
+    let outcome = print_asked(&mut printer, asked, program);
     if outcome.is_err() || printer.has_failed() || !printer.has_printed() || !was_new {
-        answer.push_str("failed: ")?;
-        return push_shown(answer, &printer.into_source_text());
+        return Ok(answer.push_str(&printer.into_source_text())?);
     }
-    push_shown(answer, &String::from(printer))
+    Ok(answer.push_str(&String::from(printer))?)
 }
 
-fn print_asked(printer: &mut Codegen<'_>, asked: &str, statement: &Node) -> Result<(), CodegenError>
+fn print_asked(
+    printer: &mut Codegen<'_>,
+    asked: &str,
+    program: &Program,
+) -> Result<(), CodegenError>
     requires unfailed { has_failed printer.old ≡ false }
 {
     let (what, how) = asked.split_once(' ').unwrap_or((asked, ""));
-    match (what, expression_in(statement)) {
+    match (what, expression_in(program)) {
         ("at", Some(node)) => print_at(printer, how, node),
         ("alone", Some(node)) => print_alone(printer, node),
         ("pieces", Some(node)) => print_pieces(printer, how, node),
         ("string", _) => printer.print_string(how),
-        _ => print_nodes(printer, statement),
+        _ => print_nodes(printer, program),
     }
 }
 
@@ -83,17 +65,7 @@ fn print_at<E: GenExpr>(printer: &mut Codegen<'_>, how: &str, node: &E) -> Resul
     node.print_expr(printer, level, context)
 }
 
-/// The context of that name.
-pub fn context_of(name: &str) -> Context {
-    match name {
-        "no_in" => Context::FORBID_IN,
-        "no_call" => Context::FORBID_CALL,
-        "tagged" => Context::TAGGED_TEMPLATE,
-        _ => Context::default(),
-    }
-}
-
-// What keeps the rules by itself, and otherwise the rule that it breaks.
+// What keeps the rules by itself, and otherwise that it doesn't.
 fn print_alone(printer: &mut Codegen<'_>, node: &Expression) -> Result<(), CodegenError>
     requires unfailed { has_failed printer.old ≡ false }
 {
@@ -104,8 +76,8 @@ fn print_alone(printer: &mut Codegen<'_>, node: &Expression) -> Result<(), Codeg
     }
 }
 
-// A text by each call that prints one, with the node behind the first two: a word stands apart from a name, and an object begins
-// nothing there.
+// A text by each call that prints one, with the node behind the first two: a word stands apart from a name, and an object
+// begins nothing there.
 fn print_pieces<E: GenExpr>(
     printer: &mut Codegen<'_>,
     text: &str,
@@ -132,38 +104,33 @@ fn print_twice<G: Gen>(printer: &mut Codegen<'_>, node: &G) -> Result<(), Codege
     printer.print_str("|")
 }
 
-// A statement, and the declaration, the property with its key, or the parameters in it, each by itself.
-fn print_nodes(printer: &mut Codegen<'_>, node: &Node) -> Result<(), CodegenError>
+// The first statement, and the declaration, the property with its key, or the parameters in it, each by itself.
+fn print_nodes(printer: &mut Codegen<'_>, program: &Program) -> Result<(), CodegenError>
     requires unfailed { has_failed printer.old ≡ false }
 {
-    let Node::Statement(statement) = node else {
+    let [first] = program.body.as_slice() else {
+        return Ok(());
+    };
+    let Node::Statement(statement) = first.get() else {
         return Ok(());
     };
     print_twice(printer, statement)?;
-    match statement {
-        Statement::Declaration(declaration) => match declaration.get() {
+    match (statement, expression_in(program)) {
+        (Statement::Declaration(declaration), _) => match declaration.get() {
             Node::Declaration(Declaration::VariableDeclaration(declaration)) => {
                 print_twice(printer, &**declaration)?;
                 printer.print_str(declaration.kind.as_str())
             }
             _ => Ok(()),
         },
-        _ => print_parts(printer, node),
-    }
-}
-
-fn print_parts(printer: &mut Codegen<'_>, statement: &Node) -> Result<(), CodegenError>
-    requires unfailed { has_failed printer.old ≡ false }
-{
-    match expression_in(statement) {
-        Some(Expression::ObjectExpression(object)) => match object.properties.as_slice() {
+        (_, Some(Expression::ObjectExpression(object))) => match object.properties.as_slice() {
             [ObjectPropertyKind::ObjectProperty(property)] => {
                 print_twice(printer, &property.key)?;
                 print_twice(printer, &**property)
             }
             _ => Ok(()),
         },
-        Some(Expression::ArrowFunctionExpression(function)) => {
+        (_, Some(Expression::ArrowFunctionExpression(function))) => {
             let params = &*function.params;
             print_twice(printer, params)?;
             match (params.items.as_slice(), &params.rest) {
@@ -175,5 +142,40 @@ fn print_parts(printer: &mut Codegen<'_>, statement: &Node) -> Result<(), Codege
             }
         }
         _ => Ok(()),
+    }
+}
+
+fn push_span(alloc: Global, span: Span, answer: &mut String) -> Result<(), Memory> {
+    let said = format!(in alloc; " {}-{}", span.start, span.end)?;
+    Ok(answer.push_str(&said)?)
+}
+
+/// The span of the program, and of each statement; and behind that of an expression statement the one of its expression, the
+/// one within its parentheses, and the same once more.
+pub fn push_spans(alloc: Global, program: &Program, answer: &mut String) -> Result<(), Memory> {
+    push_span(alloc, program.span(), answer)?;
+    for statement in &program.body {
+        let statement = statement.get();
+        push_span(alloc, statement.span(), answer)?;
+        push_inner_spans(alloc, statement, answer)?;
+    }
+    Ok(())
+}
+
+fn push_inner_spans(alloc: Global, statement: &Node, answer: &mut String) -> Result<(), Memory> {
+    let (None, Node::Statement(Statement::ExpressionStatement(node))) = (
+        statement.inner_expression(),
+        statement,
+    ) else {
+        return Ok(answer.push_str(" none")?);
+    };
+    let expression = node.expression.get();
+    push_span(alloc, expression.span(), answer)?;
+    match expression.inner_expression() {
+        Some(inner) => {
+            push_span(alloc, inner.span(), answer)?;
+            push_span(alloc, inner.without_parentheses().span(), answer)
+        }
+        None => Ok(()),
     }
 }

@@ -1,5 +1,4 @@
 // The calls that keep the strings of a CommonJS module out of backticks.
-use crate::line::push_shown;
 use jsgen::CodegenOptions;
 use jsgen_nodes::{
     try_print_define_property_call, try_print_equality_string, try_print_exports_computed_target,
@@ -11,29 +10,34 @@ use jsgen_syntax::Memory;
 use jsgen_tree::{Expression, Node};
 use std::alloc::Global;
 
-/// What the call for this expression prints, behind `applies` where it applies. For a call there are two, which are tried in turn.
+/// What the calls for this expression print, behind `applies` where one applies.
 pub fn push_quotes(
     alloc: Global,
     options: &CodegenOptions,
-    node: &Expression,
+    node: Option<&Expression>,
     answer: &mut String,
 ) -> Result<(), Memory> {
     let mut p = Printer::new(alloc, options);
-    let applies = match node {
-        Expression::CallExpression(call) => {
-            let is_required = try_print_require_call(&mut p, call)?;
-            let is_defined = try_print_define_property_call(&mut p, call, Context::FREE)?;
-            is_required || is_defined
-        }
-        Expression::AssignmentExpression(node) => {
-            try_print_exports_computed_target(&mut p, &node.left, Context::FREE)?
-        }
-        Expression::BinaryExpression(node) => match node.right.get() {
-            Node::Expression(operand) => try_print_equality_string(&mut p, node.operator, operand)?,
-            _ => false,
-        },
-        _ => false,
-    };
+    let applies = try_print(&mut p, node)?;
     answer.push_str(if applies { "applies " } else { "none" })?;
-    push_shown(answer, &p.into_string())
+    Ok(answer.push_str(&p.into_string())?)
+}
+
+// For a call there are two, which are tried in turn.
+fn try_print(p: &mut Printer<'_>, node: Option<&Expression>) -> Result<bool, Memory> {
+    match node {
+        Some(Expression::CallExpression(call)) => {
+            let is_required = try_print_require_call(p, call)?;
+            let is_defined = try_print_define_property_call(p, call, Context::FREE)?;
+            Ok(is_required || is_defined)
+        }
+        Some(Expression::AssignmentExpression(node)) => {
+            try_print_exports_computed_target(p, &node.left, Context::FREE)
+        }
+        Some(Expression::BinaryExpression(node)) => match node.right.get() {
+            Node::Expression(operand) => try_print_equality_string(p, node.operator, operand),
+            _ => Ok(false),
+        },
+        _ => Ok(false),
+    }
 }

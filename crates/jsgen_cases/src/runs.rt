@@ -5,7 +5,6 @@ ghost use Rattle.jsgen_jobs.specs.Job.{IsSomeJob};
 ghost use Rattle.jsgen_device.specs.Memory.{source_left, source_faults};
 ghost use Rattle.jsgen_device.specs.Transfer.{IsWithin};
 
-use crate::line::push_shown;
 use jsgen::Library;
 use jsgen_device::{
     Failed, LIMIT, MemSink, MemSource, Source, StdSink, StdSource, SureSink, SureSource,
@@ -14,40 +13,18 @@ use jsgen_syntax::Memory;
 use jsgen_tool::{Status, run};
 use std::alloc::Global;
 
-/// What a run gave.
-#[derive(Drop)]
-pub struct Seen {
-    pub status: Status,
-    pub out: Vec<u8>,
-    pub err: Vec<u8>,
-}
-
-impl Seen {
-    /// Keeps the status and both texts.
-    fn new(alloc: Global, status: Status, out: &[u8], err: &[u8]) -> Result<Seen, Memory> {
-        Ok(Seen {
-            status,
-            out: out.to_vec(alloc)?,
-            err: err.to_vec(alloc)?,
-        })
-    }
-}
-
-/// At which calls devices fail, counted from 1, and 0 for none.
-#[derive(Clone, Copy)]
-pub struct Failing {
-    pub pull: u64,
-    pub push: u64,
-    /// How many bytes the push takes before, or how much room there is.
-    pub takes: usize,
-}
-
-impl Failing {
-    pub const NONE: Failing = Failing {
-        pull: 0,
-        push: 0,
-        takes: 0,
-    };
+// A run's status and its text, and behind a bar its line.
+fn push_seen(
+    alloc: Global,
+    status: Status,
+    out: &[u8],
+    err: &[u8],
+    answer: &mut String,
+) -> Result<(), Memory> {
+    let out = str::from_utf8(out).unwrap_or("no UTF-8");
+    let err = str::from_utf8(err).unwrap_or("no UTF-8");
+    let said = format!(in alloc; "{} {out}|{err}", status.code())?;
+    Ok(answer.push_str(&said)?)
 }
 
 // The words of a command line, with a space between each two.
@@ -61,25 +38,26 @@ fn words_of(alloc: Global, line: &str) -> Result<Vec<String>, Memory> {
     Ok(words)
 }
 
-/// Over devices in memory.
-pub fn run_over(
+/// What a run gives whose devices have room, and don't fail.
+pub fn push_sure_run(
     alloc: Global,
-    words: &str,
-    input: &[u8],
-    failing: Failing,
-) -> Result<Seen, Memory> {
-    let words = words_of(alloc, words)?;
-    let mut out = MemSink::new(alloc, 1000, vec![in alloc; (failing.push, failing.takes)]?)?;
-    let mut err = MemSink::new(alloc, 100, Vec::new(alloc))?;
-    let mut source = MemSource::new(input.to_vec(alloc)?, vec![in alloc; failing.pull]?);
+    word: &str,
+    input: &str,
+    answer: &mut String,
+) -> Result<(), Memory> {
+    let words = words_of(alloc, word)?;
+    let mut source = SureSource::new(input.as_bytes().to_vec(alloc)?);
+    let mut out = SureSink::new(alloc, 1000)?;
+    let mut err = SureSink::new(alloc, 100)?;
     let status = run::<Library, _, _>(alloc, &words, &mut source, &mut out, &mut err);
-    Seen::new(alloc, status, out.bytes(), err.bytes())
+    push_seen(alloc, status, out.bytes(), err.bytes(), answer)
 }
 
-// A source that gives at most seven bytes a call.
+// A source that gives at most so many bytes a call.
 #[derive(Drop)]
 struct Trickle {
     inner: MemSource,
+    most: usize,
 }
 
 impl Source for Trickle {
@@ -88,80 +66,85 @@ impl Source for Trickle {
     ghost faults = { λ s. source_faults s.inner };
 
     fn pull(&mut self, into: &mut [u8]) -> Result<usize, Failed> {
-        let count = into.len().min(7);
+        let count = into.len().min(self.most);
         self.inner.pull(&mut into[..count])
     }
 }
 
-// Over that source, and sinks with room for so many bytes.
-fn trickled(alloc: Global, words: &str, input: Vec<u8>, failing: Failing) -> Result<Seen, Memory> {
-    let words = words_of(alloc, words)?;
-    let room = failing.takes.saturating_mul(10);
-    let mut out = SureSink::new(alloc, room)?;
-    let mut err = SureSink::new(alloc, room)?;
+// Over devices that are told four digits: at which call the source fails, at which the sink, how many bytes that call takes
+// before, and how many tens of bytes there is room for.
+fn push_told_run(
+    alloc: Global,
+    words: &[String],
+    most: usize,
+    told: [u8; 4],
+    input: Vec<u8>,
+    answer: &mut String,
+) -> Result<(), Memory> {
+    let [pull, push, takes, room] = told;
+    let pulls = vec![in alloc; u64::from(pull)]?;
+    let pushes = vec![in alloc; (u64::from(push), usize::from(takes))]?;
     let mut source = Trickle {
-        inner: MemSource::new(input, vec![in alloc; failing.pull]?),
+        inner: MemSource::new(input, pulls),
+        most,
     };
-    let status = run::<Library, _, _>(alloc, &words, &mut source, &mut out, &mut err);
-    Seen::new(alloc, status, out.bytes(), err.bytes())
+    let mut out = MemSink::new(alloc, usize::from(room) * 10, pushes)?;
+    let mut err = MemSink::new(alloc, usize::from(room) * 10, Vec::new(alloc))?;
+    let status = run::<Library, _, _>(alloc, words, &mut source, &mut out, &mut err);
+    push_seen(alloc, status, out.bytes(), err.bytes(), answer)
 }
 
 // Over a reader and writers of std.
-fn streamed(alloc: Global, words: &str, input: &[u8]) -> Result<Seen, Memory> {
-    let words = words_of(alloc, words)?;
+fn push_std_run(
+    alloc: Global,
+    words: &[String],
+    input: &[u8],
+    answer: &mut String,
+) -> Result<(), Memory> {
     let mut text = Vec::<u8>::new(alloc);
     let mut line = Vec::<u8>::new(alloc);
     let mut source = StdSource::new(input);
     let mut out = StdSink::new(&mut text);
     let mut err = StdSink::new(&mut line);
-    let status = run::<Library, _, _>(alloc, &words, &mut source, &mut out, &mut err);
-    Ok(Seen {
-        status,
-        out: text,
-        err: line,
-    })
+    let status = run::<Library, _, _>(alloc, words, &mut source, &mut out, &mut err);
+    push_seen(alloc, status, &text, &line, answer)
 }
 
 // The bytes that a line stands for.
 fn input_of(alloc: Global, line: &str) -> Result<Vec<u8>, Memory> {
-    Ok(match line {
-        "no UTF-8" => b"{\"rows\":\"\xff\"}".to_vec(alloc)?,
-        "spaces" => vec![in alloc; b' '; LIMIT]?,
-        "more spaces" => vec![in alloc; b' '; LIMIT + 1]?,
-        _ => line.as_bytes().to_vec(alloc)?,
-    })
+    let (spaces, bytes): (usize, &[u8]) = match line {
+        "no UTF-8" => (0, b"{\"rows\":\"\xff\"}"),
+        "spaces" => (LIMIT, b""),
+        "more spaces" => (LIMIT + 1, b""),
+        _ => (0, line.as_bytes()),
+    };
+    let mut input = vec![in alloc; b' '; spaces]?;
+    input.extend_from_slice(bytes)?;
+    Ok(input)
 }
 
+// The digit that stands there, and otherwise 0.
 fn digit(text: &str, at: usize) -> u8 {
-    text.as_bytes()
-        .get(at)
-        .copied()
-        .unwrap_or(b'0')
-        .saturating_sub(b'0')
+    let c = text.as_bytes().get(at).copied().unwrap_or(b'0');
+    c.saturating_sub(b'0')
 }
 
-/// What a run gives. Before the tab stand three digits, at which call the source fails, at which the sink, and how many bytes
-/// that call takes before, and the words; behind it the input. Where `trickle` stands first, the third digit is how many tens
-/// of bytes sinks have room for.
-pub fn push_run(alloc: Global, line: &str, answer: &mut String) -> Result<(), Memory> {
-    let (how, input) = line.split_once('\t').unwrap_or(("", ""));
+/// What a run gives: over which devices stands first, with digits for those that are told some, and then the words.
+pub fn push_run(alloc: Global, how: &str, input: &str, answer: &mut String) -> Result<(), Memory> {
     let (devices, words) = how.split_once(' ').unwrap_or((how, ""));
-    let failing = Failing {
-        pull: u64::from(digit(devices, 1)),
-        push: u64::from(digit(devices, 2)),
-        takes: usize::from(digit(devices, 3)),
-    };
+    let words = words_of(alloc, words)?;
     let input = input_of(alloc, input)?;
-    let seen = match devices.as_bytes().first() {
-        Some(b't') => trickled(alloc, words, input, failing)?,
-        Some(b's') => streamed(alloc, words, &input)?,
-        _ => run_over(alloc, words, &input, failing)?,
-    };
-    let code = format!(in alloc; "{} ", seen.status.code())?;
-    answer.push_str(&code)?;
-    push_shown(answer, str::from_utf8(&seen.out).unwrap_or("no UTF-8"))?;
-    answer.push('|')?;
-    push_shown(answer, str::from_utf8(&seen.err).unwrap_or("no UTF-8"))
+    if devices == "std" {
+        return push_std_run(alloc, &words, &input, answer);
+    }
+    let most = if devices.starts_with('t') { 7 } else { LIMIT };
+    let told = [
+        digit(devices, 1),
+        digit(devices, 2),
+        digit(devices, 3),
+        digit(devices, 4),
+    ];
+    push_told_run(alloc, &words, most, told, input, answer)
 }
 
 // What the clauses of `run` give a caller whose devices cannot fail: a job that keeps the rules is printed,

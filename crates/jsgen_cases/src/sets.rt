@@ -1,5 +1,5 @@
 // The sets that types of nodes are of.
-use crate::line::push_where;
+use crate::push::push_where;
 use jsgen_syntax::Memory;
 use jsgen_tree::{NodeSet, NodeType, NodeType as T};
 
