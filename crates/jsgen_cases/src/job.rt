@@ -2,11 +2,12 @@
 ghost use Rattle.std.specs.Prelude.{◌≡◌, false};
 ghost use Rattle.jsgen.specs.Codegen.{has_printed};
 
-use crate::nodes::{expression_in, push_code, push_spans};
+use crate::nodes::{expression_in, print_asked, push_code, push_spans};
 use crate::operator::push_operator;
 use crate::push::push_where;
-use crate::quotes::push_quotes;
+use crate::quotes::{push_tried, try_print};
 use jsgen::{Codegen, Job, read_job};
+use jsgen_printer::Printer;
 use jsgen_syntax::Memory;
 use jsgen_tree::{CodegenOptions, CommentOptions, Program};
 use std::alloc::Global;
@@ -41,9 +42,17 @@ fn push_of(alloc: Global, asked: &str, job: &Job, answer: &mut String) -> Result
         "program" => push_program(printer, &job.program, answer),
         "spans" => push_spans(alloc, &job.program, answer),
         "options" => push_options(alloc, &job.options, answer),
-        "quotes" => push_quotes(alloc, &job.options, expression_in(&job.program), answer),
+        "quotes" => {
+            let mut p = Printer::new(alloc, &job.options);
+            let tried = try_print(&mut p, expression_in(&job.program));
+            push_tried(tried, p, answer)
+        }
         "operator" => push_operator(alloc, expression_in(&job.program), answer),
-        _ => push_code(printer, asked, &job.program, answer),
+        _ => {
+            let mut printer = printer;
+            let outcome = print_asked(&mut printer, asked, &job.program);
+            push_code(outcome, printer, answer)
+        }
     }
 }
 

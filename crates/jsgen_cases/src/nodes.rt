@@ -18,25 +18,21 @@ pub fn expression_in(program: &Program) -> Option<&Expression> {
     }
 }
 
-/// What a printer that hasn't printed anything prints.
+/// What a printer printed.
 pub fn push_code(
+    outcome: Result<(), CodegenError>,
     printer: Codegen<'_>,
-    asked: &str,
-    program: &Program,
     answer: &mut String,
-) -> Result<(), Memory>
-    requires unfailed { has_failed printer ≡ false }
-{
-    let mut printer = printer;
-    let was_new = !printer.has_printed();
-    let outcome = print_asked(&mut printer, asked, program);
-    if outcome.is_err() || printer.has_failed() || !printer.has_printed() || !was_new {
+) -> Result<(), Memory> {
+    if outcome.is_err() || printer.has_failed() || !printer.has_printed() {
+        answer.push_str("failed: ")?;
         return Ok(answer.push_str(&printer.into_source_text())?);
     }
     Ok(answer.push_str(&String::from(printer))?)
 }
 
-fn print_asked(
+/// Prints what is asked, by a printer that hasn't printed anything.
+pub fn print_asked(
     printer: &mut Codegen<'_>,
     asked: &str,
     program: &Program,
@@ -46,7 +42,11 @@ fn print_asked(
     let (what, how) = asked.split_once(' ').unwrap_or((asked, ""));
     match (what, expression_in(program)) {
         ("at", Some(node)) => print_at(printer, how, node),
-        ("alone", Some(node)) => print_alone(printer, node),
+        ("alone", Some(node)) => match printer.check_expression(node) {
+            Ok(()) => printer.print_expression(node),
+            Err(TreeFault::Place { start: 0 }) => printer.print_str("refused: Place at 0"),
+            Err(_) => printer.print_str("refused"),
+        },
         ("pieces", Some(node)) => print_pieces(printer, how, node),
         ("string", _) => printer.print_string(how),
         _ => print_nodes(printer, program),
@@ -63,17 +63,6 @@ fn print_at<E: GenExpr>(printer: &mut Codegen<'_>, how: &str, node: &E) -> Resul
     node.gen_expr(printer, level, context)?;
     printer.print_str("|")?;
     node.print_expr(printer, level, context)
-}
-
-// What keeps the rules by itself, and otherwise that it doesn't.
-fn print_alone(printer: &mut Codegen<'_>, node: &Expression) -> Result<(), CodegenError>
-    requires unfailed { has_failed printer.old ≡ false }
-{
-    match printer.check_expression(node) {
-        Ok(()) => printer.print_expression(node),
-        Err(TreeFault::Place { start: 0 }) => printer.print_str("refused: Place at 0"),
-        Err(_) => printer.print_str("refused"),
-    }
 }
 
 // A text by each call that prints one, with the node behind the first two: a word stands apart from a name, and an object
@@ -150,32 +139,22 @@ fn push_span(alloc: Global, span: Span, answer: &mut String) -> Result<(), Memor
     Ok(answer.push_str(&said)?)
 }
 
-/// The span of the program, and of each statement; and behind that of an expression statement the one of its expression, the
-/// one within its parentheses, and the same once more.
+/// The span of the program, and of each statement with that of its expression, if it is for one: with its parentheses, without
+/// them, and the last once more.
 pub fn push_spans(alloc: Global, program: &Program, answer: &mut String) -> Result<(), Memory> {
     push_span(alloc, program.span(), answer)?;
     for statement in &program.body {
         let statement = statement.get();
         push_span(alloc, statement.span(), answer)?;
-        push_inner_spans(alloc, statement, answer)?;
+        let within = match statement {
+            Node::Statement(Statement::ExpressionStatement(node)) => node.expression.get(),
+            other => other,
+        };
+        push_span(alloc, within.span(), answer)?;
+        if let Some(inner) = within.inner_expression() {
+            push_span(alloc, inner.span(), answer)?;
+            push_span(alloc, inner.without_parentheses().span(), answer)?;
+        }
     }
     Ok(())
-}
-
-fn push_inner_spans(alloc: Global, statement: &Node, answer: &mut String) -> Result<(), Memory> {
-    let (None, Node::Statement(Statement::ExpressionStatement(node))) = (
-        statement.inner_expression(),
-        statement,
-    ) else {
-        return Ok(answer.push_str(" none")?);
-    };
-    let expression = node.expression.get();
-    push_span(alloc, expression.span(), answer)?;
-    match expression.inner_expression() {
-        Some(inner) => {
-            push_span(alloc, inner.span(), answer)?;
-            push_span(alloc, inner.without_parentheses().span(), answer)
-        }
-        None => Ok(()),
-    }
 }

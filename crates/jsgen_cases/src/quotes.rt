@@ -1,5 +1,4 @@
 // The calls that keep the strings of a CommonJS module out of backticks.
-use jsgen::CodegenOptions;
 use jsgen_nodes::{
     try_print_define_property_call, try_print_equality_string, try_print_exports_computed_target,
     try_print_require_call,
@@ -8,23 +7,19 @@ use jsgen_place::Context;
 use jsgen_printer::Printer;
 use jsgen_syntax::Memory;
 use jsgen_tree::{Expression, Node};
-use std::alloc::Global;
 
-/// What the calls for this expression print, behind `applies` where one applies.
-pub fn push_quotes(
-    alloc: Global,
-    options: &CodegenOptions,
-    node: Option<&Expression>,
+/// What a printer printed, behind `applies` where a call applied.
+pub fn push_tried(
+    tried: Result<bool, Memory>,
+    p: Printer<'_>,
     answer: &mut String,
 ) -> Result<(), Memory> {
-    let mut p = Printer::new(alloc, options);
-    let applies = try_print(&mut p, node)?;
-    answer.push_str(if applies { "applies " } else { "none" })?;
+    answer.push_str(if tried? { "applies " } else { "none" })?;
     Ok(answer.push_str(&p.into_string())?)
 }
 
-// For a call there are two, which are tried in turn.
-fn try_print(p: &mut Printer<'_>, node: Option<&Expression>) -> Result<bool, Memory> {
+/// Tries the call that is for such an expression; for a call there are two.
+pub fn try_print(p: &mut Printer<'_>, node: Option<&Expression>) -> Result<bool, Memory> {
     match node {
         Some(Expression::CallExpression(call)) => {
             let is_required = try_print_require_call(p, call)?;

@@ -53,11 +53,10 @@ pub fn push_sure_run(
     push_seen(alloc, status, out.bytes(), err.bytes(), answer)
 }
 
-// A source that gives at most so many bytes a call.
+// A source that gives at most seven bytes a call.
 #[derive(Drop)]
 struct Trickle {
     inner: MemSource,
-    most: usize,
 }
 
 impl Source for Trickle {
@@ -66,30 +65,26 @@ impl Source for Trickle {
     ghost faults = { λ s. source_faults s.inner };
 
     fn pull(&mut self, into: &mut [u8]) -> Result<usize, Failed> {
-        let count = into.len().min(self.most);
+        let count = into.len().min(7);
         self.inner.pull(&mut into[..count])
     }
 }
 
-// Over devices that are told four digits: at which call the source fails, at which the sink, how many bytes that call takes
-// before, and how many tens of bytes there is room for.
-fn push_told_run(
+// Over a source and sinks that are told: at which call they fail, how many bytes that call takes before, and for how many tens
+// of bytes there is room.
+fn push_told_run<S: Source + Drop>(
     alloc: Global,
     words: &[String],
-    most: usize,
-    told: [u8; 4],
-    input: Vec<u8>,
+    source: S,
+    told: [u8; 3],
     answer: &mut String,
 ) -> Result<(), Memory> {
-    let [pull, push, takes, room] = told;
-    let pulls = vec![in alloc; u64::from(pull)]?;
+    let [push, takes, room] = told;
+    let room = usize::from(room) * 10;
     let pushes = vec![in alloc; (u64::from(push), usize::from(takes))]?;
-    let mut source = Trickle {
-        inner: MemSource::new(input, pulls),
-        most,
-    };
-    let mut out = MemSink::new(alloc, usize::from(room) * 10, pushes)?;
-    let mut err = MemSink::new(alloc, usize::from(room) * 10, Vec::new(alloc))?;
+    let mut source = source;
+    let mut out = MemSink::new(alloc, room, pushes)?;
+    let mut err = MemSink::new(alloc, room, Vec::new(alloc))?;
     let status = run::<Library, _, _>(alloc, words, &mut source, &mut out, &mut err);
     push_seen(alloc, status, out.bytes(), err.bytes(), answer)
 }
@@ -129,7 +124,7 @@ fn digit(text: &str, at: usize) -> u8 {
     c.saturating_sub(b'0')
 }
 
-/// What a run gives: over which devices stands first, with digits for those that are told some, and then the words.
+/// What a run gives: over which devices stands first, with the digits that these are told, and then the words.
 pub fn push_run(alloc: Global, how: &str, input: &str, answer: &mut String) -> Result<(), Memory> {
     let (devices, words) = how.split_once(' ').unwrap_or((how, ""));
     let words = words_of(alloc, words)?;
@@ -137,14 +132,12 @@ pub fn push_run(alloc: Global, how: &str, input: &str, answer: &mut String) -> R
     if devices == "std" {
         return push_std_run(alloc, &words, &input, answer);
     }
-    let most = if devices.starts_with('t') { 7 } else { LIMIT };
-    let told = [
-        digit(devices, 1),
-        digit(devices, 2),
-        digit(devices, 3),
-        digit(devices, 4),
-    ];
-    push_told_run(alloc, &words, most, told, input, answer)
+    let source = MemSource::new(input, vec![in alloc; u64::from(digit(devices, 1))]?);
+    let told = [digit(devices, 2), digit(devices, 3), digit(devices, 4)];
+    if devices.starts_with('m') {
+        return push_told_run(alloc, &words, source, told, answer);
+    }
+    push_told_run(alloc, &words, Trickle { inner: source }, told, answer)
 }
 
 // What the clauses of `run` give a caller whose devices cannot fail: a job that keeps the rules is printed,
