@@ -2,6 +2,7 @@
 ghost use Rattle.std.specs.Prelude.{◌≡◌, ◌*◌, ◌^◌, ◌<◌};
 ghost use Rattle.jsgen_syntax.specs.Buffer.{indent_width};
 
+use crate::push::{push_numbers, push_where};
 use jsgen_syntax::{CodeBuffer, IndentChar, Memory};
 use std::alloc::Global;
 
@@ -26,22 +27,20 @@ fn push_written(
 {
     let mut buffer = CodeBuffer::with_indent(alloc, indent, width);
     write(&mut buffer, depth, width)?;
-    push_end(alloc, &buffer, answer)?;
-    Ok(answer.push_str(&buffer.into_string())?)
-}
-
-// Whether the buffer is empty, how long it is, and bytes of its end.
-fn push_end(alloc: Global, buffer: &CodeBuffer, answer: &mut String) -> Result<(), Memory> {
-    let said = format!(in alloc;
-        "{} {} {} {:?} {:?} {:?} ",
-        buffer.is_empty(),
-        buffer.len(),
-        buffer.as_bytes().len(),
-        buffer.last_byte(),
-        buffer.peek_nth_byte_back(2),
-        buffer.peek_nth_byte_back(8)
-    )?;
-    Ok(answer.push_str(&said)?)
+    let end = [
+        buffer.last_byte().unwrap_or(0),
+        buffer.peek_nth_byte_back(2).unwrap_or(0),
+        buffer.peek_nth_byte_back(8).unwrap_or(0),
+    ];
+    push_numbers(alloc, &end, answer)?;
+    push_where(
+        answer,
+        &[
+            (buffer.is_empty(), " empty"),
+            (buffer.len() == buffer.as_bytes().len(), " "),
+            (true, buffer.as_str()),
+        ],
+    )
 }
 
 fn write(buffer: &mut CodeBuffer, depth: usize, width: usize) -> Result<(), Memory>

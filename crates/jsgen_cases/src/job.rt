@@ -4,7 +4,7 @@ ghost use Rattle.jsgen.specs.Codegen.{has_printed};
 
 use crate::nodes::{expression_in, print_asked, push_code, push_spans};
 use crate::operator::push_operator;
-use crate::push::push_where;
+use crate::push::{push_each, push_where};
 use crate::quotes::{push_tried, try_print};
 use jsgen::{Codegen, Job, read_job};
 use jsgen_printer::Printer;
@@ -33,23 +33,24 @@ pub fn push_of_job(
 }
 
 fn push_of(alloc: Global, asked: &str, job: &Job, answer: &mut String) -> Result<(), Memory> {
-    let options = job.options.clone(alloc)?;
-    let printer = Codegen::new(alloc)
-        .with_options(options)
-        .with_scoping(job.scoping.as_ref())
-        .with_private_member_mappings(job.private.as_ref());
     match asked {
-        "program" => push_program(printer, &job.program, answer),
         "spans" => push_spans(alloc, &job.program, answer),
         "options" => push_options(alloc, &job.options, answer),
+        "operator" => push_operator(alloc, expression_in(&job.program), answer),
         "quotes" => {
             let mut p = Printer::new(alloc, &job.options);
             let tried = try_print(&mut p, expression_in(&job.program));
             push_tried(tried, p, answer)
         }
-        "operator" => push_operator(alloc, expression_in(&job.program), answer),
         _ => {
-            let mut printer = printer;
+            let options = job.options.clone(alloc)?;
+            let mut printer = Codegen::new(alloc)
+                .with_options(options)
+                .with_scoping(job.scoping.as_ref())
+                .with_private_member_mappings(job.private.as_ref());
+            if asked == "program" {
+                return push_program(printer, &job.program, answer);
+            }
             let outcome = print_asked(&mut printer, asked, &job.program);
             push_code(outcome, printer, answer)
         }
@@ -64,11 +65,7 @@ fn push_program(printer: Codegen<'_>, program: &Program, answer: &mut String) ->
         return Ok(answer.push_str("refused")?);
     }
     match printer.build(program) {
-        Ok(printed) => {
-            answer.push_str("0 ")?;
-            answer.push_str(&printed.code)?;
-            Ok(answer.push('|')?)
-        }
+        Ok(printed) => push_each(answer, &["0 ", &printed.code, "|"]),
         Err(_) => Err(Memory),
     }
 }

@@ -27,7 +27,9 @@ use jsgen_syntax::Memory;
 use level::{push_context, push_level};
 use meaning::push_comparison;
 use name::{push_log, push_name};
+use operator::push_wrapped;
 use printed::push_printed;
+use push::push_each;
 use raw::push_raw;
 use runs::push_run;
 use sets::push_sets;
@@ -59,6 +61,7 @@ fn push_answer(
         "context" => push_context(alloc, rest, answer),
         "sets" => push_sets(rest, answer),
         "buffer" => push_buffer(alloc, rest, answer),
+        "wrapped" => push_wrapped(alloc, answer),
         "log" => push_log(alloc, how, rest, answer),
         _ => Ok(answer.push_str("no question")?),
     }
@@ -73,8 +76,7 @@ fn meant(alloc: Global, line: &str) -> Result<String, Memory> {
 fn push_shown(alloc: Global, text: &str, answers: &mut String) -> Result<(), Memory> {
     let text = text.replace(alloc, '\n', "⏎")?;
     let text = text.replace(alloc, '\t', "⇥")?;
-    answers.push_str(&text)?;
-    Ok(answers.push('\n')?)
+    push_each(answers, &[&text, "\n"])
 }
 
 fn push_line(alloc: Global, line: &str, answers: &mut String) -> Result<(), Memory> {

@@ -3,6 +3,7 @@ ghost use Rattle.std.specs.Prelude.{◌≡◌, false, IfOk};
 ghost use Rattle.jsgen.specs.Codegen.{has_failed};
 
 use crate::level::{context_of, level_of};
+use crate::push::{push_each, push_numbers, push_where};
 use jsgen::{Codegen, CodegenError, Context, Gen, GenExpr, TreeFault};
 use jsgen_syntax::{Memory, Precedence, Span};
 use jsgen_tree::{Declaration, Expression, GetSpan, Node, ObjectPropertyKind, Program, Statement};
@@ -24,10 +25,16 @@ pub fn push_code(
     printer: Codegen<'_>,
     answer: &mut String,
 ) -> Result<(), Memory> {
-    if outcome.is_err() || printer.has_failed() || !printer.has_printed() {
-        answer.push_str("failed: ")?;
-        return Ok(answer.push_str(&printer.into_source_text())?);
+    if outcome.is_err() {
+        return push_each(answer, &["failed: ", &printer.into_source_text()]);
     }
+    push_where(
+        answer,
+        &[
+            (printer.has_failed(), "failed: "),
+            (!printer.has_printed(), "nothing: "),
+        ],
+    )?;
     Ok(answer.push_str(&String::from(printer))?)
 }
 
@@ -134,27 +141,40 @@ fn print_nodes(printer: &mut Codegen<'_>, program: &Program) -> Result<(), Codeg
     }
 }
 
-fn push_span(alloc: Global, span: Span, answer: &mut String) -> Result<(), Memory> {
-    let said = format!(in alloc; " {}-{}", span.start, span.end)?;
-    Ok(answer.push_str(&said)?)
+/// The spans of a program of two statements, of the first one, of its expression, of that without parentheses, of the last once
+/// more, and of the second statement.
+pub fn push_spans(alloc: Global, program: &Program, answer: &mut String) -> Result<(), Memory> {
+    let [first, second] = program.body.as_slice() else {
+        return Ok(());
+    };
+    let Node::Statement(Statement::ExpressionStatement(node)) = first.get() else {
+        return Ok(());
+    };
+    let whole = node.expression.get();
+    let Some(inner) = whole.inner_expression() else {
+        return Ok(());
+    };
+    let spans = [
+        program.span(),
+        first.get().span(),
+        whole.span(),
+        inner.span(),
+        inner.without_parentheses().span(),
+        second.get().span(),
+    ];
+    let has_inner = first.get().inner_expression().is_some()
+        || second.get().inner_expression().is_some();
+    push_each_span(alloc, &spans, has_inner, answer)
 }
 
-/// The span of the program, and of each statement with that of its expression, if it is for one: with its parentheses, without
-/// them, and the last once more.
-pub fn push_spans(alloc: Global, program: &Program, answer: &mut String) -> Result<(), Memory> {
-    push_span(alloc, program.span(), answer)?;
-    for statement in &program.body {
-        let statement = statement.get();
-        push_span(alloc, statement.span(), answer)?;
-        let within = match statement {
-            Node::Statement(Statement::ExpressionStatement(node)) => node.expression.get(),
-            other => other,
-        };
-        push_span(alloc, within.span(), answer)?;
-        if let Some(inner) = within.inner_expression() {
-            push_span(alloc, inner.span(), answer)?;
-            push_span(alloc, inner.without_parentheses().span(), answer)?;
-        }
+fn push_each_span(
+    alloc: Global,
+    spans: &[Span],
+    has_inner: bool,
+    answer: &mut String,
+) -> Result<(), Memory> {
+    for span in spans {
+        push_numbers(alloc, &[span.start, span.end], answer)?;
     }
-    Ok(())
+    push_where(answer, &[(has_inner, " with an expression")])
 }

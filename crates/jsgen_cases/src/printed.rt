@@ -1,5 +1,6 @@
 // What a job gives.
 use crate::job::push_of_job;
+use crate::push::push_each;
 use crate::runs::push_sure_run;
 use jsgen_syntax::Memory;
 use std::alloc::Global;
@@ -25,8 +26,8 @@ fn push_others(checked: &str, library: &str, answer: &mut String) -> Result<(), 
     if agree {
         return Ok(());
     }
-    answer.push_str(" but check: ")?;
-    answer.push_str(checked)?;
-    answer.push_str(" and the library: ")?;
-    Ok(answer.push_str(library)?)
+    push_each(
+        answer,
+        &[" but check: ", checked, " and the library: ", library],
+    )
 }

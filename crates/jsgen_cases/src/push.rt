@@ -2,6 +2,14 @@
 use jsgen_syntax::Memory;
 use std::alloc::Global;
 
+/// Each of the texts.
+pub fn push_each(answer: &mut String, texts: &[&str]) -> Result<(), Memory> {
+    for text in texts {
+        answer.push_str(text)?;
+    }
+    Ok(())
+}
+
 /// Each text whose flag is set.
 pub fn push_where(answer: &mut String, texts: &[(bool, &str)]) -> Result<(), Memory> {
     for (holds, text) in texts {
