@@ -1,5 +1,4 @@
 // The calls that keep the strings of a CommonJS module out of backticks.
-use crate::push::push_each;
 use jsgen_nodes::{
     try_print_define_property_call, try_print_equality_string, try_print_exports_computed_target,
     try_print_require_call,
@@ -15,8 +14,8 @@ pub fn push_tried(
     p: Printer<'_>,
     answer: &mut String,
 ) -> Result<(), Memory> {
-    let said = if tried? { "applies " } else { "none" };
-    push_each(answer, &[said, &p.into_string()])
+    answer.push_str(if tried? { "applies " } else { "none" })?;
+    Ok(answer.push_str(&p.into_string())?)
 }
 
 /// Tries the call that is for such an expression; for a call there are two.
