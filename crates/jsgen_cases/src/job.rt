@@ -51,8 +51,9 @@ fn push_of(alloc: Global, asked: &str, job: &Job, answer: &mut String) -> Result
             if asked == "program" {
                 return push_program(printer, &job.program, answer);
             }
+            let had_printed = printer.has_printed();
             let outcome = print_asked(&mut printer, asked, &job.program);
-            push_code(outcome, printer, answer)
+            push_code(had_printed, outcome, printer, answer)
         }
     }
 }

@@ -19,8 +19,9 @@ pub fn expression_in(program: &Program) -> Option<&Expression> {
     }
 }
 
-/// What a printer printed.
+/// What a printer printed, which had printed nothing before.
 pub fn push_code(
+    had_printed: bool,
     outcome: Result<(), CodegenError>,
     printer: Codegen<'_>,
     answer: &mut String,
@@ -31,6 +32,7 @@ pub fn push_code(
     push_where(
         answer,
         &[
+            (had_printed, "not new: "),
             (printer.has_failed(), "failed: "),
             (!printer.has_printed(), "nothing: "),
         ],
