@@ -1,5 +1,6 @@
 // Whether two programs have one normal form.
 use crate::job::let_go;
+use crate::push::push_where;
 use jsgen::read_job;
 use jsgen_oracle::{Form, normal_form};
 use jsgen_syntax::Memory;
@@ -11,13 +12,14 @@ pub fn push_comparison(alloc: Global, jobs: &str, answer: &mut String) -> Result
     let (left, right) = jobs.split_once('\t').unwrap_or(("", ""));
     let left = form_of(alloc, left)?;
     let right = form_of(alloc, right)?;
-    Ok(answer.push_str(if left.is_none() || right.is_none() {
-        "no job"
-    } else if left == right {
-        "same"
-    } else {
-        "other"
-    })?)
+    push_where(
+        answer,
+        &[
+            (left.is_none() | right.is_none(), "no job "),
+            (left == right, "same"),
+            (left != right, "other"),
+        ],
+    )
 }
 
 // The normal form of a job's program, by the names that its tables give.

@@ -3,7 +3,7 @@ ghost use Rattle.std.specs.Prelude.{◌≡◌, false, IfOk};
 ghost use Rattle.jsgen.specs.Codegen.{has_failed};
 
 use crate::level::{context_of, level_of};
-use crate::push::{push_each, push_numbers, push_where};
+use crate::push::{push_numbers, push_where};
 use jsgen::{Codegen, CodegenError, Context, Gen, GenExpr, TreeFault};
 use jsgen_syntax::{Memory, Precedence, Span};
 use jsgen_tree::{Declaration, Expression, GetSpan, Node, ObjectPropertyKind, Program, Statement};
@@ -26,14 +26,12 @@ pub fn push_code(
     printer: Codegen<'_>,
     answer: &mut String,
 ) -> Result<(), Memory> {
-    if outcome.is_err() {
-        return push_each(answer, &["failed: ", &printer.into_source_text()]);
-    }
     push_where(
         answer,
         &[
             (had_printed, "not new: "),
-            (printer.has_failed(), "failed: "),
+            (outcome.is_err(), "failed: "),
+            (printer.has_failed(), "stopped: "),
             (!printer.has_printed(), "nothing: "),
         ],
     )?;
@@ -164,8 +162,7 @@ pub fn push_spans(alloc: Global, program: &Program, answer: &mut String) -> Resu
         inner.without_parentheses().span(),
         second.get().span(),
     ];
-    let has_inner = first.get().inner_expression().is_some()
-        || second.get().inner_expression().is_some();
+    let has_inner = second.get().inner_expression().is_some();
     push_each_span(alloc, &spans, has_inner, answer)
 }
 
