@@ -1,43 +1,49 @@
 // Answers each line of standard input by a line of standard output: what the library and the program print for a job,
 // whether two programs have one normal form, what the definitions and the library say of a text, a word or a string, and
-// whether a check of its own holds.
+// what the library's calls give for a node, an operator or a level by itself.
 // tools/cases/generate writes both files.
 #![tactic(auto)]
 
-mod caller_checks;
-mod check;
-mod gen_checks;
-mod line;
+mod buffer;
+mod job;
+mod level;
 mod meaning;
-mod print_checks;
+mod name;
+mod nodes;
+mod operator;
 mod printed;
-mod quote_checks;
+mod push;
+mod quotes;
 mod raw;
-mod run_checks;
 mod runs;
+mod sets;
 mod string;
-mod syntax_checks;
-mod text_checks;
 mod tokens;
-mod tree_checks;
 mod value;
-mod word;
 
-use check::push_check;
+use buffer::push_buffer;
+use job::push_of_job;
 use jsgen_syntax::Memory;
+use level::{push_context, push_level};
 use meaning::push_comparison;
+use name::{push_log, push_name};
+use operator::push_wrapped;
 use printed::push_printed;
+use push::push_each;
 use raw::push_raw;
+use runs::push_run;
+use sets::push_sets;
 use std::alloc::Global;
-use std::io::{self, BufRead, BufReader, BufWriter, Write};
-use string::{push_cheapest, push_kept, push_printed_string, push_same};
+use std::io;
+use string::push_of_string;
 use tokens::push_row;
-use value::{push_directive, push_string, push_word};
-use word::push_name;
+use value::push_value;
 
+// The question of a line stands first, then how it is asked, and behind a tab of what.
 fn push_answer(
     alloc: Global,
     question: &str,
+    how: &str,
     rest: &str,
     answer: &mut String,
 ) -> Result<(), Memory> {
@@ -45,39 +51,55 @@ fn push_answer(
         "print" => push_printed(alloc, rest, answer),
         "compare" => push_comparison(alloc, rest, answer),
         "tokens" => push_row(alloc, rest, answer),
-        "string" => push_string(alloc, rest, answer),
-        "word" => push_word(alloc, rest, answer),
-        "directive" => push_directive(alloc, rest, answer),
-        "kept" => push_kept(alloc, rest, answer),
-        "same" => push_same(alloc, rest, answer),
-        "cheapest" => push_cheapest(alloc, rest, false, answer),
-        "cheapest_with_backticks" => push_cheapest(alloc, rest, true, answer),
-        "spell" => push_printed_string(alloc, rest, answer),
-        "raw" => push_raw(alloc, rest, answer),
+        "value" => push_value(alloc, how, rest, answer),
+        "string" => push_of_string(alloc, how, rest, answer),
+        "raw" => push_raw(alloc, how, rest, answer),
         "name" => push_name(rest, answer),
-        "check" => push_check(alloc, rest, answer),
+        "of" => push_of_job(alloc, how, rest, answer),
+        "run" => push_run(alloc, how, rest, answer),
+        "level" => push_level(alloc, rest, answer),
+        "context" => push_context(alloc, rest, answer),
+        "sets" => push_sets(rest, answer),
+        "buffer" => push_buffer(alloc, rest, answer),
+        "wrapped" => push_wrapped(alloc, answer),
+        "log" => push_log(alloc, how, rest, answer),
         _ => Ok(answer.push_str("no question")?),
     }
 }
 
-fn answer(alloc: Global, line: &str) -> Result<String, Memory> {
+// In lines a line feed and a tab have signs of their own.
+fn meant(alloc: Global, line: &str) -> Result<String, Memory> {
+    let text = line.replace(alloc, '⏎', "\n")?;
+    Ok(text.replace(alloc, '⇥', "\t")?)
+}
+
+fn push_shown(alloc: Global, text: &str, answers: &mut String) -> Result<(), Memory> {
+    let text = text.replace(alloc, '\n', "⏎")?;
+    let text = text.replace(alloc, '\t', "⇥")?;
+    push_each(answers, &[&text, "\n"])
+}
+
+fn push_line(alloc: Global, line: &str, answers: &mut String) -> Result<(), Memory> {
+    let text = meant(alloc, line)?;
+    let (asked, rest) = text.split_once('\t').unwrap_or((text.as_str(), ""));
+    let (question, how) = asked.split_once(' ').unwrap_or((asked, ""));
     let mut answer = String::new(alloc);
-    match line.split_once(' ') {
-        Some((question, rest)) => push_answer(alloc, question, rest, &mut answer)?,
-        None => answer.push_str("no question")?,
+    push_answer(alloc, question, how, rest, &mut answer)?;
+    push_shown(alloc, &answer, answers)
+}
+
+fn answers(alloc: Global, text: &str) -> Result<String, Memory> {
+    let mut answers = String::new(alloc);
+    for line in text.lines() {
+        push_line(alloc, line, &mut answers)?;
     }
-    answer.push('\n')?;
-    Ok(answer)
+    Ok(answers)
 }
 
 fn main(rt: HostRuntime) -> io::Result<()> {
-    let alloc = rt.alloc();
-    let mut out = BufWriter::new(alloc, io::writer(&rt))?;
-    for line in BufReader::new(alloc, rt.reader())?.lines(alloc) {
-        match answer(alloc, line?.as_str()) {
-            Ok(answer) => out.write_all(answer.as_bytes())?,
-            Err(Memory) => out.write_all(b"out of memory\n")?,
-        }
+    let text = io::read_to_string(rt.alloc(), rt.stdin())?;
+    match answers(rt.alloc(), &text) {
+        Ok(answers) => rt.print(&answers),
+        Err(Memory) => rt.print("out of memory\n"),
     }
-    out.flush()
 }

@@ -1,5 +1,7 @@
 // Whether two programs have one normal form.
-use jsgen::{Job, read_job};
+use crate::job::let_go;
+use crate::push::push_where;
+use jsgen::read_job;
 use jsgen_oracle::{Form, normal_form};
 use jsgen_syntax::Memory;
 use jsgen_tree::Tables;
@@ -7,35 +9,29 @@ use std::alloc::Global;
 
 /// `same` where the jobs, with a tab between, have one normal form, and `other` where they have two.
 pub fn push_comparison(alloc: Global, jobs: &str, answer: &mut String) -> Result<(), Memory> {
-    let said = match jobs.split_once('\t') {
-        Some((left, right)) => comparison(alloc, left, right)?,
-        None => "no second job",
-    };
-    Ok(answer.push_str(said)?)
-}
-
-fn comparison(alloc: Global, left: &str, right: &str) -> Result<&'static str, Memory> {
+    let (left, right) = jobs.split_once('\t').unwrap_or(("", ""));
     let left = form_of(alloc, left)?;
     let right = form_of(alloc, right)?;
-    Ok(match (&left, &right) {
-        (Some(left), Some(right)) => { if left == right { "same" } else { "other" } }
-        _ => "no job",
-    })
+    push_where(
+        answer,
+        &[
+            (left.is_none() | right.is_none(), "no job "),
+            (left == right, "same"),
+            (left != right, "other"),
+        ],
+    )
 }
 
 // The normal form of a job's program, by the names that its tables give.
 fn form_of(alloc: Global, job: &str) -> Result<Option<Form>, Memory> {
-    match read_job(alloc, job.as_bytes()) {
-        Ok(job) => Ok(Some(form_of_job(alloc, job)?)),
-        Err(_) => Ok(None),
-    }
-}
-
-// Here alone the tree is let go of, so that this is proved once.
-fn form_of_job(alloc: Global, job: Job) -> Result<Form, Memory> {
+    let Ok(job) = read_job(alloc, job.as_bytes()) else {
+        return Ok(None);
+    };
     let tables = Tables {
         scoping: job.scoping.as_ref(),
         private: job.private.as_ref(),
     };
-    normal_form(alloc, tables, &job.program)
+    let form = normal_form(alloc, tables, &job.program);
+    let_go(job);
+    Ok(Some(form?))
 }

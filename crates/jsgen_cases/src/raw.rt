@@ -1,5 +1,4 @@
 // Texts that are printed nearly as they are.
-use crate::line::{push_shown, text_of};
 use jsgen_syntax::{CodeBuffer, IndentChar, Memory};
 use jsgen_text::{
     NonAsciiEscape, print_directive_raw, print_name_text, print_non_ascii_escaped,
@@ -7,9 +6,16 @@ use jsgen_text::{
 };
 use std::alloc::Global;
 
-// Behind a name with escapes stands `!`.
-fn print_raw(code: &mut CodeBuffer, what: &str, ascii: bool, text: &str) -> Result<(), Memory> {
-    match what {
+/// What is printed for a raw text. `ascii` stands behind what is to be ASCII, and `!` behind a name with escapes.
+pub fn push_raw(alloc: Global, how: &str, text: &str, answer: &mut String) -> Result<(), Memory> {
+    let mut code = CodeBuffer::with_indent(alloc, IndentChar::Tab, 1);
+    print_raw(&mut code, how, text)?;
+    Ok(answer.push_str(code.as_str())?)
+}
+
+fn print_raw(code: &mut CodeBuffer, how: &str, text: &str) -> Result<(), Memory> {
+    let ascii = how.ends_with(" ascii");
+    match how.strip_suffix(" ascii").unwrap_or(how) {
         "close tag" => print_str_escaping_script_close_tag(code, text),
         "name" => {
             let escapes = print_name_text(code, text, ascii)?;
@@ -20,27 +26,9 @@ fn print_raw(code: &mut CodeBuffer, what: &str, ascii: bool, text: &str) -> Resu
         "tagged piece" => print_template_quasi_raw(code, text, true, true, ascii),
         "directive" => print_directive_raw(code, text, ascii),
         "pattern" => print_regex_pattern(code, text, ascii),
-        other => print_non_ascii_escaped(code, text, escape_of(other)),
+        "escaped name" => print_non_ascii_escaped(code, text, NonAsciiEscape::Identifier),
+        "escaped pattern" => print_non_ascii_escaped(code, text, NonAsciiEscape::RegExp),
+        "escaped piece" => print_non_ascii_escaped(code, text, NonAsciiEscape::TemplateRaw),
+        _ => print_non_ascii_escaped(code, text, NonAsciiEscape::Directive),
     }
-}
-
-fn escape_of(what: &str) -> NonAsciiEscape {
-    match what {
-        "escaped name" => NonAsciiEscape::Identifier,
-        "escaped pattern" => NonAsciiEscape::RegExp,
-        "escaped piece" => NonAsciiEscape::TemplateRaw,
-        _ => NonAsciiEscape::Directive,
-    }
-}
-
-/// What is printed for a raw text, and behind a tab the text. `ascii` stands behind what is to be ASCII.
-pub fn push_raw(alloc: Global, line: &str, answer: &mut String) -> Result<(), Memory> {
-    let (how, text) = line.split_once('\t').unwrap_or(("", ""));
-    let text = text_of(alloc, text)?;
-    let mut code = CodeBuffer::with_indent(alloc, IndentChar::Tab, 1);
-    match how.strip_suffix(" ascii") {
-        Some(what) => print_raw(&mut code, what, true, &text)?,
-        None => print_raw(&mut code, how, false, &text)?,
-    }
-    push_shown(answer, code.as_str())
 }

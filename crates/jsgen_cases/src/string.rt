@@ -1,8 +1,8 @@
 // Values of strings: how they are kept, and their texts. A line gives a value by a spelling of it.
-use crate::line::{push_number, push_shown, text_of};
-use crate::value::units_of;
+use crate::push::{push_numbers, push_where};
+use crate::value::{quote_of, units_of};
 use jsgen_syntax::{CodeBuffer, IndentChar, JsStr, Memory};
-use jsgen_text::{Quote, cheapest_quote, print_string_text};
+use jsgen_text::{cheapest_quote, print_string_text};
 use std::alloc::Global;
 
 fn value_of(alloc: Global, line: &str) -> Result<JsStr, Memory> {
@@ -12,59 +12,58 @@ fn value_of(alloc: Global, line: &str) -> Result<JsStr, Memory> {
     }
 }
 
-/// The bytes that a value is kept as, and whether it has a surrogate that is alone.
-pub fn push_kept(alloc: Global, line: &str, answer: &mut String) -> Result<(), Memory> {
-    let value = value_of(alloc, line)?;
-    answer.push_str(if value.has_lone_surrogate() {
-        "lone"
-    } else {
-        "kept"
-    })?;
-    if value.as_str().is_none() != value.has_lone_surrogate() {
-        answer.push_str(" otherwise")?;
-    }
-    for byte in value.as_bytes() {
-        push_number(alloc, answer, u32::from(*byte))?;
-    }
-    Ok(())
-}
-
-/// Whether a text has this value: a text first, then behind a tab a spelling.
-pub fn push_same(alloc: Global, line: &str, answer: &mut String) -> Result<(), Memory> {
-    let (text, spelling) = line.split_once('\t').unwrap_or(("", ""));
-    let text = text_of(alloc, text)?;
-    let left = JsStr::from_text(alloc, &text)?;
-    let right = value_of(alloc, spelling)?;
-    let is_kept = left.as_str() == Some(text.as_str()) && left.as_bytes() == text.as_bytes();
-    Ok(answer.push_str(match (left == right, is_kept) {
-        (true, true) => "same",
-        (false, true) => "other",
-        _ => "not kept",
-    })?)
-}
-
-/// The cheapest quote of a value, which may be a backtick or not.
-pub fn push_cheapest(
+/// What is asked of the value that the line spells.
+pub fn push_of_string(
     alloc: Global,
+    how: &str,
     line: &str,
-    backticks: bool,
     answer: &mut String,
 ) -> Result<(), Memory> {
     let value = value_of(alloc, line)?;
-    Ok(answer.push(cheapest_quote(&value, backticks).as_byte() as char)?)
+    let (what, rest) = how.split_once(' ').unwrap_or((how, ""));
+    match what {
+        "kept" => push_kept(alloc, &value, answer),
+        "same" => push_same(alloc, rest, &value, answer),
+        "cheapest" => Ok(answer.push(cheapest_quote(&value, !rest.is_empty()).as_byte() as char)?),
+        _ => push_spelled(alloc, rest, &value, answer),
+    }
 }
 
-/// The text of a value. The quote stands first, with `ascii` behind it where the text is to be ASCII, and behind a tab the
-/// value.
-pub fn push_printed_string(alloc: Global, line: &str, answer: &mut String) -> Result<(), Memory> {
-    let (how, spelling) = line.split_once('\t').unwrap_or(("", ""));
-    let quote = match how.as_bytes().first() {
-        Some(b'\'') => Quote::Single,
-        Some(b'"') => Quote::Double,
-        _ => Quote::Backtick,
-    };
-    let value = value_of(alloc, spelling)?;
+// The bytes that a value is kept as, and whether it has a surrogate that is alone.
+fn push_kept(alloc: Global, value: &JsStr, answer: &mut String) -> Result<(), Memory> {
+    push_where(
+        answer,
+        &[
+            (value.has_lone_surrogate(), "lone"),
+            (value.as_str().is_some(), "kept"),
+        ],
+    )?;
+    push_numbers(alloc, value.as_bytes(), answer)
+}
+
+// Whether a text has this value.
+fn push_same(alloc: Global, text: &str, value: &JsStr, answer: &mut String) -> Result<(), Memory> {
+    let made = JsStr::from_text(alloc, text)?;
+    let is_kept = made.as_str() == Some(text);
+    push_where(
+        answer,
+        &[
+            (!is_kept, "not kept "),
+            (made == *value, "same"),
+            (made != *value, "other"),
+        ],
+    )
+}
+
+// The text of a value in a quote, behind which `ascii` stands where the text is to be ASCII.
+fn push_spelled(
+    alloc: Global,
+    quote: &str,
+    value: &JsStr,
+    answer: &mut String,
+) -> Result<(), Memory> {
     let mut code = CodeBuffer::with_indent(alloc, IndentChar::Tab, 1);
-    print_string_text(&mut code, &value, quote, how.ends_with("ascii"))?;
-    push_shown(answer, code.as_str())
+    let first = quote.chars().next().unwrap_or('`');
+    print_string_text(&mut code, value, quote_of(first), quote.ends_with("ascii"))?;
+    Ok(answer.push_str(code.as_str())?)
 }

@@ -1,25 +1,21 @@
 // The tokens of a text.
-use crate::line::{shown, text_of};
 use jsgen_oracle::{Bracket, Piece, Token, tokens_of};
 use jsgen_syntax::Memory;
 use std::alloc::Global;
 
-/// The text's tokens with a space between each two and an arrow before each that a line end precedes, or `none`. In the
-/// line of a text a line feed and a tab have signs of their own.
-pub fn push_row(alloc: Global, line: &str, answer: &mut String) -> Result<(), Memory> {
-    let text = text_of(alloc, line)?;
-    match tokens_of(alloc, &text)? {
-        Some(tokens) => push_tokens(answer, true, &tokens),
+/// The text's tokens, each behind a space, with an arrow before each that a line end precedes; or `none`.
+pub fn push_row(alloc: Global, text: &str, answer: &mut String) -> Result<(), Memory> {
+    match tokens_of(alloc, text)? {
+        Some(tokens) => push_tokens(answer, &tokens),
         None => Ok(answer.push_str("none")?),
     }
 }
 
-fn push_tokens(answer: &mut String, is_first: bool, tokens: &[Token]) -> Result<(), Memory> {
-    let mut is_first = is_first;
+fn push_tokens(answer: &mut String, tokens: &[Token]) -> Result<(), Memory> {
     for token in tokens {
         match token {
             Token::Piece { line, piece } => {
-                push_apart(answer, is_first, *line)?;
+                answer.push_str(apart(*line))?;
                 push_piece(answer, piece)?;
             }
             Token::Group {
@@ -27,42 +23,27 @@ fn push_tokens(answer: &mut String, is_first: bool, tokens: &[Token]) -> Result<
                 bracket,
                 tokens,
             } => {
-                push_apart(answer, is_first, *line)?;
-                answer.push(opening(*bracket))?;
-                push_tokens(answer, false, tokens)?;
-                push_apart(answer, false, false)?;
-                answer.push(closing(*bracket))?;
+                let (opening, closing) = signs(*bracket);
+                answer.push_str(apart(*line))?;
+                answer.push_str(opening)?;
+                push_tokens(answer, tokens)?;
+                answer.push_str(closing)?;
             }
         }
-        is_first = false;
     }
     Ok(())
 }
 
-fn opening(bracket: Bracket) -> char {
+fn signs(bracket: Bracket) -> (&'static str, &'static str) {
     match bracket {
-        Bracket::Round => '(',
-        Bracket::Square => '[',
-        Bracket::Brace => '{',
+        Bracket::Round => ("(", " )"),
+        Bracket::Square => ("[", " ]"),
+        Bracket::Brace => ("{", " }"),
     }
 }
 
-fn closing(bracket: Bracket) -> char {
-    match bracket {
-        Bracket::Round => ')',
-        Bracket::Square => ']',
-        Bracket::Brace => '}',
-    }
-}
-
-fn push_apart(answer: &mut String, is_first: bool, line: bool) -> Result<(), Memory> {
-    if !is_first {
-        answer.push(' ')?;
-    }
-    if line {
-        answer.push('↵')?;
-    }
-    Ok(())
+fn apart(line: bool) -> &'static str {
+    if line { " ↵" } else { " " }
 }
 
 fn push_piece(answer: &mut String, piece: &Piece) -> Result<(), Memory> {
@@ -80,7 +61,7 @@ fn push_piece(answer: &mut String, piece: &Piece) -> Result<(), Memory> {
 
 fn push_characters(answer: &mut String, characters: &[char]) -> Result<(), Memory> {
     for c in characters {
-        answer.push(shown(*c))?;
+        answer.push(*c)?;
     }
     Ok(())
 }

@@ -15,7 +15,6 @@ use std::alloc::Global;
 // What is built stands in no source.
 const NOWHERE: Span = Span { start: 0, end: 0 };
 
-#[tactic(auto, using(jsgen_tree::proofs::Knot::plain_expression))]
 fn nested(expression: Expression) -> ExpressionNode
     ensures { in_expression node_plain result ≡ expression_plain node_plain expression }
 {
@@ -95,7 +94,6 @@ pub fn call(
     Ok(nested(Expression::CallExpression(Box::new(alloc, node)?)))
 }
 
-#[tactic(auto, using(jsgen_tree::proofs::Knot::plain_statement))]
 fn nested_statement(statement: Statement) -> StatementNode
     ensures { in_statement node_plain result ≡ statement_plain node_plain statement }
 {

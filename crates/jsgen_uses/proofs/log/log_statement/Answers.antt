@@ -10,12 +10,12 @@ pub returns-clause-code : goal.returns-clause-code
 returns-clause-code c =
     read_as_call _ _ _ (chars c.args.message.now) (chars c.args.name.now) _ c.new-printer.ensures.options c.new-printer.ensures.tables c.in_ok-program.ensures (c.programs_are_plain.ensures c.in_ok-program.program) c.in_ok-build.ensures.reads
 
-pub build-requires-clause-unprinted : goal.build-requires-clause-unprinted
-build-requires-clause-unprinted c = c.new-printer.ensures.printed
+pub returns-clause-taken : goal.returns-clause-taken
+returns-clause-taken c =
+    is_free _ _ _ (chars c.args.message.now) (chars c.args.name.now) c.new-printer.ensures.options c.new-printer.ensures.tables c.in_ok-program.ensures c.in_default.ensures
 
 pub build-requires-clause-valid : goal.build-requires-clause-valid
 build-requires-clause-valid c = c.in_default.ensures
 
-pub returns-clause-taken : goal.returns-clause-taken
-returns-clause-taken c =
-    is_free _ _ _ (chars c.args.message.now) (chars c.args.name.now) c.new-printer.ensures.options c.new-printer.ensures.tables c.in_ok-program.ensures c.in_default.ensures
+pub build-requires-clause-unprinted : goal.build-requires-clause-unprinted
+build-requires-clause-unprinted c = c.new-printer.ensures.printed
