@@ -287,30 +287,34 @@ def grown_functions(before, after, crate):
     return [(name, it, later[name]) for name, it in sorted(times.items()) if later.get(name, 0) > 1.1 * it + 0.1]
 
 
+def proved(work, name):
+    """Proves a copy from nothing. Returns the seconds and the peak of each crate."""
+    with open(work / f"{name}.log", "wb") as log:
+        sums, peaks, _, status = measured(gate(), work / name, log)
+    if status:
+        sys.exit(f"{name}: not proved; see {work}/{name}.log")
+    return {crate: sum(of.values()) for crate, of in sums.items()}, peaks
+
+
 def main(number):
     work = Path(tempfile.mkdtemp(prefix="jsgen-grow-"))
-    results = {}
-    for name in ("after", "before"):
-        folder = work / name
-        folder.mkdir()
-        copied(folder)
-        if name == "after":
-            grown(folder, number)
-        with open(work / f"{name}.log", "wb") as log:
-            results[name] = measured(gate(), folder, log)
-        if results[name][3]:
-            sys.exit(f"{name}: not proved; see {work}/{name}.log")
-    (sums, peaks, whole, _), (more, higher, all_of, _) = results["before"], results["after"]
+    for name in ("before", "after"):
+        (work / name).mkdir()
+        copied(work / name)
+    grown(work / "after", number)
+    # (both at one time, so that what else is at work slows both)
+    with ThreadPoolExecutor(2) as pool:
+        (before, peaks), (after, higher) = pool.map(lambda name: proved(work, name), ("before", "after"))
     print(f"| crate | seconds | with {number} types | a type | peak, MB | with {number} types | a type |")
     print("|---" * 7 + "|")
-    for crate, of in more.items():
-        two = sum(of.values())
-        if crate in sums:
-            one = sum(sums[crate].values())
+    for crate, two in after.items():
+        if crate in before:
+            one = before[crate]
             print(f"| `{crate}` | {one:.0f} | {two:.0f} | {(two - one) / number:.2f} | {peaks[crate]} | {higher[crate]} | {(higher[crate] - peaks[crate]) / number:.1f} |")
         else:
             print(f"| `{crate}` | | {two:.0f} | {two / number:.2f} | | {higher[crate]} | |")
-    print(f"| all | {whole:.0f} | {all_of:.0f} | {(all_of - whole) / number:.2f} | | | |", flush=True)
+    one, two = sum(before.values()), sum(after.values())
+    print(f"| all | {one:.0f} | {two:.0f} | {(two - one) / number:.2f} | | | |", flush=True)
     with ThreadPoolExecutor(2) as pool:
         for crate, functions in zip(WATCHED, pool.map(lambda it: grown_functions(work / "before", work / "after", it), WATCHED)):
             for function, seconds, with_more in functions:
