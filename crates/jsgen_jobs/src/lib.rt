@@ -1,11 +1,15 @@
 //! What the bytes of a job are answered with: the definitions, why there is no text, and what gives the answers.
 #![tactic(auto)]
 
+ghost use Rattle.std.specs.Prelude.{Some};
 ghost use Rattle.jsgen_jobs.specs.Job.{Verdict, Answers};
+ghost use Rattle.jsgen_jobs.specs.Texts.{job_fault_text};
 
 use jsgen_fields::InputFault;
 use jsgen_model::TreeFault;
 use std::alloc::Global;
+use std::error::Error;
+use std::fmt;
 
 /// Why a job has no text.
 #[derive(Clone, Copy, Debug, PartialEq, Eq)]
@@ -17,6 +21,20 @@ pub enum JobFault {
     /// Memory ran out, which may come in place of any answer.
     Memory,
 }
+
+impl fmt::Display for JobFault {
+    ghost output = { λ fault. Some (job_fault_text fault) };
+
+    fn fmt<W: fmt::Write>(&self, f: &mut fmt::Formatter<W>) -> fmt::Result {
+        match self {
+            JobFault::NotJob(fault) => write!(f, "not a job: {fault}"),
+            JobFault::Refused(fault) => write!(f, "refused: {fault}"),
+            JobFault::Memory => f.write_str("out of memory"),
+        }
+    }
+}
+
+impl Error for JobFault {}
 
 /// What prints and checks jobs. Which of the broken rules is told, and when memory runs out, is all that it may choose.
 pub trait PrintJobs {

@@ -7,6 +7,7 @@ mod braces;
 mod cases;
 mod elements;
 mod heads;
+mod links;
 mod maybe;
 mod members;
 mod parts;
@@ -21,10 +22,13 @@ pub use heads::{
     print_accessor_word, print_behind_spaced_word, print_behind_word, print_head,
     print_in_parentheses, print_jump,
 };
+pub use links::{print_bracket_link, print_named_member};
 pub use maybe::{
     print_apart, print_behind_space, print_caught, print_comma_between, print_if_given, print_value,
 };
 pub use members::{PrintMember, print_in_brackets, print_more, print_parts};
 pub use parts::print_loop_parts;
-pub use statements::{PrintStatement, print_body, print_statements, print_whole_body};
+pub use statements::{
+    PrintStatement, print_body, print_deeper_body, print_statements, print_whole_body,
+};
 pub use updates::print_update;

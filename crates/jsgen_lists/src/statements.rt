@@ -1,9 +1,9 @@
 // Lists of statements, or of cases.
-ghost use Rattle.std.specs.Prelude.{map};
+ghost use Rattle.std.specs.Prelude.{◌≡◌, map};
 ghost use Rattle.jsgen_tree.specs.Tree.{Tree, trees};
-ghost use Rattle.jsgen_model.specs.Items.{◌⊕◌, soft_line, deeper, due_semicolon};
-ghost use Rattle.jsgen_model.specs.Layout.{layout};
-ghost use Rattle.jsgen_model.specs.Spell.{spell, spell_body, spell_statements, first_statement};
+ghost use Rattle.jsgen_model.specs.Items.{◌⊕◌, soft_line, deeper, due_semicolon, indentation};
+ghost use Rattle.jsgen_model.specs.Layout.{layout, nowhere};
+ghost use Rattle.jsgen_model.specs.Spell.{spell, spell_body, spell_statements, first_statement, among_statements};
 ghost use Rattle.jsgen_model.specs.Printing.{Reaches};
 ghost use Rattle.jsgen_printer.specs.Printer.{pen_of};
 ghost use Rattle.jsgen_place.specs.Place.{place_of, settings_of};
@@ -83,4 +83,33 @@ pub fn print_deeper_statements<E, S: PrintStatement<E>>(
     print_statements::<E, S>(statements, p, settings)?;
     p.set_depth(depth);
     Ok(())
+}
+
+/// What stands before the `while` of a `do`: a statement on a line of its own, one level deeper, up to the indentation of what follows.
+pub fn print_deeper_body<E, S: PrintStatement<E>>(
+    body: &E,
+    p: &mut Printer<'_>,
+    settings: Settings,
+) -> Result<(), Memory>
+    requires { (pen_of p.old).start ≡ nowhere }
+    ensures { Reaches result (pen_of p.old) (pen_of p.new) (layout (soft_line ⊕ (deeper (spell (S.plain body.now) (among_statements (settings_of settings)) ⊕ due_semicolon) ⊕ indentation)) (pen_of p.old)) }
+{
+    p.print_soft_line()?;
+    let depth = p.deepen()?;
+    print_ended::<E, S>(body, p, settings)?;
+    p.set_depth(depth);
+    p.print_indentation()
+}
+
+// With the semicolon that it may have left.
+fn print_ended<E, S: PrintStatement<E>>(
+    body: &E,
+    p: &mut Printer<'_>,
+    settings: Settings,
+) -> Result<(), Memory>
+    requires { (pen_of p.old).start ≡ nowhere }
+    ensures { Reaches result (pen_of p.old) (pen_of p.new) (layout (spell (S.plain body.now) (among_statements (settings_of settings)) ⊕ due_semicolon) (pen_of p.old)) }
+{
+    S::print_statement(body, p, Place::among_statements(settings))?;
+    p.print_due_semicolon()
 }

@@ -31,10 +31,6 @@ do_other_items s inner whole (inr h) = rw h refl
 pub do_is_other : (s : BodyShape) (t : Tree) (settings : Settings) → (s ≡ shapes.If) ⊎ (s ≡ shapes.Other) → shape_of s ≡ shape t → do_body_of t settings ≡ soft_line ⊕ (deeper (spell t (among_statements settings) ⊕ due_semicolon) ⊕ indentation)
 do_is_other s t settings either hs = rw (← hs) (do_other_items s (spell t (within_statement settings)) (spell t (among_statements settings)) either)
 
--- what stands at the level below, and the level before behind it
-pub deeper_done : (items : Items) (depth : ℕ) (old line opened inner new : Pen) → line ≡ layout soft_line old → depth ≡ line.depth → opened ≡ deepened line → inner ≡ layout items opened → new ≡ at_depth depth inner → new ≡ layout (soft_line ⊕ deeper items) old
-deeper_done items depth old line opened inner new hl hd ho hi hn = rw (hn, hi, ho, hd, hl) refl
-
 -- ---- behind `else`, what is no `if`
 
 else_items : (s : BodyShape) (inner whole : Items) → (s ≡ shapes.If → ⊥) → alternate_items (shape_of s) inner whole ≡ body_items (shape_of s) inner whole
@@ -47,10 +43,6 @@ pub else_is_body : (s : BodyShape) (t : Tree) (settings : Settings) → (s ≡ s
 else_is_body s t settings no_if hs = rw (← hs) (else_items s (spell t (within_statement settings)) (spell t (among_statements settings)) no_if)
 
 -- ---- where nothing begins
-
--- behind the end of a line nothing begins where nothing began before it
-pub still_begun : (before line : Pen) → before.start ≡ nowhere → line ≡ layout soft_line before → line.start ≡ nowhere
-still_begun before line none e = ap (λ p. p.start) e ∙ (ap (λ s. unless_printed (not before.style.minified) s) none ∙ still_nowhere (not before.style.minified))
 
 -- a statement that stands behind one space, on Ok and where memory runs out
 begun_behind : (place : Place) (before begun : Pen) → before.start ≡ nowhere → begun ≡ layout body_space before → place_of place begun ≡ listed place

@@ -2,13 +2,11 @@
 ghost use Rattle.std.specs.Prelude.{◌≡◌, map};
 ghost use Rattle.jsgen_syntax.specs.declared.precedence.Precedence.TheVariants.{Lowest, Comma};
 ghost use Rattle.jsgen_tree.specs.Tree.{trees};
-ghost use Rattle.jsgen_tree.specs.Characters.{characters};
-ghost use Rattle.jsgen_tree.specs.Named.{as_written};
 ghost use Rattle.jsgen_tree.specs.Rows.{identifier_name_row, static_member_expression_row, computed_member_expression_row, call_expression_row, chain_expression_row, spread_element_row, in_argument, in_chain_element, in_expression};
 ghost use Rattle.jsgen_model.specs.Punctuator.{Round, Square};
-ghost use Rattle.jsgen_model.specs.Items.{◌⊕◌, brackets, name};
+ghost use Rattle.jsgen_model.specs.Items.{◌⊕◌, brackets};
 ghost use Rattle.jsgen_model.specs.Layout.{layout};
-ghost use Rattle.jsgen_model.specs.Spell.{spell, spell_arguments, called, in_brackets, name_link, bracket_link, quoted_plainly};
+ghost use Rattle.jsgen_model.specs.Spell.{spell, spell_arguments, called, in_brackets, bracket_link, quoted_plainly};
 ghost use Rattle.jsgen_model.specs.Quotes.{is_require_call, is_definition_call};
 ghost use Rattle.jsgen_model.specs.Printing.{Reaches};
 ghost use Rattle.jsgen_printer.specs.Printer.{pen_of};
@@ -18,7 +16,8 @@ ghost use Rattle.jsgen_nodes.specs.Place.{pen_after};
 use crate::PrintNode;
 use crate::collections::print_spread_element;
 use crate::quotes::plain_quotes;
-use jsgen_lists::{PrintMember, print_arguments};
+use crate::sequences::Expressions;
+use jsgen_lists::{PrintMember, print_arguments, print_bracket_link, print_named_member};
 use jsgen_place::Place;
 use jsgen_printer::{Bracket, Printer};
 use jsgen_syntax::{Memory, Precedence};
@@ -39,42 +38,6 @@ pub fn print_identifier_name(
     p.print_name(node.name.as_str())
 }
 
-// What stands before a member's name.
-fn print_name_link(optional: bool, p: &mut Printer<'_>) -> Result<(), Memory>
-    ensures { Reaches result (pen_of p.old) (pen_of p.new) (layout (name_link optional) (pen_of p.old)) }
-{
-    if optional {
-        p.print_question_dot()
-    } else {
-        p.print_member_dot()
-    }
-}
-
-// What stands before the brackets of a link.
-fn print_bracket_link(optional: bool, p: &mut Printer<'_>) -> Result<(), Memory>
-    ensures { Reaches result (pen_of p.old) (pen_of p.new) (layout (bracket_link optional) (pen_of p.old)) }
-{
-    if optional {
-        p.print_question_dot()
-    } else {
-        Ok(())
-    }
-}
-
-// Behind the object.
-#[tactic(auto, unfolding(crate::specs::Place::pen_after))]
-fn print_member_name(
-    optional: bool,
-    node: &IdentifierName,
-    p: &mut Printer<'_>,
-    place: Place,
-) -> Result<(), Memory>
-    ensures { Reaches result (pen_of p.old) (pen_of p.new) (layout (name_link optional ⊕ name (as_written (characters node.now.name))) (pen_of p.old)) }
-{
-    print_name_link(optional, p)?;
-    print_identifier_name(node, p, place)
-}
-
 #[tactic(auto, unfolding(crate::specs::Place::pen_after))]
 pub fn print_static_member_expression<N: PrintNode>(
     node: &StaticMemberExpression<N>,
@@ -83,11 +46,8 @@ pub fn print_static_member_expression<N: PrintNode>(
 ) -> Result<(), Memory>
     ensures { Reaches result (pen_of p.old) (pen_of p.new) (pen_after (static_member_expression_row N.plain node.now) place p.old) }
 {
-    node.object
-        .get()
-        .print(p, place.child(Precedence::Postfix))?;
-    let below = place.child(Precedence::Lowest);
-    print_member_name(node.optional, &node.property, p, below)
+    let object = place.child(Precedence::Postfix);
+    print_named_member::<_, Expressions>(&node.object, node.optional, &node.property, p, object)
 }
 
 #[tactic(auto, unfolding(crate::specs::Place::pen_after))]

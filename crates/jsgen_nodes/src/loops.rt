@@ -115,7 +115,7 @@ pub fn print_do_while_statement<N: PrintNode>(
 {
     p.print_indentation()?;
     p.print_word("do")?;
-    print_do_body(node.body.get(), p, place.settings)?;
+    print_do_body(&node.body, p, place.settings)?;
     print_behind_do(&node.test, p, place.settings)
 }
 

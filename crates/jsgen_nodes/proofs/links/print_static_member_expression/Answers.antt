@@ -1,24 +1,6 @@
-use Rattle.std.proofs.Common.{refl}
-use Rattle.jsgen_tree.specs.Characters.{characters}
-use Rattle.jsgen_tree.specs.Named.{as_written}
-use Rattle.jsgen_tree.specs.Rows.{in_expression}
-use Rattle.jsgen_model.specs.Items.{◌⊕◌, name}
-use Rattle.jsgen_model.specs.Spell.{spell, linked, name_link}
-use Rattle.jsgen_printer.specs.Printer.{pen_of}
-use Rattle.jsgen_printer.proofs.Stops.{appends, stopped, stops_within}
-use Rattle.jsgen_place.specs.Place.{place_of}
-use Rattle.jsgen_lists.proofs.Turns.{last_reaches}
 use Rattle.jsgen_nodes.specs.Place.{pen_after}
 use Rattle.jsgen_nodes.proofs.links.print_static_member_expression.Goals as goal
 
-pub returns-in_err-print : goal.returns-in_err-print
-unfolding pen_after
-returns-in_err-print g c = stopped _ c.from_residual.ensures.0 (stops_within (rw (c.get.ensures, c.child.ensures) at c.in_err-print.ensures) (search appends) (search appends))
-
 pub returns : goal.returns
 unfolding pen_after
-returns g c =
-    let node = c.args.node.now in
-    let object = spell (in_expression g.N.PrintNode.plain node.object) (linked (place_of c.args.place (pen_of c.args.p.now))) in
-    let link = name_link node.optional ⊕ name (as_written (characters node.property.value.name)) in
-    last_reaches c.print_member_name.result object link (pen_of c.args.p.now) (pen_of c.print.new.p) (pen_of c.print_member_name.new.p) (rw (c.get.ensures, c.child.ensures) at c.in_ok-print.ensures) refl (rw c.deref.ensures at c.print_member_name.ensures)
+returns g c = rw (c.child-object.ensures, c.deref.ensures) at c.print_named_member.ensures

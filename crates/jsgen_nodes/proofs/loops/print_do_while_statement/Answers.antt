@@ -42,7 +42,7 @@ returns-in_err-print_do_body g c =
     let settings = settings_of c.args.place.settings in
     let body = do_body_of (plain c.args.node.now.body.node) settings in
     let tail = word (codes "while") ⊕ (soft_space ⊕ (brackets Round (spell (in_expression plain c.args.node.now.test) (in_brackets Lowest (among_statements settings))) ⊕ statement_end)) in
-    stopped _ c.from_residual-in_err-print_do_body.ensures.0 (stops_second indentation (word (codes "do") ⊕ (body ⊕ tail)) c.in_ok-print_indentation.ensures (stops_second (word (codes "do")) (body ⊕ tail) c.in_ok-print_word.ensures (stops_first body tail (rw c.get.ensures at c.in_err-print_do_body.ensures))))
+    stopped _ c.from_residual-in_err-print_do_body.ensures.0 (stops_second indentation (word (codes "do") ⊕ (body ⊕ tail)) c.in_ok-print_indentation.ensures (stops_second (word (codes "do")) (body ⊕ tail) c.in_ok-print_word.ensures (stops_first body tail c.in_err-print_do_body.ensures)))
 
 pub returns : goal.returns
 unfolding pen_after
@@ -51,4 +51,4 @@ returns g c =
     let settings = settings_of c.args.place.settings in
     let body = do_body_of (plain c.args.node.now.body.node) settings in
     let tail = word (codes "while") ⊕ (soft_space ⊕ (brackets Round (spell (in_expression plain c.args.node.now.test) (in_brackets Lowest (among_statements settings))) ⊕ statement_end)) in
-    last_reaches c.print_behind_do.result (indentation ⊕ (word (codes "do") ⊕ body)) tail (pen_of c.args.p.now) (pen_of c.print_do_body.new.p) (pen_of c.print_behind_do.new.p) ((rw c.get.ensures at c.in_ok-print_do_body.ensures) ∙ ap (λ p. layout body p) (c.in_ok-print_word.ensures ∙ ap (λ p. layout (word (codes "do")) p) c.in_ok-print_indentation.ensures)) refl c.print_behind_do.ensures
+    last_reaches c.print_behind_do.result (indentation ⊕ (word (codes "do") ⊕ body)) tail (pen_of c.args.p.now) (pen_of c.print_do_body.new.p) (pen_of c.print_behind_do.new.p) (c.in_ok-print_do_body.ensures ∙ ap (λ p. layout body p) (c.in_ok-print_word.ensures ∙ ap (λ p. layout (word (codes "do")) p) c.in_ok-print_indentation.ensures)) refl c.print_behind_do.ensures
