@@ -3,26 +3,25 @@ ghost use Rattle.std.specs.Prelude.{◌≡◌, IfOk, map};
 ghost use Rattle.jsgen_tree.specs.Tree.{trees};
 ghost use Rattle.jsgen_model.specs.Punctuator.{Brace};
 ghost use Rattle.jsgen_model.specs.Items.{◌⊕◌, nothing, brackets, drop_semicolon};
-ghost use Rattle.jsgen_model.specs.Layout.{layout};
 ghost use Rattle.jsgen_model.specs.Spell.{spell_statements, braces, filled_braces};
-ghost use Rattle.jsgen_model.specs.Printing.{Reaches};
-ghost use Rattle.jsgen_printer.specs.Printer.{pen_of};
+ghost use Rattle.jsgen_steps.specs.Steps.{Goes, Lays, pen_at};
 ghost use Rattle.jsgen_place.specs.Place.{settings_of};
 ghost use Rattle.jsgen_lists.specs.Lists.{braces_opened, braces_closed};
 
 use crate::statements::{PrintStatement, print_statements};
 use jsgen_place::Settings;
-use jsgen_printer::{Bracket, Printer};
+use jsgen_printer::Bracket;
+use jsgen_steps::Printing;
 use jsgen_syntax::Memory;
 
 /// Braces round statements, each of which stands on a line of its own.
 pub fn print_braces<E, S: PrintStatement<E>>(
     statements: &[E],
-    p: &mut Printer<'_>,
+    p: &mut Printing<'_>,
     settings: Settings,
-) -> Result<(), Memory>
-    ensures { Reaches result (pen_of p.old) (pen_of p.new) (layout (braces (trees (map S.plain statements.now))
-        (spell_statements (trees (map S.plain statements.now)) (settings_of settings))) (pen_of p.old)) }
+)
+    ensures { Lays p.old p.new (λ _. braces (trees (map S.plain statements.now))
+        (spell_statements (trees (map S.plain statements.now)) (settings_of settings))) }
 {
     if statements.is_empty() {
         print_empty_braces(p)
@@ -32,44 +31,42 @@ pub fn print_braces<E, S: PrintStatement<E>>(
 }
 
 /// Braces in which nothing stands.
-pub fn print_empty_braces(p: &mut Printer<'_>) -> Result<(), Memory>
-    ensures { Reaches result (pen_of p.old) (pen_of p.new) (layout (brackets Brace nothing ⊕ drop_semicolon) (pen_of p.old)) }
+pub fn print_empty_braces(p: &mut Printing<'_>)
+    ensures { Lays p.old p.new (λ _. brackets Brace nothing ⊕ drop_semicolon) }
 {
-    p.print_opening(Bracket::Brace)?;
-    p.print_closing(Bracket::Brace)?;
+    p.print_opening(Bracket::Brace);
+    p.print_closing(Bracket::Brace);
     p.drop_semicolon();
-    Ok(())
 }
 
 fn print_filled_braces<E, S: PrintStatement<E>>(
     statements: &[E],
-    p: &mut Printer<'_>,
+    p: &mut Printing<'_>,
     settings: Settings,
-) -> Result<(), Memory>
-    ensures { Reaches result (pen_of p.old) (pen_of p.new) (layout (filled_braces (spell_statements (trees (map S.plain statements.now)) (settings_of settings))) (pen_of p.old)) }
+)
+    ensures { Lays p.old p.new (λ _. filled_braces (spell_statements (trees (map S.plain statements.now)) (settings_of settings))) }
 {
-    let depth = open_braces(p)?;
-    print_statements::<E, S>(statements, p, settings)?;
+    let depth = open_braces(p);
+    print_statements::<E, S>(statements, p, settings);
     close_braces(p, depth)
 }
 
 /// The opening brace, behind which the code is one level deeper; gives the level before.
-pub fn open_braces(p: &mut Printer<'_>) -> Result<u32, Memory>
-    ensures level { IfOk result (λ depth. depth ≡ (pen_of p.old).depth) }
-    ensures pen { Reaches result (pen_of p.old) (pen_of p.new) (braces_opened (pen_of p.old)) }
+pub fn open_braces(p: &mut Printing<'_>) -> u32
+    ensures level { has_failed p.new ≡ false → result ≡ (pen_at p.old).depth }
+    ensures pen { Goes p.old p.new braces_opened }
 {
-    p.print_opening(Bracket::Brace)?;
-    p.print_soft_line()?;
+    p.print_opening(Bracket::Brace);
+    p.print_soft_line();
     p.deepen()
 }
 
 /// The closing brace, at the level before.
-pub fn close_braces(p: &mut Printer<'_>, depth: u32) -> Result<(), Memory>
-    ensures { Reaches result (pen_of p.old) (pen_of p.new) (braces_closed depth (pen_of p.old)) }
+pub fn close_braces(p: &mut Printing<'_>, depth: u32)
+    ensures { Goes p.old p.new (braces_closed depth) }
 {
     p.set_depth(depth);
-    p.print_indentation()?;
-    p.print_closing(Bracket::Brace)?;
+    p.print_indentation();
+    p.print_closing(Bracket::Brace);
     p.drop_semicolon();
-    Ok(())
 }

@@ -1,68 +1,62 @@
 // Cases of a choice (ECMA-262, 14.12).
-ghost use Rattle.std.specs.Prelude.{◌≡◌, map, option_map};
+ghost use Rattle.std.specs.Prelude.{map, option_map};
 ghost use Rattle.jsgen_syntax.specs.declared.precedence.Precedence.TheVariants.{Lowest};
 ghost use Rattle.jsgen_tree.specs.Tree.{Tree, more, no_trees, trees, optional};
 ghost use Rattle.jsgen_model.specs.Punctuator.{colon};
 ghost use Rattle.jsgen_model.specs.Items.{◌⊕◌, punctuator, indentation};
-ghost use Rattle.jsgen_model.specs.Layout.{layout, nowhere};
 ghost use Rattle.jsgen_model.specs.Spell.{spell_statements, spell_only, spell_test, case_items, in_brackets, among_statements};
-ghost use Rattle.jsgen_model.specs.Printing.{Reaches};
-ghost use Rattle.jsgen_printer.specs.Printer.{pen_of};
+ghost use Rattle.jsgen_steps.specs.Steps.{Lays, BeginsNothing};
 ghost use Rattle.jsgen_place.specs.Place.{settings_of};
 
 use crate::maybe::print_case_test;
 use crate::members::PrintMember;
 use crate::statements::{PrintStatement, print_deeper_statements};
 use jsgen_place::{Place, Settings};
-use jsgen_printer::Printer;
-use jsgen_syntax::{Memory, Precedence};
+use jsgen_steps::Printing;
+use jsgen_syntax::Precedence;
 
 /// How the one statement of a case is printed, which goes on with the line where it is a block.
 pub trait PrintOnly<E> {
     // What a statement stands for.
     ghost plain: { E → Tree };
 
-    fn print_only(statement: &E, p: &mut Printer<'_>, settings: Settings) -> Result<(), Memory>
-        requires { (pen_of p.old).start ≡ nowhere }
-        ensures { Reaches result (pen_of p.old) (pen_of p.new) (layout (spell_only (more (plain statement.now) no_trees) (settings_of settings)) (pen_of p.old)) };
+    fn print_only(statement: &E, p: &mut Printing<'_>, settings: Settings)
+        requires { BeginsNothing p.old }
+        ensures { Lays p.old p.new (λ _. spell_only (more (plain statement.now) no_trees) (settings_of settings)) };
 }
 
 /// A case: its test or its word, and the statements that stand under it.
 pub fn print_case<E, F, L: PrintMember<E>, O: PrintOnly<F>, S: PrintStatement<F>>(
     test: &Option<E>,
     consequent: &[F],
-    p: &mut Printer<'_>,
+    p: &mut Printing<'_>,
     settings: Settings,
-) -> Result<(), Memory>
-    ensures { Reaches result (pen_of p.old) (pen_of p.new) (layout (indentation ⊕ (spell_test (optional (option_map L.plain test.now)) (in_brackets Lowest (among_statements (settings_of settings)))
-        ⊕ (punctuator colon ⊕ case_items (trees (map S.plain consequent.now)) (spell_only (trees (map O.plain consequent.now)) (settings_of settings)) (spell_statements (trees (map S.plain consequent.now)) (settings_of settings))))) (pen_of p.old)) }
+)
+    ensures { Lays p.old p.new (λ _. indentation ⊕ (spell_test (optional (option_map L.plain test.now)) (in_brackets Lowest (among_statements (settings_of settings)))
+        ⊕ (punctuator colon ⊕ case_items (trees (map S.plain consequent.now)) (spell_only (trees (map O.plain consequent.now)) (settings_of settings)) (spell_statements (trees (map S.plain consequent.now)) (settings_of settings))))) }
 {
-    p.print_indentation()?;
-    print_case_head::<E, L>(test, p, settings)?;
+    p.print_indentation();
+    print_case_head::<E, L>(test, p, settings);
     print_consequent::<F, O, S>(consequent, p, settings)
 }
 
 // The test and its colon.
-fn print_case_head<E, L: PrintMember<E>>(
-    test: &Option<E>,
-    p: &mut Printer<'_>,
-    settings: Settings,
-) -> Result<(), Memory>
-    ensures { Reaches result (pen_of p.old) (pen_of p.new) (layout (spell_test (optional (option_map L.plain test.now)) (in_brackets Lowest (among_statements (settings_of settings))) ⊕ punctuator colon) (pen_of p.old)) }
+fn print_case_head<E, L: PrintMember<E>>(test: &Option<E>, p: &mut Printing<'_>, settings: Settings)
+    ensures { Lays p.old p.new (λ _. spell_test (optional (option_map L.plain test.now)) (in_brackets Lowest (among_statements (settings_of settings))) ⊕ punctuator colon) }
 {
     let within = Place::in_brackets(Precedence::Lowest, settings);
-    print_case_test::<E, L>(test, p, within)?;
+    print_case_test::<E, L>(test, p, within);
     p.print_colon()
 }
 
 // One statement as a body, or any other number on lines of their own.
 fn print_consequent<F, O: PrintOnly<F>, S: PrintStatement<F>>(
     statements: &[F],
-    p: &mut Printer<'_>,
+    p: &mut Printing<'_>,
     settings: Settings,
-) -> Result<(), Memory>
-    requires { (pen_of p.old).start ≡ nowhere }
-    ensures { Reaches result (pen_of p.old) (pen_of p.new) (layout (case_items (trees (map S.plain statements.now)) (spell_only (trees (map O.plain statements.now)) (settings_of settings)) (spell_statements (trees (map S.plain statements.now)) (settings_of settings))) (pen_of p.old)) }
+)
+    requires { BeginsNothing p.old }
+    ensures { Lays p.old p.new (λ _. case_items (trees (map S.plain statements.now)) (spell_only (trees (map O.plain statements.now)) (settings_of settings)) (spell_statements (trees (map S.plain statements.now)) (settings_of settings))) }
 {
     if statements.len() == 1 {
         O::print_only(&statements[0], p, settings)

@@ -3,16 +3,14 @@ ghost use Rattle.std.specs.Prelude.{◌≡◌, true, false, map, not, Option, is
 ghost use Rattle.jsgen_tree.specs.Tree.{Tree, holed};
 ghost use Rattle.jsgen_model.specs.Punctuator.{Square, Brace};
 ghost use Rattle.jsgen_model.specs.Items.{◌⊕◌, brackets, soft_space};
-ghost use Rattle.jsgen_model.specs.Layout.{layout, nowhere};
 ghost use Rattle.jsgen_model.specs.Spell.{spell_elements, spell_more_elements, next_line, line_or_space, on_lines, object_inside, are_more, ends_in_hole, comma_if};
-ghost use Rattle.jsgen_model.specs.Printing.{Reaches};
-ghost use Rattle.jsgen_printer.specs.Printer.{pen_of};
+ghost use Rattle.jsgen_steps.specs.Steps.{Lays, BeginsNothing};
 ghost use Rattle.jsgen_place.specs.Place.{place_of};
 ghost use Rattle.jsgen_lists.specs.Lists.{listed, element_items, all_elements};
 
 use jsgen_place::Place;
-use jsgen_printer::{Bracket, Printer};
-use jsgen_syntax::Memory;
+use jsgen_printer::Bracket;
+use jsgen_steps::Printing;
 
 /// How the members of a list in which some may be left out are printed.
 pub trait PrintElement<E> {
@@ -23,47 +21,35 @@ pub trait PrintElement<E> {
         ensures { result ≡ not (is_some (plain element.now)) };
 
     /// Nothing is printed for one that is left out.
-    fn print_element(element: &E, p: &mut Printer<'_>, place: Place) -> Result<(), Memory>
-        ensures { Reaches result (pen_of p.old) (pen_of p.new) (layout (element_items (plain element.now) (place_of place (pen_of p.old))) (pen_of p.old)) };
+    fn print_element(element: &E, p: &mut Printing<'_>, place: Place)
+        ensures { Lays p.old p.new (λ pen. element_items (plain element.now) (place_of place pen)) };
 }
 
 /// An array: its elements in brackets, up to two on one line, and more on lines of their own.
-pub fn print_array<E, L: PrintElement<E>>(
-    elements: &[E],
-    p: &mut Printer<'_>,
-    place: Place,
-) -> Result<(), Memory>
-    ensures { Reaches result (pen_of p.old) (pen_of p.new) (layout (brackets Square (on_lines (are_more 2 (holed (map L.plain elements.now)))
-        (all_elements (are_more 2 (holed (map L.plain elements.now))) (holed (map L.plain elements.now)) (listed place)))) (pen_of p.old)) }
+pub fn print_array<E, L: PrintElement<E>>(elements: &[E], p: &mut Printing<'_>, place: Place)
+    ensures { Lays p.old p.new (λ _. brackets Square (on_lines (are_more 2 (holed (map L.plain elements.now)))
+        (all_elements (are_more 2 (holed (map L.plain elements.now))) (holed (map L.plain elements.now)) (listed place)))) }
 {
     let lines = are_more::<E, L>(2, elements);
-    p.print_opening(Bracket::Square)?;
-    print_lines::<E, L>(lines, elements, p, place)?;
+    p.print_opening(Bracket::Square);
+    print_lines::<E, L>(lines, elements, p, place);
     p.print_closing(Bracket::Square)
 }
 
 /// An object: its properties in braces, a single one between spaces, and more on lines of their own.
-pub fn print_object<E, L: PrintElement<E>>(
-    properties: &[E],
-    p: &mut Printer<'_>,
-    place: Place,
-) -> Result<(), Memory>
-    ensures { Reaches result (pen_of p.old) (pen_of p.new) (layout (brackets Brace (object_inside (holed (map L.plain properties.now))
-        (all_elements (are_more 1 (holed (map L.plain properties.now))) (holed (map L.plain properties.now)) (listed place)))) (pen_of p.old)) }
+pub fn print_object<E, L: PrintElement<E>>(properties: &[E], p: &mut Printing<'_>, place: Place)
+    ensures { Lays p.old p.new (λ _. brackets Brace (object_inside (holed (map L.plain properties.now))
+        (all_elements (are_more 1 (holed (map L.plain properties.now))) (holed (map L.plain properties.now)) (listed place)))) }
 {
-    p.print_opening(Bracket::Brace)?;
-    print_inside::<E, L>(properties, p, place)?;
+    p.print_opening(Bracket::Brace);
+    print_inside::<E, L>(properties, p, place);
     p.print_closing(Bracket::Brace)
 }
 
-fn print_inside<E, L: PrintElement<E>>(
-    properties: &[E],
-    p: &mut Printer<'_>,
-    place: Place,
-) -> Result<(), Memory>
-    requires { (pen_of p.old).start ≡ nowhere }
-    ensures { Reaches result (pen_of p.old) (pen_of p.new) (layout (object_inside (holed (map L.plain properties.now))
-        (all_elements (are_more 1 (holed (map L.plain properties.now))) (holed (map L.plain properties.now)) (listed place))) (pen_of p.old)) }
+fn print_inside<E, L: PrintElement<E>>(properties: &[E], p: &mut Printing<'_>, place: Place)
+    requires { BeginsNothing p.old }
+    ensures { Lays p.old p.new (λ _. object_inside (holed (map L.plain properties.now))
+        (all_elements (are_more 1 (holed (map L.plain properties.now))) (holed (map L.plain properties.now)) (listed place))) }
 {
     if properties.len() > 1 {
         print_on_lines::<E, L>(properties, p, place)
@@ -74,16 +60,12 @@ fn print_inside<E, L: PrintElement<E>>(
     }
 }
 
-fn print_single<E, L: PrintElement<E>>(
-    properties: &[E],
-    p: &mut Printer<'_>,
-    place: Place,
-) -> Result<(), Memory>
-    requires { (pen_of p.old).start ≡ nowhere }
-    ensures { Reaches result (pen_of p.old) (pen_of p.new) (layout (soft_space ⊕ (all_elements false (holed (map L.plain properties.now)) (listed place) ⊕ soft_space)) (pen_of p.old)) }
+fn print_single<E, L: PrintElement<E>>(properties: &[E], p: &mut Printing<'_>, place: Place)
+    requires { BeginsNothing p.old }
+    ensures { Lays p.old p.new (λ _. soft_space ⊕ (all_elements false (holed (map L.plain properties.now)) (listed place) ⊕ soft_space)) }
 {
-    p.print_soft_space()?;
-    print_all::<E, L>(false, properties, p, place)?;
+    p.print_soft_space();
+    print_all::<E, L>(false, properties, p, place);
     p.print_soft_space()
 }
 
@@ -97,11 +79,11 @@ fn are_more<E, L: PrintElement<E>>(count: usize, elements: &[E]) -> bool
 fn print_lines<E, L: PrintElement<E>>(
     lines: bool,
     elements: &[E],
-    p: &mut Printer<'_>,
+    p: &mut Printing<'_>,
     place: Place,
-) -> Result<(), Memory>
-    requires { (pen_of p.old).start ≡ nowhere }
-    ensures { Reaches result (pen_of p.old) (pen_of p.new) (layout (on_lines lines (all_elements lines (holed (map L.plain elements.now)) (listed place))) (pen_of p.old)) }
+)
+    requires { BeginsNothing p.old }
+    ensures { Lays p.old p.new (λ _. on_lines lines (all_elements lines (holed (map L.plain elements.now)) (listed place))) }
 {
     if lines {
         print_on_lines::<E, L>(elements, p, place)
@@ -110,30 +92,26 @@ fn print_lines<E, L: PrintElement<E>>(
     }
 }
 
-fn print_on_lines<E, L: PrintElement<E>>(
-    elements: &[E],
-    p: &mut Printer<'_>,
-    place: Place,
-) -> Result<(), Memory>
-    requires { (pen_of p.old).start ≡ nowhere }
-    ensures { Reaches result (pen_of p.old) (pen_of p.new) (layout (on_lines true (all_elements true (holed (map L.plain elements.now)) (listed place))) (pen_of p.old)) }
+fn print_on_lines<E, L: PrintElement<E>>(elements: &[E], p: &mut Printing<'_>, place: Place)
+    requires { BeginsNothing p.old }
+    ensures { Lays p.old p.new (λ _. on_lines true (all_elements true (holed (map L.plain elements.now)) (listed place))) }
 {
-    let depth = p.deepen()?;
-    print_next_line(p)?;
-    print_all::<E, L>(true, elements, p, place)?;
+    let depth = p.deepen();
+    print_next_line(p);
+    print_all::<E, L>(true, elements, p, place);
     p.set_depth(depth);
     print_next_line(p)
 }
 
-fn print_next_line(p: &mut Printer<'_>) -> Result<(), Memory>
-    ensures { Reaches result (pen_of p.old) (pen_of p.new) (layout next_line (pen_of p.old)) }
+fn print_next_line(p: &mut Printing<'_>)
+    ensures { Lays p.old p.new (λ _. next_line) }
 {
-    p.print_soft_line()?;
+    p.print_soft_line();
     p.print_indentation()
 }
 
-fn print_between(lines: bool, p: &mut Printer<'_>) -> Result<(), Memory>
-    ensures { Reaches result (pen_of p.old) (pen_of p.new) (layout (line_or_space lines) (pen_of p.old)) }
+fn print_between(lines: bool, p: &mut Printing<'_>)
+    ensures { Lays p.old p.new (λ _. line_or_space lines) }
 {
     if lines {
         print_next_line(p)
@@ -143,29 +121,19 @@ fn print_between(lines: bool, p: &mut Printer<'_>) -> Result<(), Memory>
 }
 
 // The members, and behind a last one that is left out its comma.
-fn print_all<E, L: PrintElement<E>>(
-    lines: bool,
-    elements: &[E],
-    p: &mut Printer<'_>,
-    place: Place,
-) -> Result<(), Memory>
-    requires { (pen_of p.old).start ≡ nowhere }
-    ensures { Reaches result (pen_of p.old) (pen_of p.new) (layout (all_elements lines (holed (map L.plain elements.now)) (listed place)) (pen_of p.old)) }
+fn print_all<E, L: PrintElement<E>>(lines: bool, elements: &[E], p: &mut Printing<'_>, place: Place)
+    requires { BeginsNothing p.old }
+    ensures { Lays p.old p.new (λ _. all_elements lines (holed (map L.plain elements.now)) (listed place)) }
 {
-    print_elements::<E, L>(lines, elements, p, place)?;
+    print_elements::<E, L>(lines, elements, p, place);
     print_last_comma::<E, L>(elements, p)
 }
 
-fn print_last_comma<E, L: PrintElement<E>>(
-    elements: &[E],
-    p: &mut Printer<'_>,
-) -> Result<(), Memory>
-    ensures { Reaches result (pen_of p.old) (pen_of p.new) (layout (comma_if (ends_in_hole (holed (map L.plain elements.now)))) (pen_of p.old)) }
+fn print_last_comma<E, L: PrintElement<E>>(elements: &[E], p: &mut Printing<'_>)
+    ensures { Lays p.old p.new (λ _. comma_if (ends_in_hole (holed (map L.plain elements.now)))) }
 {
     if ends_in_hole::<E, L>(elements) {
         p.print_comma()
-    } else {
-        Ok(())
     }
 }
 
@@ -181,18 +149,18 @@ fn ends_in_hole<E, L: PrintElement<E>>(elements: &[E]) -> bool
 fn print_elements<E, L: PrintElement<E>>(
     lines: bool,
     elements: &[E],
-    p: &mut Printer<'_>,
+    p: &mut Printing<'_>,
     place: Place,
-) -> Result<(), Memory>
-    requires { (pen_of p.old).start ≡ nowhere }
-    ensures { Reaches result (pen_of p.old) (pen_of p.new) (layout (spell_elements lines (holed (map L.plain elements.now)) (listed place)) (pen_of p.old)) }
+)
+    requires { BeginsNothing p.old }
+    ensures { Lays p.old p.new (λ _. spell_elements lines (holed (map L.plain elements.now)) (listed place)) }
 {
     match elements.split_first() {
         Some((first, others)) => {
-            L::print_element(first, p, place)?;
+            L::print_element(first, p, place);
             print_more_elements::<E, L>(lines, others, p, place)
         }
-        None => Ok(()),
+        None => {}
     }
 }
 
@@ -200,15 +168,14 @@ fn print_elements<E, L: PrintElement<E>>(
 fn print_more_elements<E, L: PrintElement<E>>(
     lines: bool,
     elements: &[E],
-    p: &mut Printer<'_>,
+    p: &mut Printing<'_>,
     place: Place,
-) -> Result<(), Memory>
-    ensures { Reaches result (pen_of p.old) (pen_of p.new) (layout (spell_more_elements lines (holed (map L.plain elements.now)) (listed place)) (pen_of p.old)) }
+)
+    ensures { Lays p.old p.new (λ _. spell_more_elements lines (holed (map L.plain elements.now)) (listed place)) }
 {
     for element in elements {
-        p.print_comma()?;
-        print_between(lines, p)?;
-        L::print_element(element, p, place)?;
+        p.print_comma();
+        print_between(lines, p);
+        L::print_element(element, p, place);
     }
-    Ok(())
 }

@@ -3,30 +3,29 @@ ghost use Rattle.std.specs.Prelude.{IsTrue, option_map};
 ghost use Rattle.jsgen_tree.specs.Tree.{optional};
 ghost use Rattle.jsgen_model.specs.Punctuator.{Round};
 ghost use Rattle.jsgen_model.specs.Items.{◌⊕◌, word, brackets, soft_space, statement_end};
-ghost use Rattle.jsgen_model.specs.Layout.{layout};
 ghost use Rattle.jsgen_model.specs.Spell.{spell, spell_apart, accessor_word};
-ghost use Rattle.jsgen_model.specs.Printing.{Reaches};
-ghost use Rattle.jsgen_printer.specs.Printer.{pen_of, is_ascii};
+ghost use Rattle.jsgen_steps.specs.Steps.{Lays};
+ghost use Rattle.jsgen_printer.specs.Printer.{is_ascii};
 ghost use Rattle.jsgen_lists.specs.Lists.{listed};
 
 use crate::maybe::{print_apart, print_behind_space};
 use crate::members::PrintMember;
 use jsgen_place::Place;
-use jsgen_printer::{Bracket, Printer};
-use jsgen_syntax::Memory;
+use jsgen_printer::Bracket;
+use jsgen_steps::Printing;
 use jsgen_tree::PropertyKind;
 
 /// A word, and something behind it.
 pub fn print_behind_word<E, L: PrintMember<E>>(
     text: &str,
     member: &E,
-    p: &mut Printer<'_>,
+    p: &mut Printing<'_>,
     place: Place,
-) -> Result<(), Memory>
+)
     requires { IsTrue (is_ascii text.now) }
-    ensures { Reaches result (pen_of p.old) (pen_of p.new) (layout (word text.now ⊕ (soft_space ⊕ spell (L.plain member.now) (listed place))) (pen_of p.old)) }
+    ensures { Lays p.old p.new (λ _. word text.now ⊕ (soft_space ⊕ spell (L.plain member.now) (listed place))) }
 {
-    p.print_word(text)?;
+    p.print_word(text);
     print_behind_space::<E, L>(member, p, place)
 }
 
@@ -34,51 +33,42 @@ pub fn print_behind_word<E, L: PrintMember<E>>(
 pub fn print_behind_spaced_word<E, L: PrintMember<E>>(
     text: &str,
     member: &E,
-    p: &mut Printer<'_>,
+    p: &mut Printing<'_>,
     place: Place,
-) -> Result<(), Memory>
+)
     requires { IsTrue (is_ascii text.now) }
-    ensures { Reaches result (pen_of p.old) (pen_of p.new) (layout (soft_space ⊕ (word text.now ⊕ (soft_space ⊕ spell (L.plain member.now) (listed place)))) (pen_of p.old)) }
+    ensures { Lays p.old p.new (λ _. soft_space ⊕ (word text.now ⊕ (soft_space ⊕ spell (L.plain member.now) (listed place)))) }
 {
-    p.print_soft_space()?;
+    p.print_soft_space();
     print_behind_word::<E, L>(text, member, p, place)
 }
 
 /// A word, and something behind it in parentheses.
-pub fn print_head<E, L: PrintMember<E>>(
-    text: &str,
-    member: &E,
-    p: &mut Printer<'_>,
-    place: Place,
-) -> Result<(), Memory>
+pub fn print_head<E, L: PrintMember<E>>(text: &str, member: &E, p: &mut Printing<'_>, place: Place)
     requires { IsTrue (is_ascii text.now) }
-    ensures { Reaches result (pen_of p.old) (pen_of p.new) (layout (word text.now ⊕ (soft_space ⊕ brackets Round (spell (L.plain member.now) (listed place)))) (pen_of p.old)) }
+    ensures { Lays p.old p.new (λ _. word text.now ⊕ (soft_space ⊕ brackets Round (spell (L.plain member.now) (listed place)))) }
 {
-    p.print_word(text)?;
+    p.print_word(text);
     print_apart_in_parentheses::<E, L>(member, p, place)
 }
 
 /// Behind a space, in parentheses.
 pub fn print_apart_in_parentheses<E, L: PrintMember<E>>(
     member: &E,
-    p: &mut Printer<'_>,
+    p: &mut Printing<'_>,
     place: Place,
-) -> Result<(), Memory>
-    ensures { Reaches result (pen_of p.old) (pen_of p.new) (layout (soft_space ⊕ brackets Round (spell (L.plain member.now) (listed place))) (pen_of p.old)) }
+)
+    ensures { Lays p.old p.new (λ _. soft_space ⊕ brackets Round (spell (L.plain member.now) (listed place))) }
 {
-    p.print_soft_space()?;
+    p.print_soft_space();
     print_in_parentheses::<E, L>(member, p, place)
 }
 
-pub fn print_in_parentheses<E, L: PrintMember<E>>(
-    member: &E,
-    p: &mut Printer<'_>,
-    place: Place,
-) -> Result<(), Memory>
-    ensures { Reaches result (pen_of p.old) (pen_of p.new) (layout (brackets Round (spell (L.plain member.now) (listed place))) (pen_of p.old)) }
+pub fn print_in_parentheses<E, L: PrintMember<E>>(member: &E, p: &mut Printing<'_>, place: Place)
+    ensures { Lays p.old p.new (λ _. brackets Round (spell (L.plain member.now) (listed place))) }
 {
-    p.print_opening(Bracket::Round)?;
-    L::print_member(member, p, place)?;
+    p.print_opening(Bracket::Round);
+    L::print_member(member, p, place);
     p.print_closing(Bracket::Round)
 }
 
@@ -86,32 +76,32 @@ pub fn print_in_parentheses<E, L: PrintMember<E>>(
 pub fn print_jump<E, L: PrintMember<E>>(
     text: &str,
     label: &Option<E>,
-    p: &mut Printer<'_>,
+    p: &mut Printing<'_>,
     place: Place,
-) -> Result<(), Memory>
+)
     requires { IsTrue (is_ascii text.now) }
-    ensures { Reaches result (pen_of p.old) (pen_of p.new) (layout (word text.now ⊕ (spell_apart (optional (option_map L.plain label.now)) (listed place) ⊕ statement_end)) (pen_of p.old)) }
+    ensures { Lays p.old p.new (λ _. word text.now ⊕ (spell_apart (optional (option_map L.plain label.now)) (listed place) ⊕ statement_end)) }
 {
-    p.print_word(text)?;
-    print_apart::<E, L>(label, p, place)?;
+    p.print_word(text);
+    print_apart::<E, L>(label, p, place);
     p.print_statement_end()
 }
 
 /// What stands before the key of an accessor (ECMA-262, 15.4), and nothing before that of a method.
-pub fn print_accessor_word(kind: PropertyKind, p: &mut Printer<'_>) -> Result<(), Memory>
-    ensures { Reaches result (pen_of p.old) (pen_of p.new) (layout (accessor_word kind) (pen_of p.old)) }
+pub fn print_accessor_word(kind: PropertyKind, p: &mut Printing<'_>)
+    ensures { Lays p.old p.new (λ _. accessor_word kind) }
 {
     match kind {
-        PropertyKind::Init => Ok(()),
+        PropertyKind::Init => {}
         PropertyKind::Get => print_word_before_key("get", p),
         PropertyKind::Set => print_word_before_key("set", p),
     }
 }
 
-fn print_word_before_key(text: &str, p: &mut Printer<'_>) -> Result<(), Memory>
+fn print_word_before_key(text: &str, p: &mut Printing<'_>)
     requires { IsTrue (is_ascii text.now) }
-    ensures { Reaches result (pen_of p.old) (pen_of p.new) (layout (word text.now ⊕ soft_space) (pen_of p.old)) }
+    ensures { Lays p.old p.new (λ _. word text.now ⊕ soft_space) }
 {
-    p.print_word(text)?;
+    p.print_word(text);
     p.print_soft_space()
 }

@@ -2,16 +2,13 @@
 ghost use Rattle.jsgen_tree.specs.Characters.{characters};
 ghost use Rattle.jsgen_tree.specs.Named.{as_written};
 ghost use Rattle.jsgen_model.specs.Items.{◌⊕◌, name};
-ghost use Rattle.jsgen_model.specs.Layout.{layout};
 ghost use Rattle.jsgen_model.specs.Spell.{spell, name_link, bracket_link};
-ghost use Rattle.jsgen_model.specs.Printing.{Reaches};
-ghost use Rattle.jsgen_printer.specs.Printer.{pen_of};
+ghost use Rattle.jsgen_steps.specs.Steps.{Lays};
 ghost use Rattle.jsgen_place.specs.Place.{place_of};
 
 use crate::members::PrintMember;
 use jsgen_place::Place;
-use jsgen_printer::Printer;
-use jsgen_syntax::Memory;
+use jsgen_steps::Printing;
 use jsgen_tree::IdentifierName;
 
 /// An object, and the name of one of its members behind a dot.
@@ -19,31 +16,27 @@ pub fn print_named_member<E, L: PrintMember<E>>(
     object: &E,
     optional: bool,
     property: &IdentifierName,
-    p: &mut Printer<'_>,
+    p: &mut Printing<'_>,
     place: Place,
-) -> Result<(), Memory>
-    ensures { Reaches result (pen_of p.old) (pen_of p.new) (layout (spell (L.plain object.now) (place_of place (pen_of p.old))
-        ⊕ (name_link optional ⊕ name (as_written (characters property.now.name)))) (pen_of p.old)) }
+)
+    ensures { Lays p.old p.new (λ pen. spell (L.plain object.now) (place_of place pen)
+        ⊕ (name_link optional ⊕ name (as_written (characters property.now.name)))) }
 {
-    L::print_member(object, p, place)?;
+    L::print_member(object, p, place);
     print_member_name(optional, property, p)
 }
 
 // Behind the object.
-fn print_member_name(
-    optional: bool,
-    property: &IdentifierName,
-    p: &mut Printer<'_>,
-) -> Result<(), Memory>
-    ensures { Reaches result (pen_of p.old) (pen_of p.new) (layout (name_link optional ⊕ name (as_written (characters property.now.name))) (pen_of p.old)) }
+fn print_member_name(optional: bool, property: &IdentifierName, p: &mut Printing<'_>)
+    ensures { Lays p.old p.new (λ _. name_link optional ⊕ name (as_written (characters property.now.name))) }
 {
-    print_name_link(optional, p)?;
+    print_name_link(optional, p);
     p.print_name(property.name.as_str())
 }
 
 // What stands before a member's name.
-fn print_name_link(optional: bool, p: &mut Printer<'_>) -> Result<(), Memory>
-    ensures { Reaches result (pen_of p.old) (pen_of p.new) (layout (name_link optional) (pen_of p.old)) }
+fn print_name_link(optional: bool, p: &mut Printing<'_>)
+    ensures { Lays p.old p.new (λ _. name_link optional) }
 {
     if optional {
         p.print_question_dot()
@@ -53,12 +46,10 @@ fn print_name_link(optional: bool, p: &mut Printer<'_>) -> Result<(), Memory>
 }
 
 /// What stands before the brackets of a link.
-pub fn print_bracket_link(optional: bool, p: &mut Printer<'_>) -> Result<(), Memory>
-    ensures { Reaches result (pen_of p.old) (pen_of p.new) (layout (bracket_link optional) (pen_of p.old)) }
+pub fn print_bracket_link(optional: bool, p: &mut Printing<'_>)
+    ensures { Lays p.old p.new (λ _. bracket_link optional) }
 {
     if optional {
         p.print_question_dot()
-    } else {
-        Ok(())
     }
 }

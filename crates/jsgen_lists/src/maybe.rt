@@ -1,45 +1,34 @@
 // What may be there or not.
-ghost use Rattle.std.specs.Prelude.{◌≡◌, map, option_map};
+ghost use Rattle.std.specs.Prelude.{map, option_map};
 ghost use Rattle.jsgen_tree.specs.Tree.{Tree, given, trees, optional};
 ghost use Rattle.jsgen_model.specs.Items.{◌⊕◌, soft_space, punctuator};
 ghost use Rattle.jsgen_model.specs.Punctuator.{comma, equal};
-ghost use Rattle.jsgen_model.specs.Layout.{layout, nowhere};
 ghost use Rattle.jsgen_model.specs.Spell.{spell, spell_value, spell_if_given, spell_apart, spell_caught, spell_test, comma_between};
-ghost use Rattle.jsgen_model.specs.Printing.{Reaches};
-ghost use Rattle.jsgen_printer.specs.Printer.{pen_of};
+ghost use Rattle.jsgen_steps.specs.Steps.{Lays, BeginsNothing};
 ghost use Rattle.jsgen_place.specs.Place.{place_of};
 ghost use Rattle.jsgen_lists.specs.Lists.{listed};
 
 use crate::heads::{print_apart_in_parentheses, print_behind_word};
 use crate::members::PrintMember;
 use jsgen_place::Place;
-use jsgen_printer::Printer;
-use jsgen_syntax::Memory;
+use jsgen_steps::Printing;
 
 /// The value of what is declared, behind `=`.
-pub fn print_value<E, L: PrintMember<E>>(
-    value: &Option<E>,
-    p: &mut Printer<'_>,
-    place: Place,
-) -> Result<(), Memory>
-    ensures { Reaches result (pen_of p.old) (pen_of p.new) (layout (spell_value (optional (option_map L.plain value.now)) (listed place)) (pen_of p.old)) }
+pub fn print_value<E, L: PrintMember<E>>(value: &Option<E>, p: &mut Printing<'_>, place: Place)
+    ensures { Lays p.old p.new (λ _. spell_value (optional (option_map L.plain value.now)) (listed place)) }
 {
     match value {
         Some(value) => print_behind_equal::<E, L>(value, p, place),
-        None => Ok(()),
+        None => {}
     }
 }
 
-fn print_behind_equal<E, L: PrintMember<E>>(
-    value: &E,
-    p: &mut Printer<'_>,
-    place: Place,
-) -> Result<(), Memory>
-    ensures { Reaches result (pen_of p.old) (pen_of p.new) (layout (soft_space ⊕ (punctuator equal ⊕ (soft_space ⊕ spell (L.plain value.now) (listed place)))) (pen_of p.old)) }
+fn print_behind_equal<E, L: PrintMember<E>>(value: &E, p: &mut Printing<'_>, place: Place)
+    ensures { Lays p.old p.new (λ _. soft_space ⊕ (punctuator equal ⊕ (soft_space ⊕ spell (L.plain value.now) (listed place)))) }
 {
-    p.print_soft_space()?;
-    p.print_equal()?;
-    p.print_soft_space()?;
+    p.print_soft_space();
+    p.print_equal();
+    p.print_soft_space();
     L::print_member(value, p, place)
 }
 
@@ -47,99 +36,74 @@ fn print_behind_equal<E, L: PrintMember<E>>(
 pub fn print_comma_between<E, R, L: PrintMember<E>, M: PrintMember<R>>(
     members: &[E],
     rest: &Option<R>,
-    p: &mut Printer<'_>,
-) -> Result<(), Memory>
-    ensures { Reaches result (pen_of p.old) (pen_of p.new) (layout (comma_between (trees (map L.plain members.now)) (optional (option_map M.plain rest.now))) (pen_of p.old)) }
+    p: &mut Printing<'_>,
+)
+    ensures { Lays p.old p.new (λ _. comma_between (trees (map L.plain members.now)) (optional (option_map M.plain rest.now))) }
 {
     match rest {
         Some(_) => print_comma_behind::<E, L>(members, p),
-        None => Ok(()),
+        None => {}
     }
 }
 
-fn print_comma_behind<E, L: PrintMember<E>>(
-    members: &[E],
-    p: &mut Printer<'_>,
-) -> Result<(), Memory>
-    ensures { (rest : Tree) → Reaches result (pen_of p.old) (pen_of p.new) (layout (comma_between (trees (map L.plain members.now)) (given rest)) (pen_of p.old)) }
+fn print_comma_behind<E, L: PrintMember<E>>(members: &[E], p: &mut Printing<'_>)
+    ensures { (rest : Tree) → Lays p.old p.new (λ _. comma_between (trees (map L.plain members.now)) (given rest)) }
 {
-    if members.is_empty() {
-        Ok(())
-    } else {
+    if members.is_empty() {} else {
         print_comma_and_space(p)
     }
 }
 
 /// A comma, and a space behind it.
-pub fn print_comma_and_space(p: &mut Printer<'_>) -> Result<(), Memory>
-    ensures { Reaches result (pen_of p.old) (pen_of p.new) (layout (punctuator comma ⊕ soft_space) (pen_of p.old)) }
+pub fn print_comma_and_space(p: &mut Printing<'_>)
+    ensures { Lays p.old p.new (λ _. punctuator comma ⊕ soft_space) }
 {
-    p.print_comma()?;
+    p.print_comma();
     p.print_soft_space()
 }
 
 /// A member, if there is one.
-pub fn print_if_given<E, L: PrintMember<E>>(
-    member: &Option<E>,
-    p: &mut Printer<'_>,
-    place: Place,
-) -> Result<(), Memory>
-    ensures { Reaches result (pen_of p.old) (pen_of p.new) (layout (spell_if_given (optional (option_map L.plain member.now)) (place_of place (pen_of p.old))) (pen_of p.old)) }
+pub fn print_if_given<E, L: PrintMember<E>>(member: &Option<E>, p: &mut Printing<'_>, place: Place)
+    ensures { Lays p.old p.new (λ pen. spell_if_given (optional (option_map L.plain member.now)) (place_of place pen)) }
 {
     match member {
         Some(member) => L::print_member(member, p, place),
-        None => Ok(()),
+        None => {}
     }
 }
 
 /// A member, if there is one, behind a space.
-pub fn print_apart<E, L: PrintMember<E>>(
-    member: &Option<E>,
-    p: &mut Printer<'_>,
-    place: Place,
-) -> Result<(), Memory>
-    requires { (pen_of p.old).start ≡ nowhere }
-    ensures { Reaches result (pen_of p.old) (pen_of p.new) (layout (spell_apart (optional (option_map L.plain member.now)) (listed place)) (pen_of p.old)) }
+pub fn print_apart<E, L: PrintMember<E>>(member: &Option<E>, p: &mut Printing<'_>, place: Place)
+    requires { BeginsNothing p.old }
+    ensures { Lays p.old p.new (λ _. spell_apart (optional (option_map L.plain member.now)) (listed place)) }
 {
     match member {
         Some(member) => print_behind_space::<E, L>(member, p, place),
-        None => Ok(()),
+        None => {}
     }
 }
 
-pub fn print_behind_space<E, L: PrintMember<E>>(
-    member: &E,
-    p: &mut Printer<'_>,
-    place: Place,
-) -> Result<(), Memory>
-    requires { (pen_of p.old).start ≡ nowhere }
-    ensures { Reaches result (pen_of p.old) (pen_of p.new) (layout (soft_space ⊕ spell (L.plain member.now) (listed place)) (pen_of p.old)) }
+pub fn print_behind_space<E, L: PrintMember<E>>(member: &E, p: &mut Printing<'_>, place: Place)
+    requires { BeginsNothing p.old }
+    ensures { Lays p.old p.new (λ _. soft_space ⊕ spell (L.plain member.now) (listed place)) }
 {
-    p.print_soft_space()?;
+    p.print_soft_space();
     L::print_member(member, p, place)
 }
 
 /// The name of what is caught, if it has one, in parentheses.
-pub fn print_caught<E, L: PrintMember<E>>(
-    param: &Option<E>,
-    p: &mut Printer<'_>,
-    place: Place,
-) -> Result<(), Memory>
-    ensures { Reaches result (pen_of p.old) (pen_of p.new) (layout (spell_caught (optional (option_map L.plain param.now)) (listed place)) (pen_of p.old)) }
+pub fn print_caught<E, L: PrintMember<E>>(param: &Option<E>, p: &mut Printing<'_>, place: Place)
+    ensures { Lays p.old p.new (λ _. spell_caught (optional (option_map L.plain param.now)) (listed place)) }
 {
     match param {
         Some(param) => print_apart_in_parentheses::<E, L>(param, p, place),
-        None => Ok(()),
+        None => {}
     }
 }
 
 /// What a case begins with: its test, or the word of a case that has none.
-pub fn print_case_test<E, L: PrintMember<E>>(
-    test: &Option<E>,
-    p: &mut Printer<'_>,
-    place: Place,
-) -> Result<(), Memory>
-    ensures { Reaches result (pen_of p.old) (pen_of p.new) (layout (spell_test (optional (option_map L.plain test.now)) (listed place)) (pen_of p.old)) }
+pub fn print_case_test<E, L: PrintMember<E>>(test: &Option<E>, p: &mut Printing<'_>, place: Place)
+    ensures { Lays p.old p.new (λ _. spell_test (optional (option_map L.plain test.now)) (listed place)) }
 {
     match test {
         Some(test) => print_behind_word::<E, L>("case", test, p, place),

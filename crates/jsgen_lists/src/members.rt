@@ -1,87 +1,73 @@
 // Lists with commas.
-ghost use Rattle.std.specs.Prelude.{◌≡◌, map};
+ghost use Rattle.std.specs.Prelude.{map};
 ghost use Rattle.jsgen_tree.specs.Tree.{Tree, trees};
 ghost use Rattle.jsgen_model.specs.Items.{brackets};
-ghost use Rattle.jsgen_model.specs.Layout.{layout, nowhere};
 ghost use Rattle.jsgen_model.specs.Spell.{spell, spell_list, spell_more, spell_parts};
-ghost use Rattle.jsgen_model.specs.Printing.{Reaches};
-ghost use Rattle.jsgen_printer.specs.Printer.{pen_of, bracket_of};
+ghost use Rattle.jsgen_steps.specs.Steps.{Lays, BeginsNothing};
+ghost use Rattle.jsgen_printer.specs.Printer.{bracket_of};
 ghost use Rattle.jsgen_place.specs.Place.{place_of};
 ghost use Rattle.jsgen_lists.specs.Lists.{listed};
 
 use crate::maybe::print_comma_and_space;
 use jsgen_place::Place;
-use jsgen_printer::{Bracket, Printer};
-use jsgen_syntax::Memory;
+use jsgen_printer::Bracket;
+use jsgen_steps::Printing;
 
 /// How the members of a list with commas are printed.
 pub trait PrintMember<E> {
     // What a member stands for.
     ghost plain: { E → Tree };
 
-    fn print_member(member: &E, p: &mut Printer<'_>, place: Place) -> Result<(), Memory>
-        ensures { Reaches result (pen_of p.old) (pen_of p.new) (layout (spell (plain member.now) (place_of place (pen_of p.old))) (pen_of p.old)) };
+    fn print_member(member: &E, p: &mut Printing<'_>, place: Place)
+        ensures { Lays p.old p.new (λ pen. spell (plain member.now) (place_of place pen)) };
 }
 
 /// The members, with commas between them, in brackets.
 pub fn print_in_brackets<E, L: PrintMember<E>>(
     bracket: Bracket,
     members: &[E],
-    p: &mut Printer<'_>,
+    p: &mut Printing<'_>,
     place: Place,
-) -> Result<(), Memory>
-    ensures { Reaches result (pen_of p.old) (pen_of p.new) (layout (brackets (bracket_of bracket) (spell_list (trees (map L.plain members.now)) (listed place))) (pen_of p.old)) }
+)
+    ensures { Lays p.old p.new (λ _. brackets (bracket_of bracket) (spell_list (trees (map L.plain members.now)) (listed place))) }
 {
-    p.print_opening(bracket)?;
-    print_list::<E, L>(members, p, place)?;
+    p.print_opening(bracket);
+    print_list::<E, L>(members, p, place);
     p.print_closing(bracket)
 }
 
-fn print_list<E, L: PrintMember<E>>(
-    members: &[E],
-    p: &mut Printer<'_>,
-    place: Place,
-) -> Result<(), Memory>
-    requires { (pen_of p.old).start ≡ nowhere }
-    ensures { Reaches result (pen_of p.old) (pen_of p.new) (layout (spell_list (trees (map L.plain members.now)) (listed place)) (pen_of p.old)) }
+fn print_list<E, L: PrintMember<E>>(members: &[E], p: &mut Printing<'_>, place: Place)
+    requires { BeginsNothing p.old }
+    ensures { Lays p.old p.new (λ _. spell_list (trees (map L.plain members.now)) (listed place)) }
 {
     match members.split_first() {
         Some((first, others)) => {
-            L::print_member(first, p, place)?;
+            L::print_member(first, p, place);
             print_more::<E, L>(others, p, place)
         }
-        None => Ok(()),
+        None => {}
     }
 }
 
 /// The members, with commas between them, of which the first begins where the list does.
-pub fn print_parts<E, L: PrintMember<E>>(
-    parts: &[E],
-    p: &mut Printer<'_>,
-    place: Place,
-) -> Result<(), Memory>
-    ensures { Reaches result (pen_of p.old) (pen_of p.new) (layout (spell_parts (trees (map L.plain parts.now)) (place_of place (pen_of p.old))) (pen_of p.old)) }
+pub fn print_parts<E, L: PrintMember<E>>(parts: &[E], p: &mut Printing<'_>, place: Place)
+    ensures { Lays p.old p.new (λ pen. spell_parts (trees (map L.plain parts.now)) (place_of place pen)) }
 {
     match parts.split_first() {
         Some((first, rest)) => {
-            L::print_member(first, p, place)?;
+            L::print_member(first, p, place);
             print_more::<E, L>(rest, p, place)
         }
-        None => Ok(()),
+        None => {}
     }
 }
 
 /// The members, each with a comma before it.
-pub fn print_more<E, L: PrintMember<E>>(
-    members: &[E],
-    p: &mut Printer<'_>,
-    place: Place,
-) -> Result<(), Memory>
-    ensures { Reaches result (pen_of p.old) (pen_of p.new) (layout (spell_more (trees (map L.plain members.now)) (listed place)) (pen_of p.old)) }
+pub fn print_more<E, L: PrintMember<E>>(members: &[E], p: &mut Printing<'_>, place: Place)
+    ensures { Lays p.old p.new (λ _. spell_more (trees (map L.plain members.now)) (listed place)) }
 {
     for member in members {
-        print_comma_and_space(p)?;
-        L::print_member(member, p, place)?;
+        print_comma_and_space(p);
+        L::print_member(member, p, place);
     }
-    Ok(())
 }

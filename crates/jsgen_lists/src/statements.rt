@@ -1,115 +1,106 @@
 // Lists of statements, or of cases.
-ghost use Rattle.std.specs.Prelude.{◌≡◌, map};
+ghost use Rattle.std.specs.Prelude.{map};
 ghost use Rattle.jsgen_tree.specs.Tree.{Tree, trees};
 ghost use Rattle.jsgen_model.specs.Items.{◌⊕◌, soft_line, deeper, due_semicolon, indentation};
-ghost use Rattle.jsgen_model.specs.Layout.{layout, nowhere};
 ghost use Rattle.jsgen_model.specs.Spell.{spell, spell_body, spell_statements, first_statement, among_statements};
-ghost use Rattle.jsgen_model.specs.Printing.{Reaches};
-ghost use Rattle.jsgen_printer.specs.Printer.{pen_of};
+ghost use Rattle.jsgen_steps.specs.Steps.{Lays, BeginsNothing};
 ghost use Rattle.jsgen_place.specs.Place.{place_of, settings_of};
 
 use jsgen_place::{Place, Settings};
-use jsgen_printer::Printer;
-use jsgen_syntax::Memory;
+use jsgen_steps::Printing;
 
 /// How statements are printed.
 pub trait PrintStatement<E> {
     // What a statement stands for.
     ghost plain: { E → Tree };
 
-    fn print_statement(statement: &E, p: &mut Printer<'_>, place: Place) -> Result<(), Memory>
-        ensures { Reaches result (pen_of p.old) (pen_of p.new) (layout (spell (plain statement.now) (place_of place (pen_of p.old))) (pen_of p.old)) };
+    fn print_statement(statement: &E, p: &mut Printing<'_>, place: Place)
+        ensures { Lays p.old p.new (λ pen. spell (plain statement.now) (place_of place pen)) };
 
     /// As the first of a body, where it may not become a directive.
-    fn print_first_statement(statement: &E, p: &mut Printer<'_>, place: Place) -> Result<(), Memory>
-        ensures { Reaches result (pen_of p.old) (pen_of p.new) (layout (first_statement (plain statement.now) (spell (plain statement.now) (place_of place (pen_of p.old)))) (pen_of p.old)) };
+    fn print_first_statement(statement: &E, p: &mut Printing<'_>, place: Place)
+        ensures { Lays p.old p.new (λ pen. first_statement (plain statement.now) (spell (plain statement.now) (place_of place pen))) };
 }
 
 /// A program's statements, and the semicolon that is due behind the last.
 pub fn print_whole_body<E, S: PrintStatement<E>>(
     statements: &[E],
-    p: &mut Printer<'_>,
+    p: &mut Printing<'_>,
     settings: Settings,
-) -> Result<(), Memory>
-    ensures { Reaches result (pen_of p.old) (pen_of p.new) (layout (spell_body (trees (map S.plain statements.now)) (settings_of settings) ⊕ due_semicolon) (pen_of p.old)) }
+)
+    ensures { Lays p.old p.new (λ _. spell_body (trees (map S.plain statements.now)) (settings_of settings) ⊕ due_semicolon) }
 {
-    print_body::<E, S>(statements, p, settings)?;
+    print_body::<E, S>(statements, p, settings);
     p.print_due_semicolon()
 }
 
 /// The statements of a body, of which the first may not become a directive.
 pub fn print_body<E, S: PrintStatement<E>>(
     statements: &[E],
-    p: &mut Printer<'_>,
+    p: &mut Printing<'_>,
     settings: Settings,
-) -> Result<(), Memory>
-    ensures { Reaches result (pen_of p.old) (pen_of p.new) (layout (spell_body (trees (map S.plain statements.now)) (settings_of settings)) (pen_of p.old)) }
+)
+    ensures { Lays p.old p.new (λ _. spell_body (trees (map S.plain statements.now)) (settings_of settings)) }
 {
     match statements.split_first() {
         Some((first, others)) => {
-            p.print_due_semicolon()?;
-            S::print_first_statement(first, p, Place::among_statements(settings))?;
+            p.print_due_semicolon();
+            S::print_first_statement(first, p, Place::among_statements(settings));
             print_statements::<E, S>(others, p, settings)
         }
-        None => Ok(()),
+        None => {}
     }
 }
 
 /// Each after the semicolon that the one before may have left.
 pub fn print_statements<E, S: PrintStatement<E>>(
     statements: &[E],
-    p: &mut Printer<'_>,
+    p: &mut Printing<'_>,
     settings: Settings,
-) -> Result<(), Memory>
-    ensures { Reaches result (pen_of p.old) (pen_of p.new) (layout (spell_statements (trees (map S.plain statements.now)) (settings_of settings)) (pen_of p.old)) }
+)
+    ensures { Lays p.old p.new (λ _. spell_statements (trees (map S.plain statements.now)) (settings_of settings)) }
 {
     for statement in statements {
-        p.print_due_semicolon()?;
-        S::print_statement(statement, p, Place::among_statements(settings))?;
+        p.print_due_semicolon();
+        S::print_statement(statement, p, Place::among_statements(settings));
     }
-    Ok(())
 }
 
 /// On lines of their own, one level deeper.
 pub fn print_deeper_statements<E, S: PrintStatement<E>>(
     statements: &[E],
-    p: &mut Printer<'_>,
+    p: &mut Printing<'_>,
     settings: Settings,
-) -> Result<(), Memory>
-    ensures { Reaches result (pen_of p.old) (pen_of p.new) (layout (soft_line ⊕ deeper (spell_statements (trees (map S.plain statements.now)) (settings_of settings))) (pen_of p.old)) }
+)
+    ensures { Lays p.old p.new (λ _. soft_line ⊕ deeper (spell_statements (trees (map S.plain statements.now)) (settings_of settings))) }
 {
-    p.print_soft_line()?;
-    let depth = p.deepen()?;
-    print_statements::<E, S>(statements, p, settings)?;
+    p.print_soft_line();
+    let depth = p.deepen();
+    print_statements::<E, S>(statements, p, settings);
     p.set_depth(depth);
-    Ok(())
 }
 
 /// What stands before the `while` of a `do`: a statement on a line of its own, one level deeper, up to the indentation of what follows.
 pub fn print_deeper_body<E, S: PrintStatement<E>>(
     body: &E,
-    p: &mut Printer<'_>,
+    p: &mut Printing<'_>,
     settings: Settings,
-) -> Result<(), Memory>
-    requires { (pen_of p.old).start ≡ nowhere }
-    ensures { Reaches result (pen_of p.old) (pen_of p.new) (layout (soft_line ⊕ (deeper (spell (S.plain body.now) (among_statements (settings_of settings)) ⊕ due_semicolon) ⊕ indentation)) (pen_of p.old)) }
+)
+    requires { BeginsNothing p.old }
+    ensures { Lays p.old p.new (λ _. soft_line ⊕ (deeper (spell (S.plain body.now) (among_statements (settings_of settings)) ⊕ due_semicolon) ⊕ indentation)) }
 {
-    p.print_soft_line()?;
-    let depth = p.deepen()?;
-    print_ended::<E, S>(body, p, settings)?;
+    p.print_soft_line();
+    let depth = p.deepen();
+    print_ended::<E, S>(body, p, settings);
     p.set_depth(depth);
     p.print_indentation()
 }
 
 // With the semicolon that it may have left.
-fn print_ended<E, S: PrintStatement<E>>(
-    body: &E,
-    p: &mut Printer<'_>,
-    settings: Settings,
-) -> Result<(), Memory>
-    requires { (pen_of p.old).start ≡ nowhere }
-    ensures { Reaches result (pen_of p.old) (pen_of p.new) (layout (spell (S.plain body.now) (among_statements (settings_of settings)) ⊕ due_semicolon) (pen_of p.old)) }
+fn print_ended<E, S: PrintStatement<E>>(body: &E, p: &mut Printing<'_>, settings: Settings)
+    requires { BeginsNothing p.old }
+    ensures { Lays p.old p.new (λ _. spell (S.plain body.now) (among_statements (settings_of settings)) ⊕ due_semicolon) }
 {
-    S::print_statement(body, p, Place::among_statements(settings))?;
+    S::print_statement(body, p, Place::among_statements(settings));
     p.print_due_semicolon()
 }

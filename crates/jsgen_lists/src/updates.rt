@@ -1,30 +1,27 @@
 // An operator before or behind what it changes.
-ghost use Rattle.std.specs.Prelude.{◌≡◌};
 ghost use Rattle.jsgen_syntax.specs.declared.precedence.Precedence.TheVariants.{Prefix, Postfix};
 ghost use Rattle.jsgen_model.specs.Items.{◌⊕◌};
-ghost use Rattle.jsgen_model.specs.Layout.{layout};
 ghost use Rattle.jsgen_model.specs.Spell.{spell, behind, in_front, update_items};
 ghost use Rattle.jsgen_model.specs.Operators.{update_item};
-ghost use Rattle.jsgen_model.specs.Printing.{Reaches};
-ghost use Rattle.jsgen_printer.specs.Printer.{pen_of};
+ghost use Rattle.jsgen_steps.specs.Steps.{Lays};
 ghost use Rattle.jsgen_place.specs.Place.{place_of};
 
 use crate::PrintMember;
 use jsgen_place::Place;
-use jsgen_printer::Printer;
-use jsgen_syntax::{Memory, Precedence, UpdateOperator};
+use jsgen_steps::Printing;
+use jsgen_syntax::{Precedence, UpdateOperator};
 
 /// The operator before its operand, where `prefix` holds, or else behind it.
 pub fn print_update<E, L: PrintMember<E>>(
     prefix: bool,
     operator: UpdateOperator,
     operand: &E,
-    p: &mut Printer<'_>,
+    p: &mut Printing<'_>,
     place: Place,
-) -> Result<(), Memory>
-    ensures { Reaches result (pen_of p.old) (pen_of p.new) (layout (update_items prefix (update_item operator)
-        (spell (L.plain operand.now) (in_front Postfix (place_of place (pen_of p.old))))
-        (spell (L.plain operand.now) (behind Prefix (place_of place (pen_of p.old))))) (pen_of p.old)) }
+)
+    ensures { Lays p.old p.new (λ pen. update_items prefix (update_item operator)
+        (spell (L.plain operand.now) (in_front Postfix (place_of place pen)))
+        (spell (L.plain operand.now) (behind Prefix (place_of place pen)))) }
 {
     if prefix {
         print_before::<E, L>(operator, operand, p, place)
@@ -36,25 +33,25 @@ pub fn print_update<E, L: PrintMember<E>>(
 fn print_before<E, L: PrintMember<E>>(
     operator: UpdateOperator,
     operand: &E,
-    p: &mut Printer<'_>,
+    p: &mut Printing<'_>,
     place: Place,
-) -> Result<(), Memory>
-    ensures { Reaches result (pen_of p.old) (pen_of p.new) (layout (update_item operator
-        ⊕ spell (L.plain operand.now) (behind Prefix (place_of place (pen_of p.old)))) (pen_of p.old)) }
+)
+    ensures { Lays p.old p.new (λ pen. update_item operator
+        ⊕ spell (L.plain operand.now) (behind Prefix (place_of place pen))) }
 {
-    p.print_update_operator(operator)?;
+    p.print_update_operator(operator);
     L::print_member(operand, p, place.child(Precedence::Prefix))
 }
 
 fn print_behind<E, L: PrintMember<E>>(
     operator: UpdateOperator,
     operand: &E,
-    p: &mut Printer<'_>,
+    p: &mut Printing<'_>,
     place: Place,
-) -> Result<(), Memory>
-    ensures { Reaches result (pen_of p.old) (pen_of p.new) (layout (spell (L.plain operand.now)
-        (in_front Postfix (place_of place (pen_of p.old))) ⊕ update_item operator) (pen_of p.old)) }
+)
+    ensures { Lays p.old p.new (λ pen. spell (L.plain operand.now)
+        (in_front Postfix (place_of place pen)) ⊕ update_item operator) }
 {
-    L::print_member(operand, p, place.child(Precedence::Postfix))?;
+    L::print_member(operand, p, place.child(Precedence::Postfix));
     p.print_update_operator(operator)
 }

@@ -1,16 +1,13 @@
 // Assignments (ECMA-262, 13.15).
-ghost use Rattle.std.specs.Prelude.{◌≡◌};
 ghost use Rattle.jsgen_syntax.specs.declared.precedence.Precedence.TheVariants.{Comma};
 ghost use Rattle.jsgen_tree.specs.Rows.{assignment_expression_row, in_assignment_target, in_expression};
 ghost use Rattle.jsgen_model.specs.Items.{◌⊕◌, soft_space};
-ghost use Rattle.jsgen_model.specs.Layout.{layout};
 ghost use Rattle.jsgen_model.specs.Spell.{spell, assigned, behind, quoted_plainly};
 ghost use Rattle.jsgen_model.specs.Operators.{assignment_item};
 ghost use Rattle.jsgen_model.specs.Quotes.{is_export_target};
-ghost use Rattle.jsgen_model.specs.Printing.{Reaches};
-ghost use Rattle.jsgen_printer.specs.Printer.{pen_of};
+ghost use Rattle.jsgen_steps.specs.Steps.{Lays};
 ghost use Rattle.jsgen_place.specs.Place.{place_of};
-ghost use Rattle.jsgen_nodes.specs.Place.{pen_after};
+ghost use Rattle.jsgen_nodes.specs.Place.{at_place};
 
 use crate::PrintNode;
 use crate::quotes::is_export;
@@ -18,54 +15,54 @@ use crate::sequences::Expressions;
 use crate::sets::print_assignment_target;
 use jsgen_lists::print_behind_space;
 use jsgen_place::Place;
-use jsgen_printer::Printer;
-use jsgen_syntax::{AssignmentOperator, Memory, Precedence};
+use jsgen_steps::Printing;
+use jsgen_syntax::{AssignmentOperator, Precedence};
 use jsgen_tree::{AssignmentExpression, ExpressionNode};
 
-#[tactic(auto, unfolding(crate::specs::Place::pen_after))]
+#[tactic(auto, unfolding(crate::specs::Place::at_place))]
 pub fn print_assignment_expression<N: PrintNode>(
     node: &AssignmentExpression<N>,
-    p: &mut Printer<'_>,
+    p: &mut Printing<'_>,
     place: Place,
-) -> Result<(), Memory>
-    ensures { Reaches result (pen_of p.old) (pen_of p.new) (pen_after (assignment_expression_row N.plain node.now) place p.old) }
+)
+    ensures { Lays p.old p.new (at_place (assignment_expression_row N.plain node.now) place) }
 {
     let wrap = place.wraps_assignment();
-    p.print_opening_if(wrap)?;
-    print_assignment(node, p, place)?;
+    p.print_opening_if(wrap);
+    print_assignment(node, p, place);
     p.print_closing_if(wrap)
 }
 
 // The target, the sign and what the target is given, within the parentheses.
-#[tactic(auto, unfolding(crate::specs::Place::pen_after))]
+#[tactic(auto, unfolding(crate::specs::Place::at_place))]
 fn print_assignment<N: PrintNode>(
     node: &AssignmentExpression<N>,
-    p: &mut Printer<'_>,
+    p: &mut Printing<'_>,
     place: Place,
-) -> Result<(), Memory>
-    ensures { Reaches result (pen_of p.old) (pen_of p.new) (layout (spell (in_assignment_target N.plain node.now.left)
-        (quoted_plainly (is_export_target place.settings.minified (in_assignment_target N.plain node.now.left)) (assigned (place_of place (pen_of p.old))))
+)
+    ensures { Lays p.old p.new (λ pen. spell (in_assignment_target N.plain node.now.left)
+        (quoted_plainly (is_export_target place.settings.minified (in_assignment_target N.plain node.now.left)) (assigned (place_of place pen)))
         ⊕ (soft_space ⊕ (assignment_item node.now.operator ⊕ (soft_space
-        ⊕ spell (in_expression N.plain node.now.right) (behind Comma (place_of place (pen_of p.old))))))) (pen_of p.old)) }
+        ⊕ spell (in_expression N.plain node.now.right) (behind Comma (place_of place pen)))))) }
 {
     let target = Place::in_brackets(Precedence::Comma, place.settings);
     let quoted = is_export(place.settings.minified, &node.left);
-    print_assignment_target(&node.left, p, target.quoted_plainly(quoted))?;
+    print_assignment_target(&node.left, p, target.quoted_plainly(quoted));
     print_value(node.operator, &node.right, p, place)
 }
 
 // What a target is given, behind the sign.
-#[tactic(auto, unfolding(crate::specs::Place::pen_after))]
+#[tactic(auto, unfolding(crate::specs::Place::at_place))]
 fn print_value<N: PrintNode>(
     operator: AssignmentOperator,
     value: &ExpressionNode<N>,
-    p: &mut Printer<'_>,
+    p: &mut Printing<'_>,
     place: Place,
-) -> Result<(), Memory>
-    ensures { Reaches result (pen_of p.old) (pen_of p.new) (layout (soft_space ⊕ (assignment_item operator ⊕ (soft_space
-        ⊕ spell (in_expression N.plain value.now) (behind Comma (place_of place (pen_of p.old)))))) (pen_of p.old)) }
+)
+    ensures { Lays p.old p.new (λ pen. soft_space ⊕ (assignment_item operator ⊕ (soft_space
+        ⊕ spell (in_expression N.plain value.now) (behind Comma (place_of place pen))))) }
 {
-    p.print_soft_space()?;
-    p.print_assignment_sign(operator)?;
+    p.print_soft_space();
+    p.print_assignment_sign(operator);
     print_behind_space::<_, Expressions>(value, p, place.child(Precedence::Comma))
 }

@@ -3,12 +3,10 @@ ghost use Rattle.std.specs.Prelude.{map};
 ghost use Rattle.jsgen_tree.specs.Tree.{trees};
 ghost use Rattle.jsgen_tree.specs.Rows.{switch_statement_row, switch_case_row, in_statement};
 ghost use Rattle.jsgen_model.specs.Items.{◌⊕◌, soft_space, soft_line};
-ghost use Rattle.jsgen_model.specs.Layout.{layout};
 ghost use Rattle.jsgen_model.specs.Spell.{spell_statements, braces};
-ghost use Rattle.jsgen_model.specs.Printing.{Reaches};
-ghost use Rattle.jsgen_printer.specs.Printer.{pen_of};
+ghost use Rattle.jsgen_steps.specs.Steps.{Lays};
 ghost use Rattle.jsgen_place.specs.Place.{settings_of};
-ghost use Rattle.jsgen_nodes.specs.Place.{pen_after};
+ghost use Rattle.jsgen_nodes.specs.Place.{at_place};
 
 use crate::PrintNode;
 use crate::bodies::print_body;
@@ -16,70 +14,54 @@ use crate::sequences::Expressions;
 use crate::statements::Statements;
 use jsgen_lists::{PrintOnly, PrintStatement, print_braces, print_case, print_head};
 use jsgen_place::{Place, Settings};
-use jsgen_printer::Printer;
-use jsgen_syntax::{Memory, Precedence};
+use jsgen_steps::Printing;
+use jsgen_syntax::Precedence;
 use jsgen_tree::{StatementNode, SwitchCase, SwitchStatement};
 
-#[tactic(auto, unfolding(crate::specs::Place::pen_after))]
+#[tactic(auto, unfolding(crate::specs::Place::at_place))]
 pub fn print_switch_statement<N: PrintNode>(
     node: &SwitchStatement<N>,
-    p: &mut Printer<'_>,
+    p: &mut Printing<'_>,
     place: Place,
-) -> Result<(), Memory>
-    ensures { Reaches result (pen_of p.old) (pen_of p.new) (pen_after (switch_statement_row N.plain node.now) place p.old) }
+)
+    ensures { Lays p.old p.new (at_place (switch_statement_row N.plain node.now) place) }
 {
     let within = Place::in_brackets(Precedence::Lowest, place.settings);
-    p.print_indentation()?;
-    print_head::<_, Expressions>("switch", &node.discriminant, p, within)?;
+    p.print_indentation();
+    print_head::<_, Expressions>("switch", &node.discriminant, p, within);
     print_cases(&node.cases, p, place.settings)
 }
 
 // In braces, up to the end of the line.
-#[tactic(auto, unfolding(crate::specs::Place::pen_after))]
-fn print_cases<N: PrintNode>(
-    cases: &[SwitchCase<N>],
-    p: &mut Printer<'_>,
-    settings: Settings,
-) -> Result<(), Memory>
-    ensures { Reaches result (pen_of p.old) (pen_of p.new) (layout (soft_space ⊕ (braces (trees (map (switch_case_row N.plain) cases.now))
-        (spell_statements (trees (map (switch_case_row N.plain) cases.now)) (settings_of settings)) ⊕ soft_line)) (pen_of p.old)) }
+#[tactic(auto, unfolding(crate::specs::Place::at_place))]
+fn print_cases<N: PrintNode>(cases: &[SwitchCase<N>], p: &mut Printing<'_>, settings: Settings)
+    ensures { Lays p.old p.new (λ _. soft_space ⊕ (braces (trees (map (switch_case_row N.plain) cases.now))
+        (spell_statements (trees (map (switch_case_row N.plain) cases.now)) (settings_of settings)) ⊕ soft_line)) }
 {
-    p.print_soft_space()?;
-    print_braces::<_, Cases>(cases, p, settings)?;
+    p.print_soft_space();
+    print_braces::<_, Cases>(cases, p, settings);
     p.print_soft_line()
 }
 
 /// Cases, one after another. None of them can become a directive.
 struct Cases;
 
-#[tactic(auto, unfolding(crate::specs::Place::pen_after))]
+#[tactic(auto, unfolding(crate::specs::Place::at_place))]
 impl<N: PrintNode> PrintStatement<SwitchCase<N>> for Cases {
     ghost plain = { switch_case_row N.plain };
 
-    fn print_statement(
-        case: &SwitchCase<N>,
-        p: &mut Printer<'_>,
-        place: Place,
-    ) -> Result<(), Memory> {
+    fn print_statement(case: &SwitchCase<N>, p: &mut Printing<'_>, place: Place) {
         print_switch_case(case, p, place)
     }
 
-    fn print_first_statement(
-        case: &SwitchCase<N>,
-        p: &mut Printer<'_>,
-        place: Place,
-    ) -> Result<(), Memory> {
+    fn print_first_statement(case: &SwitchCase<N>, p: &mut Printing<'_>, place: Place) {
         print_switch_case(case, p, place)
     }
 }
 
-#[tactic(auto, unfolding(crate::specs::Place::pen_after))]
-pub fn print_switch_case<N: PrintNode>(
-    node: &SwitchCase<N>,
-    p: &mut Printer<'_>,
-    place: Place,
-) -> Result<(), Memory>
-    ensures { Reaches result (pen_of p.old) (pen_of p.new) (pen_after (switch_case_row N.plain node.now) place p.old) }
+#[tactic(auto, unfolding(crate::specs::Place::at_place))]
+pub fn print_switch_case<N: PrintNode>(node: &SwitchCase<N>, p: &mut Printing<'_>, place: Place)
+    ensures { Lays p.old p.new (at_place (switch_case_row N.plain node.now) place) }
 {
     print_case::<_, _, Expressions, Only, Statements>(
         &node.test,
@@ -92,15 +74,11 @@ pub fn print_switch_case<N: PrintNode>(
 /// A statement that is the only one of its case.
 struct Only;
 
-#[tactic(auto, unfolding(crate::specs::Place::pen_after))]
+#[tactic(auto, unfolding(crate::specs::Place::at_place))]
 impl<N: PrintNode> PrintOnly<StatementNode<N>> for Only {
     ghost plain = { in_statement N.plain };
 
-    fn print_only(
-        statement: &StatementNode<N>,
-        p: &mut Printer<'_>,
-        settings: Settings,
-    ) -> Result<(), Memory> {
+    fn print_only(statement: &StatementNode<N>, p: &mut Printing<'_>, settings: Settings) {
         print_body(statement.get(), p, settings)
     }
 }

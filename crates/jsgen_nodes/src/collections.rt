@@ -8,13 +8,11 @@ ghost use Rattle.jsgen_tree.specs.Inside.{without_parentheses, looked_up_in, wri
 ghost use Rattle.jsgen_tree.specs.Rows.{spread_element_row, array_expression_row, in_array_expression_element, object_property_row, object_expression_row, in_object_property_kind, in_property_key, in_expression};
 ghost use Rattle.jsgen_model.specs.Punctuator.{Square, Brace, colon};
 ghost use Rattle.jsgen_model.specs.Items.{◌⊕◌, brackets, punctuator, soft_space};
-ghost use Rattle.jsgen_model.specs.Layout.{layout};
 ghost use Rattle.jsgen_model.specs.Spell.{spell, spell_method, in_brackets, are_more, object_inside, spell_elements, ends_in_hole, comma_if, key_text, string_in};
-ghost use Rattle.jsgen_model.specs.Printing.{Reaches};
-ghost use Rattle.jsgen_printer.specs.Printer.{pen_of};
+ghost use Rattle.jsgen_steps.specs.Steps.{Lays, pen_at};
 ghost use Rattle.jsgen_place.specs.Place.{place_of};
 ghost use Rattle.jsgen_nodes.specs.Keys.{is_string, is_number, is_said, is_value_alone, key_of, valued_items, method_items};
-ghost use Rattle.jsgen_nodes.specs.Place.{pen_after};
+ghost use Rattle.jsgen_nodes.specs.Place.{at_place};
 
 use crate::PrintNode;
 use crate::links::print_identifier_name;
@@ -23,34 +21,35 @@ use jsgen_lists::{
     PrintElement, print_accessor_word, print_array, print_behind_space, print_object,
 };
 use jsgen_place::{Place, is_alone, needs_brackets};
-use jsgen_printer::{Bracket, Printer};
-use jsgen_syntax::{JsStr, Memory, Precedence};
+use jsgen_printer::Bracket;
+use jsgen_steps::Printing;
+use jsgen_syntax::{JsStr, Precedence};
 use jsgen_tree::{
     ArrayExpression, ArrayExpressionElement, ExpressionNode, NodeType, ObjectExpression,
     ObjectProperty, ObjectPropertyKind, PropertyKey, SpreadElement,
 };
 
-#[tactic(auto, unfolding(crate::specs::Place::pen_after))]
+#[tactic(auto, unfolding(crate::specs::Place::at_place))]
 pub fn print_spread_element<N: PrintNode>(
     node: &SpreadElement<N>,
-    p: &mut Printer<'_>,
+    p: &mut Printing<'_>,
     place: Place,
-) -> Result<(), Memory>
-    ensures { Reaches result (pen_of p.old) (pen_of p.new) (pen_after (spread_element_row N.plain node.now) place p.old) }
+)
+    ensures { Lays p.old p.new (at_place (spread_element_row N.plain node.now) place) }
 {
-    p.print_ellipsis()?;
+    p.print_ellipsis();
     node.argument
         .get()
         .print(p, Place::in_brackets(Precedence::Comma, place.settings))
 }
 
-#[tactic(auto, unfolding(crate::specs::Place::pen_after))]
+#[tactic(auto, unfolding(crate::specs::Place::at_place))]
 pub fn print_array_expression<N: PrintNode>(
     node: &ArrayExpression<N>,
-    p: &mut Printer<'_>,
+    p: &mut Printing<'_>,
     place: Place,
-) -> Result<(), Memory>
-    ensures { Reaches result (pen_of p.old) (pen_of p.new) (pen_after (array_expression_row N.plain node.now) place p.old) }
+)
+    ensures { Lays p.old p.new (at_place (array_expression_row N.plain node.now) place) }
 {
     let within = Place::in_brackets(Precedence::Comma, place.settings);
     print_array::<_, Elements>(&node.elements, p, within)
@@ -59,7 +58,7 @@ pub fn print_array_expression<N: PrintNode>(
 /// The elements of an array; one that is left out has nothing in its place.
 struct Elements;
 
-#[tactic(auto, unfolding(crate::specs::Place::pen_after))]
+#[tactic(auto, unfolding(crate::specs::Place::at_place))]
 impl<N: PrintNode> PrintElement<Option<ArrayExpressionElement<N>>> for Elements {
     ghost plain = { option_map (in_array_expression_element N.plain) };
 
@@ -69,23 +68,23 @@ impl<N: PrintNode> PrintElement<Option<ArrayExpressionElement<N>>> for Elements 
 
     fn print_element(
         element: &Option<ArrayExpressionElement<N>>,
-        p: &mut Printer<'_>,
+        p: &mut Printing<'_>,
         place: Place,
-    ) -> Result<(), Memory> {
+    ) {
         match element {
             Some(element) => print_array_element(element, p, place),
-            None => Ok(()),
+            None => {}
         }
     }
 }
 
-#[tactic(auto, unfolding(crate::specs::Place::pen_after))]
+#[tactic(auto, unfolding(crate::specs::Place::at_place))]
 fn print_array_element<N: PrintNode>(
     element: &ArrayExpressionElement<N>,
-    p: &mut Printer<'_>,
+    p: &mut Printing<'_>,
     place: Place,
-) -> Result<(), Memory>
-    ensures { Reaches result (pen_of p.old) (pen_of p.new) (layout (spell (in_array_expression_element N.plain element.now) (place_of place (pen_of p.old))) (pen_of p.old)) }
+)
+    ensures { Lays p.old p.new (λ pen. spell (in_array_expression_element N.plain element.now) (place_of place pen)) }
 {
     match element {
         ArrayExpressionElement::SpreadElement(node) => print_spread_element(node, p, place),
@@ -93,30 +92,30 @@ fn print_array_element<N: PrintNode>(
     }
 }
 
-#[tactic(auto, unfolding(crate::specs::Place::pen_after))]
+#[tactic(auto, unfolding(crate::specs::Place::at_place))]
 pub fn print_object_expression<N: PrintNode>(
     node: &ObjectExpression<N>,
-    p: &mut Printer<'_>,
+    p: &mut Printing<'_>,
     place: Place,
-) -> Result<(), Memory>
-    ensures { Reaches result (pen_of p.old) (pen_of p.new) (pen_after (object_expression_row N.plain node.now) place p.old) }
+)
+    ensures { Lays p.old p.new (at_place (object_expression_row N.plain node.now) place) }
 {
     let wrap = p.bars_brace();
-    p.print_opening_if(wrap)?;
-    print_properties(&node.properties, p, place)?;
+    p.print_opening_if(wrap);
+    print_properties(&node.properties, p, place);
     p.print_closing_if(wrap)
 }
 
 // The braces and what is in them.
-#[tactic(auto, unfolding(crate::specs::Place::pen_after))]
+#[tactic(auto, unfolding(crate::specs::Place::at_place))]
 fn print_properties<N: PrintNode>(
     properties: &[ObjectPropertyKind<N>],
-    p: &mut Printer<'_>,
+    p: &mut Printing<'_>,
     place: Place,
-) -> Result<(), Memory>
-    ensures { Reaches result (pen_of p.old) (pen_of p.new) (layout (brackets Brace (object_inside (trees (map (in_object_property_kind N.plain) properties.now))
-        (spell_elements (are_more 1 (trees (map (in_object_property_kind N.plain) properties.now))) (trees (map (in_object_property_kind N.plain) properties.now)) (in_brackets Comma (place_of place (pen_of p.old)))
-        ⊕ comma_if (ends_in_hole (trees (map (in_object_property_kind N.plain) properties.now)))))) (pen_of p.old)) }
+)
+    ensures { Lays p.old p.new (λ pen. brackets Brace (object_inside (trees (map (in_object_property_kind N.plain) properties.now))
+        (spell_elements (are_more 1 (trees (map (in_object_property_kind N.plain) properties.now))) (trees (map (in_object_property_kind N.plain) properties.now)) (in_brackets Comma (place_of place pen))
+        ⊕ comma_if (ends_in_hole (trees (map (in_object_property_kind N.plain) properties.now)))))) }
 {
     let within = Place::in_brackets(Precedence::Comma, place.settings);
     print_object::<_, Properties>(properties, p, within)
@@ -125,7 +124,7 @@ fn print_properties<N: PrintNode>(
 /// The properties of an object, of which none is left out.
 struct Properties;
 
-#[tactic(auto, unfolding(crate::specs::Place::pen_after))]
+#[tactic(auto, unfolding(crate::specs::Place::at_place))]
 impl<N: PrintNode> PrintElement<ObjectPropertyKind<N>> for Properties {
     ghost plain = { λ m. Some (in_object_property_kind N.plain m) };
 
@@ -134,11 +133,7 @@ impl<N: PrintNode> PrintElement<ObjectPropertyKind<N>> for Properties {
         false
     }
 
-    fn print_element(
-        element: &ObjectPropertyKind<N>,
-        p: &mut Printer<'_>,
-        place: Place,
-    ) -> Result<(), Memory> {
+    fn print_element(element: &ObjectPropertyKind<N>, p: &mut Printing<'_>, place: Place) {
         match element {
             ObjectPropertyKind::ObjectProperty(node) => print_object_property(node, p, place),
             ObjectPropertyKind::SpreadElement(node) => print_spread_element(node, p, place),
@@ -146,13 +141,13 @@ impl<N: PrintNode> PrintElement<ObjectPropertyKind<N>> for Properties {
     }
 }
 
-#[tactic(auto, unfolding(crate::specs::Place::pen_after))]
+#[tactic(auto, unfolding(crate::specs::Place::at_place))]
 pub fn print_object_property<N: PrintNode>(
     node: &ObjectProperty<N>,
-    p: &mut Printer<'_>,
+    p: &mut Printing<'_>,
     place: Place,
-) -> Result<(), Memory>
-    ensures { Reaches result (pen_of p.old) (pen_of p.new) (pen_after (object_property_row N.plain node.now) place p.old) }
+)
+    ensures { Lays p.old p.new (at_place (object_property_row N.plain node.now) place) }
 {
     if node.is_method() {
         print_method_property(node, p, place)
@@ -162,38 +157,30 @@ pub fn print_object_property<N: PrintNode>(
 }
 
 // A method or an accessor, whose function follows its key.
-#[tactic(auto, unfolding(crate::specs::Place::pen_after))]
-fn print_method_property<N: PrintNode>(
-    node: &ObjectProperty<N>,
-    p: &mut Printer<'_>,
-    place: Place,
-) -> Result<(), Memory>
-    ensures { Reaches result (pen_of p.old) (pen_of p.new) (layout (method_items node.now.kind node.now.computed (in_property_key N.plain node.now.key) (in_expression N.plain node.now.value) (place_of place (pen_of p.old))) (pen_of p.old)) }
+#[tactic(auto, unfolding(crate::specs::Place::at_place))]
+fn print_method_property<N: PrintNode>(node: &ObjectProperty<N>, p: &mut Printing<'_>, place: Place)
+    ensures { Lays p.old p.new (λ pen. method_items node.now.kind node.now.computed (in_property_key N.plain node.now.key) (in_expression N.plain node.now.value) (place_of place pen)) }
 {
-    print_accessor_word(node.kind, p)?;
+    print_accessor_word(node.kind, p);
     print_key_and_function(node, p, place)
 }
 
-#[tactic(auto, unfolding(crate::specs::Place::pen_after))]
+#[tactic(auto, unfolding(crate::specs::Place::at_place))]
 fn print_key_and_function<N: PrintNode>(
     node: &ObjectProperty<N>,
-    p: &mut Printer<'_>,
+    p: &mut Printing<'_>,
     place: Place,
-) -> Result<(), Memory>
-    ensures { Reaches result (pen_of p.old) (pen_of p.new) (layout (key_of node.now.computed (in_property_key N.plain node.now.key) (place_of place (pen_of p.old)) ⊕ spell_method (in_expression N.plain node.now.value) (place_of place (pen_of p.old))) (pen_of p.old)) }
+)
+    ensures { Lays p.old p.new (λ pen. key_of node.now.computed (in_property_key N.plain node.now.key) (place_of place pen) ⊕ spell_method (in_expression N.plain node.now.value) (place_of place pen)) }
 {
-    print_key(&node.key, node.computed, p, place)?;
+    print_key(&node.key, node.computed, p, place);
     node.value.get().print_as_method(p, place)
 }
 
 // A property with a value: the value alone, or behind its key.
-#[tactic(auto, unfolding(crate::specs::Place::pen_after))]
-fn print_valued_property<N: PrintNode>(
-    node: &ObjectProperty<N>,
-    p: &mut Printer<'_>,
-    place: Place,
-) -> Result<(), Memory>
-    ensures { Reaches result (pen_of p.old) (pen_of p.new) (layout (valued_items node.now.shorthand node.now.computed (in_property_key N.plain node.now.key) (in_expression N.plain node.now.value) (place_of place (pen_of p.old))) (pen_of p.old)) }
+#[tactic(auto, unfolding(crate::specs::Place::at_place))]
+fn print_valued_property<N: PrintNode>(node: &ObjectProperty<N>, p: &mut Printing<'_>, place: Place)
+    ensures { Lays p.old p.new (λ pen. valued_items node.now.shorthand node.now.computed (in_property_key N.plain node.now.key) (in_expression N.plain node.now.value) (place_of place pen)) }
 {
     if is_value_alone(node, p) {
         node.value.get().print(p, place.child(Precedence::Comma))
@@ -203,22 +190,18 @@ fn print_valued_property<N: PrintNode>(
 }
 
 // With its key.
-#[tactic(auto, unfolding(crate::specs::Place::pen_after))]
-fn print_whole_property<N: PrintNode>(
-    node: &ObjectProperty<N>,
-    p: &mut Printer<'_>,
-    place: Place,
-) -> Result<(), Memory>
-    ensures { Reaches result (pen_of p.old) (pen_of p.new) (layout (key_of node.now.computed (in_property_key N.plain node.now.key) (place_of place (pen_of p.old))
-        ⊕ (punctuator colon ⊕ (soft_space ⊕ spell (in_expression N.plain node.now.value) (in_brackets Comma (place_of place (pen_of p.old)))))) (pen_of p.old)) }
+#[tactic(auto, unfolding(crate::specs::Place::at_place))]
+fn print_whole_property<N: PrintNode>(node: &ObjectProperty<N>, p: &mut Printing<'_>, place: Place)
+    ensures { Lays p.old p.new (λ pen. key_of node.now.computed (in_property_key N.plain node.now.key) (place_of place pen)
+        ⊕ (punctuator colon ⊕ (soft_space ⊕ spell (in_expression N.plain node.now.value) (in_brackets Comma (place_of place pen))))) }
 {
-    print_key(&node.key, node.computed, p, place)?;
+    print_key(&node.key, node.computed, p, place);
     print_property_value(&node.value, p, place)
 }
 
 // Whether the property is its value alone.
-fn is_value_alone<N: PrintNode>(node: &ObjectProperty<N>, p: &Printer<'_>) -> bool
-    ensures { result ≡ is_value_alone (pen_of p.now).style.tables node.now.shorthand (written_name_in (in_property_key N.plain node.now.key)) (looked_up_in (without_parentheses (in_expression N.plain node.now.value))) }
+fn is_value_alone<N: PrintNode>(node: &ObjectProperty<N>, p: &Printing<'_>) -> bool
+    ensures { result ≡ is_value_alone (pen_at p.now).style.tables node.now.shorthand (written_name_in (in_property_key N.plain node.now.key)) (looked_up_in (without_parentheses (in_expression N.plain node.now.value))) }
 {
     match key_name(&node.key) {
         Some(name) => is_alone(node.shorthand, name, is_said(node.value.get(), name, p)),
@@ -227,8 +210,8 @@ fn is_value_alone<N: PrintNode>(node: &ObjectProperty<N>, p: &Printer<'_>) -> bo
 }
 
 // Whether the value is a reference, and printed as this name is written.
-fn is_said<N: PrintNode>(value: &N, name: &str, p: &Printer<'_>) -> bool
-    ensures { result ≡ is_said (pen_of p.now).style.tables (looked_up_in (without_parentheses (N.plain value.now))) (chars name.now) }
+fn is_said<N: PrintNode>(value: &N, name: &str, p: &Printing<'_>) -> bool
+    ensures { result ≡ is_said (pen_at p.now).style.tables (looked_up_in (without_parentheses (N.plain value.now))) (chars name.now) }
 {
     match value.looked_up() {
         Some(node) => p.prints_as(node.name.as_str(), node.reference, name),
@@ -246,14 +229,9 @@ fn key_name<N: PrintNode>(key: &PropertyKey<N>) -> Option<&str>
 }
 
 // In brackets where it needs them.
-#[tactic(auto, unfolding(crate::specs::Place::pen_after))]
-fn print_key<N: PrintNode>(
-    key: &PropertyKey<N>,
-    computed: bool,
-    p: &mut Printer<'_>,
-    place: Place,
-) -> Result<(), Memory>
-    ensures { Reaches result (pen_of p.old) (pen_of p.new) (layout (key_of computed (in_property_key N.plain key.now) (place_of place (pen_of p.old))) (pen_of p.old)) }
+#[tactic(auto, unfolding(crate::specs::Place::at_place))]
+fn print_key<N: PrintNode>(key: &PropertyKey<N>, computed: bool, p: &mut Printing<'_>, place: Place)
+    ensures { Lays p.old p.new (λ pen. key_of computed (in_property_key N.plain key.now) (place_of place pen)) }
 {
     if needs_brackets(computed, is_negative_key(key)) {
         print_computed_key(key, p, place)
@@ -288,27 +266,19 @@ fn is_number(node_type: NodeType) -> bool
     matches!(node_type, NodeType::NumericLiteral)
 }
 
-#[tactic(auto, unfolding(crate::specs::Place::pen_after))]
-fn print_computed_key<N: PrintNode>(
-    key: &PropertyKey<N>,
-    p: &mut Printer<'_>,
-    place: Place,
-) -> Result<(), Memory>
-    ensures { Reaches result (pen_of p.old) (pen_of p.new) (layout (brackets Square (key_text (in_property_key N.plain key.now) (spell (in_property_key N.plain key.now) (in_brackets Comma (place_of place (pen_of p.old)))))) (pen_of p.old)) }
+#[tactic(auto, unfolding(crate::specs::Place::at_place))]
+fn print_computed_key<N: PrintNode>(key: &PropertyKey<N>, p: &mut Printing<'_>, place: Place)
+    ensures { Lays p.old p.new (λ pen. brackets Square (key_text (in_property_key N.plain key.now) (spell (in_property_key N.plain key.now) (in_brackets Comma (place_of place pen))))) }
 {
     let within = Place::in_brackets(Precedence::Comma, place.settings);
-    p.print_opening(Bracket::Square)?;
-    print_key_text(key, p, within)?;
+    p.print_opening(Bracket::Square);
+    print_key_text(key, p, within);
     p.print_closing(Bracket::Square)
 }
 
-#[tactic(auto, unfolding(crate::specs::Place::pen_after))]
-pub fn print_key_text<N: PrintNode>(
-    key: &PropertyKey<N>,
-    p: &mut Printer<'_>,
-    place: Place,
-) -> Result<(), Memory>
-    ensures { Reaches result (pen_of p.old) (pen_of p.new) (layout (key_text (in_property_key N.plain key.now) (spell (in_property_key N.plain key.now) (place_of place (pen_of p.old)))) (pen_of p.old)) }
+#[tactic(auto, unfolding(crate::specs::Place::at_place))]
+pub fn print_key_text<N: PrintNode>(key: &PropertyKey<N>, p: &mut Printing<'_>, place: Place)
+    ensures { Lays p.old p.new (λ pen. key_text (in_property_key N.plain key.now) (spell (in_property_key N.plain key.now) (place_of place pen))) }
 {
     match key {
         PropertyKey::IdentifierName(node) => print_identifier_name(node, p, place),
@@ -317,13 +287,9 @@ pub fn print_key_text<N: PrintNode>(
 }
 
 // A string is never in backticks there.
-#[tactic(auto, unfolding(crate::specs::Place::pen_after))]
-fn print_key_expression<N: PrintNode>(
-    key: &ExpressionNode<N>,
-    p: &mut Printer<'_>,
-    place: Place,
-) -> Result<(), Memory>
-    ensures { Reaches result (pen_of p.old) (pen_of p.new) (layout (key_text (in_expression N.plain key.now) (spell (in_expression N.plain key.now) (place_of place (pen_of p.old)))) (pen_of p.old)) }
+#[tactic(auto, unfolding(crate::specs::Place::at_place))]
+fn print_key_expression<N: PrintNode>(key: &ExpressionNode<N>, p: &mut Printing<'_>, place: Place)
+    ensures { Lays p.old p.new (λ pen. key_text (in_expression N.plain key.now) (spell (in_expression N.plain key.now) (place_of place pen))) }
 {
     match key_string(key.get()) {
         Some(value) => p.print_string(value, false),
@@ -349,15 +315,11 @@ fn is_string(node_type: NodeType) -> bool
 }
 
 // Behind its key.
-#[tactic(auto, unfolding(crate::specs::Place::pen_after))]
-fn print_property_value<N: PrintNode>(
-    value: &ExpressionNode<N>,
-    p: &mut Printer<'_>,
-    place: Place,
-) -> Result<(), Memory>
-    ensures { Reaches result (pen_of p.old) (pen_of p.new) (layout (punctuator colon ⊕ (soft_space ⊕ spell (in_expression N.plain value.now) (in_brackets Comma (place_of place (pen_of p.old))))) (pen_of p.old)) }
+#[tactic(auto, unfolding(crate::specs::Place::at_place))]
+fn print_property_value<N: PrintNode>(value: &ExpressionNode<N>, p: &mut Printing<'_>, place: Place)
+    ensures { Lays p.old p.new (λ pen. punctuator colon ⊕ (soft_space ⊕ spell (in_expression N.plain value.now) (in_brackets Comma (place_of place pen)))) }
 {
     let within = Place::in_brackets(Precedence::Comma, place.settings);
-    p.print_colon()?;
+    p.print_colon();
     print_behind_space::<_, Expressions>(value, p, within)
 }

@@ -3,13 +3,11 @@ ghost use Rattle.std.specs.Prelude.{◌≡◌, ◌==◌, ◌&&◌, ◌||◌, len
 ghost use Rattle.jsgen_tree.specs.Tree.{trees};
 ghost use Rattle.jsgen_tree.specs.Rows.{function_row, function_body_row, binding_identifier_row, directive_row, in_statement};
 ghost use Rattle.jsgen_model.specs.Items.{◌⊕◌, wrapped};
-ghost use Rattle.jsgen_model.specs.Layout.{layout};
 ghost use Rattle.jsgen_model.specs.Spell.{spell_method, spell_directives, spell_body, block_items, filled_braces, function_wraps, bars_function};
-ghost use Rattle.jsgen_model.specs.Printing.{Reaches};
-ghost use Rattle.jsgen_printer.specs.Printer.{pen_of};
+ghost use Rattle.jsgen_steps.specs.Steps.{Lays, pen_at};
 ghost use Rattle.jsgen_place.specs.Place.{place_of, settings_of};
 ghost use Rattle.jsgen_nodes.specs.Functions.{whole_function};
-ghost use Rattle.jsgen_nodes.specs.Place.{pen_after};
+ghost use Rattle.jsgen_nodes.specs.Place.{at_place};
 
 use crate::PrintNode;
 use crate::functions::print_parameters_in_brackets;
@@ -19,19 +17,15 @@ use jsgen_lists::{
     print_if_given,
 };
 use jsgen_place::{Place, Settings};
-use jsgen_printer::Printer;
-use jsgen_syntax::{Memory, Precedence};
+use jsgen_steps::Printing;
+use jsgen_syntax::Precedence;
 use jsgen_tree::{
     BindingIdentifier, Directive, Function, FunctionBody, FunctionKind, StatementNode,
 };
 
-#[tactic(auto, unfolding(crate::specs::Place::pen_after))]
-pub fn print_function<N: PrintNode>(
-    node: &Function<N>,
-    p: &mut Printer<'_>,
-    place: Place,
-) -> Result<(), Memory>
-    ensures { Reaches result (pen_of p.old) (pen_of p.new) (pen_after (function_row N.plain node.now) place p.old) }
+#[tactic(auto, unfolding(crate::specs::Place::at_place))]
+pub fn print_function<N: PrintNode>(node: &Function<N>, p: &mut Printing<'_>, place: Place)
+    ensures { Lays p.old p.new (at_place (function_row N.plain node.now) place) }
 {
     match node.kind {
         FunctionKind::Declaration => print_as_declaration(node, p, place),
@@ -40,85 +34,65 @@ pub fn print_function<N: PrintNode>(
 }
 
 // Among statements a line of its own.
-#[tactic(auto, unfolding(crate::specs::Place::pen_after))]
-fn print_as_declaration<N: PrintNode>(
-    node: &Function<N>,
-    p: &mut Printer<'_>,
-    place: Place,
-) -> Result<(), Memory>
-    ensures { Reaches result (pen_of p.old) (pen_of p.new) (layout (block_items place.in_list (whole_function (function_row N.plain node.now) (place_of place (pen_of p.old)))) (pen_of p.old)) }
+#[tactic(auto, unfolding(crate::specs::Place::at_place))]
+fn print_as_declaration<N: PrintNode>(node: &Function<N>, p: &mut Printing<'_>, place: Place)
+    ensures { Lays p.old p.new (λ pen. block_items place.in_list (whole_function (function_row N.plain node.now) (place_of place pen))) }
 {
     if place.in_list {
-        p.print_indentation()?;
-        print_whole_function(node, p, place)?;
+        p.print_indentation();
+        print_whole_function(node, p, place);
         p.print_soft_line()
     } else {
         print_whole_function(node, p, place)
     }
 }
 
-#[tactic(auto, unfolding(crate::specs::Place::pen_after))]
-fn print_as_expression<N: PrintNode>(
-    node: &Function<N>,
-    p: &mut Printer<'_>,
-    place: Place,
-) -> Result<(), Memory>
-    ensures { Reaches result (pen_of p.old) (pen_of p.new) (layout (wrapped (function_wraps node.now.pife (place_of place (pen_of p.old))) (whole_function (function_row N.plain node.now) (place_of place (pen_of p.old)))) (pen_of p.old)) }
+#[tactic(auto, unfolding(crate::specs::Place::at_place))]
+fn print_as_expression<N: PrintNode>(node: &Function<N>, p: &mut Printing<'_>, place: Place)
+    ensures { Lays p.old p.new (λ pen. wrapped (function_wraps node.now.pife (place_of place pen)) (whole_function (function_row N.plain node.now) (place_of place pen))) }
 {
     let wrap = is_in_parentheses(node.pife, p);
-    p.print_opening_if(wrap)?;
-    print_whole_function(node, p, place)?;
+    p.print_opening_if(wrap);
+    print_whole_function(node, p, place);
     p.print_closing_if(wrap)
 }
 
 // Where it is marked so, and where it would be a declaration without them.
-fn is_in_parentheses(pife: bool, p: &Printer<'_>) -> bool
-    ensures { result ≡ (pife || bars_function (pen_of p.now).start) }
+fn is_in_parentheses(pife: bool, p: &Printing<'_>) -> bool
+    ensures { result ≡ (pife || bars_function (pen_at p.now).start) }
 {
     pife || p.bars_function()
 }
 
 // From the word on.
-#[tactic(auto, unfolding(crate::specs::Place::pen_after))]
-fn print_whole_function<N: PrintNode>(
-    node: &Function<N>,
-    p: &mut Printer<'_>,
-    place: Place,
-) -> Result<(), Memory>
-    ensures { Reaches result (pen_of p.old) (pen_of p.new) (layout (whole_function (function_row N.plain node.now) (place_of place (pen_of p.old))) (pen_of p.old)) }
+#[tactic(auto, unfolding(crate::specs::Place::at_place))]
+fn print_whole_function<N: PrintNode>(node: &Function<N>, p: &mut Printing<'_>, place: Place)
+    ensures { Lays p.old p.new (λ pen. whole_function (function_row N.plain node.now) (place_of place pen)) }
 {
-    p.print_word("function")?;
-    print_if_given::<_, Names>(&node.id, p, place.child(Precedence::Lowest))?;
+    p.print_word("function");
+    print_if_given::<_, Names>(&node.id, p, place.child(Precedence::Lowest));
     print_behind_name(node, p, place)
 }
 
 /// The names of functions.
 struct Names;
 
-#[tactic(auto, unfolding(crate::specs::Place::pen_after))]
+#[tactic(auto, unfolding(crate::specs::Place::at_place))]
 impl PrintMember<Box<BindingIdentifier>> for Names {
     ghost plain = { λ b. binding_identifier_row b.value };
 
-    fn print_member(
-        name: &Box<BindingIdentifier>,
-        p: &mut Printer<'_>,
-        place: Place,
-    ) -> Result<(), Memory> {
+    fn print_member(name: &Box<BindingIdentifier>, p: &mut Printing<'_>, place: Place) {
         print_binding_identifier(name, p, place)
     }
 }
 
 /// The parameters in parentheses, and the body.
-#[tactic(auto, unfolding(crate::specs::Place::pen_after))]
-pub fn print_behind_name<N: PrintNode>(
-    node: &Function<N>,
-    p: &mut Printer<'_>,
-    place: Place,
-) -> Result<(), Memory>
-    ensures { Reaches result (pen_of p.old) (pen_of p.new) (layout (spell_method (function_row N.plain node.now) (place_of place (pen_of p.old))) (pen_of p.old)) }
+#[tactic(auto, unfolding(crate::specs::Place::at_place))]
+pub fn print_behind_name<N: PrintNode>(node: &Function<N>, p: &mut Printing<'_>, place: Place)
+    ensures { Lays p.old p.new (λ pen. spell_method (function_row N.plain node.now) (place_of place pen)) }
 {
     let within = Place::within_statement(place.settings);
-    print_parameters_in_brackets(&node.params, p, place.function_parameters())?;
+    print_parameters_in_brackets(&node.params, p, place.function_parameters());
     print_apart::<_, Bodies>(&node.body, p, within)
 }
 
@@ -127,27 +101,19 @@ pub fn print_behind_name<N: PrintNode>(
 /// The bodies of functions.
 struct Bodies;
 
-#[tactic(auto, unfolding(crate::specs::Place::pen_after))]
+#[tactic(auto, unfolding(crate::specs::Place::at_place))]
 impl<N: PrintNode> PrintMember<Box<FunctionBody<N>>> for Bodies {
     ghost plain = { λ b. function_body_row N.plain b.value };
 
-    fn print_member(
-        body: &Box<FunctionBody<N>>,
-        p: &mut Printer<'_>,
-        place: Place,
-    ) -> Result<(), Memory> {
+    fn print_member(body: &Box<FunctionBody<N>>, p: &mut Printing<'_>, place: Place) {
         print_function_body(body, p, place)
     }
 }
 
 /// Braces, of which empty ones have nothing within.
-#[tactic(auto, unfolding(crate::specs::Place::pen_after))]
-pub fn print_function_body<N: PrintNode>(
-    node: &FunctionBody<N>,
-    p: &mut Printer<'_>,
-    place: Place,
-) -> Result<(), Memory>
-    ensures { Reaches result (pen_of p.old) (pen_of p.new) (pen_after (function_body_row N.plain node.now) place p.old) }
+#[tactic(auto, unfolding(crate::specs::Place::at_place))]
+pub fn print_function_body<N: PrintNode>(node: &FunctionBody<N>, p: &mut Printing<'_>, place: Place)
+    ensures { Lays p.old p.new (at_place (function_body_row N.plain node.now) place) }
 {
     if are_empty(&node.directives, &node.statements) {
         print_empty_braces(p)
@@ -162,30 +128,26 @@ fn are_empty<N>(directives: &[Directive], statements: &[StatementNode<N>]) -> bo
     directives.is_empty() && statements.is_empty()
 }
 
-#[tactic(auto, unfolding(crate::specs::Place::pen_after))]
-fn print_filled_body<N: PrintNode>(
-    node: &FunctionBody<N>,
-    p: &mut Printer<'_>,
-    settings: Settings,
-) -> Result<(), Memory>
-    ensures { Reaches result (pen_of p.old) (pen_of p.new) (layout (filled_braces (spell_directives (trees (map directive_row node.now.directives.items)) (settings_of settings)
-        ⊕ spell_body (trees (map (in_statement N.plain) node.now.statements.items)) (settings_of settings))) (pen_of p.old)) }
+#[tactic(auto, unfolding(crate::specs::Place::at_place))]
+fn print_filled_body<N: PrintNode>(node: &FunctionBody<N>, p: &mut Printing<'_>, settings: Settings)
+    ensures { Lays p.old p.new (λ _. filled_braces (spell_directives (trees (map directive_row node.now.directives.items)) (settings_of settings)
+        ⊕ spell_body (trees (map (in_statement N.plain) node.now.statements.items)) (settings_of settings))) }
 {
-    let depth = open_braces(p)?;
-    print_within_braces(node, p, settings)?;
+    let depth = open_braces(p);
+    print_within_braces(node, p, settings);
     close_braces(p, depth)
 }
 
 // Directives, and statements behind them.
-#[tactic(auto, unfolding(crate::specs::Place::pen_after))]
+#[tactic(auto, unfolding(crate::specs::Place::at_place))]
 fn print_within_braces<N: PrintNode>(
     node: &FunctionBody<N>,
-    p: &mut Printer<'_>,
+    p: &mut Printing<'_>,
     settings: Settings,
-) -> Result<(), Memory>
-    ensures { Reaches result (pen_of p.old) (pen_of p.new) (layout (spell_directives (trees (map directive_row node.now.directives.items)) (settings_of settings)
-        ⊕ spell_body (trees (map (in_statement N.plain) node.now.statements.items)) (settings_of settings)) (pen_of p.old)) }
+)
+    ensures { Lays p.old p.new (λ _. spell_directives (trees (map directive_row node.now.directives.items)) (settings_of settings)
+        ⊕ spell_body (trees (map (in_statement N.plain) node.now.statements.items)) (settings_of settings)) }
 {
-    print_directives(&node.directives, p, settings)?;
+    print_directives(&node.directives, p, settings);
     print_body::<_, Statements>(&node.statements, p, settings)
 }

@@ -1,87 +1,65 @@
 // Expressions (ECMA-262, clause 13), one function for each row.
-ghost use Rattle.std.specs.Prelude.{◌≡◌, true, decimal};
+ghost use Rattle.std.specs.Prelude.{true, decimal};
 ghost use Rattle.jsgen_syntax.specs.Operator.{logical_level, logical_lower_level};
 ghost use Rattle.jsgen_tree.specs.Rows.{identifier_reference_row, this_expression_row, null_literal_row, boolean_literal_row, numeric_literal_row, big_int_literal_row, string_literal_row, parenthesized_expression_row, binary_expression_row, logical_expression_row, in_expression};
 ghost use Rattle.jsgen_model.specs.Items.{◌⊕◌, soft_space};
-ghost use Rattle.jsgen_model.specs.Layout.{layout};
 ghost use Rattle.jsgen_model.specs.Spell.{spell, signed, left_of, behind, left_level, right_level, unmixed, quoted_plainly};
 ghost use Rattle.jsgen_model.specs.Operators.{operator_item, logical_item};
 ghost use Rattle.jsgen_model.specs.Quotes.{is_export_mark};
-ghost use Rattle.jsgen_model.specs.Printing.{Reaches};
-ghost use Rattle.jsgen_printer.specs.Printer.{pen_of};
+ghost use Rattle.jsgen_steps.specs.Steps.{Lays};
 ghost use Rattle.jsgen_place.specs.Place.{place_of};
-ghost use Rattle.jsgen_nodes.specs.Place.{pen_after};
+ghost use Rattle.jsgen_nodes.specs.Place.{at_place};
 
 use crate::PrintNode;
 use crate::quotes::is_mark;
 use crate::sequences::Expressions;
 use jsgen_lists::print_behind_space;
 use jsgen_place::{Place, left_level, right_level, takes_no_dot, unmixed};
-use jsgen_printer::Printer;
-use jsgen_syntax::{GetPrecedence, Memory};
+use jsgen_steps::Printing;
+use jsgen_syntax::GetPrecedence;
 use jsgen_tree::{
     BigIntLiteral, BinaryExpression, BooleanLiteral, IdentifierReference, LogicalExpression,
     NullLiteral, NumericLiteral, NumericValue, ParenthesizedExpression, StringLiteral,
     ThisExpression, behind_minus,
 };
 
-#[tactic(auto, unfolding(crate::specs::Place::pen_after))]
-pub fn print_identifier_reference(
-    node: &IdentifierReference,
-    p: &mut Printer<'_>,
-    place: Place,
-) -> Result<(), Memory>
-    ensures { Reaches result (pen_of p.old) (pen_of p.new) (pen_after (identifier_reference_row node.now) place p.old) }
+#[tactic(auto, unfolding(crate::specs::Place::at_place))]
+pub fn print_identifier_reference(node: &IdentifierReference, p: &mut Printing<'_>, place: Place)
+    ensures { Lays p.old p.new (at_place (identifier_reference_row node.now) place) }
 {
     let _ = place;
     p.print_reference(node.name.as_str(), node.reference)
 }
 
-#[tactic(auto, unfolding(crate::specs::Place::pen_after))]
-pub fn print_this_expression(
-    node: &ThisExpression,
-    p: &mut Printer<'_>,
-    place: Place,
-) -> Result<(), Memory>
-    ensures { Reaches result (pen_of p.old) (pen_of p.new) (pen_after (this_expression_row node.now) place p.old) }
+#[tactic(auto, unfolding(crate::specs::Place::at_place))]
+pub fn print_this_expression(node: &ThisExpression, p: &mut Printing<'_>, place: Place)
+    ensures { Lays p.old p.new (at_place (this_expression_row node.now) place) }
 {
     let _ = node;
     let _ = place;
     p.print_word("this")
 }
 
-#[tactic(auto, unfolding(crate::specs::Place::pen_after))]
-pub fn print_null_literal(
-    node: &NullLiteral,
-    p: &mut Printer<'_>,
-    place: Place,
-) -> Result<(), Memory>
-    ensures { Reaches result (pen_of p.old) (pen_of p.new) (pen_after (null_literal_row node.now) place p.old) }
+#[tactic(auto, unfolding(crate::specs::Place::at_place))]
+pub fn print_null_literal(node: &NullLiteral, p: &mut Printing<'_>, place: Place)
+    ensures { Lays p.old p.new (at_place (null_literal_row node.now) place) }
 {
     let _ = node;
     let _ = place;
     p.print_word("null")
 }
 
-#[tactic(auto, unfolding(crate::specs::Place::pen_after))]
-pub fn print_boolean_literal(
-    node: &BooleanLiteral,
-    p: &mut Printer<'_>,
-    place: Place,
-) -> Result<(), Memory>
-    ensures { Reaches result (pen_of p.old) (pen_of p.new) (pen_after (boolean_literal_row node.now) place p.old) }
+#[tactic(auto, unfolding(crate::specs::Place::at_place))]
+pub fn print_boolean_literal(node: &BooleanLiteral, p: &mut Printing<'_>, place: Place)
+    ensures { Lays p.old p.new (at_place (boolean_literal_row node.now) place) }
 {
     let _ = place;
     p.print_word(if node.value { "true" } else { "false" })
 }
 
-#[tactic(auto, unfolding(crate::specs::Place::pen_after))]
-pub fn print_numeric_literal(
-    node: &NumericLiteral,
-    p: &mut Printer<'_>,
-    place: Place,
-) -> Result<(), Memory>
-    ensures { Reaches result (pen_of p.old) (pen_of p.new) (pen_after (numeric_literal_row node.now) place p.old) }
+#[tactic(auto, unfolding(crate::specs::Place::at_place))]
+pub fn print_numeric_literal(node: &NumericLiteral, p: &mut Printing<'_>, place: Place)
+    ensures { Lays p.old p.new (at_place (numeric_literal_row node.now) place) }
 {
     match &node.value {
         NumericValue::Whole { negative, digits } => print_whole(*negative, *digits, p, place),
@@ -90,13 +68,8 @@ pub fn print_numeric_literal(
 }
 
 #[tactic(auto)]
-fn print_whole(
-    negative: bool,
-    digits: u128,
-    p: &mut Printer<'_>,
-    place: Place,
-) -> Result<(), Memory>
-    ensures { Reaches result (pen_of p.old) (pen_of p.new) (layout (signed true negative (decimal digits) (place_of place (pen_of p.old))) (pen_of p.old)) }
+fn print_whole(negative: bool, digits: u128, p: &mut Printing<'_>, place: Place)
+    ensures { Lays p.old p.new (λ pen. signed true negative (decimal digits) (place_of place pen)) }
 {
     if negative {
         p.print_negative_whole_number(place.wraps_negative(), digits)
@@ -105,13 +78,9 @@ fn print_whole(
     }
 }
 
-#[tactic(auto, unfolding(crate::specs::Place::pen_after))]
-pub fn print_big_int_literal(
-    node: &BigIntLiteral,
-    p: &mut Printer<'_>,
-    place: Place,
-) -> Result<(), Memory>
-    ensures { Reaches result (pen_of p.old) (pen_of p.new) (pen_after (big_int_literal_row node.now) place p.old) }
+#[tactic(auto, unfolding(crate::specs::Place::at_place))]
+pub fn print_big_int_literal(node: &BigIntLiteral, p: &mut Printing<'_>, place: Place)
+    ensures { Lays p.old p.new (at_place (big_int_literal_row node.now) place) }
 {
     let value = node.value.as_str();
     match behind_minus(value) {
@@ -120,97 +89,93 @@ pub fn print_big_int_literal(
     }
 }
 
-#[tactic(auto, unfolding(crate::specs::Place::pen_after))]
-pub fn print_string_literal(
-    node: &StringLiteral,
-    p: &mut Printer<'_>,
-    place: Place,
-) -> Result<(), Memory>
-    ensures { Reaches result (pen_of p.old) (pen_of p.new) (pen_after (string_literal_row node.now) place p.old) }
+#[tactic(auto, unfolding(crate::specs::Place::at_place))]
+pub fn print_string_literal(node: &StringLiteral, p: &mut Printing<'_>, place: Place)
+    ensures { Lays p.old p.new (at_place (string_literal_row node.now) place) }
 {
     p.print_string(&node.value, !place.plain_quotes)
 }
 
 /// The printer sets parentheses by levels alone, and prints none for this node.
-#[tactic(auto, unfolding(crate::specs::Place::pen_after))]
+#[tactic(auto, unfolding(crate::specs::Place::at_place))]
 pub fn print_parenthesized_expression<N: PrintNode>(
     node: &ParenthesizedExpression<N>,
-    p: &mut Printer<'_>,
+    p: &mut Printing<'_>,
     place: Place,
-) -> Result<(), Memory>
-    ensures { Reaches result (pen_of p.old) (pen_of p.new) (pen_after (parenthesized_expression_row N.plain node.now) place p.old) }
+)
+    ensures { Lays p.old p.new (at_place (parenthesized_expression_row N.plain node.now) place) }
 {
     node.expression.get().print(p, place)
 }
 
-#[tactic(auto, unfolding(crate::specs::Place::pen_after))]
+#[tactic(auto, unfolding(crate::specs::Place::at_place))]
 pub fn print_binary_expression<N: PrintNode>(
     node: &BinaryExpression<N>,
-    p: &mut Printer<'_>,
+    p: &mut Printing<'_>,
     place: Place,
-) -> Result<(), Memory>
-    ensures { Reaches result (pen_of p.old) (pen_of p.new) (pen_after (binary_expression_row N.plain node.now) place p.old) }
+)
+    ensures { Lays p.old p.new (at_place (binary_expression_row N.plain node.now) place) }
 {
     let wrap = place.wraps_binary(node.operator);
-    p.print_opening_if(wrap)?;
-    print_binary_operation(node, p, place.within(wrap))?;
+    p.print_opening_if(wrap);
+    print_binary_operation(node, p, place.within(wrap));
     p.print_closing_if(wrap)
 }
 
 // Both operands and the operator between them, within the parentheses.
-#[tactic(auto, unfolding(crate::specs::Place::pen_after))]
+#[tactic(auto, unfolding(crate::specs::Place::at_place))]
 fn print_binary_operation<N: PrintNode>(
     node: &BinaryExpression<N>,
-    p: &mut Printer<'_>,
+    p: &mut Printing<'_>,
     place: Place,
-) -> Result<(), Memory>
-    ensures { Reaches result (pen_of p.old) (pen_of p.new) (layout (spell (in_expression N.plain node.now.left)
+)
+    ensures { Lays p.old p.new (λ pen. spell (in_expression N.plain node.now.left)
         (quoted_plainly (is_export_mark place.settings.minified node.now.operator (in_expression N.plain node.now.left))
-        (left_of (left_level node.now.operator (in_expression N.plain node.now.left)) (place_of place (pen_of p.old))))
+        (left_of (left_level node.now.operator (in_expression N.plain node.now.left)) (place_of place pen)))
         ⊕ (soft_space ⊕ (operator_item node.now.operator ⊕ (soft_space
         ⊕ spell (in_expression N.plain node.now.right)
         (quoted_plainly (is_export_mark place.settings.minified node.now.operator (in_expression N.plain node.now.right))
-        (behind (right_level node.now.operator) (place_of place (pen_of p.old)))))))) (pen_of p.old)) }
+        (behind (right_level node.now.operator) (place_of place pen))))))) }
 {
     let left = node.left.get();
     let level = left_level(node.operator, left.operand());
     let quoted = is_mark(place.settings.minified, node.operator, left);
-    left.print(p, place.left_operand(level).quoted_plainly(quoted))?;
-    p.print_soft_space()?;
-    p.print_operator(node.operator)?;
+    left.print(p, place.left_operand(level).quoted_plainly(quoted));
+    p.print_soft_space();
+    p.print_operator(node.operator);
     let quoted = is_mark(place.settings.minified, node.operator, node.right.get());
     let below = place.child(right_level(node.operator));
     print_behind_space::<_, Expressions>(&node.right, p, below.quoted_plainly(quoted))
 }
 
-#[tactic(auto, unfolding(crate::specs::Place::pen_after))]
+#[tactic(auto, unfolding(crate::specs::Place::at_place))]
 pub fn print_logical_expression<N: PrintNode>(
     node: &LogicalExpression<N>,
-    p: &mut Printer<'_>,
+    p: &mut Printing<'_>,
     place: Place,
-) -> Result<(), Memory>
-    ensures { Reaches result (pen_of p.old) (pen_of p.new) (pen_after (logical_expression_row N.plain node.now) place p.old) }
+)
+    ensures { Lays p.old p.new (at_place (logical_expression_row N.plain node.now) place) }
 {
     let wrap = place.wraps_logical(node.operator);
-    p.print_opening_if(wrap)?;
-    print_logical_operation(node, p, place.within(wrap))?;
+    p.print_opening_if(wrap);
+    print_logical_operation(node, p, place.within(wrap));
     p.print_closing_if(wrap)
 }
 
 // Both operands and the operator between them, within the parentheses.
-#[tactic(auto, unfolding(crate::specs::Place::pen_after))]
+#[tactic(auto, unfolding(crate::specs::Place::at_place))]
 fn print_logical_operation<N: PrintNode>(
     node: &LogicalExpression<N>,
-    p: &mut Printer<'_>,
+    p: &mut Printing<'_>,
     place: Place,
-) -> Result<(), Memory>
-    ensures { Reaches result (pen_of p.old) (pen_of p.new) (layout (spell (in_expression N.plain node.now.left)
+)
+    ensures { Lays p.old p.new (λ pen. spell (in_expression N.plain node.now.left)
         (left_of (unmixed node.now.operator (in_expression N.plain node.now.left) (logical_lower_level node.now.operator))
-        (place_of place (pen_of p.old)))
+        (place_of place pen))
         ⊕ (soft_space ⊕ (logical_item node.now.operator ⊕ (soft_space
         ⊕ spell (in_expression N.plain node.now.right)
         (behind (unmixed node.now.operator (in_expression N.plain node.now.right) (logical_level node.now.operator))
-        (place_of place (pen_of p.old))))))) (pen_of p.old)) }
+        (place_of place pen)))))) }
 {
     let left = node.left.get();
     let level = unmixed(
@@ -218,9 +183,9 @@ fn print_logical_operation<N: PrintNode>(
         left.operand(),
         node.operator.lower_precedence(),
     );
-    left.print(p, place.left_operand(level))?;
-    p.print_soft_space()?;
-    p.print_logical_sign(node.operator)?;
+    left.print(p, place.left_operand(level));
+    p.print_soft_space();
+    p.print_logical_sign(node.operator);
     let right = node.right.get().operand();
     let level = unmixed(node.operator, right, node.operator.precedence());
     print_behind_space::<_, Expressions>(&node.right, p, place.child(level))

@@ -6,21 +6,21 @@ ghost use Rattle.jsgen_model.specs.Punctuator.{arrow, Round};
 ghost use Rattle.jsgen_model.specs.Items.{◌⊕◌, soft_space, punctuator, brackets};
 ghost use Rattle.jsgen_model.specs.Layout.{layout};
 ghost use Rattle.jsgen_model.specs.Spell.{spell, is_name_alone, is_bare, parameter_items, parameters_place, body_begins, arrow_body_place};
-ghost use Rattle.jsgen_model.specs.Printing.{Reaches};
-ghost use Rattle.jsgen_printer.specs.Printer.{pen_of};
+ghost use Rattle.jsgen_steps.specs.Steps.{Lays, pen_at};
 ghost use Rattle.jsgen_place.specs.Place.{place_of, settings_of};
 ghost use Rattle.jsgen_lists.specs.Lists.{listed};
 ghost use Rattle.jsgen_nodes.specs.Alone.{parameter_parts};
 ghost use Rattle.jsgen_nodes.specs.Names.{is_name_parameter};
-ghost use Rattle.jsgen_nodes.specs.Place.{pen_after};
+ghost use Rattle.jsgen_nodes.specs.Place.{at_place};
 
 use crate::PrintNode;
 use crate::definitions::print_function_body;
 use crate::sequences::Expressions;
 use jsgen_lists::{PrintMember, print_comma_between, print_if_given, print_parts, print_value};
 use jsgen_place::{Place, is_bare};
-use jsgen_printer::{Bracket, Printer};
-use jsgen_syntax::{Memory, Precedence};
+use jsgen_printer::Bracket;
+use jsgen_steps::Printing;
+use jsgen_syntax::Precedence;
 use jsgen_tree::{
     ArrowFunctionBody, ArrowFunctionExpression, FormalParameter, FormalParameterRest,
     FormalParameters, NodeType,
@@ -28,60 +28,54 @@ use jsgen_tree::{
 
 // ---- parameters
 
-#[tactic(auto, unfolding(crate::specs::Place::pen_after))]
+#[tactic(auto, unfolding(crate::specs::Place::at_place))]
 pub fn print_formal_parameter<N: PrintNode>(
     node: &FormalParameter<N>,
-    p: &mut Printer<'_>,
+    p: &mut Printing<'_>,
     place: Place,
-) -> Result<(), Memory>
-    ensures { Reaches result (pen_of p.old) (pen_of p.new) (pen_after (formal_parameter_row N.plain node.now) place p.old) }
+)
+    ensures { Lays p.old p.new (at_place (formal_parameter_row N.plain node.now) place) }
 {
-    node.pattern
-        .get()
-        .print(p, place.child(Precedence::Lowest))?;
+    node.pattern.get().print(p, place.child(Precedence::Lowest));
     print_value::<_, Expressions>(&node.initializer, p, place.child(Precedence::Comma))
 }
 
-#[tactic(auto, unfolding(crate::specs::Place::pen_after))]
+#[tactic(auto, unfolding(crate::specs::Place::at_place))]
 pub fn print_formal_parameter_rest<N: PrintNode>(
     node: &FormalParameterRest<N>,
-    p: &mut Printer<'_>,
+    p: &mut Printing<'_>,
     place: Place,
-) -> Result<(), Memory>
-    ensures { Reaches result (pen_of p.old) (pen_of p.new) (pen_after (formal_parameter_rest_row N.plain node.now) place p.old) }
+)
+    ensures { Lays p.old p.new (at_place (formal_parameter_rest_row N.plain node.now) place) }
 {
-    p.print_ellipsis()?;
+    p.print_ellipsis();
     node.argument
         .get()
         .print(p, place.child(Precedence::Lowest))
 }
 
 /// Parameters, of which the first begins where they do.
-#[tactic(auto, unfolding(crate::specs::Place::pen_after))]
+#[tactic(auto, unfolding(crate::specs::Place::at_place))]
 pub fn print_formal_parameters<N: PrintNode>(
     node: &FormalParameters<N>,
-    p: &mut Printer<'_>,
+    p: &mut Printing<'_>,
     place: Place,
-) -> Result<(), Memory>
-    ensures { Reaches result (pen_of p.old) (pen_of p.new) (layout (parameter_parts (formal_parameters_row N.plain node.now) (place_of place (pen_of p.old))) (pen_of p.old)) }
+)
+    ensures { Lays p.old p.new (λ pen. parameter_parts (formal_parameters_row N.plain node.now) (place_of place pen)) }
 {
-    print_parts::<_, Parameters>(&node.items, p, place)?;
-    print_comma_between::<_, _, Parameters, Rest>(&node.items, &node.rest, p)?;
+    print_parts::<_, Parameters>(&node.items, p, place);
+    print_comma_between::<_, _, Parameters, Rest>(&node.items, &node.rest, p);
     print_if_given::<_, Rest>(&node.rest, p, place)
 }
 
 /// The parameters of a function.
 struct Parameters;
 
-#[tactic(auto, unfolding(crate::specs::Place::pen_after))]
+#[tactic(auto, unfolding(crate::specs::Place::at_place))]
 impl<N: PrintNode> PrintMember<FormalParameter<N>> for Parameters {
     ghost plain = { formal_parameter_row N.plain };
 
-    fn print_member(
-        parameter: &FormalParameter<N>,
-        p: &mut Printer<'_>,
-        place: Place,
-    ) -> Result<(), Memory> {
+    fn print_member(parameter: &FormalParameter<N>, p: &mut Printing<'_>, place: Place) {
         print_formal_parameter(parameter, p, place)
     }
 }
@@ -89,60 +83,52 @@ impl<N: PrintNode> PrintMember<FormalParameter<N>> for Parameters {
 /// The parameter that takes what the others leave.
 struct Rest;
 
-#[tactic(auto, unfolding(crate::specs::Place::pen_after))]
+#[tactic(auto, unfolding(crate::specs::Place::at_place))]
 impl<N: PrintNode> PrintMember<Box<FormalParameterRest<N>>> for Rest {
     ghost plain = { λ b. formal_parameter_rest_row N.plain b.value };
 
-    fn print_member(
-        rest: &Box<FormalParameterRest<N>>,
-        p: &mut Printer<'_>,
-        place: Place,
-    ) -> Result<(), Memory> {
+    fn print_member(rest: &Box<FormalParameterRest<N>>, p: &mut Printing<'_>, place: Place) {
         print_formal_parameter_rest(rest, p, place)
     }
 }
 
 // ---- arrow functions
 
-#[tactic(auto, unfolding(crate::specs::Place::pen_after))]
+#[tactic(auto, unfolding(crate::specs::Place::at_place))]
 pub fn print_arrow_function_expression<N: PrintNode>(
     node: &ArrowFunctionExpression<N>,
-    p: &mut Printer<'_>,
+    p: &mut Printing<'_>,
     place: Place,
-) -> Result<(), Memory>
-    ensures { Reaches result (pen_of p.old) (pen_of p.new) (pen_after (arrow_function_expression_row N.plain node.now) place p.old) }
+)
+    ensures { Lays p.old p.new (at_place (arrow_function_expression_row N.plain node.now) place) }
 {
     let wrap = place.wraps_arrow(node.pife);
-    p.print_opening_if(wrap)?;
-    print_arrow(node, p, place.within(wrap))?;
+    p.print_opening_if(wrap);
+    print_arrow(node, p, place.within(wrap));
     p.print_closing_if(wrap)
 }
 
 // The parameters, the arrow and the body, within the parentheses.
-#[tactic(auto, unfolding(crate::specs::Place::pen_after))]
-fn print_arrow<N: PrintNode>(
-    node: &ArrowFunctionExpression<N>,
-    p: &mut Printer<'_>,
-    place: Place,
-) -> Result<(), Memory>
-    ensures { Reaches result (pen_of p.old) (pen_of p.new) (layout (parameter_items (is_bare (settings_of place.settings) (formal_parameters_row N.plain node.now.params.value))
-        (spell (formal_parameters_row N.plain node.now.params.value) (parameters_place (place_of place (pen_of p.old))))
+#[tactic(auto, unfolding(crate::specs::Place::at_place))]
+fn print_arrow<N: PrintNode>(node: &ArrowFunctionExpression<N>, p: &mut Printing<'_>, place: Place)
+    ensures { Lays p.old p.new (λ pen. parameter_items (is_bare (settings_of place.settings) (formal_parameters_row N.plain node.now.params.value))
+        (spell (formal_parameters_row N.plain node.now.params.value) (parameters_place (place_of place pen)))
         ⊕ (soft_space ⊕ (punctuator arrow ⊕ (soft_space ⊕ (body_begins (type_of (in_arrow_function_body N.plain node.now.body))
-        ⊕ spell (in_arrow_function_body N.plain node.now.body) (arrow_body_place (place_of place (pen_of p.old)))))))) (pen_of p.old)) }
+        ⊕ spell (in_arrow_function_body N.plain node.now.body) (arrow_body_place (place_of place pen))))))) }
 {
-    print_arrow_parameters(&node.params, p, place)?;
+    print_arrow_parameters(&node.params, p, place);
     print_behind_parameters(&node.body, p, place)
 }
 
 // A name alone, or parameters in parentheses.
-#[tactic(auto, unfolding(crate::specs::Place::pen_after))]
+#[tactic(auto, unfolding(crate::specs::Place::at_place))]
 fn print_arrow_parameters<N: PrintNode>(
     parameters: &FormalParameters<N>,
-    p: &mut Printer<'_>,
+    p: &mut Printing<'_>,
     place: Place,
-) -> Result<(), Memory>
-    ensures { Reaches result (pen_of p.old) (pen_of p.new) (layout (parameter_items (is_bare (settings_of place.settings) (formal_parameters_row N.plain parameters.now))
-        (spell (formal_parameters_row N.plain parameters.now) (parameters_place (place_of place (pen_of p.old))))) (pen_of p.old)) }
+)
+    ensures { Lays p.old p.new (λ pen. parameter_items (is_bare (settings_of place.settings) (formal_parameters_row N.plain parameters.now))
+        (spell (formal_parameters_row N.plain parameters.now) (parameters_place (place_of place pen)))) }
 {
     if is_bare(place.settings, is_name_alone(parameters)) {
         print_formal_parameters(parameters, p, place.parameters())
@@ -152,16 +138,16 @@ fn print_arrow_parameters<N: PrintNode>(
 }
 
 /// Parameters, of which this is the place, in parentheses.
-#[tactic(auto, unfolding(crate::specs::Place::pen_after))]
+#[tactic(auto, unfolding(crate::specs::Place::at_place))]
 pub fn print_parameters_in_brackets<N: PrintNode>(
     parameters: &FormalParameters<N>,
-    p: &mut Printer<'_>,
+    p: &mut Printing<'_>,
     place: Place,
-) -> Result<(), Memory>
-    ensures { Reaches result (pen_of p.old) (pen_of p.new) (layout (brackets Round (spell (formal_parameters_row N.plain parameters.now) (listed place))) (pen_of p.old)) }
+)
+    ensures { Lays p.old p.new (λ _. brackets Round (spell (formal_parameters_row N.plain parameters.now) (listed place))) }
 {
-    p.print_opening(Bracket::Round)?;
-    print_formal_parameters(parameters, p, place)?;
+    p.print_opening(Bracket::Round);
+    print_formal_parameters(parameters, p, place);
     p.print_closing(Bracket::Round)
 }
 
@@ -181,25 +167,25 @@ fn is_name<N: PrintNode>(parameter: &FormalParameter<N>) -> bool
 }
 
 // The arrow, and the body behind it.
-#[tactic(auto, unfolding(crate::specs::Place::pen_after))]
+#[tactic(auto, unfolding(crate::specs::Place::at_place))]
 fn print_behind_parameters<N: PrintNode>(
     body: &ArrowFunctionBody<N>,
-    p: &mut Printer<'_>,
+    p: &mut Printing<'_>,
     place: Place,
-) -> Result<(), Memory>
-    ensures { Reaches result (pen_of p.old) (pen_of p.new) (layout (soft_space ⊕ (punctuator arrow ⊕ (soft_space ⊕ (body_begins (type_of (in_arrow_function_body N.plain body.now))
-        ⊕ spell (in_arrow_function_body N.plain body.now) (arrow_body_place (place_of place (pen_of p.old))))))) (pen_of p.old)) }
+)
+    ensures { Lays p.old p.new (λ pen. soft_space ⊕ (punctuator arrow ⊕ (soft_space ⊕ (body_begins (type_of (in_arrow_function_body N.plain body.now))
+        ⊕ spell (in_arrow_function_body N.plain body.now) (arrow_body_place (place_of place pen)))))) }
 {
-    p.print_soft_space()?;
-    p.print_arrow()?;
-    p.print_soft_space()?;
+    p.print_soft_space();
+    p.print_arrow();
+    p.print_soft_space();
     begin_body(body_type(body), p);
     print_arrow_function_body(body, p, place.child(Precedence::Comma))
 }
 
 // An expression begins there, and a body in braces doesn't.
-fn begin_body(body: NodeType, p: &mut Printer<'_>)
-    ensures { pen_of p.new ≡ layout (body_begins body) (pen_of p.old) }
+fn begin_body(body: NodeType, p: &mut Printing<'_>)
+    ensures { pen_at p.new ≡ layout (body_begins body) (pen_at p.old) }
 {
     match body {
         NodeType::FunctionBody => {}
@@ -216,13 +202,13 @@ fn body_type<N: PrintNode>(body: &ArrowFunctionBody<N>) -> NodeType
     }
 }
 
-#[tactic(auto, unfolding(crate::specs::Place::pen_after))]
+#[tactic(auto, unfolding(crate::specs::Place::at_place))]
 fn print_arrow_function_body<N: PrintNode>(
     body: &ArrowFunctionBody<N>,
-    p: &mut Printer<'_>,
+    p: &mut Printing<'_>,
     place: Place,
-) -> Result<(), Memory>
-    ensures { Reaches result (pen_of p.old) (pen_of p.new) (pen_after (in_arrow_function_body N.plain body.now) place p.old) }
+)
+    ensures { Lays p.old p.new (at_place (in_arrow_function_body N.plain body.now) place) }
 {
     match body {
         ArrowFunctionBody::FunctionBody(node) => print_function_body(node, p, place),

@@ -5,14 +5,12 @@ ghost use Rattle.jsgen_tree.specs.Inside.{looked_up_in};
 ghost use Rattle.jsgen_tree.specs.Rows.{for_in_statement_row, for_of_statement_row, in_for_statement_left, in_expression};
 ghost use Rattle.jsgen_model.specs.Punctuator.{Round};
 ghost use Rattle.jsgen_model.specs.Items.{◌⊕◌, word, brackets, soft_space};
-ghost use Rattle.jsgen_model.specs.Layout.{layout, nowhere};
 ghost use Rattle.jsgen_model.specs.Spell.{apart_from_of};
-ghost use Rattle.jsgen_model.specs.Printing.{Reaches};
-ghost use Rattle.jsgen_printer.specs.Printer.{pen_of};
+ghost use Rattle.jsgen_steps.specs.Steps.{Lays, BeginsNothing, pen_at};
 ghost use Rattle.jsgen_place.specs.Place.{settings_of};
 ghost use Rattle.jsgen_nodes.specs.Keys.{is_said};
 ghost use Rattle.jsgen_nodes.specs.Loops.{left_of, in_parts, of_parts};
-ghost use Rattle.jsgen_nodes.specs.Place.{pen_after};
+ghost use Rattle.jsgen_nodes.specs.Place.{at_place};
 
 use crate::PrintNode;
 use crate::bodies::print_body;
@@ -23,104 +21,85 @@ use crate::sequences::Expressions;
 use crate::statements::print_variable_declaration;
 use jsgen_lists::print_behind_spaced_word;
 use jsgen_place::{Place, Settings};
-use jsgen_printer::{Bracket, Printer};
-use jsgen_syntax::{Memory, Precedence};
+use jsgen_printer::Bracket;
+use jsgen_steps::Printing;
+use jsgen_syntax::Precedence;
 use jsgen_tree::{ForInStatement, ForOfStatement, ForStatementLeft};
 
-#[tactic(auto, unfolding(crate::specs::Place::pen_after))]
+#[tactic(auto, unfolding(crate::specs::Place::at_place))]
 pub fn print_for_in_statement<N: PrintNode>(
     node: &ForInStatement<N>,
-    p: &mut Printer<'_>,
+    p: &mut Printing<'_>,
     place: Place,
-) -> Result<(), Memory>
-    ensures { Reaches result (pen_of p.old) (pen_of p.new) (pen_after (for_in_statement_row N.plain node.now) place p.old) }
+)
+    ensures { Lays p.old p.new (at_place (for_in_statement_row N.plain node.now) place) }
 {
-    p.print_indentation()?;
-    print_in_head(node, p, place.settings)?;
+    p.print_indentation();
+    print_in_head(node, p, place.settings);
     print_body(node.body.get(), p, place.settings)
 }
 
 // The word and what stands in the parentheses behind it.
-#[tactic(auto, unfolding(crate::specs::Place::pen_after))]
-fn print_in_head<N: PrintNode>(
-    node: &ForInStatement<N>,
-    p: &mut Printer<'_>,
-    settings: Settings,
-) -> Result<(), Memory>
-    ensures { Reaches result (pen_of p.old) (pen_of p.new) (layout ((word (codes "for") ⊕ soft_space) ⊕ brackets Round (in_parts (in_for_statement_left N.plain node.now.left) (in_expression N.plain node.now.right) (settings_of settings))) (pen_of p.old)) }
+#[tactic(auto, unfolding(crate::specs::Place::at_place))]
+fn print_in_head<N: PrintNode>(node: &ForInStatement<N>, p: &mut Printing<'_>, settings: Settings)
+    ensures { Lays p.old p.new (λ _. (word (codes "for") ⊕ soft_space) ⊕ brackets Round (in_parts (in_for_statement_left N.plain node.now.left) (in_expression N.plain node.now.right) (settings_of settings))) }
 {
-    print_for(p)?;
-    p.print_opening(Bracket::Round)?;
-    print_in_parts(node, p, settings)?;
+    print_for(p);
+    p.print_opening(Bracket::Round);
+    print_in_parts(node, p, settings);
     p.print_closing(Bracket::Round)
 }
 
-#[tactic(auto, unfolding(crate::specs::Place::pen_after))]
-fn print_in_parts<N: PrintNode>(
-    node: &ForInStatement<N>,
-    p: &mut Printer<'_>,
-    settings: Settings,
-) -> Result<(), Memory>
-    requires { (pen_of p.old).start ≡ nowhere }
-    ensures { Reaches result (pen_of p.old) (pen_of p.new) (layout (in_parts (in_for_statement_left N.plain node.now.left) (in_expression N.plain node.now.right) (settings_of settings)) (pen_of p.old)) }
+#[tactic(auto, unfolding(crate::specs::Place::at_place))]
+fn print_in_parts<N: PrintNode>(node: &ForInStatement<N>, p: &mut Printing<'_>, settings: Settings)
+    requires { BeginsNothing p.old }
+    ensures { Lays p.old p.new (λ _. in_parts (in_for_statement_left N.plain node.now.left) (in_expression N.plain node.now.right) (settings_of settings)) }
 {
     let within = Place::in_brackets(Precedence::Lowest, settings);
-    print_left(&node.left, p, settings)?;
+    print_left(&node.left, p, settings);
     print_behind_spaced_word::<_, Expressions>("in", &node.right, p, within)
 }
 
-#[tactic(auto, unfolding(crate::specs::Place::pen_after))]
+#[tactic(auto, unfolding(crate::specs::Place::at_place))]
 pub fn print_for_of_statement<N: PrintNode>(
     node: &ForOfStatement<N>,
-    p: &mut Printer<'_>,
+    p: &mut Printing<'_>,
     place: Place,
-) -> Result<(), Memory>
-    ensures { Reaches result (pen_of p.old) (pen_of p.new) (pen_after (for_of_statement_row N.plain node.now) place p.old) }
+)
+    ensures { Lays p.old p.new (at_place (for_of_statement_row N.plain node.now) place) }
 {
-    p.print_indentation()?;
-    print_of_head(node, p, place.settings)?;
+    p.print_indentation();
+    print_of_head(node, p, place.settings);
     print_body(node.body.get(), p, place.settings)
 }
 
 // The word and what stands in the parentheses behind it.
-#[tactic(auto, unfolding(crate::specs::Place::pen_after))]
-fn print_of_head<N: PrintNode>(
-    node: &ForOfStatement<N>,
-    p: &mut Printer<'_>,
-    settings: Settings,
-) -> Result<(), Memory>
-    ensures { Reaches result (pen_of p.old) (pen_of p.new) (layout ((word (codes "for") ⊕ soft_space) ⊕ brackets Round (of_parts (in_for_statement_left N.plain node.now.left) (in_expression N.plain node.now.right) (settings_of settings))) (pen_of p.old)) }
+#[tactic(auto, unfolding(crate::specs::Place::at_place))]
+fn print_of_head<N: PrintNode>(node: &ForOfStatement<N>, p: &mut Printing<'_>, settings: Settings)
+    ensures { Lays p.old p.new (λ _. (word (codes "for") ⊕ soft_space) ⊕ brackets Round (of_parts (in_for_statement_left N.plain node.now.left) (in_expression N.plain node.now.right) (settings_of settings))) }
 {
-    print_for(p)?;
-    p.print_opening(Bracket::Round)?;
-    print_of_parts(node, p, settings)?;
+    print_for(p);
+    p.print_opening(Bracket::Round);
+    print_of_parts(node, p, settings);
     p.print_closing(Bracket::Round)
 }
 
-#[tactic(auto, unfolding(crate::specs::Place::pen_after))]
-fn print_of_parts<N: PrintNode>(
-    node: &ForOfStatement<N>,
-    p: &mut Printer<'_>,
-    settings: Settings,
-) -> Result<(), Memory>
-    requires { (pen_of p.old).start ≡ nowhere }
-    ensures { Reaches result (pen_of p.old) (pen_of p.new) (layout (of_parts (in_for_statement_left N.plain node.now.left) (in_expression N.plain node.now.right) (settings_of settings)) (pen_of p.old)) }
+#[tactic(auto, unfolding(crate::specs::Place::at_place))]
+fn print_of_parts<N: PrintNode>(node: &ForOfStatement<N>, p: &mut Printing<'_>, settings: Settings)
+    requires { BeginsNothing p.old }
+    ensures { Lays p.old p.new (λ _. of_parts (in_for_statement_left N.plain node.now.left) (in_expression N.plain node.now.right) (settings_of settings)) }
 {
     let within = Place::in_brackets(Precedence::Comma, settings);
-    print_apart_from_of(&node.left, p, settings)?;
+    print_apart_from_of(&node.left, p, settings);
     print_behind_spaced_word::<_, Expressions>("of", &node.right, p, within)
 }
 
 // ---- what the loop gives each of them
 
-#[tactic(auto, unfolding(crate::specs::Place::pen_after))]
-fn print_left<N: PrintNode>(
-    left: &ForStatementLeft<N>,
-    p: &mut Printer<'_>,
-    settings: Settings,
-) -> Result<(), Memory>
-    requires { (pen_of p.old).start ≡ nowhere }
-    ensures { Reaches result (pen_of p.old) (pen_of p.new) (layout (left_of (in_for_statement_left N.plain left.now) (settings_of settings)) (pen_of p.old)) }
+#[tactic(auto, unfolding(crate::specs::Place::at_place))]
+fn print_left<N: PrintNode>(left: &ForStatementLeft<N>, p: &mut Printing<'_>, settings: Settings)
+    requires { BeginsNothing p.old }
+    ensures { Lays p.old p.new (λ _. left_of (in_for_statement_left N.plain left.now) (settings_of settings)) }
 {
     let target = Place::in_brackets(Precedence::Comma, settings);
     match left {
@@ -140,14 +119,14 @@ fn print_left<N: PrintNode>(
 }
 
 // A target that is printed as `async` stands in parentheses before `of`.
-#[tactic(auto, unfolding(crate::specs::Place::pen_after))]
+#[tactic(auto, unfolding(crate::specs::Place::at_place))]
 fn print_apart_from_of<N: PrintNode>(
     left: &ForStatementLeft<N>,
-    p: &mut Printer<'_>,
+    p: &mut Printing<'_>,
     settings: Settings,
-) -> Result<(), Memory>
-    requires { (pen_of p.old).start ≡ nowhere }
-    ensures { Reaches result (pen_of p.old) (pen_of p.new) (layout (apart_from_of (looked_up_in (in_for_statement_left N.plain left.now)) (left_of (in_for_statement_left N.plain left.now) (settings_of settings))) (pen_of p.old)) }
+)
+    requires { BeginsNothing p.old }
+    ensures { Lays p.old p.new (λ _. apart_from_of (looked_up_in (in_for_statement_left N.plain left.now)) (left_of (in_for_statement_left N.plain left.now) (settings_of settings))) }
 {
     if is_async(left, p) {
         print_left_in_parentheses(left, p, settings)
@@ -156,21 +135,21 @@ fn print_apart_from_of<N: PrintNode>(
     }
 }
 
-#[tactic(auto, unfolding(crate::specs::Place::pen_after))]
+#[tactic(auto, unfolding(crate::specs::Place::at_place))]
 fn print_left_in_parentheses<N: PrintNode>(
     left: &ForStatementLeft<N>,
-    p: &mut Printer<'_>,
+    p: &mut Printing<'_>,
     settings: Settings,
-) -> Result<(), Memory>
-    ensures { Reaches result (pen_of p.old) (pen_of p.new) (layout (brackets Round (left_of (in_for_statement_left N.plain left.now) (settings_of settings))) (pen_of p.old)) }
+)
+    ensures { Lays p.old p.new (λ _. brackets Round (left_of (in_for_statement_left N.plain left.now) (settings_of settings))) }
 {
-    p.print_opening(Bracket::Round)?;
-    print_left(left, p, settings)?;
+    p.print_opening(Bracket::Round);
+    print_left(left, p, settings);
     p.print_closing(Bracket::Round)
 }
 
-fn is_async<N: PrintNode>(left: &ForStatementLeft<N>, p: &Printer<'_>) -> bool
-    ensures { result ≡ is_said (pen_of p.now).style.tables (looked_up_in (in_for_statement_left N.plain left.now)) (codes "async") }
+fn is_async<N: PrintNode>(left: &ForStatementLeft<N>, p: &Printing<'_>) -> bool
+    ensures { result ≡ is_said (pen_at p.now).style.tables (looked_up_in (in_for_statement_left N.plain left.now)) (codes "async") }
 {
     match left {
         ForStatementLeft::IdentifierReference(node) => p.prints_as(

@@ -4,135 +4,113 @@ ghost use Rattle.jsgen_tree.specs.Named.{as_written};
 ghost use Rattle.jsgen_tree.specs.Rows.{label_identifier_row, labeled_statement_row, continue_statement_row, break_statement_row, return_statement_row, throw_statement_row, debugger_statement_row};
 ghost use Rattle.jsgen_model.specs.Punctuator.{colon};
 ghost use Rattle.jsgen_model.specs.Items.{◌⊕◌, name, punctuator};
-ghost use Rattle.jsgen_model.specs.Layout.{layout};
-ghost use Rattle.jsgen_model.specs.Printing.{Reaches};
-ghost use Rattle.jsgen_printer.specs.Printer.{pen_of};
-ghost use Rattle.jsgen_nodes.specs.Place.{pen_after};
+ghost use Rattle.jsgen_steps.specs.Steps.{Lays};
+ghost use Rattle.jsgen_nodes.specs.Place.{at_place};
 
 use crate::PrintNode;
 use crate::bodies::print_body;
 use crate::sequences::Expressions;
 use jsgen_lists::{PrintMember, print_behind_word, print_jump};
 use jsgen_place::Place;
-use jsgen_printer::Printer;
-use jsgen_syntax::{Memory, Precedence};
+use jsgen_steps::Printing;
+use jsgen_syntax::Precedence;
 use jsgen_tree::{
     BreakStatement, ContinueStatement, DebuggerStatement, LabelIdentifier, LabeledStatement,
     ReturnStatement, ThrowStatement,
 };
 
-#[tactic(auto, unfolding(crate::specs::Place::pen_after))]
-pub fn print_label_identifier(
-    node: &LabelIdentifier,
-    p: &mut Printer<'_>,
-    place: Place,
-) -> Result<(), Memory>
-    ensures { Reaches result (pen_of p.old) (pen_of p.new) (pen_after (label_identifier_row node.now) place p.old) }
+#[tactic(auto, unfolding(crate::specs::Place::at_place))]
+pub fn print_label_identifier(node: &LabelIdentifier, p: &mut Printing<'_>, place: Place)
+    ensures { Lays p.old p.new (at_place (label_identifier_row node.now) place) }
 {
     let _ = place;
     p.print_name(node.name.as_str())
 }
 
-#[tactic(auto, unfolding(crate::specs::Place::pen_after))]
+#[tactic(auto, unfolding(crate::specs::Place::at_place))]
 pub fn print_labeled_statement<N: PrintNode>(
     node: &LabeledStatement<N>,
-    p: &mut Printer<'_>,
+    p: &mut Printing<'_>,
     place: Place,
-) -> Result<(), Memory>
-    ensures { Reaches result (pen_of p.old) (pen_of p.new) (pen_after (labeled_statement_row N.plain node.now) place p.old) }
+)
+    ensures { Lays p.old p.new (at_place (labeled_statement_row N.plain node.now) place) }
 {
-    p.print_indentation()?;
-    print_label(&node.label, p, place)?;
+    p.print_indentation();
+    print_label(&node.label, p, place);
     print_body(node.body.get(), p, place.settings)
 }
 
 // A label and its colon.
-#[tactic(auto, unfolding(crate::specs::Place::pen_after))]
-fn print_label(label: &LabelIdentifier, p: &mut Printer<'_>, place: Place) -> Result<(), Memory>
-    ensures { Reaches result (pen_of p.old) (pen_of p.new) (layout (name (as_written (characters label.now.name)) ⊕ punctuator colon) (pen_of p.old)) }
+#[tactic(auto, unfolding(crate::specs::Place::at_place))]
+fn print_label(label: &LabelIdentifier, p: &mut Printing<'_>, place: Place)
+    ensures { Lays p.old p.new (λ _. name (as_written (characters label.now.name)) ⊕ punctuator colon) }
 {
-    print_label_identifier(label, p, place)?;
+    print_label_identifier(label, p, place);
     p.print_colon()
 }
 
-#[tactic(auto, unfolding(crate::specs::Place::pen_after))]
-pub fn print_continue_statement(
-    node: &ContinueStatement,
-    p: &mut Printer<'_>,
-    place: Place,
-) -> Result<(), Memory>
-    ensures { Reaches result (pen_of p.old) (pen_of p.new) (pen_after (continue_statement_row node.now) place p.old) }
+#[tactic(auto, unfolding(crate::specs::Place::at_place))]
+pub fn print_continue_statement(node: &ContinueStatement, p: &mut Printing<'_>, place: Place)
+    ensures { Lays p.old p.new (at_place (continue_statement_row node.now) place) }
 {
-    p.print_indentation()?;
+    p.print_indentation();
     print_jump::<_, Labels>("continue", &node.label, p, place.child(Precedence::Lowest))
 }
 
-#[tactic(auto, unfolding(crate::specs::Place::pen_after))]
-pub fn print_break_statement(
-    node: &BreakStatement,
-    p: &mut Printer<'_>,
-    place: Place,
-) -> Result<(), Memory>
-    ensures { Reaches result (pen_of p.old) (pen_of p.new) (pen_after (break_statement_row node.now) place p.old) }
+#[tactic(auto, unfolding(crate::specs::Place::at_place))]
+pub fn print_break_statement(node: &BreakStatement, p: &mut Printing<'_>, place: Place)
+    ensures { Lays p.old p.new (at_place (break_statement_row node.now) place) }
 {
-    p.print_indentation()?;
+    p.print_indentation();
     print_jump::<_, Labels>("break", &node.label, p, place.child(Precedence::Lowest))
 }
 
 /// The labels that jumps name.
 struct Labels;
 
-#[tactic(auto, unfolding(crate::specs::Place::pen_after))]
+#[tactic(auto, unfolding(crate::specs::Place::at_place))]
 impl PrintMember<Box<LabelIdentifier>> for Labels {
     ghost plain = { λ b. label_identifier_row b.value };
 
-    fn print_member(
-        label: &Box<LabelIdentifier>,
-        p: &mut Printer<'_>,
-        place: Place,
-    ) -> Result<(), Memory> {
+    fn print_member(label: &Box<LabelIdentifier>, p: &mut Printing<'_>, place: Place) {
         print_label_identifier(label, p, place)
     }
 }
 
-#[tactic(auto, unfolding(crate::specs::Place::pen_after))]
+#[tactic(auto, unfolding(crate::specs::Place::at_place))]
 pub fn print_return_statement<N: PrintNode>(
     node: &ReturnStatement<N>,
-    p: &mut Printer<'_>,
+    p: &mut Printing<'_>,
     place: Place,
-) -> Result<(), Memory>
-    ensures { Reaches result (pen_of p.old) (pen_of p.new) (pen_after (return_statement_row N.plain node.now) place p.old) }
+)
+    ensures { Lays p.old p.new (at_place (return_statement_row N.plain node.now) place) }
 {
     let within = Place::in_brackets(Precedence::Lowest, place.settings);
-    p.print_indentation()?;
+    p.print_indentation();
     print_jump::<_, Expressions>("return", &node.argument, p, within)
 }
 
-#[tactic(auto, unfolding(crate::specs::Place::pen_after))]
+#[tactic(auto, unfolding(crate::specs::Place::at_place))]
 pub fn print_throw_statement<N: PrintNode>(
     node: &ThrowStatement<N>,
-    p: &mut Printer<'_>,
+    p: &mut Printing<'_>,
     place: Place,
-) -> Result<(), Memory>
-    ensures { Reaches result (pen_of p.old) (pen_of p.new) (pen_after (throw_statement_row N.plain node.now) place p.old) }
+)
+    ensures { Lays p.old p.new (at_place (throw_statement_row N.plain node.now) place) }
 {
     let within = Place::in_brackets(Precedence::Lowest, place.settings);
-    p.print_indentation()?;
-    print_behind_word::<_, Expressions>("throw", &node.argument, p, within)?;
+    p.print_indentation();
+    print_behind_word::<_, Expressions>("throw", &node.argument, p, within);
     p.print_statement_end()
 }
 
-#[tactic(auto, unfolding(crate::specs::Place::pen_after))]
-pub fn print_debugger_statement(
-    node: &DebuggerStatement,
-    p: &mut Printer<'_>,
-    place: Place,
-) -> Result<(), Memory>
-    ensures { Reaches result (pen_of p.old) (pen_of p.new) (pen_after (debugger_statement_row node.now) place p.old) }
+#[tactic(auto, unfolding(crate::specs::Place::at_place))]
+pub fn print_debugger_statement(node: &DebuggerStatement, p: &mut Printing<'_>, place: Place)
+    ensures { Lays p.old p.new (at_place (debugger_statement_row node.now) place) }
 {
     let _ = node;
     let _ = place;
-    p.print_indentation()?;
-    p.print_word("debugger")?;
+    p.print_indentation();
+    p.print_word("debugger");
     p.print_statement_end()
 }

@@ -32,19 +32,17 @@ ghost use Rattle.jsgen_tree.specs.Tree.{Tree, type_of};
 ghost use Rattle.std.specs.Str.{chars};
 ghost use Rattle.jsgen_tree.specs.Inside.{without_parentheses, ends_open, looked_up_in, named_by, written_name_in, is_negative};
 ghost use Rattle.jsgen_tree.specs.Plain.{node_plain};
-ghost use Rattle.jsgen_model.specs.Layout.{layout};
 ghost use Rattle.jsgen_model.specs.Spell.{spell_method, string_in, string_statement};
 ghost use Rattle.jsgen_model.specs.Quotes.{is_member_of, is_named};
-ghost use Rattle.jsgen_model.specs.Printing.{Reaches};
-ghost use Rattle.jsgen_printer.specs.Printer.{pen_of};
+ghost use Rattle.jsgen_steps.specs.Steps.{Lays};
 ghost use Rattle.jsgen_place.specs.Place.{place_of, operand_of};
 ghost use Rattle.jsgen_nodes.specs.Names.{is_binding_name};
-ghost use Rattle.jsgen_nodes.specs.Place.{pen_after};
+ghost use Rattle.jsgen_nodes.specs.Place.{at_place};
 
 use definitions::print_behind_name;
 use jsgen_place::{Context, Operand, Place, Settings, ends_open};
-use jsgen_printer::Printer;
-use jsgen_syntax::{JsStr, Memory};
+use jsgen_steps::Printing;
+use jsgen_syntax::JsStr;
 use jsgen_tree::{Declaration, Expression, IdentifierReference, Node, NodeType, Statement};
 use names::{is_binding_name, is_member, is_named};
 use operands::operand;
@@ -63,12 +61,12 @@ pub trait PrintNode {
     fn node_type(&self) -> NodeType
         ensures { result ≡ type_of (plain self.now) };
 
-    fn print(&self, p: &mut Printer<'_>, place: Place) -> Result<(), Memory>
-        ensures { Reaches result (pen_of p.old) (pen_of p.new) (pen_after (plain self.now) place p.old) };
+    fn print(&self, p: &mut Printing<'_>, place: Place)
+        ensures { Lays p.old p.new (at_place (plain self.now) place) };
 
     /// The function of a method or an accessor, behind its key. Nothing is printed of what is no function.
-    fn print_as_method(&self, p: &mut Printer<'_>, place: Place) -> Result<(), Memory>
-        ensures { Reaches result (pen_of p.old) (pen_of p.new) (layout (spell_method (plain self.now) (place_of place (pen_of p.old))) (pen_of p.old)) };
+    fn print_as_method(&self, p: &mut Printing<'_>, place: Place)
+        ensures { Lays p.old p.new (λ pen. spell_method (plain self.now) (place_of place pen)) };
 
     /// What matters of it as an operand.
     fn operand(&self) -> Operand
@@ -115,19 +113,14 @@ pub trait PrintNode {
 pub trait PrintAlone {
     ghost use Rattle.jsgen_model.specs.Items.{Items};
     ghost use Rattle.jsgen_model.specs.Spell as spells;
-    ghost use Rattle.jsgen_model.specs.Layout.{Start, layout};
+    ghost use Rattle.jsgen_model.specs.Layout.{Start};
     ghost use Rattle.jsgen_place.specs.Place.{settings_of, context_of};
 
     // Its items, where this begins with it.
     ghost alone: { Self → spells.Settings → spells.Context → Start → Items };
 
-    fn print_alone(
-        &self,
-        p: &mut Printer<'_>,
-        settings: Settings,
-        context: Context,
-    ) -> Result<(), Memory>
-        ensures { Reaches result (pen_of p.old) (pen_of p.new) (layout (alone self.now (settings_of settings) (context_of context) (pen_of p.old).start) (pen_of p.old)) };
+    fn print_alone(&self, p: &mut Printing<'_>, settings: Settings, context: Context)
+        ensures { Lays p.old p.new (λ pen. alone self.now (settings_of settings) (context_of context) pen.start) };
 }
 
 /// What is printed at a level, which decides whether parentheses stand round it.
@@ -136,8 +129,8 @@ pub trait PrintAtLevel {
 
     ghost plain: { Self → Tree };
 
-    fn print_at(&self, p: &mut Printer<'_>, place: Place) -> Result<(), Memory>
-        ensures { Reaches result (pen_of p.old) (pen_of p.new) (pen_after (plain self.now) place p.old) };
+    fn print_at(&self, p: &mut Printing<'_>, place: Place)
+        ensures { Lays p.old p.new (at_place (plain self.now) place) };
 }
 
 /// The knot: the one recursion.
@@ -149,7 +142,7 @@ impl PrintNode for Node {
     }
 
     #[cycle(node)]
-    fn print(&self, p: &mut Printer<'_>, place: Place) -> Result<(), Memory> {
+    fn print(&self, p: &mut Printing<'_>, place: Place) {
         match self {
             Node::Expression(node) => print_expression(node, p, place),
             Node::Statement(node) => print_statement(node, p, place),
@@ -159,21 +152,21 @@ impl PrintNode for Node {
     }
 
     #[cycle(node)]
-    fn print_as_method(&self, p: &mut Printer<'_>, place: Place) -> Result<(), Memory> {
+    fn print_as_method(&self, p: &mut Printing<'_>, place: Place) {
         match self {
             Node::Expression(expression) => match expression {
                 Expression::Function(function) => print_behind_name(function, p, place),
-                _ => Ok(()),
+                _ => {}
             },
             Node::Statement(statement) => match statement {
                 Statement::Declaration(declaration) => declaration.get().print_as_method(p, place),
-                _ => Ok(()),
+                _ => {}
             },
             Node::Declaration(declaration) => match declaration {
                 Declaration::Function(function) => print_behind_name(function, p, place),
-                _ => Ok(()),
+                _ => {}
             },
-            Node::BindingPattern(_) => Ok(()),
+            Node::BindingPattern(_) => {}
         }
     }
 

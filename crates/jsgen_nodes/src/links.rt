@@ -1,17 +1,15 @@
 // Members and calls (ECMA-262, 13.3), one function for each row.
-ghost use Rattle.std.specs.Prelude.{◌≡◌, map};
+ghost use Rattle.std.specs.Prelude.{map};
 ghost use Rattle.jsgen_syntax.specs.declared.precedence.Precedence.TheVariants.{Lowest, Comma};
 ghost use Rattle.jsgen_tree.specs.Tree.{trees};
-ghost use Rattle.jsgen_tree.specs.Rows.{identifier_name_row, static_member_expression_row, computed_member_expression_row, call_expression_row, chain_expression_row, spread_element_row, in_argument, in_chain_element, in_expression};
+ghost use Rattle.jsgen_tree.specs.Rows.{identifier_name_row, static_member_expression_row, computed_member_expression_row, call_expression_row, chain_expression_row, in_argument, in_chain_element, in_expression};
 ghost use Rattle.jsgen_model.specs.Punctuator.{Round, Square};
 ghost use Rattle.jsgen_model.specs.Items.{◌⊕◌, brackets};
-ghost use Rattle.jsgen_model.specs.Layout.{layout};
 ghost use Rattle.jsgen_model.specs.Spell.{spell, spell_arguments, called, in_brackets, bracket_link, quoted_plainly};
 ghost use Rattle.jsgen_model.specs.Quotes.{is_require_call, is_definition_call};
-ghost use Rattle.jsgen_model.specs.Printing.{Reaches};
-ghost use Rattle.jsgen_printer.specs.Printer.{pen_of};
+ghost use Rattle.jsgen_steps.specs.Steps.{Lays};
 ghost use Rattle.jsgen_place.specs.Place.{place_of};
-ghost use Rattle.jsgen_nodes.specs.Place.{pen_after};
+ghost use Rattle.jsgen_nodes.specs.Place.{at_place};
 
 use crate::PrintNode;
 use crate::collections::print_spread_element;
@@ -19,125 +17,111 @@ use crate::quotes::plain_quotes;
 use crate::sequences::Expressions;
 use jsgen_lists::{PrintMember, print_arguments, print_bracket_link, print_named_member};
 use jsgen_place::Place;
-use jsgen_printer::{Bracket, Printer};
-use jsgen_syntax::{Memory, Precedence};
+use jsgen_printer::Bracket;
+use jsgen_steps::Printing;
+use jsgen_syntax::Precedence;
 use jsgen_tree::{
     Argument, CallExpression, ChainElement, ChainExpression, ComputedMemberExpression,
     IdentifierName, StaticMemberExpression,
 };
 
-#[tactic(auto, unfolding(crate::specs::Place::pen_after))]
-pub fn print_identifier_name(
-    node: &IdentifierName,
-    p: &mut Printer<'_>,
-    place: Place,
-) -> Result<(), Memory>
-    ensures { Reaches result (pen_of p.old) (pen_of p.new) (pen_after (identifier_name_row node.now) place p.old) }
+#[tactic(auto, unfolding(crate::specs::Place::at_place))]
+pub fn print_identifier_name(node: &IdentifierName, p: &mut Printing<'_>, place: Place)
+    ensures { Lays p.old p.new (at_place (identifier_name_row node.now) place) }
 {
     let _ = place;
     p.print_name(node.name.as_str())
 }
 
-#[tactic(auto, unfolding(crate::specs::Place::pen_after))]
+#[tactic(auto, unfolding(crate::specs::Place::at_place))]
 pub fn print_static_member_expression<N: PrintNode>(
     node: &StaticMemberExpression<N>,
-    p: &mut Printer<'_>,
+    p: &mut Printing<'_>,
     place: Place,
-) -> Result<(), Memory>
-    ensures { Reaches result (pen_of p.old) (pen_of p.new) (pen_after (static_member_expression_row N.plain node.now) place p.old) }
+)
+    ensures { Lays p.old p.new (at_place (static_member_expression_row N.plain node.now) place) }
 {
     let object = place.child(Precedence::Postfix);
     print_named_member::<_, Expressions>(&node.object, node.optional, &node.property, p, object)
 }
 
-#[tactic(auto, unfolding(crate::specs::Place::pen_after))]
+#[tactic(auto, unfolding(crate::specs::Place::at_place))]
 pub fn print_computed_member_expression<N: PrintNode>(
     node: &ComputedMemberExpression<N>,
-    p: &mut Printer<'_>,
+    p: &mut Printing<'_>,
     place: Place,
-) -> Result<(), Memory>
-    ensures { Reaches result (pen_of p.old) (pen_of p.new) (pen_after (computed_member_expression_row N.plain node.now) place p.old) }
+)
+    ensures { Lays p.old p.new (at_place (computed_member_expression_row N.plain node.now) place) }
 {
-    node.object
-        .get()
-        .print(p, place.child(Precedence::Postfix))?;
+    node.object.get().print(p, place.child(Precedence::Postfix));
     print_computed_name(node, p, place)
 }
 
 // Behind the object.
-#[tactic(auto, unfolding(crate::specs::Place::pen_after))]
+#[tactic(auto, unfolding(crate::specs::Place::at_place))]
 fn print_computed_name<N: PrintNode>(
     node: &ComputedMemberExpression<N>,
-    p: &mut Printer<'_>,
+    p: &mut Printing<'_>,
     place: Place,
-) -> Result<(), Memory>
-    ensures { Reaches result (pen_of p.old) (pen_of p.new) (layout (bracket_link node.now.optional
-        ⊕ brackets Square (spell (in_expression N.plain node.now.expression) (quoted_plainly place.plain_quotes (in_brackets Lowest (place_of place (pen_of p.old)))))) (pen_of p.old)) }
+)
+    ensures { Lays p.old p.new (λ pen. bracket_link node.now.optional
+        ⊕ brackets Square (spell (in_expression N.plain node.now.expression) (quoted_plainly place.plain_quotes (in_brackets Lowest (place_of place pen))))) }
 {
-    print_bracket_link(node.optional, p)?;
-    p.print_opening(Bracket::Square)?;
+    print_bracket_link(node.optional, p);
+    p.print_opening(Bracket::Square);
     let within = Place::in_brackets(Precedence::Lowest, place.settings);
     node.expression
         .get()
-        .print(p, within.quoted_plainly(place.plain_quotes))?;
+        .print(p, within.quoted_plainly(place.plain_quotes));
     p.print_closing(Bracket::Square)
 }
 
-#[tactic(auto, unfolding(crate::specs::Place::pen_after))]
+#[tactic(auto, unfolding(crate::specs::Place::at_place))]
 pub fn print_call_expression<N: PrintNode>(
     node: &CallExpression<N>,
-    p: &mut Printer<'_>,
+    p: &mut Printing<'_>,
     place: Place,
-) -> Result<(), Memory>
-    ensures { Reaches result (pen_of p.old) (pen_of p.new) (pen_after (call_expression_row N.plain node.now) place p.old) }
+)
+    ensures { Lays p.old p.new (at_place (call_expression_row N.plain node.now) place) }
 {
     let wrap = place.wraps_call();
-    p.print_opening_if(wrap)?;
-    print_call(node, p, place.within(wrap))?;
+    p.print_opening_if(wrap);
+    print_call(node, p, place.within(wrap));
     p.print_closing_if(wrap)
 }
 
 // What is called and what it is given, within the parentheses.
-#[tactic(auto, unfolding(crate::specs::Place::pen_after))]
-fn print_call<N: PrintNode>(
-    node: &CallExpression<N>,
-    p: &mut Printer<'_>,
-    place: Place,
-) -> Result<(), Memory>
-    ensures { Reaches result (pen_of p.old) (pen_of p.new) (layout (spell (in_expression N.plain node.now.callee) (called (place_of place (pen_of p.old)))
+#[tactic(auto, unfolding(crate::specs::Place::at_place))]
+fn print_call<N: PrintNode>(node: &CallExpression<N>, p: &mut Printing<'_>, place: Place)
+    ensures { Lays p.old p.new (λ pen. spell (in_expression N.plain node.now.callee) (called (place_of place pen))
         ⊕ (bracket_link node.now.optional ⊕ brackets Round (spell_arguments
         (is_require_call place.settings.minified (in_expression N.plain node.now.callee) (trees (map (in_argument N.plain) node.now.arguments.items)))
         (is_definition_call place.settings.minified (in_expression N.plain node.now.callee) (trees (map (in_argument N.plain) node.now.arguments.items)))
-        (trees (map (in_argument N.plain) node.now.arguments.items)) (in_brackets Comma (place_of place (pen_of p.old))))))
-        (pen_of p.old)) }
+        (trees (map (in_argument N.plain) node.now.arguments.items)) (in_brackets Comma (place_of place pen))))) }
 {
-    node.callee.get().print(p, place.called())?;
-    print_bracket_link(node.optional, p)?;
+    node.callee.get().print(p, place.called());
+    print_bracket_link(node.optional, p);
     let within = Place::in_brackets(Precedence::Comma, place.settings);
     let quotes = plain_quotes(place.settings.minified, node);
     print_arguments::<_, Arguments>(quotes, &node.arguments, p, within)
 }
 
-#[tactic(auto, unfolding(crate::specs::Place::pen_after))]
+#[tactic(auto, unfolding(crate::specs::Place::at_place))]
 pub fn print_chain_expression<N: PrintNode>(
     node: &ChainExpression<N>,
-    p: &mut Printer<'_>,
+    p: &mut Printing<'_>,
     place: Place,
-) -> Result<(), Memory>
-    ensures { Reaches result (pen_of p.old) (pen_of p.new) (pen_after (chain_expression_row N.plain node.now) place p.old) }
+)
+    ensures { Lays p.old p.new (at_place (chain_expression_row N.plain node.now) place) }
 {
     let wrap = place.wraps_chain();
-    p.print_opening_if(wrap)?;
-    print_chain_element(&node.expression, p, place.chain(wrap))?;
+    p.print_opening_if(wrap);
+    print_chain_element(&node.expression, p, place.chain(wrap));
     p.print_closing_if(wrap)
 }
 
-fn print_chain_element<N: PrintNode>(
-    node: &ChainElement<N>,
-    p: &mut Printer<'_>,
-    place: Place,
-) -> Result<(), Memory>
-    ensures { Reaches result (pen_of p.old) (pen_of p.new) (pen_after (in_chain_element N.plain node.now) place p.old) }
+fn print_chain_element<N: PrintNode>(node: &ChainElement<N>, p: &mut Printing<'_>, place: Place)
+    ensures { Lays p.old p.new (at_place (in_chain_element N.plain node.now) place) }
 {
     match node {
         ChainElement::StaticMemberExpression(node) => print_static_member_expression(
@@ -153,15 +137,11 @@ fn print_chain_element<N: PrintNode>(
 /// What a call or a constructor is given.
 pub struct Arguments;
 
-#[tactic(auto, unfolding(crate::specs::Place::pen_after))]
+#[tactic(auto, unfolding(crate::specs::Place::at_place))]
 impl<N: PrintNode> PrintMember<Argument<N>> for Arguments {
     ghost plain = { in_argument N.plain };
 
-    fn print_member(
-        argument: &Argument<N>,
-        p: &mut Printer<'_>,
-        place: Place,
-    ) -> Result<(), Memory> {
+    fn print_member(argument: &Argument<N>, p: &mut Printing<'_>, place: Place) {
         match argument {
             Argument::SpreadElement(node) => print_spread_element(node, p, place),
             Argument::Expression(expression) => expression.get().print(p, place),

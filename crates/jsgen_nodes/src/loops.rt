@@ -1,17 +1,15 @@
 // Loops (ECMA-262, 14.7), one function for each row.
-ghost use Rattle.std.specs.Prelude.{◌≡◌, option_map, codes};
+ghost use Rattle.std.specs.Prelude.{option_map, codes};
 ghost use Rattle.jsgen_syntax.specs.declared.precedence.Precedence.TheVariants.{Lowest};
 ghost use Rattle.jsgen_tree.specs.Tree.{optional};
 ghost use Rattle.jsgen_tree.specs.Rows.{for_statement_row, while_statement_row, do_while_statement_row, in_for_statement_init, in_expression};
 ghost use Rattle.jsgen_model.specs.Punctuator.{Round};
 ghost use Rattle.jsgen_model.specs.Items.{◌⊕◌, word, brackets, soft_space, statement_end};
-ghost use Rattle.jsgen_model.specs.Layout.{layout};
 ghost use Rattle.jsgen_model.specs.Spell.{spell, in_brackets, loop_head, among_statements};
-ghost use Rattle.jsgen_model.specs.Printing.{Reaches};
-ghost use Rattle.jsgen_printer.specs.Printer.{pen_of};
+ghost use Rattle.jsgen_steps.specs.Steps.{Lays};
 ghost use Rattle.jsgen_place.specs.Place.{settings_of};
 ghost use Rattle.jsgen_lists.specs.Lists.{loop_parts};
-ghost use Rattle.jsgen_nodes.specs.Place.{pen_after};
+ghost use Rattle.jsgen_nodes.specs.Place.{at_place};
 
 use crate::PrintNode;
 use crate::bodies::{print_body, print_do_body};
@@ -19,39 +17,31 @@ use crate::sequences::Expressions;
 use crate::statements::print_variable_declaration;
 use jsgen_lists::{PrintMember, print_head, print_loop_parts};
 use jsgen_place::{Place, Settings};
-use jsgen_printer::Printer;
-use jsgen_syntax::{Memory, Precedence};
+use jsgen_steps::Printing;
+use jsgen_syntax::Precedence;
 use jsgen_tree::{
     DoWhileStatement, ExpressionNode, ForStatement, ForStatementInit, WhileStatement,
 };
 
-#[tactic(auto, unfolding(crate::specs::Place::pen_after))]
-pub fn print_for_statement<N: PrintNode>(
-    node: &ForStatement<N>,
-    p: &mut Printer<'_>,
-    place: Place,
-) -> Result<(), Memory>
-    ensures { Reaches result (pen_of p.old) (pen_of p.new) (pen_after (for_statement_row N.plain node.now) place p.old) }
+#[tactic(auto, unfolding(crate::specs::Place::at_place))]
+pub fn print_for_statement<N: PrintNode>(node: &ForStatement<N>, p: &mut Printing<'_>, place: Place)
+    ensures { Lays p.old p.new (at_place (for_statement_row N.plain node.now) place) }
 {
-    p.print_indentation()?;
-    print_for_head(node, p, place.settings)?;
+    p.print_indentation();
+    print_for_head(node, p, place.settings);
     print_body(node.body.get(), p, place.settings)
 }
 
 // The word and what stands in the parentheses behind it.
-#[tactic(auto, unfolding(crate::specs::Place::pen_after))]
-fn print_for_head<N: PrintNode>(
-    node: &ForStatement<N>,
-    p: &mut Printer<'_>,
-    settings: Settings,
-) -> Result<(), Memory>
-    ensures { Reaches result (pen_of p.old) (pen_of p.new) (layout (word (codes "for") ⊕ (soft_space ⊕ brackets Round (loop_parts (optional (option_map (in_for_statement_init N.plain) node.now.init))
+#[tactic(auto, unfolding(crate::specs::Place::at_place))]
+fn print_for_head<N: PrintNode>(node: &ForStatement<N>, p: &mut Printing<'_>, settings: Settings)
+    ensures { Lays p.old p.new (λ _. word (codes "for") ⊕ (soft_space ⊕ brackets Round (loop_parts (optional (option_map (in_for_statement_init N.plain) node.now.init))
         (optional (option_map (in_expression N.plain) node.now.test)) (optional (option_map (in_expression N.plain) node.now.update))
-        (loop_head (among_statements (settings_of settings))) (in_brackets Lowest (among_statements (settings_of settings)))))) (pen_of p.old)) }
+        (loop_head (among_statements (settings_of settings))) (in_brackets Lowest (among_statements (settings_of settings)))))) }
 {
     let first = Place::loop_head(settings);
     let within = Place::in_brackets(Precedence::Lowest, settings);
-    print_for(p)?;
+    print_for(p);
     print_loop_parts::<_, _, Inits, Expressions>(
         &node.init,
         &node.test,
@@ -63,25 +53,21 @@ fn print_for_head<N: PrintNode>(
 }
 
 /// The word that begins a loop, and the space behind it.
-pub fn print_for(p: &mut Printer<'_>) -> Result<(), Memory>
-    ensures { Reaches result (pen_of p.old) (pen_of p.new) (layout (word (codes "for") ⊕ soft_space) (pen_of p.old)) }
+pub fn print_for(p: &mut Printing<'_>)
+    ensures { Lays p.old p.new (λ _. word (codes "for") ⊕ soft_space) }
 {
-    p.print_word("for")?;
+    p.print_word("for");
     p.print_soft_space()
 }
 
 /// What is done before a loop.
 struct Inits;
 
-#[tactic(auto, unfolding(crate::specs::Place::pen_after))]
+#[tactic(auto, unfolding(crate::specs::Place::at_place))]
 impl<N: PrintNode> PrintMember<ForStatementInit<N>> for Inits {
     ghost plain = { in_for_statement_init N.plain };
 
-    fn print_member(
-        init: &ForStatementInit<N>,
-        p: &mut Printer<'_>,
-        place: Place,
-    ) -> Result<(), Memory> {
+    fn print_member(init: &ForStatementInit<N>, p: &mut Printing<'_>, place: Place) {
         match init {
             ForStatementInit::VariableDeclaration(node) => print_variable_declaration(
                 node, p, place,
@@ -91,44 +77,40 @@ impl<N: PrintNode> PrintMember<ForStatementInit<N>> for Inits {
     }
 }
 
-#[tactic(auto, unfolding(crate::specs::Place::pen_after))]
+#[tactic(auto, unfolding(crate::specs::Place::at_place))]
 pub fn print_while_statement<N: PrintNode>(
     node: &WhileStatement<N>,
-    p: &mut Printer<'_>,
+    p: &mut Printing<'_>,
     place: Place,
-) -> Result<(), Memory>
-    ensures { Reaches result (pen_of p.old) (pen_of p.new) (pen_after (while_statement_row N.plain node.now) place p.old) }
+)
+    ensures { Lays p.old p.new (at_place (while_statement_row N.plain node.now) place) }
 {
     let within = Place::in_brackets(Precedence::Lowest, place.settings);
-    p.print_indentation()?;
-    print_head::<_, Expressions>("while", &node.test, p, within)?;
+    p.print_indentation();
+    print_head::<_, Expressions>("while", &node.test, p, within);
     print_body(node.body.get(), p, place.settings)
 }
 
-#[tactic(auto, unfolding(crate::specs::Place::pen_after))]
+#[tactic(auto, unfolding(crate::specs::Place::at_place))]
 pub fn print_do_while_statement<N: PrintNode>(
     node: &DoWhileStatement<N>,
-    p: &mut Printer<'_>,
+    p: &mut Printing<'_>,
     place: Place,
-) -> Result<(), Memory>
-    ensures { Reaches result (pen_of p.old) (pen_of p.new) (pen_after (do_while_statement_row N.plain node.now) place p.old) }
+)
+    ensures { Lays p.old p.new (at_place (do_while_statement_row N.plain node.now) place) }
 {
-    p.print_indentation()?;
-    p.print_word("do")?;
-    print_do_body(&node.body, p, place.settings)?;
+    p.print_indentation();
+    p.print_word("do");
+    print_do_body(&node.body, p, place.settings);
     print_behind_do(&node.test, p, place.settings)
 }
 
 // The test, and the end of the statement.
-#[tactic(auto, unfolding(crate::specs::Place::pen_after))]
-fn print_behind_do<N: PrintNode>(
-    test: &ExpressionNode<N>,
-    p: &mut Printer<'_>,
-    settings: Settings,
-) -> Result<(), Memory>
-    ensures { Reaches result (pen_of p.old) (pen_of p.new) (layout (word (codes "while") ⊕ (soft_space ⊕ (brackets Round (spell (in_expression N.plain test.now) (in_brackets Lowest (among_statements (settings_of settings)))) ⊕ statement_end))) (pen_of p.old)) }
+#[tactic(auto, unfolding(crate::specs::Place::at_place))]
+fn print_behind_do<N: PrintNode>(test: &ExpressionNode<N>, p: &mut Printing<'_>, settings: Settings)
+    ensures { Lays p.old p.new (λ _. word (codes "while") ⊕ (soft_space ⊕ (brackets Round (spell (in_expression N.plain test.now) (in_brackets Lowest (among_statements (settings_of settings)))) ⊕ statement_end))) }
 {
     let within = Place::in_brackets(Precedence::Lowest, settings);
-    print_head::<_, Expressions>("while", test, p, within)?;
+    print_head::<_, Expressions>("while", test, p, within);
     p.print_statement_end()
 }

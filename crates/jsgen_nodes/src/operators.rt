@@ -4,141 +4,126 @@ ghost use Rattle.jsgen_syntax.specs.declared.precedence.Precedence.TheVariants.{
 ghost use Rattle.jsgen_tree.specs.Tree.{trees};
 ghost use Rattle.jsgen_tree.specs.Rows.{unary_expression_row, update_expression_row, in_simple_assignment_target, new_expression_row, super_row, new_target_row, in_argument, in_expression};
 ghost use Rattle.jsgen_model.specs.Items.{◌⊕◌, word, soft_space};
-ghost use Rattle.jsgen_model.specs.Layout.{layout};
 ghost use Rattle.jsgen_model.specs.Spell.{spell, spell_list, behind, in_brackets, constructed, any_given, needs_arguments, new_arguments};
 ghost use Rattle.jsgen_model.specs.Operators.{unary_sign, behind_unary};
-ghost use Rattle.jsgen_model.specs.Printing.{Reaches};
-ghost use Rattle.jsgen_printer.specs.Printer.{pen_of};
+ghost use Rattle.jsgen_steps.specs.Steps.{Lays};
 ghost use Rattle.jsgen_place.specs.Place.{place_of};
-ghost use Rattle.jsgen_nodes.specs.Place.{pen_after};
+ghost use Rattle.jsgen_nodes.specs.Place.{at_place};
 
 use crate::PrintNode;
 use crate::links::Arguments;
 use crate::sets::print_simple_assignment_target;
 use jsgen_lists::{PrintMember, print_in_brackets, print_update};
 use jsgen_place::{Place, update_level};
-use jsgen_printer::{Bracket, Printer};
-use jsgen_syntax::{Memory, Precedence};
+use jsgen_printer::Bracket;
+use jsgen_steps::Printing;
+use jsgen_syntax::Precedence;
 use jsgen_tree::{
     Argument, NewExpression, NewTarget, SimpleAssignmentTarget, Super, UnaryExpression,
     UpdateExpression,
 };
 
-#[tactic(auto, unfolding(crate::specs::Place::pen_after))]
+#[tactic(auto, unfolding(crate::specs::Place::at_place))]
 pub fn print_unary_expression<N: PrintNode>(
     node: &UnaryExpression<N>,
-    p: &mut Printer<'_>,
+    p: &mut Printing<'_>,
     place: Place,
-) -> Result<(), Memory>
-    ensures { Reaches result (pen_of p.old) (pen_of p.new) (pen_after (unary_expression_row N.plain node.now) place p.old) }
+)
+    ensures { Lays p.old p.new (at_place (unary_expression_row N.plain node.now) place) }
 {
     let wrap = place.wraps(Precedence::Prefix);
-    p.print_opening_if(wrap)?;
-    print_unary_operation(node, p, place.within(wrap))?;
+    p.print_opening_if(wrap);
+    print_unary_operation(node, p, place.within(wrap));
     p.print_closing_if(wrap)
 }
 
 // The operator and its operand, within the parentheses.
-#[tactic(auto, unfolding(crate::specs::Place::pen_after))]
+#[tactic(auto, unfolding(crate::specs::Place::at_place))]
 fn print_unary_operation<N: PrintNode>(
     node: &UnaryExpression<N>,
-    p: &mut Printer<'_>,
+    p: &mut Printing<'_>,
     place: Place,
-) -> Result<(), Memory>
-    ensures { Reaches result (pen_of p.old) (pen_of p.new) (layout (unary_sign node.now.operator ⊕ (behind_unary node.now.operator
-        ⊕ spell (in_expression N.plain node.now.argument) (behind Exponentiation (place_of place (pen_of p.old))))) (pen_of p.old)) }
+)
+    ensures { Lays p.old p.new (λ pen. unary_sign node.now.operator ⊕ (behind_unary node.now.operator
+        ⊕ spell (in_expression N.plain node.now.argument) (behind Exponentiation (place_of place pen)))) }
 {
-    p.print_unary_operator(node.operator)?;
-    p.print_behind_unary(node.operator)?;
+    p.print_unary_operator(node.operator);
+    p.print_behind_unary(node.operator);
     node.argument
         .get()
         .print(p, place.child(Precedence::Exponentiation))
 }
 
-#[tactic(auto, unfolding(crate::specs::Place::pen_after))]
+#[tactic(auto, unfolding(crate::specs::Place::at_place))]
 pub fn print_update_expression<N: PrintNode>(
     node: &UpdateExpression<N>,
-    p: &mut Printer<'_>,
+    p: &mut Printing<'_>,
     place: Place,
-) -> Result<(), Memory>
-    ensures { Reaches result (pen_of p.old) (pen_of p.new) (pen_after (update_expression_row N.plain node.now) place p.old) }
+)
+    ensures { Lays p.old p.new (at_place (update_expression_row N.plain node.now) place) }
 {
     let level = update_level(node.prefix);
     let wrap = place.wraps(level);
-    p.print_opening_if(wrap)?;
+    p.print_opening_if(wrap);
     print_update::<SimpleAssignmentTarget<N>, Targets>(
         node.prefix,
         node.operator,
         &node.argument,
         p,
         place.within(wrap),
-    )?;
+    );
     p.print_closing_if(wrap)
 }
 
 /// What `++` and `--` change.
 pub struct Targets;
 
-#[tactic(auto, unfolding(crate::specs::Place::pen_after))]
+#[tactic(auto, unfolding(crate::specs::Place::at_place))]
 impl<N: PrintNode> PrintMember<SimpleAssignmentTarget<N>> for Targets {
     ghost plain = { in_simple_assignment_target N.plain };
 
-    fn print_member(
-        member: &SimpleAssignmentTarget<N>,
-        p: &mut Printer<'_>,
-        place: Place,
-    ) -> Result<(), Memory> {
+    fn print_member(member: &SimpleAssignmentTarget<N>, p: &mut Printing<'_>, place: Place) {
         print_simple_assignment_target(member, p, place)
     }
 }
 
-#[tactic(auto, unfolding(crate::specs::Place::pen_after))]
+#[tactic(auto, unfolding(crate::specs::Place::at_place))]
 pub fn print_new_expression<N: PrintNode>(
     node: &NewExpression<N>,
-    p: &mut Printer<'_>,
+    p: &mut Printing<'_>,
     place: Place,
-) -> Result<(), Memory>
-    ensures { Reaches result (pen_of p.old) (pen_of p.new) (pen_after (new_expression_row N.plain node.now) place p.old) }
+)
+    ensures { Lays p.old p.new (at_place (new_expression_row N.plain node.now) place) }
 {
     let wrap = place.wraps(Precedence::New);
-    p.print_opening_if(wrap)?;
-    print_construction(node, p, place.within(wrap))?;
+    p.print_opening_if(wrap);
+    print_construction(node, p, place.within(wrap));
     p.print_closing_if(wrap)
 }
 
 // `new`, what it stands before and what that is given, within the parentheses.
-#[tactic(auto, unfolding(crate::specs::Place::pen_after))]
-fn print_construction<N: PrintNode>(
-    node: &NewExpression<N>,
-    p: &mut Printer<'_>,
-    place: Place,
-) -> Result<(), Memory>
-    ensures { Reaches result (pen_of p.old) (pen_of p.new) (layout (word (codes "new") ⊕ (soft_space
-        ⊕ (spell (in_expression N.plain node.now.callee) (constructed (place_of place (pen_of p.old)))
-        ⊕ new_arguments (needs_arguments (place_of place (pen_of p.old)) (any_given (trees (map (in_argument N.plain) node.now.arguments.items))))
-        (spell_list (trees (map (in_argument N.plain) node.now.arguments.items)) (in_brackets Comma (place_of place (pen_of p.old))))))) (pen_of p.old)) }
+#[tactic(auto, unfolding(crate::specs::Place::at_place))]
+fn print_construction<N: PrintNode>(node: &NewExpression<N>, p: &mut Printing<'_>, place: Place)
+    ensures { Lays p.old p.new (λ pen. word (codes "new") ⊕ (soft_space
+        ⊕ (spell (in_expression N.plain node.now.callee) (constructed (place_of place pen))
+        ⊕ new_arguments (needs_arguments (place_of place pen) (any_given (trees (map (in_argument N.plain) node.now.arguments.items))))
+        (spell_list (trees (map (in_argument N.plain) node.now.arguments.items)) (in_brackets Comma (place_of place pen)))))) }
 {
-    p.print_word("new")?;
-    p.print_soft_space()?;
-    node.callee.get().print(p, place.constructed())?;
+    p.print_word("new");
+    p.print_soft_space();
+    node.callee.get().print(p, place.constructed());
     print_new_arguments(&node.arguments, p, place)
 }
 
 // What a constructor is given: in minified text nothing may stand for nothing.
-#[tactic(auto, unfolding(crate::specs::Place::pen_after))]
-fn print_new_arguments<N: PrintNode>(
-    arguments: &[Argument<N>],
-    p: &mut Printer<'_>,
-    place: Place,
-) -> Result<(), Memory>
-    ensures { Reaches result (pen_of p.old) (pen_of p.new) (layout (new_arguments (needs_arguments (place_of place (pen_of p.old)) (any_given (trees (map (in_argument N.plain) arguments.now))))
-        (spell_list (trees (map (in_argument N.plain) arguments.now)) (in_brackets Comma (place_of place (pen_of p.old))))) (pen_of p.old)) }
+#[tactic(auto, unfolding(crate::specs::Place::at_place))]
+fn print_new_arguments<N: PrintNode>(arguments: &[Argument<N>], p: &mut Printing<'_>, place: Place)
+    ensures { Lays p.old p.new (λ pen. new_arguments (needs_arguments (place_of place pen) (any_given (trees (map (in_argument N.plain) arguments.now))))
+        (spell_list (trees (map (in_argument N.plain) arguments.now)) (in_brackets Comma (place_of place pen)))) }
 {
     if place.needs_arguments(is_given(arguments)) {
         let within = Place::in_brackets(Precedence::Comma, place.settings);
         print_in_brackets::<_, Arguments>(Bracket::Round, arguments, p, within)
-    } else {
-        Ok(())
     }
 }
 
@@ -148,22 +133,22 @@ fn is_given<N: PrintNode>(arguments: &[Argument<N>]) -> bool
     !arguments.is_empty()
 }
 
-#[tactic(auto, unfolding(crate::specs::Place::pen_after))]
-pub fn print_super(node: &Super, p: &mut Printer<'_>, place: Place) -> Result<(), Memory>
-    ensures { Reaches result (pen_of p.old) (pen_of p.new) (pen_after (super_row node.now) place p.old) }
+#[tactic(auto, unfolding(crate::specs::Place::at_place))]
+pub fn print_super(node: &Super, p: &mut Printing<'_>, place: Place)
+    ensures { Lays p.old p.new (at_place (super_row node.now) place) }
 {
     let _ = node;
     let _ = place;
     p.print_word("super")
 }
 
-#[tactic(auto, unfolding(crate::specs::Place::pen_after))]
-pub fn print_new_target(node: &NewTarget, p: &mut Printer<'_>, place: Place) -> Result<(), Memory>
-    ensures { Reaches result (pen_of p.old) (pen_of p.new) (pen_after (new_target_row node.now) place p.old) }
+#[tactic(auto, unfolding(crate::specs::Place::at_place))]
+pub fn print_new_target(node: &NewTarget, p: &mut Printing<'_>, place: Place)
+    ensures { Lays p.old p.new (at_place (new_target_row node.now) place) }
 {
     let _ = node;
     let _ = place;
-    p.print_word("new")?;
-    p.print_member_dot()?;
+    p.print_word("new");
+    p.print_member_dot();
     p.print_word("target")
 }

@@ -4,12 +4,10 @@ ghost use Rattle.jsgen_syntax.specs.Units.{js_units};
 ghost use Rattle.jsgen_tree.specs.Tree.{trees};
 ghost use Rattle.jsgen_tree.specs.Inside.{without_parentheses};
 ghost use Rattle.jsgen_tree.specs.Rows.{in_argument, in_expression, in_assignment_target, expression_plain, computed_member_expression_row};
-ghost use Rattle.jsgen_model.specs.Layout.{layout};
 ghost use Rattle.jsgen_tree.specs.Plain.{node_plain};
 ghost use Rattle.jsgen_model.specs.Quotes.{is_string, is_one_string, has_second_string, defines_property, is_exports, is_key_of_exports, is_require_call, is_definition_call, is_export_target, is_export_mark};
 ghost use Rattle.jsgen_model.specs.Spell.{string_in};
-ghost use Rattle.jsgen_model.specs.Printing.{Reaches};
-ghost use Rattle.jsgen_printer.specs.Printer.{pen_of};
+ghost use Rattle.jsgen_steps.specs.Steps.{Lays, pen_at};
 ghost use Rattle.jsgen_place.specs.Place.{context_of};
 ghost use Rattle.jsgen_nodes.specs.Quotes.{where_it_holds, plain_arguments, plain_target, plain_string};
 
@@ -22,7 +20,7 @@ use jsgen_lists::{PlainQuotes, print_arguments};
 use jsgen_place::{
     Context, Place, Settings, is_definition_call, is_export_mark, is_export_target, is_require_call,
 };
-use jsgen_printer::Printer;
+use jsgen_steps::Printing;
 use jsgen_syntax::{BinaryOperator, JsStr, Memory, Precedence};
 use jsgen_tree::{
     Argument, AssignmentTarget, CallExpression, ComputedMemberExpression, Expression,
@@ -140,102 +138,95 @@ pub fn is_mark<N: PrintNode>(minified: bool, operator: BinaryOperator, operand: 
 // ---- the calls
 
 /// Prints the arguments of `require("x")`, if the call is that and the text minified; otherwise prints nothing.
-pub fn try_print_require_call<N: PrintNode>(
-    p: &mut Printer<'_>,
-    call: &CallExpression<N>,
-) -> Result<bool, Memory>
-    ensures applies { IfOk result (λ applies. applies ≡ is_require_call (pen_of p.old).style.minified (in_expression N.plain call.now.callee) (trees (map (in_argument N.plain) call.now.arguments.items))) }
-    ensures text { Reaches result (pen_of p.old) (pen_of p.new)
-        (layout (where_it_holds (is_require_call (pen_of p.old).style.minified (in_expression N.plain call.now.callee) (trees (map (in_argument N.plain) call.now.arguments.items)))
-        (plain_arguments true false (trees (map (in_argument N.plain) call.now.arguments.items)))) (pen_of p.old)) }
+pub fn try_print_require_call<N: PrintNode>(p: &mut Printing<'_>, call: &CallExpression<N>) -> bool
+    ensures applies { result ≡ is_require_call (pen_at p.old).style.minified (in_expression N.plain call.now.callee) (trees (map (in_argument N.plain) call.now.arguments.items)) }
+    ensures text { Lays p.old p.new (λ pen. where_it_holds (is_require_call pen.style.minified (in_expression N.plain call.now.callee) (trees (map (in_argument N.plain) call.now.arguments.items)))
+        (plain_arguments true false (trees (map (in_argument N.plain) call.now.arguments.items)))) }
 {
     if is_require(p.is_minified(), call) {
-        print_plain_arguments(PlainQuotes::FIRST, p, call)?;
-        Ok(true)
+        print_plain_arguments(PlainQuotes::FIRST, p, call);
+        true
     } else {
-        Ok(false)
+        false
     }
 }
 
 /// Prints the arguments of `Object.defineProperty(x, "y", ..)` or `Reflect.defineProperty(x, "y", ..)`, if the call is one of
 /// these and the text minified; otherwise prints nothing. In arguments nothing is forbidden, whatever the context.
 pub fn try_print_define_property_call<N: PrintNode>(
-    p: &mut Printer<'_>,
+    p: &mut Printing<'_>,
     call: &CallExpression<N>,
     context: Context,
-) -> Result<bool, Memory>
-    ensures applies { IfOk result (λ applies. applies ≡ is_definition_call (pen_of p.old).style.minified (in_expression N.plain call.now.callee) (trees (map (in_argument N.plain) call.now.arguments.items))) }
-    ensures text { Reaches result (pen_of p.old) (pen_of p.new)
-        (layout (where_it_holds (is_definition_call (pen_of p.old).style.minified (in_expression N.plain call.now.callee) (trees (map (in_argument N.plain) call.now.arguments.items)))
-        (plain_arguments false true (trees (map (in_argument N.plain) call.now.arguments.items)))) (pen_of p.old)) }
+) -> bool
+    ensures applies { result ≡ is_definition_call (pen_at p.old).style.minified (in_expression N.plain call.now.callee) (trees (map (in_argument N.plain) call.now.arguments.items)) }
+    ensures text { Lays p.old p.new (λ pen. where_it_holds (is_definition_call pen.style.minified (in_expression N.plain call.now.callee) (trees (map (in_argument N.plain) call.now.arguments.items)))
+        (plain_arguments false true (trees (map (in_argument N.plain) call.now.arguments.items)))) }
 {
     let _ = context;
     if is_definition(p.is_minified(), call) {
-        print_plain_arguments(PlainQuotes::SECOND, p, call)?;
-        Ok(true)
+        print_plain_arguments(PlainQuotes::SECOND, p, call);
+        true
     } else {
-        Ok(false)
+        false
     }
 }
 
 fn print_plain_arguments<N: PrintNode>(
     quotes: PlainQuotes,
-    p: &mut Printer<'_>,
+    p: &mut Printing<'_>,
     call: &CallExpression<N>,
-) -> Result<(), Memory>
-    ensures { Reaches result (pen_of p.old) (pen_of p.new) (layout (plain_arguments quotes.first quotes.second (trees (map (in_argument N.plain) call.now.arguments.items))) (pen_of p.old)) }
+)
+    ensures { Lays p.old p.new (λ _. plain_arguments quotes.first quotes.second (trees (map (in_argument N.plain) call.now.arguments.items))) }
 {
     let within = Place::in_brackets(Precedence::Comma, MINIFIED);
     print_arguments::<_, Arguments>(quotes, &call.arguments, p, within)
 }
 
 /// Prints `exports["x"]` or `module.exports["x"]`, if the target is one of these and the text minified; otherwise prints nothing.
-#[tactic(auto, unfolding(crate::specs::Place::pen_after))]
+#[tactic(auto, unfolding(crate::specs::Place::at_place))]
 pub fn try_print_exports_computed_target<N: PrintNode>(
-    p: &mut Printer<'_>,
+    p: &mut Printing<'_>,
     target: &AssignmentTarget<N>,
     context: Context,
-) -> Result<bool, Memory>
-    ensures applies { IfOk result (λ applies. applies ≡ is_export_target (pen_of p.old).style.minified (in_assignment_target N.plain target.now)) }
-    ensures text { Reaches result (pen_of p.old) (pen_of p.new)
-        (layout (where_it_holds (is_export_target (pen_of p.old).style.minified (in_assignment_target N.plain target.now))
-        (plain_target (in_assignment_target N.plain target.now) (context_of context) (pen_of p.old).start)) (pen_of p.old)) }
+) -> bool
+    ensures applies { result ≡ is_export_target (pen_at p.old).style.minified (in_assignment_target N.plain target.now) }
+    ensures text { Lays p.old p.new (λ pen. where_it_holds (is_export_target pen.style.minified (in_assignment_target N.plain target.now))
+        (plain_target (in_assignment_target N.plain target.now) (context_of context) pen.start)) }
 {
     if is_export(p.is_minified(), target) {
         let place = Place::at_level(Precedence::Comma, MINIFIED, context);
-        print_assignment_target(target, p, place.quoted_plainly(true))?;
-        Ok(true)
+        print_assignment_target(target, p, place.quoted_plainly(true));
+        true
     } else {
-        Ok(false)
+        false
     }
 }
 
 /// Prints the operand, if it is `"default"` or `"__esModule"`, the operator compares by equality and the text is minified;
 /// otherwise prints nothing.
 pub fn try_print_equality_string(
-    p: &mut Printer<'_>,
+    p: &mut Printing<'_>,
     operator: BinaryOperator,
     operand: &Expression,
-) -> Result<bool, Memory>
-    ensures applies { IfOk result (λ applies. applies ≡ is_export_mark (pen_of p.old).style.minified operator (expression_plain node_plain operand.now)) }
-    ensures text { Reaches result (pen_of p.old) (pen_of p.new)
-        (layout (where_it_holds (is_export_mark (pen_of p.old).style.minified operator (expression_plain node_plain operand.now))
-        (plain_string (string_in (without_parentheses (expression_plain node_plain operand.now))))) (pen_of p.old)) }
+) -> bool
+    ensures applies { result ≡ is_export_mark (pen_at p.old).style.minified operator (expression_plain node_plain operand.now) }
+    ensures text { Lays p.old p.new (λ pen. where_it_holds (is_export_mark pen.style.minified operator (expression_plain node_plain operand.now))
+        (plain_string (string_in (without_parentheses (expression_plain node_plain operand.now))))) }
 {
     let string = bare_string(operand.without_parentheses());
     if is_export_mark(p.is_minified(), operator, string) {
-        print_plain_string(string, p)?;
-        Ok(true)
+        print_plain_string(string, p);
+        true
     } else {
-        Ok(false)
+        false
     }
 }
 
-fn print_plain_string(string: Option<&JsStr>, p: &mut Printer<'_>) -> Result<(), Memory>
-    ensures { Reaches result (pen_of p.old) (pen_of p.new) (layout (plain_string (option_map (λ v. js_units v.now) string.entry)) (pen_of p.old)) }
+fn print_plain_string(string: Option<&JsStr>, p: &mut Printing<'_>)
+    ensures { Lays p.old p.new (λ _. plain_string (option_map (λ v. js_units v.now) string.entry)) }
 {
     match string {
         Some(value) => p.print_string(value, false),
-        None => Ok(()),
+        None => {}
     }
 }

@@ -2,9 +2,8 @@
 // A set prints as its member does.
 ghost use Rattle.std.specs.Prelude.{◌≡◌, true, nat_le};
 ghost use Rattle.jsgen_tree.specs.Rows.{in_simple_assignment_target, in_assignment_target, in_for_statement_left, expression_plain, declaration_plain, statement_plain, binding_pattern_plain};
-ghost use Rattle.jsgen_model.specs.Printing.{Reaches};
-ghost use Rattle.jsgen_printer.specs.Printer.{pen_of};
-ghost use Rattle.jsgen_nodes.specs.Place.{pen_after};
+ghost use Rattle.jsgen_steps.specs.Steps.{Lays};
+ghost use Rattle.jsgen_nodes.specs.Place.{at_place};
 ghost use Rattle.jsgen_nodes.specs.Parts.{expression_part, declaration_part, statement_part};
 
 use crate::PrintNode;
@@ -41,19 +40,14 @@ use crate::statements::{
     print_binding_identifier, print_expression_statement, print_variable_declaration,
 };
 use jsgen_place::Place;
-use jsgen_printer::Printer;
-use jsgen_syntax::Memory;
+use jsgen_steps::Printing;
 use jsgen_tree::{
     AssignmentTarget, BindingPattern, Declaration, Expression, ForStatementLeft,
     SimpleAssignmentTarget, Statement,
 };
 
-pub fn print_expression<N: PrintNode>(
-    node: &Expression<N>,
-    p: &mut Printer<'_>,
-    place: Place,
-) -> Result<(), Memory>
-    ensures { Reaches result (pen_of p.old) (pen_of p.new) (pen_after (expression_plain N.plain node.now) place p.old) }
+pub fn print_expression<N: PrintNode>(node: &Expression<N>, p: &mut Printing<'_>, place: Place)
+    ensures { Lays p.old p.new (at_place (expression_plain N.plain node.now) place) }
 {
     match node {
         Expression::IdentifierReference(node) => print_identifier_reference(node, p, place),
@@ -78,11 +72,11 @@ pub fn print_expression<N: PrintNode>(
 
 fn print_expression_in_collections<N: PrintNode>(
     node: &Expression<N>,
-    p: &mut Printer<'_>,
+    p: &mut Printing<'_>,
     place: Place,
-) -> Result<(), Memory>
+)
     requires { nat_le 1 (expression_part node.now) ≡ true }
-    ensures { Reaches result (pen_of p.old) (pen_of p.new) (pen_after (expression_plain N.plain node.now) place p.old) }
+    ensures { Lays p.old p.new (at_place (expression_plain N.plain node.now) place) }
 {
     match node {
         Expression::ArrayExpression(node) => print_array_expression(node, p, place),
@@ -93,11 +87,11 @@ fn print_expression_in_collections<N: PrintNode>(
 
 fn print_expression_in_operations<N: PrintNode>(
     node: &Expression<N>,
-    p: &mut Printer<'_>,
+    p: &mut Printing<'_>,
     place: Place,
-) -> Result<(), Memory>
+)
     requires { nat_le 2 (expression_part node.now) ≡ true }
-    ensures { Reaches result (pen_of p.old) (pen_of p.new) (pen_after (expression_plain N.plain node.now) place p.old) }
+    ensures { Lays p.old p.new (at_place (expression_plain N.plain node.now) place) }
 {
     match node {
         Expression::UnaryExpression(node) => print_unary_expression(node, p, place),
@@ -111,11 +105,11 @@ fn print_expression_in_operations<N: PrintNode>(
 
 fn print_expression_in_assignments<N: PrintNode>(
     node: &Expression<N>,
-    p: &mut Printer<'_>,
+    p: &mut Printing<'_>,
     place: Place,
-) -> Result<(), Memory>
+)
     requires { nat_le 3 (expression_part node.now) ≡ true }
-    ensures { Reaches result (pen_of p.old) (pen_of p.new) (pen_after (expression_plain N.plain node.now) place p.old) }
+    ensures { Lays p.old p.new (at_place (expression_plain N.plain node.now) place) }
 {
     match node {
         Expression::ConditionalExpression(node) => print_conditional_expression(node, p, place),
@@ -127,11 +121,11 @@ fn print_expression_in_assignments<N: PrintNode>(
 
 fn print_expression_in_functions<N: PrintNode>(
     node: &Expression<N>,
-    p: &mut Printer<'_>,
+    p: &mut Printing<'_>,
     place: Place,
-) -> Result<(), Memory>
+)
     requires { nat_le 4 (expression_part node.now) ≡ true }
-    ensures { Reaches result (pen_of p.old) (pen_of p.new) (pen_after (expression_plain N.plain node.now) place p.old) }
+    ensures { Lays p.old p.new (at_place (expression_plain N.plain node.now) place) }
 {
     match node {
         Expression::Function(node) => print_function(node, p, place),
@@ -142,12 +136,8 @@ fn print_expression_in_functions<N: PrintNode>(
     }
 }
 
-pub fn print_declaration<N: PrintNode>(
-    node: &Declaration<N>,
-    p: &mut Printer<'_>,
-    place: Place,
-) -> Result<(), Memory>
-    ensures { Reaches result (pen_of p.old) (pen_of p.new) (pen_after (declaration_plain N.plain node.now) place p.old) }
+pub fn print_declaration<N: PrintNode>(node: &Declaration<N>, p: &mut Printing<'_>, place: Place)
+    ensures { Lays p.old p.new (at_place (declaration_plain N.plain node.now) place) }
 {
     match node {
         Declaration::VariableDeclaration(node) => print_variable_declaration(node, p, place),
@@ -157,11 +147,11 @@ pub fn print_declaration<N: PrintNode>(
 
 fn print_declaration_in_functions<N: PrintNode>(
     node: &Declaration<N>,
-    p: &mut Printer<'_>,
+    p: &mut Printing<'_>,
     place: Place,
-) -> Result<(), Memory>
+)
     requires { nat_le 1 (declaration_part node.now) ≡ true }
-    ensures { Reaches result (pen_of p.old) (pen_of p.new) (pen_after (declaration_plain N.plain node.now) place p.old) }
+    ensures { Lays p.old p.new (at_place (declaration_plain N.plain node.now) place) }
 {
     match node {
         Declaration::Function(node) => print_function(node, p, place),
@@ -169,12 +159,8 @@ fn print_declaration_in_functions<N: PrintNode>(
     }
 }
 
-pub fn print_statement<N: PrintNode>(
-    node: &Statement<N>,
-    p: &mut Printer<'_>,
-    place: Place,
-) -> Result<(), Memory>
-    ensures { Reaches result (pen_of p.old) (pen_of p.new) (pen_after (statement_plain N.plain node.now) place p.old) }
+pub fn print_statement<N: PrintNode>(node: &Statement<N>, p: &mut Printing<'_>, place: Place)
+    ensures { Lays p.old p.new (at_place (statement_plain N.plain node.now) place) }
 {
     match node {
         Statement::Declaration(node) => node.get().print(p, place),
@@ -184,11 +170,11 @@ pub fn print_statement<N: PrintNode>(
 
 fn print_statement_in_statements<N: PrintNode>(
     node: &Statement<N>,
-    p: &mut Printer<'_>,
+    p: &mut Printing<'_>,
     place: Place,
-) -> Result<(), Memory>
+)
     requires { nat_le 1 (statement_part node.now) ≡ true }
-    ensures { Reaches result (pen_of p.old) (pen_of p.new) (pen_after (statement_plain N.plain node.now) place p.old) }
+    ensures { Lays p.old p.new (at_place (statement_plain N.plain node.now) place) }
 {
     match node {
         Statement::ExpressionStatement(node) => print_expression_statement(node, p, place),
@@ -199,13 +185,9 @@ fn print_statement_in_statements<N: PrintNode>(
     }
 }
 
-fn print_statement_in_loops<N: PrintNode>(
-    node: &Statement<N>,
-    p: &mut Printer<'_>,
-    place: Place,
-) -> Result<(), Memory>
+fn print_statement_in_loops<N: PrintNode>(node: &Statement<N>, p: &mut Printing<'_>, place: Place)
     requires { nat_le 2 (statement_part node.now) ≡ true }
-    ensures { Reaches result (pen_of p.old) (pen_of p.new) (pen_after (statement_plain N.plain node.now) place p.old) }
+    ensures { Lays p.old p.new (at_place (statement_plain N.plain node.now) place) }
 {
     match node {
         Statement::ForStatement(node) => print_for_statement(node, p, place),
@@ -223,13 +205,9 @@ fn print_statement_in_loops<N: PrintNode>(
     }
 }
 
-fn print_statement_in_choices<N: PrintNode>(
-    node: &Statement<N>,
-    p: &mut Printer<'_>,
-    place: Place,
-) -> Result<(), Memory>
+fn print_statement_in_choices<N: PrintNode>(node: &Statement<N>, p: &mut Printing<'_>, place: Place)
     requires { nat_le 3 (statement_part node.now) ≡ true }
-    ensures { Reaches result (pen_of p.old) (pen_of p.new) (pen_after (statement_plain N.plain node.now) place p.old) }
+    ensures { Lays p.old p.new (at_place (statement_plain N.plain node.now) place) }
 {
     match node {
         Statement::SwitchStatement(node) => print_switch_statement(node, p, place),
@@ -238,12 +216,8 @@ fn print_statement_in_choices<N: PrintNode>(
     }
 }
 
-pub fn print_binding_pattern(
-    node: &BindingPattern,
-    p: &mut Printer<'_>,
-    place: Place,
-) -> Result<(), Memory>
-    ensures { Reaches result (pen_of p.old) (pen_of p.new) (pen_after (binding_pattern_plain node.now) place p.old) }
+pub fn print_binding_pattern(node: &BindingPattern, p: &mut Printing<'_>, place: Place)
+    ensures { Lays p.old p.new (at_place (binding_pattern_plain node.now) place) }
 {
     match node {
         BindingPattern::BindingIdentifier(node) => print_binding_identifier(node, p, place),
@@ -252,10 +226,10 @@ pub fn print_binding_pattern(
 
 pub fn print_simple_assignment_target<N: PrintNode>(
     node: &SimpleAssignmentTarget<N>,
-    p: &mut Printer<'_>,
+    p: &mut Printing<'_>,
     place: Place,
-) -> Result<(), Memory>
-    ensures { Reaches result (pen_of p.old) (pen_of p.new) (pen_after (in_simple_assignment_target N.plain node.now) place p.old) }
+)
+    ensures { Lays p.old p.new (at_place (in_simple_assignment_target N.plain node.now) place) }
 {
     match node {
         SimpleAssignmentTarget::IdentifierReference(node) => print_identifier_reference(
@@ -272,10 +246,10 @@ pub fn print_simple_assignment_target<N: PrintNode>(
 
 pub fn print_assignment_target<N: PrintNode>(
     node: &AssignmentTarget<N>,
-    p: &mut Printer<'_>,
+    p: &mut Printing<'_>,
     place: Place,
-) -> Result<(), Memory>
-    ensures { Reaches result (pen_of p.old) (pen_of p.new) (pen_after (in_assignment_target N.plain node.now) place p.old) }
+)
+    ensures { Lays p.old p.new (at_place (in_assignment_target N.plain node.now) place) }
 {
     match node {
         AssignmentTarget::IdentifierReference(node) => print_identifier_reference(node, p, place),
@@ -290,10 +264,10 @@ pub fn print_assignment_target<N: PrintNode>(
 
 pub fn print_for_statement_left<N: PrintNode>(
     node: &ForStatementLeft<N>,
-    p: &mut Printer<'_>,
+    p: &mut Printing<'_>,
     place: Place,
-) -> Result<(), Memory>
-    ensures { Reaches result (pen_of p.old) (pen_of p.new) (pen_after (in_for_statement_left N.plain node.now) place p.old) }
+)
+    ensures { Lays p.old p.new (at_place (in_for_statement_left N.plain node.now) place) }
 {
     match node {
         ForStatementLeft::VariableDeclaration(node) => print_variable_declaration(node, p, place),
