@@ -11,79 +11,53 @@ use crate::functions::{
 };
 use crate::{PrintAlone, PrintAtLevel, PrintNode};
 use jsgen_place::{Context, Place, Settings};
-use jsgen_printer::Printer;
-use jsgen_syntax::Memory;
+use jsgen_steps::Printing;
 use jsgen_tree::{
     ArrowFunctionExpression, FormalParameter, FormalParameterRest, FormalParameters, Function,
     FunctionBody,
 };
 
-#[tactic(auto, unfolding(crate::specs::Place::pen_after))]
+#[tactic(auto, unfolding(crate::specs::Place::at_place))]
 impl<N: PrintNode> PrintAlone for FormalParameter<N> {
     ghost alone = { λ n settings context start. spell (formal_parameter_row N.plain n) (by_itself settings context start) };
 
-    fn print_alone(
-        &self,
-        p: &mut Printer<'_>,
-        settings: Settings,
-        context: Context,
-    ) -> Result<(), Memory> {
+    fn print_alone(&self, p: &mut Printing<'_>, settings: Settings, context: Context) {
         print_formal_parameter(self, p, Place::by_itself(settings, context))
     }
 }
 
-#[tactic(auto, unfolding(crate::specs::Place::pen_after))]
+#[tactic(auto, unfolding(crate::specs::Place::at_place))]
 impl<N: PrintNode> PrintAlone for FormalParameterRest<N> {
     ghost alone = { λ n settings context start. spell (formal_parameter_rest_row N.plain n) (by_itself settings context start) };
 
-    fn print_alone(
-        &self,
-        p: &mut Printer<'_>,
-        settings: Settings,
-        context: Context,
-    ) -> Result<(), Memory> {
+    fn print_alone(&self, p: &mut Printing<'_>, settings: Settings, context: Context) {
         print_formal_parameter_rest(self, p, Place::by_itself(settings, context))
     }
 }
 
-#[tactic(auto, unfolding(crate::specs::Place::pen_after))]
+#[tactic(auto, unfolding(crate::specs::Place::at_place))]
 impl<N: PrintNode> PrintAlone for FormalParameters<N> {
     ghost alone = { λ n settings context start. parameter_parts (formal_parameters_row N.plain n) (by_itself settings context start) };
 
-    fn print_alone(
-        &self,
-        p: &mut Printer<'_>,
-        settings: Settings,
-        context: Context,
-    ) -> Result<(), Memory> {
+    fn print_alone(&self, p: &mut Printing<'_>, settings: Settings, context: Context) {
         print_formal_parameters(self, p, Place::by_itself(settings, context))
     }
 }
 
-#[tactic(auto, unfolding(crate::specs::Place::pen_after))]
+#[tactic(auto, unfolding(crate::specs::Place::at_place))]
 impl<N: PrintNode> PrintAlone for Function<N> {
     ghost alone = { λ n settings context start. spell (function_row N.plain n) (by_itself settings context start) };
 
-    fn print_alone(
-        &self,
-        p: &mut Printer<'_>,
-        settings: Settings,
-        context: Context,
-    ) -> Result<(), Memory> {
+    fn print_alone(&self, p: &mut Printing<'_>, settings: Settings, context: Context) {
         print_function(self, p, Place::by_itself(settings, context))
     }
 }
 
-#[tactic(auto, unfolding(crate::specs::Place::pen_after))]
+#[tactic(auto, unfolding(crate::specs::Place::at_place))]
 impl<N: PrintNode> PrintAlone for FunctionBody<N> {
     ghost alone = { λ n settings context start. spell (function_body_row N.plain n) (by_itself settings context start) };
 
-    fn print_alone(
-        &self,
-        p: &mut Printer<'_>,
-        settings: Settings,
-        context: Context,
-    ) -> Result<(), Memory> {
+    fn print_alone(&self, p: &mut Printing<'_>, settings: Settings, context: Context) {
         print_function_body(self, p, Place::by_itself(settings, context))
     }
 }
@@ -91,7 +65,7 @@ impl<N: PrintNode> PrintAlone for FunctionBody<N> {
 impl<N: PrintNode> PrintAtLevel for ArrowFunctionExpression<N> {
     ghost plain = { arrow_function_expression_row N.plain };
 
-    fn print_at(&self, p: &mut Printer<'_>, place: Place) -> Result<(), Memory> {
+    fn print_at(&self, p: &mut Printing<'_>, place: Place) {
         print_arrow_function_expression(self, p, place)
     }
 }

@@ -11,140 +11,94 @@ use crate::statements::{
 };
 use crate::{PrintAlone, PrintNode};
 use jsgen_place::{Context, Place, Settings};
-use jsgen_printer::Printer;
-use jsgen_syntax::Memory;
+use jsgen_steps::Printing;
 use jsgen_tree::{
     BindingIdentifier, BlockStatement, Directive, EmptyStatement, ExpressionStatement, IfStatement,
     Program, VariableDeclaration, VariableDeclarator,
 };
 
-#[tactic(auto, unfolding(crate::specs::Place::pen_after))]
+#[tactic(auto, unfolding(crate::specs::Place::at_place))]
 impl<N: PrintNode> PrintAlone for Program<N> {
     ghost alone = { λ n settings context start. spell (program_row N.plain n) (as_statement settings context start) };
 
-    fn print_alone(
-        &self,
-        p: &mut Printer<'_>,
-        settings: Settings,
-        context: Context,
-    ) -> Result<(), Memory> {
+    fn print_alone(&self, p: &mut Printing<'_>, settings: Settings, context: Context) {
         let _ = context;
         print_program(self, p, settings)
     }
 }
 
-#[tactic(auto, unfolding(crate::specs::Place::pen_after))]
+#[tactic(auto, unfolding(crate::specs::Place::at_place))]
 impl PrintAlone for Directive {
     ghost alone = { λ n settings context start. spell (directive_row n) (as_statement settings context start) };
 
-    fn print_alone(
-        &self,
-        p: &mut Printer<'_>,
-        settings: Settings,
-        context: Context,
-    ) -> Result<(), Memory> {
+    fn print_alone(&self, p: &mut Printing<'_>, settings: Settings, context: Context) {
         let _ = context;
         print_directive(self, p, Place::among_statements(settings))
     }
 }
 
-#[tactic(auto, unfolding(crate::specs::Place::pen_after))]
+#[tactic(auto, unfolding(crate::specs::Place::at_place))]
 impl<N: PrintNode> PrintAlone for VariableDeclaration<N> {
     ghost alone = { λ n settings context start. spell (variable_declaration_row N.plain n) (by_itself settings context start) };
 
-    fn print_alone(
-        &self,
-        p: &mut Printer<'_>,
-        settings: Settings,
-        context: Context,
-    ) -> Result<(), Memory> {
+    fn print_alone(&self, p: &mut Printing<'_>, settings: Settings, context: Context) {
         print_variable_declaration(self, p, Place::by_itself(settings, context))
     }
 }
 
-#[tactic(auto, unfolding(crate::specs::Place::pen_after))]
+#[tactic(auto, unfolding(crate::specs::Place::at_place))]
 impl<N: PrintNode> PrintAlone for VariableDeclarator<N> {
     ghost alone = { λ n settings context start. spell (variable_declarator_row N.plain n) (by_itself settings context start) };
 
-    fn print_alone(
-        &self,
-        p: &mut Printer<'_>,
-        settings: Settings,
-        context: Context,
-    ) -> Result<(), Memory> {
+    fn print_alone(&self, p: &mut Printing<'_>, settings: Settings, context: Context) {
         print_variable_declarator(self, p, Place::by_itself(settings, context))
     }
 }
 
-#[tactic(auto, unfolding(crate::specs::Place::pen_after))]
+#[tactic(auto, unfolding(crate::specs::Place::at_place))]
 impl PrintAlone for BindingIdentifier {
     ghost alone = { λ n settings context start. spell (binding_identifier_row n) (by_itself settings context start) };
 
-    fn print_alone(
-        &self,
-        p: &mut Printer<'_>,
-        settings: Settings,
-        context: Context,
-    ) -> Result<(), Memory> {
+    fn print_alone(&self, p: &mut Printing<'_>, settings: Settings, context: Context) {
         print_binding_identifier(self, p, Place::by_itself(settings, context))
     }
 }
 
-#[tactic(auto, unfolding(crate::specs::Place::pen_after))]
+#[tactic(auto, unfolding(crate::specs::Place::at_place))]
 impl<N: PrintNode> PrintAlone for ExpressionStatement<N> {
     ghost alone = { λ n settings context start. spell (expression_statement_row N.plain n) (as_statement settings context start) };
 
-    fn print_alone(
-        &self,
-        p: &mut Printer<'_>,
-        settings: Settings,
-        context: Context,
-    ) -> Result<(), Memory> {
+    fn print_alone(&self, p: &mut Printing<'_>, settings: Settings, context: Context) {
         let _ = context;
         print_expression_statement(self, p, Place::among_statements(settings))
     }
 }
 
-#[tactic(auto, unfolding(crate::specs::Place::pen_after))]
+#[tactic(auto, unfolding(crate::specs::Place::at_place))]
 impl<N: PrintNode> PrintAlone for BlockStatement<N> {
     ghost alone = { λ n settings context start. spell (block_statement_row N.plain n) (as_statement settings context start) };
 
-    fn print_alone(
-        &self,
-        p: &mut Printer<'_>,
-        settings: Settings,
-        context: Context,
-    ) -> Result<(), Memory> {
+    fn print_alone(&self, p: &mut Printing<'_>, settings: Settings, context: Context) {
         let _ = context;
         print_block_statement(self, p, Place::among_statements(settings))
     }
 }
 
-#[tactic(auto, unfolding(crate::specs::Place::pen_after))]
+#[tactic(auto, unfolding(crate::specs::Place::at_place))]
 impl<N: PrintNode> PrintAlone for IfStatement<N> {
     ghost alone = { λ n settings context start. spell (if_statement_row N.plain n) (as_statement settings context start) };
 
-    fn print_alone(
-        &self,
-        p: &mut Printer<'_>,
-        settings: Settings,
-        context: Context,
-    ) -> Result<(), Memory> {
+    fn print_alone(&self, p: &mut Printing<'_>, settings: Settings, context: Context) {
         let _ = context;
         print_if_statement(self, p, Place::among_statements(settings))
     }
 }
 
-#[tactic(auto, unfolding(crate::specs::Place::pen_after))]
+#[tactic(auto, unfolding(crate::specs::Place::at_place))]
 impl PrintAlone for EmptyStatement {
     ghost alone = { λ n settings context start. spell (empty_statement_row n) (as_statement settings context start) };
 
-    fn print_alone(
-        &self,
-        p: &mut Printer<'_>,
-        settings: Settings,
-        context: Context,
-    ) -> Result<(), Memory> {
+    fn print_alone(&self, p: &mut Printing<'_>, settings: Settings, context: Context) {
         let _ = context;
         print_empty_statement(self, p, Place::among_statements(settings))
     }

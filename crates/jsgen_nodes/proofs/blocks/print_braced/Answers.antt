@@ -4,7 +4,7 @@ use Rattle.jsgen_model.specs.Layout.{layout}
 use Rattle.jsgen_model.specs.Spell.{spell, filled_braces, braces_end, among_statements}
 use Rattle.jsgen_printer.specs.Printer.{pen_of}
 use Rattle.jsgen_place.specs.Place.{settings_of}
-use Rattle.jsgen_nodes.specs.Place.{pen_after}
+use Rattle.jsgen_nodes.specs.Place.{at_place}
 use Rattle.jsgen_printer.proofs.Stops.{appends, stopped, stops_within, stops_first, stops_second}
 use Rattle.jsgen_lists.proofs.Braced.{stops_opening}
 use Rattle.jsgen_lists.proofs.Turns.{begun_nowhere, last_reaches}
@@ -14,17 +14,17 @@ use Rattle.jsgen_nodes.proofs.Placed.{laid_as, stops_as}
 use Rattle.jsgen_nodes.proofs.blocks.print_braced.Goals as goal
 
 pub returns-in_err-print_soft_space : goal.returns-in_err-print_soft_space
-unfolding pen_after
+unfolding at_place
 returns-in_err-print_soft_space g c = stopped _ c.from_residual.ensures.0 (stops_within c.in_err-print_soft_space.ensures (search appends) (search appends))
 
 pub returns-in_err-depth : goal.returns-in_err-depth
-unfolding pen_after
+unfolding at_place
 returns-in_err-depth g c =
     let items = spell (g.N.PrintNode.plain c.args.consequent.now) (among_statements (settings_of c.args.settings)) in
     stopped _ c.from_residual-in_err-depth.ensures.0 (stops_in_braced items (braces_end c.args.else_follows) (stops_opening items (rw c.in_ok-print_soft_space.ensures at c.in_err-depth.ensures.pen)))
 
 pub returns-in_err-print : goal.returns-in_err-print
-unfolding pen_after
+unfolding at_place
 returns-in_err-print g c =
     let items = spell (g.N.PrintNode.plain c.args.consequent.now) (among_statements (settings_of c.args.settings)) in
     let opened = pen_of c.open_braces.new.p in
@@ -33,7 +33,7 @@ returns-in_err-print g c =
     stopped _ c.from_residual-in_err-print.ensures.0 (stops_second soft_space (filled_braces items ⊕ braces_end c.args.else_follows) c.in_ok-print_soft_space.ensures (stops_first (filled_braces items) (braces_end c.args.else_follows) (stops_between items (pen_of c.print_soft_space.new.self) opened (pen_of c.print.new.p) c.in_ok-depth.ensures.pen within)))
 
 pub returns-in_err-close_braces : goal.returns-in_err-close_braces
-unfolding pen_after
+unfolding at_place
 returns-in_err-close_braces g c =
     let items = spell (g.N.PrintNode.plain c.args.consequent.now) (among_statements (settings_of c.args.settings)) in
     let spaced = pen_of c.print_soft_space.new.self in
@@ -44,7 +44,7 @@ returns-in_err-close_braces g c =
     stopped _ c.from_residual-in_err-close_braces.ensures.0 (stops_second soft_space (filled_braces items ⊕ braces_end c.args.else_follows) c.in_ok-print_soft_space.ensures (stops_first (filled_braces items) (braces_end c.args.else_follows) closed))
 
 pub returns : goal.returns
-unfolding pen_after
+unfolding at_place
 returns g c =
     let items = spell (g.N.PrintNode.plain c.args.consequent.now) (among_statements (settings_of c.args.settings)) in
     let spaced = pen_of c.print_soft_space.new.self in

@@ -5,14 +5,14 @@ use Rattle.jsgen_printer.specs.Printer.{pen_of}
 use Rattle.jsgen_printer.proofs.Stops.{stopped, stops_first}
 use Rattle.jsgen_place.specs.Place.{settings_of}
 use Rattle.jsgen_lists.proofs.Turns.{last_reaches, spaced_member, spaced_stopped}
-use Rattle.jsgen_nodes.specs.Place.{pen_after}
+use Rattle.jsgen_nodes.specs.Place.{at_place}
 use Rattle.jsgen_nodes.specs.Blocks.{shape_of}
 use Rattle.jsgen_nodes.proofs.Followed.{begun_member, begun_stopped}
 use Rattle.jsgen_nodes.proofs.BlockStops.{consequent_is_body}
 use Rattle.jsgen_nodes.proofs.blocks.print_consequent.Goals as goal
 
 pub returns-in_err-print_soft_space-in-Block : goal.returns-in_err-print_soft_space-in-Block
-unfolding pen_after
+unfolding at_place
 returns-in_err-print_soft_space-in-Block g c =
     let end = braces_end c.args.else_follows in
     let t = g.N.PrintNode.plain c.args.consequent.now in
@@ -21,7 +21,7 @@ returns-in_err-print_soft_space-in-Block g c =
     rw (sym c.ends_open.ensures ∙ c.if-ends_open.false, sym c.shape.ensures ∙ ap shape_of c.in-Block.is) (stopped _ c.from_residual.ensures.0 (stops_first soft_space (inner ⊕ end) c.in_err-print_soft_space-in-Block.ensures))
 
 pub returns-in_err-print-in-Block : goal.returns-in_err-print-in-Block
-unfolding pen_after
+unfolding at_place
 returns-in_err-print-in-Block g c =
     let end = braces_end c.args.else_follows in
     let t = g.N.PrintNode.plain c.args.consequent.now in
@@ -32,7 +32,7 @@ returns-in_err-print-in-Block g c =
     rw (sym c.ends_open.ensures ∙ c.if-ends_open.false, sym c.shape.ensures ∙ ap shape_of c.in-Block.is) (stopped _ c.from_residual-in_err-print-in-Block.ensures.0 (stops_first (soft_space ⊕ inner) end in_first))
 
 pub returns-in_ok-print-in-Block : goal.returns-in_ok-print-in-Block
-unfolding pen_after
+unfolding at_place
 returns-in_ok-print-in-Block g c =
     let end = braces_end c.args.else_follows in
     let t = g.N.PrintNode.plain c.args.consequent.now in
@@ -43,11 +43,11 @@ returns-in_ok-print-in-Block g c =
     rw (sym c.ends_open.ensures ∙ c.if-ends_open.false, sym c.shape.ensures ∙ ap shape_of c.in-Block.is) (last_reaches c.print_braces_end.result (soft_space ⊕ inner) end before (pen_of c.print.new.p) (pen_of c.print_braces_end.new.p) behind_first refl c.print_braces_end.ensures)
 
 pub returns-in-Empty : goal.returns-in-Empty
-unfolding pen_after
+unfolding at_place
 returns-in-Empty g c = rw (sym c.ends_open.ensures ∙ c.if-ends_open.false, sym c.shape.ensures ∙ ap shape_of c.in-Empty.is) c.print_empty_body.ensures
 
 pub returns-in_err-print-in-If : goal.returns-in_err-print-in-If
-unfolding pen_after
+unfolding at_place
 returns-in_err-print-in-If g c =
     let t = g.N.PrintNode.plain c.args.consequent.now in
     let settings = settings_of c.args.settings in
@@ -58,7 +58,7 @@ returns-in_err-print-in-If g c =
     rw (consequent_is_body c.shape.result t settings c.args.else_follows c.in-If.is c.shape.ensures (sym c.ends_open.ensures ∙ c.if-ends_open.false)) (stopped _ c.from_residual-in_err-print-in-If.ensures.0 (stops_first (body_space ⊕ whole) end in_first))
 
 pub returns-in_ok-print-in-If : goal.returns-in_ok-print-in-If
-unfolding pen_after
+unfolding at_place
 returns-in_ok-print-in-If g c =
     let t = g.N.PrintNode.plain c.args.consequent.now in
     let settings = settings_of c.args.settings in

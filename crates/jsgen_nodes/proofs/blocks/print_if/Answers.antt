@@ -10,17 +10,17 @@ use Rattle.jsgen_printer.specs.Printer.{pen_of}
 use Rattle.jsgen_printer.proofs.Stops.{stopped, stops_first, stops_second}
 use Rattle.jsgen_place.specs.Place.{settings_of}
 use Rattle.jsgen_lists.proofs.Turns.{last_reaches}
-use Rattle.jsgen_nodes.specs.Place.{pen_after}
+use Rattle.jsgen_nodes.specs.Place.{at_place}
 use Rattle.jsgen_nodes.specs.Blocks.{consequent_of}
 use Rattle.jsgen_nodes.proofs.Placed.{laid_as, stops_as, head_there}
 use Rattle.jsgen_nodes.proofs.blocks.print_if.Goals as goal
 
 pub print_consequent-requires : goal.print_consequent-requires
-unfolding pen_after
+unfolding at_place
 print_consequent-requires g c = ap (λ p. p.start) c.in_ok-print_head.ensures
 
 pub returns-in_err-print_head : goal.returns-in_err-print_head
-unfolding pen_after
+unfolding at_place
 returns-in_err-print_head g c =
     let plain = g.N.PrintNode.plain in
     let settings = settings_of c.args.settings in
@@ -31,7 +31,7 @@ returns-in_err-print_head g c =
     stopped _ c.from_residual.ensures.0 (stops_first head (consequent ⊕ last) (stops_as (head_there (codes "if") (in_expression plain c.args.node.now.test) c.in_brackets-within.ensures) c.in_err-print_head.ensures))
 
 pub returns-in_err-print_consequent : goal.returns-in_err-print_consequent
-unfolding pen_after
+unfolding at_place
 returns-in_err-print_consequent g c =
     let plain = g.N.PrintNode.plain in
     let settings = settings_of c.args.settings in
@@ -42,7 +42,7 @@ returns-in_err-print_consequent g c =
     stopped _ c.from_residual-in_err-print_consequent.ensures.0 (stops_second head (consequent ⊕ last) (laid_as (pen_of c.args.p.now) (head_there (codes "if") (in_expression plain c.args.node.now.test) c.in_brackets-within.ensures) c.in_ok-print_head.ensures) (stops_first consequent last (stops_as (ap (λ n. consequent_of (plain n) settings c.has_alternate.result) c.get.ensures ∙ ap (λ given. consequent_of (in_statement plain c.args.node.now.consequent) settings given) c.has_alternate.ensures) c.in_err-print_consequent.ensures)))
 
 pub returns : goal.returns
-unfolding pen_after
+unfolding at_place
 returns g c =
     let plain = g.N.PrintNode.plain in
     let settings = settings_of c.args.settings in

@@ -6,13 +6,13 @@ use Rattle.jsgen_printer.specs.Printer.{pen_of}
 use Rattle.jsgen_printer.proofs.Stops.{stopped, stops_first}
 use Rattle.jsgen_place.specs.Place.{settings_of}
 use Rattle.jsgen_lists.proofs.Turns.{last_reaches, spaced_member, spaced_stopped}
-use Rattle.jsgen_nodes.specs.Place.{pen_after}
+use Rattle.jsgen_nodes.specs.Place.{at_place}
 use Rattle.jsgen_nodes.specs.Blocks.{shape_of}
 use Rattle.jsgen_nodes.proofs.Followed.{body_is_other, begun_reaches}
 use Rattle.jsgen_nodes.proofs.bodies.print_body.Goals as goal
 
 pub returns-in_err-print_soft_space-in-Block : goal.returns-in_err-print_soft_space-in-Block
-unfolding pen_after
+unfolding at_place
 returns-in_err-print_soft_space-in-Block g c =
     let t = g.N.PrintNode.plain c.args.body.now in
     let settings = settings_of c.args.settings in
@@ -20,7 +20,7 @@ returns-in_err-print_soft_space-in-Block g c =
     rw (sym c.shape.ensures ∙ ap shape_of c.in-Block.is) (stopped _ c.from_residual.ensures.0 (stops_first soft_space (inner ⊕ soft_line) c.in_err-print_soft_space-in-Block.ensures))
 
 pub returns-in_err-print-in-Block : goal.returns-in_err-print-in-Block
-unfolding pen_after
+unfolding at_place
 returns-in_err-print-in-Block g c =
     let t = g.N.PrintNode.plain c.args.body.now in
     let settings = settings_of c.args.settings in
@@ -30,7 +30,7 @@ returns-in_err-print-in-Block g c =
     rw (sym c.shape.ensures ∙ ap shape_of c.in-Block.is) (stopped _ c.from_residual-in_err-print-in-Block.ensures.0 (stops_first (soft_space ⊕ inner) soft_line in_first))
 
 pub returns-in_ok-print-in-Block : goal.returns-in_ok-print-in-Block
-unfolding pen_after
+unfolding at_place
 returns-in_ok-print-in-Block g c =
     let t = g.N.PrintNode.plain c.args.body.now in
     let settings = settings_of c.args.settings in
@@ -40,17 +40,17 @@ returns-in_ok-print-in-Block g c =
     rw (sym c.shape.ensures ∙ ap shape_of c.in-Block.is) (last_reaches c.print_soft_line.result (soft_space ⊕ inner) soft_line before (pen_of c.print.new.p) (pen_of c.print_soft_line.new.self) behind_first refl c.print_soft_line.ensures)
 
 pub returns-in_err-print_semicolon-in-Empty : goal.returns-in_err-print_semicolon-in-Empty
-unfolding pen_after
+unfolding at_place
 returns-in_err-print_semicolon-in-Empty g c = rw (sym c.shape.ensures ∙ ap shape_of c.in-Empty.is) (stopped _ c.from_residual-in_err-print_semicolon-in-Empty.ensures.0 (stops_first (punctuator semicolon) soft_line c.in_err-print_semicolon-in-Empty.ensures))
 
 pub returns-in_ok-print_semicolon-in-Empty : goal.returns-in_ok-print_semicolon-in-Empty
-unfolding pen_after
+unfolding at_place
 returns-in_ok-print_semicolon-in-Empty g c =
     let before = pen_of c.args.p.now in
     rw (sym c.shape.ensures ∙ ap shape_of c.in-Empty.is) (last_reaches c.print_soft_line-in-Empty.result (punctuator semicolon) soft_line before (pen_of c.print_semicolon.new.self) (pen_of c.print_soft_line-in-Empty.new.self) c.in_ok-print_semicolon-in-Empty.ensures refl c.print_soft_line-in-Empty.ensures)
 
 pub returns-in-If : goal.returns-in-If
-unfolding pen_after
+unfolding at_place
 returns-in-If g c =
     let t = g.N.PrintNode.plain c.args.body.now in
     let settings = settings_of c.args.settings in

@@ -8,11 +8,11 @@ use Rattle.jsgen_printer.specs.Printer.{pen_of}
 use Rattle.jsgen_printer.proofs.Stops.{stopped, stops_first, stops_second}
 use Rattle.jsgen_place.specs.Place.{settings_of}
 use Rattle.jsgen_lists.proofs.Turns.{last_reaches}
-use Rattle.jsgen_nodes.specs.Place.{pen_after}
+use Rattle.jsgen_nodes.specs.Place.{at_place}
 use Rattle.jsgen_nodes.proofs.cases.print_cases.Goals as goal
 
 pub returns-in_err-print_soft_space : goal.returns-in_err-print_soft_space
-unfolding pen_after
+unfolding at_place
 returns-in_err-print_soft_space g c =
     let settings = settings_of c.args.settings in
     let rows = trees (map (switch_case_row g.N.PrintNode.plain) c.args.cases.now) in
@@ -20,7 +20,7 @@ returns-in_err-print_soft_space g c =
     stopped _ c.from_residual.ensures.0 (stops_first soft_space (inside ⊕ soft_line) c.in_err-print_soft_space.ensures)
 
 pub returns-in_err-print_braces : goal.returns-in_err-print_braces
-unfolding pen_after
+unfolding at_place
 returns-in_err-print_braces g c =
     let settings = settings_of c.args.settings in
     let rows = trees (map (switch_case_row g.N.PrintNode.plain) c.args.cases.now) in
@@ -28,7 +28,7 @@ returns-in_err-print_braces g c =
     stopped _ c.from_residual-in_err-print_braces.ensures.0 (stops_second soft_space (inside ⊕ soft_line) c.in_ok-print_soft_space.ensures (stops_first inside soft_line c.in_err-print_braces.ensures))
 
 pub returns : goal.returns
-unfolding pen_after
+unfolding at_place
 returns g c =
     let settings = settings_of c.args.settings in
     let rows = trees (map (switch_case_row g.N.PrintNode.plain) c.args.cases.now) in

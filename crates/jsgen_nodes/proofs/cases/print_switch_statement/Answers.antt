@@ -10,12 +10,12 @@ use Rattle.jsgen_printer.specs.Printer.{pen_of}
 use Rattle.jsgen_printer.proofs.Stops.{stopped, stops_first, stops_second}
 use Rattle.jsgen_place.specs.Place.{settings_of}
 use Rattle.jsgen_lists.proofs.Turns.{last_reaches}
-use Rattle.jsgen_nodes.specs.Place.{pen_after}
+use Rattle.jsgen_nodes.specs.Place.{at_place}
 use Rattle.jsgen_nodes.proofs.Placed.{laid_as, stops_as, head_there}
 use Rattle.jsgen_nodes.proofs.cases.print_switch_statement.Goals as goal
 
 pub returns-in_err-print_indentation : goal.returns-in_err-print_indentation
-unfolding pen_after
+unfolding at_place
 returns-in_err-print_indentation g c =
     let plain = g.N.PrintNode.plain in
     let settings = settings_of c.args.place.settings in
@@ -25,7 +25,7 @@ returns-in_err-print_indentation g c =
     stopped _ c.from_residual.ensures.0 (stops_first indentation (head ⊕ cases) c.in_err-print_indentation.ensures)
 
 pub returns-in_err-print_head : goal.returns-in_err-print_head
-unfolding pen_after
+unfolding at_place
 returns-in_err-print_head g c =
     let plain = g.N.PrintNode.plain in
     let settings = settings_of c.args.place.settings in
@@ -35,7 +35,7 @@ returns-in_err-print_head g c =
     stopped _ c.from_residual-in_err-print_head.ensures.0 (stops_second indentation (head ⊕ cases) c.in_ok-print_indentation.ensures (stops_first head cases (stops_as (head_there (codes "switch") (in_expression plain c.args.node.now.discriminant) c.in_brackets-within.ensures) c.in_err-print_head.ensures)))
 
 pub returns : goal.returns
-unfolding pen_after
+unfolding at_place
 returns g c =
     let plain = g.N.PrintNode.plain in
     let settings = settings_of c.args.place.settings in

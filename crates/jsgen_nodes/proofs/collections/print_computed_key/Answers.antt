@@ -8,16 +8,16 @@ use Rattle.jsgen_printer.proofs.Stops.{appends, stopped, stops_within}
 use Rattle.jsgen_place.specs.Place.{place_of}
 use Rattle.jsgen_lists.specs.Lists.{listed}
 use Rattle.jsgen_lists.proofs.Turns.{begun_nowhere, stops_in_brackets, brackets_closed}
-use Rattle.jsgen_nodes.specs.Place.{pen_after}
+use Rattle.jsgen_nodes.specs.Place.{at_place}
 use Rattle.jsgen_nodes.proofs.Placed.{laid_as, stops_as}
 use Rattle.jsgen_nodes.proofs.collections.print_computed_key.Goals as goal
 
 pub returns-in_err-print_opening : goal.returns-in_err-print_opening
-unfolding pen_after
+unfolding at_place
 returns-in_err-print_opening g c = stopped _ c.from_residual.ensures.0 (stops_within c.in_err-print_opening.ensures (search appends) (search appends))
 
 pub returns-in_err-print_key_text : goal.returns-in_err-print_key_text
-unfolding pen_after
+unfolding at_place
 returns-in_err-print_key_text g c =
     let key = in_property_key g.N.PrintNode.plain c.args.key.now in
     let inside = key_text key (spell key (in_brackets Comma (place_of c.args.place (pen_of c.args.p.now)))) in
@@ -25,7 +25,7 @@ returns-in_err-print_key_text g c =
     stopped _ c.from_residual-in_err-print_key_text.ensures.0 (stops_in_brackets Square inside c.in_ok-print_opening.ensures (stops_as (ap (λ q. key_text key (spell key q)) here) c.in_err-print_key_text.ensures))
 
 pub returns : goal.returns
-unfolding pen_after
+unfolding at_place
 returns g c =
     let key = in_property_key g.N.PrintNode.plain c.args.key.now in
     let inside = key_text key (spell key (in_brackets Comma (place_of c.args.place (pen_of c.args.p.now)))) in

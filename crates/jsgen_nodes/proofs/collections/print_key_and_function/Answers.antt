@@ -8,12 +8,12 @@ use Rattle.jsgen_printer.proofs.Stops.{stopped, stops_first}
 use Rattle.jsgen_place.specs.Place.{place_of}
 use Rattle.jsgen_lists.proofs.Turns.{last_reaches}
 use Rattle.jsgen_nodes.specs.Keys.{key_of}
-use Rattle.jsgen_nodes.specs.Place.{pen_after}
+use Rattle.jsgen_nodes.specs.Place.{at_place}
 use Rattle.jsgen_nodes.proofs.Accessors.{method_anywhere}
 use Rattle.jsgen_nodes.proofs.collections.print_key_and_function.Goals as goal
 
 pub returns-in_err-print_key : goal.returns-in_err-print_key
-unfolding pen_after
+unfolding at_place
 returns-in_err-print_key g c =
     let place = place_of c.args.place (pen_of c.args.p.now) in
     let key = key_of c.args.node.now.computed (in_property_key g.N.PrintNode.plain c.args.node.now.key) place in
@@ -21,7 +21,7 @@ returns-in_err-print_key g c =
     stopped _ c.from_residual.ensures.0 (stops_first key method c.in_err-print_key.ensures)
 
 pub returns : goal.returns
-unfolding pen_after
+unfolding at_place
 returns g c =
     let before = pen_of c.args.p.now in
     let place = place_of c.args.place before in

@@ -5,13 +5,13 @@ use Rattle.jsgen_model.specs.Items.{string}
 use Rattle.jsgen_model.specs.Spell.{spell}
 use Rattle.jsgen_printer.specs.Printer.{pen_of}
 use Rattle.jsgen_place.specs.Place.{place_of}
-use Rattle.jsgen_nodes.specs.Place.{pen_after}
+use Rattle.jsgen_nodes.specs.Place.{at_place}
 use Rattle.jsgen_nodes.proofs.Keys.{key_by_string}
 use Rattle.jsgen_nodes.proofs.Placed.{reaches_as}
 use Rattle.jsgen_nodes.proofs.collections.print_key_expression.Goals as goal
 
 pub returns-in-Some : goal.returns-in-Some
-unfolding pen_after
+unfolding at_place
 returns-in-Some g c =
     let key = in_expression g.N.PrintNode.plain c.args.key.now in
     let items = spell key (place_of c.args.place (pen_of c.args.p.now)) in
@@ -19,7 +19,7 @@ returns-in-Some g c =
     reaches_as c.print_string.result (pen_of c.args.p.now) (pen_of c.print_string.new.self) same c.print_string.ensures
 
 pub returns-in-None : goal.returns-in-None
-unfolding pen_after
+unfolding at_place
 returns-in-None g c =
     let key = in_expression g.N.PrintNode.plain c.args.key.now in
     let items = spell key (place_of c.args.place (pen_of c.args.p.now)) in

@@ -1,10 +1,10 @@
-use Rattle.jsgen_nodes.specs.Place.{pen_after}
+use Rattle.jsgen_nodes.specs.Place.{at_place}
 use Rattle.jsgen_nodes.proofs.collections.print_key_text.Goals as goal
 
 pub returns-in-IdentifierName : goal.returns-in-IdentifierName
-unfolding pen_after
+unfolding at_place
 returns-in-IdentifierName g c = rw (c.in-IdentifierName.is, ← c.deref.ensures) c.print_identifier_name.ensures
 
 pub returns-in-Expression : goal.returns-in-Expression
-unfolding pen_after
+unfolding at_place
 returns-in-Expression g c = rw (c.in-Expression.is, ← c.deref-in-Expression.ensures) c.print_key_expression.ensures

@@ -9,12 +9,12 @@ use Rattle.jsgen_printer.specs.Printer.{pen_of}
 use Rattle.jsgen_printer.proofs.Stops.{layout_appends, stopped, stops_first, reaches_last}
 use Rattle.jsgen_place.specs.Place.{place_of}
 use Rattle.jsgen_nodes.specs.Keys.{key_of, method_items}
-use Rattle.jsgen_nodes.specs.Place.{pen_after}
+use Rattle.jsgen_nodes.specs.Place.{at_place}
 use Rattle.jsgen_nodes.proofs.Accessors.{behind_accessor_word}
 use Rattle.jsgen_nodes.proofs.collections.print_method_property.Goals as goal
 
 pub returns-in_err-print_accessor_word : goal.returns-in_err-print_accessor_word
-unfolding pen_after
+unfolding at_place
 returns-in_err-print_accessor_word g c =
     let kind = c.args.node.now.kind in
     let place = place_of c.args.place (pen_of c.args.p.now) in
@@ -24,7 +24,7 @@ returns-in_err-print_accessor_word g c =
     stopped _ c.from_residual.ensures.0 (stops_first (accessor_word kind) rest c.in_err-print_accessor_word.ensures)
 
 pub returns : goal.returns
-unfolding pen_after
+unfolding at_place
 returns g c =
     let kind = c.args.node.now.kind in
     let before = pen_of c.args.p.now in

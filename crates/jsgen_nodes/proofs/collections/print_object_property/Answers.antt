@@ -1,11 +1,11 @@
 use Rattle.std.proofs.Common.{sym, ◌∙◌}
-use Rattle.jsgen_nodes.specs.Place.{pen_after}
+use Rattle.jsgen_nodes.specs.Place.{at_place}
 use Rattle.jsgen_nodes.proofs.collections.print_object_property.Goals as goal
 
 pub returns-then-is_method : goal.returns-then-is_method
-unfolding pen_after
+unfolding at_place
 returns-then-is_method g c = rw (sym c.is_method.ensures ∙ c.if-is_method.true) c.print_method_property.ensures
 
 pub returns-else-is_method : goal.returns-else-is_method
-unfolding pen_after
+unfolding at_place
 returns-else-is_method g c = rw (sym c.is_method.ensures ∙ c.if-is_method.false) c.print_valued_property.ensures

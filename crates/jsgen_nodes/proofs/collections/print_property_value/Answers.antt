@@ -9,22 +9,22 @@ use Rattle.jsgen_printer.proofs.Stops.{stopped, stops_first}
 use Rattle.jsgen_place.specs.Place.{place_of}
 use Rattle.jsgen_lists.specs.Lists.{listed}
 use Rattle.jsgen_lists.proofs.Turns.{last_reaches}
-use Rattle.jsgen_nodes.specs.Place.{pen_after}
+use Rattle.jsgen_nodes.specs.Place.{at_place}
 use Rattle.jsgen_nodes.proofs.Placed.{reaches_as}
 use Rattle.jsgen_nodes.proofs.collections.print_property_value.Goals as goal
 
 pub print_behind_space-requires : goal.print_behind_space-requires
-unfolding pen_after
+unfolding at_place
 print_behind_space-requires g c = ap (λ p. p.start) c.in_ok-print_colon.ensures
 
 pub returns-in_err-print_colon : goal.returns-in_err-print_colon
-unfolding pen_after
+unfolding at_place
 returns-in_err-print_colon g c =
     let value = spell (in_expression g.N.PrintNode.plain c.args.value.now) (in_brackets Comma (place_of c.args.place (pen_of c.args.p.now))) in
     stopped _ c.from_residual.ensures.0 (stops_first (punctuator colon) (soft_space ⊕ value) c.in_err-print_colon.ensures)
 
 pub returns : goal.returns
-unfolding pen_after
+unfolding at_place
 returns g c =
     let t = in_expression g.N.PrintNode.plain c.args.value.now in
     let value = spell t (in_brackets Comma (place_of c.args.place (pen_of c.args.p.now))) in

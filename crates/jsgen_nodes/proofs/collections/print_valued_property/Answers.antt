@@ -6,12 +6,12 @@ use Rattle.jsgen_model.specs.Spell.{spell, in_brackets, in_front, needs_brackets
 use Rattle.jsgen_model.specs.Printing.{Reaches}
 use Rattle.jsgen_printer.specs.Printer.{pen_of}
 use Rattle.jsgen_place.specs.Place.{place_of}
-use Rattle.jsgen_nodes.specs.Place.{pen_after}
+use Rattle.jsgen_nodes.specs.Place.{at_place}
 use Rattle.jsgen_nodes.proofs.Keys.{alone_laid, whole_laid}
 use Rattle.jsgen_nodes.proofs.collections.print_valued_property.Goals as goal
 
 pub returns-then-is_value_alone : goal.returns-then-is_value_alone
-unfolding pen_after
+unfolding at_place
 returns-then-is_value_alone g c =
     let pen = pen_of c.args.p.now in
     let place = place_of c.args.place pen in
@@ -21,7 +21,7 @@ returns-then-is_value_alone g c =
     subst (Reaches c.print.result pen (pen_of c.print.new.p)) (alone_laid c.args.node.now.shorthand (written_name_in key) (looked_up_in (without_parentheses value)) (spell value (in_front Comma place)) whole pen (sym c.is_value_alone.ensures ∙ c.if-is_value_alone.true)) (rw (c.get.ensures, c.child.ensures) at c.print.ensures)
 
 pub returns-else-is_value_alone : goal.returns-else-is_value_alone
-unfolding pen_after
+unfolding at_place
 returns-else-is_value_alone g c =
     let pen = pen_of c.args.p.now in
     let place = place_of c.args.place pen in

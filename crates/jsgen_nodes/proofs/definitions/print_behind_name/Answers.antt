@@ -8,11 +8,11 @@ use Rattle.jsgen_printer.specs.Printer.{pen_of}
 use Rattle.jsgen_printer.proofs.Stops.{stopped, stops_first}
 use Rattle.jsgen_place.specs.Place.{place_of, settings_of}
 use Rattle.jsgen_lists.proofs.Turns.{last_reaches}
-use Rattle.jsgen_nodes.specs.Place.{pen_after}
+use Rattle.jsgen_nodes.specs.Place.{at_place}
 use Rattle.jsgen_nodes.proofs.definitions.print_behind_name.Goals as goal
 
 pub returns-in_err-print_parameters_in_brackets : goal.returns-in_err-print_parameters_in_brackets
-unfolding pen_after
+unfolding at_place
 returns-in_err-print_parameters_in_brackets g c =
     let plain = g.N.PrintNode.plain in
     let before = pen_of c.args.p.now in
@@ -21,7 +21,7 @@ returns-in_err-print_parameters_in_brackets g c =
     stopped _ c.from_residual.ensures.0 (stops_first params body (rw (c.deref.ensures, c.function_parameters.ensures) at c.in_err-print_parameters_in_brackets.ensures))
 
 pub returns : goal.returns
-unfolding pen_after
+unfolding at_place
 returns g c =
     let plain = g.N.PrintNode.plain in
     let before = pen_of c.args.p.now in
@@ -30,5 +30,5 @@ returns g c =
     last_reaches c.print_apart.result params body before (pen_of c.print_parameters_in_brackets.new.p) (pen_of c.print_apart.new.p) (rw (c.deref.ensures, c.function_parameters.ensures) at c.in_ok-print_parameters_in_brackets.ensures) refl (rw c.within_statement-within.ensures at c.print_apart.ensures)
 
 pub print_apart-requires : goal.print_apart-requires
-unfolding pen_after
+unfolding at_place
 print_apart-requires g c = ap (λ p. p.start) c.in_ok-print_parameters_in_brackets.ensures

@@ -7,12 +7,12 @@ use Rattle.jsgen_model.specs.Spell.{spell_directives, spell_body}
 use Rattle.jsgen_model.specs.Printing.{Reaches}
 use Rattle.jsgen_printer.specs.Printer.{pen_of}
 use Rattle.jsgen_place.specs.Place.{settings_of}
-use Rattle.jsgen_nodes.specs.Place.{pen_after}
+use Rattle.jsgen_nodes.specs.Place.{at_place}
 use Rattle.jsgen_nodes.proofs.Filled.{empty_body, filled_body}
 use Rattle.jsgen_nodes.proofs.definitions.print_function_body.Goals as goal
 
 pub returns-then-are_empty : goal.returns-then-are_empty
-unfolding pen_after
+unfolding at_place
 returns-then-are_empty g c =
     let plain = in_statement g.N.PrintNode.plain in
     let before = pen_of c.args.p.now in
@@ -24,7 +24,7 @@ returns-then-are_empty g c =
     subst (λ i. Reaches c.print_empty_braces.result before (pen_of c.print_empty_braces.new.p) (layout i before)) (empty_body directive_row plain directives statements items (sym tested ∙ c.if-are_empty.true)) c.print_empty_braces.ensures
 
 pub returns-else-are_empty : goal.returns-else-are_empty
-unfolding pen_after
+unfolding at_place
 returns-else-are_empty g c =
     let plain = in_statement g.N.PrintNode.plain in
     let before = pen_of c.args.p.now in

@@ -10,11 +10,11 @@ use Rattle.jsgen_printer.specs.Printer.{pen_of}
 use Rattle.jsgen_printer.proofs.Stops.{stopped, stops_first, stops_second}
 use Rattle.jsgen_place.specs.Place.{place_of}
 use Rattle.jsgen_lists.proofs.Turns.{begun_nowhere, last_reaches}
-use Rattle.jsgen_nodes.specs.Place.{pen_after}
+use Rattle.jsgen_nodes.specs.Place.{at_place}
 use Rattle.jsgen_nodes.proofs.definitions.print_whole_function.Goals as goal
 
 pub returns-in_err-print_word : goal.returns-in_err-print_word
-unfolding pen_after
+unfolding at_place
 returns-in_err-print_word g c =
     let plain = g.N.PrintNode.plain in
     let before = pen_of c.args.p.now in
@@ -26,7 +26,7 @@ returns-in_err-print_word g c =
     stopped _ c.from_residual.ensures.0 (stops_first begin (named ⊕ rest) c.in_err-print_word.ensures)
 
 pub returns-in_err-print_if_given : goal.returns-in_err-print_if_given
-unfolding pen_after
+unfolding at_place
 returns-in_err-print_if_given g c =
     let plain = g.N.PrintNode.plain in
     let before = pen_of c.args.p.now in
@@ -40,7 +40,7 @@ returns-in_err-print_if_given g c =
     stopped _ c.from_residual-in_err-print_if_given.ensures.0 (stops_second begin (named ⊕ rest) c.in_ok-print_word.ensures (stops_first named rest (rw c.child.ensures at (subst (λ q. Stops behind_word (pen_of c.print_if_given.new.p) (layout (spell_if_given id q) behind_word)) there c.in_err-print_if_given.ensures))))
 
 pub returns : goal.returns
-unfolding pen_after
+unfolding at_place
 returns g c =
     let plain = g.N.PrintNode.plain in
     let before = pen_of c.args.p.now in

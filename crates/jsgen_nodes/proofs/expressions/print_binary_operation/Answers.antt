@@ -6,13 +6,13 @@ use Rattle.jsgen_model.specs.Quotes.{is_export_mark}
 use Rattle.jsgen_printer.specs.Printer.{pen_of}
 use Rattle.jsgen_printer.proofs.Stops.{stopped, stops_first}
 use Rattle.jsgen_place.specs.Place.{place_of}
-use Rattle.jsgen_nodes.specs.Place.{pen_after}
+use Rattle.jsgen_nodes.specs.Place.{at_place}
 use Rattle.jsgen_nodes.proofs.Placed.{laid_as, stops_as, there}
 use Rattle.jsgen_nodes.proofs.Operations.{operation_laid, operator_nowhere, stops_before_sign, stops_at_sign}
 use Rattle.jsgen_nodes.proofs.expressions.print_binary_operation.Goals as goal
 
 pub returns-in_err-print : goal.returns-in_err-print
-unfolding pen_after
+unfolding at_place
 returns-in_err-print g c =
     let o = c.args.node.now.operator in
     let a = g.N.PrintNode.plain c.args.node.now.left.node in
@@ -25,7 +25,7 @@ returns-in_err-print g c =
     stopped _ c.from_residual.ensures.0 (stops_first left (soft_space ⊕ ((operator_item o) ⊕ (soft_space ⊕ right))) (stops_as same c.in_err-print.ensures))
 
 pub returns-in_err-print_soft_space : goal.returns-in_err-print_soft_space
-unfolding pen_after
+unfolding at_place
 returns-in_err-print_soft_space g c =
     let o = c.args.node.now.operator in
     let a = g.N.PrintNode.plain c.args.node.now.left.node in
@@ -38,7 +38,7 @@ returns-in_err-print_soft_space g c =
     stopped _ c.from_residual-in_err-print_soft_space.ensures.0 (stops_before_sign left (operator_item o) right (laid_as (pen_of c.args.p.now) same c.in_ok-print.ensures) c.in_err-print_soft_space.ensures)
 
 pub returns-in_err-print_operator : goal.returns-in_err-print_operator
-unfolding pen_after
+unfolding at_place
 returns-in_err-print_operator g c =
     let o = c.args.node.now.operator in
     let a = g.N.PrintNode.plain c.args.node.now.left.node in
@@ -51,11 +51,11 @@ returns-in_err-print_operator g c =
     stopped _ c.from_residual-in_err-print_operator.ensures.0 (stops_at_sign left (operator_item o) right (laid_as (pen_of c.args.p.now) same c.in_ok-print.ensures) c.in_ok-print_soft_space.ensures c.in_err-print_operator.ensures)
 
 pub print_behind_space-requires : goal.print_behind_space-requires
-unfolding pen_after
+unfolding at_place
 print_behind_space-requires g c = ap (λ p. p.start) c.in_ok-print_operator.ensures ∙ operator_nowhere c.args.node.now.operator (pen_of c.print_soft_space.new.self)
 
 pub returns : goal.returns
-unfolding pen_after
+unfolding at_place
 returns g c =
     let o = c.args.node.now.operator in
     let a = g.N.PrintNode.plain c.args.node.now.left.node in

@@ -6,13 +6,13 @@ use Rattle.jsgen_model.specs.Operators.{logical_item}
 use Rattle.jsgen_printer.specs.Printer.{pen_of}
 use Rattle.jsgen_printer.proofs.Stops.{stopped, stops_first}
 use Rattle.jsgen_place.specs.Place.{place_of}
-use Rattle.jsgen_nodes.specs.Place.{pen_after}
+use Rattle.jsgen_nodes.specs.Place.{at_place}
 use Rattle.jsgen_nodes.proofs.Placed.{laid_as, stops_as, there}
 use Rattle.jsgen_nodes.proofs.Operations.{operation_laid, logical_nowhere, stops_before_sign, stops_at_sign}
 use Rattle.jsgen_nodes.proofs.expressions.print_logical_operation.Goals as goal
 
 pub returns-in_err-print : goal.returns-in_err-print
-unfolding pen_after
+unfolding at_place
 returns-in_err-print g c =
     let o = c.args.node.now.operator in
     let a = g.N.PrintNode.plain c.args.node.now.left.node in
@@ -24,7 +24,7 @@ returns-in_err-print g c =
     stopped _ c.from_residual.ensures.0 (stops_first left (soft_space ⊕ ((logical_item o) ⊕ (soft_space ⊕ right))) (stops_as same c.in_err-print.ensures))
 
 pub returns-in_err-print_soft_space : goal.returns-in_err-print_soft_space
-unfolding pen_after
+unfolding at_place
 returns-in_err-print_soft_space g c =
     let o = c.args.node.now.operator in
     let a = g.N.PrintNode.plain c.args.node.now.left.node in
@@ -36,7 +36,7 @@ returns-in_err-print_soft_space g c =
     stopped _ c.from_residual-in_err-print_soft_space.ensures.0 (stops_before_sign left (logical_item o) right (laid_as (pen_of c.args.p.now) same c.in_ok-print.ensures) c.in_err-print_soft_space.ensures)
 
 pub returns-in_err-print_logical_sign : goal.returns-in_err-print_logical_sign
-unfolding pen_after
+unfolding at_place
 returns-in_err-print_logical_sign g c =
     let o = c.args.node.now.operator in
     let a = g.N.PrintNode.plain c.args.node.now.left.node in
@@ -48,11 +48,11 @@ returns-in_err-print_logical_sign g c =
     stopped _ c.from_residual-in_err-print_logical_sign.ensures.0 (stops_at_sign left (logical_item o) right (laid_as (pen_of c.args.p.now) same c.in_ok-print.ensures) c.in_ok-print_soft_space.ensures c.in_err-print_logical_sign.ensures)
 
 pub print_behind_space-requires : goal.print_behind_space-requires
-unfolding pen_after
+unfolding at_place
 print_behind_space-requires g c = ap (λ p. p.start) c.in_ok-print_logical_sign.ensures ∙ logical_nowhere c.args.node.now.operator (pen_of c.print_soft_space.new.self)
 
 pub returns : goal.returns
-unfolding pen_after
+unfolding at_place
 returns g c =
     let o = c.args.node.now.operator in
     let a = g.N.PrintNode.plain c.args.node.now.left.node in

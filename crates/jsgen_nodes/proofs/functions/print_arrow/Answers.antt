@@ -8,11 +8,11 @@ use Rattle.jsgen_place.specs.Place.{place_of, settings_of}
 use Rattle.jsgen_printer.specs.Printer.{pen_of}
 use Rattle.jsgen_printer.proofs.Stops.{stopped, stops_first}
 use Rattle.jsgen_lists.proofs.Turns.{last_reaches}
-use Rattle.jsgen_nodes.specs.Place.{pen_after}
+use Rattle.jsgen_nodes.specs.Place.{at_place}
 use Rattle.jsgen_nodes.proofs.functions.print_arrow.Goals as goal
 
 pub returns-in_err-print_arrow_parameters : goal.returns-in_err-print_arrow_parameters
-unfolding pen_after
+unfolding at_place
 returns-in_err-print_arrow_parameters g c =
     let row = formal_parameters_row g.N.PrintNode.plain c.args.node.now.params.value in
     let place = place_of c.args.place (pen_of c.args.p.now) in
@@ -21,7 +21,7 @@ returns-in_err-print_arrow_parameters g c =
     stopped _ c.from_residual.ensures.0 (stops_first (parameter_items (is_bare (settings_of c.args.place.settings) row) (spell row (parameters_place place))) body (rw c.deref.ensures at c.in_err-print_arrow_parameters.ensures))
 
 pub returns : goal.returns
-unfolding pen_after
+unfolding at_place
 returns g c =
     let row = formal_parameters_row g.N.PrintNode.plain c.args.node.now.params.value in
     let place = place_of c.args.place (pen_of c.args.p.now) in

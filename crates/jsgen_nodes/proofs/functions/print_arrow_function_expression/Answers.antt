@@ -7,17 +7,17 @@ use Rattle.jsgen_model.specs.Printing.{Reaches, Stops}
 use Rattle.jsgen_place.specs.Place.{place_of, settings_of}
 use Rattle.jsgen_printer.specs.Printer.{pen_of}
 use Rattle.jsgen_printer.proofs.Stops.{appends, stopped, stops_within}
-use Rattle.jsgen_nodes.specs.Place.{pen_after}
+use Rattle.jsgen_nodes.specs.Place.{at_place}
 use Rattle.jsgen_nodes.proofs.Operations.{wrapped_laid, stops_wrapped}
 use Rattle.jsgen_nodes.proofs.Arrows.{arrow_items, parameters_within}
 use Rattle.jsgen_nodes.proofs.functions.print_arrow_function_expression.Goals as goal
 
 pub returns-in_err-print_opening_if : goal.returns-in_err-print_opening_if
-unfolding pen_after
+unfolding at_place
 returns-in_err-print_opening_if g c = stopped _ c.from_residual.ensures.0 (stops_within (rw (c.wraps_arrow-wrap.ensures (pen_of c.args.p.now)) at c.in_err-print_opening_if.ensures) (search appends) (search appends))
 
 pub returns-in_err-print_arrow : goal.returns-in_err-print_arrow
-unfolding pen_after
+unfolding at_place
 returns-in_err-print_arrow g c =
     let params = formal_parameters_row g.N.PrintNode.plain c.args.node.now.params.value in
     let body = in_arrow_function_body g.N.PrintNode.plain c.args.node.now.body in
@@ -29,7 +29,7 @@ returns-in_err-print_arrow g c =
     stopped _ c.from_residual-in_err-print_arrow.ensures.0 (subst (λ q. Stops before (pen_of c.print_arrow.new.p) (layout (wrapped wraps (arrow_items bare params body q (within wraps place))) before)) (parameters_within wraps place) s)
 
 pub returns : goal.returns
-unfolding pen_after
+unfolding at_place
 returns g c =
     let params = formal_parameters_row g.N.PrintNode.plain c.args.node.now.params.value in
     let body = in_arrow_function_body g.N.PrintNode.plain c.args.node.now.body in

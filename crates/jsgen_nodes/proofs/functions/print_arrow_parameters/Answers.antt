@@ -5,12 +5,12 @@ use Rattle.jsgen_model.specs.Spell.{parameters_place}
 use Rattle.jsgen_model.specs.Printing.{Reaches}
 use Rattle.jsgen_place.specs.Place.{place_of, settings_of}
 use Rattle.jsgen_printer.specs.Printer.{pen_of}
-use Rattle.jsgen_nodes.specs.Place.{pen_after}
+use Rattle.jsgen_nodes.specs.Place.{at_place}
 use Rattle.jsgen_nodes.proofs.Arrows.{bare_parts, bare_name}
 use Rattle.jsgen_nodes.proofs.functions.print_arrow_parameters.Goals as goal
 
 pub returns-then-is_bare : goal.returns-then-is_bare
-unfolding pen_after
+unfolding at_place
 returns-then-is_bare g c =
     let row = formal_parameters_row g.N.PrintNode.plain c.args.parameters.now in
     let before = pen_of c.args.p.now in
@@ -19,7 +19,7 @@ returns-then-is_bare g c =
     rw bare (subst (λ items. Reaches c.print_formal_parameters.result before (pen_of c.print_formal_parameters.new.p) (layout items before)) alone c.print_formal_parameters.ensures)
 
 pub returns-else-is_bare : goal.returns-else-is_bare
-unfolding pen_after
+unfolding at_place
 returns-else-is_bare g c =
     let row = formal_parameters_row g.N.PrintNode.plain c.args.parameters.now in
     rw (sym (c.is_bare.ensures row c.is_name_alone.ensures) ∙ c.if-is_bare.false) (rw c.parameters-else-is_bare.ensures at c.print_parameters_in_brackets.ensures)

@@ -10,33 +10,33 @@ use Rattle.jsgen_place.specs.Place.{place_of}
 use Rattle.jsgen_printer.specs.Printer.{pen_of}
 use Rattle.jsgen_printer.proofs.Stops.{stopped, stops_first, stops_second}
 use Rattle.jsgen_lists.proofs.Turns.{last_reaches}
-use Rattle.jsgen_nodes.specs.Place.{pen_after}
+use Rattle.jsgen_nodes.specs.Place.{at_place}
 use Rattle.jsgen_nodes.proofs.Arrows.{body_laid}
 use Rattle.jsgen_nodes.proofs.functions.print_behind_parameters.Goals as goal
 
 pub returns-in_err-print_soft_space : goal.returns-in_err-print_soft_space
-unfolding pen_after
+unfolding at_place
 returns-in_err-print_soft_space g c =
     let t = in_arrow_function_body g.N.PrintNode.plain c.args.body.now in
     let begun = body_begins (type_of t) ⊕ spell t (arrow_body_place (place_of c.args.place (pen_of c.args.p.now))) in
     stopped _ c.from_residual.ensures.0 (stops_first soft_space (punctuator arrow ⊕ (soft_space ⊕ begun)) c.in_err-print_soft_space.ensures)
 
 pub returns-in_err-print_arrow : goal.returns-in_err-print_arrow
-unfolding pen_after
+unfolding at_place
 returns-in_err-print_arrow g c =
     let t = in_arrow_function_body g.N.PrintNode.plain c.args.body.now in
     let begun = body_begins (type_of t) ⊕ spell t (arrow_body_place (place_of c.args.place (pen_of c.args.p.now))) in
     stopped _ c.from_residual-in_err-print_arrow.ensures.0 (stops_second soft_space (punctuator arrow ⊕ (soft_space ⊕ begun)) c.in_ok-print_soft_space.ensures (stops_first (punctuator arrow) (soft_space ⊕ begun) c.in_err-print_arrow.ensures))
 
 pub returns-in_err-print_soft_space-2 : goal.returns-in_err-print_soft_space-2
-unfolding pen_after
+unfolding at_place
 returns-in_err-print_soft_space-2 g c =
     let t = in_arrow_function_body g.N.PrintNode.plain c.args.body.now in
     let begun = body_begins (type_of t) ⊕ spell t (arrow_body_place (place_of c.args.place (pen_of c.args.p.now))) in
     stopped _ c.from_residual-in_err-print_soft_space-2.ensures.0 (stops_second soft_space (punctuator arrow ⊕ (soft_space ⊕ begun)) c.in_ok-print_soft_space.ensures (stops_second (punctuator arrow) (soft_space ⊕ begun) c.in_ok-print_arrow.ensures (stops_first soft_space begun c.in_err-print_soft_space-2.ensures)))
 
 pub returns : goal.returns
-unfolding pen_after
+unfolding at_place
 returns g c =
     let t = in_arrow_function_body g.N.PrintNode.plain c.args.body.now in
     let before = pen_of c.args.p.now in

@@ -8,13 +8,13 @@ use Rattle.jsgen_place.specs.Place.{place_of}
 use Rattle.jsgen_printer.specs.Printer.{pen_of}
 use Rattle.jsgen_printer.proofs.Stops.{stopped, stops_first, stops_second}
 use Rattle.jsgen_lists.proofs.Turns.{last_reaches}
-use Rattle.jsgen_nodes.specs.Place.{pen_after}
+use Rattle.jsgen_nodes.specs.Place.{at_place}
 use Rattle.jsgen_nodes.proofs.Arrows.{rest_anywhere}
 use Rattle.jsgen_nodes.proofs.Placed.{laid_as, stops_as, reaches_as}
 use Rattle.jsgen_nodes.proofs.functions.print_formal_parameters.Goals as goal
 
 pub returns-in_err-print_parts : goal.returns-in_err-print_parts
-unfolding pen_after
+unfolding at_place
 returns-in_err-print_parts g c =
     let plain = g.N.PrintNode.plain in
     let before = pen_of c.args.p.now in
@@ -27,7 +27,7 @@ returns-in_err-print_parts g c =
     stopped _ c.from_residual.ensures.0 (stops_first parts (comma ⊕ last) (stops_as (ap (λ xs. spell_parts (trees (map (formal_parameter_row plain) xs)) place) c.deref.ensures.value) c.in_err-print_parts.ensures))
 
 pub returns-in_err-print_comma_between : goal.returns-in_err-print_comma_between
-unfolding pen_after
+unfolding at_place
 returns-in_err-print_comma_between g c =
     let plain = g.N.PrintNode.plain in
     let before = pen_of c.args.p.now in
@@ -40,7 +40,7 @@ returns-in_err-print_comma_between g c =
     stopped _ c.from_residual-in_err-print_comma_between.ensures.0 (stops_second parts (comma ⊕ last) (laid_as before (ap (λ xs. spell_parts (trees (map (formal_parameter_row plain) xs)) place) c.deref.ensures.value) c.in_ok-print_parts.ensures) (stops_first comma last (stops_as (ap (λ xs. comma_between (trees (map (formal_parameter_row plain) xs)) rest) c.deref-2.ensures.value) c.in_err-print_comma_between.ensures)))
 
 pub returns : goal.returns
-unfolding pen_after
+unfolding at_place
 returns g c =
     let plain = g.N.PrintNode.plain in
     let before = pen_of c.args.p.now in

@@ -10,19 +10,19 @@ use Rattle.jsgen_printer.proofs.Prefixes.{whole_prefix}
 use Rattle.jsgen_printer.proofs.Stops.{stopped, stops_within}
 use Rattle.jsgen_lists.specs.Lists.{listed}
 use Rattle.jsgen_lists.proofs.Turns.{opened_within, stops_in_brackets, brackets_closed}
-use Rattle.jsgen_nodes.specs.Place.{pen_after}
+use Rattle.jsgen_nodes.specs.Place.{at_place}
 use Rattle.jsgen_nodes.proofs.Arrows.{parts_behind}
 use Rattle.jsgen_nodes.proofs.functions.print_parameters_in_brackets.Goals as goal
 
 pub returns-in_err-print_opening : goal.returns-in_err-print_opening
-unfolding pen_after
+unfolding at_place
 returns-in_err-print_opening g c =
     let before = pen_of c.args.p.now in
     let parameters = spell (formal_parameters_row g.N.PrintNode.plain c.args.parameters.now) (listed c.args.place) in
     stopped _ c.from_residual.ensures.0 (stops_within c.in_err-print_opening.ensures (whole_prefix before.code) (opened_within Round parameters before))
 
 pub returns-in_err-print_formal_parameters : goal.returns-in_err-print_formal_parameters
-unfolding pen_after
+unfolding at_place
 returns-in_err-print_formal_parameters g c =
     let plain = g.N.PrintNode.plain in
     let opened = pen_of c.print_opening.new.self in
@@ -31,7 +31,7 @@ returns-in_err-print_formal_parameters g c =
     stopped _ c.from_residual-in_err-print_formal_parameters.ensures.0 (stops_in_brackets Round parameters c.in_ok-print_opening.ensures (subst (λ i. Stops opened (pen_of c.print_formal_parameters.new.p) (layout i opened)) there c.in_err-print_formal_parameters.ensures))
 
 pub returns : goal.returns
-unfolding pen_after
+unfolding at_place
 returns g c =
     let plain = g.N.PrintNode.plain in
     let opened = pen_of c.print_opening.new.self in

@@ -9,12 +9,12 @@ use Rattle.jsgen_printer.specs.Printer.{pen_of}
 use Rattle.jsgen_printer.proofs.Stops.{stopped, stops_first, stops_second}
 use Rattle.jsgen_place.specs.Place.{settings_of}
 use Rattle.jsgen_lists.proofs.Turns.{last_reaches}
-use Rattle.jsgen_nodes.specs.Place.{pen_after}
+use Rattle.jsgen_nodes.specs.Place.{at_place}
 use Rattle.jsgen_nodes.proofs.Caught.{handler_anywhere}
 use Rattle.jsgen_nodes.proofs.handlers.print_behind_try.Goals as goal
 
 pub returns-in_err-print_if_given : goal.returns-in_err-print_if_given
-unfolding pen_after
+unfolding at_place
 returns-in_err-print_if_given g c =
     let plain = g.N.PrintNode.plain in
     let settings = settings_of c.args.settings in
@@ -27,7 +27,7 @@ returns-in_err-print_if_given g c =
     stopped _ c.from_residual.ensures.0 (stops_first handler (finalizer ⊕ soft_line) in_handler)
 
 pub returns-in_err-print_finalizer : goal.returns-in_err-print_finalizer
-unfolding pen_after
+unfolding at_place
 returns-in_err-print_finalizer g c =
     let plain = g.N.PrintNode.plain in
     let settings = settings_of c.args.settings in
@@ -40,7 +40,7 @@ returns-in_err-print_finalizer g c =
     stopped _ c.from_residual-in_err-print_finalizer.ensures.0 (stops_second handler (finalizer ⊕ soft_line) behind_handler (stops_first finalizer soft_line c.in_err-print_finalizer.ensures))
 
 pub returns : goal.returns
-unfolding pen_after
+unfolding at_place
 returns g c =
     let plain = g.N.PrintNode.plain in
     let settings = settings_of c.args.settings in

@@ -9,20 +9,20 @@ use Rattle.jsgen_printer.proofs.Stops.{stopped, stops_first}
 use Rattle.jsgen_place.specs.Place.{place_of, settings_of}
 use Rattle.jsgen_lists.specs.Lists.{listed}
 use Rattle.jsgen_lists.proofs.Turns.{last_reaches}
-use Rattle.jsgen_nodes.specs.Place.{pen_after}
+use Rattle.jsgen_nodes.specs.Place.{at_place}
 use Rattle.jsgen_nodes.proofs.Caught.{caught_nowhere}
 use Rattle.jsgen_nodes.proofs.Placed.{reaches_as}
 use Rattle.jsgen_nodes.proofs.handlers.print_catch_clause.Goals as goal
 
 pub print_behind_space-requires : goal.print_behind_space-requires
-unfolding pen_after
+unfolding at_place
 print_behind_space-requires g c =
     let param = optional (option_map (in_binding_pattern g.N.PrintNode.plain) c.args.node.now.param) in
     let before = pen_of c.args.p.now in
     ap (λ p. p.start) c.in_ok-print_catch.ensures ∙ caught_nowhere param (behind Lowest (place_of c.args.place before)) before
 
 pub returns-in_err-print_catch : goal.returns-in_err-print_catch
-unfolding pen_after
+unfolding at_place
 returns-in_err-print_catch g c =
     let plain = g.N.PrintNode.plain in
     let param = spell_caught (optional (option_map (in_binding_pattern plain) c.args.node.now.param)) (behind Lowest (place_of c.args.place (pen_of c.args.p.now))) in
@@ -30,7 +30,7 @@ returns-in_err-print_catch g c =
     stopped _ c.from_residual.ensures.0 (stops_first (soft_space ⊕ (word (codes "catch") ⊕ param)) (soft_space ⊕ block) c.in_err-print_catch.ensures)
 
 pub returns : goal.returns
-unfolding pen_after
+unfolding at_place
 returns g c =
     let plain = g.N.PrintNode.plain in
     let param = spell_caught (optional (option_map (in_binding_pattern plain) c.args.node.now.param)) (behind Lowest (place_of c.args.place (pen_of c.args.p.now))) in

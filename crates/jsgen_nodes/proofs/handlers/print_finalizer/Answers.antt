@@ -1,6 +1,6 @@
-use Rattle.jsgen_nodes.specs.Place.{pen_after}
+use Rattle.jsgen_nodes.specs.Place.{at_place}
 use Rattle.jsgen_nodes.proofs.handlers.print_finalizer.Goals as goal
 
 pub returns-in-Some : goal.returns-in-Some
-unfolding pen_after
+unfolding at_place
 returns-in-Some g c = rw c.in-Some.is (rw c.within_statement-within.ensures at c.print_behind_spaced_word.ensures)

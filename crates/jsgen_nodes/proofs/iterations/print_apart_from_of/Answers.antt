@@ -4,13 +4,13 @@ use Rattle.jsgen_tree.specs.Rows.{in_for_statement_left}
 use Rattle.jsgen_model.specs.Printing.{Reaches}
 use Rattle.jsgen_printer.specs.Printer.{pen_of}
 use Rattle.jsgen_place.specs.Place.{settings_of}
-use Rattle.jsgen_nodes.specs.Place.{pen_after}
+use Rattle.jsgen_nodes.specs.Place.{at_place}
 use Rattle.jsgen_nodes.specs.Loops.{left_of}
 use Rattle.jsgen_nodes.proofs.Lefts.{async_apart, other_bare}
 use Rattle.jsgen_nodes.proofs.iterations.print_apart_from_of.Goals as goal
 
 pub returns-then-is_async : goal.returns-then-is_async
-unfolding pen_after
+unfolding at_place
 returns-then-is_async g c =
     let left = in_for_statement_left g.N.PrintNode.plain c.args.left.now in
     let before = pen_of c.args.p.now in
@@ -18,7 +18,7 @@ returns-then-is_async g c =
     subst (λ w. Reaches c.print_left_in_parentheses.result before (pen_of c.print_left_in_parentheses.new.p) w) (async_apart (looked_up_in left) items before (sym c.is_async.ensures ∙ c.if-is_async.true)) c.print_left_in_parentheses.ensures
 
 pub returns-else-is_async : goal.returns-else-is_async
-unfolding pen_after
+unfolding at_place
 returns-else-is_async g c =
     let left = in_for_statement_left g.N.PrintNode.plain c.args.left.now in
     let before = pen_of c.args.p.now in

@@ -7,12 +7,12 @@ use Rattle.jsgen_printer.specs.Printer.{pen_of}
 use Rattle.jsgen_printer.proofs.Stops.{stopped, stops_first}
 use Rattle.jsgen_place.specs.Place.{settings_of}
 use Rattle.jsgen_lists.proofs.Turns.{last_reaches}
-use Rattle.jsgen_nodes.specs.Place.{pen_after}
+use Rattle.jsgen_nodes.specs.Place.{at_place}
 use Rattle.jsgen_nodes.specs.Loops.{left_of}
 use Rattle.jsgen_nodes.proofs.iterations.print_in_parts.Goals as goal
 
 pub returns-in_err-print_left : goal.returns-in_err-print_left
-unfolding pen_after
+unfolding at_place
 returns-in_err-print_left g c =
     let plain = g.N.PrintNode.plain in
     let settings = settings_of c.args.settings in
@@ -21,7 +21,7 @@ returns-in_err-print_left g c =
     stopped _ c.from_residual.ensures.0 (stops_first left right c.in_err-print_left.ensures)
 
 pub returns : goal.returns
-unfolding pen_after
+unfolding at_place
 returns g c =
     let plain = g.N.PrintNode.plain in
     let settings = settings_of c.args.settings in

@@ -7,16 +7,16 @@ use Rattle.jsgen_printer.proofs.Prefixes.{whole_prefix}
 use Rattle.jsgen_printer.proofs.Stops.{stopped, stops_within, stops_first, stops_second}
 use Rattle.jsgen_place.specs.Place.{settings_of}
 use Rattle.jsgen_lists.proofs.Turns.{last_reaches, opened_within, stops_in_brackets, brackets_closed}
-use Rattle.jsgen_nodes.specs.Place.{pen_after}
+use Rattle.jsgen_nodes.specs.Place.{at_place}
 use Rattle.jsgen_nodes.specs.Loops.{of_parts}
 use Rattle.jsgen_nodes.proofs.iterations.print_of_head.Goals as goal
 
 pub print_of_parts-requires : goal.print_of_parts-requires
-unfolding pen_after
+unfolding at_place
 print_of_parts-requires g c = ap (λ p. p.start) c.in_ok-print_opening.ensures
 
 pub returns-in_err-print_for : goal.returns-in_err-print_for
-unfolding pen_after
+unfolding at_place
 returns-in_err-print_for g c =
     let plain = g.N.PrintNode.plain in
     let settings = settings_of c.args.settings in
@@ -25,7 +25,7 @@ returns-in_err-print_for g c =
     stopped _ c.from_residual.ensures.0 (stops_first first (brackets Round parts) c.in_err-print_for.ensures)
 
 pub returns-in_err-print_opening : goal.returns-in_err-print_opening
-unfolding pen_after
+unfolding at_place
 returns-in_err-print_opening g c =
     let plain = g.N.PrintNode.plain in
     let settings = settings_of c.args.settings in
@@ -35,7 +35,7 @@ returns-in_err-print_opening g c =
     stopped _ c.from_residual-in_err-print_opening.ensures.0 (stops_second first (brackets Round parts) c.in_ok-print_for.ensures (stops_within c.in_err-print_opening.ensures (whole_prefix begun.code) (opened_within Round parts begun)))
 
 pub returns-in_err-print_of_parts : goal.returns-in_err-print_of_parts
-unfolding pen_after
+unfolding at_place
 returns-in_err-print_of_parts g c =
     let plain = g.N.PrintNode.plain in
     let settings = settings_of c.args.settings in
@@ -44,7 +44,7 @@ returns-in_err-print_of_parts g c =
     stopped _ c.from_residual-in_err-print_of_parts.ensures.0 (stops_second first (brackets Round parts) c.in_ok-print_for.ensures (stops_in_brackets Round parts c.in_ok-print_opening.ensures c.in_err-print_of_parts.ensures))
 
 pub returns : goal.returns
-unfolding pen_after
+unfolding at_place
 returns g c =
     let plain = g.N.PrintNode.plain in
     let settings = settings_of c.args.settings in

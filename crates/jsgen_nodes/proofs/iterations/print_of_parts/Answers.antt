@@ -8,12 +8,12 @@ use Rattle.jsgen_printer.specs.Printer.{pen_of}
 use Rattle.jsgen_printer.proofs.Stops.{stopped, stops_first}
 use Rattle.jsgen_place.specs.Place.{settings_of}
 use Rattle.jsgen_lists.proofs.Turns.{last_reaches}
-use Rattle.jsgen_nodes.specs.Place.{pen_after}
+use Rattle.jsgen_nodes.specs.Place.{at_place}
 use Rattle.jsgen_nodes.specs.Loops.{left_of}
 use Rattle.jsgen_nodes.proofs.iterations.print_of_parts.Goals as goal
 
 pub returns-in_err-print_apart_from_of : goal.returns-in_err-print_apart_from_of
-unfolding pen_after
+unfolding at_place
 returns-in_err-print_apart_from_of g c =
     let plain = g.N.PrintNode.plain in
     let settings = settings_of c.args.settings in
@@ -22,7 +22,7 @@ returns-in_err-print_apart_from_of g c =
     stopped _ c.from_residual.ensures.0 (stops_first left right c.in_err-print_apart_from_of.ensures)
 
 pub returns : goal.returns
-unfolding pen_after
+unfolding at_place
 returns g c =
     let plain = g.N.PrintNode.plain in
     let settings = settings_of c.args.settings in

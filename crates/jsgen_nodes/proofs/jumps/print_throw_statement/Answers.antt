@@ -8,11 +8,11 @@ use Rattle.jsgen_printer.specs.Printer.{pen_of}
 use Rattle.jsgen_printer.proofs.Stops.{stopped, stops_first, stops_second}
 use Rattle.jsgen_place.specs.Place.{settings_of}
 use Rattle.jsgen_lists.proofs.Turns.{last_reaches}
-use Rattle.jsgen_nodes.specs.Place.{pen_after}
+use Rattle.jsgen_nodes.specs.Place.{at_place}
 use Rattle.jsgen_nodes.proofs.jumps.print_throw_statement.Goals as goal
 
 pub returns-in_err-print_indentation : goal.returns-in_err-print_indentation
-unfolding pen_after
+unfolding at_place
 returns-in_err-print_indentation g c =
     let plain = g.N.PrintNode.plain in
     let settings = settings_of c.args.place.settings in
@@ -20,7 +20,7 @@ returns-in_err-print_indentation g c =
     stopped _ c.from_residual.ensures.0 (stops_first indentation (argument ⊕ statement_end) c.in_err-print_indentation.ensures)
 
 pub returns-in_err-print_behind_word : goal.returns-in_err-print_behind_word
-unfolding pen_after
+unfolding at_place
 returns-in_err-print_behind_word g c =
     let plain = g.N.PrintNode.plain in
     let settings = settings_of c.args.place.settings in
@@ -28,7 +28,7 @@ returns-in_err-print_behind_word g c =
     stopped _ c.from_residual-in_err-print_behind_word.ensures.0 (stops_second indentation (argument ⊕ statement_end) c.in_ok-print_indentation.ensures (stops_first argument statement_end (rw c.in_brackets-within.ensures at c.in_err-print_behind_word.ensures)))
 
 pub returns : goal.returns
-unfolding pen_after
+unfolding at_place
 returns g c =
     let plain = g.N.PrintNode.plain in
     let settings = settings_of c.args.place.settings in

@@ -11,19 +11,19 @@ use Rattle.jsgen_printer.specs.Printer.{pen_of}
 use Rattle.jsgen_printer.proofs.Stops.{appends, stopped, stops_within}
 use Rattle.jsgen_place.specs.Place.{place_of}
 use Rattle.jsgen_lists.proofs.Turns.{last_reaches}
-use Rattle.jsgen_nodes.specs.Place.{pen_after}
+use Rattle.jsgen_nodes.specs.Place.{at_place}
 use Rattle.jsgen_nodes.proofs.links.print_call.Goals as goal
 
 pub returns-in_err-print : goal.returns-in_err-print
-unfolding pen_after
+unfolding at_place
 returns-in_err-print g c = stopped _ c.from_residual.ensures.0 (stops_within (rw (c.get.ensures, c.called.ensures (pen_of c.args.p.now)) at c.in_err-print.ensures) (search appends) (search appends))
 
 pub returns-in_err-print_bracket_link : goal.returns-in_err-print_bracket_link
-unfolding pen_after
+unfolding at_place
 returns-in_err-print_bracket_link g c = stopped _ c.from_residual-in_err-print_bracket_link.ensures.0 (stops_within (rw (c.in_ok-print.ensures, c.get.ensures, c.called.ensures (pen_of c.args.p.now)) at c.in_err-print_bracket_link.ensures) (search appends) (search appends))
 
 pub returns : goal.returns
-unfolding pen_after
+unfolding at_place
 returns g c =
     let node = c.args.node.now in
     let callee = in_expression g.N.PrintNode.plain node.callee in

@@ -8,15 +8,15 @@ use Rattle.jsgen_printer.specs.Printer.{pen_of}
 use Rattle.jsgen_printer.proofs.Stops.{appends, stopped, stops_within}
 use Rattle.jsgen_place.specs.Place.{place_of}
 use Rattle.jsgen_lists.proofs.Turns.{last_reaches}
-use Rattle.jsgen_nodes.specs.Place.{pen_after}
+use Rattle.jsgen_nodes.specs.Place.{at_place}
 use Rattle.jsgen_nodes.proofs.links.print_computed_member_expression.Goals as goal
 
 pub returns-in_err-print : goal.returns-in_err-print
-unfolding pen_after
+unfolding at_place
 returns-in_err-print g c = stopped _ c.from_residual.ensures.0 (stops_within (rw (c.get.ensures, c.child.ensures) at c.in_err-print.ensures) (search appends) (search appends))
 
 pub returns : goal.returns
-unfolding pen_after
+unfolding at_place
 returns g c =
     let plain = in_expression g.N.PrintNode.plain in
     let node = c.args.node.now in

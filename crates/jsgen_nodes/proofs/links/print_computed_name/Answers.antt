@@ -9,20 +9,20 @@ use Rattle.jsgen_printer.proofs.Stops.{appends, stopped, stops_within, stops_sec
 use Rattle.jsgen_place.specs.Place.{place_of}
 use Rattle.jsgen_lists.specs.Lists.{listed}
 use Rattle.jsgen_lists.proofs.Turns.{last_reaches, begun_nowhere, stops_in_brackets, brackets_closed}
-use Rattle.jsgen_nodes.specs.Place.{pen_after}
+use Rattle.jsgen_nodes.specs.Place.{at_place}
 use Rattle.jsgen_nodes.proofs.Placed.{laid_as, stops_as}
 use Rattle.jsgen_nodes.proofs.links.print_computed_name.Goals as goal
 
 pub returns-in_err-print_bracket_link : goal.returns-in_err-print_bracket_link
-unfolding pen_after
+unfolding at_place
 returns-in_err-print_bracket_link g c = stopped _ c.from_residual.ensures.0 (stops_within c.in_err-print_bracket_link.ensures (search appends) (search appends))
 
 pub returns-in_err-print_opening : goal.returns-in_err-print_opening
-unfolding pen_after
+unfolding at_place
 returns-in_err-print_opening g c = stopped _ c.from_residual-in_err-print_opening.ensures.0 (stops_within (rw c.in_ok-print_bracket_link.ensures at c.in_err-print_opening.ensures) (search appends) (search appends))
 
 pub returns-in_err-print : goal.returns-in_err-print
-unfolding pen_after
+unfolding at_place
 returns-in_err-print g c =
     let t = in_expression g.N.PrintNode.plain c.args.node.now.expression in
     let link = bracket_link c.args.node.now.optional in
@@ -33,7 +33,7 @@ returns-in_err-print g c =
     stopped _ c.from_residual-in_err-print.ensures.0 (stops_second link (brackets Square inside) c.in_ok-print_bracket_link.ensures (stops_in_brackets Square inside c.in_ok-print_opening.ensures (stops_as same c.in_err-print.ensures)))
 
 pub returns : goal.returns
-unfolding pen_after
+unfolding at_place
 returns g c =
     let t = in_expression g.N.PrintNode.plain c.args.node.now.expression in
     let link = bracket_link c.args.node.now.optional in

@@ -8,12 +8,12 @@ use Rattle.jsgen_printer.specs.Printer.{pen_of}
 use Rattle.jsgen_printer.proofs.Stops.{stopped, stops_first}
 use Rattle.jsgen_place.specs.Place.{settings_of}
 use Rattle.jsgen_lists.proofs.Turns.{last_reaches}
-use Rattle.jsgen_nodes.specs.Place.{pen_after}
+use Rattle.jsgen_nodes.specs.Place.{at_place}
 use Rattle.jsgen_nodes.proofs.Placed.{laid_as, stops_as, head_there}
 use Rattle.jsgen_nodes.proofs.loops.print_behind_do.Goals as goal
 
 pub returns-in_err-print_head : goal.returns-in_err-print_head
-unfolding pen_after
+unfolding at_place
 returns-in_err-print_head g c =
     let plain = g.N.PrintNode.plain in
     let settings = settings_of c.args.settings in
@@ -21,7 +21,7 @@ returns-in_err-print_head g c =
     stopped _ c.from_residual.ensures.0 (stops_first head statement_end (stops_as (head_there (codes "while") (in_expression plain c.args.test.now) c.in_brackets-within.ensures) c.in_err-print_head.ensures))
 
 pub returns : goal.returns
-unfolding pen_after
+unfolding at_place
 returns g c =
     let plain = g.N.PrintNode.plain in
     let settings = settings_of c.args.settings in

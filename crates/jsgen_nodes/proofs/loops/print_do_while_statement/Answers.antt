@@ -9,16 +9,16 @@ use Rattle.jsgen_printer.specs.Printer.{pen_of}
 use Rattle.jsgen_printer.proofs.Stops.{stopped, stops_first, stops_second}
 use Rattle.jsgen_place.specs.Place.{settings_of}
 use Rattle.jsgen_lists.proofs.Turns.{last_reaches}
-use Rattle.jsgen_nodes.specs.Place.{pen_after}
+use Rattle.jsgen_nodes.specs.Place.{at_place}
 use Rattle.jsgen_nodes.specs.Blocks.{do_body_of}
 use Rattle.jsgen_nodes.proofs.loops.print_do_while_statement.Goals as goal
 
 pub print_do_body-requires : goal.print_do_body-requires
-unfolding pen_after
+unfolding at_place
 print_do_body-requires g c = ap (λ p. p.start) c.in_ok-print_word.ensures
 
 pub returns-in_err-print_indentation : goal.returns-in_err-print_indentation
-unfolding pen_after
+unfolding at_place
 returns-in_err-print_indentation g c =
     let plain = g.N.PrintNode.plain in
     let settings = settings_of c.args.place.settings in
@@ -27,7 +27,7 @@ returns-in_err-print_indentation g c =
     stopped _ c.from_residual.ensures.0 (stops_first indentation (word (codes "do") ⊕ (body ⊕ tail)) c.in_err-print_indentation.ensures)
 
 pub returns-in_err-print_word : goal.returns-in_err-print_word
-unfolding pen_after
+unfolding at_place
 returns-in_err-print_word g c =
     let plain = g.N.PrintNode.plain in
     let settings = settings_of c.args.place.settings in
@@ -36,7 +36,7 @@ returns-in_err-print_word g c =
     stopped _ c.from_residual-in_err-print_word.ensures.0 (stops_second indentation (word (codes "do") ⊕ (body ⊕ tail)) c.in_ok-print_indentation.ensures (stops_first (word (codes "do")) (body ⊕ tail) c.in_err-print_word.ensures))
 
 pub returns-in_err-print_do_body : goal.returns-in_err-print_do_body
-unfolding pen_after
+unfolding at_place
 returns-in_err-print_do_body g c =
     let plain = g.N.PrintNode.plain in
     let settings = settings_of c.args.place.settings in
@@ -45,7 +45,7 @@ returns-in_err-print_do_body g c =
     stopped _ c.from_residual-in_err-print_do_body.ensures.0 (stops_second indentation (word (codes "do") ⊕ (body ⊕ tail)) c.in_ok-print_indentation.ensures (stops_second (word (codes "do")) (body ⊕ tail) c.in_ok-print_word.ensures (stops_first body tail c.in_err-print_do_body.ensures)))
 
 pub returns : goal.returns
-unfolding pen_after
+unfolding at_place
 returns g c =
     let plain = g.N.PrintNode.plain in
     let settings = settings_of c.args.place.settings in

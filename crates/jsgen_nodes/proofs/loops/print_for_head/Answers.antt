@@ -10,11 +10,11 @@ use Rattle.jsgen_printer.proofs.Stops.{stopped, stops_first}
 use Rattle.jsgen_place.specs.Place.{settings_of}
 use Rattle.jsgen_lists.specs.Lists.{loop_parts}
 use Rattle.jsgen_lists.proofs.Turns.{last_reaches}
-use Rattle.jsgen_nodes.specs.Place.{pen_after}
+use Rattle.jsgen_nodes.specs.Place.{at_place}
 use Rattle.jsgen_nodes.proofs.loops.print_for_head.Goals as goal
 
 pub returns-in_err-print_for : goal.returns-in_err-print_for
-unfolding pen_after
+unfolding at_place
 returns-in_err-print_for g c =
     let plain = g.N.PrintNode.plain in
     let settings = settings_of c.args.settings in
@@ -23,7 +23,7 @@ returns-in_err-print_for g c =
     stopped _ c.from_residual.ensures.0 (stops_first first parts c.in_err-print_for.ensures)
 
 pub returns : goal.returns
-unfolding pen_after
+unfolding at_place
 returns g c =
     let plain = g.N.PrintNode.plain in
     let settings = settings_of c.args.settings in

@@ -11,16 +11,16 @@ use Rattle.jsgen_printer.proofs.Stops.{stopped, stops_first, stops_second}
 use Rattle.jsgen_place.specs.Place.{settings_of}
 use Rattle.jsgen_lists.specs.Lists.{loop_parts}
 use Rattle.jsgen_lists.proofs.Turns.{last_reaches}
-use Rattle.jsgen_nodes.specs.Place.{pen_after}
+use Rattle.jsgen_nodes.specs.Place.{at_place}
 use Rattle.jsgen_nodes.specs.Blocks.{body_of}
 use Rattle.jsgen_nodes.proofs.loops.print_for_statement.Goals as goal
 
 pub print_body-requires : goal.print_body-requires
-unfolding pen_after
+unfolding at_place
 print_body-requires g c = ap (λ p. p.start) c.in_ok-print_for_head.ensures
 
 pub returns-in_err-print_indentation : goal.returns-in_err-print_indentation
-unfolding pen_after
+unfolding at_place
 returns-in_err-print_indentation g c =
     let plain = g.N.PrintNode.plain in
     let settings = settings_of c.args.place.settings in
@@ -29,7 +29,7 @@ returns-in_err-print_indentation g c =
     stopped _ c.from_residual.ensures.0 (stops_first indentation (head ⊕ body) c.in_err-print_indentation.ensures)
 
 pub returns-in_err-print_for_head : goal.returns-in_err-print_for_head
-unfolding pen_after
+unfolding at_place
 returns-in_err-print_for_head g c =
     let plain = g.N.PrintNode.plain in
     let settings = settings_of c.args.place.settings in
@@ -38,7 +38,7 @@ returns-in_err-print_for_head g c =
     stopped _ c.from_residual-in_err-print_for_head.ensures.0 (stops_second indentation (head ⊕ body) c.in_ok-print_indentation.ensures (stops_first head body c.in_err-print_for_head.ensures))
 
 pub returns : goal.returns
-unfolding pen_after
+unfolding at_place
 returns g c =
     let plain = g.N.PrintNode.plain in
     let settings = settings_of c.args.place.settings in

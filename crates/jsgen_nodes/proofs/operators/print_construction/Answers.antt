@@ -9,21 +9,21 @@ use Rattle.jsgen_printer.specs.Printer.{pen_of}
 use Rattle.jsgen_printer.proofs.Stops.{appends, stopped, stops_within, stops_first, stops_second}
 use Rattle.jsgen_place.specs.Place.{place_of}
 use Rattle.jsgen_lists.proofs.Turns.{last_reaches}
-use Rattle.jsgen_nodes.specs.Place.{pen_after}
+use Rattle.jsgen_nodes.specs.Place.{at_place}
 use Rattle.jsgen_nodes.proofs.Constructions.{place_behind_new}
 use Rattle.jsgen_nodes.proofs.Placed.{laid_as, stops_as}
 use Rattle.jsgen_nodes.proofs.operators.print_construction.Goals as goal
 
 pub returns-in_err-print_word : goal.returns-in_err-print_word
-unfolding pen_after
+unfolding at_place
 returns-in_err-print_word g c = stopped _ c.from_residual.ensures.0 (stops_within c.in_err-print_word.ensures (search appends) (search appends))
 
 pub returns-in_err-print_soft_space : goal.returns-in_err-print_soft_space
-unfolding pen_after
+unfolding at_place
 returns-in_err-print_soft_space g c = stopped _ c.from_residual-in_err-print_soft_space.ensures.0 (stops_within (rw c.in_ok-print_word.ensures at c.in_err-print_soft_space.ensures) (search appends) (search appends))
 
 pub returns-in_err-print : goal.returns-in_err-print
-unfolding pen_after
+unfolding at_place
 returns-in_err-print g c =
     let plain = g.N.PrintNode.plain in
     let place = place_of c.args.place (pen_of c.args.p.now) in
@@ -37,7 +37,7 @@ returns-in_err-print g c =
     stopped _ c.from_residual-in_err-print.ensures.0 (stops_second (word (codes "new") ⊕ soft_space) (callee ⊕ last) behind_new (stops_first callee last (stops_as same c.in_err-print.ensures)))
 
 pub returns : goal.returns
-unfolding pen_after
+unfolding at_place
 returns g c =
     let plain = g.N.PrintNode.plain in
     let place = place_of c.args.place (pen_of c.args.p.now) in

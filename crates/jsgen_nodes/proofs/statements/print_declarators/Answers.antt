@@ -9,7 +9,7 @@ use Rattle.jsgen_model.specs.Spell.{spell_list, spell_parts, behind}
 use Rattle.jsgen_printer.specs.Printer.{pen_of}
 use Rattle.jsgen_printer.proofs.Stops.{stopped, stops_first, stops_second}
 use Rattle.jsgen_place.specs.Place.{place_of}
-use Rattle.jsgen_nodes.specs.Place.{pen_after}
+use Rattle.jsgen_nodes.specs.Place.{at_place}
 use Rattle.jsgen_lists.specs.Lists.{listed}
 use Rattle.jsgen_lists.proofs.Turns.{last_reaches, behind_space}
 use Rattle.jsgen_nodes.proofs.Arrows.{parts_listed}
@@ -18,23 +18,23 @@ use Rattle.jsgen_nodes.proofs.DeclarationWords.{word_is_ascii}
 use Rattle.jsgen_nodes.proofs.statements.print_declarators.Goals as goal
 
 pub print_word-requires : goal.print_word-requires
-unfolding pen_after
+unfolding at_place
 print_word-requires g c = rw c.as_str.ensures (word_is_ascii c.args.node.now.kind)
 
 pub returns-in_err-print_word : goal.returns-in_err-print_word
-unfolding pen_after
+unfolding at_place
 returns-in_err-print_word g c =
     let list = spell_list (trees (map (variable_declarator_row g.N.PrintNode.plain) c.args.node.now.declarations.items)) (behind Lowest (place_of c.args.place (pen_of c.args.p.now))) in
     stopped _ c.from_residual.ensures.0 (stops_first (word (declaration_word c.args.node.now.kind)) (soft_space ⊕ list) (rw c.as_str.ensures at c.in_err-print_word.ensures))
 
 pub returns-in_err-print_soft_space : goal.returns-in_err-print_soft_space
-unfolding pen_after
+unfolding at_place
 returns-in_err-print_soft_space g c =
     let list = spell_list (trees (map (variable_declarator_row g.N.PrintNode.plain) c.args.node.now.declarations.items)) (behind Lowest (place_of c.args.place (pen_of c.args.p.now))) in
     stopped _ c.from_residual-in_err-print_soft_space.ensures.0 (stops_second (word (declaration_word c.args.node.now.kind)) (soft_space ⊕ list) (rw c.as_str.ensures at c.in_ok-print_word.ensures) (stops_first soft_space list c.in_err-print_soft_space.ensures))
 
 pub returns : goal.returns
-unfolding pen_after
+unfolding at_place
 returns g c =
     let row = variable_declarator_row g.N.PrintNode.plain in
     let before = pen_of c.args.p.now in

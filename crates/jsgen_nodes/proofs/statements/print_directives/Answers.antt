@@ -6,12 +6,12 @@ use Rattle.jsgen_model.specs.Spell.{spell, spell_directives, among_statements}
 use Rattle.jsgen_printer.specs.Printer.{pen_of}
 use Rattle.jsgen_printer.proofs.Stops.{stopped, stops_first}
 use Rattle.jsgen_place.specs.Place.{settings_of}
-use Rattle.jsgen_nodes.specs.Place.{pen_after}
+use Rattle.jsgen_nodes.specs.Place.{at_place}
 use Rattle.jsgen_lists.proofs.Turns.{turn_left, part_stopped, turn_done}
 use Rattle.jsgen_nodes.proofs.statements.print_directives.Goals as goal
 
 pub loop-directive-preserved : goal.loop-directive-preserved
-unfolding pen_after
+unfolding at_place
 loop-directive-preserved l =
     let settings = settings_of l.args.settings in
     let items = λ (ds : _). spell_directives (trees (map directive_row ds)) settings in
@@ -20,11 +20,11 @@ loop-directive-preserved l =
     turn_done (spell (directive_row l.directive-item.result) (among_statements settings)) (items (drop (l.loop-directive.directive-index + 1) l.args.directives.now)) (pen_of l.args.p.now) at (pen_of l.print_directive.new.p) l.loop-directive.invariant.0 left l.in_ok-print_directive.ensures
 
 pub returns : goal.returns
-unfolding pen_after
+unfolding at_place
 returns l = grind (arith, common_steps)
 
 pub returns-in_err-print_directive : goal.returns-in_err-print_directive
-unfolding pen_after
+unfolding at_place
 returns-in_err-print_directive c =
     let settings = settings_of c.args.settings in
     let items = λ (ds : _). spell_directives (trees (map directive_row ds)) settings in
