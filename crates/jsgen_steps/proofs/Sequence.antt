@@ -56,6 +56,10 @@ pub ◌⨾◌ : {a b c : Printing} {i j : Pen → Items} → Lays a b i → Lays
 pub as_laid : {a b : Printing} {i : Pen → Items} (j : Pen → Items) → (has_failed a ≡ false → i (pen_at a) ≡ j (pen_at a)) → Lays a b i → Lays a b j
 as_laid {a} {b} j e h = record { stays = h.stays; goes = λ going. subst (λ items. Ends (has_failed b) (pen_at a) (pen_at b) (layout items (pen_at a))) (e going) (h.goes going) }
 
+-- the same items, grouped otherwise
+pub regrouped : {a b : Printing} {i j : Pen → Items} → ((pen : Pen) → layout (i pen) pen ≡ layout (j pen) pen) → Lays a b i → Lays a b j
+regrouped {a} {b} e h = record { stays = h.stays; goes = λ going. subst (λ whole. Ends (has_failed b) (pen_at a) (pen_at b) whole) (e (pen_at a)) (h.goes going) }
+
 -- no step
 pub nothing_laid : (p : Printing) → Lays p p (λ _. nothing)
 nothing_laid p = record { stays = λ h. (h, refl); goes = λ going. rw going refl }

@@ -1,25 +1,9 @@
-use Rattle.std.proofs.Common.{ap}
-use Rattle.jsgen_tree.specs.Rows.{in_expression}
-use Rattle.jsgen_model.specs.Items.{punctuator}
-use Rattle.jsgen_model.specs.Punctuator.{question}
-use Rattle.jsgen_printer.specs.Printer.{pen_of}
-use Rattle.jsgen_nodes.specs.Place.{at_place}
-use Rattle.jsgen_nodes.proofs.Operations.{behind_sign}
-use Rattle.jsgen_printer.proofs.Stops.{appends, stopped, stops_within}
+use Rattle.std.proofs.Common.{refl}
+use Rattle.jsgen_steps.proofs.Sequence.{◌⨾◌, items_go, none_behind}
 use Rattle.jsgen_nodes.proofs.choices.print_consequent.Goals as goal
 
-pub returns-in_err-print_soft_space : goal.returns-in_err-print_soft_space
-unfolding at_place
-returns-in_err-print_soft_space g c = stopped _ c.from_residual.ensures.0 (stops_within c.in_err-print_soft_space.ensures (search appends) (search appends))
-
-pub returns-in_err-print_question : goal.returns-in_err-print_question
-unfolding at_place
-returns-in_err-print_question g c = stopped _ c.from_residual-in_err-print_question.ensures.0 (stops_within (rw c.in_ok-print_soft_space.ensures at c.in_err-print_question.ensures) (search appends) (search appends))
-
 pub print_behind_space-requires : goal.print_behind_space-requires
-unfolding at_place
-print_behind_space-requires g c = ap (λ p. p.start) c.in_ok-print_question.ensures
+print_behind_space-requires g c = none_behind (λ pen. refl) (items_go c.print_question.ensures)
 
 pub returns : goal.returns
-unfolding at_place
-returns g c = behind_sign c.print_behind_space.result (punctuator question) (in_expression g.N.PrintNode.plain c.args.node.now) (pen_of c.args.p.now) (pen_of c.print_soft_space.new.self) (pen_of c.print_question.new.self) (pen_of c.print_behind_space.new.p) c.in_brackets-within.ensures c.in_ok-print_soft_space.ensures c.in_ok-print_question.ensures c.print_behind_space.ensures
+returns g c = rw c.in_brackets-within.ensures at (c.print_soft_space.ensures ⨾ (c.print_question.ensures ⨾ c.print_behind_space.ensures))
