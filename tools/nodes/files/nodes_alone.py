@@ -70,18 +70,16 @@ def answers(table, file, name):
         each = [answer("returns", given, printed_there(f"print_{snake(name)}", f"{row(table, name)} c.args.self.now", called))]
     else:
         each = [answer(f"returns-in-{m}", given, member(table, m, at, called)) for at, m in enumerate(table.sets[name].members)]
-    homes = row_names(table) + [("Rattle.jsgen_printer.specs.Printer", ["pen_of"]), ("Rattle.jsgen_nodes.specs.Place", ["pen_after"]),
-                                ("Rattle.jsgen_nodes.proofs.Placed", ["reaches_as", "there"])]
+    homes = row_names(table) + [("Rattle.jsgen_nodes.specs.Place", ["at_place"]), ("Rattle.jsgen_nodes.proofs.Placed", ["placed_as"])]
     return layout.antt("It is printed by itself as it is at its place.", homes, [(home, "goal")], "\n\n".join(each))
 
 
 def answer(goal, given, term):
-    return f"pub {goal} : goal.{goal}\nunfolding pen_after\n{goal} {given} = {term}"
+    return f"pub {goal} : goal.{goal}\nunfolding at_place\n{goal} {given} = {term}"
 
 
 def printed_there(function, tree, called):
-    there = f"there ({tree}) (pen_of c.args.p.now) c.{called}.ensures"
-    return f"reaches_as c.{function}.result (pen_of c.args.p.now) (pen_of c.{function}.new.p) ({there}) c.{function}.ensures"
+    return f"placed_as ({tree}) c.{called}.ensures c.{function}.ensures"
 
 
 def member(table, m, at, called):
@@ -107,15 +105,15 @@ def of_file(table, types):
                ("Rattle.jsgen_nodes.specs.Alone", ["parameter_parts"] + list(PLACES))]
     homes = print_functions() + [("crate::sets", [f"print_{snake(s.name)}" for s in table.nesting() + chosen(table)]),
                                  ("crate", ["PrintAlone", "PrintAtLevel", "PrintNode"]),
-                                 ("jsgen_place", ["Context", "Place", "Settings"]), ("jsgen_printer", ["Printer"]),
-                                 ("jsgen_syntax", ["Memory", "Precedence"]), ("jsgen_tree", list(table.nodes) + list(table.sets))]
+                                 ("jsgen_place", ["Context", "Place", "Settings"]), ("jsgen_steps", ["Printing"]),
+                                 ("jsgen_syntax", ["Precedence"]), ("jsgen_tree", list(table.nodes) + list(table.sets))]
     body = "\n\n".join(of_type(table, t) for t in types)
     return layout.rust("What is printed by itself, or at a level.", ghosts, [], homes, body)
 
 
 def head(table, trait, name):
     parameter = "<N: PrintNode>" if table.generic(name) else ""
-    unfolding = "" if trait == "PrintAtLevel" else "#[tactic(auto, unfolding(crate::specs::Place::pen_after))]\n"
+    unfolding = "" if trait == "PrintAtLevel" else "#[tactic(auto, unfolding(crate::specs::Place::at_place))]\n"
     return f"{unfolding}impl{parameter} {trait} for {name}{'<N>' if parameter else ''}"
 
 
@@ -129,7 +127,7 @@ def of_type(table, name):
         return f"""{head(table, 'PrintAtLevel', name)} {{
     ghost plain = {{ {plain(table, name)} }};
 
-    fn print_at(&self, p: &mut Printer<'_>, place: Place) -> Result<(), Memory> {{
+    fn print_at(&self, p: &mut Printing<'_>, place: Place) {{
         {body(table, name, 'place')}
     }}
 }}"""
@@ -140,10 +138,10 @@ def of_type(table, name):
 
     fn print_alone(
         &self,
-        p: &mut Printer<'_>,
+        p: &mut Printing<'_>,
         settings: Settings,
         context: Context,
-    ) -> Result<(), Memory> {{
+    ) {{
 {unused}        {body(table, name, at)}
     }}
 }}"""
@@ -157,11 +155,11 @@ def spelled(table, name):
 
 def body(table, name, at):
     if name == "Program":
-        return "print_program(self, p, settings)"
+        return "print_program(self, p, settings);"
     if name == "PropertyKey":
-        return f"print_key_text(self, p, {at})"
+        return f"print_key_text(self, p, {at});"
     if not is_chosen_here(table, name):
-        return f"print_{snake(name)}(self, p, {at})"
+        return f"print_{snake(name)}(self, p, {at});"
     arms = "".join(f"            {name}::{m}(node) => {printed(table, m)},\n" for m in table.sets[name].members)
     binding = "" if at == "place" else f"let place = {at};\n        "
     return f"{binding}match self {{\n{arms}        }}"

@@ -20,10 +20,10 @@ OF_THEIR_OWN = ("PropertyKey", "ChainElement")
 
 def write(table):
     ghosts = [("Rattle.std.specs.Prelude", ["◌≡◌", "true", "nat_le"])] + row_names(table)
-    ghosts += [("Rattle.jsgen_model.specs.Printing", ["Reaches"]), ("Rattle.jsgen_printer.specs.Printer", ["pen_of"]),
-               ("Rattle.jsgen_nodes.specs.Place", ["pen_after"]), (SPECS, [f"{snake(s.name)}_part" for s in divided(table)])]
-    homes = print_functions() + [("crate", ["PrintNode"]), ("jsgen_place", ["Place"]), ("jsgen_printer", ["Printer"]),
-                                 ("jsgen_syntax", ["Memory"]), ("jsgen_tree", list(table.sets))]
+    ghosts += [("Rattle.jsgen_steps.specs.Steps", ["Lays"]),
+               ("Rattle.jsgen_nodes.specs.Place", ["at_place"]), (SPECS, [f"{snake(s.name)}_part" for s in divided(table)])]
+    homes = print_functions() + [("crate", ["PrintNode"]), ("jsgen_place", ["Place"]), ("jsgen_steps", ["Printing"]),
+                                 ("jsgen_tree", list(table.sets))]
     functions = [function(table, s, at) for s in table.nesting() for at in range(len(parts(table, s)))]
     body = "\n\n".join(functions + [choice(table, s) for s in chosen(table)])
     files = {"crates/jsgen_nodes/src/sets.rt": layout.rust("A set prints as its member does.", ghosts, [], homes, body)}
@@ -75,10 +75,10 @@ def function(table, s, at):
     requires = f"    requires {{ nat_le {at} ({snake(s.name)}_part node.now) ≡ true }}\n" if at else ""
     return f"""{'' if at else 'pub '}fn {function_name(table, s, at)}{'<N: PrintNode>' if generic else ''}(
     node: &{s.name}{'<N>' if generic else ''},
-    p: &mut Printer<'_>,
+    p: &mut Printing<'_>,
     place: Place,
-) -> Result<(), Memory>
-{requires}    ensures {{ Reaches result (pen_of p.old) (pen_of p.new) (pen_after ({plain_of(table, s)} node.now) place p.old) }}
+)
+{requires}    ensures {{ Lays p.old p.new (at_place ({plain_of(table, s)} node.now) place) }}
 {{
     match node {{
 {arms}    }}
@@ -94,10 +94,10 @@ def choice(table, s):
     arms = "".join(f"        {s.name}::{m}(node) => {printed(table, m)},\n" for m in s.members)
     return f"""pub fn print_{snake(s.name)}<N: PrintNode>(
     node: &{s.name}<N>,
-    p: &mut Printer<'_>,
+    p: &mut Printing<'_>,
     place: Place,
-) -> Result<(), Memory>
-    ensures {{ Reaches result (pen_of p.old) (pen_of p.new) (pen_after (in_{snake(s.name)} N.plain node.now) place p.old) }}
+)
+    ensures {{ Lays p.old p.new (at_place (in_{snake(s.name)} N.plain node.now) place) }}
 {{
     match node {{
 {arms}    }}
@@ -170,7 +170,7 @@ def answers(table, s, at):
 
 def choice_answers(table, s):
     about, home = "What it prints is printed as it is elsewhere.", f"{PROOFS}.sets.print_{snake(s.name)}.Goals"
-    homes = [("Rattle.jsgen_nodes.specs.Place", ["pen_after"])]
+    homes = [("Rattle.jsgen_nodes.specs.Place", ["at_place"])]
     return layout.antt(about, homes, [(home, "goal")], "\n\n".join(members_answers(table, s, s.members)))
 
 

@@ -14,7 +14,7 @@ impl<N: PrintNode> PrintAtLevel for ConditionalExpression<N> {
     ghost plain = { conditional_expression_row N.plain };
 
     fn print_at(&self, p: &mut Printing<'_>, place: Place) {
-        print_conditional_expression(self, p, place)
+        print_conditional_expression(self, p, place);
     }
 }
 
@@ -22,7 +22,7 @@ impl<N: PrintNode> PrintAtLevel for SequenceExpression<N> {
     ghost plain = { sequence_expression_row N.plain };
 
     fn print_at(&self, p: &mut Printing<'_>, place: Place) {
-        print_sequence_expression(self, p, place)
+        print_sequence_expression(self, p, place);
     }
 }
 
@@ -30,6 +30,6 @@ impl<N: PrintNode> PrintAtLevel for AssignmentExpression<N> {
     ghost plain = { assignment_expression_row N.plain };
 
     fn print_at(&self, p: &mut Printing<'_>, place: Place) {
-        print_assignment_expression(self, p, place)
+        print_assignment_expression(self, p, place);
     }
 }

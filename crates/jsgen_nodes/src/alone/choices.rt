@@ -17,7 +17,7 @@ impl<N: PrintNode> PrintAlone for SwitchStatement<N> {
 
     fn print_alone(&self, p: &mut Printing<'_>, settings: Settings, context: Context) {
         let _ = context;
-        print_switch_statement(self, p, Place::among_statements(settings))
+        print_switch_statement(self, p, Place::among_statements(settings));
     }
 }
 
@@ -26,7 +26,7 @@ impl<N: PrintNode> PrintAlone for SwitchCase<N> {
     ghost alone = { λ n settings context start. spell (switch_case_row N.plain n) (by_itself settings context start) };
 
     fn print_alone(&self, p: &mut Printing<'_>, settings: Settings, context: Context) {
-        print_switch_case(self, p, Place::by_itself(settings, context))
+        print_switch_case(self, p, Place::by_itself(settings, context));
     }
 }
 
@@ -36,7 +36,7 @@ impl<N: PrintNode> PrintAlone for TryStatement<N> {
 
     fn print_alone(&self, p: &mut Printing<'_>, settings: Settings, context: Context) {
         let _ = context;
-        print_try_statement(self, p, Place::among_statements(settings))
+        print_try_statement(self, p, Place::among_statements(settings));
     }
 }
 
@@ -45,6 +45,6 @@ impl<N: PrintNode> PrintAlone for CatchClause<N> {
     ghost alone = { λ n settings context start. spell (catch_clause_row N.plain n) (by_itself settings context start) };
 
     fn print_alone(&self, p: &mut Printing<'_>, settings: Settings, context: Context) {
-        print_catch_clause(self, p, Place::by_itself(settings, context))
+        print_catch_clause(self, p, Place::by_itself(settings, context));
     }
 }

@@ -17,7 +17,7 @@ impl<N: PrintNode> PrintAlone for SpreadElement<N> {
     ghost alone = { λ n settings context start. spell (spread_element_row N.plain n) (by_itself settings context start) };
 
     fn print_alone(&self, p: &mut Printing<'_>, settings: Settings, context: Context) {
-        print_spread_element(self, p, Place::by_itself(settings, context))
+        print_spread_element(self, p, Place::by_itself(settings, context));
     }
 }
 
@@ -26,7 +26,7 @@ impl<N: PrintNode> PrintAlone for ArrayExpression<N> {
     ghost alone = { λ n settings context start. spell (array_expression_row N.plain n) (by_itself settings context start) };
 
     fn print_alone(&self, p: &mut Printing<'_>, settings: Settings, context: Context) {
-        print_array_expression(self, p, Place::by_itself(settings, context))
+        print_array_expression(self, p, Place::by_itself(settings, context));
     }
 }
 
@@ -35,7 +35,7 @@ impl<N: PrintNode> PrintAlone for ObjectProperty<N> {
     ghost alone = { λ n settings context start. spell (object_property_row N.plain n) (by_itself settings context start) };
 
     fn print_alone(&self, p: &mut Printing<'_>, settings: Settings, context: Context) {
-        print_object_property(self, p, Place::by_itself(settings, context))
+        print_object_property(self, p, Place::by_itself(settings, context));
     }
 }
 
@@ -43,6 +43,6 @@ impl<N: PrintNode> PrintAtLevel for ObjectExpression<N> {
     ghost plain = { object_expression_row N.plain };
 
     fn print_at(&self, p: &mut Printing<'_>, place: Place) {
-        print_object_expression(self, p, place)
+        print_object_expression(self, p, place);
     }
 }

@@ -28,7 +28,7 @@ impl PrintAlone for IdentifierReference {
     ghost alone = { λ n settings context start. spell (identifier_reference_row n) (by_itself settings context start) };
 
     fn print_alone(&self, p: &mut Printing<'_>, settings: Settings, context: Context) {
-        print_identifier_reference(self, p, Place::by_itself(settings, context))
+        print_identifier_reference(self, p, Place::by_itself(settings, context));
     }
 }
 
@@ -37,7 +37,7 @@ impl PrintAlone for ThisExpression {
     ghost alone = { λ n settings context start. spell (this_expression_row n) (by_itself settings context start) };
 
     fn print_alone(&self, p: &mut Printing<'_>, settings: Settings, context: Context) {
-        print_this_expression(self, p, Place::by_itself(settings, context))
+        print_this_expression(self, p, Place::by_itself(settings, context));
     }
 }
 
@@ -46,7 +46,7 @@ impl PrintAlone for NullLiteral {
     ghost alone = { λ n settings context start. spell (null_literal_row n) (by_itself settings context start) };
 
     fn print_alone(&self, p: &mut Printing<'_>, settings: Settings, context: Context) {
-        print_null_literal(self, p, Place::by_itself(settings, context))
+        print_null_literal(self, p, Place::by_itself(settings, context));
     }
 }
 
@@ -55,7 +55,7 @@ impl PrintAlone for BooleanLiteral {
     ghost alone = { λ n settings context start. spell (boolean_literal_row n) (by_itself settings context start) };
 
     fn print_alone(&self, p: &mut Printing<'_>, settings: Settings, context: Context) {
-        print_boolean_literal(self, p, Place::by_itself(settings, context))
+        print_boolean_literal(self, p, Place::by_itself(settings, context));
     }
 }
 
@@ -63,7 +63,7 @@ impl PrintAtLevel for NumericLiteral {
     ghost plain = { numeric_literal_row };
 
     fn print_at(&self, p: &mut Printing<'_>, place: Place) {
-        print_numeric_literal(self, p, place)
+        print_numeric_literal(self, p, place);
     }
 }
 
@@ -71,7 +71,7 @@ impl PrintAtLevel for BigIntLiteral {
     ghost plain = { big_int_literal_row };
 
     fn print_at(&self, p: &mut Printing<'_>, place: Place) {
-        print_big_int_literal(self, p, place)
+        print_big_int_literal(self, p, place);
     }
 }
 
@@ -80,7 +80,7 @@ impl PrintAlone for StringLiteral {
     ghost alone = { λ n settings context start. spell (string_literal_row n) (by_itself settings context start) };
 
     fn print_alone(&self, p: &mut Printing<'_>, settings: Settings, context: Context) {
-        print_string_literal(self, p, Place::by_itself(settings, context))
+        print_string_literal(self, p, Place::by_itself(settings, context));
     }
 }
 
@@ -88,7 +88,7 @@ impl<N: PrintNode> PrintAtLevel for ParenthesizedExpression<N> {
     ghost plain = { parenthesized_expression_row N.plain };
 
     fn print_at(&self, p: &mut Printing<'_>, place: Place) {
-        print_parenthesized_expression(self, p, place)
+        print_parenthesized_expression(self, p, place);
     }
 }
 
@@ -96,7 +96,7 @@ impl<N: PrintNode> PrintAtLevel for BinaryExpression<N> {
     ghost plain = { binary_expression_row N.plain };
 
     fn print_at(&self, p: &mut Printing<'_>, place: Place) {
-        print_binary_expression(self, p, place)
+        print_binary_expression(self, p, place);
     }
 }
 
@@ -104,7 +104,7 @@ impl<N: PrintNode> PrintAtLevel for LogicalExpression<N> {
     ghost plain = { logical_expression_row N.plain };
 
     fn print_at(&self, p: &mut Printing<'_>, place: Place) {
-        print_logical_expression(self, p, place)
+        print_logical_expression(self, p, place);
     }
 }
 
@@ -113,7 +113,7 @@ impl PrintAlone for IdentifierName {
     ghost alone = { λ n settings context start. spell (identifier_name_row n) (by_itself settings context start) };
 
     fn print_alone(&self, p: &mut Printing<'_>, settings: Settings, context: Context) {
-        print_identifier_name(self, p, Place::by_itself(settings, context))
+        print_identifier_name(self, p, Place::by_itself(settings, context));
     }
 }
 
@@ -121,7 +121,7 @@ impl<N: PrintNode> PrintAtLevel for StaticMemberExpression<N> {
     ghost plain = { static_member_expression_row N.plain };
 
     fn print_at(&self, p: &mut Printing<'_>, place: Place) {
-        print_static_member_expression(self, p, place)
+        print_static_member_expression(self, p, place);
     }
 }
 
@@ -129,7 +129,7 @@ impl<N: PrintNode> PrintAtLevel for ComputedMemberExpression<N> {
     ghost plain = { computed_member_expression_row N.plain };
 
     fn print_at(&self, p: &mut Printing<'_>, place: Place) {
-        print_computed_member_expression(self, p, place)
+        print_computed_member_expression(self, p, place);
     }
 }
 
@@ -137,7 +137,7 @@ impl<N: PrintNode> PrintAtLevel for CallExpression<N> {
     ghost plain = { call_expression_row N.plain };
 
     fn print_at(&self, p: &mut Printing<'_>, place: Place) {
-        print_call_expression(self, p, place)
+        print_call_expression(self, p, place);
     }
 }
 
@@ -145,6 +145,6 @@ impl<N: PrintNode> PrintAtLevel for ChainExpression<N> {
     ghost plain = { chain_expression_row N.plain };
 
     fn print_at(&self, p: &mut Printing<'_>, place: Place) {
-        print_chain_expression(self, p, place)
+        print_chain_expression(self, p, place);
     }
 }

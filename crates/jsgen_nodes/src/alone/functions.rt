@@ -22,7 +22,7 @@ impl<N: PrintNode> PrintAlone for FormalParameter<N> {
     ghost alone = { λ n settings context start. spell (formal_parameter_row N.plain n) (by_itself settings context start) };
 
     fn print_alone(&self, p: &mut Printing<'_>, settings: Settings, context: Context) {
-        print_formal_parameter(self, p, Place::by_itself(settings, context))
+        print_formal_parameter(self, p, Place::by_itself(settings, context));
     }
 }
 
@@ -31,7 +31,7 @@ impl<N: PrintNode> PrintAlone for FormalParameterRest<N> {
     ghost alone = { λ n settings context start. spell (formal_parameter_rest_row N.plain n) (by_itself settings context start) };
 
     fn print_alone(&self, p: &mut Printing<'_>, settings: Settings, context: Context) {
-        print_formal_parameter_rest(self, p, Place::by_itself(settings, context))
+        print_formal_parameter_rest(self, p, Place::by_itself(settings, context));
     }
 }
 
@@ -40,7 +40,7 @@ impl<N: PrintNode> PrintAlone for FormalParameters<N> {
     ghost alone = { λ n settings context start. parameter_parts (formal_parameters_row N.plain n) (by_itself settings context start) };
 
     fn print_alone(&self, p: &mut Printing<'_>, settings: Settings, context: Context) {
-        print_formal_parameters(self, p, Place::by_itself(settings, context))
+        print_formal_parameters(self, p, Place::by_itself(settings, context));
     }
 }
 
@@ -49,7 +49,7 @@ impl<N: PrintNode> PrintAlone for Function<N> {
     ghost alone = { λ n settings context start. spell (function_row N.plain n) (by_itself settings context start) };
 
     fn print_alone(&self, p: &mut Printing<'_>, settings: Settings, context: Context) {
-        print_function(self, p, Place::by_itself(settings, context))
+        print_function(self, p, Place::by_itself(settings, context));
     }
 }
 
@@ -58,7 +58,7 @@ impl<N: PrintNode> PrintAlone for FunctionBody<N> {
     ghost alone = { λ n settings context start. spell (function_body_row N.plain n) (by_itself settings context start) };
 
     fn print_alone(&self, p: &mut Printing<'_>, settings: Settings, context: Context) {
-        print_function_body(self, p, Place::by_itself(settings, context))
+        print_function_body(self, p, Place::by_itself(settings, context));
     }
 }
 
@@ -66,6 +66,6 @@ impl<N: PrintNode> PrintAtLevel for ArrowFunctionExpression<N> {
     ghost plain = { arrow_function_expression_row N.plain };
 
     fn print_at(&self, p: &mut Printing<'_>, place: Place) {
-        print_arrow_function_expression(self, p, place)
+        print_arrow_function_expression(self, p, place);
     }
 }

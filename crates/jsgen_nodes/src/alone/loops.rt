@@ -25,7 +25,7 @@ impl<N: PrintNode> PrintAlone for ForStatement<N> {
 
     fn print_alone(&self, p: &mut Printing<'_>, settings: Settings, context: Context) {
         let _ = context;
-        print_for_statement(self, p, Place::among_statements(settings))
+        print_for_statement(self, p, Place::among_statements(settings));
     }
 }
 
@@ -35,7 +35,7 @@ impl<N: PrintNode> PrintAlone for ForInStatement<N> {
 
     fn print_alone(&self, p: &mut Printing<'_>, settings: Settings, context: Context) {
         let _ = context;
-        print_for_in_statement(self, p, Place::among_statements(settings))
+        print_for_in_statement(self, p, Place::among_statements(settings));
     }
 }
 
@@ -45,7 +45,7 @@ impl<N: PrintNode> PrintAlone for ForOfStatement<N> {
 
     fn print_alone(&self, p: &mut Printing<'_>, settings: Settings, context: Context) {
         let _ = context;
-        print_for_of_statement(self, p, Place::among_statements(settings))
+        print_for_of_statement(self, p, Place::among_statements(settings));
     }
 }
 
@@ -55,7 +55,7 @@ impl<N: PrintNode> PrintAlone for WhileStatement<N> {
 
     fn print_alone(&self, p: &mut Printing<'_>, settings: Settings, context: Context) {
         let _ = context;
-        print_while_statement(self, p, Place::among_statements(settings))
+        print_while_statement(self, p, Place::among_statements(settings));
     }
 }
 
@@ -65,7 +65,7 @@ impl<N: PrintNode> PrintAlone for DoWhileStatement<N> {
 
     fn print_alone(&self, p: &mut Printing<'_>, settings: Settings, context: Context) {
         let _ = context;
-        print_do_while_statement(self, p, Place::among_statements(settings))
+        print_do_while_statement(self, p, Place::among_statements(settings));
     }
 }
 
@@ -74,7 +74,7 @@ impl PrintAlone for LabelIdentifier {
     ghost alone = { λ n settings context start. spell (label_identifier_row n) (by_itself settings context start) };
 
     fn print_alone(&self, p: &mut Printing<'_>, settings: Settings, context: Context) {
-        print_label_identifier(self, p, Place::by_itself(settings, context))
+        print_label_identifier(self, p, Place::by_itself(settings, context));
     }
 }
 
@@ -84,7 +84,7 @@ impl<N: PrintNode> PrintAlone for LabeledStatement<N> {
 
     fn print_alone(&self, p: &mut Printing<'_>, settings: Settings, context: Context) {
         let _ = context;
-        print_labeled_statement(self, p, Place::among_statements(settings))
+        print_labeled_statement(self, p, Place::among_statements(settings));
     }
 }
 
@@ -94,7 +94,7 @@ impl PrintAlone for ContinueStatement {
 
     fn print_alone(&self, p: &mut Printing<'_>, settings: Settings, context: Context) {
         let _ = context;
-        print_continue_statement(self, p, Place::among_statements(settings))
+        print_continue_statement(self, p, Place::among_statements(settings));
     }
 }
 
@@ -104,7 +104,7 @@ impl PrintAlone for BreakStatement {
 
     fn print_alone(&self, p: &mut Printing<'_>, settings: Settings, context: Context) {
         let _ = context;
-        print_break_statement(self, p, Place::among_statements(settings))
+        print_break_statement(self, p, Place::among_statements(settings));
     }
 }
 
@@ -114,7 +114,7 @@ impl<N: PrintNode> PrintAlone for ReturnStatement<N> {
 
     fn print_alone(&self, p: &mut Printing<'_>, settings: Settings, context: Context) {
         let _ = context;
-        print_return_statement(self, p, Place::among_statements(settings))
+        print_return_statement(self, p, Place::among_statements(settings));
     }
 }
 
@@ -124,7 +124,7 @@ impl<N: PrintNode> PrintAlone for ThrowStatement<N> {
 
     fn print_alone(&self, p: &mut Printing<'_>, settings: Settings, context: Context) {
         let _ = context;
-        print_throw_statement(self, p, Place::among_statements(settings))
+        print_throw_statement(self, p, Place::among_statements(settings));
     }
 }
 
@@ -134,6 +134,6 @@ impl PrintAlone for DebuggerStatement {
 
     fn print_alone(&self, p: &mut Printing<'_>, settings: Settings, context: Context) {
         let _ = context;
-        print_debugger_statement(self, p, Place::among_statements(settings))
+        print_debugger_statement(self, p, Place::among_statements(settings));
     }
 }

@@ -17,7 +17,7 @@ impl<N: PrintNode> PrintAtLevel for UnaryExpression<N> {
     ghost plain = { unary_expression_row N.plain };
 
     fn print_at(&self, p: &mut Printing<'_>, place: Place) {
-        print_unary_expression(self, p, place)
+        print_unary_expression(self, p, place);
     }
 }
 
@@ -26,7 +26,7 @@ impl PrintAlone for NewTarget {
     ghost alone = { λ n settings context start. spell (new_target_row n) (by_itself settings context start) };
 
     fn print_alone(&self, p: &mut Printing<'_>, settings: Settings, context: Context) {
-        print_new_target(self, p, Place::by_itself(settings, context))
+        print_new_target(self, p, Place::by_itself(settings, context));
     }
 }
 
@@ -34,7 +34,7 @@ impl<N: PrintNode> PrintAtLevel for UpdateExpression<N> {
     ghost plain = { update_expression_row N.plain };
 
     fn print_at(&self, p: &mut Printing<'_>, place: Place) {
-        print_update_expression(self, p, place)
+        print_update_expression(self, p, place);
     }
 }
 
@@ -42,7 +42,7 @@ impl<N: PrintNode> PrintAtLevel for NewExpression<N> {
     ghost plain = { new_expression_row N.plain };
 
     fn print_at(&self, p: &mut Printing<'_>, place: Place) {
-        print_new_expression(self, p, place)
+        print_new_expression(self, p, place);
     }
 }
 
@@ -51,6 +51,6 @@ impl PrintAlone for Super {
     ghost alone = { λ n settings context start. spell (super_row n) (by_itself settings context start) };
 
     fn print_alone(&self, p: &mut Printing<'_>, settings: Settings, context: Context) {
-        print_super(self, p, Place::by_itself(settings, context))
+        print_super(self, p, Place::by_itself(settings, context));
     }
 }

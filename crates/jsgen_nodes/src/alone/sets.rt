@@ -24,7 +24,7 @@ impl<N: PrintNode> PrintAtLevel for Expression<N> {
     ghost plain = { expression_plain N.plain };
 
     fn print_at(&self, p: &mut Printing<'_>, place: Place) {
-        print_expression(self, p, place)
+        print_expression(self, p, place);
     }
 }
 
@@ -60,7 +60,7 @@ impl<N: PrintNode> PrintAtLevel for SimpleAssignmentTarget<N> {
     ghost plain = { in_simple_assignment_target N.plain };
 
     fn print_at(&self, p: &mut Printing<'_>, place: Place) {
-        print_simple_assignment_target(self, p, place)
+        print_simple_assignment_target(self, p, place);
     }
 }
 
@@ -70,7 +70,7 @@ impl<N: PrintNode> PrintAlone for AssignmentTarget<N> {
 
     fn print_alone(&self, p: &mut Printing<'_>, settings: Settings, context: Context) {
         let _ = context;
-        print_assignment_target(self, p, Place::in_brackets(Precedence::Comma, settings))
+        print_assignment_target(self, p, Place::in_brackets(Precedence::Comma, settings));
     }
 }
 
@@ -94,7 +94,7 @@ impl<N: PrintNode> PrintAlone for ForStatementLeft<N> {
     ghost alone = { λ n settings context start. spell (in_for_statement_left N.plain n) (by_itself settings context start) };
 
     fn print_alone(&self, p: &mut Printing<'_>, settings: Settings, context: Context) {
-        print_for_statement_left(self, p, Place::by_itself(settings, context))
+        print_for_statement_left(self, p, Place::by_itself(settings, context));
     }
 }
 
@@ -118,7 +118,7 @@ impl<N: PrintNode> PrintAlone for PropertyKey<N> {
 
     fn print_alone(&self, p: &mut Printing<'_>, settings: Settings, context: Context) {
         let _ = context;
-        print_key_text(self, p, Place::in_brackets(Precedence::Comma, settings))
+        print_key_text(self, p, Place::in_brackets(Precedence::Comma, settings));
     }
 }
 
@@ -128,7 +128,7 @@ impl<N: PrintNode> PrintAlone for Statement<N> {
 
     fn print_alone(&self, p: &mut Printing<'_>, settings: Settings, context: Context) {
         let _ = context;
-        print_statement(self, p, Place::among_statements(settings))
+        print_statement(self, p, Place::among_statements(settings));
     }
 }
 
@@ -137,6 +137,6 @@ impl PrintAlone for BindingPattern {
     ghost alone = { λ n settings context start. spell (binding_pattern_plain n) (by_itself settings context start) };
 
     fn print_alone(&self, p: &mut Printing<'_>, settings: Settings, context: Context) {
-        print_binding_pattern(self, p, Place::by_itself(settings, context))
+        print_binding_pattern(self, p, Place::by_itself(settings, context));
     }
 }

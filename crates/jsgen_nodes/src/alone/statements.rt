@@ -23,7 +23,7 @@ impl<N: PrintNode> PrintAlone for Program<N> {
 
     fn print_alone(&self, p: &mut Printing<'_>, settings: Settings, context: Context) {
         let _ = context;
-        print_program(self, p, settings)
+        print_program(self, p, settings);
     }
 }
 
@@ -33,7 +33,7 @@ impl PrintAlone for Directive {
 
     fn print_alone(&self, p: &mut Printing<'_>, settings: Settings, context: Context) {
         let _ = context;
-        print_directive(self, p, Place::among_statements(settings))
+        print_directive(self, p, Place::among_statements(settings));
     }
 }
 
@@ -42,7 +42,7 @@ impl<N: PrintNode> PrintAlone for VariableDeclaration<N> {
     ghost alone = { λ n settings context start. spell (variable_declaration_row N.plain n) (by_itself settings context start) };
 
     fn print_alone(&self, p: &mut Printing<'_>, settings: Settings, context: Context) {
-        print_variable_declaration(self, p, Place::by_itself(settings, context))
+        print_variable_declaration(self, p, Place::by_itself(settings, context));
     }
 }
 
@@ -51,7 +51,7 @@ impl<N: PrintNode> PrintAlone for VariableDeclarator<N> {
     ghost alone = { λ n settings context start. spell (variable_declarator_row N.plain n) (by_itself settings context start) };
 
     fn print_alone(&self, p: &mut Printing<'_>, settings: Settings, context: Context) {
-        print_variable_declarator(self, p, Place::by_itself(settings, context))
+        print_variable_declarator(self, p, Place::by_itself(settings, context));
     }
 }
 
@@ -60,7 +60,7 @@ impl PrintAlone for BindingIdentifier {
     ghost alone = { λ n settings context start. spell (binding_identifier_row n) (by_itself settings context start) };
 
     fn print_alone(&self, p: &mut Printing<'_>, settings: Settings, context: Context) {
-        print_binding_identifier(self, p, Place::by_itself(settings, context))
+        print_binding_identifier(self, p, Place::by_itself(settings, context));
     }
 }
 
@@ -70,7 +70,7 @@ impl<N: PrintNode> PrintAlone for ExpressionStatement<N> {
 
     fn print_alone(&self, p: &mut Printing<'_>, settings: Settings, context: Context) {
         let _ = context;
-        print_expression_statement(self, p, Place::among_statements(settings))
+        print_expression_statement(self, p, Place::among_statements(settings));
     }
 }
 
@@ -80,7 +80,7 @@ impl<N: PrintNode> PrintAlone for BlockStatement<N> {
 
     fn print_alone(&self, p: &mut Printing<'_>, settings: Settings, context: Context) {
         let _ = context;
-        print_block_statement(self, p, Place::among_statements(settings))
+        print_block_statement(self, p, Place::among_statements(settings));
     }
 }
 
@@ -90,7 +90,7 @@ impl<N: PrintNode> PrintAlone for IfStatement<N> {
 
     fn print_alone(&self, p: &mut Printing<'_>, settings: Settings, context: Context) {
         let _ = context;
-        print_if_statement(self, p, Place::among_statements(settings))
+        print_if_statement(self, p, Place::among_statements(settings));
     }
 }
 
@@ -100,6 +100,6 @@ impl PrintAlone for EmptyStatement {
 
     fn print_alone(&self, p: &mut Printing<'_>, settings: Settings, context: Context) {
         let _ = context;
-        print_empty_statement(self, p, Place::among_statements(settings))
+        print_empty_statement(self, p, Place::among_statements(settings));
     }
 }

@@ -1,11 +1,10 @@
 -- Generated from tools/nodes/table.txt; edit that and run tools/nodes/generate.
 -- It is printed by itself as it is at its place.
 use Rattle.jsgen_tree.specs.Rows.{object_property_row}
-use Rattle.jsgen_printer.specs.Printer.{pen_of}
 use Rattle.jsgen_nodes.specs.Place.{at_place}
-use Rattle.jsgen_nodes.proofs.Placed.{reaches_as, there}
+use Rattle.jsgen_nodes.proofs.Placed.{placed_as}
 use Rattle.jsgen_nodes.proofs.alone.collections.ObjectPropertyPrintAlone.print_alone.Goals as goal
 
 pub returns : goal.returns
 unfolding at_place
-returns g c = reaches_as c.print_object_property.result (pen_of c.args.p.now) (pen_of c.print_object_property.new.p) (there (object_property_row g.N.PrintNode.plain c.args.self.now) (pen_of c.args.p.now) c.by_itself.ensures) c.print_object_property.ensures
+returns g c = placed_as (object_property_row g.N.PrintNode.plain c.args.self.now) c.by_itself.ensures c.print_object_property.ensures

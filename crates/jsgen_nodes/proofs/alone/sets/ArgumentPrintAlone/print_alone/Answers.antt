@@ -1,14 +1,13 @@
 -- Generated from tools/nodes/table.txt; edit that and run tools/nodes/generate.
 -- It is printed by itself as it is at its place.
 use Rattle.jsgen_tree.specs.Rows.{spread_element_row}
-use Rattle.jsgen_printer.specs.Printer.{pen_of}
 use Rattle.jsgen_nodes.specs.Place.{at_place}
-use Rattle.jsgen_nodes.proofs.Placed.{reaches_as, there}
+use Rattle.jsgen_nodes.proofs.Placed.{placed_as}
 use Rattle.jsgen_nodes.proofs.alone.sets.ArgumentPrintAlone.print_alone.Goals as goal
 
 pub returns-in-SpreadElement : goal.returns-in-SpreadElement
 unfolding at_place
-returns-in-SpreadElement g c = rw (c.in-SpreadElement.is, ← c.deref.ensures) (reaches_as c.print_spread_element.result (pen_of c.args.p.now) (pen_of c.print_spread_element.new.p) (there (spread_element_row g.N.PrintNode.plain c.deref.result.now) (pen_of c.args.p.now) c.in_brackets-place.ensures) c.print_spread_element.ensures)
+returns-in-SpreadElement g c = rw (c.in-SpreadElement.is, ← c.deref.ensures) (placed_as (spread_element_row g.N.PrintNode.plain c.deref.result.now) c.in_brackets-place.ensures c.print_spread_element.ensures)
 
 pub returns-in-Expression : goal.returns-in-Expression
 unfolding at_place

@@ -1,15 +1,14 @@
 -- Generated from tools/nodes/table.txt; edit that and run tools/nodes/generate.
 -- It is printed by itself as it is at its place.
 use Rattle.jsgen_tree.specs.Rows.{spread_element_row, object_property_row}
-use Rattle.jsgen_printer.specs.Printer.{pen_of}
 use Rattle.jsgen_nodes.specs.Place.{at_place}
-use Rattle.jsgen_nodes.proofs.Placed.{reaches_as, there}
+use Rattle.jsgen_nodes.proofs.Placed.{placed_as}
 use Rattle.jsgen_nodes.proofs.alone.sets.ObjectPropertyKindPrintAlone.print_alone.Goals as goal
 
 pub returns-in-ObjectProperty : goal.returns-in-ObjectProperty
 unfolding at_place
-returns-in-ObjectProperty g c = rw (c.in-ObjectProperty.is, ← c.deref.ensures) (reaches_as c.print_object_property.result (pen_of c.args.p.now) (pen_of c.print_object_property.new.p) (there (object_property_row g.N.PrintNode.plain c.deref.result.now) (pen_of c.args.p.now) c.in_brackets-place.ensures) c.print_object_property.ensures)
+returns-in-ObjectProperty g c = rw (c.in-ObjectProperty.is, ← c.deref.ensures) (placed_as (object_property_row g.N.PrintNode.plain c.deref.result.now) c.in_brackets-place.ensures c.print_object_property.ensures)
 
 pub returns-in-SpreadElement : goal.returns-in-SpreadElement
 unfolding at_place
-returns-in-SpreadElement g c = rw (c.in-SpreadElement.is, ← c.deref-in-SpreadElement.ensures) (reaches_as c.print_spread_element.result (pen_of c.args.p.now) (pen_of c.print_spread_element.new.p) (there (spread_element_row g.N.PrintNode.plain c.deref-in-SpreadElement.result.now) (pen_of c.args.p.now) c.in_brackets-place.ensures) c.print_spread_element.ensures)
+returns-in-SpreadElement g c = rw (c.in-SpreadElement.is, ← c.deref-in-SpreadElement.ensures) (placed_as (spread_element_row g.N.PrintNode.plain c.deref-in-SpreadElement.result.now) c.in_brackets-place.ensures c.print_spread_element.ensures)

@@ -1,11 +1,10 @@
 -- Generated from tools/nodes/table.txt; edit that and run tools/nodes/generate.
 -- It is printed by itself as it is at its place.
 use Rattle.jsgen_tree.specs.Rows.{expression_statement_row}
-use Rattle.jsgen_printer.specs.Printer.{pen_of}
 use Rattle.jsgen_nodes.specs.Place.{at_place}
-use Rattle.jsgen_nodes.proofs.Placed.{reaches_as, there}
+use Rattle.jsgen_nodes.proofs.Placed.{placed_as}
 use Rattle.jsgen_nodes.proofs.alone.statements.ExpressionStatementPrintAlone.print_alone.Goals as goal
 
 pub returns : goal.returns
 unfolding at_place
-returns g c = reaches_as c.print_expression_statement.result (pen_of c.args.p.now) (pen_of c.print_expression_statement.new.p) (there (expression_statement_row g.N.PrintNode.plain c.args.self.now) (pen_of c.args.p.now) c.among_statements.ensures) c.print_expression_statement.ensures
+returns g c = placed_as (expression_statement_row g.N.PrintNode.plain c.args.self.now) c.among_statements.ensures c.print_expression_statement.ensures
