@@ -15,7 +15,8 @@ ghost use Rattle.std.specs.Str.{chars};
 ghost use Rattle.jsgen_model.specs.Plain.{IsPlain, IsQuiet};
 ghost use Rattle.jsgen_model.specs.Reading.{IsReadAs};
 ghost use Rattle.jsgen_model.specs.Valid.{job_breaches, expression_breaches, IsValid, IsValidExpression, Judges};
-ghost use Rattle.jsgen_printer.specs.Printer.{pen_of, by_tables, name_written, unless_empty};
+ghost use Rattle.jsgen_steps.specs.Steps.{pen_at};
+ghost use Rattle.jsgen_printer.specs.Printer.{by_tables, name_written, unless_empty};
 ghost use Rattle.jsgen_place.specs.Place.{place_of, context_of, settings_of};
 ghost use Rattle.jsgen.specs.Context.{context_at};
 ghost use Rattle.jsgen_nodes.specs.Alone.{at_level};
@@ -24,7 +25,8 @@ use jsgen_check::{check_expression, check_program};
 use jsgen_model::TreeFault;
 use jsgen_nodes::{PrintAlone, PrintAtLevel, print_program};
 use jsgen_place::{Place, Settings};
-use jsgen_printer::{Context, Printer};
+use jsgen_printer::Context;
+use jsgen_steps::Printing;
 use jsgen_syntax::{JsStr, Memory, Precedence};
 use jsgen_tree::{CodegenOptions, Expression, PrivateMappings, Program, Scoping, Tables};
 use std::alloc::Global;
@@ -69,13 +71,13 @@ pub struct Codegen<'a> {
     alloc: Global,
     options: CodegenOptions,
     tables: Tables<'a>,
-    printer: Printer<'a>,
+    printing: Printing<'a>,
     has_printed: bool,
-    has_failed: bool,
-    ghost fresh: { has_printed ≡ false → pen_of printer ≡ empty_pen (style_of (options_plain options) (tables_plain tables)) 0 },
+    ghost fresh: { has_printed ≡ false → pen_at printing ≡ empty_pen (style_of (options_plain options) (tables_plain tables)) 0 },
 }
 
 impl<'a> Codegen<'a> {
+    ghost use Rattle.std.specs.Prelude.{is_err};
     ghost use Rattle.jsgen.specs.Codegen.{options_of, tables_of, job_for, has_printed, has_failed, pen_at, settings_at, printed_so_far, Prints};
 
     /// A printer by the default options, of pretty text, that prints each name as it is.
@@ -87,14 +89,13 @@ impl<'a> Codegen<'a> {
         ensures empty { pen_at result ≡ empty_pen (style_of default_options no_tables) 0 }
     {
         let defaults = CodegenOptions::default();
-        let printer = Printer::new(alloc, &defaults);
+        let printing = Printing::new(alloc, &defaults);
         Codegen {
             alloc,
             options: defaults,
             tables: Tables::none(),
-            printer,
+            printing,
             has_printed: false,
-            has_failed: false,
         }
     }
 
@@ -104,17 +105,16 @@ impl<'a> Codegen<'a> {
         ensures options { options_of result ≡ options_plain options }
         ensures tables { tables_of result ≡ tables_of self.entry }
         ensures printed { has_printed result ≡ false }
-        ensures failed { has_failed result ≡ has_failed self.entry }
+        ensures failed { has_failed result ≡ false }
         ensures empty { pen_at result ≡ empty_pen (style_of (options_plain options) (tables_of self.entry)) 0 }
     {
-        let printer = Printer::new(self.alloc, &options).with_tables(self.tables);
+        let printing = Printing::new(self.alloc, &options).with_tables(self.tables);
         Codegen {
             alloc: self.alloc,
             options,
             tables: self.tables,
-            printer,
+            printing,
             has_printed: self.has_printed,
-            has_failed: self.has_failed,
         }
     }
 
@@ -162,9 +162,8 @@ impl<'a> Codegen<'a> {
             alloc: self.alloc,
             options: self.options,
             tables,
-            printer: self.printer.with_tables(tables),
+            printing: self.printing.with_tables(tables),
             has_printed: self.has_printed,
-            has_failed: self.has_failed,
         }
     }
 
@@ -179,19 +178,18 @@ impl<'a> Codegen<'a> {
     pub fn has_failed(&self) -> bool
         ensures { result ≡ has_failed self.now }
     {
-        self.has_failed
+        self.printing.has_failed()
     }
 
-    // A print call begins: until it ends, it has failed.
-    fn begin(&mut self)
-        ensures printed { has_printed self.new ≡ true }
-        ensures failed { has_failed self.new ≡ true }
-        ensures options { options_of self.new ≡ options_of self.old }
-        ensures tables { tables_of self.new ≡ tables_of self.old }
-        ensures pen { pen_at self.new ≡ pen_at self.old }
+    // What a print call answers.
+    fn outcome(&self) -> Result<(), CodegenError>
+        ensures { is_err result ≡ has_failed self.now }
     {
-        self.has_printed = true;
-        self.has_failed = true;
+        if self.printing.has_failed() {
+            Err(CodegenError::Memory)
+        } else {
+            Ok(())
+        }
     }
 
     /// Prints one byte of ASCII as it is.
@@ -200,10 +198,9 @@ impl<'a> Codegen<'a> {
         requires unfailed { has_failed self.old ≡ false }
         ensures { Prints self.old self.new (written (byte ∷ []) other_end (pen_at self.old)) result }
     {
-        self.begin();
-        self.printer.append_ascii_byte(byte)?;
-        self.has_failed = false;
-        Ok(())
+        self.has_printed = true;
+        self.printing.append_ascii_byte(byte);
+        self.outcome()
     }
 
     /// Prints the text as it is. Where it isn't empty, nothing is remembered of what was printed before.
@@ -211,10 +208,9 @@ impl<'a> Codegen<'a> {
         requires unfailed { has_failed self.old ≡ false }
         ensures { Prints self.old self.new (unless_empty (chars s.now) (pen_at self.old) (written (chars s.now) other_end (pen_at self.old))) result }
     {
-        self.begin();
-        self.printer.append_text(s)?;
-        self.has_failed = false;
-        Ok(())
+        self.has_printed = true;
+        self.printing.append_text(s);
+        self.outcome()
     }
 
     /// Prints a name, with no space before it, and with escapes for what isn't ASCII where the options ask for ASCII: the code
@@ -223,10 +219,9 @@ impl<'a> Codegen<'a> {
         requires unfailed { has_failed self.old ≡ false }
         ensures { Prints self.old self.new (unless_empty (chars s.now) (pen_at self.old) (name_written (chars s.now) (pen_at self.old))) result }
     {
-        self.begin();
-        self.printer.append_name(s)?;
-        self.has_failed = false;
-        Ok(())
+        self.has_printed = true;
+        self.printing.append_name(s);
+        self.outcome()
     }
 
     /// Prints the text with a backslash before the `/` of each `</script`, in any letter case, which would end the script
@@ -235,10 +230,9 @@ impl<'a> Codegen<'a> {
         requires unfailed { has_failed self.old ≡ false }
         ensures { Prints self.old self.new (unless_empty (chars s.now) (pen_at self.old) (written (tag_free (chars s.now)) other_end (pen_at self.old))) result }
     {
-        self.begin();
-        self.printer.append_tag_free(s)?;
-        self.has_failed = false;
-        Ok(())
+        self.has_printed = true;
+        self.printing.append_tag_free(s);
+        self.outcome()
     }
 
     /// Prints a string that has the text as its value: in the quote that the options ask for, and minified in the one
@@ -247,11 +241,12 @@ impl<'a> Codegen<'a> {
         requires unfailed { has_failed self.old ≡ false }
         ensures { Prints self.old self.new (layout (string false (flat_map encode_utf16 (chars s.now))) (pen_at self.old)) result }
     {
-        self.begin();
-        let value = JsStr::from_text(self.alloc, s)?;
-        self.printer.print_string(&value, false)?;
-        self.has_failed = false;
-        Ok(())
+        self.has_printed = true;
+        match JsStr::from_text(self.alloc, s) {
+            Ok(value) => self.printing.print_string(&value, false),
+            Err(Memory) => self.printing.fail(),
+        }
+        self.outcome()
     }
 
     /// Prints an expression by itself, which `check_expression` has to accept: at the lowest level, where nothing is forbidden. As
@@ -275,15 +270,14 @@ impl<'a> Codegen<'a> {
     }
 
     // Prints what stands at a place.
-    #[tactic(auto, unfolding(jsgen_nodes::specs::Place::pen_after))]
+    #[tactic(auto, unfolding(jsgen_nodes::specs::Place::at_place))]
     fn print_at<T: PrintAtLevel>(&mut self, node: &T, place: Place) -> Result<(), CodegenError>
         requires unfailed { has_failed self.old ≡ false }
         ensures { Prints self.old self.new (layout (spell (T.plain node.now) (place_of place (pen_at self.old))) (pen_at self.old)) result }
     {
-        self.begin();
-        node.print_at(&mut self.printer, place)?;
-        self.has_failed = false;
-        Ok(())
+        self.has_printed = true;
+        node.print_at(&mut self.printing, place);
+        self.outcome()
     }
 
     // Prints an expression, or what else has a level.
@@ -310,17 +304,16 @@ impl<'a> Codegen<'a> {
         ensures { Prints self.old self.new (layout (T.alone node.now (settings_at self.old) (context_at context) (pen_at self.old).start) (pen_at self.old)) result }
     {
         let settings = self.settings();
-        self.begin();
-        node.print_alone(&mut self.printer, settings, place_context(context))?;
-        self.has_failed = false;
-        Ok(())
+        self.has_printed = true;
+        node.print_alone(&mut self.printing, settings, place_context(context));
+        self.outcome()
     }
 
     /// The code so far, and nothing is copied.
     pub fn into_source_text(self) -> String
         ensures { string_bytes result ≡ printed_so_far self.entry }
     {
-        self.printer.into_string()
+        self.printing.into_string()
     }
 
     /// Says Ok exactly where the program keeps each rule of a tree (docs/FORMAT.md, "Rules of a tree"), and otherwise
@@ -356,9 +349,12 @@ impl<'a> Codegen<'a> {
             → IsReadAs (chars (string_bytes printed.code)) (job_for self.entry (program_plain program.now))) }
     {
         let settings = self.settings();
-        let mut p = self.printer;
+        let mut p = self.printing;
         p.set_depth(self.options.initial_indent);
-        print_program(program, &mut p, settings)?;
+        print_program(program, &mut p, settings);
+        if p.has_failed() {
+            return Err(CodegenError::Memory);
+        }
         Ok(CodegenReturn {
             code: p.into_string(),
         })

@@ -4,35 +4,34 @@ use jsgen_nodes::{
     try_print_require_call,
 };
 use jsgen_place::Context;
-use jsgen_printer::Printer;
+use jsgen_steps::Printing;
 use jsgen_syntax::Memory;
 use jsgen_tree::{Expression, Node};
 
 /// What a printer printed, behind `applies` where a call applied.
-pub fn push_tried(
-    tried: Result<bool, Memory>,
-    p: Printer<'_>,
-    answer: &mut String,
-) -> Result<(), Memory> {
-    answer.push_str(if tried? { "applies " } else { "none" })?;
+pub fn push_tried(tried: bool, p: Printing<'_>, answer: &mut String) -> Result<(), Memory> {
+    if p.has_failed() {
+        return Err(Memory);
+    }
+    answer.push_str(if tried { "applies " } else { "none" })?;
     Ok(answer.push_str(&p.into_string())?)
 }
 
 /// Tries the call that is for such an expression; for a call there are two.
-pub fn try_print(p: &mut Printer<'_>, node: Option<&Expression>) -> Result<bool, Memory> {
+pub fn try_print(p: &mut Printing<'_>, node: Option<&Expression>) -> bool {
     match node {
         Some(Expression::CallExpression(call)) => {
-            let is_required = try_print_require_call(p, call)?;
-            let is_defined = try_print_define_property_call(p, call, Context::FREE)?;
-            Ok(is_required || is_defined)
+            let is_required = try_print_require_call(p, call);
+            let is_defined = try_print_define_property_call(p, call, Context::FREE);
+            is_required || is_defined
         }
         Some(Expression::AssignmentExpression(node)) => {
             try_print_exports_computed_target(p, &node.left, Context::FREE)
         }
         Some(Expression::BinaryExpression(node)) => match node.right.get() {
             Node::Expression(operand) => try_print_equality_string(p, node.operator, operand),
-            _ => Ok(false),
+            _ => false,
         },
-        _ => Ok(false),
+        _ => false,
     }
 }
