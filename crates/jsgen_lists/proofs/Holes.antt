@@ -1,5 +1,5 @@
 -- Lists in which members may be left out: what a turn leaves, and where a member stands.
-use Rattle.std.proofs.Common.{◌≡◌, ℕ, Bool, true, false, Option, Some, None, is_some, List, [], ◌∷◌, map, length, slice_get, zero, suc, ◌-◌, ◌≤◌, ◌<◌, nat_lt, Result, refl, ap, sym, subst, ◌∙◌, arith}
+use Rattle.std.proofs.Common.{◌≡◌, ℕ, Bool, true, false, Option, Some, None, is_some, List, [], ◌∷◌, map, length, slice_get, zero, suc, ◌-◌, ◌≤◌, ◌<◌, nat_lt, refl, ap, sym, ◌∙◌, arith}
 use Rattle.std.specs.Bool.{◌==◌}
 use Rattle.std.proofs.lemmas.Bool.{both_ways, eqb-true, lt-ltb}
 use Rattle.std.proofs.lemmas.Option.{same_Some}
@@ -9,14 +9,8 @@ use Rattle.jsgen_model.specs.Items.{Items, ◌⊕◌, punctuator, soft_space, so
 use Rattle.jsgen_model.specs.Layout.{Pen, nowhere, layout, indented, indent_or_space, at_indentation, unless_printed, not}
 use Rattle.jsgen_model.specs.Spell as spells
 use Rattle.jsgen_model.specs.Spell.{spell_elements, spell_more_elements, next_line, line_or_space, on_lines, object_inside, are_more, count, ends_in_hole}
-use Rattle.jsgen_model.specs.Printing.{IsPrefix, Stops, Reaches}
-use Rattle.jsgen_printer.specs.Printer.{deepened, at_depth}
-use Rattle.jsgen_printer.proofs.Prefixes.{whole_prefix}
-use Rattle.jsgen_printer.proofs.Stops.{layout_appends, layout_more, stops_within, stops_second, reaches_last}
-use Rattle.jsgen_place.specs.declared.place.Place.{Place}
-use Rattle.jsgen_place.specs.Place.{place_of}
-use Rattle.jsgen_lists.specs.Lists.{listed, element_items, all_elements}
-use Rattle.jsgen_lists.proofs.Turns.{begun_nowhere, still_nowhere}
+use Rattle.jsgen_lists.specs.Lists.{element_items, all_elements}
+use Rattle.jsgen_lists.proofs.Turns.{still_nowhere}
 
 -- ---- the first of the members
 
@@ -24,7 +18,7 @@ pub elements_first : (lines : Bool) (o : Option Tree) (os : List (Option Tree)) 
 elements_first lines None os place at = refl
 elements_first lines (Some t) os place at = refl
 
-pub more_first : (lines : Bool) (o : Option Tree) (os : List (Option Tree)) (place : spells.Place) (at : Pen) → layout (spell_more_elements lines (holed (o ∷ os)) place) at ≡ layout (punctuator comma ⊕ ((line_or_space lines ⊕ element_items o place) ⊕ spell_more_elements lines (holed os) place)) at
+pub more_first : (lines : Bool) (o : Option Tree) (os : List (Option Tree)) (place : spells.Place) (at : Pen) → layout (spell_more_elements lines (holed (o ∷ os)) place) at ≡ layout (punctuator comma ⊕ (line_or_space lines ⊕ (element_items o place ⊕ spell_more_elements lines (holed os) place))) at
 more_first lines None os place at = refl
 more_first lines (Some t) os place at = refl
 
@@ -45,44 +39,12 @@ indentation_nowhere false pen h = spaced_nowhere pen.pending_space pen h
 soft_nowhere : (pen : Pen) → pen.start ≡ nowhere → unless_printed (not pen.style.minified) pen.start ≡ nowhere
 soft_nowhere pen h = ap (λ s. unless_printed (not pen.style.minified) s) h ∙ still_nowhere (not pen.style.minified)
 
-pub line_nowhere : (pen : Pen) → pen.start ≡ nowhere → (layout next_line pen).start ≡ nowhere
+line_nowhere : (pen : Pen) → pen.start ≡ nowhere → (layout next_line pen).start ≡ nowhere
 line_nowhere pen h = indentation_nowhere pen.style.minified (layout soft_line pen) (soft_nowhere pen h)
 
-between_nowhere : (lines : Bool) (pen : Pen) → pen.start ≡ nowhere → (layout (line_or_space lines) pen).start ≡ nowhere
+pub between_nowhere : (lines : Bool) (pen : Pen) → pen.start ≡ nowhere → (layout (line_or_space lines) pen).start ≡ nowhere
 between_nowhere true pen h = line_nowhere pen h
 between_nowhere false pen h = soft_nowhere pen h
-
-pub space_nowhere : (pen : Pen) → pen.start ≡ nowhere → (layout soft_space pen).start ≡ nowhere
-space_nowhere pen h = soft_nowhere pen h
-
-behind_between : (lines : Bool) (place : Place) (at spaced : Pen) → at.start ≡ nowhere → spaced ≡ layout (line_or_space lines) at → place_of place spaced ≡ listed place
-behind_between lines place at spaced none hs = begun_nowhere place spaced (ap (λ p. p.start) hs ∙ between_nowhere lines at none)
-
--- a member behind blanks, on Ok and where memory runs out
-pub between_member : (lines : Bool) (place : Place) (at spaced next : Pen) (o : Option Tree) → at.start ≡ nowhere → spaced ≡ layout (line_or_space lines) at → next ≡ layout (element_items o (place_of place spaced)) spaced → next ≡ layout (line_or_space lines ⊕ element_items o (listed place)) at
-between_member lines place at spaced next o none hs h = h ∙ (ap (λ q. layout (element_items o q) spaced) (behind_between lines place at spaced none hs) ∙ ap (λ p. layout (element_items o (listed place)) p) hs)
-
-pub between_stopped : (lines : Bool) (place : Place) (at spaced new : Pen) (o : Option Tree) → at.start ≡ nowhere → spaced ≡ layout (line_or_space lines) at → Stops spaced new (layout (element_items o (place_of place spaced)) spaced) → Stops at new (layout (line_or_space lines ⊕ element_items o (listed place)) at)
-between_stopped lines place at spaced new o none hs s = stops_second (line_or_space lines) (element_items o (listed place)) hs (subst (λ q. Stops spaced new (layout (element_items o q) spaced)) (behind_between lines place at spaced none hs) s)
-
--- ---- on lines of their own
-
--- where memory runs out before the first line, in a member, and behind the last
-pub stops_before_lines : (items : Items) {old new : Pen} → Stops old new (deepened old) → Stops old new (layout (on_lines true items) old)
-stops_before_lines items {old} s = stops_within s (whole_prefix old.code) (layout_appends (on_lines true items) old)
-
-pub stops_at_lines : (items : Items) {old mid new : Pen} → mid ≡ deepened old → Stops mid new (layout next_line mid) → Stops old new (layout (on_lines true items) old)
-stops_at_lines items {old} {mid} {new} e s =
-    let first = layout next_line (deepened old) in
-    stops_within (subst (λ p. Stops p new (layout next_line p)) e s) (whole_prefix old.code) (layout_more next_line (at_depth old.depth (layout items first)) (layout_appends items first))
-
-pub stops_in_lines : (items : Items) {old mid new : Pen} → mid ≡ layout next_line (deepened old) → Stops mid new (layout items mid) → Stops old new (layout (on_lines true items) old)
-stops_in_lines items {old} {mid} {new} e s =
-    let first = layout next_line (deepened old) in
-    stops_within (subst (λ p. Stops p new (layout items p)) e s) (layout_appends next_line (deepened old)) (layout_appends next_line (at_depth old.depth (layout items first)))
-
-pub lines_end : {T E : Type 0} (r : Result T E) (items : Items) (old mid new : Pen) → mid ≡ at_depth old.depth (layout items (layout next_line (deepened old))) → Reaches r mid new (layout next_line mid) → Reaches r old new (layout (on_lines true items) old)
-lines_end r items old mid new e h = reaches_last r old mid new (layout next_line mid) (layout (on_lines true items) old) h (subst (λ p. IsPrefix old.code p.code) (sym e) (layout_more items (layout next_line (deepened old)) (layout_appends next_line (deepened old)))) (ap (λ p. layout next_line p) e)
 
 -- ---- how many there are, and whether the last is left out
 
@@ -117,13 +79,6 @@ at_last f (y ∷ z ∷ zs) (suc n) x l e = ends_as_behind (f y) (f z) (map f zs)
 pub last_left_out : {A : Type 0} (f : A → Option Tree) (xs : List A) (x : A) → Some x ≡ slice_get xs (length xs - 1) → ends_in_hole (holed (map f xs)) ≡ not (is_some (f x))
 last_left_out f [] x e = absurd (both_ways true (ap is_some e) refl)
 last_left_out f (y ∷ ys) x e = at_last f (y ∷ ys) (length ys) x refl (e ∙ ap (slice_get (y ∷ ys)) (omega arith))
-
--- ---- between spaces
-
-pub padded_end : {T E : Type 0} (r : Result T E) (items : Items) (old spaced mid new : Pen) → spaced ≡ layout soft_space old → mid ≡ layout items spaced → Reaches r mid new (layout soft_space mid) → Reaches r old new (layout (soft_space ⊕ (items ⊕ soft_space)) old)
-padded_end r items old spaced mid new hs hm h =
-    let inside : mid ≡ layout items (layout soft_space old) = hm ∙ ap (λ p. layout items p) hs in
-    reaches_last r old mid new (layout soft_space mid) (layout (soft_space ⊕ (items ⊕ soft_space)) old) h (subst (λ p. IsPrefix old.code p.code) (sym inside) (layout_more items (layout soft_space old) (layout_appends soft_space old))) (ap (λ p. layout soft_space p) inside)
 
 -- ---- an object, by how many properties it has
 

@@ -3,5 +3,4 @@ pub mod Holes
 pub mod Turns
 pub mod Operands
 pub mod Braced
-pub mod Deeper
 pub mod NotOne

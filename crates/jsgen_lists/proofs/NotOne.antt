@@ -3,7 +3,6 @@ use Rattle.std.proofs.Common.{◌≡◌, List, [], ◌∷◌, map, length, refl,
 use Rattle.std.proofs.Math.ListN.{get_or}
 use Rattle.jsgen_tree.specs.Tree.{Tree, more, no_trees, trees}
 use Rattle.jsgen_model.specs.Items.{Items, ◌⊕◌, soft_line, deeper}
-use Rattle.jsgen_model.specs.Layout.{Pen, layout}
 use Rattle.jsgen_model.specs.Spell as spells
 use Rattle.jsgen_model.specs.Spell.{case_items, spell_only}
 
@@ -12,7 +11,7 @@ other_cases f [] only statements not_one = refl
 other_cases f (y ∷ []) only statements not_one = absurd (not_one refl)
 other_cases f (y ∷ z ∷ zs) only statements not_one = refl
 
-pub one_case : {A : Type 0} (f g : A → Tree) (xs : List A) (x : A) (settings : spells.Settings) (statements : Items) (at : Pen) → length xs ≡ 1 → x ≡ get_or xs 0 x → layout (spell_only (more (g x) no_trees) settings) at ≡ layout (case_items (trees (map f xs)) (spell_only (trees (map g xs)) settings) statements) at
-one_case f g [] x settings statements at one e = absurd (omega (arith, one))
-one_case f g (y ∷ []) x settings statements at one e = ap (λ z. layout (spell_only (more (g z) no_trees) settings) at) e
-one_case f g (y ∷ z ∷ zs) x settings statements at one e = absurd (omega (arith, one))
+pub one_case : {A : Type 0} (f g : A → Tree) (xs : List A) (x : A) (settings : spells.Settings) (statements : Items) → length xs ≡ 1 → x ≡ get_or xs 0 x → spell_only (more (g x) no_trees) settings ≡ case_items (trees (map f xs)) (spell_only (trees (map g xs)) settings) statements
+one_case f g [] x settings statements one e = absurd (omega (arith, one))
+one_case f g (y ∷ []) x settings statements one e = ap (λ z. spell_only (more (g z) no_trees) settings) e
+one_case f g (y ∷ z ∷ zs) x settings statements one e = absurd (omega (arith, one))

@@ -1,17 +1,22 @@
 -- Lists: where a member stands, and what a turn begins with.
-use Rattle.std.proofs.Common.{◌≡◌, ℕ, ◌+◌, ◌<◌, ◌≤◌, Bool, List, [], ◌∷◌, length, drop, refl, ap, sym, ◌∙◌}
+use Rattle.std.proofs.Common.{◌≡◌, ℕ, ◌+◌, ◌<◌, ◌≤◌, Bool, true, false, List, [], ◌∷◌, length, drop, refl, ap, sym, ◌∙◌}
 use Rattle.std.proofs.Math.ListN.{get_or}
 use Rattle.std.proofs.lemmas.List.{at_drop_more, at_drop_all}
 use Rattle.jsgen_tree.specs.Tree.{Tree}
-use Rattle.jsgen_model.specs.Items.{Items}
-use Rattle.jsgen_model.specs.Layout.{Pen, nowhere}
-use Rattle.jsgen_model.specs.Spell.{spell, quoted_plainly}
+use Rattle.jsgen_model.specs.Punctuator.{comma}
+use Rattle.jsgen_model.specs.Items.{Items, ◌⊕◌, punctuator, soft_space}
+use Rattle.jsgen_model.specs.Layout.{Pen, nowhere, layout, unless_printed, not}
+use Rattle.jsgen_model.specs.Spell as spells
+use Rattle.jsgen_model.specs.Spell.{spell}
 use Rattle.jsgen_place.specs.declared.place.Place.{Place}
 use Rattle.jsgen_place.specs.Place.{place_of}
-use Rattle.jsgen_steps.specs.Steps.{Lays, BeginsNothing, pen_at}
+use Rattle.jsgen_steps.specs.Steps.{Lays, BeginsNothing, pen_at, has_failed}
 use Rattle.jsgen_steps.specs.declared.printing.Printing.{Printing}
-use Rattle.jsgen_steps.proofs.Sequence.{as_laid}
+use Rattle.jsgen_steps.proofs.Sequence.{◌⨾◌, as_laid, items_go, goes_as_items, none_behind}
+use Rattle.jsgen_steps.proofs.Turns.{Towards}
 use Rattle.jsgen_lists.specs.Lists.{listed}
+
+-- ---- turns
 
 -- the members left are the one of this turn and those behind it
 pub items_left : {A : Type 0} (items : List A → Items) (xs : List A) (i : ℕ) (x : A) → i < length xs → x ≡ get_or xs i x → items (drop i xs) ≡ items (x ∷ drop (i + 1) xs)
@@ -21,13 +26,34 @@ items_left items xs i x h e = at_drop_more items xs i x h ∙ sym (ap (λ y. ite
 pub none_left : {A : Type 0} (items : List A → Items) (xs : List A) (i : ℕ) → length xs ≤ i → items (drop i xs) ≡ items []
 none_left items xs i h = at_drop_all items xs i h
 
--- a member where nothing begins
+-- ---- items that are laid out alike, but grouped otherwise
+
+pub grouped : {a b : Printing} {i : Pen → Items} (j : Pen → Items) → ((pen : Pen) → layout (i pen) pen ≡ layout (j pen) pen) → Lays a b i → Lays a b j
+grouped j e h = goes_as_items j e (items_go h)
+
+left_where : {a b : Printing} {rest whole : Items} (rest' : Items) (failed : Bool) → has_failed b ≡ failed → ((pen : Pen) → layout rest pen ≡ layout rest' pen) → Towards a b rest whole → Towards a b rest' whole
+left_where {a} {b} rest' false is e h = record { stays = h.stays; goes = λ going. rw is (let left = rw is at (h.goes going) in (left.0, sym (e (pen_at b)) ∙ left.1)) }
+left_where rest' true is e h = record { stays = h.stays; goes = λ going. rw is (rw is at (h.goes going)) }
+
+pub left_grouped : {a b : Printing} {rest whole : Items} (rest' : Items) → ((pen : Pen) → layout rest pen ≡ layout rest' pen) → Towards a b rest whole → Towards a b rest' whole
+left_grouped {a} {b} rest' e h = left_where rest' (has_failed b) refl e h
+
+-- ---- a member where nothing begins
+
 pub begun_nowhere : (place : Place) (at : Pen) → at.start ≡ nowhere → place_of place at ≡ listed place
 begun_nowhere place at none = ap (λ s. record (listed place) { start = s }) none
 
--- the same where a string is never in backticks, if the test holds
-pub quoted_nowhere : (test : Bool) (place : Place) (at : Pen) → at.start ≡ nowhere → place_of (record place { plain_quotes = test }) at ≡ quoted_plainly test (listed place)
-quoted_nowhere test place at none = begun_nowhere (record place { plain_quotes = test }) at none
+-- items that depend on where they stand
+pub items_here : {a b : Printing} (items : spells.Place → Items) (place : Place) → BeginsNothing a → Lays a b (λ pen. items (place_of place pen)) → Lays a b (λ _. items (listed place))
+items_here {a} items place none h = as_laid (λ _. items (listed place)) (λ going. ap items (begun_nowhere place (pen_at a) (none going))) h
 
 pub here : {a b : Printing} (t : Tree) (place : Place) → BeginsNothing a → Lays a b (λ pen. spell t (place_of place pen)) → Lays a b (λ _. spell t (listed place))
-here {a} t place none h = as_laid (λ _. spell t (listed place)) (λ going. ap (λ q. spell t q) (begun_nowhere place (pen_at a) (none going))) h
+here t place none h = items_here (spell t) place none h
+
+pub still_nowhere : (printed : Bool) → unless_printed printed nowhere ≡ nowhere
+still_nowhere true = refl
+still_nowhere false = refl
+
+-- behind a comma and its space
+pub behind_comma : {a b c : Printing} (t : Tree) (place : Place) → Lays a b (λ _. punctuator comma ⊕ soft_space) → Lays b c (λ pen. spell t (place_of place pen)) → Lays a c (λ _. (punctuator comma ⊕ soft_space) ⊕ spell t (listed place))
+behind_comma t place h k = h ⨾ here t place (none_behind (λ pen. still_nowhere (not pen.style.minified)) (items_go h)) k

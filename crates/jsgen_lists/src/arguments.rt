@@ -43,7 +43,7 @@ pub fn print_arguments<E, L: PrintMember<E>>(
 {
     p.print_opening(Bracket::Round);
     print_first::<E, L>(quotes, arguments, p, place);
-    p.print_closing(Bracket::Round)
+    p.print_closing(Bracket::Round);
 }
 
 fn print_first<E, L: PrintMember<E>>(
@@ -58,7 +58,7 @@ fn print_first<E, L: PrintMember<E>>(
     match arguments.split_first() {
         Some((first, others)) => {
             L::print_member(first, p, place.quoted_plainly(quotes.first));
-            print_behind_first::<E, L>(quotes.second, others, p, place)
+            print_behind_first::<E, L>(quotes.second, others, p, place);
         }
         None => {}
     }
@@ -77,7 +77,7 @@ fn print_behind_first<E, L: PrintMember<E>>(
         Some((second, others)) => {
             print_comma_and_space(p);
             L::print_member(second, p, place.quoted_plainly(plain_second));
-            print_more::<E, L>(others, p, place)
+            print_more::<E, L>(others, p, place);
         }
         None => {}
     }

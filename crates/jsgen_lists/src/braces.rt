@@ -1,10 +1,10 @@
 // Braces round statements or cases.
-ghost use Rattle.std.specs.Prelude.{◌≡◌, IfOk, map};
+ghost use Rattle.std.specs.Prelude.{◌≡◌, false, map};
 ghost use Rattle.jsgen_tree.specs.Tree.{trees};
 ghost use Rattle.jsgen_model.specs.Punctuator.{Brace};
 ghost use Rattle.jsgen_model.specs.Items.{◌⊕◌, nothing, brackets, drop_semicolon};
 ghost use Rattle.jsgen_model.specs.Spell.{spell_statements, braces, filled_braces};
-ghost use Rattle.jsgen_steps.specs.Steps.{Goes, Lays, pen_at};
+ghost use Rattle.jsgen_steps.specs.Steps.{Goes, Lays, pen_at, has_failed};
 ghost use Rattle.jsgen_place.specs.Place.{settings_of};
 ghost use Rattle.jsgen_lists.specs.Lists.{braces_opened, braces_closed};
 
@@ -12,7 +12,6 @@ use crate::statements::{PrintStatement, print_statements};
 use jsgen_place::Settings;
 use jsgen_printer::Bracket;
 use jsgen_steps::Printing;
-use jsgen_syntax::Memory;
 
 /// Braces round statements, each of which stands on a line of its own.
 pub fn print_braces<E, S: PrintStatement<E>>(
@@ -24,9 +23,9 @@ pub fn print_braces<E, S: PrintStatement<E>>(
         (spell_statements (trees (map S.plain statements.now)) (settings_of settings))) }
 {
     if statements.is_empty() {
-        print_empty_braces(p)
+        print_empty_braces(p);
     } else {
-        print_filled_braces::<E, S>(statements, p, settings)
+        print_filled_braces::<E, S>(statements, p, settings);
     }
 }
 
@@ -48,7 +47,7 @@ fn print_filled_braces<E, S: PrintStatement<E>>(
 {
     let depth = open_braces(p);
     print_statements::<E, S>(statements, p, settings);
-    close_braces(p, depth)
+    close_braces(p, depth);
 }
 
 /// The opening brace, behind which the code is one level deeper; gives the level before.

@@ -37,7 +37,7 @@ pub fn print_case<E, F, L: PrintMember<E>, O: PrintOnly<F>, S: PrintStatement<F>
 {
     p.print_indentation();
     print_case_head::<E, L>(test, p, settings);
-    print_consequent::<F, O, S>(consequent, p, settings)
+    print_consequent::<F, O, S>(consequent, p, settings);
 }
 
 // The test and its colon.
@@ -46,7 +46,7 @@ fn print_case_head<E, L: PrintMember<E>>(test: &Option<E>, p: &mut Printing<'_>,
 {
     let within = Place::in_brackets(Precedence::Lowest, settings);
     print_case_test::<E, L>(test, p, within);
-    p.print_colon()
+    p.print_colon();
 }
 
 // One statement as a body, or any other number on lines of their own.
@@ -59,8 +59,8 @@ fn print_consequent<F, O: PrintOnly<F>, S: PrintStatement<F>>(
     ensures { Lays p.old p.new (λ _. case_items (trees (map S.plain statements.now)) (spell_only (trees (map O.plain statements.now)) (settings_of settings)) (spell_statements (trees (map S.plain statements.now)) (settings_of settings))) }
 {
     if statements.len() == 1 {
-        O::print_only(&statements[0], p, settings)
+        O::print_only(&statements[0], p, settings);
     } else {
-        print_deeper_statements::<F, S>(statements, p, settings)
+        print_deeper_statements::<F, S>(statements, p, settings);
     }
 }

@@ -33,7 +33,7 @@ pub fn print_array<E, L: PrintElement<E>>(elements: &[E], p: &mut Printing<'_>, 
     let lines = are_more::<E, L>(2, elements);
     p.print_opening(Bracket::Square);
     print_lines::<E, L>(lines, elements, p, place);
-    p.print_closing(Bracket::Square)
+    p.print_closing(Bracket::Square);
 }
 
 /// An object: its properties in braces, a single one between spaces, and more on lines of their own.
@@ -43,7 +43,7 @@ pub fn print_object<E, L: PrintElement<E>>(properties: &[E], p: &mut Printing<'_
 {
     p.print_opening(Bracket::Brace);
     print_inside::<E, L>(properties, p, place);
-    p.print_closing(Bracket::Brace)
+    p.print_closing(Bracket::Brace);
 }
 
 fn print_inside<E, L: PrintElement<E>>(properties: &[E], p: &mut Printing<'_>, place: Place)
@@ -52,11 +52,11 @@ fn print_inside<E, L: PrintElement<E>>(properties: &[E], p: &mut Printing<'_>, p
         (all_elements (are_more 1 (holed (map L.plain properties.now))) (holed (map L.plain properties.now)) (listed place))) }
 {
     if properties.len() > 1 {
-        print_on_lines::<E, L>(properties, p, place)
+        print_on_lines::<E, L>(properties, p, place);
     } else if properties.is_empty() {
-        print_all::<E, L>(false, properties, p, place)
+        print_all::<E, L>(false, properties, p, place);
     } else {
-        print_single::<E, L>(properties, p, place)
+        print_single::<E, L>(properties, p, place);
     }
 }
 
@@ -66,7 +66,7 @@ fn print_single<E, L: PrintElement<E>>(properties: &[E], p: &mut Printing<'_>, p
 {
     p.print_soft_space();
     print_all::<E, L>(false, properties, p, place);
-    p.print_soft_space()
+    p.print_soft_space();
 }
 
 fn are_more<E, L: PrintElement<E>>(count: usize, elements: &[E]) -> bool
@@ -86,9 +86,9 @@ fn print_lines<E, L: PrintElement<E>>(
     ensures { Lays p.old p.new (λ _. on_lines lines (all_elements lines (holed (map L.plain elements.now)) (listed place))) }
 {
     if lines {
-        print_on_lines::<E, L>(elements, p, place)
+        print_on_lines::<E, L>(elements, p, place);
     } else {
-        print_all::<E, L>(false, elements, p, place)
+        print_all::<E, L>(false, elements, p, place);
     }
 }
 
@@ -100,23 +100,23 @@ fn print_on_lines<E, L: PrintElement<E>>(elements: &[E], p: &mut Printing<'_>, p
     print_next_line(p);
     print_all::<E, L>(true, elements, p, place);
     p.set_depth(depth);
-    print_next_line(p)
+    print_next_line(p);
 }
 
 fn print_next_line(p: &mut Printing<'_>)
     ensures { Lays p.old p.new (λ _. next_line) }
 {
     p.print_soft_line();
-    p.print_indentation()
+    p.print_indentation();
 }
 
 fn print_between(lines: bool, p: &mut Printing<'_>)
     ensures { Lays p.old p.new (λ _. line_or_space lines) }
 {
     if lines {
-        print_next_line(p)
+        print_next_line(p);
     } else {
-        p.print_soft_space()
+        p.print_soft_space();
     }
 }
 
@@ -126,14 +126,14 @@ fn print_all<E, L: PrintElement<E>>(lines: bool, elements: &[E], p: &mut Printin
     ensures { Lays p.old p.new (λ _. all_elements lines (holed (map L.plain elements.now)) (listed place)) }
 {
     print_elements::<E, L>(lines, elements, p, place);
-    print_last_comma::<E, L>(elements, p)
+    print_last_comma::<E, L>(elements, p);
 }
 
 fn print_last_comma<E, L: PrintElement<E>>(elements: &[E], p: &mut Printing<'_>)
     ensures { Lays p.old p.new (λ _. comma_if (ends_in_hole (holed (map L.plain elements.now)))) }
 {
     if ends_in_hole::<E, L>(elements) {
-        p.print_comma()
+        p.print_comma();
     }
 }
 
@@ -158,7 +158,7 @@ fn print_elements<E, L: PrintElement<E>>(
     match elements.split_first() {
         Some((first, others)) => {
             L::print_element(first, p, place);
-            print_more_elements::<E, L>(lines, others, p, place)
+            print_more_elements::<E, L>(lines, others, p, place);
         }
         None => {}
     }

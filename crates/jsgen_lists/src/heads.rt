@@ -26,7 +26,7 @@ pub fn print_behind_word<E, L: PrintMember<E>>(
     ensures { Lays p.old p.new (λ _. word text.now ⊕ (soft_space ⊕ spell (L.plain member.now) (listed place))) }
 {
     p.print_word(text);
-    print_behind_space::<E, L>(member, p, place)
+    print_behind_space::<E, L>(member, p, place);
 }
 
 /// A word between spaces, and something behind it.
@@ -40,7 +40,7 @@ pub fn print_behind_spaced_word<E, L: PrintMember<E>>(
     ensures { Lays p.old p.new (λ _. soft_space ⊕ (word text.now ⊕ (soft_space ⊕ spell (L.plain member.now) (listed place)))) }
 {
     p.print_soft_space();
-    print_behind_word::<E, L>(text, member, p, place)
+    print_behind_word::<E, L>(text, member, p, place);
 }
 
 /// A word, and something behind it in parentheses.
@@ -49,7 +49,7 @@ pub fn print_head<E, L: PrintMember<E>>(text: &str, member: &E, p: &mut Printing
     ensures { Lays p.old p.new (λ _. word text.now ⊕ (soft_space ⊕ brackets Round (spell (L.plain member.now) (listed place)))) }
 {
     p.print_word(text);
-    print_apart_in_parentheses::<E, L>(member, p, place)
+    print_apart_in_parentheses::<E, L>(member, p, place);
 }
 
 /// Behind a space, in parentheses.
@@ -61,7 +61,7 @@ pub fn print_apart_in_parentheses<E, L: PrintMember<E>>(
     ensures { Lays p.old p.new (λ _. soft_space ⊕ brackets Round (spell (L.plain member.now) (listed place))) }
 {
     p.print_soft_space();
-    print_in_parentheses::<E, L>(member, p, place)
+    print_in_parentheses::<E, L>(member, p, place);
 }
 
 pub fn print_in_parentheses<E, L: PrintMember<E>>(member: &E, p: &mut Printing<'_>, place: Place)
@@ -69,7 +69,7 @@ pub fn print_in_parentheses<E, L: PrintMember<E>>(member: &E, p: &mut Printing<'
 {
     p.print_opening(Bracket::Round);
     L::print_member(member, p, place);
-    p.print_closing(Bracket::Round)
+    p.print_closing(Bracket::Round);
 }
 
 /// A word, and behind it what it may name, up to the end of a statement.
@@ -84,7 +84,7 @@ pub fn print_jump<E, L: PrintMember<E>>(
 {
     p.print_word(text);
     print_apart::<E, L>(label, p, place);
-    p.print_statement_end()
+    p.print_statement_end();
 }
 
 /// What stands before the key of an accessor (ECMA-262, 15.4), and nothing before that of a method.
@@ -103,5 +103,5 @@ fn print_word_before_key(text: &str, p: &mut Printing<'_>)
     ensures { Lays p.old p.new (λ _. word text.now ⊕ soft_space) }
 {
     p.print_word(text);
-    p.print_soft_space()
+    p.print_soft_space();
 }

@@ -23,7 +23,7 @@ pub fn print_named_member<E, L: PrintMember<E>>(
         ⊕ (name_link optional ⊕ name (as_written (characters property.now.name)))) }
 {
     L::print_member(object, p, place);
-    print_member_name(optional, property, p)
+    print_member_name(optional, property, p);
 }
 
 // Behind the object.
@@ -31,7 +31,7 @@ fn print_member_name(optional: bool, property: &IdentifierName, p: &mut Printing
     ensures { Lays p.old p.new (λ _. name_link optional ⊕ name (as_written (characters property.now.name))) }
 {
     print_name_link(optional, p);
-    p.print_name(property.name.as_str())
+    p.print_name(property.name.as_str());
 }
 
 // What stands before a member's name.
@@ -39,9 +39,9 @@ fn print_name_link(optional: bool, p: &mut Printing<'_>)
     ensures { Lays p.old p.new (λ _. name_link optional) }
 {
     if optional {
-        p.print_question_dot()
+        p.print_question_dot();
     } else {
-        p.print_member_dot()
+        p.print_member_dot();
     }
 }
 
@@ -50,6 +50,6 @@ pub fn print_bracket_link(optional: bool, p: &mut Printing<'_>)
     ensures { Lays p.old p.new (λ _. bracket_link optional) }
 {
     if optional {
-        p.print_question_dot()
+        p.print_question_dot();
     }
 }

@@ -29,7 +29,7 @@ fn print_behind_equal<E, L: PrintMember<E>>(value: &E, p: &mut Printing<'_>, pla
     p.print_soft_space();
     p.print_equal();
     p.print_soft_space();
-    L::print_member(value, p, place)
+    L::print_member(value, p, place);
 }
 
 /// The comma between some members and what takes the rest, where both are there.
@@ -49,8 +49,8 @@ pub fn print_comma_between<E, R, L: PrintMember<E>, M: PrintMember<R>>(
 fn print_comma_behind<E, L: PrintMember<E>>(members: &[E], p: &mut Printing<'_>)
     ensures { (rest : Tree) → Lays p.old p.new (λ _. comma_between (trees (map L.plain members.now)) (given rest)) }
 {
-    if members.is_empty() {} else {
-        print_comma_and_space(p)
+    if !members.is_empty() {
+        print_comma_and_space(p);
     }
 }
 
@@ -59,7 +59,7 @@ pub fn print_comma_and_space(p: &mut Printing<'_>)
     ensures { Lays p.old p.new (λ _. punctuator comma ⊕ soft_space) }
 {
     p.print_comma();
-    p.print_soft_space()
+    p.print_soft_space();
 }
 
 /// A member, if there is one.
@@ -88,7 +88,7 @@ pub fn print_behind_space<E, L: PrintMember<E>>(member: &E, p: &mut Printing<'_>
     ensures { Lays p.old p.new (λ _. soft_space ⊕ spell (L.plain member.now) (listed place)) }
 {
     p.print_soft_space();
-    L::print_member(member, p, place)
+    L::print_member(member, p, place);
 }
 
 /// The name of what is caught, if it has one, in parentheses.

@@ -33,7 +33,7 @@ pub fn print_in_brackets<E, L: PrintMember<E>>(
 {
     p.print_opening(bracket);
     print_list::<E, L>(members, p, place);
-    p.print_closing(bracket)
+    p.print_closing(bracket);
 }
 
 fn print_list<E, L: PrintMember<E>>(members: &[E], p: &mut Printing<'_>, place: Place)
@@ -43,7 +43,7 @@ fn print_list<E, L: PrintMember<E>>(members: &[E], p: &mut Printing<'_>, place: 
     match members.split_first() {
         Some((first, others)) => {
             L::print_member(first, p, place);
-            print_more::<E, L>(others, p, place)
+            print_more::<E, L>(others, p, place);
         }
         None => {}
     }
@@ -56,7 +56,7 @@ pub fn print_parts<E, L: PrintMember<E>>(parts: &[E], p: &mut Printing<'_>, plac
     match parts.split_first() {
         Some((first, rest)) => {
             L::print_member(first, p, place);
-            print_more::<E, L>(rest, p, place)
+            print_more::<E, L>(rest, p, place);
         }
         None => {}
     }

@@ -27,7 +27,7 @@ pub fn print_loop_parts<I, E, K: PrintMember<I>, L: PrintMember<E>>(
 {
     p.print_opening(Bracket::Round);
     print_within::<I, E, K, L>(init, test, update, p, first, place);
-    p.print_closing(Bracket::Round)
+    p.print_closing(Bracket::Round);
 }
 
 fn print_within<I, E, K: PrintMember<I>, L: PrintMember<E>>(
@@ -44,7 +44,7 @@ fn print_within<I, E, K: PrintMember<I>, L: PrintMember<E>>(
 {
     print_if_given::<I, K>(init, p, first);
     print_behind_semicolon::<E, L>(test, p, place);
-    print_behind_semicolon::<E, L>(update, p, place)
+    print_behind_semicolon::<E, L>(update, p, place);
 }
 
 fn print_behind_semicolon<E, L: PrintMember<E>>(
@@ -55,5 +55,5 @@ fn print_behind_semicolon<E, L: PrintMember<E>>(
     ensures { Lays p.old p.new (λ _. punctuator semicolon ⊕ spell_apart (optional (option_map L.plain part.now)) (listed place)) }
 {
     p.print_semicolon();
-    print_apart::<E, L>(part, p, place)
+    print_apart::<E, L>(part, p, place);
 }

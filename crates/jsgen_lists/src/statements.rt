@@ -31,7 +31,7 @@ pub fn print_whole_body<E, S: PrintStatement<E>>(
     ensures { Lays p.old p.new (λ _. spell_body (trees (map S.plain statements.now)) (settings_of settings) ⊕ due_semicolon) }
 {
     print_body::<E, S>(statements, p, settings);
-    p.print_due_semicolon()
+    p.print_due_semicolon();
 }
 
 /// The statements of a body, of which the first may not become a directive.
@@ -46,7 +46,7 @@ pub fn print_body<E, S: PrintStatement<E>>(
         Some((first, others)) => {
             p.print_due_semicolon();
             S::print_first_statement(first, p, Place::among_statements(settings));
-            print_statements::<E, S>(others, p, settings)
+            print_statements::<E, S>(others, p, settings);
         }
         None => {}
     }
@@ -93,7 +93,7 @@ pub fn print_deeper_body<E, S: PrintStatement<E>>(
     let depth = p.deepen();
     print_ended::<E, S>(body, p, settings);
     p.set_depth(depth);
-    p.print_indentation()
+    p.print_indentation();
 }
 
 // With the semicolon that it may have left.
@@ -102,5 +102,5 @@ fn print_ended<E, S: PrintStatement<E>>(body: &E, p: &mut Printing<'_>, settings
     ensures { Lays p.old p.new (λ _. spell (S.plain body.now) (among_statements (settings_of settings)) ⊕ due_semicolon) }
 {
     S::print_statement(body, p, Place::among_statements(settings));
-    p.print_due_semicolon()
+    p.print_due_semicolon();
 }

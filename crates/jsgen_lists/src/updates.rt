@@ -24,9 +24,9 @@ pub fn print_update<E, L: PrintMember<E>>(
         (spell (L.plain operand.now) (behind Prefix (place_of place pen)))) }
 {
     if prefix {
-        print_before::<E, L>(operator, operand, p, place)
+        print_before::<E, L>(operator, operand, p, place);
     } else {
-        print_behind::<E, L>(operator, operand, p, place)
+        print_behind::<E, L>(operator, operand, p, place);
     }
 }
 
@@ -40,7 +40,7 @@ fn print_before<E, L: PrintMember<E>>(
         ⊕ spell (L.plain operand.now) (behind Prefix (place_of place pen))) }
 {
     p.print_update_operator(operator);
-    L::print_member(operand, p, place.child(Precedence::Prefix))
+    L::print_member(operand, p, place.child(Precedence::Prefix));
 }
 
 fn print_behind<E, L: PrintMember<E>>(
@@ -53,5 +53,5 @@ fn print_behind<E, L: PrintMember<E>>(
         (in_front Postfix (place_of place pen)) ⊕ update_item operator) }
 {
     L::print_member(operand, p, place.child(Precedence::Postfix));
-    p.print_update_operator(operator)
+    p.print_update_operator(operator);
 }

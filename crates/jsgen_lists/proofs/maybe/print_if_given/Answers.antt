@@ -1,8 +1,0 @@
-use Rattle.std.proofs.Common.{refl}
-use Rattle.jsgen_lists.proofs.maybe.print_if_given.Goals as goal
-
-pub returns-in-Some : goal.returns-in-Some
-returns-in-Some g c = rw c.in-Some.is c.print_member.ensures
-
-pub returns-in-None : goal.returns-in-None
-returns-in-None g c = rw c.in-None.is refl
