@@ -12,7 +12,7 @@ use Rattle.jsgen_place.specs.declared.place.Place.{Place}
 use Rattle.jsgen_place.specs.Place.{place_of}
 use Rattle.jsgen_steps.specs.Steps.{Lays, BeginsNothing, pen_at, has_failed}
 use Rattle.jsgen_steps.specs.declared.printing.Printing.{Printing}
-use Rattle.jsgen_steps.proofs.Sequence.{◌⨾◌, as_laid, items_go, goes_as_items, none_behind}
+use Rattle.jsgen_steps.proofs.Sequence.{◌⨾◌, as_laid, items_go, none_behind}
 use Rattle.jsgen_steps.proofs.Turns.{Towards}
 use Rattle.jsgen_lists.specs.Lists.{listed}
 
@@ -26,11 +26,7 @@ items_left items xs i x h e = at_drop_more items xs i x h ∙ sym (ap (λ y. ite
 pub none_left : {A : Type 0} (items : List A → Items) (xs : List A) (i : ℕ) → length xs ≤ i → items (drop i xs) ≡ items []
 none_left items xs i h = at_drop_all items xs i h
 
--- ---- items that are laid out alike, but grouped otherwise
-
-pub grouped : {a b : Printing} {i : Pen → Items} (j : Pen → Items) → ((pen : Pen) → layout (i pen) pen ≡ layout (j pen) pen) → Lays a b i → Lays a b j
-grouped j e h = goes_as_items j e (items_go h)
-
+-- what is left, grouped otherwise
 left_where : {a b : Printing} {rest whole : Items} (rest' : Items) (failed : Bool) → has_failed b ≡ failed → ((pen : Pen) → layout rest pen ≡ layout rest' pen) → Towards a b rest whole → Towards a b rest' whole
 left_where {a} {b} rest' false is e h = record { stays = h.stays; goes = λ going. rw is (let left = rw is at (h.goes going) in (left.0, sym (e (pen_at b)) ∙ left.1)) }
 left_where rest' true is e h = record { stays = h.stays; goes = λ going. rw is (rw is at (h.goes going)) }
