@@ -18,6 +18,5 @@ returns g c =
     let list = trees (map (variable_declarator_row g.N.PrintNode.plain) c.args.node.now.declarations.items) in
     let place = c.child.result in
     let none = behind_space (none_behind (λ pen. refl) (items_go c.print_word.ensures)) c.print_soft_space.ensures in
-    let there = λ going. ap (λ q. spell_parts list q) (begun_nowhere place (pen_at c.print_soft_space.new.self) (none going)) ∙ parts_listed list (listed place) refl in
-    let parts = as_laid (λ _. spell_list list (listed place)) there (rw c.deref.ensures.value at c.print_parts.ensures) in
+    let parts = as_laid (λ _. spell_list list (listed place)) (λ going. ap (λ q. spell_parts list q) (begun_nowhere place (pen_at c.print_soft_space.new.self) (none going)) ∙ parts_listed list (listed place) refl) (rw c.deref.ensures.value at c.print_parts.ensures) in
     (rw c.as_str.ensures at c.print_word.ensures) ⨾ (c.print_soft_space.ensures ⨾ (rw c.child.ensures at parts))

@@ -16,7 +16,6 @@ loop-directive-preserved l =
     turn left l.print_directive.ensures
 
 pub returns : goal.returns
-unfolding at_place
 returns l =
     let items = λ (ds : _). spell_directives (trees (map directive_row ds)) (settings_of l.args.settings) in
     done (λ pen. refl) (left_as (none_left items l.args.directives.now l.loop-directive.directive-index l.loop-directive-test.false) l.loop-directive.invariant)
