@@ -1,5 +1,5 @@
 pub mod Arrows
-pub mod BlockStops
+pub mod Consequents
 pub mod Followed
 pub mod Lefts
 pub mod Caught

@@ -34,9 +34,9 @@ pub fn print_block_statement<N: PrintNode>(
     if place.in_list {
         p.print_indentation();
         print_braces::<_, Statements>(&node.body, p, place.settings);
-        p.print_soft_line()
+        p.print_soft_line();
     } else {
-        print_braces::<_, Statements>(&node.body, p, place.settings)
+        print_braces::<_, Statements>(&node.body, p, place.settings);
     }
 }
 
@@ -46,9 +46,9 @@ pub fn print_if_statement<N: PrintNode>(node: &IfStatement<N>, p: &mut Printing<
 {
     if place.in_list {
         p.print_indentation();
-        print_if(node, p, place.settings)
+        print_if(node, p, place.settings);
     } else {
-        print_if(node, p, place.settings)
+        print_if(node, p, place.settings);
     }
 }
 
@@ -62,7 +62,7 @@ fn print_if<N: PrintNode>(node: &IfStatement<N>, p: &mut Printing<'_>, settings:
     let within = Place::in_brackets(Precedence::Lowest, settings);
     print_head::<_, Expressions>("if", &node.test, p, within);
     print_consequent(node.consequent.get(), p, settings, has_alternate(node));
-    print_alternate(&node.alternate, p, settings)
+    print_alternate(&node.alternate, p, settings);
 }
 
 fn has_alternate<N: PrintNode>(node: &IfStatement<N>) -> bool
@@ -83,19 +83,20 @@ fn print_consequent<N: PrintNode>(
     ensures { Lays p.old p.new (λ _. consequent_of (N.plain consequent.now) (settings_of settings) else_follows) }
 {
     if consequent.ends_open() {
-        return print_braced(consequent, p, settings, else_follows);
+        print_braced(consequent, p, settings, else_follows);
+        return;
     }
     match shape(consequent) {
         BodyShape::Block => {
             p.print_soft_space();
             consequent.print(p, Place::within_statement(settings));
-            print_braces_end(p, else_follows)
+            print_braces_end(p, else_follows);
         }
         BodyShape::Empty => print_empty_body(p, else_follows),
         BodyShape::If | BodyShape::Other => {
             p.begin_body();
             consequent.print(p, Place::among_statements(settings));
-            print_body_end(p, else_follows)
+            print_body_end(p, else_follows);
         }
     }
 }
@@ -114,7 +115,7 @@ fn print_braced<N: PrintNode>(
     let depth = open_braces(p);
     consequent.print(p, Place::among_statements(settings));
     close_braces(p, depth);
-    print_braces_end(p, else_follows)
+    print_braces_end(p, else_follows);
 }
 
 #[tactic(auto, unfolding(crate::specs::Place::at_place))]
@@ -123,16 +124,16 @@ fn print_empty_body(p: &mut Printing<'_>, else_follows: bool)
 {
     p.print_semicolon();
     p.print_soft_line();
-    print_body_end(p, else_follows)
+    print_body_end(p, else_follows);
 }
 
 fn print_braces_end(p: &mut Printing<'_>, else_follows: bool)
     ensures { Lays p.old p.new (λ _. braces_end else_follows) }
 {
     if else_follows {
-        p.print_soft_space()
+        p.print_soft_space();
     } else {
-        p.print_soft_line()
+        p.print_soft_line();
     }
 }
 
@@ -140,7 +141,7 @@ fn print_body_end(p: &mut Printing<'_>, else_follows: bool)
     ensures { Lays p.old p.new (λ _. body_end else_follows) }
 {
     if else_follows {
-        p.print_indentation()
+        p.print_indentation();
     }
 }
 
@@ -155,7 +156,7 @@ fn print_alternate<N: PrintNode>(
     match alternate {
         Some(alternate) => {
             p.print_due_semicolon();
-            print_else(alternate.get(), p, settings)
+            print_else(alternate.get(), p, settings);
         }
         None => {}
     }
@@ -166,7 +167,7 @@ fn print_else<N: PrintNode>(alternate: &N, p: &mut Printing<'_>, settings: Setti
     ensures { Lays p.old p.new (λ _. word (codes "else") ⊕ alternate_of (N.plain alternate.now) (settings_of settings)) }
 {
     p.print_word("else");
-    print_behind_else(alternate, p, settings)
+    print_behind_else(alternate, p, settings);
 }
 
 #[tactic(auto, unfolding(crate::specs::Place::at_place))]
@@ -177,7 +178,7 @@ fn print_behind_else<N: PrintNode>(alternate: &N, p: &mut Printing<'_>, settings
     match shape(alternate) {
         BodyShape::If => {
             p.print_hard_space();
-            alternate.print(p, Place::within_statement(settings))
+            alternate.print(p, Place::within_statement(settings));
         }
         _ => print_body(alternate, p, settings),
     }
@@ -191,7 +192,7 @@ pub fn print_empty_statement(node: &EmptyStatement, p: &mut Printing<'_>, place:
     let _ = place;
     p.print_indentation();
     p.print_semicolon();
-    p.print_soft_line()
+    p.print_soft_line();
 }
 
 /// Blocks that stand by themselves in other statements.
@@ -202,6 +203,6 @@ impl<N: PrintNode> PrintMember<Box<BlockStatement<N>>> for Blocks {
     ghost plain = { λ b. block_statement_row N.plain b.value };
 
     fn print_member(block: &Box<BlockStatement<N>>, p: &mut Printing<'_>, place: Place) {
-        print_block_statement(block, p, place)
+        print_block_statement(block, p, place);
     }
 }

@@ -22,15 +22,15 @@ pub fn print_body<N: PrintNode>(body: &N, p: &mut Printing<'_>, settings: Settin
         BodyShape::Block => {
             p.print_soft_space();
             body.print(p, Place::within_statement(settings));
-            p.print_soft_line()
+            p.print_soft_line();
         }
         BodyShape::Empty => {
             p.print_semicolon();
-            p.print_soft_line()
+            p.print_soft_line();
         }
         BodyShape::If | BodyShape::Other => {
             p.begin_body();
-            body.print(p, Place::among_statements(settings))
+            body.print(p, Place::among_statements(settings));
         }
     }
 }
@@ -50,12 +50,12 @@ pub fn print_do_body<N: PrintNode>(
         BodyShape::Block => {
             p.print_soft_space();
             statement.print(p, Place::within_statement(settings));
-            p.print_soft_space()
+            p.print_soft_space();
         }
         BodyShape::Empty => {
             p.print_semicolon();
             p.print_soft_line();
-            p.print_indentation()
+            p.print_indentation();
         }
         BodyShape::If | BodyShape::Other => print_deeper_body::<_, Statements>(body, p, settings),
     }

@@ -29,7 +29,7 @@ pub fn print_switch_statement<N: PrintNode>(
     let within = Place::in_brackets(Precedence::Lowest, place.settings);
     p.print_indentation();
     print_head::<_, Expressions>("switch", &node.discriminant, p, within);
-    print_cases(&node.cases, p, place.settings)
+    print_cases(&node.cases, p, place.settings);
 }
 
 // In braces, up to the end of the line.
@@ -40,7 +40,7 @@ fn print_cases<N: PrintNode>(cases: &[SwitchCase<N>], p: &mut Printing<'_>, sett
 {
     p.print_soft_space();
     print_braces::<_, Cases>(cases, p, settings);
-    p.print_soft_line()
+    p.print_soft_line();
 }
 
 /// Cases, one after another. None of them can become a directive.
@@ -51,11 +51,11 @@ impl<N: PrintNode> PrintStatement<SwitchCase<N>> for Cases {
     ghost plain = { switch_case_row N.plain };
 
     fn print_statement(case: &SwitchCase<N>, p: &mut Printing<'_>, place: Place) {
-        print_switch_case(case, p, place)
+        print_switch_case(case, p, place);
     }
 
     fn print_first_statement(case: &SwitchCase<N>, p: &mut Printing<'_>, place: Place) {
-        print_switch_case(case, p, place)
+        print_switch_case(case, p, place);
     }
 }
 
@@ -68,7 +68,7 @@ pub fn print_switch_case<N: PrintNode>(node: &SwitchCase<N>, p: &mut Printing<'_
         &node.consequent,
         p,
         place.settings,
-    )
+    );
 }
 
 /// A statement that is the only one of its case.
@@ -79,6 +79,6 @@ impl<N: PrintNode> PrintOnly<StatementNode<N>> for Only {
     ghost plain = { in_statement N.plain };
 
     fn print_only(statement: &StatementNode<N>, p: &mut Printing<'_>, settings: Settings) {
-        print_body(statement.get(), p, settings)
+        print_body(statement.get(), p, settings);
     }
 }

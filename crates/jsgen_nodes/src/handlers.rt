@@ -27,7 +27,7 @@ pub fn print_try_statement<N: PrintNode>(node: &TryStatement<N>, p: &mut Printin
     let within = Place::within_statement(place.settings);
     p.print_indentation();
     print_behind_word::<_, Blocks>("try", &node.block, p, within);
-    print_behind_try(node, p, place.settings)
+    print_behind_try(node, p, place.settings);
 }
 
 // What stands behind the block, up to the end of the line.
@@ -39,7 +39,7 @@ fn print_behind_try<N: PrintNode>(node: &TryStatement<N>, p: &mut Printing<'_>, 
     let within = Place::within_statement(settings);
     print_if_given::<_, Clauses>(&node.handler, p, within);
     print_finalizer(&node.finalizer, p, settings);
-    p.print_soft_line()
+    p.print_soft_line();
 }
 
 /// What is done with a value that is caught.
@@ -50,7 +50,7 @@ impl<N: PrintNode> PrintMember<Box<CatchClause<N>>> for Clauses {
     ghost plain = { λ b. catch_clause_row N.plain b.value };
 
     fn print_member(clause: &Box<CatchClause<N>>, p: &mut Printing<'_>, place: Place) {
-        print_catch_clause(clause, p, place)
+        print_catch_clause(clause, p, place);
     }
 }
 
@@ -65,7 +65,7 @@ fn print_finalizer<N: PrintNode>(
     match finalizer {
         Some(block) => {
             let within = Place::within_statement(settings);
-            print_behind_spaced_word::<_, Blocks>("finally", block, p, within)
+            print_behind_spaced_word::<_, Blocks>("finally", block, p, within);
         }
         None => {}
     }
@@ -77,7 +77,7 @@ pub fn print_catch_clause<N: PrintNode>(node: &CatchClause<N>, p: &mut Printing<
 {
     let within = Place::within_statement(place.settings);
     print_catch(&node.param, p, place);
-    print_behind_space::<_, Blocks>(&node.body, p, within)
+    print_behind_space::<_, Blocks>(&node.body, p, within);
 }
 
 // The word and what stands in the parentheses behind it.
@@ -91,7 +91,7 @@ fn print_catch<N: PrintNode>(
 {
     p.print_soft_space();
     p.print_word("catch");
-    print_caught::<_, Patterns>(param, p, place.child(Precedence::Lowest))
+    print_caught::<_, Patterns>(param, p, place.child(Precedence::Lowest));
 }
 
 /// The names that what is caught has.
@@ -102,6 +102,6 @@ impl<N: PrintNode> PrintMember<BindingPatternNode<N>> for Patterns {
     ghost plain = { in_binding_pattern N.plain };
 
     fn print_member(pattern: &BindingPatternNode<N>, p: &mut Printing<'_>, place: Place) {
-        pattern.get().print(p, place)
+        pattern.get().print(p, place);
     }
 }

@@ -24,7 +24,7 @@ pub fn print_label_identifier(node: &LabelIdentifier, p: &mut Printing<'_>, plac
     ensures { Lays p.old p.new (at_place (label_identifier_row node.now) place) }
 {
     let _ = place;
-    p.print_name(node.name.as_str())
+    p.print_name(node.name.as_str());
 }
 
 #[tactic(auto, unfolding(crate::specs::Place::at_place))]
@@ -37,7 +37,7 @@ pub fn print_labeled_statement<N: PrintNode>(
 {
     p.print_indentation();
     print_label(&node.label, p, place);
-    print_body(node.body.get(), p, place.settings)
+    print_body(node.body.get(), p, place.settings);
 }
 
 // A label and its colon.
@@ -46,7 +46,7 @@ fn print_label(label: &LabelIdentifier, p: &mut Printing<'_>, place: Place)
     ensures { Lays p.old p.new (λ _. name (as_written (characters label.now.name)) ⊕ punctuator colon) }
 {
     print_label_identifier(label, p, place);
-    p.print_colon()
+    p.print_colon();
 }
 
 #[tactic(auto, unfolding(crate::specs::Place::at_place))]
@@ -54,7 +54,7 @@ pub fn print_continue_statement(node: &ContinueStatement, p: &mut Printing<'_>, 
     ensures { Lays p.old p.new (at_place (continue_statement_row node.now) place) }
 {
     p.print_indentation();
-    print_jump::<_, Labels>("continue", &node.label, p, place.child(Precedence::Lowest))
+    print_jump::<_, Labels>("continue", &node.label, p, place.child(Precedence::Lowest));
 }
 
 #[tactic(auto, unfolding(crate::specs::Place::at_place))]
@@ -62,7 +62,7 @@ pub fn print_break_statement(node: &BreakStatement, p: &mut Printing<'_>, place:
     ensures { Lays p.old p.new (at_place (break_statement_row node.now) place) }
 {
     p.print_indentation();
-    print_jump::<_, Labels>("break", &node.label, p, place.child(Precedence::Lowest))
+    print_jump::<_, Labels>("break", &node.label, p, place.child(Precedence::Lowest));
 }
 
 /// The labels that jumps name.
@@ -73,7 +73,7 @@ impl PrintMember<Box<LabelIdentifier>> for Labels {
     ghost plain = { λ b. label_identifier_row b.value };
 
     fn print_member(label: &Box<LabelIdentifier>, p: &mut Printing<'_>, place: Place) {
-        print_label_identifier(label, p, place)
+        print_label_identifier(label, p, place);
     }
 }
 
@@ -87,7 +87,7 @@ pub fn print_return_statement<N: PrintNode>(
 {
     let within = Place::in_brackets(Precedence::Lowest, place.settings);
     p.print_indentation();
-    print_jump::<_, Expressions>("return", &node.argument, p, within)
+    print_jump::<_, Expressions>("return", &node.argument, p, within);
 }
 
 #[tactic(auto, unfolding(crate::specs::Place::at_place))]
@@ -101,7 +101,7 @@ pub fn print_throw_statement<N: PrintNode>(
     let within = Place::in_brackets(Precedence::Lowest, place.settings);
     p.print_indentation();
     print_behind_word::<_, Expressions>("throw", &node.argument, p, within);
-    p.print_statement_end()
+    p.print_statement_end();
 }
 
 #[tactic(auto, unfolding(crate::specs::Place::at_place))]
@@ -112,5 +112,5 @@ pub fn print_debugger_statement(node: &DebuggerStatement, p: &mut Printing<'_>, 
     let _ = place;
     p.print_indentation();
     p.print_word("debugger");
-    p.print_statement_end()
+    p.print_statement_end();
 }

@@ -26,7 +26,7 @@ pub fn print_program<N: PrintNode>(node: &Program<N>, p: &mut Printing<'_>, sett
     ensures { Lays p.old p.new (λ _. spell (program_row N.plain node.now) (among_statements (settings_of settings))) }
 {
     print_directives(&node.directives, p, settings);
-    print_whole_body::<_, Statements>(&node.body, p, settings)
+    print_whole_body::<_, Statements>(&node.body, p, settings);
 }
 
 #[tactic(auto, unfolding(crate::specs::Place::at_place))]
@@ -46,7 +46,7 @@ pub fn print_directive(node: &Directive, p: &mut Printing<'_>, place: Place)
     p.print_indentation();
     p.print_directive(node.directive.as_str());
     p.print_semicolon();
-    p.print_soft_line()
+    p.print_soft_line();
 }
 
 #[tactic(auto, unfolding(crate::specs::Place::at_place))]
@@ -57,7 +57,7 @@ fn print_first_statement<N: PrintNode>(statement: &N, p: &mut Printing<'_>, plac
         Some(value) => {
             p.print_indentation();
             p.print_first_string(value);
-            p.print_statement_end()
+            p.print_statement_end();
         }
         None => statement.print(p, place),
     }
@@ -71,11 +71,11 @@ impl<N: PrintNode> PrintStatement<StatementNode<N>> for Statements {
     ghost plain = { in_statement N.plain };
 
     fn print_statement(statement: &StatementNode<N>, p: &mut Printing<'_>, place: Place) {
-        statement.get().print(p, place)
+        statement.get().print(p, place);
     }
 
     fn print_first_statement(statement: &StatementNode<N>, p: &mut Printing<'_>, place: Place) {
-        print_first_statement(statement.get(), p, place)
+        print_first_statement(statement.get(), p, place);
     }
 }
 
@@ -92,7 +92,7 @@ pub fn print_expression_statement<N: PrintNode>(
     node.expression
         .get()
         .print(p, Place::within_statement(place.settings));
-    p.print_statement_end()
+    p.print_statement_end();
 }
 
 #[tactic(auto, unfolding(crate::specs::Place::at_place))]
@@ -106,9 +106,9 @@ pub fn print_variable_declaration<N: PrintNode>(
     if place.in_list {
         p.print_indentation();
         print_declarators(node, p, place);
-        p.print_statement_end()
+        p.print_statement_end();
     } else {
-        print_declarators(node, p, place)
+        print_declarators(node, p, place);
     }
 }
 
@@ -125,7 +125,7 @@ fn print_declarators<N: PrintNode>(
 {
     p.print_word(node.kind.as_str());
     p.print_soft_space();
-    print_parts::<_, Declarators>(&node.declarations, p, place.child(Precedence::Lowest))
+    print_parts::<_, Declarators>(&node.declarations, p, place.child(Precedence::Lowest));
 }
 
 /// What a declaration declares.
@@ -136,7 +136,7 @@ impl<N: PrintNode> PrintMember<VariableDeclarator<N>> for Declarators {
     ghost plain = { variable_declarator_row N.plain };
 
     fn print_member(declarator: &VariableDeclarator<N>, p: &mut Printing<'_>, place: Place) {
-        print_variable_declarator(declarator, p, place)
+        print_variable_declarator(declarator, p, place);
     }
 }
 
@@ -149,7 +149,7 @@ pub fn print_variable_declarator<N: PrintNode>(
     ensures { Lays p.old p.new (at_place (variable_declarator_row N.plain node.now) place) }
 {
     node.id.get().print(p, place.child(Precedence::Lowest));
-    print_value::<_, Expressions>(&node.init, p, place.child(Precedence::Comma))
+    print_value::<_, Expressions>(&node.init, p, place.child(Precedence::Comma));
 }
 
 #[tactic(auto, unfolding(crate::specs::Place::at_place))]
@@ -157,5 +157,5 @@ pub fn print_binding_identifier(node: &BindingIdentifier, p: &mut Printing<'_>, 
     ensures { Lays p.old p.new (at_place (binding_identifier_row node.now) place) }
 {
     let _ = place;
-    p.print_binding(node.name.as_str(), node.symbol)
+    p.print_binding(node.name.as_str(), node.symbol);
 }

@@ -1,6 +1,8 @@
-use Rattle.jsgen_nodes.specs.Place.{at_place}
+use Rattle.jsgen_steps.proofs.Sequence.{nothing_laid}
 use Rattle.jsgen_nodes.proofs.handlers.print_finalizer.Goals as goal
 
 pub returns-in-Some : goal.returns-in-Some
-unfolding at_place
 returns-in-Some g c = rw c.in-Some.is (rw c.within_statement-within.ensures at c.print_behind_spaced_word.ensures)
+
+pub returns-in-None : goal.returns-in-None
+returns-in-None g c = rw c.in-None.is (nothing_laid _)

@@ -1,36 +1,7 @@
-use Rattle.std.proofs.Common.{refl}
-use Rattle.jsgen_tree.specs.Characters.{characters}
-use Rattle.jsgen_model.specs.Punctuator.{semicolon}
-use Rattle.jsgen_model.specs.Items.{◌⊕◌, indentation, directive, punctuator, soft_line}
-use Rattle.jsgen_printer.specs.Printer.{pen_of}
-use Rattle.jsgen_printer.proofs.Stops.{stopped, stops_first, stops_second}
+use Rattle.jsgen_steps.proofs.Sequence.{◌⨾◌}
 use Rattle.jsgen_nodes.specs.Place.{at_place}
-use Rattle.jsgen_lists.proofs.Turns.{last_reaches}
 use Rattle.jsgen_nodes.proofs.statements.print_directive.Goals as goal
-
-pub returns-in_err-print_indentation : goal.returns-in_err-print_indentation
-unfolding at_place
-returns-in_err-print_indentation c =
-    let text = directive (characters c.args.node.now.directive) in
-    stopped _ c.from_residual.ensures.0 (stops_first indentation (text ⊕ (punctuator semicolon ⊕ soft_line)) c.in_err-print_indentation.ensures)
-
-pub returns-in_err-print_directive : goal.returns-in_err-print_directive
-unfolding at_place
-returns-in_err-print_directive c =
-    let text = directive (characters c.args.node.now.directive) in
-    let end = punctuator semicolon ⊕ soft_line in
-    stopped _ c.from_residual-in_err-print_directive.ensures.0 (stops_second indentation (text ⊕ end) c.in_ok-print_indentation.ensures (stops_first text end (rw c.as_str.ensures.value at c.in_err-print_directive.ensures)))
-
-pub returns-in_err-print_semicolon : goal.returns-in_err-print_semicolon
-unfolding at_place
-returns-in_err-print_semicolon c =
-    let text = directive (characters c.args.node.now.directive) in
-    let end = punctuator semicolon ⊕ soft_line in
-    stopped _ c.from_residual-in_err-print_semicolon.ensures.0 (stops_second indentation (text ⊕ end) c.in_ok-print_indentation.ensures (stops_second text end (rw c.as_str.ensures.value at c.in_ok-print_directive.ensures) (stops_first (punctuator semicolon) soft_line c.in_err-print_semicolon.ensures)))
 
 pub returns : goal.returns
 unfolding at_place
-returns c =
-    let text = directive (characters c.args.node.now.directive) in
-    let before = rw (c.in_ok-print_directive.ensures, c.in_ok-print_indentation.ensures, c.as_str.ensures.value) at c.in_ok-print_semicolon.ensures in
-    last_reaches c.print_soft_line.result (indentation ⊕ (text ⊕ punctuator semicolon)) soft_line (pen_of c.args.p.now) (pen_of c.print_semicolon.new.self) (pen_of c.print_soft_line.new.self) before refl c.print_soft_line.ensures
+returns c = c.print_indentation.ensures ⨾ ((rw c.as_str.ensures.value at c.print_directive.ensures) ⨾ (c.print_semicolon.ensures ⨾ c.print_soft_line.ensures))
