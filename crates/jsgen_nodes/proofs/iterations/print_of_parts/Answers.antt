@@ -1,7 +1,5 @@
 use Rattle.jsgen_steps.proofs.Sequence.{◌⨾◌}
-use Rattle.jsgen_nodes.specs.Place.{at_place}
 use Rattle.jsgen_nodes.proofs.iterations.print_of_parts.Goals as goal
 
 pub returns : goal.returns
-unfolding at_place
 returns g c = c.print_apart_from_of.ensures ⨾ (rw c.in_brackets-within.ensures at c.print_behind_spaced_word.ensures)

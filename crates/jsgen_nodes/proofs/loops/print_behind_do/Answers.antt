@@ -1,8 +1,6 @@
 use Rattle.std.proofs.Common.{refl}
 use Rattle.jsgen_steps.proofs.Sequence.{◌⨾◌, regrouped}
-use Rattle.jsgen_nodes.specs.Place.{at_place}
 use Rattle.jsgen_nodes.proofs.loops.print_behind_do.Goals as goal
 
 pub returns : goal.returns
-unfolding at_place
 returns g c = regrouped (λ pen. refl) ((rw c.in_brackets-within.ensures at c.print_head.ensures) ⨾ c.print_statement_end.ensures)

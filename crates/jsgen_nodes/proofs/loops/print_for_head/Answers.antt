@@ -1,8 +1,6 @@
 use Rattle.std.proofs.Common.{refl}
 use Rattle.jsgen_steps.proofs.Sequence.{◌⨾◌, regrouped}
-use Rattle.jsgen_nodes.specs.Place.{at_place}
 use Rattle.jsgen_nodes.proofs.loops.print_for_head.Goals as goal
 
 pub returns : goal.returns
-unfolding at_place
 returns g c = regrouped (λ pen. refl) (c.print_for.ensures ⨾ (rw (c.loop_head-first.ensures, c.in_brackets-within.ensures) at c.print_loop_parts.ensures))
