@@ -30,7 +30,7 @@ pub fn print_assignment_expression<N: PrintNode>(
     let wrap = place.wraps_assignment();
     p.print_opening_if(wrap);
     print_assignment(node, p, place);
-    p.print_closing_if(wrap)
+    p.print_closing_if(wrap);
 }
 
 // The target, the sign and what the target is given, within the parentheses.
@@ -48,7 +48,7 @@ fn print_assignment<N: PrintNode>(
     let target = Place::in_brackets(Precedence::Comma, place.settings);
     let quoted = is_export(place.settings.minified, &node.left);
     print_assignment_target(&node.left, p, target.quoted_plainly(quoted));
-    print_value(node.operator, &node.right, p, place)
+    print_value(node.operator, &node.right, p, place);
 }
 
 // What a target is given, behind the sign.
@@ -64,5 +64,5 @@ fn print_value<N: PrintNode>(
 {
     p.print_soft_space();
     p.print_assignment_sign(operator);
-    print_behind_space::<_, Expressions>(value, p, place.child(Precedence::Comma))
+    print_behind_space::<_, Expressions>(value, p, place.child(Precedence::Comma));
 }

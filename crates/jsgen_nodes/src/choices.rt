@@ -27,7 +27,7 @@ pub fn print_conditional_expression<N: PrintNode>(
     let wrap = place.wraps(Precedence::Conditional);
     p.print_opening_if(wrap);
     print_choice(node, p, place.within(wrap));
-    p.print_closing_if(wrap)
+    p.print_closing_if(wrap);
 }
 
 // The test and both values, within the parentheses.
@@ -42,7 +42,7 @@ fn print_choice<N: PrintNode>(node: &ConditionalExpression<N>, p: &mut Printing<
         .get()
         .print(p, place.part(Precedence::Conditional));
     print_consequent(&node.consequent, p, place);
-    print_alternate(&node.alternate, p, place)
+    print_alternate(&node.alternate, p, place);
 }
 
 // What is chosen, behind `?`.
@@ -54,7 +54,7 @@ fn print_consequent<N: PrintNode>(node: &ExpressionNode<N>, p: &mut Printing<'_>
     let within = Place::in_brackets(Precedence::Yield, place.settings);
     p.print_soft_space();
     p.print_question();
-    print_behind_space::<_, Expressions>(node, p, within)
+    print_behind_space::<_, Expressions>(node, p, within);
 }
 
 // What is chosen otherwise, behind `:`.
@@ -65,5 +65,5 @@ fn print_alternate<N: PrintNode>(node: &ExpressionNode<N>, p: &mut Printing<'_>,
 {
     p.print_soft_space();
     p.print_colon();
-    print_behind_space::<_, Expressions>(node, p, place.part(Precedence::Yield))
+    print_behind_space::<_, Expressions>(node, p, place.part(Precedence::Yield));
 }

@@ -28,7 +28,7 @@ pub fn print_identifier_reference(node: &IdentifierReference, p: &mut Printing<'
     ensures { Lays p.old p.new (at_place (identifier_reference_row node.now) place) }
 {
     let _ = place;
-    p.print_reference(node.name.as_str(), node.reference)
+    p.print_reference(node.name.as_str(), node.reference);
 }
 
 #[tactic(auto, unfolding(crate::specs::Place::at_place))]
@@ -37,7 +37,7 @@ pub fn print_this_expression(node: &ThisExpression, p: &mut Printing<'_>, place:
 {
     let _ = node;
     let _ = place;
-    p.print_word("this")
+    p.print_word("this");
 }
 
 #[tactic(auto, unfolding(crate::specs::Place::at_place))]
@@ -46,7 +46,7 @@ pub fn print_null_literal(node: &NullLiteral, p: &mut Printing<'_>, place: Place
 {
     let _ = node;
     let _ = place;
-    p.print_word("null")
+    p.print_word("null");
 }
 
 #[tactic(auto, unfolding(crate::specs::Place::at_place))]
@@ -54,7 +54,7 @@ pub fn print_boolean_literal(node: &BooleanLiteral, p: &mut Printing<'_>, place:
     ensures { Lays p.old p.new (at_place (boolean_literal_row node.now) place) }
 {
     let _ = place;
-    p.print_word(if node.value { "true" } else { "false" })
+    p.print_word(if node.value { "true" } else { "false" });
 }
 
 #[tactic(auto, unfolding(crate::specs::Place::at_place))]
@@ -72,9 +72,9 @@ fn print_whole(negative: bool, digits: u128, p: &mut Printing<'_>, place: Place)
     ensures { Lays p.old p.new (λ pen. signed true negative (decimal digits) (place_of place pen)) }
 {
     if negative {
-        p.print_negative_whole_number(place.wraps_negative(), digits)
+        p.print_negative_whole_number(place.wraps_negative(), digits);
     } else {
-        p.print_whole_number(digits)
+        p.print_whole_number(digits);
     }
 }
 
@@ -93,7 +93,7 @@ pub fn print_big_int_literal(node: &BigIntLiteral, p: &mut Printing<'_>, place: 
 pub fn print_string_literal(node: &StringLiteral, p: &mut Printing<'_>, place: Place)
     ensures { Lays p.old p.new (at_place (string_literal_row node.now) place) }
 {
-    p.print_string(&node.value, !place.plain_quotes)
+    p.print_string(&node.value, !place.plain_quotes);
 }
 
 /// The printer sets parentheses by levels alone, and prints none for this node.
@@ -105,7 +105,7 @@ pub fn print_parenthesized_expression<N: PrintNode>(
 )
     ensures { Lays p.old p.new (at_place (parenthesized_expression_row N.plain node.now) place) }
 {
-    node.expression.get().print(p, place)
+    node.expression.get().print(p, place);
 }
 
 #[tactic(auto, unfolding(crate::specs::Place::at_place))]
@@ -119,7 +119,7 @@ pub fn print_binary_expression<N: PrintNode>(
     let wrap = place.wraps_binary(node.operator);
     p.print_opening_if(wrap);
     print_binary_operation(node, p, place.within(wrap));
-    p.print_closing_if(wrap)
+    p.print_closing_if(wrap);
 }
 
 // Both operands and the operator between them, within the parentheses.
@@ -145,7 +145,7 @@ fn print_binary_operation<N: PrintNode>(
     p.print_operator(node.operator);
     let quoted = is_mark(place.settings.minified, node.operator, node.right.get());
     let below = place.child(right_level(node.operator));
-    print_behind_space::<_, Expressions>(&node.right, p, below.quoted_plainly(quoted))
+    print_behind_space::<_, Expressions>(&node.right, p, below.quoted_plainly(quoted));
 }
 
 #[tactic(auto, unfolding(crate::specs::Place::at_place))]
@@ -159,7 +159,7 @@ pub fn print_logical_expression<N: PrintNode>(
     let wrap = place.wraps_logical(node.operator);
     p.print_opening_if(wrap);
     print_logical_operation(node, p, place.within(wrap));
-    p.print_closing_if(wrap)
+    p.print_closing_if(wrap);
 }
 
 // Both operands and the operator between them, within the parentheses.
@@ -188,5 +188,5 @@ fn print_logical_operation<N: PrintNode>(
     p.print_logical_sign(node.operator);
     let right = node.right.get().operand();
     let level = unmixed(node.operator, right, node.operator.precedence());
-    print_behind_space::<_, Expressions>(&node.right, p, place.child(level))
+    print_behind_space::<_, Expressions>(&node.right, p, place.child(level));
 }

@@ -36,7 +36,7 @@ pub fn print_for_in_statement<N: PrintNode>(
 {
     p.print_indentation();
     print_in_head(node, p, place.settings);
-    print_body(node.body.get(), p, place.settings)
+    print_body(node.body.get(), p, place.settings);
 }
 
 // The word and what stands in the parentheses behind it.
@@ -47,7 +47,7 @@ fn print_in_head<N: PrintNode>(node: &ForInStatement<N>, p: &mut Printing<'_>, s
     print_for(p);
     p.print_opening(Bracket::Round);
     print_in_parts(node, p, settings);
-    p.print_closing(Bracket::Round)
+    p.print_closing(Bracket::Round);
 }
 
 #[tactic(auto, unfolding(crate::specs::Place::at_place))]
@@ -57,7 +57,7 @@ fn print_in_parts<N: PrintNode>(node: &ForInStatement<N>, p: &mut Printing<'_>, 
 {
     let within = Place::in_brackets(Precedence::Lowest, settings);
     print_left(&node.left, p, settings);
-    print_behind_spaced_word::<_, Expressions>("in", &node.right, p, within)
+    print_behind_spaced_word::<_, Expressions>("in", &node.right, p, within);
 }
 
 #[tactic(auto, unfolding(crate::specs::Place::at_place))]
@@ -70,7 +70,7 @@ pub fn print_for_of_statement<N: PrintNode>(
 {
     p.print_indentation();
     print_of_head(node, p, place.settings);
-    print_body(node.body.get(), p, place.settings)
+    print_body(node.body.get(), p, place.settings);
 }
 
 // The word and what stands in the parentheses behind it.
@@ -81,7 +81,7 @@ fn print_of_head<N: PrintNode>(node: &ForOfStatement<N>, p: &mut Printing<'_>, s
     print_for(p);
     p.print_opening(Bracket::Round);
     print_of_parts(node, p, settings);
-    p.print_closing(Bracket::Round)
+    p.print_closing(Bracket::Round);
 }
 
 #[tactic(auto, unfolding(crate::specs::Place::at_place))]
@@ -91,7 +91,7 @@ fn print_of_parts<N: PrintNode>(node: &ForOfStatement<N>, p: &mut Printing<'_>, 
 {
     let within = Place::in_brackets(Precedence::Comma, settings);
     print_apart_from_of(&node.left, p, settings);
-    print_behind_spaced_word::<_, Expressions>("of", &node.right, p, within)
+    print_behind_spaced_word::<_, Expressions>("of", &node.right, p, within);
 }
 
 // ---- what the loop gives each of them
@@ -129,9 +129,9 @@ fn print_apart_from_of<N: PrintNode>(
     ensures { Lays p.old p.new (λ _. apart_from_of (looked_up_in (in_for_statement_left N.plain left.now)) (left_of (in_for_statement_left N.plain left.now) (settings_of settings))) }
 {
     if is_async(left, p) {
-        print_left_in_parentheses(left, p, settings)
+        print_left_in_parentheses(left, p, settings);
     } else {
-        print_left(left, p, settings)
+        print_left(left, p, settings);
     }
 }
 
@@ -145,7 +145,7 @@ fn print_left_in_parentheses<N: PrintNode>(
 {
     p.print_opening(Bracket::Round);
     print_left(left, p, settings);
-    p.print_closing(Bracket::Round)
+    p.print_closing(Bracket::Round);
 }
 
 fn is_async<N: PrintNode>(left: &ForStatementLeft<N>, p: &Printing<'_>) -> bool

@@ -30,7 +30,7 @@ pub fn print_identifier_name(node: &IdentifierName, p: &mut Printing<'_>, place:
     ensures { Lays p.old p.new (at_place (identifier_name_row node.now) place) }
 {
     let _ = place;
-    p.print_name(node.name.as_str())
+    p.print_name(node.name.as_str());
 }
 
 #[tactic(auto, unfolding(crate::specs::Place::at_place))]
@@ -42,7 +42,7 @@ pub fn print_static_member_expression<N: PrintNode>(
     ensures { Lays p.old p.new (at_place (static_member_expression_row N.plain node.now) place) }
 {
     let object = place.child(Precedence::Postfix);
-    print_named_member::<_, Expressions>(&node.object, node.optional, &node.property, p, object)
+    print_named_member::<_, Expressions>(&node.object, node.optional, &node.property, p, object);
 }
 
 #[tactic(auto, unfolding(crate::specs::Place::at_place))]
@@ -54,7 +54,7 @@ pub fn print_computed_member_expression<N: PrintNode>(
     ensures { Lays p.old p.new (at_place (computed_member_expression_row N.plain node.now) place) }
 {
     node.object.get().print(p, place.child(Precedence::Postfix));
-    print_computed_name(node, p, place)
+    print_computed_name(node, p, place);
 }
 
 // Behind the object.
@@ -73,7 +73,7 @@ fn print_computed_name<N: PrintNode>(
     node.expression
         .get()
         .print(p, within.quoted_plainly(place.plain_quotes));
-    p.print_closing(Bracket::Square)
+    p.print_closing(Bracket::Square);
 }
 
 #[tactic(auto, unfolding(crate::specs::Place::at_place))]
@@ -87,7 +87,7 @@ pub fn print_call_expression<N: PrintNode>(
     let wrap = place.wraps_call();
     p.print_opening_if(wrap);
     print_call(node, p, place.within(wrap));
-    p.print_closing_if(wrap)
+    p.print_closing_if(wrap);
 }
 
 // What is called and what it is given, within the parentheses.
@@ -103,7 +103,7 @@ fn print_call<N: PrintNode>(node: &CallExpression<N>, p: &mut Printing<'_>, plac
     print_bracket_link(node.optional, p);
     let within = Place::in_brackets(Precedence::Comma, place.settings);
     let quotes = plain_quotes(place.settings.minified, node);
-    print_arguments::<_, Arguments>(quotes, &node.arguments, p, within)
+    print_arguments::<_, Arguments>(quotes, &node.arguments, p, within);
 }
 
 #[tactic(auto, unfolding(crate::specs::Place::at_place))]
@@ -117,7 +117,7 @@ pub fn print_chain_expression<N: PrintNode>(
     let wrap = place.wraps_chain();
     p.print_opening_if(wrap);
     print_chain_element(&node.expression, p, place.chain(wrap));
-    p.print_closing_if(wrap)
+    p.print_closing_if(wrap);
 }
 
 fn print_chain_element<N: PrintNode>(node: &ChainElement<N>, p: &mut Printing<'_>, place: Place)

@@ -29,7 +29,7 @@ pub fn print_for_statement<N: PrintNode>(node: &ForStatement<N>, p: &mut Printin
 {
     p.print_indentation();
     print_for_head(node, p, place.settings);
-    print_body(node.body.get(), p, place.settings)
+    print_body(node.body.get(), p, place.settings);
 }
 
 // The word and what stands in the parentheses behind it.
@@ -49,7 +49,7 @@ fn print_for_head<N: PrintNode>(node: &ForStatement<N>, p: &mut Printing<'_>, se
         p,
         first,
         within,
-    )
+    );
 }
 
 /// The word that begins a loop, and the space behind it.
@@ -57,7 +57,7 @@ pub fn print_for(p: &mut Printing<'_>)
     ensures { Lays p.old p.new (λ _. word (codes "for") ⊕ soft_space) }
 {
     p.print_word("for");
-    p.print_soft_space()
+    p.print_soft_space();
 }
 
 /// What is done before a loop.
@@ -88,7 +88,7 @@ pub fn print_while_statement<N: PrintNode>(
     let within = Place::in_brackets(Precedence::Lowest, place.settings);
     p.print_indentation();
     print_head::<_, Expressions>("while", &node.test, p, within);
-    print_body(node.body.get(), p, place.settings)
+    print_body(node.body.get(), p, place.settings);
 }
 
 #[tactic(auto, unfolding(crate::specs::Place::at_place))]
@@ -102,7 +102,7 @@ pub fn print_do_while_statement<N: PrintNode>(
     p.print_indentation();
     p.print_word("do");
     print_do_body(&node.body, p, place.settings);
-    print_behind_do(&node.test, p, place.settings)
+    print_behind_do(&node.test, p, place.settings);
 }
 
 // The test, and the end of the statement.
@@ -112,5 +112,5 @@ fn print_behind_do<N: PrintNode>(test: &ExpressionNode<N>, p: &mut Printing<'_>,
 {
     let within = Place::in_brackets(Precedence::Lowest, settings);
     print_head::<_, Expressions>("while", test, p, within);
-    p.print_statement_end()
+    p.print_statement_end();
 }

@@ -34,7 +34,7 @@ pub fn print_unary_expression<N: PrintNode>(
     let wrap = place.wraps(Precedence::Prefix);
     p.print_opening_if(wrap);
     print_unary_operation(node, p, place.within(wrap));
-    p.print_closing_if(wrap)
+    p.print_closing_if(wrap);
 }
 
 // The operator and its operand, within the parentheses.
@@ -51,7 +51,7 @@ fn print_unary_operation<N: PrintNode>(
     p.print_behind_unary(node.operator);
     node.argument
         .get()
-        .print(p, place.child(Precedence::Exponentiation))
+        .print(p, place.child(Precedence::Exponentiation));
 }
 
 #[tactic(auto, unfolding(crate::specs::Place::at_place))]
@@ -72,7 +72,7 @@ pub fn print_update_expression<N: PrintNode>(
         p,
         place.within(wrap),
     );
-    p.print_closing_if(wrap)
+    p.print_closing_if(wrap);
 }
 
 /// What `++` and `--` change.
@@ -83,7 +83,7 @@ impl<N: PrintNode> PrintMember<SimpleAssignmentTarget<N>> for Targets {
     ghost plain = { in_simple_assignment_target N.plain };
 
     fn print_member(member: &SimpleAssignmentTarget<N>, p: &mut Printing<'_>, place: Place) {
-        print_simple_assignment_target(member, p, place)
+        print_simple_assignment_target(member, p, place);
     }
 }
 
@@ -98,7 +98,7 @@ pub fn print_new_expression<N: PrintNode>(
     let wrap = place.wraps(Precedence::New);
     p.print_opening_if(wrap);
     print_construction(node, p, place.within(wrap));
-    p.print_closing_if(wrap)
+    p.print_closing_if(wrap);
 }
 
 // `new`, what it stands before and what that is given, within the parentheses.
@@ -112,7 +112,7 @@ fn print_construction<N: PrintNode>(node: &NewExpression<N>, p: &mut Printing<'_
     p.print_word("new");
     p.print_soft_space();
     node.callee.get().print(p, place.constructed());
-    print_new_arguments(&node.arguments, p, place)
+    print_new_arguments(&node.arguments, p, place);
 }
 
 // What a constructor is given: in minified text nothing may stand for nothing.
@@ -123,7 +123,7 @@ fn print_new_arguments<N: PrintNode>(arguments: &[Argument<N>], p: &mut Printing
 {
     if place.needs_arguments(is_given(arguments)) {
         let within = Place::in_brackets(Precedence::Comma, place.settings);
-        print_in_brackets::<_, Arguments>(Bracket::Round, arguments, p, within)
+        print_in_brackets::<_, Arguments>(Bracket::Round, arguments, p, within);
     }
 }
 
@@ -139,7 +139,7 @@ pub fn print_super(node: &Super, p: &mut Printing<'_>, place: Place)
 {
     let _ = node;
     let _ = place;
-    p.print_word("super")
+    p.print_word("super");
 }
 
 #[tactic(auto, unfolding(crate::specs::Place::at_place))]
@@ -150,5 +150,5 @@ pub fn print_new_target(node: &NewTarget, p: &mut Printing<'_>, place: Place)
     let _ = place;
     p.print_word("new");
     p.print_member_dot();
-    p.print_word("target")
+    p.print_word("target");
 }

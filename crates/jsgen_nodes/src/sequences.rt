@@ -22,7 +22,7 @@ pub fn print_sequence_expression<N: PrintNode>(
     let within = place.part(Precedence::Lowest);
     p.print_opening_if(wrap);
     print_parts::<_, Expressions>(&node.expressions, p, within);
-    p.print_closing_if(wrap)
+    p.print_closing_if(wrap);
 }
 
 /// Expressions in a row, or one by itself.
@@ -33,6 +33,6 @@ impl<N: PrintNode> PrintMember<ExpressionNode<N>> for Expressions {
     ghost plain = { in_expression N.plain };
 
     fn print_member(expression: &ExpressionNode<N>, p: &mut Printing<'_>, place: Place) {
-        expression.get().print(p, place)
+        expression.get().print(p, place);
     }
 }

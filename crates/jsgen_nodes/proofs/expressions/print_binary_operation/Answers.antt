@@ -1,68 +1,15 @@
-use Rattle.std.proofs.Common.{ap, ◌∙◌}
-use Rattle.jsgen_model.specs.Items.{◌⊕◌, soft_space}
-use Rattle.jsgen_model.specs.Spell.{spell, left_of, behind, quoted_plainly, left_level, right_level}
-use Rattle.jsgen_model.specs.Operators.{operator_item}
-use Rattle.jsgen_model.specs.Quotes.{is_export_mark}
-use Rattle.jsgen_printer.specs.Printer.{pen_of}
-use Rattle.jsgen_printer.proofs.Stops.{stopped, stops_first}
-use Rattle.jsgen_place.specs.Place.{place_of}
+use Rattle.jsgen_steps.proofs.Sequence.{◌⨾◌, items_go, none_behind}
 use Rattle.jsgen_nodes.specs.Place.{at_place}
-use Rattle.jsgen_nodes.proofs.Placed.{laid_as, stops_as, there}
-use Rattle.jsgen_nodes.proofs.Operations.{operation_laid, operator_nowhere, stops_before_sign, stops_at_sign}
+use Rattle.jsgen_nodes.proofs.Operations.{operator_nowhere}
 use Rattle.jsgen_nodes.proofs.expressions.print_binary_operation.Goals as goal
-
-pub returns-in_err-print : goal.returns-in_err-print
-unfolding at_place
-returns-in_err-print g c =
-    let o = c.args.node.now.operator in
-    let a = g.N.PrintNode.plain c.args.node.now.left.node in
-    let b = g.N.PrintNode.plain c.args.node.now.right.node in
-    let minified = c.args.place.settings.minified in
-    let place = place_of c.args.place (pen_of c.args.p.now) in
-    let left = spell a (quoted_plainly (is_export_mark minified o a) (left_of (left_level o a) place)) in
-    let right = spell b (quoted_plainly (is_export_mark minified o b) (behind (right_level o) place)) in
-    let same = ap (λ n. spell (g.N.PrintNode.plain n) (place_of c.quoted_plainly.result (pen_of c.args.p.now))) c.get-left.ensures ∙ there a (pen_of c.args.p.now) (rw (c.left_operand.ensures, c.is_mark-quoted.ensures, c.left_level-level.ensures (g.N.PrintNode.plain c.get-left.result.now) c.operand.ensures, c.get-left.ensures) at c.quoted_plainly.ensures) in
-    stopped _ c.from_residual.ensures.0 (stops_first left (soft_space ⊕ ((operator_item o) ⊕ (soft_space ⊕ right))) (stops_as same c.in_err-print.ensures))
-
-pub returns-in_err-print_soft_space : goal.returns-in_err-print_soft_space
-unfolding at_place
-returns-in_err-print_soft_space g c =
-    let o = c.args.node.now.operator in
-    let a = g.N.PrintNode.plain c.args.node.now.left.node in
-    let b = g.N.PrintNode.plain c.args.node.now.right.node in
-    let minified = c.args.place.settings.minified in
-    let place = place_of c.args.place (pen_of c.args.p.now) in
-    let left = spell a (quoted_plainly (is_export_mark minified o a) (left_of (left_level o a) place)) in
-    let right = spell b (quoted_plainly (is_export_mark minified o b) (behind (right_level o) place)) in
-    let same = ap (λ n. spell (g.N.PrintNode.plain n) (place_of c.quoted_plainly.result (pen_of c.args.p.now))) c.get-left.ensures ∙ there a (pen_of c.args.p.now) (rw (c.left_operand.ensures, c.is_mark-quoted.ensures, c.left_level-level.ensures (g.N.PrintNode.plain c.get-left.result.now) c.operand.ensures, c.get-left.ensures) at c.quoted_plainly.ensures) in
-    stopped _ c.from_residual-in_err-print_soft_space.ensures.0 (stops_before_sign left (operator_item o) right (laid_as (pen_of c.args.p.now) same c.in_ok-print.ensures) c.in_err-print_soft_space.ensures)
-
-pub returns-in_err-print_operator : goal.returns-in_err-print_operator
-unfolding at_place
-returns-in_err-print_operator g c =
-    let o = c.args.node.now.operator in
-    let a = g.N.PrintNode.plain c.args.node.now.left.node in
-    let b = g.N.PrintNode.plain c.args.node.now.right.node in
-    let minified = c.args.place.settings.minified in
-    let place = place_of c.args.place (pen_of c.args.p.now) in
-    let left = spell a (quoted_plainly (is_export_mark minified o a) (left_of (left_level o a) place)) in
-    let right = spell b (quoted_plainly (is_export_mark minified o b) (behind (right_level o) place)) in
-    let same = ap (λ n. spell (g.N.PrintNode.plain n) (place_of c.quoted_plainly.result (pen_of c.args.p.now))) c.get-left.ensures ∙ there a (pen_of c.args.p.now) (rw (c.left_operand.ensures, c.is_mark-quoted.ensures, c.left_level-level.ensures (g.N.PrintNode.plain c.get-left.result.now) c.operand.ensures, c.get-left.ensures) at c.quoted_plainly.ensures) in
-    stopped _ c.from_residual-in_err-print_operator.ensures.0 (stops_at_sign left (operator_item o) right (laid_as (pen_of c.args.p.now) same c.in_ok-print.ensures) c.in_ok-print_soft_space.ensures c.in_err-print_operator.ensures)
 
 pub print_behind_space-requires : goal.print_behind_space-requires
 unfolding at_place
-print_behind_space-requires g c = ap (λ p. p.start) c.in_ok-print_operator.ensures ∙ operator_nowhere c.args.node.now.operator (pen_of c.print_soft_space.new.self)
+print_behind_space-requires g c = none_behind (operator_nowhere c.args.node.now.operator) (items_go c.print_operator.ensures)
 
 pub returns : goal.returns
 unfolding at_place
 returns g c =
-    let o = c.args.node.now.operator in
-    let a = g.N.PrintNode.plain c.args.node.now.left.node in
-    let b = g.N.PrintNode.plain c.args.node.now.right.node in
-    let minified = c.args.place.settings.minified in
-    let place = place_of c.args.place (pen_of c.args.p.now) in
-    let left = spell a (quoted_plainly (is_export_mark minified o a) (left_of (left_level o a) place)) in
-    let here = rw (c.child-below.ensures, c.right_level.ensures, c.is_mark-quoted-2.ensures, c.get.ensures) at c.quoted_plainly-2.ensures in
-    let same = ap (λ n. spell (g.N.PrintNode.plain n) (place_of c.quoted_plainly.result (pen_of c.args.p.now))) c.get-left.ensures ∙ there a (pen_of c.args.p.now) (rw (c.left_operand.ensures, c.is_mark-quoted.ensures, c.left_level-level.ensures (g.N.PrintNode.plain c.get-left.result.now) c.operand.ensures, c.get-left.ensures) at c.quoted_plainly.ensures) in
-    operation_laid c.print_behind_space.result left (operator_item o) b (pen_of c.args.p.now) (pen_of c.print.new.p) (pen_of c.print_soft_space.new.self) (pen_of c.print_operator.new.self) (pen_of c.print_behind_space.new.p) here (laid_as (pen_of c.args.p.now) same c.in_ok-print.ensures) c.in_ok-print_soft_space.ensures c.in_ok-print_operator.ensures c.print_behind_space.ensures
+    let left = rw (c.quoted_plainly.ensures, c.left_operand.ensures, c.is_mark-quoted.ensures, c.left_level-level.ensures (g.N.PrintNode.plain c.get-left.result.now) c.operand.ensures, c.get-left.ensures) at c.print.ensures in
+    let right = rw (c.quoted_plainly-2.ensures, c.child-below.ensures, c.right_level.ensures, c.is_mark-quoted-2.ensures, c.get.ensures) at c.print_behind_space.ensures in
+    left ⨾ (c.print_soft_space.ensures ⨾ (c.print_operator.ensures ⨾ right))

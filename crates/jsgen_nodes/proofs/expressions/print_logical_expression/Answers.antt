@@ -1,17 +1,10 @@
-use Rattle.jsgen_printer.specs.Printer.{pen_of}
-use Rattle.jsgen_printer.proofs.Stops.{appends, stopped, stops_within}
+use Rattle.std.proofs.Common.{refl}
+use Rattle.jsgen_steps.specs.Steps.{pen_at}
+use Rattle.jsgen_steps.proofs.Sequence.{as_laid}
 use Rattle.jsgen_nodes.specs.Place.{at_place}
-use Rattle.jsgen_nodes.proofs.Operations.{logical_items, wrapped_laid, stops_wrapped}
+use Rattle.jsgen_nodes.proofs.Operations.{logical_items, wrapped_at}
 use Rattle.jsgen_nodes.proofs.expressions.print_logical_expression.Goals as goal
-
-pub returns-in_err-print_opening_if : goal.returns-in_err-print_opening_if
-unfolding at_place
-returns-in_err-print_opening_if g c = stopped _ c.from_residual.ensures.0 (stops_within (rw (c.wraps_logical-wrap.ensures (pen_of c.args.p.now)) at c.in_err-print_opening_if.ensures) (search appends) (search appends))
-
-pub returns-in_err-print_logical_operation : goal.returns-in_err-print_logical_operation
-unfolding at_place
-returns-in_err-print_logical_operation g c = stopped _ c.from_residual-in_err-print_logical_operation.ensures.0 (stops_wrapped _ (pen_of c.args.p.now) _ c.wraps_logical-wrap.result _ c.args.place c.within.result (logical_items c.args.node.now.operator (g.N.PrintNode.plain c.args.node.now.left.node) (g.N.PrintNode.plain c.args.node.now.right.node)) (c.wraps_logical-wrap.ensures (pen_of c.args.p.now)) c.within.ensures c.in_ok-print_opening_if.ensures c.in_err-print_logical_operation.ensures)
 
 pub returns : goal.returns
 unfolding at_place
-returns g c = wrapped_laid c.print_closing_if.result (pen_of c.print_closing_if.new.self) (pen_of c.args.p.now) _ _ c.wraps_logical-wrap.result _ c.args.place c.within.result (logical_items c.args.node.now.operator (g.N.PrintNode.plain c.args.node.now.left.node) (g.N.PrintNode.plain c.args.node.now.right.node)) (c.wraps_logical-wrap.ensures (pen_of c.args.p.now)) c.within.ensures c.in_ok-print_opening_if.ensures c.in_ok-print_logical_operation.ensures c.print_closing_if.ensures
+returns g c = as_laid _ (λ going. refl) (wrapped_at c.wraps_logical-wrap.result _ c.args.place c.within.result (logical_items c.args.node.now.operator (g.N.PrintNode.plain c.args.node.now.left.node) (g.N.PrintNode.plain c.args.node.now.right.node)) (c.wraps_logical-wrap.ensures (pen_at c.args.p.now)) c.within.ensures c.print_opening_if.ensures c.print_logical_operation.ensures c.print_closing_if.ensures)

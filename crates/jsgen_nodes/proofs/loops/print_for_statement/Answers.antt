@@ -1,47 +1,12 @@
-use Rattle.std.proofs.Common.{option_map, codes, refl, ap, ◌∙◌}
-use Rattle.jsgen_syntax.specs.declared.precedence.Precedence.TheVariants.{Lowest}
-use Rattle.jsgen_tree.specs.Tree.{optional}
-use Rattle.jsgen_tree.specs.Rows.{in_expression, in_for_statement_init}
-use Rattle.jsgen_model.specs.Punctuator.{Round}
-use Rattle.jsgen_model.specs.Items.{◌⊕◌, word, brackets, soft_space, indentation}
-use Rattle.jsgen_model.specs.Layout.{layout}
-use Rattle.jsgen_model.specs.Spell.{in_brackets, loop_head, among_statements}
-use Rattle.jsgen_printer.specs.Printer.{pen_of}
-use Rattle.jsgen_printer.proofs.Stops.{stopped, stops_first, stops_second}
-use Rattle.jsgen_place.specs.Place.{settings_of}
-use Rattle.jsgen_lists.specs.Lists.{loop_parts}
-use Rattle.jsgen_lists.proofs.Turns.{last_reaches}
+use Rattle.std.proofs.Common.{refl}
+use Rattle.jsgen_steps.proofs.Sequence.{◌⨾◌, regrouped, items_go, none_behind}
 use Rattle.jsgen_nodes.specs.Place.{at_place}
-use Rattle.jsgen_nodes.specs.Blocks.{body_of}
 use Rattle.jsgen_nodes.proofs.loops.print_for_statement.Goals as goal
 
 pub print_body-requires : goal.print_body-requires
 unfolding at_place
-print_body-requires g c = ap (λ p. p.start) c.in_ok-print_for_head.ensures
-
-pub returns-in_err-print_indentation : goal.returns-in_err-print_indentation
-unfolding at_place
-returns-in_err-print_indentation g c =
-    let plain = g.N.PrintNode.plain in
-    let settings = settings_of c.args.place.settings in
-    let head = word (codes "for") ⊕ (soft_space ⊕ brackets Round (loop_parts (optional (option_map (in_for_statement_init plain) c.args.node.now.init)) (optional (option_map (in_expression plain) c.args.node.now.test)) (optional (option_map (in_expression plain) c.args.node.now.update)) (loop_head (among_statements settings)) (in_brackets Lowest (among_statements settings)))) in
-    let body = body_of (plain c.args.node.now.body.node) settings in
-    stopped _ c.from_residual.ensures.0 (stops_first indentation (head ⊕ body) c.in_err-print_indentation.ensures)
-
-pub returns-in_err-print_for_head : goal.returns-in_err-print_for_head
-unfolding at_place
-returns-in_err-print_for_head g c =
-    let plain = g.N.PrintNode.plain in
-    let settings = settings_of c.args.place.settings in
-    let head = word (codes "for") ⊕ (soft_space ⊕ brackets Round (loop_parts (optional (option_map (in_for_statement_init plain) c.args.node.now.init)) (optional (option_map (in_expression plain) c.args.node.now.test)) (optional (option_map (in_expression plain) c.args.node.now.update)) (loop_head (among_statements settings)) (in_brackets Lowest (among_statements settings)))) in
-    let body = body_of (plain c.args.node.now.body.node) settings in
-    stopped _ c.from_residual-in_err-print_for_head.ensures.0 (stops_second indentation (head ⊕ body) c.in_ok-print_indentation.ensures (stops_first head body c.in_err-print_for_head.ensures))
+print_body-requires g c = none_behind (λ pen. refl) (items_go c.print_for_head.ensures)
 
 pub returns : goal.returns
 unfolding at_place
-returns g c =
-    let plain = g.N.PrintNode.plain in
-    let settings = settings_of c.args.place.settings in
-    let head = word (codes "for") ⊕ (soft_space ⊕ brackets Round (loop_parts (optional (option_map (in_for_statement_init plain) c.args.node.now.init)) (optional (option_map (in_expression plain) c.args.node.now.test)) (optional (option_map (in_expression plain) c.args.node.now.update)) (loop_head (among_statements settings)) (in_brackets Lowest (among_statements settings)))) in
-    let body = body_of (plain c.args.node.now.body.node) settings in
-    last_reaches c.print_body.result (indentation ⊕ head) body (pen_of c.args.p.now) (pen_of c.print_for_head.new.p) (pen_of c.print_body.new.p) (c.in_ok-print_for_head.ensures ∙ ap (λ p. layout head p) c.in_ok-print_indentation.ensures) refl (rw c.get.ensures at c.print_body.ensures)
+returns g c = regrouped (λ pen. refl) (c.print_indentation.ensures ⨾ (c.print_for_head.ensures ⨾ (rw c.get.ensures at c.print_body.ensures)))

@@ -1,19 +1,9 @@
 use Rattle.jsgen_tree.specs.Rows.{in_simple_assignment_target}
-use Rattle.jsgen_printer.specs.Printer.{pen_of}
-use Rattle.jsgen_printer.proofs.Stops.{appends, stopped, stops_within}
 use Rattle.jsgen_nodes.specs.Place.{at_place}
-use Rattle.jsgen_nodes.proofs.Operations.{wrapped_laid, stops_wrapped}
+use Rattle.jsgen_nodes.proofs.Operations.{wrapped_at}
 use Rattle.jsgen_nodes.proofs.Updates.{update_parts}
 use Rattle.jsgen_nodes.proofs.operators.print_update_expression.Goals as goal
 
-pub returns-in_err-print_opening_if : goal.returns-in_err-print_opening_if
-unfolding at_place
-returns-in_err-print_opening_if g c = stopped _ c.from_residual.ensures.0 (stops_within (rw (rw c.update_level-level.ensures at c.wraps-wrap.ensures) at c.in_err-print_opening_if.ensures) (search appends) (search appends))
-
-pub returns-in_err-print_update : goal.returns-in_err-print_update
-unfolding at_place
-returns-in_err-print_update g c = stopped _ c.from_residual-in_err-print_update.ensures.0 (stops_wrapped _ (pen_of c.args.p.now) _ c.wraps-wrap.result _ c.args.place c.within.result (update_parts c.args.node.now.prefix c.args.node.now.operator (in_simple_assignment_target g.N.PrintNode.plain c.args.node.now.argument)) (rw c.update_level-level.ensures at c.wraps-wrap.ensures) c.within.ensures c.in_ok-print_opening_if.ensures c.in_err-print_update.ensures)
-
 pub returns : goal.returns
 unfolding at_place
-returns g c = wrapped_laid c.print_closing_if.result (pen_of c.print_closing_if.new.self) (pen_of c.args.p.now) _ _ c.wraps-wrap.result _ c.args.place c.within.result (update_parts c.args.node.now.prefix c.args.node.now.operator (in_simple_assignment_target g.N.PrintNode.plain c.args.node.now.argument)) (rw c.update_level-level.ensures at c.wraps-wrap.ensures) c.within.ensures c.in_ok-print_opening_if.ensures c.in_ok-print_update.ensures c.print_closing_if.ensures
+returns g c = wrapped_at c.wraps-wrap.result _ c.args.place c.within.result (update_parts c.args.node.now.prefix c.args.node.now.operator (in_simple_assignment_target g.N.PrintNode.plain c.args.node.now.argument)) (rw c.update_level-level.ensures at c.wraps-wrap.ensures) c.within.ensures c.print_opening_if.ensures c.print_update.ensures c.print_closing_if.ensures
