@@ -40,7 +40,7 @@ pub fn print_spread_element<N: PrintNode>(
     p.print_ellipsis();
     node.argument
         .get()
-        .print(p, Place::in_brackets(Precedence::Comma, place.settings))
+        .print(p, Place::in_brackets(Precedence::Comma, place.settings));
 }
 
 #[tactic(auto, unfolding(crate::specs::Place::at_place))]
@@ -52,7 +52,7 @@ pub fn print_array_expression<N: PrintNode>(
     ensures { Lays p.old p.new (at_place (array_expression_row N.plain node.now) place) }
 {
     let within = Place::in_brackets(Precedence::Comma, place.settings);
-    print_array::<_, Elements>(&node.elements, p, within)
+    print_array::<_, Elements>(&node.elements, p, within);
 }
 
 /// The elements of an array; one that is left out has nothing in its place.
@@ -103,7 +103,7 @@ pub fn print_object_expression<N: PrintNode>(
     let wrap = p.bars_brace();
     p.print_opening_if(wrap);
     print_properties(&node.properties, p, place);
-    p.print_closing_if(wrap)
+    p.print_closing_if(wrap);
 }
 
 // The braces and what is in them.
@@ -118,7 +118,7 @@ fn print_properties<N: PrintNode>(
         ⊕ comma_if (ends_in_hole (trees (map (in_object_property_kind N.plain) properties.now)))))) }
 {
     let within = Place::in_brackets(Precedence::Comma, place.settings);
-    print_object::<_, Properties>(properties, p, within)
+    print_object::<_, Properties>(properties, p, within);
 }
 
 /// The properties of an object, of which none is left out.
@@ -150,9 +150,9 @@ pub fn print_object_property<N: PrintNode>(
     ensures { Lays p.old p.new (at_place (object_property_row N.plain node.now) place) }
 {
     if node.is_method() {
-        print_method_property(node, p, place)
+        print_method_property(node, p, place);
     } else {
-        print_valued_property(node, p, place)
+        print_valued_property(node, p, place);
     }
 }
 
@@ -162,7 +162,7 @@ fn print_method_property<N: PrintNode>(node: &ObjectProperty<N>, p: &mut Printin
     ensures { Lays p.old p.new (λ pen. method_items node.now.kind node.now.computed (in_property_key N.plain node.now.key) (in_expression N.plain node.now.value) (place_of place pen)) }
 {
     print_accessor_word(node.kind, p);
-    print_key_and_function(node, p, place)
+    print_key_and_function(node, p, place);
 }
 
 #[tactic(auto, unfolding(crate::specs::Place::at_place))]
@@ -174,7 +174,7 @@ fn print_key_and_function<N: PrintNode>(
     ensures { Lays p.old p.new (λ pen. key_of node.now.computed (in_property_key N.plain node.now.key) (place_of place pen) ⊕ spell_method (in_expression N.plain node.now.value) (place_of place pen)) }
 {
     print_key(&node.key, node.computed, p, place);
-    node.value.get().print_as_method(p, place)
+    node.value.get().print_as_method(p, place);
 }
 
 // A property with a value: the value alone, or behind its key.
@@ -183,9 +183,9 @@ fn print_valued_property<N: PrintNode>(node: &ObjectProperty<N>, p: &mut Printin
     ensures { Lays p.old p.new (λ pen. valued_items node.now.shorthand node.now.computed (in_property_key N.plain node.now.key) (in_expression N.plain node.now.value) (place_of place pen)) }
 {
     if is_value_alone(node, p) {
-        node.value.get().print(p, place.child(Precedence::Comma))
+        node.value.get().print(p, place.child(Precedence::Comma));
     } else {
-        print_whole_property(node, p, place)
+        print_whole_property(node, p, place);
     }
 }
 
@@ -196,7 +196,7 @@ fn print_whole_property<N: PrintNode>(node: &ObjectProperty<N>, p: &mut Printing
         ⊕ (punctuator colon ⊕ (soft_space ⊕ spell (in_expression N.plain node.now.value) (in_brackets Comma (place_of place pen))))) }
 {
     print_key(&node.key, node.computed, p, place);
-    print_property_value(&node.value, p, place)
+    print_property_value(&node.value, p, place);
 }
 
 // Whether the property is its value alone.
@@ -234,9 +234,9 @@ fn print_key<N: PrintNode>(key: &PropertyKey<N>, computed: bool, p: &mut Printin
     ensures { Lays p.old p.new (λ pen. key_of computed (in_property_key N.plain key.now) (place_of place pen)) }
 {
     if needs_brackets(computed, is_negative_key(key)) {
-        print_computed_key(key, p, place)
+        print_computed_key(key, p, place);
     } else {
-        print_key_text(key, p, place.child(Precedence::Comma))
+        print_key_text(key, p, place.child(Precedence::Comma));
     }
 }
 
@@ -273,7 +273,7 @@ fn print_computed_key<N: PrintNode>(key: &PropertyKey<N>, p: &mut Printing<'_>, 
     let within = Place::in_brackets(Precedence::Comma, place.settings);
     p.print_opening(Bracket::Square);
     print_key_text(key, p, within);
-    p.print_closing(Bracket::Square)
+    p.print_closing(Bracket::Square);
 }
 
 #[tactic(auto, unfolding(crate::specs::Place::at_place))]
@@ -321,5 +321,5 @@ fn print_property_value<N: PrintNode>(value: &ExpressionNode<N>, p: &mut Printin
 {
     let within = Place::in_brackets(Precedence::Comma, place.settings);
     p.print_colon();
-    print_behind_space::<_, Expressions>(value, p, within)
+    print_behind_space::<_, Expressions>(value, p, within);
 }

@@ -41,9 +41,9 @@ fn print_as_declaration<N: PrintNode>(node: &Function<N>, p: &mut Printing<'_>, 
     if place.in_list {
         p.print_indentation();
         print_whole_function(node, p, place);
-        p.print_soft_line()
+        p.print_soft_line();
     } else {
-        print_whole_function(node, p, place)
+        print_whole_function(node, p, place);
     }
 }
 
@@ -54,7 +54,7 @@ fn print_as_expression<N: PrintNode>(node: &Function<N>, p: &mut Printing<'_>, p
     let wrap = is_in_parentheses(node.pife, p);
     p.print_opening_if(wrap);
     print_whole_function(node, p, place);
-    p.print_closing_if(wrap)
+    p.print_closing_if(wrap);
 }
 
 // Where it is marked so, and where it would be a declaration without them.
@@ -71,7 +71,7 @@ fn print_whole_function<N: PrintNode>(node: &Function<N>, p: &mut Printing<'_>, 
 {
     p.print_word("function");
     print_if_given::<_, Names>(&node.id, p, place.child(Precedence::Lowest));
-    print_behind_name(node, p, place)
+    print_behind_name(node, p, place);
 }
 
 /// The names of functions.
@@ -82,7 +82,7 @@ impl PrintMember<Box<BindingIdentifier>> for Names {
     ghost plain = { λ b. binding_identifier_row b.value };
 
     fn print_member(name: &Box<BindingIdentifier>, p: &mut Printing<'_>, place: Place) {
-        print_binding_identifier(name, p, place)
+        print_binding_identifier(name, p, place);
     }
 }
 
@@ -93,7 +93,7 @@ pub fn print_behind_name<N: PrintNode>(node: &Function<N>, p: &mut Printing<'_>,
 {
     let within = Place::within_statement(place.settings);
     print_parameters_in_brackets(&node.params, p, place.function_parameters());
-    print_apart::<_, Bodies>(&node.body, p, within)
+    print_apart::<_, Bodies>(&node.body, p, within);
 }
 
 // ---- bodies
@@ -106,7 +106,7 @@ impl<N: PrintNode> PrintMember<Box<FunctionBody<N>>> for Bodies {
     ghost plain = { λ b. function_body_row N.plain b.value };
 
     fn print_member(body: &Box<FunctionBody<N>>, p: &mut Printing<'_>, place: Place) {
-        print_function_body(body, p, place)
+        print_function_body(body, p, place);
     }
 }
 
@@ -116,9 +116,9 @@ pub fn print_function_body<N: PrintNode>(node: &FunctionBody<N>, p: &mut Printin
     ensures { Lays p.old p.new (at_place (function_body_row N.plain node.now) place) }
 {
     if are_empty(&node.directives, &node.statements) {
-        print_empty_braces(p)
+        print_empty_braces(p);
     } else {
-        print_filled_body(node, p, place.settings)
+        print_filled_body(node, p, place.settings);
     }
 }
 
@@ -135,7 +135,7 @@ fn print_filled_body<N: PrintNode>(node: &FunctionBody<N>, p: &mut Printing<'_>,
 {
     let depth = open_braces(p);
     print_within_braces(node, p, settings);
-    close_braces(p, depth)
+    close_braces(p, depth);
 }
 
 // Directives, and statements behind them.
@@ -149,5 +149,5 @@ fn print_within_braces<N: PrintNode>(
         ⊕ spell_body (trees (map (in_statement N.plain) node.now.statements.items)) (settings_of settings)) }
 {
     print_directives(&node.directives, p, settings);
-    print_body::<_, Statements>(&node.statements, p, settings)
+    print_body::<_, Statements>(&node.statements, p, settings);
 }

@@ -4,9 +4,8 @@ ghost use Rattle.jsgen_tree.specs.Tree.{type_of};
 ghost use Rattle.jsgen_tree.specs.Rows.{formal_parameter_row, formal_parameter_rest_row, formal_parameters_row, arrow_function_expression_row, in_arrow_function_body};
 ghost use Rattle.jsgen_model.specs.Punctuator.{arrow, Round};
 ghost use Rattle.jsgen_model.specs.Items.{◌⊕◌, soft_space, punctuator, brackets};
-ghost use Rattle.jsgen_model.specs.Layout.{layout};
 ghost use Rattle.jsgen_model.specs.Spell.{spell, is_name_alone, is_bare, parameter_items, parameters_place, body_begins, arrow_body_place};
-ghost use Rattle.jsgen_steps.specs.Steps.{Lays, pen_at};
+ghost use Rattle.jsgen_steps.specs.Steps.{Lays};
 ghost use Rattle.jsgen_place.specs.Place.{place_of, settings_of};
 ghost use Rattle.jsgen_lists.specs.Lists.{listed};
 ghost use Rattle.jsgen_nodes.specs.Alone.{parameter_parts};
@@ -37,7 +36,7 @@ pub fn print_formal_parameter<N: PrintNode>(
     ensures { Lays p.old p.new (at_place (formal_parameter_row N.plain node.now) place) }
 {
     node.pattern.get().print(p, place.child(Precedence::Lowest));
-    print_value::<_, Expressions>(&node.initializer, p, place.child(Precedence::Comma))
+    print_value::<_, Expressions>(&node.initializer, p, place.child(Precedence::Comma));
 }
 
 #[tactic(auto, unfolding(crate::specs::Place::at_place))]
@@ -51,7 +50,7 @@ pub fn print_formal_parameter_rest<N: PrintNode>(
     p.print_ellipsis();
     node.argument
         .get()
-        .print(p, place.child(Precedence::Lowest))
+        .print(p, place.child(Precedence::Lowest));
 }
 
 /// Parameters, of which the first begins where they do.
@@ -65,7 +64,7 @@ pub fn print_formal_parameters<N: PrintNode>(
 {
     print_parts::<_, Parameters>(&node.items, p, place);
     print_comma_between::<_, _, Parameters, Rest>(&node.items, &node.rest, p);
-    print_if_given::<_, Rest>(&node.rest, p, place)
+    print_if_given::<_, Rest>(&node.rest, p, place);
 }
 
 /// The parameters of a function.
@@ -76,7 +75,7 @@ impl<N: PrintNode> PrintMember<FormalParameter<N>> for Parameters {
     ghost plain = { formal_parameter_row N.plain };
 
     fn print_member(parameter: &FormalParameter<N>, p: &mut Printing<'_>, place: Place) {
-        print_formal_parameter(parameter, p, place)
+        print_formal_parameter(parameter, p, place);
     }
 }
 
@@ -88,7 +87,7 @@ impl<N: PrintNode> PrintMember<Box<FormalParameterRest<N>>> for Rest {
     ghost plain = { λ b. formal_parameter_rest_row N.plain b.value };
 
     fn print_member(rest: &Box<FormalParameterRest<N>>, p: &mut Printing<'_>, place: Place) {
-        print_formal_parameter_rest(rest, p, place)
+        print_formal_parameter_rest(rest, p, place);
     }
 }
 
@@ -105,7 +104,7 @@ pub fn print_arrow_function_expression<N: PrintNode>(
     let wrap = place.wraps_arrow(node.pife);
     p.print_opening_if(wrap);
     print_arrow(node, p, place.within(wrap));
-    p.print_closing_if(wrap)
+    p.print_closing_if(wrap);
 }
 
 // The parameters, the arrow and the body, within the parentheses.
@@ -117,7 +116,7 @@ fn print_arrow<N: PrintNode>(node: &ArrowFunctionExpression<N>, p: &mut Printing
         ⊕ spell (in_arrow_function_body N.plain node.now.body) (arrow_body_place (place_of place pen))))))) }
 {
     print_arrow_parameters(&node.params, p, place);
-    print_behind_parameters(&node.body, p, place)
+    print_behind_parameters(&node.body, p, place);
 }
 
 // A name alone, or parameters in parentheses.
@@ -131,9 +130,9 @@ fn print_arrow_parameters<N: PrintNode>(
         (spell (formal_parameters_row N.plain parameters.now) (parameters_place (place_of place pen)))) }
 {
     if is_bare(place.settings, is_name_alone(parameters)) {
-        print_formal_parameters(parameters, p, place.parameters())
+        print_formal_parameters(parameters, p, place.parameters());
     } else {
-        print_parameters_in_brackets(parameters, p, place.parameters())
+        print_parameters_in_brackets(parameters, p, place.parameters());
     }
 }
 
@@ -148,7 +147,7 @@ pub fn print_parameters_in_brackets<N: PrintNode>(
 {
     p.print_opening(Bracket::Round);
     print_formal_parameters(parameters, p, place);
-    p.print_closing(Bracket::Round)
+    p.print_closing(Bracket::Round);
 }
 
 fn is_name_alone<N: PrintNode>(parameters: &FormalParameters<N>) -> bool
@@ -180,12 +179,12 @@ fn print_behind_parameters<N: PrintNode>(
     p.print_arrow();
     p.print_soft_space();
     begin_body(body_type(body), p);
-    print_arrow_function_body(body, p, place.child(Precedence::Comma))
+    print_arrow_function_body(body, p, place.child(Precedence::Comma));
 }
 
 // An expression begins there, and a body in braces doesn't.
 fn begin_body(body: NodeType, p: &mut Printing<'_>)
-    ensures { pen_at p.new ≡ layout (body_begins body) (pen_at p.old) }
+    ensures { Lays p.old p.new (λ _. body_begins body) }
 {
     match body {
         NodeType::FunctionBody => {}

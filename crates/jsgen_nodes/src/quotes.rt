@@ -1,5 +1,5 @@
 // Strings that minified text keeps out of backticks, so that Node finds the names that a CommonJS module exports.
-ghost use Rattle.std.specs.Prelude.{◌≡◌, IfOk, true, false, map, option_map};
+ghost use Rattle.std.specs.Prelude.{◌≡◌, true, false, map, option_map};
 ghost use Rattle.jsgen_syntax.specs.Units.{js_units};
 ghost use Rattle.jsgen_tree.specs.Tree.{trees};
 ghost use Rattle.jsgen_tree.specs.Inside.{without_parentheses};
@@ -21,7 +21,7 @@ use jsgen_place::{
     Context, Place, Settings, is_definition_call, is_export_mark, is_export_target, is_require_call,
 };
 use jsgen_steps::Printing;
-use jsgen_syntax::{BinaryOperator, JsStr, Memory, Precedence};
+use jsgen_syntax::{BinaryOperator, JsStr, Precedence};
 use jsgen_tree::{
     Argument, AssignmentTarget, CallExpression, ComputedMemberExpression, Expression,
 };
@@ -179,7 +179,7 @@ fn print_plain_arguments<N: PrintNode>(
     ensures { Lays p.old p.new (λ _. plain_arguments quotes.first quotes.second (trees (map (in_argument N.plain) call.now.arguments.items))) }
 {
     let within = Place::in_brackets(Precedence::Comma, MINIFIED);
-    print_arguments::<_, Arguments>(quotes, &call.arguments, p, within)
+    print_arguments::<_, Arguments>(quotes, &call.arguments, p, within);
 }
 
 /// Prints `exports["x"]` or `module.exports["x"]`, if the target is one of these and the text minified; otherwise prints nothing.
