@@ -15,7 +15,7 @@ ghost use Rattle.std.specs.Str.{chars};
 ghost use Rattle.jsgen_model.specs.Plain.{IsPlain, IsQuiet};
 ghost use Rattle.jsgen_model.specs.Reading.{IsReadAs};
 ghost use Rattle.jsgen_model.specs.Valid.{job_breaches, expression_breaches, IsValid, IsValidExpression, Judges};
-ghost use Rattle.jsgen_steps.specs.Steps.{pen_at};
+ghost use Rattle.jsgen_steps.specs.Steps as steps;
 ghost use Rattle.jsgen_printer.specs.Printer.{by_tables, name_written, unless_empty};
 ghost use Rattle.jsgen_place.specs.Place.{place_of, context_of, settings_of};
 ghost use Rattle.jsgen.specs.Context.{context_at};
@@ -73,7 +73,7 @@ pub struct Codegen<'a> {
     tables: Tables<'a>,
     printing: Printing<'a>,
     has_printed: bool,
-    ghost fresh: { has_printed ≡ false → pen_at printing ≡ empty_pen (style_of (options_plain options) (tables_plain tables)) 0 },
+    ghost fresh: { has_printed ≡ false → steps.pen_at printing ≡ empty_pen (style_of (options_plain options) (tables_plain tables)) 0 },
 }
 
 impl<'a> Codegen<'a> {

@@ -5,14 +5,14 @@ use Rattle.std.proofs.lemmas.List.{at_drop_more, at_drop_all}
 use Rattle.jsgen_tree.specs.Tree.{Tree}
 use Rattle.jsgen_model.specs.Punctuator.{comma}
 use Rattle.jsgen_model.specs.Items.{Items, ◌⊕◌, punctuator, soft_space}
-use Rattle.jsgen_model.specs.Layout.{Pen, nowhere, layout, unless_printed, not}
+use Rattle.jsgen_model.specs.Layout.{Pen, nowhere, layout, not}
 use Rattle.jsgen_model.specs.Spell as spells
 use Rattle.jsgen_model.specs.Spell.{spell}
 use Rattle.jsgen_place.specs.declared.place.Place.{Place}
 use Rattle.jsgen_place.specs.Place.{place_of}
 use Rattle.jsgen_steps.specs.Steps.{Lays, BeginsNothing, pen_at, has_failed}
 use Rattle.jsgen_steps.specs.declared.printing.Printing.{Printing}
-use Rattle.jsgen_steps.proofs.Sequence.{◌⨾◌, as_laid, items_go, none_behind}
+use Rattle.jsgen_steps.proofs.Sequence.{◌⨾◌, as_laid, items_go, none_behind, still_nowhere}
 use Rattle.jsgen_steps.proofs.Turns.{Towards}
 use Rattle.jsgen_lists.specs.Lists.{listed}
 
@@ -45,10 +45,6 @@ items_here {a} items place none h = as_laid (λ _. items (listed place)) (λ goi
 
 pub here : {a b : Printing} (t : Tree) (place : Place) → BeginsNothing a → Lays a b (λ pen. spell t (place_of place pen)) → Lays a b (λ _. spell t (listed place))
 here t place none h = items_here (spell t) place none h
-
-pub still_nowhere : (printed : Bool) → unless_printed printed nowhere ≡ nowhere
-still_nowhere true = refl
-still_nowhere false = refl
 
 -- behind a comma and its space
 pub behind_comma : {a b c : Printing} (t : Tree) (place : Place) → Lays a b (λ _. punctuator comma ⊕ soft_space) → Lays b c (λ pen. spell t (place_of place pen)) → Lays a c (λ _. (punctuator comma ⊕ soft_space) ⊕ spell t (listed place))

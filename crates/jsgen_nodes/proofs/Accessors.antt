@@ -1,18 +1,19 @@
 -- Methods and accessors: where their keys and their functions stand.
-use Rattle.std.proofs.Common.{◌≡◌, Bool, true, false, refl, ap, ◌∙◌}
+use Rattle.std.proofs.Common.{◌≡◌, Bool, refl, ap, ◌∙◌}
 use Rattle.jsgen_syntax.specs.declared.precedence.Precedence.TheVariants.{Comma}
 use Rattle.jsgen_tree.specs.Tree.{Tree}
 use Rattle.jsgen_tree.specs.Nodes as tree
 use Rattle.jsgen_tree.specs.declared.collections.PropertyKind.{PropertyKind}
 use Rattle.jsgen_tree.specs.declared.collections.PropertyKind.TheVariants as property_kinds
 use Rattle.jsgen_model.specs.Items.{◌⊕◌}
-use Rattle.jsgen_model.specs.Layout.{Pen, Start, nowhere, layout, unless_printed, not}
+use Rattle.jsgen_model.specs.Layout.{Pen, Start, nowhere, layout, not}
 use Rattle.jsgen_model.specs.Spell as spells
 use Rattle.jsgen_model.specs.Spell.{spell, spell_method, in_brackets, behind, needs_brackets, key_items, accessor_word}
 use Rattle.jsgen_place.specs.declared.place.Place.{Place}
 use Rattle.jsgen_place.specs.Place.{place_of}
 use Rattle.jsgen_lists.proofs.Turns.{begun_nowhere}
 use Rattle.jsgen_nodes.specs.Keys.{key_of, method_items}
+use Rattle.jsgen_steps.proofs.Sequence.{still_nowhere}
 
 -- the function behind a key is the same whatever begins there
 pub method_anywhere : (t : Tree) (place : spells.Place) (s : Start) → spell_method t (record place { start = s }) ≡ spell_method t place
@@ -24,10 +25,6 @@ keyed_nowhere : (computed : Bool) (key value : Tree) (place : Place) (old at : P
 keyed_nowhere computed key value place old at none =
     let keyed = key_items (needs_brackets computed key) key (spell key (in_brackets Comma (place_of place old))) (spell key (behind Comma (place_of place old))) in
     ap (λ q. layout (key_of computed key q ⊕ spell_method value q) at) (begun_nowhere place at none) ∙ ap (λ m. layout (keyed ⊕ m) at) (method_anywhere value (place_of place old) nowhere)
-
-still_nowhere : (printed : Bool) → unless_printed printed nowhere ≡ nowhere
-still_nowhere true = refl
-still_nowhere false = refl
 
 -- behind the word of an accessor, and where a method has none
 pub behind_accessor_word : (kind : PropertyKind) (computed : Bool) (key value : Tree) (place : Place) (old : Pen) → layout (key_of computed key (place_of place (layout (accessor_word kind) old)) ⊕ spell_method value (place_of place (layout (accessor_word kind) old))) (layout (accessor_word kind) old) ≡ layout (method_items kind computed key value (place_of place old)) old

@@ -1,5 +1,5 @@
 -- Keys of properties, and properties of which none is left out.
-use Rattle.std.proofs.Common.{◌≡◌, ℕ, Bool, true, false, Option, Some, None, List, [], ◌∷◌, map, refl, sym, ap, subst, ◌∙◌, if◌then◌else◌}
+use Rattle.std.proofs.Common.{◌≡◌, ℕ, Bool, true, false, Option, Some, None, List, [], ◌∷◌, map, refl, sym, ap, ◌∙◌, if◌then◌else◌}
 use Rattle.std.specs.Option.{option_map_or}
 use Rattle.std.proofs.lemmas.Bool.{both_ways}
 use Rattle.jsgen_syntax.specs.declared.precedence.Precedence.TheVariants.{Comma}
@@ -11,8 +11,6 @@ use Rattle.jsgen_model.specs.Punctuator.{Brace}
 use Rattle.jsgen_model.specs.Items.{Items, ◌⊕◌, string, brackets}
 use Rattle.jsgen_model.specs.Layout.{Pen, layout}
 use Rattle.jsgen_model.specs.Spell.{Place, in_brackets, are_more, object_inside, spell_elements, ends_in_hole, comma_if, string_in, key_text, alone_if, alone_where_said, by_key, property_items}
-use Rattle.jsgen_steps.specs.Steps.{Ends, Lays, pen_at, has_failed}
-use Rattle.jsgen_steps.specs.declared.printing.Printing.{Printing}
 use Rattle.jsgen_nodes.specs.Keys.{is_string, is_number, is_said, is_value_alone}
 
 pub bare_string : (t : Tree) → is_string (type_of t) ≡ true → string_in (without_parentheses t) ≡ string_in t
@@ -46,10 +44,6 @@ abbrev pub in_braces : Trees → Place → Items
 in_braces ps place = brackets Brace (object_inside ps (spell_elements (are_more 1 ps) ps (in_brackets Comma place) ⊕ comma_if (ends_in_hole ps)))
 
 -- ---- properties that are their value alone
-
--- the same step under other items, which give the same where the pen is
-pub laid_there : {a b : Printing} {i j : Pen → Items} → (has_failed a ≡ false → layout (i (pen_at a)) (pen_at a) ≡ layout (j (pen_at a)) (pen_at a)) → Lays a b i → Lays a b j
-laid_there {a} {b} e h = record { stays = h.stays; goes = λ going. subst (λ whole. Ends (has_failed b) (pen_at a) (pen_at b) whole) (e going) (h.goes going) }
 
 told_laid : (test : Bool) (alone whole : Items) (pen : Pen) → layout (alone_if test alone whole) pen ≡ (if test then layout alone pen else layout whole pen)
 told_laid true alone whole pen = refl

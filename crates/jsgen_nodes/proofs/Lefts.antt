@@ -1,5 +1,5 @@
 -- What a loop gives each key or value, from the steps that print it.
-use Rattle.std.proofs.Common.{◌≡◌, ℕ, List, true, false, codes, Option, Some, None, refl, sym, subst, ap}
+use Rattle.std.proofs.Common.{◌≡◌, ℕ, List, true, false, codes, Option, Some, None, refl, sym, ap}
 use Rattle.jsgen_syntax.specs.declared.precedence.Precedence.TheVariants.{Lowest, Comma}
 use Rattle.jsgen_tree.specs.Tree.{Tree, type_of}
 use Rattle.jsgen_tree.specs.Job.{Tables}
@@ -16,8 +16,6 @@ use Rattle.jsgen_model.specs.Items.{Items, ◌⊕◌, word, soft_space, indentat
 use Rattle.jsgen_model.specs.Layout.{Pen, layout, are_same}
 use Rattle.jsgen_model.specs.Spell as spells
 use Rattle.jsgen_model.specs.Spell.{spell, left_place, apart_from_of, in_brackets, among_statements}
-use Rattle.jsgen_steps.specs.Steps.{pen_at, has_failed, Ends, Lays}
-use Rattle.jsgen_steps.specs.declared.printing.Printing.{Printing}
 use Rattle.jsgen_nodes.specs.Blocks.{body_of}
 use Rattle.jsgen_nodes.specs.Loops.{in_parts, of_parts}
 use Rattle.jsgen_nodes.specs.Keys.{is_said}
@@ -48,7 +46,3 @@ async_apart (Some n) items pen h = rw h refl
 pub other_bare : (n : Option Named) (items : Items) (pen : Pen) → is_said pen.style.tables n (codes "async") ≡ false → layout items pen ≡ layout (apart_from_of n items) pen
 other_bare None items pen h = refl
 other_bare (Some n) items pen h = rw h refl
-
--- the same step under another name, where only from this pen both are laid out alike
-pub laid_there : {a b : Printing} {i j : Pen → Items} → layout (i (pen_at a)) (pen_at a) ≡ layout (j (pen_at a)) (pen_at a) → Lays a b i → Lays a b j
-laid_there {a} {b} e h = record { stays = h.stays; goes = λ going. subst (λ whole. Ends (has_failed b) (pen_at a) (pen_at b) whole) e (h.goes going) }

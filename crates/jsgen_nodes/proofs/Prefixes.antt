@@ -1,18 +1,15 @@
 -- An operator before its operand, from the steps that print it.
-use Rattle.std.proofs.Common.{◌≡◌, Bool, true, false, refl}
+use Rattle.std.proofs.Common.{◌≡◌, refl}
 use Rattle.jsgen_syntax.specs.declared.operator.UnaryOperator.{UnaryOperator}
 use Rattle.jsgen_syntax.specs.declared.operator.UnaryOperator.TheVariants as operators
 use Rattle.jsgen_syntax.specs.declared.precedence.Precedence.TheVariants.{Exponentiation}
 use Rattle.jsgen_tree.specs.Tree.{Tree}
 use Rattle.jsgen_model.specs.Items.{Items, ◌⊕◌}
-use Rattle.jsgen_model.specs.Layout.{Pen, nowhere, layout, unless_printed, not}
+use Rattle.jsgen_model.specs.Layout.{Pen, nowhere, layout, not}
 use Rattle.jsgen_model.specs.Spell as spells
 use Rattle.jsgen_model.specs.Spell.{spell, behind}
 use Rattle.jsgen_model.specs.Operators.{unary_sign, behind_unary}
-
-still_nowhere : (printed : Bool) → unless_printed printed nowhere ≡ nowhere
-still_nowhere true = refl
-still_nowhere false = refl
+use Rattle.jsgen_steps.proofs.Sequence.{still_nowhere}
 
 -- nothing begins behind the operator
 pub unary_nowhere : (o : UnaryOperator) (pen : Pen) → (layout (unary_sign o ⊕ behind_unary o) pen).start ≡ nowhere

@@ -56,9 +56,13 @@ pub ◌⨾◌ : {a b c : Printing} {i j : Pen → Items} → Lays a b i → Lays
 pub as_laid : {a b : Printing} {i : Pen → Items} (j : Pen → Items) → (has_failed a ≡ false → i (pen_at a) ≡ j (pen_at a)) → Lays a b i → Lays a b j
 as_laid {a} {b} j e h = record { stays = h.stays; goes = λ going. subst (λ items. Ends (has_failed b) (pen_at a) (pen_at b) (layout items (pen_at a))) (e going) (h.goes going) }
 
+-- other items that give the same layout where the pen is
+pub laid_there : {a b : Printing} {i j : Pen → Items} → (has_failed a ≡ false → layout (i (pen_at a)) (pen_at a) ≡ layout (j (pen_at a)) (pen_at a)) → Lays a b i → Lays a b j
+laid_there {a} {b} e h = record { stays = h.stays; goes = λ going. subst (λ whole. Ends (has_failed b) (pen_at a) (pen_at b) whole) (e going) (h.goes going) }
+
 -- the same items, grouped otherwise
 pub regrouped : {a b : Printing} {i j : Pen → Items} → ((pen : Pen) → layout (i pen) pen ≡ layout (j pen) pen) → Lays a b i → Lays a b j
-regrouped {a} {b} e h = record { stays = h.stays; goes = λ going. subst (λ whole. Ends (has_failed b) (pen_at a) (pen_at b) whole) (e (pen_at a)) (h.goes going) }
+regrouped {a} {b} e h = laid_there (λ going. e (pen_at a)) h
 
 -- no step
 pub nothing_laid : (p : Printing) → Lays p p (λ _. nothing)
@@ -92,7 +96,7 @@ none_behind {a} s h = λ going. ap (λ p. p.start) (went h going) ∙ s (pen_at 
 pub none_still : {a b : Printing} {f : Pen → Pen} → ((pen : Pen) → pen.start ≡ nowhere → (f pen).start ≡ nowhere) → BeginsNothing a → Goes a b f → BeginsNothing b
 none_still {a} s none h = λ going. ap (λ p. p.start) (went h going) ∙ s (pen_at a) (none (went_before h going))
 
-still_nowhere : (printed : Bool) → unless_printed printed nowhere ≡ nowhere
+pub still_nowhere : (printed : Bool) → unless_printed printed nowhere ≡ nowhere
 still_nowhere true = refl
 still_nowhere false = refl
 

@@ -6,7 +6,7 @@ use Rattle.jsgen_model.specs.Layout.{Pen, layout}
 use Rattle.jsgen_model.specs.Printing.{IsPrefix, Stops}
 use Rattle.jsgen_printer.proofs.Prefixes.{whole_prefix, prefix_of_prefix}
 use Rattle.jsgen_printer.proofs.Stops.{layout_appends}
-use Rattle.jsgen_steps.specs.Steps.{pen_at, has_failed, Ends, Goes, Lays}
+use Rattle.jsgen_steps.specs.Steps.{pen_at, has_failed, Ends, Lays}
 use Rattle.jsgen_steps.specs.declared.printing.Printing.{Printing}
 
 -- where no step has failed, what is left gives the whole

@@ -1,5 +1,5 @@
 -- What a step of printing does: it goes on by some items, or memory runs out, and from then on nothing is added.
-use Rattle.std.specs.Prelude.{◌≡◌, ℕ, List, Bool, true, false}
+use Rattle.std.specs.Prelude.{◌≡◌, Bool, true, false}
 use Rattle.jsgen_model.specs.Items.{Items}
 use Rattle.jsgen_model.specs.Layout.{Pen, nowhere, layout}
 use Rattle.jsgen_model.specs.Printing.{Stops}

@@ -1,3 +1,4 @@
+use Rattle.jsgen_steps.proofs.Sequence.{laid_there}
 use Rattle.std.proofs.Common.{sym, ◌∙◌}
 use Rattle.jsgen_tree.specs.Inside.{without_parentheses, looked_up_in, written_name_in}
 use Rattle.jsgen_tree.specs.Rows.{in_property_key, in_expression}
@@ -7,7 +8,7 @@ use Rattle.jsgen_place.specs.Place.{place_of}
 use Rattle.jsgen_steps.specs.Steps.{pen_at}
 use Rattle.jsgen_nodes.specs.Keys.{key_of}
 use Rattle.jsgen_nodes.specs.Place.{at_place}
-use Rattle.jsgen_nodes.proofs.Keys.{laid_there, alone_laid, whole_laid}
+use Rattle.jsgen_nodes.proofs.Keys.{alone_laid, whole_laid}
 use Rattle.jsgen_nodes.proofs.collections.print_valued_property.Goals as goal
 
 pub returns-then-is_value_alone : goal.returns-then-is_value_alone
