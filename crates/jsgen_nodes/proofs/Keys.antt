@@ -30,11 +30,6 @@ pub none_left_out : {A : Type 0} (f : A → Tree) (xs : List A) → holed (map (
 none_left_out f [] = refl
 none_left_out f (x ∷ xs) = ap (more (f x)) (none_left_out f xs)
 
-pub bare_number : (t : Tree) → is_number (type_of t) ≡ true → is_negative (without_parentheses t) ≡ is_negative_number t
-bare_number (tree.parenthesized a t) h = absurd (both_ways false refl h)
-bare_number (tree.big_int_literal a) h = absurd (both_ways false refl h)
-bare_number t h = refl
-
 pub no_number : (t : Tree) → is_number (type_of t) ≡ false → false ≡ is_negative_number t
 no_number (tree.numeric_literal a) h = absurd (both_ways true h refl)
 no_number t h = refl

@@ -78,16 +78,6 @@ pub third_reaches : {T E : Type 0} (r : Result T E) (a text b : List ℕ) (pen m
 third_reaches r a text b pen mid new e h =
     reaches_last r pen mid new (written b other_end mid) (written (a ++ (text ++ b)) other_end pen) h (subst (λ p. IsPrefix pen.code p.code) (sym e) (more_prefix text (prefix_append pen.code a))) (ap (λ p. written b other_end p) e ∙ between a text b pen)
 
--- of two, in the first
-pub stops_first : (a b : Items) {old new : Pen} → Stops old new (layout a old) → Stops old new (layout (a ⊕ b) old)
-stops_first a b {old} s = stops_within s (whole_prefix old.code) (layout_appends b (layout a old))
-
--- of two, in the second
-pub stops_second : (a b : Items) {old mid new : Pen} → mid ≡ layout a old → Stops mid new (layout b mid) → Stops old new (layout (a ⊕ b) old)
-stops_second a b {old} {mid} {new} e s =
-    let s' = subst (λ p. Stops p new (layout b p)) e s in
-    stops_within s' (layout_appends a old) (whole_prefix (layout b (layout a old)).code)
-
 pub then_more : {c : List ℕ} (a b : Items) (pen : Pen) → IsPrefix c (layout b (layout a pen)).code → IsPrefix c (layout (a ⊕ b) pen).code
 then_more a b pen p = p
 
@@ -101,5 +91,3 @@ pub deeper_more : {c : List ℕ} (a : Items) (pen : Pen) → IsPrefix c (layout 
 deeper_more a pen p = p
 
 pub ruleset appends = (whole_prefix, more_prefix, layout_more, then_more, brackets_more, wrapped_more, deeper_more)
-
-pub ruleset stops = (stops_within, appends)
