@@ -48,7 +48,6 @@ goes_as_items {a} {b} i e h = record { stays = h.stays; goes = λ going. subst (
 
 -- items one after the other
 infixr 20 ◌⨾◌
-
 pub ◌⨾◌ : {a b c : Printing} {i j : Pen → Items} → Lays a b i → Lays b c j → Lays a c (λ pen. i pen ⊕ j (layout (i pen) pen))
 ◌⨾◌ {a} {b} {c} {i} {j} h k = goes_as_items (λ pen. i pen ⊕ j (layout (i pen) pen)) (λ pen. refl) (goes_then (λ pen. layout_appends (i pen) pen) (λ pen. layout_appends (j pen) pen) (items_go h) (items_go k))
 
