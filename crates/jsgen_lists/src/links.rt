@@ -1,4 +1,4 @@
-// What stands behind an object (ECMA-262, 13.3.2 and 13.5).
+// What stands behind an object (ECMA-262, 13.3.2 and 13.3.9).
 ghost use Rattle.jsgen_tree.specs.Characters.{characters};
 ghost use Rattle.jsgen_tree.specs.Named.{as_written};
 ghost use Rattle.jsgen_model.specs.Items.{◌⊕◌, name};
