@@ -75,7 +75,8 @@ impl<'a> Printing<'a> {
         self.printer.into_string()
     }
 
-    /// What follows stands one level deeper; gives the level before.
+    /// What follows stands one level deeper; gives the level before, or any where memory has run out. Behind the last level of 32
+    /// bits this is want of memory: no tree that keeps the rules is so deep.
     pub fn deepen(&mut self) -> u32
         ensures level { has_failed self.new ≡ false → result ≡ (pen_at self.old).depth }
         ensures pen { Goes self.old self.new deepened }
