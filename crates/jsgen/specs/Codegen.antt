@@ -8,7 +8,8 @@ use Rattle.jsgen_tree.specs.Tree.{Tree}
 use Rattle.jsgen_model.specs.Layout.{Pen}
 use Rattle.jsgen_model.specs.Spell.{Settings}
 use Rattle.jsgen_model.specs.Printing.{Reaches}
-use Rattle.jsgen_steps.specs.Steps as steps
+use Rattle.jsgen_printer.specs.Printer.{pen_of}
+use Rattle.jsgen_printer.specs.Steps as steps
 use Rattle.jsgen.specs.declared.codegen.Codegen.{Codegen}
 
 -- how it prints
@@ -25,7 +26,7 @@ job_for c program = record { options = options_of c; tables = tables_of c; progr
 
 -- the text so far, and what matters of its end
 abbrev pub pen_at : Codegen → Pen
-pen_at c = steps.pen_at c.printing
+pen_at c = pen_of c.printer
 
 -- what a spelling depends on beside the tree
 abbrev pub settings_at : Codegen → Settings
@@ -40,7 +41,7 @@ abbrev pub has_printed : Codegen → Bool
 has_printed c = c.has_printed
 
 abbrev pub has_failed : Codegen → Bool
-has_failed c = steps.has_failed c.printing
+has_failed c = steps.has_failed c.printer
 
 -- what a call does: it goes on to this pen, and after want of memory it stops on the way there and has failed
 pub record Prints {T E : Type 0} (old new : Codegen) (pen : Pen) (result : Result T E) : Type 0 where

@@ -15,8 +15,7 @@ ghost use Rattle.std.specs.Str.{chars};
 ghost use Rattle.jsgen_model.specs.Plain.{IsPlain, IsQuiet};
 ghost use Rattle.jsgen_model.specs.Reading.{IsReadAs};
 ghost use Rattle.jsgen_model.specs.Valid.{job_breaches, expression_breaches, IsValid, IsValidExpression, Judges};
-ghost use Rattle.jsgen_steps.specs.Steps as steps;
-ghost use Rattle.jsgen_printer.specs.Printer.{by_tables, name_written, unless_empty};
+ghost use Rattle.jsgen_printer.specs.Printer.{pen_of, by_tables, name_written, unless_empty};
 ghost use Rattle.jsgen_place.specs.Place.{place_of, context_of, settings_of};
 ghost use Rattle.jsgen.specs.Context.{context_at};
 ghost use Rattle.jsgen_nodes.specs.Alone.{at_level};
@@ -25,8 +24,7 @@ use jsgen_check::{check_expression, check_program};
 use jsgen_model::TreeFault;
 use jsgen_nodes::{PrintAlone, PrintAtLevel, print_program};
 use jsgen_place::{Place, Settings};
-use jsgen_printer::Context;
-use jsgen_steps::Printing;
+use jsgen_printer::{Context, Printer};
 use jsgen_syntax::{JsStr, Memory, Precedence};
 use jsgen_tree::{CodegenOptions, Expression, PrivateMappings, Program, Scoping, Tables};
 use std::alloc::Global;
@@ -71,9 +69,9 @@ pub struct Codegen<'a> {
     alloc: Global,
     options: CodegenOptions,
     tables: Tables<'a>,
-    printing: Printing<'a>,
+    printer: Printer<'a>,
     has_printed: bool,
-    ghost fresh: { has_printed ≡ false → steps.pen_at printing ≡ empty_pen (style_of (options_plain options) (tables_plain tables)) 0 },
+    ghost fresh: { has_printed ≡ false → pen_of printer ≡ empty_pen (style_of (options_plain options) (tables_plain tables)) 0 },
 }
 
 impl<'a> Codegen<'a> {
@@ -89,12 +87,12 @@ impl<'a> Codegen<'a> {
         ensures empty { pen_at result ≡ empty_pen (style_of default_options no_tables) 0 }
     {
         let defaults = CodegenOptions::default();
-        let printing = Printing::new(alloc, &defaults);
+        let printer = Printer::new(alloc, &defaults);
         Codegen {
             alloc,
             options: defaults,
             tables: Tables::none(),
-            printing,
+            printer,
             has_printed: false,
         }
     }
@@ -108,12 +106,12 @@ impl<'a> Codegen<'a> {
         ensures failed { has_failed result ≡ false }
         ensures empty { pen_at result ≡ empty_pen (style_of (options_plain options) (tables_of self.entry)) 0 }
     {
-        let printing = Printing::new(self.alloc, &options).with_tables(self.tables);
+        let printer = Printer::new(self.alloc, &options).with_tables(self.tables);
         Codegen {
             alloc: self.alloc,
             options,
             tables: self.tables,
-            printing,
+            printer,
             has_printed: self.has_printed,
         }
     }
@@ -162,7 +160,7 @@ impl<'a> Codegen<'a> {
             alloc: self.alloc,
             options: self.options,
             tables,
-            printing: self.printing.with_tables(tables),
+            printer: self.printer.with_tables(tables),
             has_printed: self.has_printed,
         }
     }
@@ -178,14 +176,14 @@ impl<'a> Codegen<'a> {
     pub fn has_failed(&self) -> bool
         ensures { result ≡ has_failed self.now }
     {
-        self.printing.has_failed()
+        self.printer.has_failed()
     }
 
     // What a print call answers.
     fn outcome(&self) -> Result<(), CodegenError>
         ensures { is_err result ≡ has_failed self.now }
     {
-        if self.printing.has_failed() {
+        if self.printer.has_failed() {
             Err(CodegenError::Memory)
         } else {
             Ok(())
@@ -199,7 +197,7 @@ impl<'a> Codegen<'a> {
         ensures { Prints self.old self.new (written (byte ∷ []) other_end (pen_at self.old)) result }
     {
         self.has_printed = true;
-        self.printing.append_ascii_byte(byte);
+        self.printer.append_ascii_byte(byte);
         self.outcome()
     }
 
@@ -209,7 +207,7 @@ impl<'a> Codegen<'a> {
         ensures { Prints self.old self.new (unless_empty (chars s.now) (pen_at self.old) (written (chars s.now) other_end (pen_at self.old))) result }
     {
         self.has_printed = true;
-        self.printing.append_text(s);
+        self.printer.append_text(s);
         self.outcome()
     }
 
@@ -220,7 +218,7 @@ impl<'a> Codegen<'a> {
         ensures { Prints self.old self.new (unless_empty (chars s.now) (pen_at self.old) (name_written (chars s.now) (pen_at self.old))) result }
     {
         self.has_printed = true;
-        self.printing.append_name(s);
+        self.printer.append_name(s);
         self.outcome()
     }
 
@@ -231,7 +229,7 @@ impl<'a> Codegen<'a> {
         ensures { Prints self.old self.new (unless_empty (chars s.now) (pen_at self.old) (written (tag_free (chars s.now)) other_end (pen_at self.old))) result }
     {
         self.has_printed = true;
-        self.printing.append_tag_free(s);
+        self.printer.append_tag_free(s);
         self.outcome()
     }
 
@@ -243,8 +241,8 @@ impl<'a> Codegen<'a> {
     {
         self.has_printed = true;
         match JsStr::from_text(self.alloc, s) {
-            Ok(value) => self.printing.print_string(&value, false),
-            Err(Memory) => self.printing.fail(),
+            Ok(value) => self.printer.print_string(&value, false),
+            Err(Memory) => self.printer.fail(),
         }
         self.outcome()
     }
@@ -276,7 +274,7 @@ impl<'a> Codegen<'a> {
         ensures { Prints self.old self.new (layout (spell (T.plain node.now) (place_of place (pen_at self.old))) (pen_at self.old)) result }
     {
         self.has_printed = true;
-        node.print_at(&mut self.printing, place);
+        node.print_at(&mut self.printer, place);
         self.outcome()
     }
 
@@ -305,7 +303,7 @@ impl<'a> Codegen<'a> {
     {
         let settings = self.settings();
         self.has_printed = true;
-        node.print_alone(&mut self.printing, settings, place_context(context));
+        node.print_alone(&mut self.printer, settings, place_context(context));
         self.outcome()
     }
 
@@ -313,7 +311,7 @@ impl<'a> Codegen<'a> {
     pub fn into_source_text(self) -> String
         ensures { string_bytes result ≡ printed_so_far self.entry }
     {
-        self.printing.into_string()
+        self.printer.into_string()
     }
 
     /// Says Ok exactly where the program keeps each rule of a tree (docs/FORMAT.md, "Rules of a tree"), and otherwise
@@ -349,7 +347,7 @@ impl<'a> Codegen<'a> {
             → IsReadAs (chars (string_bytes printed.code)) (job_for self.entry (program_plain program.now))) }
     {
         let settings = self.settings();
-        let mut p = self.printing;
+        let mut p = self.printer;
         p.set_depth(self.options.initial_indent);
         print_program(program, &mut p, settings);
         if p.has_failed() {

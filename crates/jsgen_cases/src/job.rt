@@ -7,7 +7,7 @@ use crate::operator::push_operator;
 use crate::push::{push_each, push_where};
 use crate::quotes::{push_tried, try_print};
 use jsgen::{Codegen, Job, read_job};
-use jsgen_steps::Printing;
+use jsgen_printer::Printer;
 use jsgen_syntax::Memory;
 use jsgen_tree::{CodegenOptions, CommentOptions, Program};
 use std::alloc::Global;
@@ -38,7 +38,7 @@ fn push_of(alloc: Global, asked: &str, job: &Job, answer: &mut String) -> Result
         "options" => push_options(alloc, &job.options, answer),
         "operator" => push_operator(alloc, expression_in(&job.program), answer),
         "quotes" => {
-            let mut p = Printing::new(alloc, &job.options);
+            let mut p = Printer::new(alloc, &job.options);
             let tried = try_print(&mut p, expression_in(&job.program));
             push_tried(tried, p, answer)
         }

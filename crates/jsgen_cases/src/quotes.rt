@@ -4,12 +4,12 @@ use jsgen_nodes::{
     try_print_require_call,
 };
 use jsgen_place::Context;
-use jsgen_steps::Printing;
+use jsgen_printer::Printer;
 use jsgen_syntax::Memory;
 use jsgen_tree::{Expression, Node};
 
 /// What a printer printed, behind `applies` where a call applied.
-pub fn push_tried(tried: bool, p: Printing<'_>, answer: &mut String) -> Result<(), Memory> {
+pub fn push_tried(tried: bool, p: Printer<'_>, answer: &mut String) -> Result<(), Memory> {
     if p.has_failed() {
         return Err(Memory);
     }
@@ -18,7 +18,7 @@ pub fn push_tried(tried: bool, p: Printing<'_>, answer: &mut String) -> Result<(
 }
 
 /// Tries the call that is for such an expression; for a call there are two.
-pub fn try_print(p: &mut Printing<'_>, node: Option<&Expression>) -> bool {
+pub fn try_print(p: &mut Printer<'_>, node: Option<&Expression>) -> bool {
     match node {
         Some(Expression::CallExpression(call)) => {
             let is_required = try_print_require_call(p, call);

@@ -7,12 +7,12 @@ use Rattle.jsgen_model.specs.Items.{Items, nothing, ◌⊕◌, brackets, soft_li
 use Rattle.jsgen_model.specs.Layout.{Pen, layout, written, other_end}
 use Rattle.jsgen_model.specs.Spell.{braces, filled_braces}
 use Rattle.jsgen_model.specs.Printing.{IsPrefix}
-use Rattle.jsgen_printer.specs.Printer.{at_depth}
+use Rattle.jsgen_printer.specs.Printer.{pen_of, at_depth}
 use Rattle.jsgen_printer.proofs.Prefixes.{prefix_append, more_prefix, prefix_of_prefix}
-use Rattle.jsgen_printer.proofs.Stops.{layout_appends, layout_more}
-use Rattle.jsgen_steps.specs.Steps.{pen_at, has_failed, Ends, Goes, Lays}
-use Rattle.jsgen_steps.specs.declared.printing.Printing.{Printing}
-use Rattle.jsgen_steps.proofs.Sequence.{goes_then, items_go}
+use Rattle.jsgen_printer.proofs.Appends.{layout_appends, layout_more}
+use Rattle.jsgen_printer.specs.Steps.{has_failed, Ends, Goes, Lays}
+use Rattle.jsgen_printer.specs.declared.printer.Printer.{Printer}
+use Rattle.jsgen_printer.proofs.Sequence.{goes_then, items_go}
 use Rattle.jsgen_lists.specs.Lists.{braces_opened, braces_closed}
 
 -- where there is no statement, braces are empty
@@ -32,10 +32,10 @@ closed_appends : (depth : ℕ) (pen : Pen) → IsPrefix pen.code (braces_closed 
 closed_appends depth pen = more_prefix (closing Brace) (layout_appends indentation (at_depth depth pen))
 
 -- the level behind the braces is the one before them, where no step has failed
-pub braces_laid : {a b c d : Printing} {i : Pen → Items} (depth : ℕ) → (has_failed b ≡ false → depth ≡ (pen_at a).depth) → Goes a b braces_opened → Lays b c i → Goes c d (braces_closed depth) → Lays a d (λ pen. filled_braces (i (braces_opened pen)))
+pub braces_laid : {a b c d : Printer} {i : Pen → Items} (depth : ℕ) → (has_failed b ≡ false → depth ≡ (pen_of a).depth) → Goes a b braces_opened → Lays b c i → Goes c d (braces_closed depth) → Lays a d (λ pen. filled_braces (i (braces_opened pen)))
 braces_laid {a} {b} {c} {d} {i} depth level h inside k =
     let behind = goes_then (λ pen. layout_appends (i pen) pen) (closed_appends depth) (items_go inside) k in
-    let before = (pen_at a).depth in
-    let closed : Goes b d (λ pen. braces_closed before (layout (i pen) pen)) = record { stays = behind.stays; goes = λ going. subst (λ n. Ends (has_failed d) (pen_at b) (pen_at d) (braces_closed n (layout (i (pen_at b)) (pen_at b)))) (level going) (behind.goes going) } in
+    let before = (pen_of a).depth in
+    let closed : Goes b d (λ pen. braces_closed before (layout (i pen) pen)) = record { stays = behind.stays; goes = λ going. subst (λ n. Ends (has_failed d) (pen_of b) (pen_of d) (braces_closed n (layout (i (pen_of b)) (pen_of b)))) (level going) (behind.goes going) } in
     let all = goes_then opened_appends (λ pen. prefix_of_prefix (layout_appends (i pen) pen) (closed_appends before (layout (i pen) pen))) h closed in
     record { stays = all.stays; goes = all.goes }

@@ -10,7 +10,7 @@ use Rattle.jsgen_model.specs.Layout.{Pen, nowhere, layout, indented, indent_or_s
 use Rattle.jsgen_model.specs.Spell as spells
 use Rattle.jsgen_model.specs.Spell.{spell_elements, spell_more_elements, next_line, line_or_space, on_lines, object_inside, are_more, count, ends_in_hole}
 use Rattle.jsgen_lists.specs.Lists.{element_items, all_elements}
-use Rattle.jsgen_steps.proofs.Sequence.{still_nowhere}
+use Rattle.jsgen_printer.proofs.Sequence.{still_nowhere}
 
 -- ---- the first of the members
 

@@ -4,14 +4,13 @@ ghost use Rattle.jsgen_tree.specs.Tree.{trees};
 ghost use Rattle.jsgen_model.specs.Punctuator.{Round};
 ghost use Rattle.jsgen_model.specs.Items.{brackets};
 ghost use Rattle.jsgen_model.specs.Spell.{spell_arguments, spell_behind_first};
-ghost use Rattle.jsgen_steps.specs.Steps.{Lays, BeginsNothing};
+ghost use Rattle.jsgen_printer.specs.Steps.{Lays, BeginsNothing};
 ghost use Rattle.jsgen_lists.specs.Lists.{listed};
 
 use crate::maybe::print_comma_and_space;
 use crate::members::{PrintMember, print_more};
 use jsgen_place::Place;
-use jsgen_printer::Bracket;
-use jsgen_steps::Printing;
+use jsgen_printer::{Bracket, Printer};
 
 /// Which arguments are never in backticks, where they are strings.
 #[derive(Clone, Copy)]
@@ -36,7 +35,7 @@ impl PlainQuotes {
 pub fn print_arguments<E, L: PrintMember<E>>(
     quotes: PlainQuotes,
     arguments: &[E],
-    p: &mut Printing<'_>,
+    p: &mut Printer<'_>,
     place: Place,
 )
     ensures { Lays p.old p.new (λ _. brackets Round (spell_arguments quotes.first quotes.second (trees (map L.plain arguments.now)) (listed place))) }
@@ -49,7 +48,7 @@ pub fn print_arguments<E, L: PrintMember<E>>(
 fn print_first<E, L: PrintMember<E>>(
     quotes: PlainQuotes,
     arguments: &[E],
-    p: &mut Printing<'_>,
+    p: &mut Printer<'_>,
     place: Place,
 )
     requires { BeginsNothing p.old }
@@ -68,7 +67,7 @@ fn print_first<E, L: PrintMember<E>>(
 fn print_behind_first<E, L: PrintMember<E>>(
     plain_second: bool,
     arguments: &[E],
-    p: &mut Printing<'_>,
+    p: &mut Printer<'_>,
     place: Place,
 )
     ensures { Lays p.old p.new (λ _. spell_behind_first plain_second (trees (map L.plain arguments.now)) (listed place)) }

@@ -4,19 +4,19 @@ ghost use Rattle.jsgen_tree.specs.Tree.{trees};
 ghost use Rattle.jsgen_model.specs.Punctuator.{Brace};
 ghost use Rattle.jsgen_model.specs.Items.{◌⊕◌, nothing, brackets, drop_semicolon};
 ghost use Rattle.jsgen_model.specs.Spell.{spell_statements, braces, filled_braces};
-ghost use Rattle.jsgen_steps.specs.Steps.{Goes, Lays, pen_at, has_failed};
+ghost use Rattle.jsgen_printer.specs.Printer.{pen_of};
+ghost use Rattle.jsgen_printer.specs.Steps.{Goes, Lays, has_failed};
 ghost use Rattle.jsgen_place.specs.Place.{settings_of};
 ghost use Rattle.jsgen_lists.specs.Lists.{braces_opened, braces_closed};
 
 use crate::statements::{PrintStatement, print_statements};
 use jsgen_place::Settings;
-use jsgen_printer::Bracket;
-use jsgen_steps::Printing;
+use jsgen_printer::{Bracket, Printer};
 
 /// Braces round statements, each of which stands on a line of its own.
 pub fn print_braces<E, S: PrintStatement<E>>(
     statements: &[E],
-    p: &mut Printing<'_>,
+    p: &mut Printer<'_>,
     settings: Settings,
 )
     ensures { Lays p.old p.new (λ _. braces (trees (map S.plain statements.now))
@@ -30,7 +30,7 @@ pub fn print_braces<E, S: PrintStatement<E>>(
 }
 
 /// Braces in which nothing stands.
-pub fn print_empty_braces(p: &mut Printing<'_>)
+pub fn print_empty_braces(p: &mut Printer<'_>)
     ensures { Lays p.old p.new (λ _. brackets Brace nothing ⊕ drop_semicolon) }
 {
     p.print_opening(Bracket::Brace);
@@ -40,7 +40,7 @@ pub fn print_empty_braces(p: &mut Printing<'_>)
 
 fn print_filled_braces<E, S: PrintStatement<E>>(
     statements: &[E],
-    p: &mut Printing<'_>,
+    p: &mut Printer<'_>,
     settings: Settings,
 )
     ensures { Lays p.old p.new (λ _. filled_braces (spell_statements (trees (map S.plain statements.now)) (settings_of settings))) }
@@ -51,8 +51,8 @@ fn print_filled_braces<E, S: PrintStatement<E>>(
 }
 
 /// The opening brace, behind which the code is one level deeper; gives the level before.
-pub fn open_braces(p: &mut Printing<'_>) -> u32
-    ensures level { has_failed p.new ≡ false → result ≡ (pen_at p.old).depth }
+pub fn open_braces(p: &mut Printer<'_>) -> u32
+    ensures level { has_failed p.new ≡ false → result ≡ (pen_of p.old).depth }
     ensures pen { Goes p.old p.new braces_opened }
 {
     p.print_opening(Bracket::Brace);
@@ -61,7 +61,7 @@ pub fn open_braces(p: &mut Printing<'_>) -> u32
 }
 
 /// The closing brace, at the level before.
-pub fn close_braces(p: &mut Printing<'_>, depth: u32)
+pub fn close_braces(p: &mut Printer<'_>, depth: u32)
     ensures { Goes p.old p.new (braces_closed depth) }
 {
     p.set_depth(depth);

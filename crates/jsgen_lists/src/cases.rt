@@ -5,14 +5,14 @@ ghost use Rattle.jsgen_tree.specs.Tree.{Tree, more, no_trees, trees, optional};
 ghost use Rattle.jsgen_model.specs.Punctuator.{colon};
 ghost use Rattle.jsgen_model.specs.Items.{◌⊕◌, punctuator, indentation};
 ghost use Rattle.jsgen_model.specs.Spell.{spell_statements, spell_only, spell_test, case_items, in_brackets, among_statements};
-ghost use Rattle.jsgen_steps.specs.Steps.{Lays, BeginsNothing};
+ghost use Rattle.jsgen_printer.specs.Steps.{Lays, BeginsNothing};
 ghost use Rattle.jsgen_place.specs.Place.{settings_of};
 
 use crate::maybe::print_case_test;
 use crate::members::PrintMember;
 use crate::statements::{PrintStatement, print_deeper_statements};
 use jsgen_place::{Place, Settings};
-use jsgen_steps::Printing;
+use jsgen_printer::Printer;
 use jsgen_syntax::Precedence;
 
 /// How the one statement of a case is printed, which goes on with the line where it is a block.
@@ -20,7 +20,7 @@ pub trait PrintOnly<E> {
     // What a statement stands for.
     ghost plain: { E → Tree };
 
-    fn print_only(statement: &E, p: &mut Printing<'_>, settings: Settings)
+    fn print_only(statement: &E, p: &mut Printer<'_>, settings: Settings)
         requires { BeginsNothing p.old }
         ensures { Lays p.old p.new (λ _. spell_only (more (plain statement.now) no_trees) (settings_of settings)) };
 }
@@ -29,7 +29,7 @@ pub trait PrintOnly<E> {
 pub fn print_case<E, F, L: PrintMember<E>, O: PrintOnly<F>, S: PrintStatement<F>>(
     test: &Option<E>,
     consequent: &[F],
-    p: &mut Printing<'_>,
+    p: &mut Printer<'_>,
     settings: Settings,
 )
     ensures { Lays p.old p.new (λ _. indentation ⊕ (spell_test (optional (option_map L.plain test.now)) (in_brackets Lowest (among_statements (settings_of settings)))
@@ -41,7 +41,7 @@ pub fn print_case<E, F, L: PrintMember<E>, O: PrintOnly<F>, S: PrintStatement<F>
 }
 
 // The test and its colon.
-fn print_case_head<E, L: PrintMember<E>>(test: &Option<E>, p: &mut Printing<'_>, settings: Settings)
+fn print_case_head<E, L: PrintMember<E>>(test: &Option<E>, p: &mut Printer<'_>, settings: Settings)
     ensures { Lays p.old p.new (λ _. spell_test (optional (option_map L.plain test.now)) (in_brackets Lowest (among_statements (settings_of settings))) ⊕ punctuator colon) }
 {
     let within = Place::in_brackets(Precedence::Lowest, settings);
@@ -52,7 +52,7 @@ fn print_case_head<E, L: PrintMember<E>>(test: &Option<E>, p: &mut Printing<'_>,
 // One statement as a body, or any other number on lines of their own.
 fn print_consequent<F, O: PrintOnly<F>, S: PrintStatement<F>>(
     statements: &[F],
-    p: &mut Printing<'_>,
+    p: &mut Printer<'_>,
     settings: Settings,
 )
     requires { BeginsNothing p.old }

@@ -4,13 +4,12 @@ ghost use Rattle.jsgen_tree.specs.Tree.{Tree, holed};
 ghost use Rattle.jsgen_model.specs.Punctuator.{Square, Brace};
 ghost use Rattle.jsgen_model.specs.Items.{◌⊕◌, brackets, soft_space};
 ghost use Rattle.jsgen_model.specs.Spell.{spell_elements, spell_more_elements, next_line, line_or_space, on_lines, object_inside, are_more, ends_in_hole, comma_if};
-ghost use Rattle.jsgen_steps.specs.Steps.{Lays, BeginsNothing};
+ghost use Rattle.jsgen_printer.specs.Steps.{Lays, BeginsNothing};
 ghost use Rattle.jsgen_place.specs.Place.{place_of};
 ghost use Rattle.jsgen_lists.specs.Lists.{listed, element_items, all_elements};
 
 use jsgen_place::Place;
-use jsgen_printer::Bracket;
-use jsgen_steps::Printing;
+use jsgen_printer::{Bracket, Printer};
 
 /// How the members of a list in which some may be left out are printed.
 pub trait PrintElement<E> {
@@ -21,12 +20,12 @@ pub trait PrintElement<E> {
         ensures { result ≡ not (is_some (plain element.now)) };
 
     /// Nothing is printed for one that is left out.
-    fn print_element(element: &E, p: &mut Printing<'_>, place: Place)
+    fn print_element(element: &E, p: &mut Printer<'_>, place: Place)
         ensures { Lays p.old p.new (λ pen. element_items (plain element.now) (place_of place pen)) };
 }
 
 /// An array: its elements in brackets, up to two on one line, and more on lines of their own.
-pub fn print_array<E, L: PrintElement<E>>(elements: &[E], p: &mut Printing<'_>, place: Place)
+pub fn print_array<E, L: PrintElement<E>>(elements: &[E], p: &mut Printer<'_>, place: Place)
     ensures { Lays p.old p.new (λ _. brackets Square (on_lines (are_more 2 (holed (map L.plain elements.now)))
         (all_elements (are_more 2 (holed (map L.plain elements.now))) (holed (map L.plain elements.now)) (listed place)))) }
 {
@@ -37,7 +36,7 @@ pub fn print_array<E, L: PrintElement<E>>(elements: &[E], p: &mut Printing<'_>, 
 }
 
 /// An object: its properties in braces, a single one between spaces, and more on lines of their own.
-pub fn print_object<E, L: PrintElement<E>>(properties: &[E], p: &mut Printing<'_>, place: Place)
+pub fn print_object<E, L: PrintElement<E>>(properties: &[E], p: &mut Printer<'_>, place: Place)
     ensures { Lays p.old p.new (λ _. brackets Brace (object_inside (holed (map L.plain properties.now))
         (all_elements (are_more 1 (holed (map L.plain properties.now))) (holed (map L.plain properties.now)) (listed place)))) }
 {
@@ -46,7 +45,7 @@ pub fn print_object<E, L: PrintElement<E>>(properties: &[E], p: &mut Printing<'_
     p.print_closing(Bracket::Brace);
 }
 
-fn print_inside<E, L: PrintElement<E>>(properties: &[E], p: &mut Printing<'_>, place: Place)
+fn print_inside<E, L: PrintElement<E>>(properties: &[E], p: &mut Printer<'_>, place: Place)
     requires { BeginsNothing p.old }
     ensures { Lays p.old p.new (λ _. object_inside (holed (map L.plain properties.now))
         (all_elements (are_more 1 (holed (map L.plain properties.now))) (holed (map L.plain properties.now)) (listed place))) }
@@ -60,7 +59,7 @@ fn print_inside<E, L: PrintElement<E>>(properties: &[E], p: &mut Printing<'_>, p
     }
 }
 
-fn print_single<E, L: PrintElement<E>>(properties: &[E], p: &mut Printing<'_>, place: Place)
+fn print_single<E, L: PrintElement<E>>(properties: &[E], p: &mut Printer<'_>, place: Place)
     requires { BeginsNothing p.old }
     ensures { Lays p.old p.new (λ _. soft_space ⊕ (all_elements false (holed (map L.plain properties.now)) (listed place) ⊕ soft_space)) }
 {
@@ -79,7 +78,7 @@ fn are_more<E, L: PrintElement<E>>(count: usize, elements: &[E]) -> bool
 fn print_lines<E, L: PrintElement<E>>(
     lines: bool,
     elements: &[E],
-    p: &mut Printing<'_>,
+    p: &mut Printer<'_>,
     place: Place,
 )
     requires { BeginsNothing p.old }
@@ -92,7 +91,7 @@ fn print_lines<E, L: PrintElement<E>>(
     }
 }
 
-fn print_on_lines<E, L: PrintElement<E>>(elements: &[E], p: &mut Printing<'_>, place: Place)
+fn print_on_lines<E, L: PrintElement<E>>(elements: &[E], p: &mut Printer<'_>, place: Place)
     requires { BeginsNothing p.old }
     ensures { Lays p.old p.new (λ _. on_lines true (all_elements true (holed (map L.plain elements.now)) (listed place))) }
 {
@@ -103,14 +102,14 @@ fn print_on_lines<E, L: PrintElement<E>>(elements: &[E], p: &mut Printing<'_>, p
     print_next_line(p);
 }
 
-fn print_next_line(p: &mut Printing<'_>)
+fn print_next_line(p: &mut Printer<'_>)
     ensures { Lays p.old p.new (λ _. next_line) }
 {
     p.print_soft_line();
     p.print_indentation();
 }
 
-fn print_between(lines: bool, p: &mut Printing<'_>)
+fn print_between(lines: bool, p: &mut Printer<'_>)
     ensures { Lays p.old p.new (λ _. line_or_space lines) }
 {
     if lines {
@@ -121,7 +120,7 @@ fn print_between(lines: bool, p: &mut Printing<'_>)
 }
 
 // The members, and behind a last one that is left out its comma.
-fn print_all<E, L: PrintElement<E>>(lines: bool, elements: &[E], p: &mut Printing<'_>, place: Place)
+fn print_all<E, L: PrintElement<E>>(lines: bool, elements: &[E], p: &mut Printer<'_>, place: Place)
     requires { BeginsNothing p.old }
     ensures { Lays p.old p.new (λ _. all_elements lines (holed (map L.plain elements.now)) (listed place)) }
 {
@@ -129,7 +128,7 @@ fn print_all<E, L: PrintElement<E>>(lines: bool, elements: &[E], p: &mut Printin
     print_last_comma::<E, L>(elements, p);
 }
 
-fn print_last_comma<E, L: PrintElement<E>>(elements: &[E], p: &mut Printing<'_>)
+fn print_last_comma<E, L: PrintElement<E>>(elements: &[E], p: &mut Printer<'_>)
     ensures { Lays p.old p.new (λ _. comma_if (ends_in_hole (holed (map L.plain elements.now)))) }
 {
     if ends_in_hole::<E, L>(elements) {
@@ -149,7 +148,7 @@ fn ends_in_hole<E, L: PrintElement<E>>(elements: &[E]) -> bool
 fn print_elements<E, L: PrintElement<E>>(
     lines: bool,
     elements: &[E],
-    p: &mut Printing<'_>,
+    p: &mut Printer<'_>,
     place: Place,
 )
     requires { BeginsNothing p.old }
@@ -168,7 +167,7 @@ fn print_elements<E, L: PrintElement<E>>(
 fn print_more_elements<E, L: PrintElement<E>>(
     lines: bool,
     elements: &[E],
-    p: &mut Printing<'_>,
+    p: &mut Printer<'_>,
     place: Place,
 )
     ensures { Lays p.old p.new (λ _. spell_more_elements lines (holed (map L.plain elements.now)) (listed place)) }

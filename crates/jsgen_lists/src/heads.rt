@@ -4,22 +4,21 @@ ghost use Rattle.jsgen_tree.specs.Tree.{optional};
 ghost use Rattle.jsgen_model.specs.Punctuator.{Round};
 ghost use Rattle.jsgen_model.specs.Items.{◌⊕◌, word, brackets, soft_space, statement_end};
 ghost use Rattle.jsgen_model.specs.Spell.{spell, spell_apart, accessor_word};
-ghost use Rattle.jsgen_steps.specs.Steps.{Lays};
+ghost use Rattle.jsgen_printer.specs.Steps.{Lays};
 ghost use Rattle.jsgen_printer.specs.Printer.{is_ascii};
 ghost use Rattle.jsgen_lists.specs.Lists.{listed};
 
 use crate::maybe::{print_apart, print_behind_space};
 use crate::members::PrintMember;
 use jsgen_place::Place;
-use jsgen_printer::Bracket;
-use jsgen_steps::Printing;
+use jsgen_printer::{Bracket, Printer};
 use jsgen_tree::PropertyKind;
 
 /// A word, and something behind it.
 pub fn print_behind_word<E, L: PrintMember<E>>(
     text: &str,
     member: &E,
-    p: &mut Printing<'_>,
+    p: &mut Printer<'_>,
     place: Place,
 )
     requires { IsTrue (is_ascii text.now) }
@@ -33,7 +32,7 @@ pub fn print_behind_word<E, L: PrintMember<E>>(
 pub fn print_behind_spaced_word<E, L: PrintMember<E>>(
     text: &str,
     member: &E,
-    p: &mut Printing<'_>,
+    p: &mut Printer<'_>,
     place: Place,
 )
     requires { IsTrue (is_ascii text.now) }
@@ -44,7 +43,7 @@ pub fn print_behind_spaced_word<E, L: PrintMember<E>>(
 }
 
 /// A word, and something behind it in parentheses.
-pub fn print_head<E, L: PrintMember<E>>(text: &str, member: &E, p: &mut Printing<'_>, place: Place)
+pub fn print_head<E, L: PrintMember<E>>(text: &str, member: &E, p: &mut Printer<'_>, place: Place)
     requires { IsTrue (is_ascii text.now) }
     ensures { Lays p.old p.new (λ _. word text.now ⊕ (soft_space ⊕ brackets Round (spell (L.plain member.now) (listed place)))) }
 {
@@ -55,7 +54,7 @@ pub fn print_head<E, L: PrintMember<E>>(text: &str, member: &E, p: &mut Printing
 /// Behind a space, in parentheses.
 pub fn print_apart_in_parentheses<E, L: PrintMember<E>>(
     member: &E,
-    p: &mut Printing<'_>,
+    p: &mut Printer<'_>,
     place: Place,
 )
     ensures { Lays p.old p.new (λ _. soft_space ⊕ brackets Round (spell (L.plain member.now) (listed place))) }
@@ -64,7 +63,7 @@ pub fn print_apart_in_parentheses<E, L: PrintMember<E>>(
     print_in_parentheses::<E, L>(member, p, place);
 }
 
-pub fn print_in_parentheses<E, L: PrintMember<E>>(member: &E, p: &mut Printing<'_>, place: Place)
+pub fn print_in_parentheses<E, L: PrintMember<E>>(member: &E, p: &mut Printer<'_>, place: Place)
     ensures { Lays p.old p.new (λ _. brackets Round (spell (L.plain member.now) (listed place))) }
 {
     p.print_opening(Bracket::Round);
@@ -76,7 +75,7 @@ pub fn print_in_parentheses<E, L: PrintMember<E>>(member: &E, p: &mut Printing<'
 pub fn print_jump<E, L: PrintMember<E>>(
     text: &str,
     label: &Option<E>,
-    p: &mut Printing<'_>,
+    p: &mut Printer<'_>,
     place: Place,
 )
     requires { IsTrue (is_ascii text.now) }
@@ -88,7 +87,7 @@ pub fn print_jump<E, L: PrintMember<E>>(
 }
 
 /// What stands before the key of an accessor (ECMA-262, 15.4), and nothing before that of a method.
-pub fn print_accessor_word(kind: PropertyKind, p: &mut Printing<'_>)
+pub fn print_accessor_word(kind: PropertyKind, p: &mut Printer<'_>)
     ensures { Lays p.old p.new (λ _. accessor_word kind) }
 {
     match kind {
@@ -98,7 +97,7 @@ pub fn print_accessor_word(kind: PropertyKind, p: &mut Printing<'_>)
     }
 }
 
-fn print_word_before_key(text: &str, p: &mut Printing<'_>)
+fn print_word_before_key(text: &str, p: &mut Printer<'_>)
     requires { IsTrue (is_ascii text.now) }
     ensures { Lays p.old p.new (λ _. word text.now ⊕ soft_space) }
 {

@@ -3,12 +3,12 @@ ghost use Rattle.jsgen_tree.specs.Characters.{characters};
 ghost use Rattle.jsgen_tree.specs.Named.{as_written};
 ghost use Rattle.jsgen_model.specs.Items.{◌⊕◌, name};
 ghost use Rattle.jsgen_model.specs.Spell.{spell, name_link, bracket_link};
-ghost use Rattle.jsgen_steps.specs.Steps.{Lays};
+ghost use Rattle.jsgen_printer.specs.Steps.{Lays};
 ghost use Rattle.jsgen_place.specs.Place.{place_of};
 
 use crate::members::PrintMember;
 use jsgen_place::Place;
-use jsgen_steps::Printing;
+use jsgen_printer::Printer;
 use jsgen_tree::IdentifierName;
 
 /// An object, and the name of one of its members behind a dot.
@@ -16,7 +16,7 @@ pub fn print_named_member<E, L: PrintMember<E>>(
     object: &E,
     optional: bool,
     property: &IdentifierName,
-    p: &mut Printing<'_>,
+    p: &mut Printer<'_>,
     place: Place,
 )
     ensures { Lays p.old p.new (λ pen. spell (L.plain object.now) (place_of place pen)
@@ -27,7 +27,7 @@ pub fn print_named_member<E, L: PrintMember<E>>(
 }
 
 // Behind the object.
-fn print_member_name(optional: bool, property: &IdentifierName, p: &mut Printing<'_>)
+fn print_member_name(optional: bool, property: &IdentifierName, p: &mut Printer<'_>)
     ensures { Lays p.old p.new (λ _. name_link optional ⊕ name (as_written (characters property.now.name))) }
 {
     print_name_link(optional, p);
@@ -35,7 +35,7 @@ fn print_member_name(optional: bool, property: &IdentifierName, p: &mut Printing
 }
 
 // What stands before a member's name.
-fn print_name_link(optional: bool, p: &mut Printing<'_>)
+fn print_name_link(optional: bool, p: &mut Printer<'_>)
     ensures { Lays p.old p.new (λ _. name_link optional) }
 {
     if optional {
@@ -46,7 +46,7 @@ fn print_name_link(optional: bool, p: &mut Printing<'_>)
 }
 
 /// What stands before the brackets of a link.
-pub fn print_bracket_link(optional: bool, p: &mut Printing<'_>)
+pub fn print_bracket_link(optional: bool, p: &mut Printer<'_>)
     ensures { Lays p.old p.new (λ _. bracket_link optional) }
 {
     if optional {

@@ -4,17 +4,17 @@ ghost use Rattle.jsgen_tree.specs.Tree.{Tree, given, trees, optional};
 ghost use Rattle.jsgen_model.specs.Items.{◌⊕◌, soft_space, punctuator};
 ghost use Rattle.jsgen_model.specs.Punctuator.{comma, equal};
 ghost use Rattle.jsgen_model.specs.Spell.{spell, spell_value, spell_if_given, spell_apart, spell_caught, spell_test, comma_between};
-ghost use Rattle.jsgen_steps.specs.Steps.{Lays, BeginsNothing};
+ghost use Rattle.jsgen_printer.specs.Steps.{Lays, BeginsNothing};
 ghost use Rattle.jsgen_place.specs.Place.{place_of};
 ghost use Rattle.jsgen_lists.specs.Lists.{listed};
 
 use crate::heads::{print_apart_in_parentheses, print_behind_word};
 use crate::members::PrintMember;
 use jsgen_place::Place;
-use jsgen_steps::Printing;
+use jsgen_printer::Printer;
 
 /// The value of what is declared, behind `=`.
-pub fn print_value<E, L: PrintMember<E>>(value: &Option<E>, p: &mut Printing<'_>, place: Place)
+pub fn print_value<E, L: PrintMember<E>>(value: &Option<E>, p: &mut Printer<'_>, place: Place)
     ensures { Lays p.old p.new (λ _. spell_value (optional (option_map L.plain value.now)) (listed place)) }
 {
     match value {
@@ -23,7 +23,7 @@ pub fn print_value<E, L: PrintMember<E>>(value: &Option<E>, p: &mut Printing<'_>
     }
 }
 
-fn print_behind_equal<E, L: PrintMember<E>>(value: &E, p: &mut Printing<'_>, place: Place)
+fn print_behind_equal<E, L: PrintMember<E>>(value: &E, p: &mut Printer<'_>, place: Place)
     ensures { Lays p.old p.new (λ _. soft_space ⊕ (punctuator equal ⊕ (soft_space ⊕ spell (L.plain value.now) (listed place)))) }
 {
     p.print_soft_space();
@@ -36,7 +36,7 @@ fn print_behind_equal<E, L: PrintMember<E>>(value: &E, p: &mut Printing<'_>, pla
 pub fn print_comma_between<E, R, L: PrintMember<E>, M: PrintMember<R>>(
     members: &[E],
     rest: &Option<R>,
-    p: &mut Printing<'_>,
+    p: &mut Printer<'_>,
 )
     ensures { Lays p.old p.new (λ _. comma_between (trees (map L.plain members.now)) (optional (option_map M.plain rest.now))) }
 {
@@ -46,7 +46,7 @@ pub fn print_comma_between<E, R, L: PrintMember<E>, M: PrintMember<R>>(
     }
 }
 
-fn print_comma_behind<E, L: PrintMember<E>>(members: &[E], p: &mut Printing<'_>)
+fn print_comma_behind<E, L: PrintMember<E>>(members: &[E], p: &mut Printer<'_>)
     ensures { (rest : Tree) → Lays p.old p.new (λ _. comma_between (trees (map L.plain members.now)) (given rest)) }
 {
     if !members.is_empty() {
@@ -55,7 +55,7 @@ fn print_comma_behind<E, L: PrintMember<E>>(members: &[E], p: &mut Printing<'_>)
 }
 
 /// A comma, and a space behind it.
-pub fn print_comma_and_space(p: &mut Printing<'_>)
+pub fn print_comma_and_space(p: &mut Printer<'_>)
     ensures { Lays p.old p.new (λ _. punctuator comma ⊕ soft_space) }
 {
     p.print_comma();
@@ -63,7 +63,7 @@ pub fn print_comma_and_space(p: &mut Printing<'_>)
 }
 
 /// A member, if there is one.
-pub fn print_if_given<E, L: PrintMember<E>>(member: &Option<E>, p: &mut Printing<'_>, place: Place)
+pub fn print_if_given<E, L: PrintMember<E>>(member: &Option<E>, p: &mut Printer<'_>, place: Place)
     ensures { Lays p.old p.new (λ pen. spell_if_given (optional (option_map L.plain member.now)) (place_of place pen)) }
 {
     match member {
@@ -73,7 +73,7 @@ pub fn print_if_given<E, L: PrintMember<E>>(member: &Option<E>, p: &mut Printing
 }
 
 /// A member, if there is one, behind a space.
-pub fn print_apart<E, L: PrintMember<E>>(member: &Option<E>, p: &mut Printing<'_>, place: Place)
+pub fn print_apart<E, L: PrintMember<E>>(member: &Option<E>, p: &mut Printer<'_>, place: Place)
     requires { BeginsNothing p.old }
     ensures { Lays p.old p.new (λ _. spell_apart (optional (option_map L.plain member.now)) (listed place)) }
 {
@@ -83,7 +83,7 @@ pub fn print_apart<E, L: PrintMember<E>>(member: &Option<E>, p: &mut Printing<'_
     }
 }
 
-pub fn print_behind_space<E, L: PrintMember<E>>(member: &E, p: &mut Printing<'_>, place: Place)
+pub fn print_behind_space<E, L: PrintMember<E>>(member: &E, p: &mut Printer<'_>, place: Place)
     requires { BeginsNothing p.old }
     ensures { Lays p.old p.new (λ _. soft_space ⊕ spell (L.plain member.now) (listed place)) }
 {
@@ -92,7 +92,7 @@ pub fn print_behind_space<E, L: PrintMember<E>>(member: &E, p: &mut Printing<'_>
 }
 
 /// The name of what is caught, if it has one, in parentheses.
-pub fn print_caught<E, L: PrintMember<E>>(param: &Option<E>, p: &mut Printing<'_>, place: Place)
+pub fn print_caught<E, L: PrintMember<E>>(param: &Option<E>, p: &mut Printer<'_>, place: Place)
     ensures { Lays p.old p.new (λ _. spell_caught (optional (option_map L.plain param.now)) (listed place)) }
 {
     match param {
@@ -102,7 +102,7 @@ pub fn print_caught<E, L: PrintMember<E>>(param: &Option<E>, p: &mut Printing<'_
 }
 
 /// What a case begins with: its test, or the word of a case that has none.
-pub fn print_case_test<E, L: PrintMember<E>>(test: &Option<E>, p: &mut Printing<'_>, place: Place)
+pub fn print_case_test<E, L: PrintMember<E>>(test: &Option<E>, p: &mut Printer<'_>, place: Place)
     ensures { Lays p.old p.new (λ _. spell_test (optional (option_map L.plain test.now)) (listed place)) }
 {
     match test {

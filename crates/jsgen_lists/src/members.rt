@@ -3,22 +3,21 @@ ghost use Rattle.std.specs.Prelude.{map};
 ghost use Rattle.jsgen_tree.specs.Tree.{Tree, trees};
 ghost use Rattle.jsgen_model.specs.Items.{brackets};
 ghost use Rattle.jsgen_model.specs.Spell.{spell, spell_list, spell_more, spell_parts};
-ghost use Rattle.jsgen_steps.specs.Steps.{Lays, BeginsNothing};
+ghost use Rattle.jsgen_printer.specs.Steps.{Lays, BeginsNothing};
 ghost use Rattle.jsgen_printer.specs.Printer.{bracket_of};
 ghost use Rattle.jsgen_place.specs.Place.{place_of};
 ghost use Rattle.jsgen_lists.specs.Lists.{listed};
 
 use crate::maybe::print_comma_and_space;
 use jsgen_place::Place;
-use jsgen_printer::Bracket;
-use jsgen_steps::Printing;
+use jsgen_printer::{Bracket, Printer};
 
 /// How the members of a list with commas are printed.
 pub trait PrintMember<E> {
     // What a member stands for.
     ghost plain: { E → Tree };
 
-    fn print_member(member: &E, p: &mut Printing<'_>, place: Place)
+    fn print_member(member: &E, p: &mut Printer<'_>, place: Place)
         ensures { Lays p.old p.new (λ pen. spell (plain member.now) (place_of place pen)) };
 }
 
@@ -26,7 +25,7 @@ pub trait PrintMember<E> {
 pub fn print_in_brackets<E, L: PrintMember<E>>(
     bracket: Bracket,
     members: &[E],
-    p: &mut Printing<'_>,
+    p: &mut Printer<'_>,
     place: Place,
 )
     ensures { Lays p.old p.new (λ _. brackets (bracket_of bracket) (spell_list (trees (map L.plain members.now)) (listed place))) }
@@ -36,7 +35,7 @@ pub fn print_in_brackets<E, L: PrintMember<E>>(
     p.print_closing(bracket);
 }
 
-fn print_list<E, L: PrintMember<E>>(members: &[E], p: &mut Printing<'_>, place: Place)
+fn print_list<E, L: PrintMember<E>>(members: &[E], p: &mut Printer<'_>, place: Place)
     requires { BeginsNothing p.old }
     ensures { Lays p.old p.new (λ _. spell_list (trees (map L.plain members.now)) (listed place)) }
 {
@@ -50,7 +49,7 @@ fn print_list<E, L: PrintMember<E>>(members: &[E], p: &mut Printing<'_>, place: 
 }
 
 /// The members, with commas between them, of which the first begins where the list does.
-pub fn print_parts<E, L: PrintMember<E>>(parts: &[E], p: &mut Printing<'_>, place: Place)
+pub fn print_parts<E, L: PrintMember<E>>(parts: &[E], p: &mut Printer<'_>, place: Place)
     ensures { Lays p.old p.new (λ pen. spell_parts (trees (map L.plain parts.now)) (place_of place pen)) }
 {
     match parts.split_first() {
@@ -63,7 +62,7 @@ pub fn print_parts<E, L: PrintMember<E>>(parts: &[E], p: &mut Printing<'_>, plac
 }
 
 /// The members, each with a comma before it.
-pub fn print_more<E, L: PrintMember<E>>(members: &[E], p: &mut Printing<'_>, place: Place)
+pub fn print_more<E, L: PrintMember<E>>(members: &[E], p: &mut Printer<'_>, place: Place)
     ensures { Lays p.old p.new (λ _. spell_more (trees (map L.plain members.now)) (listed place)) }
 {
     for member in members {

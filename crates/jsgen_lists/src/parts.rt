@@ -4,21 +4,20 @@ ghost use Rattle.jsgen_tree.specs.Tree.{optional};
 ghost use Rattle.jsgen_model.specs.Punctuator.{Round, semicolon};
 ghost use Rattle.jsgen_model.specs.Items.{◌⊕◌, brackets, punctuator};
 ghost use Rattle.jsgen_model.specs.Spell.{spell_apart};
-ghost use Rattle.jsgen_steps.specs.Steps.{Lays, BeginsNothing};
+ghost use Rattle.jsgen_printer.specs.Steps.{Lays, BeginsNothing};
 ghost use Rattle.jsgen_lists.specs.Lists.{listed, loop_parts};
 
 use crate::maybe::{print_apart, print_if_given};
 use crate::members::PrintMember;
 use jsgen_place::Place;
-use jsgen_printer::Bracket;
-use jsgen_steps::Printing;
+use jsgen_printer::{Bracket, Printer};
 
 /// What is done before a loop, before each round, and behind each round, in parentheses; each may be left out.
 pub fn print_loop_parts<I, E, K: PrintMember<I>, L: PrintMember<E>>(
     init: &Option<I>,
     test: &Option<E>,
     update: &Option<E>,
-    p: &mut Printing<'_>,
+    p: &mut Printer<'_>,
     first: Place,
     place: Place,
 )
@@ -34,7 +33,7 @@ fn print_within<I, E, K: PrintMember<I>, L: PrintMember<E>>(
     init: &Option<I>,
     test: &Option<E>,
     update: &Option<E>,
-    p: &mut Printing<'_>,
+    p: &mut Printer<'_>,
     first: Place,
     place: Place,
 )
@@ -47,11 +46,7 @@ fn print_within<I, E, K: PrintMember<I>, L: PrintMember<E>>(
     print_behind_semicolon::<E, L>(update, p, place);
 }
 
-fn print_behind_semicolon<E, L: PrintMember<E>>(
-    part: &Option<E>,
-    p: &mut Printing<'_>,
-    place: Place,
-)
+fn print_behind_semicolon<E, L: PrintMember<E>>(part: &Option<E>, p: &mut Printer<'_>, place: Place)
     ensures { Lays p.old p.new (λ _. punctuator semicolon ⊕ spell_apart (optional (option_map L.plain part.now)) (listed place)) }
 {
     p.print_semicolon();

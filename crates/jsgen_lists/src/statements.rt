@@ -3,29 +3,29 @@ ghost use Rattle.std.specs.Prelude.{map};
 ghost use Rattle.jsgen_tree.specs.Tree.{Tree, trees};
 ghost use Rattle.jsgen_model.specs.Items.{◌⊕◌, soft_line, deeper, due_semicolon, indentation};
 ghost use Rattle.jsgen_model.specs.Spell.{spell, spell_body, spell_statements, first_statement, among_statements};
-ghost use Rattle.jsgen_steps.specs.Steps.{Lays, BeginsNothing};
+ghost use Rattle.jsgen_printer.specs.Steps.{Lays, BeginsNothing};
 ghost use Rattle.jsgen_place.specs.Place.{place_of, settings_of};
 
 use jsgen_place::{Place, Settings};
-use jsgen_steps::Printing;
+use jsgen_printer::Printer;
 
 /// How statements are printed.
 pub trait PrintStatement<E> {
     // What a statement stands for.
     ghost plain: { E → Tree };
 
-    fn print_statement(statement: &E, p: &mut Printing<'_>, place: Place)
+    fn print_statement(statement: &E, p: &mut Printer<'_>, place: Place)
         ensures { Lays p.old p.new (λ pen. spell (plain statement.now) (place_of place pen)) };
 
     /// As the first of a body, where it may not become a directive.
-    fn print_first_statement(statement: &E, p: &mut Printing<'_>, place: Place)
+    fn print_first_statement(statement: &E, p: &mut Printer<'_>, place: Place)
         ensures { Lays p.old p.new (λ pen. first_statement (plain statement.now) (spell (plain statement.now) (place_of place pen))) };
 }
 
 /// A program's statements, and the semicolon that is due behind the last.
 pub fn print_whole_body<E, S: PrintStatement<E>>(
     statements: &[E],
-    p: &mut Printing<'_>,
+    p: &mut Printer<'_>,
     settings: Settings,
 )
     ensures { Lays p.old p.new (λ _. spell_body (trees (map S.plain statements.now)) (settings_of settings) ⊕ due_semicolon) }
@@ -37,7 +37,7 @@ pub fn print_whole_body<E, S: PrintStatement<E>>(
 /// The statements of a body, of which the first may not become a directive.
 pub fn print_body<E, S: PrintStatement<E>>(
     statements: &[E],
-    p: &mut Printing<'_>,
+    p: &mut Printer<'_>,
     settings: Settings,
 )
     ensures { Lays p.old p.new (λ _. spell_body (trees (map S.plain statements.now)) (settings_of settings)) }
@@ -55,7 +55,7 @@ pub fn print_body<E, S: PrintStatement<E>>(
 /// Each after the semicolon that the one before may have left.
 pub fn print_statements<E, S: PrintStatement<E>>(
     statements: &[E],
-    p: &mut Printing<'_>,
+    p: &mut Printer<'_>,
     settings: Settings,
 )
     ensures { Lays p.old p.new (λ _. spell_statements (trees (map S.plain statements.now)) (settings_of settings)) }
@@ -69,7 +69,7 @@ pub fn print_statements<E, S: PrintStatement<E>>(
 /// On lines of their own, one level deeper.
 pub fn print_deeper_statements<E, S: PrintStatement<E>>(
     statements: &[E],
-    p: &mut Printing<'_>,
+    p: &mut Printer<'_>,
     settings: Settings,
 )
     ensures { Lays p.old p.new (λ _. soft_line ⊕ deeper (spell_statements (trees (map S.plain statements.now)) (settings_of settings))) }
@@ -81,11 +81,7 @@ pub fn print_deeper_statements<E, S: PrintStatement<E>>(
 }
 
 /// What stands before the `while` of a `do`: a statement on a line of its own, one level deeper, up to the indentation of what follows.
-pub fn print_deeper_body<E, S: PrintStatement<E>>(
-    body: &E,
-    p: &mut Printing<'_>,
-    settings: Settings,
-)
+pub fn print_deeper_body<E, S: PrintStatement<E>>(body: &E, p: &mut Printer<'_>, settings: Settings)
     requires { BeginsNothing p.old }
     ensures { Lays p.old p.new (λ _. soft_line ⊕ (deeper (spell (S.plain body.now) (among_statements (settings_of settings)) ⊕ due_semicolon) ⊕ indentation)) }
 {
@@ -97,7 +93,7 @@ pub fn print_deeper_body<E, S: PrintStatement<E>>(
 }
 
 // With the semicolon that it may have left.
-fn print_ended<E, S: PrintStatement<E>>(body: &E, p: &mut Printing<'_>, settings: Settings)
+fn print_ended<E, S: PrintStatement<E>>(body: &E, p: &mut Printer<'_>, settings: Settings)
     requires { BeginsNothing p.old }
     ensures { Lays p.old p.new (λ _. spell (S.plain body.now) (among_statements (settings_of settings)) ⊕ due_semicolon) }
 {

@@ -3,12 +3,12 @@ ghost use Rattle.jsgen_syntax.specs.declared.precedence.Precedence.TheVariants.{
 ghost use Rattle.jsgen_model.specs.Items.{◌⊕◌};
 ghost use Rattle.jsgen_model.specs.Spell.{spell, behind, in_front, update_items};
 ghost use Rattle.jsgen_model.specs.Operators.{update_item};
-ghost use Rattle.jsgen_steps.specs.Steps.{Lays};
+ghost use Rattle.jsgen_printer.specs.Steps.{Lays};
 ghost use Rattle.jsgen_place.specs.Place.{place_of};
 
 use crate::PrintMember;
 use jsgen_place::Place;
-use jsgen_steps::Printing;
+use jsgen_printer::Printer;
 use jsgen_syntax::{Precedence, UpdateOperator};
 
 /// The operator before its operand, where `prefix` holds, or else behind it.
@@ -16,7 +16,7 @@ pub fn print_update<E, L: PrintMember<E>>(
     prefix: bool,
     operator: UpdateOperator,
     operand: &E,
-    p: &mut Printing<'_>,
+    p: &mut Printer<'_>,
     place: Place,
 )
     ensures { Lays p.old p.new (λ pen. update_items prefix (update_item operator)
@@ -33,7 +33,7 @@ pub fn print_update<E, L: PrintMember<E>>(
 fn print_before<E, L: PrintMember<E>>(
     operator: UpdateOperator,
     operand: &E,
-    p: &mut Printing<'_>,
+    p: &mut Printer<'_>,
     place: Place,
 )
     ensures { Lays p.old p.new (λ pen. update_item operator
@@ -46,7 +46,7 @@ fn print_before<E, L: PrintMember<E>>(
 fn print_behind<E, L: PrintMember<E>>(
     operator: UpdateOperator,
     operand: &E,
-    p: &mut Printing<'_>,
+    p: &mut Printer<'_>,
     place: Place,
 )
     ensures { Lays p.old p.new (λ pen. spell (L.plain operand.now)

@@ -13,7 +13,7 @@ use Rattle.jsgen_place.specs.declared.place.Place.{Place}
 use Rattle.jsgen_place.specs.Place.{place_of}
 use Rattle.jsgen_lists.proofs.Turns.{begun_nowhere}
 use Rattle.jsgen_nodes.specs.Keys.{key_of, method_items}
-use Rattle.jsgen_steps.proofs.Sequence.{still_nowhere}
+use Rattle.jsgen_printer.proofs.Sequence.{still_nowhere}
 
 -- the function behind a key is the same whatever begins there
 pub method_anywhere : (t : Tree) (place : spells.Place) (s : Start) → spell_method t (record place { start = s }) ≡ spell_method t place

@@ -8,9 +8,10 @@ use Rattle.jsgen_model.specs.Layout.{Pen, Start, nowhere, statement, arrow_body,
 use Rattle.jsgen_model.specs.Spell.{spell, chain_place}
 use Rattle.jsgen_place.specs.declared.place.Place.{Place}
 use Rattle.jsgen_place.specs.Place.{settings_of, context_of, place_of, chain_within}
-use Rattle.jsgen_steps.specs.Steps.{Goes, Lays, pen_at}
-use Rattle.jsgen_steps.specs.declared.printing.Printing.{Printing}
-use Rattle.jsgen_steps.proofs.Sequence.{wrapped_laid, as_laid}
+use Rattle.jsgen_printer.specs.Printer.{pen_of}
+use Rattle.jsgen_printer.specs.Steps.{Goes, Lays}
+use Rattle.jsgen_printer.specs.declared.printer.Printer.{Printer}
+use Rattle.jsgen_printer.proofs.Sequence.{wrapped_laid, as_laid}
 
 -- what a text leaves of what begins there
 after_text : (s : Start) → unless_printed true s ≡ nowhere
@@ -33,6 +34,6 @@ links_printed false place pen = ap (λ s. record { settings = settings_of place.
 chain_placed : (pen : Pen) (test : Bool) (place inner : Place) → inner ≡ chain_within test place → place_of inner (written_if test (opening Round) pen) ≡ chain_place test (place_of place pen)
 chain_placed pen test place inner hi = ap (λ q. place_of q (written_if test (opening Round) pen)) hi ∙ links_printed test place pen
 
-pub chain_at : {a b c z : Printing} (test wraps : Bool) (place inner : Place) (element : Tree) → test ≡ wraps → inner ≡ chain_within test place → Goes a b (written_if test (opening Round)) → Lays b c (λ pen. spell element (place_of inner pen)) → Goes c z (written_if test (closing Round)) → Lays a z (λ pen. wrapped wraps (spell element (chain_place wraps (place_of place pen))))
+pub chain_at : {a b c z : Printer} (test wraps : Bool) (place inner : Place) (element : Tree) → test ≡ wraps → inner ≡ chain_within test place → Goes a b (written_if test (opening Round)) → Lays b c (λ pen. spell element (place_of inner pen)) → Goes c z (written_if test (closing Round)) → Lays a z (λ pen. wrapped wraps (spell element (chain_place wraps (place_of place pen))))
 chain_at {a} test wraps place inner element ht hi h inside k =
-    as_laid (λ pen. wrapped wraps (spell element (chain_place wraps (place_of place pen)))) (λ going. ap (λ q. wrapped test (spell element q)) (chain_placed (pen_at a) test place inner hi) ∙ ap (λ t. wrapped t (spell element (chain_place t (place_of place (pen_at a))))) ht) (wrapped_laid test h inside k)
+    as_laid (λ pen. wrapped wraps (spell element (chain_place wraps (place_of place pen)))) (λ going. ap (λ q. wrapped test (spell element q)) (chain_placed (pen_of a) test place inner hi) ∙ ap (λ t. wrapped t (spell element (chain_place t (place_of place (pen_of a))))) ht) (wrapped_laid test h inside k)

@@ -15,9 +15,10 @@ use Rattle.jsgen_model.specs.Operators.{operator_item, logical_item}
 use Rattle.jsgen_model.specs.Quotes.{is_export_mark}
 use Rattle.jsgen_place.specs.declared.place.Place.{Place}
 use Rattle.jsgen_place.specs.Place.{place_of, place_within}
-use Rattle.jsgen_steps.specs.Steps.{Goes, Lays, pen_at}
-use Rattle.jsgen_steps.specs.declared.printing.Printing.{Printing}
-use Rattle.jsgen_steps.proofs.Sequence.{wrapped_laid, as_laid}
+use Rattle.jsgen_printer.specs.Printer.{pen_of}
+use Rattle.jsgen_printer.specs.Steps.{Goes, Lays}
+use Rattle.jsgen_printer.specs.declared.printer.Printer.{Printer}
+use Rattle.jsgen_printer.proofs.Sequence.{wrapped_laid, as_laid}
 
 -- nothing begins behind an operator
 pub operator_nowhere : (o : BinaryOperator) (pen : Pen) → (layout (operator_item o) pen).start ≡ nowhere
@@ -37,9 +38,9 @@ place_wrapped : (pen : Pen) (test : Bool) (place inner : Place) → inner ≡ pl
 place_wrapped pen test place inner hi = ap (λ q. place_of q (written_if test (opening Round) pen)) hi ∙ within_printed test place pen
 
 -- items in parentheses where the test holds
-pub wrapped_at : {a b c z : Printing} (test wraps : Bool) (place inner : Place) (items : spells.Place → Items) → test ≡ wraps → inner ≡ place_within test place → Goes a b (written_if test (opening Round)) → Lays b c (λ pen. items (place_of inner pen)) → Goes c z (written_if test (closing Round)) → Lays a z (λ pen. wrapped wraps (items (within wraps (place_of place pen))))
+pub wrapped_at : {a b c z : Printer} (test wraps : Bool) (place inner : Place) (items : spells.Place → Items) → test ≡ wraps → inner ≡ place_within test place → Goes a b (written_if test (opening Round)) → Lays b c (λ pen. items (place_of inner pen)) → Goes c z (written_if test (closing Round)) → Lays a z (λ pen. wrapped wraps (items (within wraps (place_of place pen))))
 wrapped_at {a} test wraps place inner items ht hi h inside k =
-    as_laid (λ pen. wrapped wraps (items (within wraps (place_of place pen)))) (λ going. ap (λ q. wrapped test (items q)) (place_wrapped (pen_at a) test place inner hi) ∙ ap (λ t. wrapped t (items (within t (place_of place (pen_at a))))) ht) (wrapped_laid test h inside k)
+    as_laid (λ pen. wrapped wraps (items (within wraps (place_of place pen)))) (λ going. ap (λ q. wrapped test (items q)) (place_wrapped (pen_of a) test place inner hi) ∙ ap (λ t. wrapped t (items (within t (place_of place (pen_of a))))) ht) (wrapped_laid test h inside k)
 
 -- both operands and the operator between them
 abbrev pub binary_items : BinaryOperator → Tree → Tree → spells.Place → Items

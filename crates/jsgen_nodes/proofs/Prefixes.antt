@@ -9,7 +9,7 @@ use Rattle.jsgen_model.specs.Layout.{Pen, nowhere, layout, not}
 use Rattle.jsgen_model.specs.Spell as spells
 use Rattle.jsgen_model.specs.Spell.{spell, behind}
 use Rattle.jsgen_model.specs.Operators.{unary_sign, behind_unary}
-use Rattle.jsgen_steps.proofs.Sequence.{still_nowhere}
+use Rattle.jsgen_printer.proofs.Sequence.{still_nowhere}
 
 -- nothing begins behind the operator
 pub unary_nowhere : (o : UnaryOperator) (pen : Pen) → (layout (unary_sign o ⊕ behind_unary o) pen).start ≡ nowhere

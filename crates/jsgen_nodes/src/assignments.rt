@@ -5,7 +5,7 @@ ghost use Rattle.jsgen_model.specs.Items.{◌⊕◌, soft_space};
 ghost use Rattle.jsgen_model.specs.Spell.{spell, assigned, behind, quoted_plainly};
 ghost use Rattle.jsgen_model.specs.Operators.{assignment_item};
 ghost use Rattle.jsgen_model.specs.Quotes.{is_export_target};
-ghost use Rattle.jsgen_steps.specs.Steps.{Lays};
+ghost use Rattle.jsgen_printer.specs.Steps.{Lays};
 ghost use Rattle.jsgen_place.specs.Place.{place_of};
 ghost use Rattle.jsgen_nodes.specs.Place.{at_place};
 
@@ -15,14 +15,14 @@ use crate::sequences::Expressions;
 use crate::sets::print_assignment_target;
 use jsgen_lists::print_behind_space;
 use jsgen_place::Place;
-use jsgen_steps::Printing;
+use jsgen_printer::Printer;
 use jsgen_syntax::{AssignmentOperator, Precedence};
 use jsgen_tree::{AssignmentExpression, ExpressionNode};
 
 #[tactic(auto, unfolding(crate::specs::Place::at_place))]
 pub fn print_assignment_expression<N: PrintNode>(
     node: &AssignmentExpression<N>,
-    p: &mut Printing<'_>,
+    p: &mut Printer<'_>,
     place: Place,
 )
     ensures { Lays p.old p.new (at_place (assignment_expression_row N.plain node.now) place) }
@@ -35,11 +35,7 @@ pub fn print_assignment_expression<N: PrintNode>(
 
 // The target, the sign and what the target is given, within the parentheses.
 #[tactic(auto, unfolding(crate::specs::Place::at_place))]
-fn print_assignment<N: PrintNode>(
-    node: &AssignmentExpression<N>,
-    p: &mut Printing<'_>,
-    place: Place,
-)
+fn print_assignment<N: PrintNode>(node: &AssignmentExpression<N>, p: &mut Printer<'_>, place: Place)
     ensures { Lays p.old p.new (λ pen. spell (in_assignment_target N.plain node.now.left)
         (quoted_plainly (is_export_target place.settings.minified (in_assignment_target N.plain node.now.left)) (assigned (place_of place pen)))
         ⊕ (soft_space ⊕ (assignment_item node.now.operator ⊕ (soft_space
@@ -56,7 +52,7 @@ fn print_assignment<N: PrintNode>(
 fn print_value<N: PrintNode>(
     operator: AssignmentOperator,
     value: &ExpressionNode<N>,
-    p: &mut Printing<'_>,
+    p: &mut Printer<'_>,
     place: Place,
 )
     ensures { Lays p.old p.new (λ pen. soft_space ⊕ (assignment_item operator ⊕ (soft_space

@@ -6,7 +6,7 @@ ghost use Rattle.jsgen_tree.specs.Rows.{block_statement_row, if_statement_row, e
 ghost use Rattle.jsgen_model.specs.Punctuator.{semicolon, Round};
 ghost use Rattle.jsgen_model.specs.Items.{◌⊕◌, word, punctuator, brackets, soft_space, soft_line};
 ghost use Rattle.jsgen_model.specs.Spell.{spell, spell_alternate, filled_braces, braces_end, body_end, is_given, in_brackets, among_statements};
-ghost use Rattle.jsgen_steps.specs.Steps.{Lays, BeginsNothing};
+ghost use Rattle.jsgen_printer.specs.Steps.{Lays, BeginsNothing};
 ghost use Rattle.jsgen_place.specs.Place.{settings_of};
 ghost use Rattle.jsgen_nodes.specs.Place.{at_place};
 ghost use Rattle.jsgen_nodes.specs.Blocks.{consequent_of, alternate_of};
@@ -18,7 +18,7 @@ use crate::shapes::{BodyShape, shape};
 use crate::statements::Statements;
 use jsgen_lists::{PrintMember, close_braces, open_braces, print_braces, print_head};
 use jsgen_place::{Place, Settings};
-use jsgen_steps::Printing;
+use jsgen_printer::Printer;
 use jsgen_syntax::Precedence;
 use jsgen_tree::{BlockStatement, EmptyStatement, IfStatement, StatementNode};
 
@@ -26,7 +26,7 @@ use jsgen_tree::{BlockStatement, EmptyStatement, IfStatement, StatementNode};
 #[tactic(auto, unfolding(crate::specs::Place::at_place))]
 pub fn print_block_statement<N: PrintNode>(
     node: &BlockStatement<N>,
-    p: &mut Printing<'_>,
+    p: &mut Printer<'_>,
     place: Place,
 )
     ensures { Lays p.old p.new (at_place (block_statement_row N.plain node.now) place) }
@@ -41,7 +41,7 @@ pub fn print_block_statement<N: PrintNode>(
 }
 
 #[tactic(auto, unfolding(crate::specs::Place::at_place))]
-pub fn print_if_statement<N: PrintNode>(node: &IfStatement<N>, p: &mut Printing<'_>, place: Place)
+pub fn print_if_statement<N: PrintNode>(node: &IfStatement<N>, p: &mut Printer<'_>, place: Place)
     ensures { Lays p.old p.new (at_place (if_statement_row N.plain node.now) place) }
 {
     if place.in_list {
@@ -54,7 +54,7 @@ pub fn print_if_statement<N: PrintNode>(node: &IfStatement<N>, p: &mut Printing<
 
 // From the word on.
 #[tactic(auto, unfolding(crate::specs::Place::at_place))]
-fn print_if<N: PrintNode>(node: &IfStatement<N>, p: &mut Printing<'_>, settings: Settings)
+fn print_if<N: PrintNode>(node: &IfStatement<N>, p: &mut Printer<'_>, settings: Settings)
     ensures { Lays p.old p.new (λ _. word (codes "if") ⊕ (soft_space ⊕ (brackets Round (spell (in_expression N.plain node.now.test) (in_brackets Lowest (among_statements (settings_of settings))))
         ⊕ (consequent_of (in_statement N.plain node.now.consequent) (settings_of settings) (is_given (optional (option_map (in_statement N.plain) node.now.alternate)))
         ⊕ spell_alternate (optional (option_map (in_statement N.plain) node.now.alternate)) (settings_of settings))))) }
@@ -75,7 +75,7 @@ fn has_alternate<N: PrintNode>(node: &IfStatement<N>) -> bool
 #[tactic(auto, unfolding(crate::specs::Place::at_place))]
 fn print_consequent<N: PrintNode>(
     consequent: &N,
-    p: &mut Printing<'_>,
+    p: &mut Printer<'_>,
     settings: Settings,
     else_follows: bool,
 )
@@ -105,7 +105,7 @@ fn print_consequent<N: PrintNode>(
 #[tactic(auto, unfolding(crate::specs::Place::at_place))]
 fn print_braced<N: PrintNode>(
     consequent: &N,
-    p: &mut Printing<'_>,
+    p: &mut Printer<'_>,
     settings: Settings,
     else_follows: bool,
 )
@@ -119,7 +119,7 @@ fn print_braced<N: PrintNode>(
 }
 
 #[tactic(auto, unfolding(crate::specs::Place::at_place))]
-fn print_empty_body(p: &mut Printing<'_>, else_follows: bool)
+fn print_empty_body(p: &mut Printer<'_>, else_follows: bool)
     ensures { Lays p.old p.new (λ _. punctuator semicolon ⊕ (soft_line ⊕ body_end else_follows)) }
 {
     p.print_semicolon();
@@ -127,7 +127,7 @@ fn print_empty_body(p: &mut Printing<'_>, else_follows: bool)
     print_body_end(p, else_follows);
 }
 
-fn print_braces_end(p: &mut Printing<'_>, else_follows: bool)
+fn print_braces_end(p: &mut Printer<'_>, else_follows: bool)
     ensures { Lays p.old p.new (λ _. braces_end else_follows) }
 {
     if else_follows {
@@ -137,7 +137,7 @@ fn print_braces_end(p: &mut Printing<'_>, else_follows: bool)
     }
 }
 
-fn print_body_end(p: &mut Printing<'_>, else_follows: bool)
+fn print_body_end(p: &mut Printer<'_>, else_follows: bool)
     ensures { Lays p.old p.new (λ _. body_end else_follows) }
 {
     if else_follows {
@@ -148,7 +148,7 @@ fn print_body_end(p: &mut Printing<'_>, else_follows: bool)
 #[tactic(auto, unfolding(crate::specs::Place::at_place))]
 fn print_alternate<N: PrintNode>(
     alternate: &Option<StatementNode<N>>,
-    p: &mut Printing<'_>,
+    p: &mut Printer<'_>,
     settings: Settings,
 )
     ensures { Lays p.old p.new (λ _. spell_alternate (optional (option_map (in_statement N.plain) alternate.now)) (settings_of settings)) }
@@ -163,7 +163,7 @@ fn print_alternate<N: PrintNode>(
 }
 
 #[tactic(auto, unfolding(crate::specs::Place::at_place))]
-fn print_else<N: PrintNode>(alternate: &N, p: &mut Printing<'_>, settings: Settings)
+fn print_else<N: PrintNode>(alternate: &N, p: &mut Printer<'_>, settings: Settings)
     ensures { Lays p.old p.new (λ _. word (codes "else") ⊕ alternate_of (N.plain alternate.now) (settings_of settings)) }
 {
     p.print_word("else");
@@ -171,7 +171,7 @@ fn print_else<N: PrintNode>(alternate: &N, p: &mut Printing<'_>, settings: Setti
 }
 
 #[tactic(auto, unfolding(crate::specs::Place::at_place))]
-fn print_behind_else<N: PrintNode>(alternate: &N, p: &mut Printing<'_>, settings: Settings)
+fn print_behind_else<N: PrintNode>(alternate: &N, p: &mut Printer<'_>, settings: Settings)
     requires { BeginsNothing p.old }
     ensures { Lays p.old p.new (λ _. alternate_of (N.plain alternate.now) (settings_of settings)) }
 {
@@ -185,7 +185,7 @@ fn print_behind_else<N: PrintNode>(alternate: &N, p: &mut Printing<'_>, settings
 }
 
 #[tactic(auto, unfolding(crate::specs::Place::at_place))]
-pub fn print_empty_statement(node: &EmptyStatement, p: &mut Printing<'_>, place: Place)
+pub fn print_empty_statement(node: &EmptyStatement, p: &mut Printer<'_>, place: Place)
     ensures { Lays p.old p.new (at_place (empty_statement_row node.now) place) }
 {
     let _ = node;
@@ -202,7 +202,7 @@ pub struct Blocks;
 impl<N: PrintNode> PrintMember<Box<BlockStatement<N>>> for Blocks {
     ghost plain = { λ b. block_statement_row N.plain b.value };
 
-    fn print_member(block: &Box<BlockStatement<N>>, p: &mut Printing<'_>, place: Place) {
+    fn print_member(block: &Box<BlockStatement<N>>, p: &mut Printer<'_>, place: Place) {
         print_block_statement(block, p, place);
     }
 }

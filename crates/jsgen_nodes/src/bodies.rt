@@ -1,6 +1,6 @@
 // What loops, labels, cases and `else` are followed by.
 ghost use Rattle.jsgen_tree.specs.Rows.{in_statement};
-ghost use Rattle.jsgen_steps.specs.Steps.{Lays, BeginsNothing};
+ghost use Rattle.jsgen_printer.specs.Steps.{Lays, BeginsNothing};
 ghost use Rattle.jsgen_place.specs.Place.{settings_of};
 ghost use Rattle.jsgen_nodes.specs.Blocks.{body_of, do_body_of};
 
@@ -9,12 +9,12 @@ use crate::shapes::{BodyShape, shape};
 use crate::statements::Statements;
 use jsgen_lists::print_deeper_body;
 use jsgen_place::{Place, Settings};
-use jsgen_steps::Printing;
+use jsgen_printer::Printer;
 use jsgen_tree::StatementNode;
 
 /// What the head of a loop, a label or a case is followed by: a block goes on with the line.
 #[tactic(auto, unfolding(crate::specs::Place::at_place))]
-pub fn print_body<N: PrintNode>(body: &N, p: &mut Printing<'_>, settings: Settings)
+pub fn print_body<N: PrintNode>(body: &N, p: &mut Printer<'_>, settings: Settings)
     requires { BeginsNothing p.old }
     ensures { Lays p.old p.new (λ _. body_of (N.plain body.now) (settings_of settings)) }
 {
@@ -37,11 +37,7 @@ pub fn print_body<N: PrintNode>(body: &N, p: &mut Printing<'_>, settings: Settin
 
 /// What stands between `do` and `while`: a statement that is no block is a line of its own, with its semicolon.
 #[tactic(auto, unfolding(crate::specs::Place::at_place))]
-pub fn print_do_body<N: PrintNode>(
-    body: &StatementNode<N>,
-    p: &mut Printing<'_>,
-    settings: Settings,
-)
+pub fn print_do_body<N: PrintNode>(body: &StatementNode<N>, p: &mut Printer<'_>, settings: Settings)
     requires { BeginsNothing p.old }
     ensures { Lays p.old p.new (λ _. do_body_of (in_statement N.plain body.now) (settings_of settings)) }
 {

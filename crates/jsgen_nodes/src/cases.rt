@@ -4,7 +4,7 @@ ghost use Rattle.jsgen_tree.specs.Tree.{trees};
 ghost use Rattle.jsgen_tree.specs.Rows.{switch_statement_row, switch_case_row, in_statement};
 ghost use Rattle.jsgen_model.specs.Items.{◌⊕◌, soft_space, soft_line};
 ghost use Rattle.jsgen_model.specs.Spell.{spell_statements, braces};
-ghost use Rattle.jsgen_steps.specs.Steps.{Lays};
+ghost use Rattle.jsgen_printer.specs.Steps.{Lays};
 ghost use Rattle.jsgen_place.specs.Place.{settings_of};
 ghost use Rattle.jsgen_nodes.specs.Place.{at_place};
 
@@ -14,14 +14,14 @@ use crate::sequences::Expressions;
 use crate::statements::Statements;
 use jsgen_lists::{PrintOnly, PrintStatement, print_braces, print_case, print_head};
 use jsgen_place::{Place, Settings};
-use jsgen_steps::Printing;
+use jsgen_printer::Printer;
 use jsgen_syntax::Precedence;
 use jsgen_tree::{StatementNode, SwitchCase, SwitchStatement};
 
 #[tactic(auto, unfolding(crate::specs::Place::at_place))]
 pub fn print_switch_statement<N: PrintNode>(
     node: &SwitchStatement<N>,
-    p: &mut Printing<'_>,
+    p: &mut Printer<'_>,
     place: Place,
 )
     ensures { Lays p.old p.new (at_place (switch_statement_row N.plain node.now) place) }
@@ -34,7 +34,7 @@ pub fn print_switch_statement<N: PrintNode>(
 
 // In braces, up to the end of the line.
 #[tactic(auto, unfolding(crate::specs::Place::at_place))]
-fn print_cases<N: PrintNode>(cases: &[SwitchCase<N>], p: &mut Printing<'_>, settings: Settings)
+fn print_cases<N: PrintNode>(cases: &[SwitchCase<N>], p: &mut Printer<'_>, settings: Settings)
     ensures { Lays p.old p.new (λ _. soft_space ⊕ (braces (trees (map (switch_case_row N.plain) cases.now))
         (spell_statements (trees (map (switch_case_row N.plain) cases.now)) (settings_of settings)) ⊕ soft_line)) }
 {
@@ -50,17 +50,17 @@ struct Cases;
 impl<N: PrintNode> PrintStatement<SwitchCase<N>> for Cases {
     ghost plain = { switch_case_row N.plain };
 
-    fn print_statement(case: &SwitchCase<N>, p: &mut Printing<'_>, place: Place) {
+    fn print_statement(case: &SwitchCase<N>, p: &mut Printer<'_>, place: Place) {
         print_switch_case(case, p, place);
     }
 
-    fn print_first_statement(case: &SwitchCase<N>, p: &mut Printing<'_>, place: Place) {
+    fn print_first_statement(case: &SwitchCase<N>, p: &mut Printer<'_>, place: Place) {
         print_switch_case(case, p, place);
     }
 }
 
 #[tactic(auto, unfolding(crate::specs::Place::at_place))]
-pub fn print_switch_case<N: PrintNode>(node: &SwitchCase<N>, p: &mut Printing<'_>, place: Place)
+pub fn print_switch_case<N: PrintNode>(node: &SwitchCase<N>, p: &mut Printer<'_>, place: Place)
     ensures { Lays p.old p.new (at_place (switch_case_row N.plain node.now) place) }
 {
     print_case::<_, _, Expressions, Only, Statements>(
@@ -78,7 +78,7 @@ struct Only;
 impl<N: PrintNode> PrintOnly<StatementNode<N>> for Only {
     ghost plain = { in_statement N.plain };
 
-    fn print_only(statement: &StatementNode<N>, p: &mut Printing<'_>, settings: Settings) {
+    fn print_only(statement: &StatementNode<N>, p: &mut Printer<'_>, settings: Settings) {
         print_body(statement.get(), p, settings);
     }
 }

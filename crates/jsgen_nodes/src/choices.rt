@@ -4,7 +4,7 @@ ghost use Rattle.jsgen_tree.specs.Rows.{conditional_expression_row, in_expressio
 ghost use Rattle.jsgen_model.specs.Punctuator.{question, colon};
 ghost use Rattle.jsgen_model.specs.Items.{◌⊕◌, soft_space, punctuator};
 ghost use Rattle.jsgen_model.specs.Spell.{spell, behind, in_front, in_brackets, with_calls, choice};
-ghost use Rattle.jsgen_steps.specs.Steps.{Lays};
+ghost use Rattle.jsgen_printer.specs.Steps.{Lays};
 ghost use Rattle.jsgen_place.specs.Place.{place_of};
 ghost use Rattle.jsgen_nodes.specs.Place.{at_place};
 
@@ -12,14 +12,14 @@ use crate::PrintNode;
 use crate::sequences::Expressions;
 use jsgen_lists::print_behind_space;
 use jsgen_place::Place;
-use jsgen_steps::Printing;
+use jsgen_printer::Printer;
 use jsgen_syntax::Precedence;
 use jsgen_tree::{ConditionalExpression, ExpressionNode};
 
 #[tactic(auto, unfolding(crate::specs::Place::at_place))]
 pub fn print_conditional_expression<N: PrintNode>(
     node: &ConditionalExpression<N>,
-    p: &mut Printing<'_>,
+    p: &mut Printer<'_>,
     place: Place,
 )
     ensures { Lays p.old p.new (at_place (conditional_expression_row N.plain node.now) place) }
@@ -32,7 +32,7 @@ pub fn print_conditional_expression<N: PrintNode>(
 
 // The test and both values, within the parentheses.
 #[tactic(auto, unfolding(crate::specs::Place::at_place))]
-fn print_choice<N: PrintNode>(node: &ConditionalExpression<N>, p: &mut Printing<'_>, place: Place)
+fn print_choice<N: PrintNode>(node: &ConditionalExpression<N>, p: &mut Printer<'_>, place: Place)
     ensures { Lays p.old p.new (λ pen. choice
         (spell (in_expression N.plain node.now.test) (with_calls (in_front Conditional (place_of place pen))))
         (spell (in_expression N.plain node.now.consequent) (in_brackets Yield (place_of place pen)))
@@ -47,7 +47,7 @@ fn print_choice<N: PrintNode>(node: &ConditionalExpression<N>, p: &mut Printing<
 
 // What is chosen, behind `?`.
 #[tactic(auto, unfolding(crate::specs::Place::at_place))]
-fn print_consequent<N: PrintNode>(node: &ExpressionNode<N>, p: &mut Printing<'_>, place: Place)
+fn print_consequent<N: PrintNode>(node: &ExpressionNode<N>, p: &mut Printer<'_>, place: Place)
     ensures { Lays p.old p.new (λ pen. soft_space ⊕ (punctuator question ⊕ (soft_space
         ⊕ spell (in_expression N.plain node.now) (in_brackets Yield (place_of place pen))))) }
 {
@@ -59,7 +59,7 @@ fn print_consequent<N: PrintNode>(node: &ExpressionNode<N>, p: &mut Printing<'_>
 
 // What is chosen otherwise, behind `:`.
 #[tactic(auto, unfolding(crate::specs::Place::at_place))]
-fn print_alternate<N: PrintNode>(node: &ExpressionNode<N>, p: &mut Printing<'_>, place: Place)
+fn print_alternate<N: PrintNode>(node: &ExpressionNode<N>, p: &mut Printer<'_>, place: Place)
     ensures { Lays p.old p.new (λ pen. soft_space ⊕ (punctuator colon ⊕ (soft_space
         ⊕ spell (in_expression N.plain node.now) (with_calls (behind Yield (place_of place pen)))))) }
 {

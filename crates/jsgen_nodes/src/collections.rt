@@ -9,7 +9,8 @@ ghost use Rattle.jsgen_tree.specs.Rows.{spread_element_row, array_expression_row
 ghost use Rattle.jsgen_model.specs.Punctuator.{Square, Brace, colon};
 ghost use Rattle.jsgen_model.specs.Items.{◌⊕◌, brackets, punctuator, soft_space};
 ghost use Rattle.jsgen_model.specs.Spell.{spell, spell_method, in_brackets, are_more, object_inside, spell_elements, ends_in_hole, comma_if, key_text, string_in};
-ghost use Rattle.jsgen_steps.specs.Steps.{Lays, pen_at};
+ghost use Rattle.jsgen_printer.specs.Printer.{pen_of};
+ghost use Rattle.jsgen_printer.specs.Steps.{Lays};
 ghost use Rattle.jsgen_place.specs.Place.{place_of};
 ghost use Rattle.jsgen_nodes.specs.Keys.{is_string, is_number, is_said, is_value_alone, key_of, valued_items, method_items};
 ghost use Rattle.jsgen_nodes.specs.Place.{at_place};
@@ -21,8 +22,7 @@ use jsgen_lists::{
     PrintElement, print_accessor_word, print_array, print_behind_space, print_object,
 };
 use jsgen_place::{Place, is_alone, needs_brackets};
-use jsgen_printer::Bracket;
-use jsgen_steps::Printing;
+use jsgen_printer::{Bracket, Printer};
 use jsgen_syntax::{JsStr, Precedence};
 use jsgen_tree::{
     ArrayExpression, ArrayExpressionElement, ExpressionNode, NodeType, ObjectExpression,
@@ -32,7 +32,7 @@ use jsgen_tree::{
 #[tactic(auto, unfolding(crate::specs::Place::at_place))]
 pub fn print_spread_element<N: PrintNode>(
     node: &SpreadElement<N>,
-    p: &mut Printing<'_>,
+    p: &mut Printer<'_>,
     place: Place,
 )
     ensures { Lays p.old p.new (at_place (spread_element_row N.plain node.now) place) }
@@ -46,7 +46,7 @@ pub fn print_spread_element<N: PrintNode>(
 #[tactic(auto, unfolding(crate::specs::Place::at_place))]
 pub fn print_array_expression<N: PrintNode>(
     node: &ArrayExpression<N>,
-    p: &mut Printing<'_>,
+    p: &mut Printer<'_>,
     place: Place,
 )
     ensures { Lays p.old p.new (at_place (array_expression_row N.plain node.now) place) }
@@ -68,7 +68,7 @@ impl<N: PrintNode> PrintElement<Option<ArrayExpressionElement<N>>> for Elements 
 
     fn print_element(
         element: &Option<ArrayExpressionElement<N>>,
-        p: &mut Printing<'_>,
+        p: &mut Printer<'_>,
         place: Place,
     ) {
         match element {
@@ -81,7 +81,7 @@ impl<N: PrintNode> PrintElement<Option<ArrayExpressionElement<N>>> for Elements 
 #[tactic(auto, unfolding(crate::specs::Place::at_place))]
 fn print_array_element<N: PrintNode>(
     element: &ArrayExpressionElement<N>,
-    p: &mut Printing<'_>,
+    p: &mut Printer<'_>,
     place: Place,
 )
     ensures { Lays p.old p.new (λ pen. spell (in_array_expression_element N.plain element.now) (place_of place pen)) }
@@ -95,7 +95,7 @@ fn print_array_element<N: PrintNode>(
 #[tactic(auto, unfolding(crate::specs::Place::at_place))]
 pub fn print_object_expression<N: PrintNode>(
     node: &ObjectExpression<N>,
-    p: &mut Printing<'_>,
+    p: &mut Printer<'_>,
     place: Place,
 )
     ensures { Lays p.old p.new (at_place (object_expression_row N.plain node.now) place) }
@@ -110,7 +110,7 @@ pub fn print_object_expression<N: PrintNode>(
 #[tactic(auto, unfolding(crate::specs::Place::at_place))]
 fn print_properties<N: PrintNode>(
     properties: &[ObjectPropertyKind<N>],
-    p: &mut Printing<'_>,
+    p: &mut Printer<'_>,
     place: Place,
 )
     ensures { Lays p.old p.new (λ pen. brackets Brace (object_inside (trees (map (in_object_property_kind N.plain) properties.now))
@@ -133,7 +133,7 @@ impl<N: PrintNode> PrintElement<ObjectPropertyKind<N>> for Properties {
         false
     }
 
-    fn print_element(element: &ObjectPropertyKind<N>, p: &mut Printing<'_>, place: Place) {
+    fn print_element(element: &ObjectPropertyKind<N>, p: &mut Printer<'_>, place: Place) {
         match element {
             ObjectPropertyKind::ObjectProperty(node) => print_object_property(node, p, place),
             ObjectPropertyKind::SpreadElement(node) => print_spread_element(node, p, place),
@@ -144,7 +144,7 @@ impl<N: PrintNode> PrintElement<ObjectPropertyKind<N>> for Properties {
 #[tactic(auto, unfolding(crate::specs::Place::at_place))]
 pub fn print_object_property<N: PrintNode>(
     node: &ObjectProperty<N>,
-    p: &mut Printing<'_>,
+    p: &mut Printer<'_>,
     place: Place,
 )
     ensures { Lays p.old p.new (at_place (object_property_row N.plain node.now) place) }
@@ -158,7 +158,7 @@ pub fn print_object_property<N: PrintNode>(
 
 // A method or an accessor, whose function follows its key.
 #[tactic(auto, unfolding(crate::specs::Place::at_place))]
-fn print_method_property<N: PrintNode>(node: &ObjectProperty<N>, p: &mut Printing<'_>, place: Place)
+fn print_method_property<N: PrintNode>(node: &ObjectProperty<N>, p: &mut Printer<'_>, place: Place)
     ensures { Lays p.old p.new (λ pen. method_items node.now.kind node.now.computed (in_property_key N.plain node.now.key) (in_expression N.plain node.now.value) (place_of place pen)) }
 {
     print_accessor_word(node.kind, p);
@@ -166,11 +166,7 @@ fn print_method_property<N: PrintNode>(node: &ObjectProperty<N>, p: &mut Printin
 }
 
 #[tactic(auto, unfolding(crate::specs::Place::at_place))]
-fn print_key_and_function<N: PrintNode>(
-    node: &ObjectProperty<N>,
-    p: &mut Printing<'_>,
-    place: Place,
-)
+fn print_key_and_function<N: PrintNode>(node: &ObjectProperty<N>, p: &mut Printer<'_>, place: Place)
     ensures { Lays p.old p.new (λ pen. key_of node.now.computed (in_property_key N.plain node.now.key) (place_of place pen) ⊕ spell_method (in_expression N.plain node.now.value) (place_of place pen)) }
 {
     print_key(&node.key, node.computed, p, place);
@@ -179,7 +175,7 @@ fn print_key_and_function<N: PrintNode>(
 
 // A property with a value: the value alone, or behind its key.
 #[tactic(auto, unfolding(crate::specs::Place::at_place))]
-fn print_valued_property<N: PrintNode>(node: &ObjectProperty<N>, p: &mut Printing<'_>, place: Place)
+fn print_valued_property<N: PrintNode>(node: &ObjectProperty<N>, p: &mut Printer<'_>, place: Place)
     ensures { Lays p.old p.new (λ pen. valued_items node.now.shorthand node.now.computed (in_property_key N.plain node.now.key) (in_expression N.plain node.now.value) (place_of place pen)) }
 {
     if is_value_alone(node, p) {
@@ -191,7 +187,7 @@ fn print_valued_property<N: PrintNode>(node: &ObjectProperty<N>, p: &mut Printin
 
 // With its key.
 #[tactic(auto, unfolding(crate::specs::Place::at_place))]
-fn print_whole_property<N: PrintNode>(node: &ObjectProperty<N>, p: &mut Printing<'_>, place: Place)
+fn print_whole_property<N: PrintNode>(node: &ObjectProperty<N>, p: &mut Printer<'_>, place: Place)
     ensures { Lays p.old p.new (λ pen. key_of node.now.computed (in_property_key N.plain node.now.key) (place_of place pen)
         ⊕ (punctuator colon ⊕ (soft_space ⊕ spell (in_expression N.plain node.now.value) (in_brackets Comma (place_of place pen))))) }
 {
@@ -200,8 +196,8 @@ fn print_whole_property<N: PrintNode>(node: &ObjectProperty<N>, p: &mut Printing
 }
 
 // Whether the property is its value alone.
-fn is_value_alone<N: PrintNode>(node: &ObjectProperty<N>, p: &Printing<'_>) -> bool
-    ensures { result ≡ is_value_alone (pen_at p.now).style.tables node.now.shorthand (written_name_in (in_property_key N.plain node.now.key)) (looked_up_in (without_parentheses (in_expression N.plain node.now.value))) }
+fn is_value_alone<N: PrintNode>(node: &ObjectProperty<N>, p: &Printer<'_>) -> bool
+    ensures { result ≡ is_value_alone (pen_of p.now).style.tables node.now.shorthand (written_name_in (in_property_key N.plain node.now.key)) (looked_up_in (without_parentheses (in_expression N.plain node.now.value))) }
 {
     match key_name(&node.key) {
         Some(name) => is_alone(node.shorthand, name, is_said(node.value.get(), name, p)),
@@ -210,8 +206,8 @@ fn is_value_alone<N: PrintNode>(node: &ObjectProperty<N>, p: &Printing<'_>) -> b
 }
 
 // Whether the value is a reference, and printed as this name is written.
-fn is_said<N: PrintNode>(value: &N, name: &str, p: &Printing<'_>) -> bool
-    ensures { result ≡ is_said (pen_at p.now).style.tables (looked_up_in (without_parentheses (N.plain value.now))) (chars name.now) }
+fn is_said<N: PrintNode>(value: &N, name: &str, p: &Printer<'_>) -> bool
+    ensures { result ≡ is_said (pen_of p.now).style.tables (looked_up_in (without_parentheses (N.plain value.now))) (chars name.now) }
 {
     match value.looked_up() {
         Some(node) => p.prints_as(node.name.as_str(), node.reference, name),
@@ -230,7 +226,7 @@ fn key_name<N: PrintNode>(key: &PropertyKey<N>) -> Option<&str>
 
 // In brackets where it needs them.
 #[tactic(auto, unfolding(crate::specs::Place::at_place))]
-fn print_key<N: PrintNode>(key: &PropertyKey<N>, computed: bool, p: &mut Printing<'_>, place: Place)
+fn print_key<N: PrintNode>(key: &PropertyKey<N>, computed: bool, p: &mut Printer<'_>, place: Place)
     ensures { Lays p.old p.new (λ pen. key_of computed (in_property_key N.plain key.now) (place_of place pen)) }
 {
     if needs_brackets(computed, is_negative_key(key)) {
@@ -267,7 +263,7 @@ fn is_number(node_type: NodeType) -> bool
 }
 
 #[tactic(auto, unfolding(crate::specs::Place::at_place))]
-fn print_computed_key<N: PrintNode>(key: &PropertyKey<N>, p: &mut Printing<'_>, place: Place)
+fn print_computed_key<N: PrintNode>(key: &PropertyKey<N>, p: &mut Printer<'_>, place: Place)
     ensures { Lays p.old p.new (λ pen. brackets Square (key_text (in_property_key N.plain key.now) (spell (in_property_key N.plain key.now) (in_brackets Comma (place_of place pen))))) }
 {
     let within = Place::in_brackets(Precedence::Comma, place.settings);
@@ -277,7 +273,7 @@ fn print_computed_key<N: PrintNode>(key: &PropertyKey<N>, p: &mut Printing<'_>, 
 }
 
 #[tactic(auto, unfolding(crate::specs::Place::at_place))]
-pub fn print_key_text<N: PrintNode>(key: &PropertyKey<N>, p: &mut Printing<'_>, place: Place)
+pub fn print_key_text<N: PrintNode>(key: &PropertyKey<N>, p: &mut Printer<'_>, place: Place)
     ensures { Lays p.old p.new (λ pen. key_text (in_property_key N.plain key.now) (spell (in_property_key N.plain key.now) (place_of place pen))) }
 {
     match key {
@@ -288,7 +284,7 @@ pub fn print_key_text<N: PrintNode>(key: &PropertyKey<N>, p: &mut Printing<'_>, 
 
 // A string is never in backticks there.
 #[tactic(auto, unfolding(crate::specs::Place::at_place))]
-fn print_key_expression<N: PrintNode>(key: &ExpressionNode<N>, p: &mut Printing<'_>, place: Place)
+fn print_key_expression<N: PrintNode>(key: &ExpressionNode<N>, p: &mut Printer<'_>, place: Place)
     ensures { Lays p.old p.new (λ pen. key_text (in_expression N.plain key.now) (spell (in_expression N.plain key.now) (place_of place pen))) }
 {
     match key_string(key.get()) {
@@ -316,7 +312,7 @@ fn is_string(node_type: NodeType) -> bool
 
 // Behind its key.
 #[tactic(auto, unfolding(crate::specs::Place::at_place))]
-fn print_property_value<N: PrintNode>(value: &ExpressionNode<N>, p: &mut Printing<'_>, place: Place)
+fn print_property_value<N: PrintNode>(value: &ExpressionNode<N>, p: &mut Printer<'_>, place: Place)
     ensures { Lays p.old p.new (λ pen. punctuator colon ⊕ (soft_space ⊕ spell (in_expression N.plain value.now) (in_brackets Comma (place_of place pen)))) }
 {
     let within = Place::in_brackets(Precedence::Comma, place.settings);

@@ -4,7 +4,8 @@ ghost use Rattle.jsgen_tree.specs.Tree.{trees};
 ghost use Rattle.jsgen_tree.specs.Rows.{function_row, function_body_row, binding_identifier_row, directive_row, in_statement};
 ghost use Rattle.jsgen_model.specs.Items.{◌⊕◌, wrapped};
 ghost use Rattle.jsgen_model.specs.Spell.{spell_method, spell_directives, spell_body, block_items, filled_braces, function_wraps, bars_function};
-ghost use Rattle.jsgen_steps.specs.Steps.{Lays, pen_at};
+ghost use Rattle.jsgen_printer.specs.Printer.{pen_of};
+ghost use Rattle.jsgen_printer.specs.Steps.{Lays};
 ghost use Rattle.jsgen_place.specs.Place.{place_of, settings_of};
 ghost use Rattle.jsgen_nodes.specs.Functions.{whole_function};
 ghost use Rattle.jsgen_nodes.specs.Place.{at_place};
@@ -17,14 +18,14 @@ use jsgen_lists::{
     print_if_given,
 };
 use jsgen_place::{Place, Settings};
-use jsgen_steps::Printing;
+use jsgen_printer::Printer;
 use jsgen_syntax::Precedence;
 use jsgen_tree::{
     BindingIdentifier, Directive, Function, FunctionBody, FunctionKind, StatementNode,
 };
 
 #[tactic(auto, unfolding(crate::specs::Place::at_place))]
-pub fn print_function<N: PrintNode>(node: &Function<N>, p: &mut Printing<'_>, place: Place)
+pub fn print_function<N: PrintNode>(node: &Function<N>, p: &mut Printer<'_>, place: Place)
     ensures { Lays p.old p.new (at_place (function_row N.plain node.now) place) }
 {
     match node.kind {
@@ -35,7 +36,7 @@ pub fn print_function<N: PrintNode>(node: &Function<N>, p: &mut Printing<'_>, pl
 
 // Among statements a line of its own.
 #[tactic(auto, unfolding(crate::specs::Place::at_place))]
-fn print_as_declaration<N: PrintNode>(node: &Function<N>, p: &mut Printing<'_>, place: Place)
+fn print_as_declaration<N: PrintNode>(node: &Function<N>, p: &mut Printer<'_>, place: Place)
     ensures { Lays p.old p.new (λ pen. block_items place.in_list (whole_function (function_row N.plain node.now) (place_of place pen))) }
 {
     if place.in_list {
@@ -48,7 +49,7 @@ fn print_as_declaration<N: PrintNode>(node: &Function<N>, p: &mut Printing<'_>, 
 }
 
 #[tactic(auto, unfolding(crate::specs::Place::at_place))]
-fn print_as_expression<N: PrintNode>(node: &Function<N>, p: &mut Printing<'_>, place: Place)
+fn print_as_expression<N: PrintNode>(node: &Function<N>, p: &mut Printer<'_>, place: Place)
     ensures { Lays p.old p.new (λ pen. wrapped (function_wraps node.now.pife (place_of place pen)) (whole_function (function_row N.plain node.now) (place_of place pen))) }
 {
     let wrap = is_in_parentheses(node.pife, p);
@@ -58,15 +59,15 @@ fn print_as_expression<N: PrintNode>(node: &Function<N>, p: &mut Printing<'_>, p
 }
 
 // Where it is marked so, and where it would be a declaration without them.
-fn is_in_parentheses(pife: bool, p: &Printing<'_>) -> bool
-    ensures { result ≡ (pife || bars_function (pen_at p.now).start) }
+fn is_in_parentheses(pife: bool, p: &Printer<'_>) -> bool
+    ensures { result ≡ (pife || bars_function (pen_of p.now).start) }
 {
     pife || p.bars_function()
 }
 
 // From the word on.
 #[tactic(auto, unfolding(crate::specs::Place::at_place))]
-fn print_whole_function<N: PrintNode>(node: &Function<N>, p: &mut Printing<'_>, place: Place)
+fn print_whole_function<N: PrintNode>(node: &Function<N>, p: &mut Printer<'_>, place: Place)
     ensures { Lays p.old p.new (λ pen. whole_function (function_row N.plain node.now) (place_of place pen)) }
 {
     p.print_word("function");
@@ -81,14 +82,14 @@ struct Names;
 impl PrintMember<Box<BindingIdentifier>> for Names {
     ghost plain = { λ b. binding_identifier_row b.value };
 
-    fn print_member(name: &Box<BindingIdentifier>, p: &mut Printing<'_>, place: Place) {
+    fn print_member(name: &Box<BindingIdentifier>, p: &mut Printer<'_>, place: Place) {
         print_binding_identifier(name, p, place);
     }
 }
 
 /// The parameters in parentheses, and the body.
 #[tactic(auto, unfolding(crate::specs::Place::at_place))]
-pub fn print_behind_name<N: PrintNode>(node: &Function<N>, p: &mut Printing<'_>, place: Place)
+pub fn print_behind_name<N: PrintNode>(node: &Function<N>, p: &mut Printer<'_>, place: Place)
     ensures { Lays p.old p.new (λ pen. spell_method (function_row N.plain node.now) (place_of place pen)) }
 {
     let within = Place::within_statement(place.settings);
@@ -105,14 +106,14 @@ struct Bodies;
 impl<N: PrintNode> PrintMember<Box<FunctionBody<N>>> for Bodies {
     ghost plain = { λ b. function_body_row N.plain b.value };
 
-    fn print_member(body: &Box<FunctionBody<N>>, p: &mut Printing<'_>, place: Place) {
+    fn print_member(body: &Box<FunctionBody<N>>, p: &mut Printer<'_>, place: Place) {
         print_function_body(body, p, place);
     }
 }
 
 /// Braces, of which empty ones have nothing within.
 #[tactic(auto, unfolding(crate::specs::Place::at_place))]
-pub fn print_function_body<N: PrintNode>(node: &FunctionBody<N>, p: &mut Printing<'_>, place: Place)
+pub fn print_function_body<N: PrintNode>(node: &FunctionBody<N>, p: &mut Printer<'_>, place: Place)
     ensures { Lays p.old p.new (at_place (function_body_row N.plain node.now) place) }
 {
     if are_empty(&node.directives, &node.statements) {
@@ -129,7 +130,7 @@ fn are_empty<N>(directives: &[Directive], statements: &[StatementNode<N>]) -> bo
 }
 
 #[tactic(auto, unfolding(crate::specs::Place::at_place))]
-fn print_filled_body<N: PrintNode>(node: &FunctionBody<N>, p: &mut Printing<'_>, settings: Settings)
+fn print_filled_body<N: PrintNode>(node: &FunctionBody<N>, p: &mut Printer<'_>, settings: Settings)
     ensures { Lays p.old p.new (λ _. filled_braces (spell_directives (trees (map directive_row node.now.directives.items)) (settings_of settings)
         ⊕ spell_body (trees (map (in_statement N.plain) node.now.statements.items)) (settings_of settings))) }
 {
@@ -142,7 +143,7 @@ fn print_filled_body<N: PrintNode>(node: &FunctionBody<N>, p: &mut Printing<'_>,
 #[tactic(auto, unfolding(crate::specs::Place::at_place))]
 fn print_within_braces<N: PrintNode>(
     node: &FunctionBody<N>,
-    p: &mut Printing<'_>,
+    p: &mut Printer<'_>,
     settings: Settings,
 )
     ensures { Lays p.old p.new (λ _. spell_directives (trees (map directive_row node.now.directives.items)) (settings_of settings)

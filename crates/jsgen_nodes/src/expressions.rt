@@ -6,7 +6,7 @@ ghost use Rattle.jsgen_model.specs.Items.{◌⊕◌, soft_space};
 ghost use Rattle.jsgen_model.specs.Spell.{spell, signed, left_of, behind, left_level, right_level, unmixed, quoted_plainly};
 ghost use Rattle.jsgen_model.specs.Operators.{operator_item, logical_item};
 ghost use Rattle.jsgen_model.specs.Quotes.{is_export_mark};
-ghost use Rattle.jsgen_steps.specs.Steps.{Lays};
+ghost use Rattle.jsgen_printer.specs.Steps.{Lays};
 ghost use Rattle.jsgen_place.specs.Place.{place_of};
 ghost use Rattle.jsgen_nodes.specs.Place.{at_place};
 
@@ -15,7 +15,7 @@ use crate::quotes::is_mark;
 use crate::sequences::Expressions;
 use jsgen_lists::print_behind_space;
 use jsgen_place::{Place, left_level, right_level, takes_no_dot, unmixed};
-use jsgen_steps::Printing;
+use jsgen_printer::Printer;
 use jsgen_syntax::GetPrecedence;
 use jsgen_tree::{
     BigIntLiteral, BinaryExpression, BooleanLiteral, IdentifierReference, LogicalExpression,
@@ -24,7 +24,7 @@ use jsgen_tree::{
 };
 
 #[tactic(auto, unfolding(crate::specs::Place::at_place))]
-pub fn print_identifier_reference(node: &IdentifierReference, p: &mut Printing<'_>, place: Place)
+pub fn print_identifier_reference(node: &IdentifierReference, p: &mut Printer<'_>, place: Place)
     ensures { Lays p.old p.new (at_place (identifier_reference_row node.now) place) }
 {
     let _ = place;
@@ -32,7 +32,7 @@ pub fn print_identifier_reference(node: &IdentifierReference, p: &mut Printing<'
 }
 
 #[tactic(auto, unfolding(crate::specs::Place::at_place))]
-pub fn print_this_expression(node: &ThisExpression, p: &mut Printing<'_>, place: Place)
+pub fn print_this_expression(node: &ThisExpression, p: &mut Printer<'_>, place: Place)
     ensures { Lays p.old p.new (at_place (this_expression_row node.now) place) }
 {
     let _ = node;
@@ -41,7 +41,7 @@ pub fn print_this_expression(node: &ThisExpression, p: &mut Printing<'_>, place:
 }
 
 #[tactic(auto, unfolding(crate::specs::Place::at_place))]
-pub fn print_null_literal(node: &NullLiteral, p: &mut Printing<'_>, place: Place)
+pub fn print_null_literal(node: &NullLiteral, p: &mut Printer<'_>, place: Place)
     ensures { Lays p.old p.new (at_place (null_literal_row node.now) place) }
 {
     let _ = node;
@@ -50,7 +50,7 @@ pub fn print_null_literal(node: &NullLiteral, p: &mut Printing<'_>, place: Place
 }
 
 #[tactic(auto, unfolding(crate::specs::Place::at_place))]
-pub fn print_boolean_literal(node: &BooleanLiteral, p: &mut Printing<'_>, place: Place)
+pub fn print_boolean_literal(node: &BooleanLiteral, p: &mut Printer<'_>, place: Place)
     ensures { Lays p.old p.new (at_place (boolean_literal_row node.now) place) }
 {
     let _ = place;
@@ -58,7 +58,7 @@ pub fn print_boolean_literal(node: &BooleanLiteral, p: &mut Printing<'_>, place:
 }
 
 #[tactic(auto, unfolding(crate::specs::Place::at_place))]
-pub fn print_numeric_literal(node: &NumericLiteral, p: &mut Printing<'_>, place: Place)
+pub fn print_numeric_literal(node: &NumericLiteral, p: &mut Printer<'_>, place: Place)
     ensures { Lays p.old p.new (at_place (numeric_literal_row node.now) place) }
 {
     match &node.value {
@@ -68,7 +68,7 @@ pub fn print_numeric_literal(node: &NumericLiteral, p: &mut Printing<'_>, place:
 }
 
 #[tactic(auto)]
-fn print_whole(negative: bool, digits: u128, p: &mut Printing<'_>, place: Place)
+fn print_whole(negative: bool, digits: u128, p: &mut Printer<'_>, place: Place)
     ensures { Lays p.old p.new (λ pen. signed true negative (decimal digits) (place_of place pen)) }
 {
     if negative {
@@ -79,7 +79,7 @@ fn print_whole(negative: bool, digits: u128, p: &mut Printing<'_>, place: Place)
 }
 
 #[tactic(auto, unfolding(crate::specs::Place::at_place))]
-pub fn print_big_int_literal(node: &BigIntLiteral, p: &mut Printing<'_>, place: Place)
+pub fn print_big_int_literal(node: &BigIntLiteral, p: &mut Printer<'_>, place: Place)
     ensures { Lays p.old p.new (at_place (big_int_literal_row node.now) place) }
 {
     let value = node.value.as_str();
@@ -90,7 +90,7 @@ pub fn print_big_int_literal(node: &BigIntLiteral, p: &mut Printing<'_>, place: 
 }
 
 #[tactic(auto, unfolding(crate::specs::Place::at_place))]
-pub fn print_string_literal(node: &StringLiteral, p: &mut Printing<'_>, place: Place)
+pub fn print_string_literal(node: &StringLiteral, p: &mut Printer<'_>, place: Place)
     ensures { Lays p.old p.new (at_place (string_literal_row node.now) place) }
 {
     p.print_string(&node.value, !place.plain_quotes);
@@ -100,7 +100,7 @@ pub fn print_string_literal(node: &StringLiteral, p: &mut Printing<'_>, place: P
 #[tactic(auto, unfolding(crate::specs::Place::at_place))]
 pub fn print_parenthesized_expression<N: PrintNode>(
     node: &ParenthesizedExpression<N>,
-    p: &mut Printing<'_>,
+    p: &mut Printer<'_>,
     place: Place,
 )
     ensures { Lays p.old p.new (at_place (parenthesized_expression_row N.plain node.now) place) }
@@ -111,7 +111,7 @@ pub fn print_parenthesized_expression<N: PrintNode>(
 #[tactic(auto, unfolding(crate::specs::Place::at_place))]
 pub fn print_binary_expression<N: PrintNode>(
     node: &BinaryExpression<N>,
-    p: &mut Printing<'_>,
+    p: &mut Printer<'_>,
     place: Place,
 )
     ensures { Lays p.old p.new (at_place (binary_expression_row N.plain node.now) place) }
@@ -126,7 +126,7 @@ pub fn print_binary_expression<N: PrintNode>(
 #[tactic(auto, unfolding(crate::specs::Place::at_place))]
 fn print_binary_operation<N: PrintNode>(
     node: &BinaryExpression<N>,
-    p: &mut Printing<'_>,
+    p: &mut Printer<'_>,
     place: Place,
 )
     ensures { Lays p.old p.new (λ pen. spell (in_expression N.plain node.now.left)
@@ -151,7 +151,7 @@ fn print_binary_operation<N: PrintNode>(
 #[tactic(auto, unfolding(crate::specs::Place::at_place))]
 pub fn print_logical_expression<N: PrintNode>(
     node: &LogicalExpression<N>,
-    p: &mut Printing<'_>,
+    p: &mut Printer<'_>,
     place: Place,
 )
     ensures { Lays p.old p.new (at_place (logical_expression_row N.plain node.now) place) }
@@ -166,7 +166,7 @@ pub fn print_logical_expression<N: PrintNode>(
 #[tactic(auto, unfolding(crate::specs::Place::at_place))]
 fn print_logical_operation<N: PrintNode>(
     node: &LogicalExpression<N>,
-    p: &mut Printing<'_>,
+    p: &mut Printer<'_>,
     place: Place,
 )
     ensures { Lays p.old p.new (λ pen. spell (in_expression N.plain node.now.left)

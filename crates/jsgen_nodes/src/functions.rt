@@ -5,7 +5,7 @@ ghost use Rattle.jsgen_tree.specs.Rows.{formal_parameter_row, formal_parameter_r
 ghost use Rattle.jsgen_model.specs.Punctuator.{arrow, Round};
 ghost use Rattle.jsgen_model.specs.Items.{◌⊕◌, soft_space, punctuator, brackets};
 ghost use Rattle.jsgen_model.specs.Spell.{spell, is_name_alone, is_bare, parameter_items, parameters_place, body_begins, arrow_body_place};
-ghost use Rattle.jsgen_steps.specs.Steps.{Lays};
+ghost use Rattle.jsgen_printer.specs.Steps.{Lays};
 ghost use Rattle.jsgen_place.specs.Place.{place_of, settings_of};
 ghost use Rattle.jsgen_lists.specs.Lists.{listed};
 ghost use Rattle.jsgen_nodes.specs.Alone.{parameter_parts};
@@ -17,8 +17,7 @@ use crate::definitions::print_function_body;
 use crate::sequences::Expressions;
 use jsgen_lists::{PrintMember, print_comma_between, print_if_given, print_parts, print_value};
 use jsgen_place::{Place, is_bare};
-use jsgen_printer::Bracket;
-use jsgen_steps::Printing;
+use jsgen_printer::{Bracket, Printer};
 use jsgen_syntax::Precedence;
 use jsgen_tree::{
     ArrowFunctionBody, ArrowFunctionExpression, FormalParameter, FormalParameterRest,
@@ -30,7 +29,7 @@ use jsgen_tree::{
 #[tactic(auto, unfolding(crate::specs::Place::at_place))]
 pub fn print_formal_parameter<N: PrintNode>(
     node: &FormalParameter<N>,
-    p: &mut Printing<'_>,
+    p: &mut Printer<'_>,
     place: Place,
 )
     ensures { Lays p.old p.new (at_place (formal_parameter_row N.plain node.now) place) }
@@ -42,7 +41,7 @@ pub fn print_formal_parameter<N: PrintNode>(
 #[tactic(auto, unfolding(crate::specs::Place::at_place))]
 pub fn print_formal_parameter_rest<N: PrintNode>(
     node: &FormalParameterRest<N>,
-    p: &mut Printing<'_>,
+    p: &mut Printer<'_>,
     place: Place,
 )
     ensures { Lays p.old p.new (at_place (formal_parameter_rest_row N.plain node.now) place) }
@@ -57,7 +56,7 @@ pub fn print_formal_parameter_rest<N: PrintNode>(
 #[tactic(auto, unfolding(crate::specs::Place::at_place))]
 pub fn print_formal_parameters<N: PrintNode>(
     node: &FormalParameters<N>,
-    p: &mut Printing<'_>,
+    p: &mut Printer<'_>,
     place: Place,
 )
     ensures { Lays p.old p.new (λ pen. parameter_parts (formal_parameters_row N.plain node.now) (place_of place pen)) }
@@ -74,7 +73,7 @@ struct Parameters;
 impl<N: PrintNode> PrintMember<FormalParameter<N>> for Parameters {
     ghost plain = { formal_parameter_row N.plain };
 
-    fn print_member(parameter: &FormalParameter<N>, p: &mut Printing<'_>, place: Place) {
+    fn print_member(parameter: &FormalParameter<N>, p: &mut Printer<'_>, place: Place) {
         print_formal_parameter(parameter, p, place);
     }
 }
@@ -86,7 +85,7 @@ struct Rest;
 impl<N: PrintNode> PrintMember<Box<FormalParameterRest<N>>> for Rest {
     ghost plain = { λ b. formal_parameter_rest_row N.plain b.value };
 
-    fn print_member(rest: &Box<FormalParameterRest<N>>, p: &mut Printing<'_>, place: Place) {
+    fn print_member(rest: &Box<FormalParameterRest<N>>, p: &mut Printer<'_>, place: Place) {
         print_formal_parameter_rest(rest, p, place);
     }
 }
@@ -96,7 +95,7 @@ impl<N: PrintNode> PrintMember<Box<FormalParameterRest<N>>> for Rest {
 #[tactic(auto, unfolding(crate::specs::Place::at_place))]
 pub fn print_arrow_function_expression<N: PrintNode>(
     node: &ArrowFunctionExpression<N>,
-    p: &mut Printing<'_>,
+    p: &mut Printer<'_>,
     place: Place,
 )
     ensures { Lays p.old p.new (at_place (arrow_function_expression_row N.plain node.now) place) }
@@ -109,7 +108,7 @@ pub fn print_arrow_function_expression<N: PrintNode>(
 
 // The parameters, the arrow and the body, within the parentheses.
 #[tactic(auto, unfolding(crate::specs::Place::at_place))]
-fn print_arrow<N: PrintNode>(node: &ArrowFunctionExpression<N>, p: &mut Printing<'_>, place: Place)
+fn print_arrow<N: PrintNode>(node: &ArrowFunctionExpression<N>, p: &mut Printer<'_>, place: Place)
     ensures { Lays p.old p.new (λ pen. parameter_items (is_bare (settings_of place.settings) (formal_parameters_row N.plain node.now.params.value))
         (spell (formal_parameters_row N.plain node.now.params.value) (parameters_place (place_of place pen)))
         ⊕ (soft_space ⊕ (punctuator arrow ⊕ (soft_space ⊕ (body_begins (type_of (in_arrow_function_body N.plain node.now.body))
@@ -123,7 +122,7 @@ fn print_arrow<N: PrintNode>(node: &ArrowFunctionExpression<N>, p: &mut Printing
 #[tactic(auto, unfolding(crate::specs::Place::at_place))]
 fn print_arrow_parameters<N: PrintNode>(
     parameters: &FormalParameters<N>,
-    p: &mut Printing<'_>,
+    p: &mut Printer<'_>,
     place: Place,
 )
     ensures { Lays p.old p.new (λ pen. parameter_items (is_bare (settings_of place.settings) (formal_parameters_row N.plain parameters.now))
@@ -140,7 +139,7 @@ fn print_arrow_parameters<N: PrintNode>(
 #[tactic(auto, unfolding(crate::specs::Place::at_place))]
 pub fn print_parameters_in_brackets<N: PrintNode>(
     parameters: &FormalParameters<N>,
-    p: &mut Printing<'_>,
+    p: &mut Printer<'_>,
     place: Place,
 )
     ensures { Lays p.old p.new (λ _. brackets Round (spell (formal_parameters_row N.plain parameters.now) (listed place))) }
@@ -169,7 +168,7 @@ fn is_name<N: PrintNode>(parameter: &FormalParameter<N>) -> bool
 #[tactic(auto, unfolding(crate::specs::Place::at_place))]
 fn print_behind_parameters<N: PrintNode>(
     body: &ArrowFunctionBody<N>,
-    p: &mut Printing<'_>,
+    p: &mut Printer<'_>,
     place: Place,
 )
     ensures { Lays p.old p.new (λ pen. soft_space ⊕ (punctuator arrow ⊕ (soft_space ⊕ (body_begins (type_of (in_arrow_function_body N.plain body.now))
@@ -183,7 +182,7 @@ fn print_behind_parameters<N: PrintNode>(
 }
 
 // An expression begins there, and a body in braces doesn't.
-fn begin_body(body: NodeType, p: &mut Printing<'_>)
+fn begin_body(body: NodeType, p: &mut Printer<'_>)
     ensures { Lays p.old p.new (λ _. body_begins body) }
 {
     match body {
@@ -204,7 +203,7 @@ fn body_type<N: PrintNode>(body: &ArrowFunctionBody<N>) -> NodeType
 #[tactic(auto, unfolding(crate::specs::Place::at_place))]
 fn print_arrow_function_body<N: PrintNode>(
     body: &ArrowFunctionBody<N>,
-    p: &mut Printing<'_>,
+    p: &mut Printer<'_>,
     place: Place,
 )
     ensures { Lays p.old p.new (at_place (in_arrow_function_body N.plain body.now) place) }

@@ -5,7 +5,7 @@ ghost use Rattle.jsgen_tree.specs.Rows.{try_statement_row, catch_clause_row, blo
 ghost use Rattle.jsgen_syntax.specs.declared.precedence.Precedence.TheVariants.{Lowest};
 ghost use Rattle.jsgen_model.specs.Items.{◌⊕◌, word, soft_space, soft_line};
 ghost use Rattle.jsgen_model.specs.Spell.{spell_if_given, spell_finalizer, spell_caught, behind, within_statement};
-ghost use Rattle.jsgen_steps.specs.Steps.{Lays};
+ghost use Rattle.jsgen_printer.specs.Steps.{Lays};
 ghost use Rattle.jsgen_place.specs.Place.{place_of, settings_of};
 ghost use Rattle.jsgen_nodes.specs.Place.{at_place};
 
@@ -16,12 +16,12 @@ use jsgen_lists::{
     print_if_given,
 };
 use jsgen_place::{Place, Settings};
-use jsgen_steps::Printing;
+use jsgen_printer::Printer;
 use jsgen_syntax::Precedence;
 use jsgen_tree::{BindingPatternNode, BlockStatement, CatchClause, TryStatement};
 
 #[tactic(auto, unfolding(crate::specs::Place::at_place))]
-pub fn print_try_statement<N: PrintNode>(node: &TryStatement<N>, p: &mut Printing<'_>, place: Place)
+pub fn print_try_statement<N: PrintNode>(node: &TryStatement<N>, p: &mut Printer<'_>, place: Place)
     ensures { Lays p.old p.new (at_place (try_statement_row N.plain node.now) place) }
 {
     let within = Place::within_statement(place.settings);
@@ -32,7 +32,7 @@ pub fn print_try_statement<N: PrintNode>(node: &TryStatement<N>, p: &mut Printin
 
 // What stands behind the block, up to the end of the line.
 #[tactic(auto, unfolding(crate::specs::Place::at_place))]
-fn print_behind_try<N: PrintNode>(node: &TryStatement<N>, p: &mut Printing<'_>, settings: Settings)
+fn print_behind_try<N: PrintNode>(node: &TryStatement<N>, p: &mut Printer<'_>, settings: Settings)
     ensures { Lays p.old p.new (λ _. spell_if_given (optional (option_map (λ b. catch_clause_row N.plain b.value) node.now.handler)) (within_statement (settings_of settings))
         ⊕ (spell_finalizer (optional (option_map (λ b. block_statement_row N.plain b.value) node.now.finalizer)) (settings_of settings) ⊕ soft_line)) }
 {
@@ -49,7 +49,7 @@ struct Clauses;
 impl<N: PrintNode> PrintMember<Box<CatchClause<N>>> for Clauses {
     ghost plain = { λ b. catch_clause_row N.plain b.value };
 
-    fn print_member(clause: &Box<CatchClause<N>>, p: &mut Printing<'_>, place: Place) {
+    fn print_member(clause: &Box<CatchClause<N>>, p: &mut Printer<'_>, place: Place) {
         print_catch_clause(clause, p, place);
     }
 }
@@ -57,7 +57,7 @@ impl<N: PrintNode> PrintMember<Box<CatchClause<N>>> for Clauses {
 #[tactic(auto, unfolding(crate::specs::Place::at_place))]
 fn print_finalizer<N: PrintNode>(
     finalizer: &Option<Box<BlockStatement<N>>>,
-    p: &mut Printing<'_>,
+    p: &mut Printer<'_>,
     settings: Settings,
 )
     ensures { Lays p.old p.new (λ _. spell_finalizer (optional (option_map (λ b. block_statement_row N.plain b.value) finalizer.now)) (settings_of settings)) }
@@ -72,7 +72,7 @@ fn print_finalizer<N: PrintNode>(
 }
 
 #[tactic(auto, unfolding(crate::specs::Place::at_place))]
-pub fn print_catch_clause<N: PrintNode>(node: &CatchClause<N>, p: &mut Printing<'_>, place: Place)
+pub fn print_catch_clause<N: PrintNode>(node: &CatchClause<N>, p: &mut Printer<'_>, place: Place)
     ensures { Lays p.old p.new (at_place (catch_clause_row N.plain node.now) place) }
 {
     let within = Place::within_statement(place.settings);
@@ -84,7 +84,7 @@ pub fn print_catch_clause<N: PrintNode>(node: &CatchClause<N>, p: &mut Printing<
 #[tactic(auto, unfolding(crate::specs::Place::at_place))]
 fn print_catch<N: PrintNode>(
     param: &Option<BindingPatternNode<N>>,
-    p: &mut Printing<'_>,
+    p: &mut Printer<'_>,
     place: Place,
 )
     ensures { Lays p.old p.new (λ pen. soft_space ⊕ (word (codes "catch") ⊕ spell_caught (optional (option_map (in_binding_pattern N.plain) param.now)) (behind Lowest (place_of place pen)))) }
@@ -101,7 +101,7 @@ struct Patterns;
 impl<N: PrintNode> PrintMember<BindingPatternNode<N>> for Patterns {
     ghost plain = { in_binding_pattern N.plain };
 
-    fn print_member(pattern: &BindingPatternNode<N>, p: &mut Printing<'_>, place: Place) {
+    fn print_member(pattern: &BindingPatternNode<N>, p: &mut Printer<'_>, place: Place) {
         pattern.get().print(p, place);
     }
 }

@@ -6,7 +6,8 @@ ghost use Rattle.jsgen_tree.specs.Rows.{for_in_statement_row, for_of_statement_r
 ghost use Rattle.jsgen_model.specs.Punctuator.{Round};
 ghost use Rattle.jsgen_model.specs.Items.{◌⊕◌, word, brackets, soft_space};
 ghost use Rattle.jsgen_model.specs.Spell.{apart_from_of};
-ghost use Rattle.jsgen_steps.specs.Steps.{Lays, BeginsNothing, pen_at};
+ghost use Rattle.jsgen_printer.specs.Printer.{pen_of};
+ghost use Rattle.jsgen_printer.specs.Steps.{Lays, BeginsNothing};
 ghost use Rattle.jsgen_place.specs.Place.{settings_of};
 ghost use Rattle.jsgen_nodes.specs.Keys.{is_said};
 ghost use Rattle.jsgen_nodes.specs.Loops.{left_of, in_parts, of_parts};
@@ -21,15 +22,14 @@ use crate::sequences::Expressions;
 use crate::statements::print_variable_declaration;
 use jsgen_lists::print_behind_spaced_word;
 use jsgen_place::{Place, Settings};
-use jsgen_printer::Bracket;
-use jsgen_steps::Printing;
+use jsgen_printer::{Bracket, Printer};
 use jsgen_syntax::Precedence;
 use jsgen_tree::{ForInStatement, ForOfStatement, ForStatementLeft};
 
 #[tactic(auto, unfolding(crate::specs::Place::at_place))]
 pub fn print_for_in_statement<N: PrintNode>(
     node: &ForInStatement<N>,
-    p: &mut Printing<'_>,
+    p: &mut Printer<'_>,
     place: Place,
 )
     ensures { Lays p.old p.new (at_place (for_in_statement_row N.plain node.now) place) }
@@ -41,7 +41,7 @@ pub fn print_for_in_statement<N: PrintNode>(
 
 // The word and what stands in the parentheses behind it.
 #[tactic(auto, unfolding(crate::specs::Place::at_place))]
-fn print_in_head<N: PrintNode>(node: &ForInStatement<N>, p: &mut Printing<'_>, settings: Settings)
+fn print_in_head<N: PrintNode>(node: &ForInStatement<N>, p: &mut Printer<'_>, settings: Settings)
     ensures { Lays p.old p.new (λ _. (word (codes "for") ⊕ soft_space) ⊕ brackets Round (in_parts (in_for_statement_left N.plain node.now.left) (in_expression N.plain node.now.right) (settings_of settings))) }
 {
     print_for(p);
@@ -51,7 +51,7 @@ fn print_in_head<N: PrintNode>(node: &ForInStatement<N>, p: &mut Printing<'_>, s
 }
 
 #[tactic(auto, unfolding(crate::specs::Place::at_place))]
-fn print_in_parts<N: PrintNode>(node: &ForInStatement<N>, p: &mut Printing<'_>, settings: Settings)
+fn print_in_parts<N: PrintNode>(node: &ForInStatement<N>, p: &mut Printer<'_>, settings: Settings)
     requires { BeginsNothing p.old }
     ensures { Lays p.old p.new (λ _. in_parts (in_for_statement_left N.plain node.now.left) (in_expression N.plain node.now.right) (settings_of settings)) }
 {
@@ -63,7 +63,7 @@ fn print_in_parts<N: PrintNode>(node: &ForInStatement<N>, p: &mut Printing<'_>, 
 #[tactic(auto, unfolding(crate::specs::Place::at_place))]
 pub fn print_for_of_statement<N: PrintNode>(
     node: &ForOfStatement<N>,
-    p: &mut Printing<'_>,
+    p: &mut Printer<'_>,
     place: Place,
 )
     ensures { Lays p.old p.new (at_place (for_of_statement_row N.plain node.now) place) }
@@ -75,7 +75,7 @@ pub fn print_for_of_statement<N: PrintNode>(
 
 // The word and what stands in the parentheses behind it.
 #[tactic(auto, unfolding(crate::specs::Place::at_place))]
-fn print_of_head<N: PrintNode>(node: &ForOfStatement<N>, p: &mut Printing<'_>, settings: Settings)
+fn print_of_head<N: PrintNode>(node: &ForOfStatement<N>, p: &mut Printer<'_>, settings: Settings)
     ensures { Lays p.old p.new (λ _. (word (codes "for") ⊕ soft_space) ⊕ brackets Round (of_parts (in_for_statement_left N.plain node.now.left) (in_expression N.plain node.now.right) (settings_of settings))) }
 {
     print_for(p);
@@ -85,7 +85,7 @@ fn print_of_head<N: PrintNode>(node: &ForOfStatement<N>, p: &mut Printing<'_>, s
 }
 
 #[tactic(auto, unfolding(crate::specs::Place::at_place))]
-fn print_of_parts<N: PrintNode>(node: &ForOfStatement<N>, p: &mut Printing<'_>, settings: Settings)
+fn print_of_parts<N: PrintNode>(node: &ForOfStatement<N>, p: &mut Printer<'_>, settings: Settings)
     requires { BeginsNothing p.old }
     ensures { Lays p.old p.new (λ _. of_parts (in_for_statement_left N.plain node.now.left) (in_expression N.plain node.now.right) (settings_of settings)) }
 {
@@ -97,7 +97,7 @@ fn print_of_parts<N: PrintNode>(node: &ForOfStatement<N>, p: &mut Printing<'_>, 
 // ---- what the loop gives each of them
 
 #[tactic(auto, unfolding(crate::specs::Place::at_place))]
-fn print_left<N: PrintNode>(left: &ForStatementLeft<N>, p: &mut Printing<'_>, settings: Settings)
+fn print_left<N: PrintNode>(left: &ForStatementLeft<N>, p: &mut Printer<'_>, settings: Settings)
     requires { BeginsNothing p.old }
     ensures { Lays p.old p.new (λ _. left_of (in_for_statement_left N.plain left.now) (settings_of settings)) }
 {
@@ -122,7 +122,7 @@ fn print_left<N: PrintNode>(left: &ForStatementLeft<N>, p: &mut Printing<'_>, se
 #[tactic(auto, unfolding(crate::specs::Place::at_place))]
 fn print_apart_from_of<N: PrintNode>(
     left: &ForStatementLeft<N>,
-    p: &mut Printing<'_>,
+    p: &mut Printer<'_>,
     settings: Settings,
 )
     requires { BeginsNothing p.old }
@@ -138,7 +138,7 @@ fn print_apart_from_of<N: PrintNode>(
 #[tactic(auto, unfolding(crate::specs::Place::at_place))]
 fn print_left_in_parentheses<N: PrintNode>(
     left: &ForStatementLeft<N>,
-    p: &mut Printing<'_>,
+    p: &mut Printer<'_>,
     settings: Settings,
 )
     ensures { Lays p.old p.new (λ _. brackets Round (left_of (in_for_statement_left N.plain left.now) (settings_of settings))) }
@@ -148,8 +148,8 @@ fn print_left_in_parentheses<N: PrintNode>(
     p.print_closing(Bracket::Round);
 }
 
-fn is_async<N: PrintNode>(left: &ForStatementLeft<N>, p: &Printing<'_>) -> bool
-    ensures { result ≡ is_said (pen_at p.now).style.tables (looked_up_in (in_for_statement_left N.plain left.now)) (codes "async") }
+fn is_async<N: PrintNode>(left: &ForStatementLeft<N>, p: &Printer<'_>) -> bool
+    ensures { result ≡ is_said (pen_of p.now).style.tables (looked_up_in (in_for_statement_left N.plain left.now)) (codes "async") }
 {
     match left {
         ForStatementLeft::IdentifierReference(node) => p.prints_as(

@@ -4,7 +4,7 @@ ghost use Rattle.jsgen_tree.specs.Named.{as_written};
 ghost use Rattle.jsgen_tree.specs.Rows.{label_identifier_row, labeled_statement_row, continue_statement_row, break_statement_row, return_statement_row, throw_statement_row, debugger_statement_row};
 ghost use Rattle.jsgen_model.specs.Punctuator.{colon};
 ghost use Rattle.jsgen_model.specs.Items.{◌⊕◌, name, punctuator};
-ghost use Rattle.jsgen_steps.specs.Steps.{Lays};
+ghost use Rattle.jsgen_printer.specs.Steps.{Lays};
 ghost use Rattle.jsgen_nodes.specs.Place.{at_place};
 
 use crate::PrintNode;
@@ -12,7 +12,7 @@ use crate::bodies::print_body;
 use crate::sequences::Expressions;
 use jsgen_lists::{PrintMember, print_behind_word, print_jump};
 use jsgen_place::Place;
-use jsgen_steps::Printing;
+use jsgen_printer::Printer;
 use jsgen_syntax::Precedence;
 use jsgen_tree::{
     BreakStatement, ContinueStatement, DebuggerStatement, LabelIdentifier, LabeledStatement,
@@ -20,7 +20,7 @@ use jsgen_tree::{
 };
 
 #[tactic(auto, unfolding(crate::specs::Place::at_place))]
-pub fn print_label_identifier(node: &LabelIdentifier, p: &mut Printing<'_>, place: Place)
+pub fn print_label_identifier(node: &LabelIdentifier, p: &mut Printer<'_>, place: Place)
     ensures { Lays p.old p.new (at_place (label_identifier_row node.now) place) }
 {
     let _ = place;
@@ -30,7 +30,7 @@ pub fn print_label_identifier(node: &LabelIdentifier, p: &mut Printing<'_>, plac
 #[tactic(auto, unfolding(crate::specs::Place::at_place))]
 pub fn print_labeled_statement<N: PrintNode>(
     node: &LabeledStatement<N>,
-    p: &mut Printing<'_>,
+    p: &mut Printer<'_>,
     place: Place,
 )
     ensures { Lays p.old p.new (at_place (labeled_statement_row N.plain node.now) place) }
@@ -42,7 +42,7 @@ pub fn print_labeled_statement<N: PrintNode>(
 
 // A label and its colon.
 #[tactic(auto, unfolding(crate::specs::Place::at_place))]
-fn print_label(label: &LabelIdentifier, p: &mut Printing<'_>, place: Place)
+fn print_label(label: &LabelIdentifier, p: &mut Printer<'_>, place: Place)
     ensures { Lays p.old p.new (λ _. name (as_written (characters label.now.name)) ⊕ punctuator colon) }
 {
     print_label_identifier(label, p, place);
@@ -50,7 +50,7 @@ fn print_label(label: &LabelIdentifier, p: &mut Printing<'_>, place: Place)
 }
 
 #[tactic(auto, unfolding(crate::specs::Place::at_place))]
-pub fn print_continue_statement(node: &ContinueStatement, p: &mut Printing<'_>, place: Place)
+pub fn print_continue_statement(node: &ContinueStatement, p: &mut Printer<'_>, place: Place)
     ensures { Lays p.old p.new (at_place (continue_statement_row node.now) place) }
 {
     p.print_indentation();
@@ -58,7 +58,7 @@ pub fn print_continue_statement(node: &ContinueStatement, p: &mut Printing<'_>, 
 }
 
 #[tactic(auto, unfolding(crate::specs::Place::at_place))]
-pub fn print_break_statement(node: &BreakStatement, p: &mut Printing<'_>, place: Place)
+pub fn print_break_statement(node: &BreakStatement, p: &mut Printer<'_>, place: Place)
     ensures { Lays p.old p.new (at_place (break_statement_row node.now) place) }
 {
     p.print_indentation();
@@ -72,7 +72,7 @@ struct Labels;
 impl PrintMember<Box<LabelIdentifier>> for Labels {
     ghost plain = { λ b. label_identifier_row b.value };
 
-    fn print_member(label: &Box<LabelIdentifier>, p: &mut Printing<'_>, place: Place) {
+    fn print_member(label: &Box<LabelIdentifier>, p: &mut Printer<'_>, place: Place) {
         print_label_identifier(label, p, place);
     }
 }
@@ -80,7 +80,7 @@ impl PrintMember<Box<LabelIdentifier>> for Labels {
 #[tactic(auto, unfolding(crate::specs::Place::at_place))]
 pub fn print_return_statement<N: PrintNode>(
     node: &ReturnStatement<N>,
-    p: &mut Printing<'_>,
+    p: &mut Printer<'_>,
     place: Place,
 )
     ensures { Lays p.old p.new (at_place (return_statement_row N.plain node.now) place) }
@@ -93,7 +93,7 @@ pub fn print_return_statement<N: PrintNode>(
 #[tactic(auto, unfolding(crate::specs::Place::at_place))]
 pub fn print_throw_statement<N: PrintNode>(
     node: &ThrowStatement<N>,
-    p: &mut Printing<'_>,
+    p: &mut Printer<'_>,
     place: Place,
 )
     ensures { Lays p.old p.new (at_place (throw_statement_row N.plain node.now) place) }
@@ -105,7 +105,7 @@ pub fn print_throw_statement<N: PrintNode>(
 }
 
 #[tactic(auto, unfolding(crate::specs::Place::at_place))]
-pub fn print_debugger_statement(node: &DebuggerStatement, p: &mut Printing<'_>, place: Place)
+pub fn print_debugger_statement(node: &DebuggerStatement, p: &mut Printer<'_>, place: Place)
     ensures { Lays p.old p.new (at_place (debugger_statement_row node.now) place) }
 {
     let _ = node;

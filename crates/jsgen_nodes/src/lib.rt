@@ -34,14 +34,14 @@ ghost use Rattle.jsgen_tree.specs.Inside.{without_parentheses, ends_open, looked
 ghost use Rattle.jsgen_tree.specs.Plain.{node_plain};
 ghost use Rattle.jsgen_model.specs.Spell.{spell_method, string_in, string_statement};
 ghost use Rattle.jsgen_model.specs.Quotes.{is_member_of, is_named};
-ghost use Rattle.jsgen_steps.specs.Steps.{Lays};
+ghost use Rattle.jsgen_printer.specs.Steps.{Lays};
 ghost use Rattle.jsgen_place.specs.Place.{place_of, operand_of};
 ghost use Rattle.jsgen_nodes.specs.Names.{is_binding_name};
 ghost use Rattle.jsgen_nodes.specs.Place.{at_place};
 
 use definitions::print_behind_name;
 use jsgen_place::{Context, Operand, Place, Settings, ends_open};
-use jsgen_steps::Printing;
+use jsgen_printer::Printer;
 use jsgen_syntax::JsStr;
 use jsgen_tree::{Declaration, Expression, IdentifierReference, Node, NodeType, Statement};
 use names::{is_binding_name, is_member, is_named};
@@ -61,11 +61,11 @@ pub trait PrintNode {
     fn node_type(&self) -> NodeType
         ensures { result ≡ type_of (plain self.now) };
 
-    fn print(&self, p: &mut Printing<'_>, place: Place)
+    fn print(&self, p: &mut Printer<'_>, place: Place)
         ensures { Lays p.old p.new (at_place (plain self.now) place) };
 
     /// The function of a method or an accessor, behind its key. Nothing is printed of what is no function.
-    fn print_as_method(&self, p: &mut Printing<'_>, place: Place)
+    fn print_as_method(&self, p: &mut Printer<'_>, place: Place)
         ensures { Lays p.old p.new (λ pen. spell_method (plain self.now) (place_of place pen)) };
 
     /// What matters of it as an operand.
@@ -119,7 +119,7 @@ pub trait PrintAlone {
     // Its items, where this begins with it.
     ghost alone: { Self → spells.Settings → spells.Context → Start → Items };
 
-    fn print_alone(&self, p: &mut Printing<'_>, settings: Settings, context: Context)
+    fn print_alone(&self, p: &mut Printer<'_>, settings: Settings, context: Context)
         ensures { Lays p.old p.new (λ pen. alone self.now (settings_of settings) (context_of context) pen.start) };
 }
 
@@ -129,7 +129,7 @@ pub trait PrintAtLevel {
 
     ghost plain: { Self → Tree };
 
-    fn print_at(&self, p: &mut Printing<'_>, place: Place)
+    fn print_at(&self, p: &mut Printer<'_>, place: Place)
         ensures { Lays p.old p.new (at_place (plain self.now) place) };
 }
 
@@ -142,7 +142,7 @@ impl PrintNode for Node {
     }
 
     #[cycle(node)]
-    fn print(&self, p: &mut Printing<'_>, place: Place) {
+    fn print(&self, p: &mut Printer<'_>, place: Place) {
         match self {
             Node::Expression(node) => print_expression(node, p, place),
             Node::Statement(node) => print_statement(node, p, place),
@@ -152,7 +152,7 @@ impl PrintNode for Node {
     }
 
     #[cycle(node)]
-    fn print_as_method(&self, p: &mut Printing<'_>, place: Place) {
+    fn print_as_method(&self, p: &mut Printer<'_>, place: Place) {
         match self {
             Node::Expression(expression) => match expression {
                 Expression::Function(function) => print_behind_name(function, p, place),

@@ -7,7 +7,7 @@ ghost use Rattle.jsgen_model.specs.Punctuator.{Round, Square};
 ghost use Rattle.jsgen_model.specs.Items.{◌⊕◌, brackets};
 ghost use Rattle.jsgen_model.specs.Spell.{spell, spell_arguments, called, in_brackets, bracket_link, quoted_plainly};
 ghost use Rattle.jsgen_model.specs.Quotes.{is_require_call, is_definition_call};
-ghost use Rattle.jsgen_steps.specs.Steps.{Lays};
+ghost use Rattle.jsgen_printer.specs.Steps.{Lays};
 ghost use Rattle.jsgen_place.specs.Place.{place_of};
 ghost use Rattle.jsgen_nodes.specs.Place.{at_place};
 
@@ -17,8 +17,7 @@ use crate::quotes::plain_quotes;
 use crate::sequences::Expressions;
 use jsgen_lists::{PrintMember, print_arguments, print_bracket_link, print_named_member};
 use jsgen_place::Place;
-use jsgen_printer::Bracket;
-use jsgen_steps::Printing;
+use jsgen_printer::{Bracket, Printer};
 use jsgen_syntax::Precedence;
 use jsgen_tree::{
     Argument, CallExpression, ChainElement, ChainExpression, ComputedMemberExpression,
@@ -26,7 +25,7 @@ use jsgen_tree::{
 };
 
 #[tactic(auto, unfolding(crate::specs::Place::at_place))]
-pub fn print_identifier_name(node: &IdentifierName, p: &mut Printing<'_>, place: Place)
+pub fn print_identifier_name(node: &IdentifierName, p: &mut Printer<'_>, place: Place)
     ensures { Lays p.old p.new (at_place (identifier_name_row node.now) place) }
 {
     let _ = place;
@@ -36,7 +35,7 @@ pub fn print_identifier_name(node: &IdentifierName, p: &mut Printing<'_>, place:
 #[tactic(auto, unfolding(crate::specs::Place::at_place))]
 pub fn print_static_member_expression<N: PrintNode>(
     node: &StaticMemberExpression<N>,
-    p: &mut Printing<'_>,
+    p: &mut Printer<'_>,
     place: Place,
 )
     ensures { Lays p.old p.new (at_place (static_member_expression_row N.plain node.now) place) }
@@ -48,7 +47,7 @@ pub fn print_static_member_expression<N: PrintNode>(
 #[tactic(auto, unfolding(crate::specs::Place::at_place))]
 pub fn print_computed_member_expression<N: PrintNode>(
     node: &ComputedMemberExpression<N>,
-    p: &mut Printing<'_>,
+    p: &mut Printer<'_>,
     place: Place,
 )
     ensures { Lays p.old p.new (at_place (computed_member_expression_row N.plain node.now) place) }
@@ -61,7 +60,7 @@ pub fn print_computed_member_expression<N: PrintNode>(
 #[tactic(auto, unfolding(crate::specs::Place::at_place))]
 fn print_computed_name<N: PrintNode>(
     node: &ComputedMemberExpression<N>,
-    p: &mut Printing<'_>,
+    p: &mut Printer<'_>,
     place: Place,
 )
     ensures { Lays p.old p.new (λ pen. bracket_link node.now.optional
@@ -79,7 +78,7 @@ fn print_computed_name<N: PrintNode>(
 #[tactic(auto, unfolding(crate::specs::Place::at_place))]
 pub fn print_call_expression<N: PrintNode>(
     node: &CallExpression<N>,
-    p: &mut Printing<'_>,
+    p: &mut Printer<'_>,
     place: Place,
 )
     ensures { Lays p.old p.new (at_place (call_expression_row N.plain node.now) place) }
@@ -92,7 +91,7 @@ pub fn print_call_expression<N: PrintNode>(
 
 // What is called and what it is given, within the parentheses.
 #[tactic(auto, unfolding(crate::specs::Place::at_place))]
-fn print_call<N: PrintNode>(node: &CallExpression<N>, p: &mut Printing<'_>, place: Place)
+fn print_call<N: PrintNode>(node: &CallExpression<N>, p: &mut Printer<'_>, place: Place)
     ensures { Lays p.old p.new (λ pen. spell (in_expression N.plain node.now.callee) (called (place_of place pen))
         ⊕ (bracket_link node.now.optional ⊕ brackets Round (spell_arguments
         (is_require_call place.settings.minified (in_expression N.plain node.now.callee) (trees (map (in_argument N.plain) node.now.arguments.items)))
@@ -109,7 +108,7 @@ fn print_call<N: PrintNode>(node: &CallExpression<N>, p: &mut Printing<'_>, plac
 #[tactic(auto, unfolding(crate::specs::Place::at_place))]
 pub fn print_chain_expression<N: PrintNode>(
     node: &ChainExpression<N>,
-    p: &mut Printing<'_>,
+    p: &mut Printer<'_>,
     place: Place,
 )
     ensures { Lays p.old p.new (at_place (chain_expression_row N.plain node.now) place) }
@@ -120,7 +119,7 @@ pub fn print_chain_expression<N: PrintNode>(
     p.print_closing_if(wrap);
 }
 
-fn print_chain_element<N: PrintNode>(node: &ChainElement<N>, p: &mut Printing<'_>, place: Place)
+fn print_chain_element<N: PrintNode>(node: &ChainElement<N>, p: &mut Printer<'_>, place: Place)
     ensures { Lays p.old p.new (at_place (in_chain_element N.plain node.now) place) }
 {
     match node {
@@ -141,7 +140,7 @@ pub struct Arguments;
 impl<N: PrintNode> PrintMember<Argument<N>> for Arguments {
     ghost plain = { in_argument N.plain };
 
-    fn print_member(argument: &Argument<N>, p: &mut Printing<'_>, place: Place) {
+    fn print_member(argument: &Argument<N>, p: &mut Printer<'_>, place: Place) {
         match argument {
             Argument::SpreadElement(node) => print_spread_element(node, p, place),
             Argument::Expression(expression) => expression.get().print(p, place),

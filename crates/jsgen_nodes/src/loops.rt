@@ -6,7 +6,7 @@ ghost use Rattle.jsgen_tree.specs.Rows.{for_statement_row, while_statement_row, 
 ghost use Rattle.jsgen_model.specs.Punctuator.{Round};
 ghost use Rattle.jsgen_model.specs.Items.{◌⊕◌, word, brackets, soft_space, statement_end};
 ghost use Rattle.jsgen_model.specs.Spell.{spell, in_brackets, loop_head, among_statements};
-ghost use Rattle.jsgen_steps.specs.Steps.{Lays};
+ghost use Rattle.jsgen_printer.specs.Steps.{Lays};
 ghost use Rattle.jsgen_place.specs.Place.{settings_of};
 ghost use Rattle.jsgen_lists.specs.Lists.{loop_parts};
 ghost use Rattle.jsgen_nodes.specs.Place.{at_place};
@@ -17,14 +17,14 @@ use crate::sequences::Expressions;
 use crate::statements::print_variable_declaration;
 use jsgen_lists::{PrintMember, print_head, print_loop_parts};
 use jsgen_place::{Place, Settings};
-use jsgen_steps::Printing;
+use jsgen_printer::Printer;
 use jsgen_syntax::Precedence;
 use jsgen_tree::{
     DoWhileStatement, ExpressionNode, ForStatement, ForStatementInit, WhileStatement,
 };
 
 #[tactic(auto, unfolding(crate::specs::Place::at_place))]
-pub fn print_for_statement<N: PrintNode>(node: &ForStatement<N>, p: &mut Printing<'_>, place: Place)
+pub fn print_for_statement<N: PrintNode>(node: &ForStatement<N>, p: &mut Printer<'_>, place: Place)
     ensures { Lays p.old p.new (at_place (for_statement_row N.plain node.now) place) }
 {
     p.print_indentation();
@@ -34,7 +34,7 @@ pub fn print_for_statement<N: PrintNode>(node: &ForStatement<N>, p: &mut Printin
 
 // The word and what stands in the parentheses behind it.
 #[tactic(auto, unfolding(crate::specs::Place::at_place))]
-fn print_for_head<N: PrintNode>(node: &ForStatement<N>, p: &mut Printing<'_>, settings: Settings)
+fn print_for_head<N: PrintNode>(node: &ForStatement<N>, p: &mut Printer<'_>, settings: Settings)
     ensures { Lays p.old p.new (λ _. word (codes "for") ⊕ (soft_space ⊕ brackets Round (loop_parts (optional (option_map (in_for_statement_init N.plain) node.now.init))
         (optional (option_map (in_expression N.plain) node.now.test)) (optional (option_map (in_expression N.plain) node.now.update))
         (loop_head (among_statements (settings_of settings))) (in_brackets Lowest (among_statements (settings_of settings)))))) }
@@ -53,7 +53,7 @@ fn print_for_head<N: PrintNode>(node: &ForStatement<N>, p: &mut Printing<'_>, se
 }
 
 /// The word that begins a loop, and the space behind it.
-pub fn print_for(p: &mut Printing<'_>)
+pub fn print_for(p: &mut Printer<'_>)
     ensures { Lays p.old p.new (λ _. word (codes "for") ⊕ soft_space) }
 {
     p.print_word("for");
@@ -67,7 +67,7 @@ struct Inits;
 impl<N: PrintNode> PrintMember<ForStatementInit<N>> for Inits {
     ghost plain = { in_for_statement_init N.plain };
 
-    fn print_member(init: &ForStatementInit<N>, p: &mut Printing<'_>, place: Place) {
+    fn print_member(init: &ForStatementInit<N>, p: &mut Printer<'_>, place: Place) {
         match init {
             ForStatementInit::VariableDeclaration(node) => print_variable_declaration(
                 node, p, place,
@@ -80,7 +80,7 @@ impl<N: PrintNode> PrintMember<ForStatementInit<N>> for Inits {
 #[tactic(auto, unfolding(crate::specs::Place::at_place))]
 pub fn print_while_statement<N: PrintNode>(
     node: &WhileStatement<N>,
-    p: &mut Printing<'_>,
+    p: &mut Printer<'_>,
     place: Place,
 )
     ensures { Lays p.old p.new (at_place (while_statement_row N.plain node.now) place) }
@@ -94,7 +94,7 @@ pub fn print_while_statement<N: PrintNode>(
 #[tactic(auto, unfolding(crate::specs::Place::at_place))]
 pub fn print_do_while_statement<N: PrintNode>(
     node: &DoWhileStatement<N>,
-    p: &mut Printing<'_>,
+    p: &mut Printer<'_>,
     place: Place,
 )
     ensures { Lays p.old p.new (at_place (do_while_statement_row N.plain node.now) place) }
@@ -107,7 +107,7 @@ pub fn print_do_while_statement<N: PrintNode>(
 
 // The test, and the end of the statement.
 #[tactic(auto, unfolding(crate::specs::Place::at_place))]
-fn print_behind_do<N: PrintNode>(test: &ExpressionNode<N>, p: &mut Printing<'_>, settings: Settings)
+fn print_behind_do<N: PrintNode>(test: &ExpressionNode<N>, p: &mut Printer<'_>, settings: Settings)
     ensures { Lays p.old p.new (λ _. word (codes "while") ⊕ (soft_space ⊕ (brackets Round (spell (in_expression N.plain test.now) (in_brackets Lowest (among_statements (settings_of settings)))) ⊕ statement_end))) }
 {
     let within = Place::in_brackets(Precedence::Lowest, settings);

@@ -6,7 +6,7 @@ ghost use Rattle.jsgen_tree.specs.Rows.{unary_expression_row, update_expression_
 ghost use Rattle.jsgen_model.specs.Items.{◌⊕◌, word, soft_space};
 ghost use Rattle.jsgen_model.specs.Spell.{spell, spell_list, behind, in_brackets, constructed, any_given, needs_arguments, new_arguments};
 ghost use Rattle.jsgen_model.specs.Operators.{unary_sign, behind_unary};
-ghost use Rattle.jsgen_steps.specs.Steps.{Lays};
+ghost use Rattle.jsgen_printer.specs.Steps.{Lays};
 ghost use Rattle.jsgen_place.specs.Place.{place_of};
 ghost use Rattle.jsgen_nodes.specs.Place.{at_place};
 
@@ -15,8 +15,7 @@ use crate::links::Arguments;
 use crate::sets::print_simple_assignment_target;
 use jsgen_lists::{PrintMember, print_in_brackets, print_update};
 use jsgen_place::{Place, update_level};
-use jsgen_printer::Bracket;
-use jsgen_steps::Printing;
+use jsgen_printer::{Bracket, Printer};
 use jsgen_syntax::Precedence;
 use jsgen_tree::{
     Argument, NewExpression, NewTarget, SimpleAssignmentTarget, Super, UnaryExpression,
@@ -26,7 +25,7 @@ use jsgen_tree::{
 #[tactic(auto, unfolding(crate::specs::Place::at_place))]
 pub fn print_unary_expression<N: PrintNode>(
     node: &UnaryExpression<N>,
-    p: &mut Printing<'_>,
+    p: &mut Printer<'_>,
     place: Place,
 )
     ensures { Lays p.old p.new (at_place (unary_expression_row N.plain node.now) place) }
@@ -39,11 +38,7 @@ pub fn print_unary_expression<N: PrintNode>(
 
 // The operator and its operand, within the parentheses.
 #[tactic(auto, unfolding(crate::specs::Place::at_place))]
-fn print_unary_operation<N: PrintNode>(
-    node: &UnaryExpression<N>,
-    p: &mut Printing<'_>,
-    place: Place,
-)
+fn print_unary_operation<N: PrintNode>(node: &UnaryExpression<N>, p: &mut Printer<'_>, place: Place)
     ensures { Lays p.old p.new (λ pen. unary_sign node.now.operator ⊕ (behind_unary node.now.operator
         ⊕ spell (in_expression N.plain node.now.argument) (behind Exponentiation (place_of place pen)))) }
 {
@@ -57,7 +52,7 @@ fn print_unary_operation<N: PrintNode>(
 #[tactic(auto, unfolding(crate::specs::Place::at_place))]
 pub fn print_update_expression<N: PrintNode>(
     node: &UpdateExpression<N>,
-    p: &mut Printing<'_>,
+    p: &mut Printer<'_>,
     place: Place,
 )
     ensures { Lays p.old p.new (at_place (update_expression_row N.plain node.now) place) }
@@ -82,7 +77,7 @@ pub struct Targets;
 impl<N: PrintNode> PrintMember<SimpleAssignmentTarget<N>> for Targets {
     ghost plain = { in_simple_assignment_target N.plain };
 
-    fn print_member(member: &SimpleAssignmentTarget<N>, p: &mut Printing<'_>, place: Place) {
+    fn print_member(member: &SimpleAssignmentTarget<N>, p: &mut Printer<'_>, place: Place) {
         print_simple_assignment_target(member, p, place);
     }
 }
@@ -90,7 +85,7 @@ impl<N: PrintNode> PrintMember<SimpleAssignmentTarget<N>> for Targets {
 #[tactic(auto, unfolding(crate::specs::Place::at_place))]
 pub fn print_new_expression<N: PrintNode>(
     node: &NewExpression<N>,
-    p: &mut Printing<'_>,
+    p: &mut Printer<'_>,
     place: Place,
 )
     ensures { Lays p.old p.new (at_place (new_expression_row N.plain node.now) place) }
@@ -103,7 +98,7 @@ pub fn print_new_expression<N: PrintNode>(
 
 // `new`, what it stands before and what that is given, within the parentheses.
 #[tactic(auto, unfolding(crate::specs::Place::at_place))]
-fn print_construction<N: PrintNode>(node: &NewExpression<N>, p: &mut Printing<'_>, place: Place)
+fn print_construction<N: PrintNode>(node: &NewExpression<N>, p: &mut Printer<'_>, place: Place)
     ensures { Lays p.old p.new (λ pen. word (codes "new") ⊕ (soft_space
         ⊕ (spell (in_expression N.plain node.now.callee) (constructed (place_of place pen))
         ⊕ new_arguments (needs_arguments (place_of place pen) (any_given (trees (map (in_argument N.plain) node.now.arguments.items))))
@@ -117,7 +112,7 @@ fn print_construction<N: PrintNode>(node: &NewExpression<N>, p: &mut Printing<'_
 
 // What a constructor is given: in minified text nothing may stand for nothing.
 #[tactic(auto, unfolding(crate::specs::Place::at_place))]
-fn print_new_arguments<N: PrintNode>(arguments: &[Argument<N>], p: &mut Printing<'_>, place: Place)
+fn print_new_arguments<N: PrintNode>(arguments: &[Argument<N>], p: &mut Printer<'_>, place: Place)
     ensures { Lays p.old p.new (λ pen. new_arguments (needs_arguments (place_of place pen) (any_given (trees (map (in_argument N.plain) arguments.now))))
         (spell_list (trees (map (in_argument N.plain) arguments.now)) (in_brackets Comma (place_of place pen)))) }
 {
@@ -134,7 +129,7 @@ fn is_given<N: PrintNode>(arguments: &[Argument<N>]) -> bool
 }
 
 #[tactic(auto, unfolding(crate::specs::Place::at_place))]
-pub fn print_super(node: &Super, p: &mut Printing<'_>, place: Place)
+pub fn print_super(node: &Super, p: &mut Printer<'_>, place: Place)
     ensures { Lays p.old p.new (at_place (super_row node.now) place) }
 {
     let _ = node;
@@ -143,7 +138,7 @@ pub fn print_super(node: &Super, p: &mut Printing<'_>, place: Place)
 }
 
 #[tactic(auto, unfolding(crate::specs::Place::at_place))]
-pub fn print_new_target(node: &NewTarget, p: &mut Printing<'_>, place: Place)
+pub fn print_new_target(node: &NewTarget, p: &mut Printer<'_>, place: Place)
     ensures { Lays p.old p.new (at_place (new_target_row node.now) place) }
 {
     let _ = node;

@@ -7,7 +7,8 @@ ghost use Rattle.jsgen_tree.specs.Rows.{in_argument, in_expression, in_assignmen
 ghost use Rattle.jsgen_tree.specs.Plain.{node_plain};
 ghost use Rattle.jsgen_model.specs.Quotes.{is_string, is_one_string, has_second_string, defines_property, is_exports, is_key_of_exports, is_require_call, is_definition_call, is_export_target, is_export_mark};
 ghost use Rattle.jsgen_model.specs.Spell.{string_in};
-ghost use Rattle.jsgen_steps.specs.Steps.{Lays, pen_at};
+ghost use Rattle.jsgen_printer.specs.Printer.{pen_of};
+ghost use Rattle.jsgen_printer.specs.Steps.{Lays};
 ghost use Rattle.jsgen_place.specs.Place.{context_of};
 ghost use Rattle.jsgen_nodes.specs.Quotes.{where_it_holds, plain_arguments, plain_target, plain_string};
 
@@ -20,7 +21,7 @@ use jsgen_lists::{PlainQuotes, print_arguments};
 use jsgen_place::{
     Context, Place, Settings, is_definition_call, is_export_mark, is_export_target, is_require_call,
 };
-use jsgen_steps::Printing;
+use jsgen_printer::Printer;
 use jsgen_syntax::{BinaryOperator, JsStr, Precedence};
 use jsgen_tree::{
     Argument, AssignmentTarget, CallExpression, ComputedMemberExpression, Expression,
@@ -138,8 +139,8 @@ pub fn is_mark<N: PrintNode>(minified: bool, operator: BinaryOperator, operand: 
 // ---- the calls
 
 /// Prints the arguments of `require("x")`, if the call is that and the text minified; otherwise prints nothing.
-pub fn try_print_require_call<N: PrintNode>(p: &mut Printing<'_>, call: &CallExpression<N>) -> bool
-    ensures applies { result ≡ is_require_call (pen_at p.old).style.minified (in_expression N.plain call.now.callee) (trees (map (in_argument N.plain) call.now.arguments.items)) }
+pub fn try_print_require_call<N: PrintNode>(p: &mut Printer<'_>, call: &CallExpression<N>) -> bool
+    ensures applies { result ≡ is_require_call (pen_of p.old).style.minified (in_expression N.plain call.now.callee) (trees (map (in_argument N.plain) call.now.arguments.items)) }
     ensures text { Lays p.old p.new (λ pen. where_it_holds (is_require_call pen.style.minified (in_expression N.plain call.now.callee) (trees (map (in_argument N.plain) call.now.arguments.items)))
         (plain_arguments true false (trees (map (in_argument N.plain) call.now.arguments.items)))) }
 {
@@ -154,11 +155,11 @@ pub fn try_print_require_call<N: PrintNode>(p: &mut Printing<'_>, call: &CallExp
 /// Prints the arguments of `Object.defineProperty(x, "y", ..)` or `Reflect.defineProperty(x, "y", ..)`, if the call is one of
 /// these and the text minified; otherwise prints nothing. In arguments nothing is forbidden, whatever the context.
 pub fn try_print_define_property_call<N: PrintNode>(
-    p: &mut Printing<'_>,
+    p: &mut Printer<'_>,
     call: &CallExpression<N>,
     context: Context,
 ) -> bool
-    ensures applies { result ≡ is_definition_call (pen_at p.old).style.minified (in_expression N.plain call.now.callee) (trees (map (in_argument N.plain) call.now.arguments.items)) }
+    ensures applies { result ≡ is_definition_call (pen_of p.old).style.minified (in_expression N.plain call.now.callee) (trees (map (in_argument N.plain) call.now.arguments.items)) }
     ensures text { Lays p.old p.new (λ pen. where_it_holds (is_definition_call pen.style.minified (in_expression N.plain call.now.callee) (trees (map (in_argument N.plain) call.now.arguments.items)))
         (plain_arguments false true (trees (map (in_argument N.plain) call.now.arguments.items)))) }
 {
@@ -173,7 +174,7 @@ pub fn try_print_define_property_call<N: PrintNode>(
 
 fn print_plain_arguments<N: PrintNode>(
     quotes: PlainQuotes,
-    p: &mut Printing<'_>,
+    p: &mut Printer<'_>,
     call: &CallExpression<N>,
 )
     ensures { Lays p.old p.new (λ _. plain_arguments quotes.first quotes.second (trees (map (in_argument N.plain) call.now.arguments.items))) }
@@ -185,11 +186,11 @@ fn print_plain_arguments<N: PrintNode>(
 /// Prints `exports["x"]` or `module.exports["x"]`, if the target is one of these and the text minified; otherwise prints nothing.
 #[tactic(auto, unfolding(crate::specs::Place::at_place))]
 pub fn try_print_exports_computed_target<N: PrintNode>(
-    p: &mut Printing<'_>,
+    p: &mut Printer<'_>,
     target: &AssignmentTarget<N>,
     context: Context,
 ) -> bool
-    ensures applies { result ≡ is_export_target (pen_at p.old).style.minified (in_assignment_target N.plain target.now) }
+    ensures applies { result ≡ is_export_target (pen_of p.old).style.minified (in_assignment_target N.plain target.now) }
     ensures text { Lays p.old p.new (λ pen. where_it_holds (is_export_target pen.style.minified (in_assignment_target N.plain target.now))
         (plain_target (in_assignment_target N.plain target.now) (context_of context) pen.start)) }
 {
@@ -205,11 +206,11 @@ pub fn try_print_exports_computed_target<N: PrintNode>(
 /// Prints the operand, if it is `"default"` or `"__esModule"`, the operator compares by equality and the text is minified;
 /// otherwise prints nothing.
 pub fn try_print_equality_string(
-    p: &mut Printing<'_>,
+    p: &mut Printer<'_>,
     operator: BinaryOperator,
     operand: &Expression,
 ) -> bool
-    ensures applies { result ≡ is_export_mark (pen_at p.old).style.minified operator (expression_plain node_plain operand.now) }
+    ensures applies { result ≡ is_export_mark (pen_of p.old).style.minified operator (expression_plain node_plain operand.now) }
     ensures text { Lays p.old p.new (λ pen. where_it_holds (is_export_mark pen.style.minified operator (expression_plain node_plain operand.now))
         (plain_string (string_in (without_parentheses (expression_plain node_plain operand.now))))) }
 {
@@ -222,7 +223,7 @@ pub fn try_print_equality_string(
     }
 }
 
-fn print_plain_string(string: Option<&JsStr>, p: &mut Printing<'_>)
+fn print_plain_string(string: Option<&JsStr>, p: &mut Printer<'_>)
     ensures { Lays p.old p.new (λ _. plain_string (option_map (λ v. js_units v.now) string.entry)) }
 {
     match string {

@@ -1,19 +1,19 @@
 // Sequences (ECMA-262, 13.16).
 ghost use Rattle.jsgen_tree.specs.Rows.{sequence_expression_row, in_expression};
-ghost use Rattle.jsgen_steps.specs.Steps.{Lays};
+ghost use Rattle.jsgen_printer.specs.Steps.{Lays};
 ghost use Rattle.jsgen_nodes.specs.Place.{at_place};
 
 use crate::PrintNode;
 use jsgen_lists::{PrintMember, print_parts};
 use jsgen_place::Place;
-use jsgen_steps::Printing;
+use jsgen_printer::Printer;
 use jsgen_syntax::Precedence;
 use jsgen_tree::{ExpressionNode, SequenceExpression};
 
 #[tactic(auto, unfolding(crate::specs::Place::at_place))]
 pub fn print_sequence_expression<N: PrintNode>(
     node: &SequenceExpression<N>,
-    p: &mut Printing<'_>,
+    p: &mut Printer<'_>,
     place: Place,
 )
     ensures { Lays p.old p.new (at_place (sequence_expression_row N.plain node.now) place) }
@@ -32,7 +32,7 @@ pub struct Expressions;
 impl<N: PrintNode> PrintMember<ExpressionNode<N>> for Expressions {
     ghost plain = { in_expression N.plain };
 
-    fn print_member(expression: &ExpressionNode<N>, p: &mut Printing<'_>, place: Place) {
+    fn print_member(expression: &ExpressionNode<N>, p: &mut Printer<'_>, place: Place) {
         expression.get().print(p, place);
     }
 }

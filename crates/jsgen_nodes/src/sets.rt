@@ -2,7 +2,7 @@
 // A set prints as its member does.
 ghost use Rattle.std.specs.Prelude.{◌≡◌, true, nat_le};
 ghost use Rattle.jsgen_tree.specs.Rows.{in_simple_assignment_target, in_assignment_target, in_for_statement_left, expression_plain, declaration_plain, statement_plain, binding_pattern_plain};
-ghost use Rattle.jsgen_steps.specs.Steps.{Lays};
+ghost use Rattle.jsgen_printer.specs.Steps.{Lays};
 ghost use Rattle.jsgen_nodes.specs.Place.{at_place};
 ghost use Rattle.jsgen_nodes.specs.Parts.{expression_part, declaration_part, statement_part};
 
@@ -40,13 +40,13 @@ use crate::statements::{
     print_binding_identifier, print_expression_statement, print_variable_declaration,
 };
 use jsgen_place::Place;
-use jsgen_steps::Printing;
+use jsgen_printer::Printer;
 use jsgen_tree::{
     AssignmentTarget, BindingPattern, Declaration, Expression, ForStatementLeft,
     SimpleAssignmentTarget, Statement,
 };
 
-pub fn print_expression<N: PrintNode>(node: &Expression<N>, p: &mut Printing<'_>, place: Place)
+pub fn print_expression<N: PrintNode>(node: &Expression<N>, p: &mut Printer<'_>, place: Place)
     ensures { Lays p.old p.new (at_place (expression_plain N.plain node.now) place) }
 {
     match node {
@@ -72,7 +72,7 @@ pub fn print_expression<N: PrintNode>(node: &Expression<N>, p: &mut Printing<'_>
 
 fn print_expression_in_collections<N: PrintNode>(
     node: &Expression<N>,
-    p: &mut Printing<'_>,
+    p: &mut Printer<'_>,
     place: Place,
 )
     requires { nat_le 1 (expression_part node.now) ≡ true }
@@ -87,7 +87,7 @@ fn print_expression_in_collections<N: PrintNode>(
 
 fn print_expression_in_operations<N: PrintNode>(
     node: &Expression<N>,
-    p: &mut Printing<'_>,
+    p: &mut Printer<'_>,
     place: Place,
 )
     requires { nat_le 2 (expression_part node.now) ≡ true }
@@ -105,7 +105,7 @@ fn print_expression_in_operations<N: PrintNode>(
 
 fn print_expression_in_assignments<N: PrintNode>(
     node: &Expression<N>,
-    p: &mut Printing<'_>,
+    p: &mut Printer<'_>,
     place: Place,
 )
     requires { nat_le 3 (expression_part node.now) ≡ true }
@@ -121,7 +121,7 @@ fn print_expression_in_assignments<N: PrintNode>(
 
 fn print_expression_in_functions<N: PrintNode>(
     node: &Expression<N>,
-    p: &mut Printing<'_>,
+    p: &mut Printer<'_>,
     place: Place,
 )
     requires { nat_le 4 (expression_part node.now) ≡ true }
@@ -136,7 +136,7 @@ fn print_expression_in_functions<N: PrintNode>(
     }
 }
 
-pub fn print_declaration<N: PrintNode>(node: &Declaration<N>, p: &mut Printing<'_>, place: Place)
+pub fn print_declaration<N: PrintNode>(node: &Declaration<N>, p: &mut Printer<'_>, place: Place)
     ensures { Lays p.old p.new (at_place (declaration_plain N.plain node.now) place) }
 {
     match node {
@@ -147,7 +147,7 @@ pub fn print_declaration<N: PrintNode>(node: &Declaration<N>, p: &mut Printing<'
 
 fn print_declaration_in_functions<N: PrintNode>(
     node: &Declaration<N>,
-    p: &mut Printing<'_>,
+    p: &mut Printer<'_>,
     place: Place,
 )
     requires { nat_le 1 (declaration_part node.now) ≡ true }
@@ -159,7 +159,7 @@ fn print_declaration_in_functions<N: PrintNode>(
     }
 }
 
-pub fn print_statement<N: PrintNode>(node: &Statement<N>, p: &mut Printing<'_>, place: Place)
+pub fn print_statement<N: PrintNode>(node: &Statement<N>, p: &mut Printer<'_>, place: Place)
     ensures { Lays p.old p.new (at_place (statement_plain N.plain node.now) place) }
 {
     match node {
@@ -170,7 +170,7 @@ pub fn print_statement<N: PrintNode>(node: &Statement<N>, p: &mut Printing<'_>, 
 
 fn print_statement_in_statements<N: PrintNode>(
     node: &Statement<N>,
-    p: &mut Printing<'_>,
+    p: &mut Printer<'_>,
     place: Place,
 )
     requires { nat_le 1 (statement_part node.now) ≡ true }
@@ -185,7 +185,7 @@ fn print_statement_in_statements<N: PrintNode>(
     }
 }
 
-fn print_statement_in_loops<N: PrintNode>(node: &Statement<N>, p: &mut Printing<'_>, place: Place)
+fn print_statement_in_loops<N: PrintNode>(node: &Statement<N>, p: &mut Printer<'_>, place: Place)
     requires { nat_le 2 (statement_part node.now) ≡ true }
     ensures { Lays p.old p.new (at_place (statement_plain N.plain node.now) place) }
 {
@@ -205,7 +205,7 @@ fn print_statement_in_loops<N: PrintNode>(node: &Statement<N>, p: &mut Printing<
     }
 }
 
-fn print_statement_in_choices<N: PrintNode>(node: &Statement<N>, p: &mut Printing<'_>, place: Place)
+fn print_statement_in_choices<N: PrintNode>(node: &Statement<N>, p: &mut Printer<'_>, place: Place)
     requires { nat_le 3 (statement_part node.now) ≡ true }
     ensures { Lays p.old p.new (at_place (statement_plain N.plain node.now) place) }
 {
@@ -216,7 +216,7 @@ fn print_statement_in_choices<N: PrintNode>(node: &Statement<N>, p: &mut Printin
     }
 }
 
-pub fn print_binding_pattern(node: &BindingPattern, p: &mut Printing<'_>, place: Place)
+pub fn print_binding_pattern(node: &BindingPattern, p: &mut Printer<'_>, place: Place)
     ensures { Lays p.old p.new (at_place (binding_pattern_plain node.now) place) }
 {
     match node {
@@ -226,7 +226,7 @@ pub fn print_binding_pattern(node: &BindingPattern, p: &mut Printing<'_>, place:
 
 pub fn print_simple_assignment_target<N: PrintNode>(
     node: &SimpleAssignmentTarget<N>,
-    p: &mut Printing<'_>,
+    p: &mut Printer<'_>,
     place: Place,
 )
     ensures { Lays p.old p.new (at_place (in_simple_assignment_target N.plain node.now) place) }
@@ -246,7 +246,7 @@ pub fn print_simple_assignment_target<N: PrintNode>(
 
 pub fn print_assignment_target<N: PrintNode>(
     node: &AssignmentTarget<N>,
-    p: &mut Printing<'_>,
+    p: &mut Printer<'_>,
     place: Place,
 )
     ensures { Lays p.old p.new (at_place (in_assignment_target N.plain node.now) place) }
@@ -264,7 +264,7 @@ pub fn print_assignment_target<N: PrintNode>(
 
 pub fn print_for_statement_left<N: PrintNode>(
     node: &ForStatementLeft<N>,
-    p: &mut Printing<'_>,
+    p: &mut Printer<'_>,
     place: Place,
 )
     ensures { Lays p.old p.new (at_place (in_for_statement_left N.plain node.now) place) }

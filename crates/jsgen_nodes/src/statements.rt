@@ -6,7 +6,7 @@ ghost use Rattle.jsgen_tree.specs.Words.{declaration_word};
 ghost use Rattle.jsgen_tree.specs.Rows.{binding_identifier_row, variable_declarator_row, variable_declaration_row, expression_statement_row, program_row, directive_row, in_statement};
 ghost use Rattle.jsgen_model.specs.Items.{◌⊕◌, word, soft_space};
 ghost use Rattle.jsgen_model.specs.Spell.{spell, spell_list, spell_directives, first_statement, behind, among_statements};
-ghost use Rattle.jsgen_steps.specs.Steps.{Lays};
+ghost use Rattle.jsgen_printer.specs.Steps.{Lays};
 ghost use Rattle.jsgen_place.specs.Place.{place_of, settings_of};
 ghost use Rattle.jsgen_nodes.specs.Place.{at_place};
 
@@ -14,7 +14,7 @@ use crate::PrintNode;
 use crate::sequences::Expressions;
 use jsgen_lists::{PrintMember, PrintStatement, print_parts, print_value, print_whole_body};
 use jsgen_place::{Place, Settings};
-use jsgen_steps::Printing;
+use jsgen_printer::Printer;
 use jsgen_syntax::Precedence;
 use jsgen_tree::{
     BindingIdentifier, Directive, ExpressionStatement, Program, StatementNode, VariableDeclaration,
@@ -22,7 +22,7 @@ use jsgen_tree::{
 };
 
 #[tactic(auto, unfolding(crate::specs::Place::at_place))]
-pub fn print_program<N: PrintNode>(node: &Program<N>, p: &mut Printing<'_>, settings: Settings)
+pub fn print_program<N: PrintNode>(node: &Program<N>, p: &mut Printer<'_>, settings: Settings)
     ensures { Lays p.old p.new (λ _. spell (program_row N.plain node.now) (among_statements (settings_of settings))) }
 {
     print_directives(&node.directives, p, settings);
@@ -30,7 +30,7 @@ pub fn print_program<N: PrintNode>(node: &Program<N>, p: &mut Printing<'_>, sett
 }
 
 #[tactic(auto, unfolding(crate::specs::Place::at_place))]
-pub fn print_directives(directives: &[Directive], p: &mut Printing<'_>, settings: Settings)
+pub fn print_directives(directives: &[Directive], p: &mut Printer<'_>, settings: Settings)
     ensures { Lays p.old p.new (λ _. spell_directives (trees (map directive_row directives.now)) (settings_of settings)) }
 {
     for directive in directives {
@@ -39,7 +39,7 @@ pub fn print_directives(directives: &[Directive], p: &mut Printing<'_>, settings
 }
 
 #[tactic(auto, unfolding(crate::specs::Place::at_place))]
-pub fn print_directive(node: &Directive, p: &mut Printing<'_>, place: Place)
+pub fn print_directive(node: &Directive, p: &mut Printer<'_>, place: Place)
     ensures { Lays p.old p.new (at_place (directive_row node.now) place) }
 {
     let _ = place;
@@ -50,7 +50,7 @@ pub fn print_directive(node: &Directive, p: &mut Printing<'_>, place: Place)
 }
 
 #[tactic(auto, unfolding(crate::specs::Place::at_place))]
-fn print_first_statement<N: PrintNode>(statement: &N, p: &mut Printing<'_>, place: Place)
+fn print_first_statement<N: PrintNode>(statement: &N, p: &mut Printer<'_>, place: Place)
     ensures { Lays p.old p.new (λ pen. first_statement (N.plain statement.now) (spell (N.plain statement.now) (place_of place pen))) }
 {
     match statement.string_statement() {
@@ -70,11 +70,11 @@ pub struct Statements;
 impl<N: PrintNode> PrintStatement<StatementNode<N>> for Statements {
     ghost plain = { in_statement N.plain };
 
-    fn print_statement(statement: &StatementNode<N>, p: &mut Printing<'_>, place: Place) {
+    fn print_statement(statement: &StatementNode<N>, p: &mut Printer<'_>, place: Place) {
         statement.get().print(p, place);
     }
 
-    fn print_first_statement(statement: &StatementNode<N>, p: &mut Printing<'_>, place: Place) {
+    fn print_first_statement(statement: &StatementNode<N>, p: &mut Printer<'_>, place: Place) {
         print_first_statement(statement.get(), p, place);
     }
 }
@@ -82,7 +82,7 @@ impl<N: PrintNode> PrintStatement<StatementNode<N>> for Statements {
 #[tactic(auto, unfolding(crate::specs::Place::at_place))]
 pub fn print_expression_statement<N: PrintNode>(
     node: &ExpressionStatement<N>,
-    p: &mut Printing<'_>,
+    p: &mut Printer<'_>,
     place: Place,
 )
     ensures { Lays p.old p.new (at_place (expression_statement_row N.plain node.now) place) }
@@ -98,7 +98,7 @@ pub fn print_expression_statement<N: PrintNode>(
 #[tactic(auto, unfolding(crate::specs::Place::at_place))]
 pub fn print_variable_declaration<N: PrintNode>(
     node: &VariableDeclaration<N>,
-    p: &mut Printing<'_>,
+    p: &mut Printer<'_>,
     place: Place,
 )
     ensures { Lays p.old p.new (at_place (variable_declaration_row N.plain node.now) place) }
@@ -114,11 +114,7 @@ pub fn print_variable_declaration<N: PrintNode>(
 
 // The word and its declarators.
 #[tactic(auto, unfolding(crate::specs::Place::at_place))]
-fn print_declarators<N: PrintNode>(
-    node: &VariableDeclaration<N>,
-    p: &mut Printing<'_>,
-    place: Place,
-)
+fn print_declarators<N: PrintNode>(node: &VariableDeclaration<N>, p: &mut Printer<'_>, place: Place)
     ensures { Lays p.old p.new (λ pen. word (declaration_word node.now.kind)
         ⊕ (soft_space ⊕ spell_list (trees (map (variable_declarator_row N.plain) node.now.declarations.items))
         (behind Lowest (place_of place pen)))) }
@@ -135,7 +131,7 @@ struct Declarators;
 impl<N: PrintNode> PrintMember<VariableDeclarator<N>> for Declarators {
     ghost plain = { variable_declarator_row N.plain };
 
-    fn print_member(declarator: &VariableDeclarator<N>, p: &mut Printing<'_>, place: Place) {
+    fn print_member(declarator: &VariableDeclarator<N>, p: &mut Printer<'_>, place: Place) {
         print_variable_declarator(declarator, p, place);
     }
 }
@@ -143,7 +139,7 @@ impl<N: PrintNode> PrintMember<VariableDeclarator<N>> for Declarators {
 #[tactic(auto, unfolding(crate::specs::Place::at_place))]
 pub fn print_variable_declarator<N: PrintNode>(
     node: &VariableDeclarator<N>,
-    p: &mut Printing<'_>,
+    p: &mut Printer<'_>,
     place: Place,
 )
     ensures { Lays p.old p.new (at_place (variable_declarator_row N.plain node.now) place) }
@@ -153,7 +149,7 @@ pub fn print_variable_declarator<N: PrintNode>(
 }
 
 #[tactic(auto, unfolding(crate::specs::Place::at_place))]
-pub fn print_binding_identifier(node: &BindingIdentifier, p: &mut Printing<'_>, place: Place)
+pub fn print_binding_identifier(node: &BindingIdentifier, p: &mut Printer<'_>, place: Place)
     ensures { Lays p.old p.new (at_place (binding_identifier_row node.now) place) }
 {
     let _ = place;

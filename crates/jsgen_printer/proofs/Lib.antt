@@ -1,9 +1,12 @@
 mod Flags
-pub mod Handed
+pub mod Appends
+pub mod Attempts
 pub mod Bangs
+pub mod Handed
+pub mod Numbers
 pub mod Operators
 pub mod Prefixes
-pub mod Stops
-pub mod Texts
-pub mod Numbers
+pub mod Sequence
 pub mod Starts
+pub mod Texts
+pub mod Turns

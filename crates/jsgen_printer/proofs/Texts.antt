@@ -1,7 +1,7 @@
 -- Texts in bytes and in characters.
-use Rattle.std.proofs.Common.{◌≡◌, ℕ, zero, suc, codes, Result, Ok, Err, OnOk, ◌<◌, ◌≤◌, ◌-◌, ◌*◌, Bool, true, false, nat_lt, Option, Some, None, List, [], ◌∷◌, ◌++◌, length, replicate, take, drop, refl, sym, ap, subst, ◌∙◌, append_assoc, append-nil, length-append, if◌then◌else◌, arith}
+use Rattle.std.proofs.Common.{◌≡◌, ℕ, zero, suc, codes, ◌<◌, ◌≤◌, ◌-◌, Bool, true, false, nat_lt, Option, Some, None, List, [], ◌∷◌, ◌++◌, length, replicate, take, drop, refl, sym, ap, subst, ◌∙◌, append_assoc, append-nil, length-append, arith}
 use Rattle.std.specs.List.{slice_get}
-use Rattle.std.specs.Option.{option_map, option_map_or, option_and_then, unwrap_or}
+use Rattle.std.specs.Option.{option_map, option_map_or}
 use Rattle.std.specs.Str.{chars, encode_utf8_all, IsAscii, IsUtf8}
 use Rattle.std.proofs.Math.Seq.{take-append_seam, drop-append_seam}
 use Rattle.std.proofs.lemmas.Bool.{and_parts, and_from}
@@ -15,16 +15,12 @@ use Rattle.jsgen_syntax.specs.declared.buffer.IndentChar.{IndentChar}
 use Rattle.jsgen_syntax.specs.declared.buffer.IndentChar.TheVariants as indents
 use Rattle.jsgen_syntax.specs.Name.{goes_in_word}
 use Rattle.jsgen_syntax.specs.Escapes.{name_text, has_escapes}
-use Rattle.jsgen_syntax.specs.Strings.{quote_char, quoted}
+use Rattle.jsgen_syntax.specs.Strings.{quote_char}
 use Rattle.jsgen_syntax.specs.declared.quote.Quote.{Quote}
 use Rattle.jsgen_syntax.specs.declared.quote.Quote.TheVariants as quotes
 use Rattle.jsgen_syntax.specs.declared.quote.Quote.TheVariants.{Backtick}
-use Rattle.jsgen_tree.specs.Job.{Scoping, Tables}
-use Rattle.jsgen_tree.specs.Named.{as_written, name_by, printed_name}
-use Rattle.jsgen_model.specs.Punctuator.{Round, opening, closing}
-use Rattle.jsgen_model.specs.Items.{indentation}
-use Rattle.jsgen_model.specs.Layout.{Style, Pen, Ending, first_text, other_end, nowhere, written, written_if, indented, space_if, ends_in_word, name_ending, with_name, layout}
-use Rattle.jsgen_model.specs.Printing.{IsPrefix, Reaches}
+use Rattle.jsgen_model.specs.Layout.{Pen, Ending, nowhere, other_end, written, written_if, indented, space_if, ends_in_word, name_ending}
+use Rattle.jsgen_model.specs.Printing.{IsPrefix}
 use Rattle.jsgen_printer.specs.Printer.{is_ascii, name_written}
 use Rattle.jsgen_printer.proofs.Prefixes.{prefix_append, prefix_behind, first_bytes}
 
@@ -134,41 +130,3 @@ quote_chars q = ascii_chars (quote_char q ∷ []) (and_from (nat_lt (quote_char 
 pub name_apart : (test : Bool) (w : List ℕ) (pen : Pen) → name_written w (written_if test (chars (codes " ")) pen) ≡ written (space_if test ++ name_text pen.style.ascii w) (name_ending (has_escapes pen.style.ascii w)) pen
 name_apart true w pen = written_apart true (name_text pen.style.ascii w) (name_ending (has_escapes pen.style.ascii w)) pen
 name_apart false w pen = written_apart false (name_text pen.style.ascii w) (name_ending (has_escapes pen.style.ascii w)) pen
-
--- three texts
-pub between : (a text b : List ℕ) (pen : Pen) → written b other_end (written text other_end (written a other_end pen)) ≡ written (a ++ (text ++ b)) other_end pen
-between a text b pen = ap (λ code. record pen { code = code; ending = other_end; start = nowhere }) (append_assoc (pen.code ++ a) text b ∙ append_assoc pen.code a (text ++ b))
-
--- in parentheses
-pub in_parentheses : (text : List ℕ) (pen : Pen) → written (closing Round) other_end (written text other_end (written (opening Round) other_end pen)) ≡ written (opening Round ++ (text ++ closing Round)) other_end pen
-in_parentheses text pen = between (opening Round) text (closing Round) pen
-
--- pretty, a first string stands in parentheses
-pub pretty_first : (style : Style) (units : List ℕ) → style.minified ≡ false → first_text style units ≡ opening Round ++ (quoted style.quote style.ascii units ++ closing Round)
-pretty_first style units h = ap (λ minified. if minified then quoted Backtick style.ascii units else opening Round ++ (quoted style.quote style.ascii units ++ closing Round)) h
-
--- ---- steps
-
--- what holds of a step's pen holds of an equal one
-pub same_pen : {T E : Type 0} (r : Result T E) (x y z : Pen) → OnOk r (x ≡ y) → y ≡ z → OnOk r (x ≡ z)
-same_pen (Ok a) x y z h e = h ∙ e
-same_pen (Err a) x y z h e = h
-
-written_by_none : (o : Option Scoping) (w : List ℕ) → w ≡ unwrap_or (option_and_then (λ scoping. name_by scoping (as_written w)) o) w
-written_by_none None w = refl
-written_by_none (Some scoping) w = refl
-
--- no table changes a name that is printed as it is written
-pub own_name_printed : (tables : Tables) (w : List ℕ) → w ≡ printed_name tables (as_written w)
-own_name_printed tables w = written_by_none tables.scoping w
-
--- a name by what it is printed as
-pub named_reaches : {T E : Type 0} (r : Result T E) (printed name : List ℕ) (old new : Pen) → printed ≡ name → Reaches r old new (with_name printed old) → Reaches r old new (with_name name old)
-named_reaches r printed name old new e h = subst (λ n. Reaches r old new (with_name n old)) e h
-
--- indentation, by what stands in its place
-pub one_space : (pen : Pen) → pen.style.minified ≡ false → pen.pending_space ≡ true → record (written (codes " ") other_end pen) { pending_space = false } ≡ layout indentation pen
-one_space pen pretty space = rw (pretty, space) refl
-
-pub all_levels : (pen : Pen) → pen.style.minified ≡ false → pen.pending_space ≡ false → indented (replicate (pen.depth * pen.style.width) pen.style.indent) pen ≡ layout indentation pen
-all_levels pen pretty levels = rw (pretty, levels) refl

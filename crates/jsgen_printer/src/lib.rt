@@ -1,4 +1,5 @@
-//! The text that is being printed: a pen of the layout, and the steps by which it goes on.
+//! The text that is being printed: a pen of the layout, and the steps by which it goes on. Once memory has run out no step adds
+//! anything, so that they are made one after the other, and whether the text is whole is asked at the end.
 #![tactic(auto)]
 
 mod context;

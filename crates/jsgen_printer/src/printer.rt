@@ -1,4 +1,5 @@
-// What has been printed so far, and the steps by which it goes on. Each step is an item of the layout.
+// What has been printed so far, and the steps by which it goes on. Each step is an item of the layout, and after want of memory
+// none adds anything.
 ghost use Rattle.std.specs.Prelude.{◌≡◌, ◌*◌, if◌then◌else◌};
 ghost use Rattle.jsgen_syntax.specs.Buffer.{indent_width};
 ghost use Rattle.jsgen_syntax.specs.Name.{goes_in_word};
@@ -12,8 +13,8 @@ mod names;
 mod numbers;
 
 use jsgen_syntax::{
-    AssignmentOperator, BinaryOperator, CodeBuffer, JsStr, LogicalOperator, Memory, Quote,
-    UnaryOperator, UpdateOperator,
+    AssignmentOperator, BinaryOperator, CodeBuffer, JsStr, LogicalOperator, Quote, UnaryOperator,
+    UpdateOperator,
 };
 use jsgen_text::{
     cheapest_quote, directive_quote, print_directive_raw, print_name_text, print_string_text,
@@ -49,7 +50,7 @@ pub enum Bracket {
     Brace,
 }
 
-/// A text that is being printed.
+/// A text that is being printed. After want of memory it stays as it is, whatever steps are still made.
 #[derive(Drop)]
 pub struct Printer<'a> {
     code: CodeBuffer,
@@ -63,16 +64,16 @@ pub struct Printer<'a> {
     pending_semicolon: bool,
     ending: Ending,
     start: Start,
+    has_failed: bool,
     ghost indents: { width ≡ indent_width code },
 }
 
 #[tactic(auto, using(crate::proofs::Texts::ascii_chars), unfolding(crate::specs::Printer::pen_of))]
 impl<'a> Printer<'a> {
-    ghost use Rattle.std.specs.Prelude.{IfOk, [], ◌∷◌, ◌++◌, replicate, string_bytes, true, IsTrue};
+    ghost use Rattle.std.specs.Prelude.{[], ◌∷◌, ◌++◌, replicate, string_bytes, false, true, IsTrue};
     ghost use Rattle.std.specs.Str.{chars, encode_utf8_all};
     ghost use Rattle.jsgen_model.specs.Punctuator.{Round, opening, closing, ellipsis, comma, semicolon, equal, plus, minus, equal_equal, equal_equal_equal, plus_plus, minus_minus, colon, question, question_dot, arrow};
     ghost use Rattle.jsgen_model.specs.Items.{word, string, first_string, directive, member_dot, punctuator, soft_space, soft_line, hard_space, indentation, body_space, statement_end, due_semicolon, drop_semicolon, statement_begins, arrow_body_begins};
-    ghost use Rattle.jsgen_model.specs.Printing.{Reaches};
     ghost use Rattle.jsgen_model.specs.Layout.{layout, written, written_if, other_end, space_if, ends_in_word, ends_in_escapes, is_apart, name_ending, joins, dot_joins, indented, ends_in_less_bang, chosen_quote, deeper_level, empty_pen, style_of};
     ghost use Rattle.jsgen_syntax.specs.Buffer.{indent_byte};
     ghost use Rattle.jsgen_tree.specs.Options.{options_plain};
@@ -83,11 +84,13 @@ impl<'a> Printer<'a> {
     ghost use Rattle.jsgen_syntax.specs.Raw.{directive_text};
     ghost use Rattle.jsgen_model.specs.Spell.{bars_brace, bars_function};
     ghost use Rattle.jsgen_model.specs.Operators.{operator_item, unary_sign, behind_unary, update_item, logical_item, assignment_item};
+    ghost use Rattle.jsgen_printer.specs.Steps.{has_failed, Goes, Lays};
     ghost use Rattle.jsgen_printer.specs.Printer.{bracket_of, pen_of, ending_of, stands_apart, name_written, by_tables, is_ascii, deepened, at_depth};
 
     /// A printer that has printed nothing.
     pub fn new(alloc: Global, options: &CodegenOptions) -> Printer<'a>
-        ensures { pen_of result ≡ empty_pen (style_of (options_plain options.now) no_tables) 0 }
+        ensures pen { pen_of result ≡ empty_pen (style_of (options_plain options.now) no_tables) 0 }
+        ensures going { has_failed result ≡ false }
     {
         Printer {
             code: CodeBuffer::with_indent(alloc, options.indent_char, options.indent_width),
@@ -101,16 +104,33 @@ impl<'a> Printer<'a> {
             pending_semicolon: false,
             ending: Ending::Other,
             start: Start::Statement,
+            has_failed: false,
         }
     }
 
     /// From here on names are printed by these tables.
     pub fn with_tables(self, tables: Tables<'a>) -> Printer<'a>
-        ensures { pen_of result ≡ by_tables (tables_plain tables.entry) (pen_of self.entry) }
+        ensures pen { pen_of result ≡ by_tables (tables_plain tables.entry) (pen_of self.entry) }
+        ensures failed { has_failed result ≡ has_failed self.entry }
     {
         let mut printer = self;
         printer.tables = tables;
         printer
+    }
+
+    /// Whether memory ran out.
+    pub fn has_failed(&self) -> bool
+        ensures { result ≡ has_failed self.now }
+    {
+        self.has_failed
+    }
+
+    /// Memory ran out elsewhere: no step adds anything from here on.
+    pub fn fail(&mut self)
+        ensures failed { has_failed self.new ≡ true }
+        ensures pen { pen_of self.new ≡ pen_of self.old }
+    {
+        self.has_failed = true;
     }
 
     /// Whether the text is minified.
@@ -121,34 +141,35 @@ impl<'a> Printer<'a> {
     }
 
     // The code goes on with a text, which ends so.
-    fn print_str(&mut self, text: &str, ending: Ending) -> Result<(), Memory>
-        ensures { Reaches result (pen_of self.old) (pen_of self.new)
-            (written (chars text.now) (ending_of ending) (pen_of self.old)) }
+    fn print_str(&mut self, text: &str, ending: Ending)
+        ensures { Goes self.old self.new (written (chars text.now) (ending_of ending)) }
     {
-        self.code.print_str(text)?;
-        self.ending = ending;
-        self.start = Start::Nowhere;
-        Ok(())
+        if self.has_failed {
+            return;
+        }
+        match self.code.print_str(text) {
+            Ok(()) => {
+                self.ending = ending;
+                self.start = Start::Nowhere;
+            }
+            Err(_) => self.has_failed = true,
+        }
     }
 
     // A text stands apart from what is before it, by a space where the test holds.
-    fn print_apart(&mut self, test: bool, text: &str, ending: Ending) -> Result<(), Memory>
-        ensures { Reaches result (pen_of self.old) (pen_of self.new)
-            (written (space_if test ++ chars text.now) (ending_of ending) (pen_of self.old)) }
+    fn print_apart(&mut self, test: bool, text: &str, ending: Ending)
+        ensures { Goes self.old self.new (written (space_if test ++ chars text.now) (ending_of ending)) }
     {
-        self.print_if(test, " ")?;
-        self.print_str(text, ending)
+        self.print_if(test, " ");
+        self.print_str(text, ending);
     }
 
     // The code goes on with a text where the test holds.
-    fn print_if(&mut self, test: bool, text: &str) -> Result<(), Memory>
-        ensures { Reaches result (pen_of self.old) (pen_of self.new)
-            (written_if test (chars text.now) (pen_of self.old)) }
+    fn print_if(&mut self, test: bool, text: &str)
+        ensures { Goes self.old self.new (written_if test (chars text.now)) }
     {
         if test {
-            self.print_str(text, Ending::Other)
-        } else {
-            Ok(())
+            self.print_str(text, Ending::Other);
         }
     }
 
@@ -255,22 +276,28 @@ impl<'a> Printer<'a> {
         )
     }
 
-    pub fn print_word(&mut self, text: &str) -> Result<(), Memory>
+    pub fn print_word(&mut self, text: &str)
         requires { IsTrue (is_ascii text.now) }
-        ensures { Reaches result (pen_of self.old) (pen_of self.new) (layout (word text.now) (pen_of self.old)) }
+        ensures { Lays self.old self.new (λ _. word text.now) }
     {
         let apart = self.is_apart();
-        self.print_apart(apart, text, Ending::Other)
+        self.print_apart(apart, text, Ending::Other);
     }
 
     // The code goes on with a name, which needs no space before it.
-    fn print_bare_name(&mut self, text: &str) -> Result<(), Memory>
-        ensures { Reaches result (pen_of self.old) (pen_of self.new) (name_written (chars text.now) (pen_of self.old)) }
+    fn print_bare_name(&mut self, text: &str)
+        ensures { Goes self.old self.new (name_written (chars text.now)) }
     {
-        let has_escapes = print_name_text(&mut self.code, text, self.ascii_only)?;
-        self.ending = Printer::name_ending(has_escapes);
-        self.start = Start::Nowhere;
-        Ok(())
+        if self.has_failed {
+            return;
+        }
+        match print_name_text(&mut self.code, text, self.ascii_only) {
+            Ok(has_escapes) => {
+                self.ending = Printer::name_ending(has_escapes);
+                self.start = Start::Nowhere;
+            }
+            Err(_) => self.has_failed = true,
+        }
     }
 
     // What the code ends in behind a name.
@@ -297,68 +324,87 @@ impl<'a> Printer<'a> {
     }
 
     // The code goes on with a string in this quote.
-    fn print_quoted(&mut self, value: &JsStr, quote: Quote) -> Result<(), Memory>
-        ensures { Reaches result (pen_of self.old) (pen_of self.new)
-            (written (quoted quote (pen_of self.old).style.ascii (js_units value.now)) other_end (pen_of self.old)) }
+    fn print_quoted(&mut self, value: &JsStr, quote: Quote)
+        ensures { Goes self.old self.new (λ pen. written (quoted quote pen.style.ascii (js_units value.now)) other_end pen) }
     {
-        print_string_text(&mut self.code, value, quote, self.ascii_only)?;
-        self.ending = Ending::Other;
-        self.start = Start::Nowhere;
-        Ok(())
-    }
-
-    /// A string, which may stand in backticks or not.
-    pub fn print_string(&mut self, value: &JsStr, backticks: bool) -> Result<(), Memory>
-        ensures { Reaches result (pen_of self.old) (pen_of self.new)
-            (layout (string backticks (js_units value.now)) (pen_of self.old)) }
-    {
-        let quote = self.string_quote(value, backticks);
-        self.print_quoted(value, quote)
-    }
-
-    /// A string that is a whole first statement, without its end.
-    pub fn print_first_string(&mut self, value: &JsStr) -> Result<(), Memory>
-        ensures { Reaches result (pen_of self.old) (pen_of self.new)
-            (layout (first_string (js_units value.now)) (pen_of self.old)) }
-    {
-        if self.minify {
-            self.print_quoted(value, Quote::Backtick)
-        } else {
-            self.print_opening(Bracket::Round)?;
-            self.print_quoted(value, self.quote)?;
-            self.print_closing(Bracket::Round)
+        if self.has_failed {
+            return;
+        }
+        match print_string_text(&mut self.code, value, quote, self.ascii_only) {
+            Ok(()) => {
+                self.ending = Ending::Other;
+                self.start = Start::Nowhere;
+            }
+            Err(_) => self.has_failed = true,
         }
     }
 
+    /// A string, which may stand in backticks or not.
+    pub fn print_string(&mut self, value: &JsStr, backticks: bool)
+        ensures { Lays self.old self.new (λ _. string backticks (js_units value.now)) }
+    {
+        let quote = self.string_quote(value, backticks);
+        self.print_quoted(value, quote);
+    }
+
+    /// A string that is a whole first statement, without its end.
+    pub fn print_first_string(&mut self, value: &JsStr)
+        ensures { Lays self.old self.new (λ _. first_string (js_units value.now)) }
+    {
+        if self.minify {
+            self.print_quoted(value, Quote::Backtick);
+        } else {
+            self.print_in_parentheses(value, self.quote);
+        }
+    }
+
+    // A string in this quote, in parentheses.
+    fn print_in_parentheses(&mut self, value: &JsStr, quote: Quote)
+        ensures { Goes self.old self.new (λ pen. written (opening Round ++ (quoted quote pen.style.ascii (js_units value.now) ++ closing Round)) other_end pen) }
+    {
+        self.print_opening(Bracket::Round);
+        self.print_quoted(value, quote);
+        self.print_closing(Bracket::Round);
+    }
+
     /// A directive's raw text in its quotes, without its end.
-    pub fn print_directive(&mut self, raw: &str) -> Result<(), Memory>
-        ensures { Reaches result (pen_of self.old) (pen_of self.new)
-            (layout (directive (chars raw.now)) (pen_of self.old)) }
+    pub fn print_directive(&mut self, raw: &str)
+        ensures { Lays self.old self.new (λ _. directive (chars raw.now)) }
     {
         let quote = directive_quote(self.quote, raw);
-        self.print_quote(quote)?;
-        self.print_raw(raw)?;
-        self.print_quote(quote)
+        self.print_quote(quote);
+        self.print_raw(raw);
+        self.print_quote(quote);
     }
 
-    fn print_quote(&mut self, quote: Quote) -> Result<(), Memory>
-        ensures { Reaches result (pen_of self.old) (pen_of self.new)
-            (written (quote_char quote ∷ []) other_end (pen_of self.old)) }
+    fn print_quote(&mut self, quote: Quote)
+        ensures { Goes self.old self.new (written (quote_char quote ∷ []) other_end) }
     {
-        quote.print(&mut self.code)?;
-        self.ending = Ending::Other;
-        self.start = Start::Nowhere;
-        Ok(())
+        if self.has_failed {
+            return;
+        }
+        match quote.print(&mut self.code) {
+            Ok(()) => {
+                self.ending = Ending::Other;
+                self.start = Start::Nowhere;
+            }
+            Err(_) => self.has_failed = true,
+        }
     }
 
-    fn print_raw(&mut self, raw: &str) -> Result<(), Memory>
-        ensures { Reaches result (pen_of self.old) (pen_of self.new)
-            (written (directive_text (pen_of self.old).style.ascii (chars raw.now)) other_end (pen_of self.old)) }
+    fn print_raw(&mut self, raw: &str)
+        ensures { Goes self.old self.new (λ pen. written (directive_text pen.style.ascii (chars raw.now)) other_end pen) }
     {
-        print_directive_raw(&mut self.code, raw, self.ascii_only)?;
-        self.ending = Ending::Other;
-        self.start = Start::Nowhere;
-        Ok(())
+        if self.has_failed {
+            return;
+        }
+        match print_directive_raw(&mut self.code, raw, self.ascii_only) {
+            Ok(()) => {
+                self.ending = Ending::Other;
+                self.start = Start::Nowhere;
+            }
+            Err(_) => self.has_failed = true,
+        }
     }
 
     /// Whether a brace at the end of the code would not open an object (ECMA-262, 14.5 and 15.3).
@@ -375,9 +421,8 @@ impl<'a> Printer<'a> {
         matches!(&self.start, Start::Statement)
     }
 
-    pub fn print_opening(&mut self, bracket: Bracket) -> Result<(), Memory>
-        ensures { Reaches result (pen_of self.old) (pen_of self.new)
-            (written (opening (bracket_of bracket)) other_end (pen_of self.old)) }
+    pub fn print_opening(&mut self, bracket: Bracket)
+        ensures { Goes self.old self.new (written (opening (bracket_of bracket)) other_end) }
     {
         match bracket {
             Bracket::Round => self.print_str("(", Ending::Other),
@@ -386,9 +431,8 @@ impl<'a> Printer<'a> {
         }
     }
 
-    pub fn print_closing(&mut self, bracket: Bracket) -> Result<(), Memory>
-        ensures { Reaches result (pen_of self.old) (pen_of self.new)
-            (written (closing (bracket_of bracket)) other_end (pen_of self.old)) }
+    pub fn print_closing(&mut self, bracket: Bracket)
+        ensures { Goes self.old self.new (written (closing (bracket_of bracket)) other_end) }
     {
         match bracket {
             Bracket::Round => self.print_str(")", Ending::Other),
@@ -403,259 +447,259 @@ impl<'a> Printer<'a> {
         matches!(&self.ending, Ending::Number)
     }
 
-    pub fn print_member_dot(&mut self) -> Result<(), Memory>
-        ensures { Reaches result (pen_of self.old) (pen_of self.new) (layout member_dot (pen_of self.old)) }
+    pub fn print_member_dot(&mut self)
+        ensures { Lays self.old self.new (λ _. member_dot) }
     {
         let apart = self.ends_in_number();
-        self.print_apart(apart, ".", Ending::Other)
+        self.print_apart(apart, ".", Ending::Other);
     }
 
-    pub fn print_comma(&mut self) -> Result<(), Memory>
-        ensures { Reaches result (pen_of self.old) (pen_of self.new) (layout (punctuator comma) (pen_of self.old)) }
+    pub fn print_comma(&mut self)
+        ensures { Lays self.old self.new (λ _. punctuator comma) }
     {
-        self.print_str(",", Ending::Other)
+        self.print_str(",", Ending::Other);
     }
 
-    pub fn print_colon(&mut self) -> Result<(), Memory>
-        ensures { Reaches result (pen_of self.old) (pen_of self.new) (layout (punctuator colon) (pen_of self.old)) }
+    pub fn print_colon(&mut self)
+        ensures { Lays self.old self.new (λ _. punctuator colon) }
     {
-        self.print_str(":", Ending::Other)
+        self.print_str(":", Ending::Other);
     }
 
-    pub fn print_question(&mut self) -> Result<(), Memory>
-        ensures { Reaches result (pen_of self.old) (pen_of self.new) (layout (punctuator question) (pen_of self.old)) }
+    pub fn print_question(&mut self)
+        ensures { Lays self.old self.new (λ _. punctuator question) }
     {
-        self.print_str("?", Ending::Other)
+        self.print_str("?", Ending::Other);
     }
 
-    pub fn print_question_dot(&mut self) -> Result<(), Memory>
-        ensures { Reaches result (pen_of self.old) (pen_of self.new) (layout (punctuator question_dot) (pen_of self.old)) }
+    pub fn print_question_dot(&mut self)
+        ensures { Lays self.old self.new (λ _. punctuator question_dot) }
     {
-        self.print_str("?.", Ending::Other)
+        self.print_str("?.", Ending::Other);
     }
 
-    pub fn print_ellipsis(&mut self) -> Result<(), Memory>
-        ensures { Reaches result (pen_of self.old) (pen_of self.new) (layout (punctuator ellipsis) (pen_of self.old)) }
+    pub fn print_ellipsis(&mut self)
+        ensures { Lays self.old self.new (λ _. punctuator ellipsis) }
     {
-        self.print_str("...", Ending::Other)
+        self.print_str("...", Ending::Other);
     }
 
-    pub fn print_semicolon(&mut self) -> Result<(), Memory>
-        ensures { Reaches result (pen_of self.old) (pen_of self.new) (layout (punctuator semicolon) (pen_of self.old)) }
+    pub fn print_semicolon(&mut self)
+        ensures { Lays self.old self.new (λ _. punctuator semicolon) }
     {
-        self.print_str(";", Ending::Other)
+        self.print_str(";", Ending::Other);
     }
 
-    pub fn print_equal(&mut self) -> Result<(), Memory>
-        ensures { Reaches result (pen_of self.old) (pen_of self.new) (layout (punctuator equal) (pen_of self.old)) }
+    pub fn print_equal(&mut self)
+        ensures { Lays self.old self.new (λ _. punctuator equal) }
     {
-        self.print_str("=", Ending::Other)
+        self.print_str("=", Ending::Other);
     }
 
-    pub fn print_arrow(&mut self) -> Result<(), Memory>
-        ensures { Reaches result (pen_of self.old) (pen_of self.new) (layout (punctuator arrow) (pen_of self.old)) }
+    pub fn print_arrow(&mut self)
+        ensures { Lays self.old self.new (λ _. punctuator arrow) }
     {
-        self.print_str("=>", Ending::Other)
+        self.print_str("=>", Ending::Other);
     }
 
-    pub fn print_operator(&mut self, operator: BinaryOperator) -> Result<(), Memory>
-        ensures { Reaches result (pen_of self.old) (pen_of self.new)
-            (layout (operator_item operator) (pen_of self.old)) }
+    pub fn print_operator(&mut self, operator: BinaryOperator)
+        ensures { Lays self.old self.new (λ _. operator_item operator) }
     {
         let apart = self.stands_apart(operator);
         let sign = operator.as_str();
-        self.print_apart(apart, sign, Ending::Operator(Operator::Binary(operator)))
+        self.print_apart(apart, sign, Ending::Operator(Operator::Binary(operator)));
     }
 
     /// An operator before its operand.
-    pub fn print_unary_operator(&mut self, operator: UnaryOperator) -> Result<(), Memory>
-        ensures { Reaches result (pen_of self.old) (pen_of self.new)
-            (layout (unary_sign operator) (pen_of self.old)) }
+    pub fn print_unary_operator(&mut self, operator: UnaryOperator)
+        ensures { Lays self.old self.new (λ _. unary_sign operator) }
     {
         let apart = self.unary_stands_apart(operator);
         let text = operator.as_str();
-        self.print_apart(apart, text, Ending::Operator(Operator::Unary(operator)))
+        self.print_apart(apart, text, Ending::Operator(Operator::Unary(operator)));
     }
 
     /// An operator before or behind what it changes.
-    pub fn print_update_operator(&mut self, operator: UpdateOperator) -> Result<(), Memory>
-        ensures { Reaches result (pen_of self.old) (pen_of self.new)
-            (layout (update_item operator) (pen_of self.old)) }
+    pub fn print_update_operator(&mut self, operator: UpdateOperator)
+        ensures { Lays self.old self.new (λ _. update_item operator) }
     {
         let apart = self.update_stands_apart(operator);
         let signs = operator.as_str();
-        self.print_apart(apart, signs, Ending::Operator(Operator::Update(operator)))
+        self.print_apart(apart, signs, Ending::Operator(Operator::Update(operator)));
     }
 
     /// What stands between such an operator and its operand.
-    pub fn print_behind_unary(&mut self, operator: UnaryOperator) -> Result<(), Memory>
-        ensures { Reaches result (pen_of self.old) (pen_of self.new)
-            (layout (behind_unary operator) (pen_of self.old)) }
+    pub fn print_behind_unary(&mut self, operator: UnaryOperator)
+        ensures { Lays self.old self.new (λ _. behind_unary operator) }
     {
         match operator {
             UnaryOperator::Typeof | UnaryOperator::Void | UnaryOperator::Delete =>
                 self.print_soft_space(),
-            _ => Ok(()),
+            _ => {}
         }
     }
 
-    pub fn print_logical_sign(&mut self, operator: LogicalOperator) -> Result<(), Memory>
-        ensures { Reaches result (pen_of self.old) (pen_of self.new)
-            (layout (logical_item operator) (pen_of self.old)) }
+    pub fn print_logical_sign(&mut self, operator: LogicalOperator)
+        ensures { Lays self.old self.new (λ _. logical_item operator) }
     {
-        self.print_str(operator.as_str(), Ending::Other)
+        self.print_str(operator.as_str(), Ending::Other);
     }
 
     /// The sign of an assignment.
-    pub fn print_assignment_sign(&mut self, operator: AssignmentOperator) -> Result<(), Memory>
-        ensures { Reaches result (pen_of self.old) (pen_of self.new)
-            (layout (assignment_item operator) (pen_of self.old)) }
+    pub fn print_assignment_sign(&mut self, operator: AssignmentOperator)
+        ensures { Lays self.old self.new (λ _. assignment_item operator) }
     {
-        self.print_str(operator.as_str(), Ending::Other)
+        self.print_str(operator.as_str(), Ending::Other);
     }
 
-    pub fn print_soft_space(&mut self) -> Result<(), Memory>
-        ensures { Reaches result (pen_of self.old) (pen_of self.new) (layout soft_space (pen_of self.old)) }
+    pub fn print_soft_space(&mut self)
+        ensures { Lays self.old self.new (λ _. soft_space) }
     {
-        self.print_if(!self.minify, " ")
+        self.print_if(!self.minify, " ");
     }
 
-    pub fn print_soft_line(&mut self) -> Result<(), Memory>
-        ensures { Reaches result (pen_of self.old) (pen_of self.new) (layout soft_line (pen_of self.old)) }
+    pub fn print_soft_line(&mut self)
+        ensures { Lays self.old self.new (λ _. soft_line) }
     {
-        self.print_if(!self.minify, "\n")
+        self.print_if(!self.minify, "\n");
     }
 
-    pub fn print_hard_space(&mut self) -> Result<(), Memory>
-        ensures { Reaches result (pen_of self.old) (pen_of self.new) (layout hard_space (pen_of self.old)) }
+    pub fn print_hard_space(&mut self)
+        ensures { Lays self.old self.new (λ _. hard_space) }
     {
-        self.print_str(" ", Ending::Other)
+        self.print_str(" ", Ending::Other);
     }
 
-    pub fn print_indentation(&mut self) -> Result<(), Memory>
-        ensures { Reaches result (pen_of self.old) (pen_of self.new) (layout indentation (pen_of self.old)) }
+    pub fn print_indentation(&mut self)
+        ensures { Lays self.old self.new (λ _. indentation) }
     {
         if self.minify {
-            Ok(())
-        } else if self.pending_space {
-            self.print_str(" ", Ending::Other)?;
+            return;
+        }
+        if self.pending_space {
+            self.print_str(" ", Ending::Other);
             self.pending_space = false;
-            Ok(())
         } else {
-            self.print_levels()
+            self.print_levels();
         }
     }
 
     // The levels' own indentation. Wider than 64 bits it is want of memory: no tree that keeps the rules is so deep.
-    fn print_levels(&mut self) -> Result<(), Memory>
-        ensures { Reaches result (pen_of self.old) (pen_of self.new)
-            (indented (replicate (self.old.depth * indent_width self.old.code) (indent_byte self.old.code))
-            (pen_of self.old)) }
+    fn print_levels(&mut self)
+        ensures { Goes self.old self.new (λ pen. indented (replicate (pen.depth * pen.style.width) pen.style.indent) pen) }
     {
+        if self.has_failed {
+            return;
+        }
         let depth = self.depth as usize;
         if depth.checked_mul(self.width).is_none() {
-            return Err(Memory);
+            self.has_failed = true;
+            return;
         }
         let before = self.code.len();
-        self.code.print_indent(depth)?;
-        if self.code.len() == before {
-            return Ok(());
+        match self.code.print_indent(depth) {
+            Ok(()) => {
+                if self.code.len() > before {
+                    self.ending = Ending::Other;
+                    self.start = Start::Nowhere;
+                }
+            }
+            Err(_) => self.has_failed = true,
         }
-        self.ending = Ending::Other;
-        self.start = Start::Nowhere;
-        Ok(())
     }
 
     /// One space is to stand in place of the next indentation.
     pub fn begin_body(&mut self)
-        ensures { pen_of self.new ≡ layout body_space (pen_of self.old) }
+        ensures lays { Lays self.old self.new (λ _. body_space) }
+        ensures failed { has_failed self.new ≡ has_failed self.old }
     {
         self.pending_space = true;
     }
 
-    // The level below the present one; minified text has no levels.
-    fn deeper_level(&self) -> Result<u32, Memory>
-        ensures { IfOk result (λ depth. depth ≡ deeper_level (pen_of self.now).style.minified (pen_of self.now).depth) }
+    // What follows stands one level deeper, unless the text is minified, which has no levels. Behind the last level of 32 bits this
+    // is want of memory: no tree that keeps the rules is so deep.
+    fn go_deeper(&mut self)
+        ensures { Goes self.old self.new deepened }
     {
         if self.minify {
-            Ok(self.depth)
-        } else if self.depth < u32::MAX {
-            Ok(self.depth + 1)
+            return;
+        }
+        if self.depth < u32::MAX {
+            self.depth += 1;
         } else {
-            Err(Memory)
+            self.has_failed = true;
         }
     }
 
-    /// What follows stands one level deeper; gives the level before. Behind the last level of 32 bits this is want of
-    /// memory: no tree that keeps the rules is so deep.
-    pub fn deepen(&mut self) -> Result<u32, Memory>
-        ensures level { IfOk result (λ depth. depth ≡ (pen_of self.old).depth) }
-        ensures pen { Reaches result (pen_of self.old) (pen_of self.new) (deepened (pen_of self.old)) }
+    /// What follows stands one level deeper; gives the level before.
+    pub fn deepen(&mut self) -> u32
+        ensures level { result ≡ (pen_of self.old).depth }
+        ensures pen { Goes self.old self.new deepened }
     {
         let depth = self.depth;
-        self.depth = self.deeper_level()?;
-        Ok(depth)
+        self.go_deeper();
+        depth
     }
 
     /// What follows stands at this level.
     pub fn set_depth(&mut self, depth: u32)
-        ensures { pen_of self.new ≡ at_depth depth (pen_of self.old) }
+        ensures goes { Goes self.old self.new (at_depth depth) }
+        ensures failed { has_failed self.new ≡ has_failed self.old }
     {
         self.depth = depth;
     }
 
-    pub fn print_statement_end(&mut self) -> Result<(), Memory>
-        ensures { Reaches result (pen_of self.old) (pen_of self.new) (layout statement_end (pen_of self.old)) }
+    pub fn print_statement_end(&mut self)
+        ensures { Lays self.old self.new (λ _. statement_end) }
     {
         if self.minify {
             self.pending_semicolon = true;
-            Ok(())
         } else {
-            self.print_str(";\n", Ending::Other)
+            self.print_str(";\n", Ending::Other);
         }
     }
 
-    pub fn print_due_semicolon(&mut self) -> Result<(), Memory>
-        ensures { Reaches result (pen_of self.old) (pen_of self.new) (layout due_semicolon (pen_of self.old)) }
+    pub fn print_due_semicolon(&mut self)
+        ensures { Lays self.old self.new (λ _. due_semicolon) }
     {
-        self.print_if(self.pending_semicolon, ";")?;
+        self.print_if(self.pending_semicolon, ";");
         self.pending_semicolon = false;
         self.start = Start::Nowhere;
-        Ok(())
     }
 
     /// A semicolon that is due is never printed.
     pub fn drop_semicolon(&mut self)
-        ensures { pen_of self.new ≡ layout drop_semicolon (pen_of self.old) }
+        ensures lays { Lays self.old self.new (λ _. drop_semicolon) }
+        ensures failed { has_failed self.new ≡ has_failed self.old }
     {
         self.pending_semicolon = false;
     }
 
     pub fn begin_statement(&mut self)
-        ensures { pen_of self.new ≡ layout statement_begins (pen_of self.old) }
+        ensures lays { Lays self.old self.new (λ _. statement_begins) }
+        ensures failed { has_failed self.new ≡ has_failed self.old }
     {
         self.start = Start::Statement;
     }
 
     /// The body of an arrow function begins here.
     pub fn begin_arrow_body(&mut self)
-        ensures { pen_of self.new ≡ layout arrow_body_begins (pen_of self.old) }
+        ensures lays { Lays self.old self.new (λ _. arrow_body_begins) }
+        ensures failed { has_failed self.new ≡ has_failed self.old }
     {
         self.start = Start::ArrowBody;
     }
 
-    pub fn print_opening_if(&mut self, test: bool) -> Result<(), Memory>
-        ensures { Reaches result (pen_of self.old) (pen_of self.new)
-            (written_if test (opening Round) (pen_of self.old)) }
+    pub fn print_opening_if(&mut self, test: bool)
+        ensures { Goes self.old self.new (written_if test (opening Round)) }
     {
-        self.print_if(test, "(")
+        self.print_if(test, "(");
     }
 
-    pub fn print_closing_if(&mut self, test: bool) -> Result<(), Memory>
-        ensures { Reaches result (pen_of self.old) (pen_of self.new)
-            (written_if test (closing Round) (pen_of self.old)) }
+    pub fn print_closing_if(&mut self, test: bool)
+        ensures { Goes self.old self.new (written_if test (closing Round)) }
     {
-        self.print_if(test, ")")
+        self.print_if(test, ")");
     }
 
     /// The text, and nothing is copied.

@@ -105,7 +105,7 @@ def of_file(table, types):
                ("Rattle.jsgen_nodes.specs.Alone", ["parameter_parts"] + list(PLACES))]
     homes = print_functions() + [("crate::sets", [f"print_{snake(s.name)}" for s in table.nesting() + chosen(table)]),
                                  ("crate", ["PrintAlone", "PrintAtLevel", "PrintNode"]),
-                                 ("jsgen_place", ["Context", "Place", "Settings"]), ("jsgen_steps", ["Printing"]),
+                                 ("jsgen_place", ["Context", "Place", "Settings"]), ("jsgen_printer", ["Printer"]),
                                  ("jsgen_syntax", ["Precedence"]), ("jsgen_tree", list(table.nodes) + list(table.sets))]
     body = "\n\n".join(of_type(table, t) for t in types)
     return layout.rust("What is printed by itself, or at a level.", ghosts, [], homes, body)
@@ -127,7 +127,7 @@ def of_type(table, name):
         return f"""{head(table, 'PrintAtLevel', name)} {{
     ghost plain = {{ {plain(table, name)} }};
 
-    fn print_at(&self, p: &mut Printing<'_>, place: Place) {{
+    fn print_at(&self, p: &mut Printer<'_>, place: Place) {{
         {body(table, name, 'place')}
     }}
 }}"""
@@ -138,7 +138,7 @@ def of_type(table, name):
 
     fn print_alone(
         &self,
-        p: &mut Printing<'_>,
+        p: &mut Printer<'_>,
         settings: Settings,
         context: Context,
     ) {{

@@ -20,9 +20,9 @@ OF_THEIR_OWN = ("PropertyKey", "ChainElement")
 
 def write(table):
     ghosts = [("Rattle.std.specs.Prelude", ["◌≡◌", "true", "nat_le"])] + row_names(table)
-    ghosts += [("Rattle.jsgen_steps.specs.Steps", ["Lays"]),
+    ghosts += [("Rattle.jsgen_printer.specs.Steps", ["Lays"]),
                ("Rattle.jsgen_nodes.specs.Place", ["at_place"]), (SPECS, [f"{snake(s.name)}_part" for s in divided(table)])]
-    homes = print_functions() + [("crate", ["PrintNode"]), ("jsgen_place", ["Place"]), ("jsgen_steps", ["Printing"]),
+    homes = print_functions() + [("crate", ["PrintNode"]), ("jsgen_place", ["Place"]), ("jsgen_printer", ["Printer"]),
                                  ("jsgen_tree", list(table.sets))]
     functions = [function(table, s, at) for s in table.nesting() for at in range(len(parts(table, s)))]
     body = "\n\n".join(functions + [choice(table, s) for s in chosen(table)])
@@ -75,7 +75,7 @@ def function(table, s, at):
     requires = f"    requires {{ nat_le {at} ({snake(s.name)}_part node.now) ≡ true }}\n" if at else ""
     return f"""{'' if at else 'pub '}fn {function_name(table, s, at)}{'<N: PrintNode>' if generic else ''}(
     node: &{s.name}{'<N>' if generic else ''},
-    p: &mut Printing<'_>,
+    p: &mut Printer<'_>,
     place: Place,
 )
 {requires}    ensures {{ Lays p.old p.new (at_place ({plain_of(table, s)} node.now) place) }}
@@ -94,7 +94,7 @@ def choice(table, s):
     arms = "".join(f"        {s.name}::{m}(node) => {printed(table, m)},\n" for m in s.members)
     return f"""pub fn print_{snake(s.name)}<N: PrintNode>(
     node: &{s.name}<N>,
-    p: &mut Printing<'_>,
+    p: &mut Printer<'_>,
     place: Place,
 )
     ensures {{ Lays p.old p.new (at_place (in_{snake(s.name)} N.plain node.now) place) }}

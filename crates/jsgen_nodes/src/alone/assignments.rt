@@ -7,13 +7,13 @@ use crate::choices::print_conditional_expression;
 use crate::sequences::print_sequence_expression;
 use crate::{PrintAtLevel, PrintNode};
 use jsgen_place::Place;
-use jsgen_steps::Printing;
+use jsgen_printer::Printer;
 use jsgen_tree::{AssignmentExpression, ConditionalExpression, SequenceExpression};
 
 impl<N: PrintNode> PrintAtLevel for ConditionalExpression<N> {
     ghost plain = { conditional_expression_row N.plain };
 
-    fn print_at(&self, p: &mut Printing<'_>, place: Place) {
+    fn print_at(&self, p: &mut Printer<'_>, place: Place) {
         print_conditional_expression(self, p, place);
     }
 }
@@ -21,7 +21,7 @@ impl<N: PrintNode> PrintAtLevel for ConditionalExpression<N> {
 impl<N: PrintNode> PrintAtLevel for SequenceExpression<N> {
     ghost plain = { sequence_expression_row N.plain };
 
-    fn print_at(&self, p: &mut Printing<'_>, place: Place) {
+    fn print_at(&self, p: &mut Printer<'_>, place: Place) {
         print_sequence_expression(self, p, place);
     }
 }
@@ -29,7 +29,7 @@ impl<N: PrintNode> PrintAtLevel for SequenceExpression<N> {
 impl<N: PrintNode> PrintAtLevel for AssignmentExpression<N> {
     ghost plain = { assignment_expression_row N.plain };
 
-    fn print_at(&self, p: &mut Printing<'_>, place: Place) {
+    fn print_at(&self, p: &mut Printer<'_>, place: Place) {
         print_assignment_expression(self, p, place);
     }
 }

@@ -8,14 +8,14 @@ use crate::cases::{print_switch_case, print_switch_statement};
 use crate::handlers::{print_catch_clause, print_try_statement};
 use crate::{PrintAlone, PrintNode};
 use jsgen_place::{Context, Place, Settings};
-use jsgen_steps::Printing;
+use jsgen_printer::Printer;
 use jsgen_tree::{CatchClause, SwitchCase, SwitchStatement, TryStatement};
 
 #[tactic(auto, unfolding(crate::specs::Place::at_place))]
 impl<N: PrintNode> PrintAlone for SwitchStatement<N> {
     ghost alone = { λ n settings context start. spell (switch_statement_row N.plain n) (as_statement settings context start) };
 
-    fn print_alone(&self, p: &mut Printing<'_>, settings: Settings, context: Context) {
+    fn print_alone(&self, p: &mut Printer<'_>, settings: Settings, context: Context) {
         let _ = context;
         print_switch_statement(self, p, Place::among_statements(settings));
     }
@@ -25,7 +25,7 @@ impl<N: PrintNode> PrintAlone for SwitchStatement<N> {
 impl<N: PrintNode> PrintAlone for SwitchCase<N> {
     ghost alone = { λ n settings context start. spell (switch_case_row N.plain n) (by_itself settings context start) };
 
-    fn print_alone(&self, p: &mut Printing<'_>, settings: Settings, context: Context) {
+    fn print_alone(&self, p: &mut Printer<'_>, settings: Settings, context: Context) {
         print_switch_case(self, p, Place::by_itself(settings, context));
     }
 }
@@ -34,7 +34,7 @@ impl<N: PrintNode> PrintAlone for SwitchCase<N> {
 impl<N: PrintNode> PrintAlone for TryStatement<N> {
     ghost alone = { λ n settings context start. spell (try_statement_row N.plain n) (as_statement settings context start) };
 
-    fn print_alone(&self, p: &mut Printing<'_>, settings: Settings, context: Context) {
+    fn print_alone(&self, p: &mut Printer<'_>, settings: Settings, context: Context) {
         let _ = context;
         print_try_statement(self, p, Place::among_statements(settings));
     }
@@ -44,7 +44,7 @@ impl<N: PrintNode> PrintAlone for TryStatement<N> {
 impl<N: PrintNode> PrintAlone for CatchClause<N> {
     ghost alone = { λ n settings context start. spell (catch_clause_row N.plain n) (by_itself settings context start) };
 
-    fn print_alone(&self, p: &mut Printing<'_>, settings: Settings, context: Context) {
+    fn print_alone(&self, p: &mut Printer<'_>, settings: Settings, context: Context) {
         print_catch_clause(self, p, Place::by_itself(settings, context));
     }
 }

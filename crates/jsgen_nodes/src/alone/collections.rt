@@ -9,14 +9,14 @@ use crate::collections::{
 };
 use crate::{PrintAlone, PrintAtLevel, PrintNode};
 use jsgen_place::{Context, Place, Settings};
-use jsgen_steps::Printing;
+use jsgen_printer::Printer;
 use jsgen_tree::{ArrayExpression, ObjectExpression, ObjectProperty, SpreadElement};
 
 #[tactic(auto, unfolding(crate::specs::Place::at_place))]
 impl<N: PrintNode> PrintAlone for SpreadElement<N> {
     ghost alone = { λ n settings context start. spell (spread_element_row N.plain n) (by_itself settings context start) };
 
-    fn print_alone(&self, p: &mut Printing<'_>, settings: Settings, context: Context) {
+    fn print_alone(&self, p: &mut Printer<'_>, settings: Settings, context: Context) {
         print_spread_element(self, p, Place::by_itself(settings, context));
     }
 }
@@ -25,7 +25,7 @@ impl<N: PrintNode> PrintAlone for SpreadElement<N> {
 impl<N: PrintNode> PrintAlone for ArrayExpression<N> {
     ghost alone = { λ n settings context start. spell (array_expression_row N.plain n) (by_itself settings context start) };
 
-    fn print_alone(&self, p: &mut Printing<'_>, settings: Settings, context: Context) {
+    fn print_alone(&self, p: &mut Printer<'_>, settings: Settings, context: Context) {
         print_array_expression(self, p, Place::by_itself(settings, context));
     }
 }
@@ -34,7 +34,7 @@ impl<N: PrintNode> PrintAlone for ArrayExpression<N> {
 impl<N: PrintNode> PrintAlone for ObjectProperty<N> {
     ghost alone = { λ n settings context start. spell (object_property_row N.plain n) (by_itself settings context start) };
 
-    fn print_alone(&self, p: &mut Printing<'_>, settings: Settings, context: Context) {
+    fn print_alone(&self, p: &mut Printer<'_>, settings: Settings, context: Context) {
         print_object_property(self, p, Place::by_itself(settings, context));
     }
 }
@@ -42,7 +42,7 @@ impl<N: PrintNode> PrintAlone for ObjectProperty<N> {
 impl<N: PrintNode> PrintAtLevel for ObjectExpression<N> {
     ghost plain = { object_expression_row N.plain };
 
-    fn print_at(&self, p: &mut Printing<'_>, place: Place) {
+    fn print_at(&self, p: &mut Printer<'_>, place: Place) {
         print_object_expression(self, p, place);
     }
 }

@@ -16,7 +16,7 @@ use crate::links::{
 };
 use crate::{PrintAlone, PrintAtLevel, PrintNode};
 use jsgen_place::{Context, Place, Settings};
-use jsgen_steps::Printing;
+use jsgen_printer::Printer;
 use jsgen_tree::{
     BigIntLiteral, BinaryExpression, BooleanLiteral, CallExpression, ChainExpression,
     ComputedMemberExpression, IdentifierName, IdentifierReference, LogicalExpression, NullLiteral,
@@ -27,7 +27,7 @@ use jsgen_tree::{
 impl PrintAlone for IdentifierReference {
     ghost alone = { λ n settings context start. spell (identifier_reference_row n) (by_itself settings context start) };
 
-    fn print_alone(&self, p: &mut Printing<'_>, settings: Settings, context: Context) {
+    fn print_alone(&self, p: &mut Printer<'_>, settings: Settings, context: Context) {
         print_identifier_reference(self, p, Place::by_itself(settings, context));
     }
 }
@@ -36,7 +36,7 @@ impl PrintAlone for IdentifierReference {
 impl PrintAlone for ThisExpression {
     ghost alone = { λ n settings context start. spell (this_expression_row n) (by_itself settings context start) };
 
-    fn print_alone(&self, p: &mut Printing<'_>, settings: Settings, context: Context) {
+    fn print_alone(&self, p: &mut Printer<'_>, settings: Settings, context: Context) {
         print_this_expression(self, p, Place::by_itself(settings, context));
     }
 }
@@ -45,7 +45,7 @@ impl PrintAlone for ThisExpression {
 impl PrintAlone for NullLiteral {
     ghost alone = { λ n settings context start. spell (null_literal_row n) (by_itself settings context start) };
 
-    fn print_alone(&self, p: &mut Printing<'_>, settings: Settings, context: Context) {
+    fn print_alone(&self, p: &mut Printer<'_>, settings: Settings, context: Context) {
         print_null_literal(self, p, Place::by_itself(settings, context));
     }
 }
@@ -54,7 +54,7 @@ impl PrintAlone for NullLiteral {
 impl PrintAlone for BooleanLiteral {
     ghost alone = { λ n settings context start. spell (boolean_literal_row n) (by_itself settings context start) };
 
-    fn print_alone(&self, p: &mut Printing<'_>, settings: Settings, context: Context) {
+    fn print_alone(&self, p: &mut Printer<'_>, settings: Settings, context: Context) {
         print_boolean_literal(self, p, Place::by_itself(settings, context));
     }
 }
@@ -62,7 +62,7 @@ impl PrintAlone for BooleanLiteral {
 impl PrintAtLevel for NumericLiteral {
     ghost plain = { numeric_literal_row };
 
-    fn print_at(&self, p: &mut Printing<'_>, place: Place) {
+    fn print_at(&self, p: &mut Printer<'_>, place: Place) {
         print_numeric_literal(self, p, place);
     }
 }
@@ -70,7 +70,7 @@ impl PrintAtLevel for NumericLiteral {
 impl PrintAtLevel for BigIntLiteral {
     ghost plain = { big_int_literal_row };
 
-    fn print_at(&self, p: &mut Printing<'_>, place: Place) {
+    fn print_at(&self, p: &mut Printer<'_>, place: Place) {
         print_big_int_literal(self, p, place);
     }
 }
@@ -79,7 +79,7 @@ impl PrintAtLevel for BigIntLiteral {
 impl PrintAlone for StringLiteral {
     ghost alone = { λ n settings context start. spell (string_literal_row n) (by_itself settings context start) };
 
-    fn print_alone(&self, p: &mut Printing<'_>, settings: Settings, context: Context) {
+    fn print_alone(&self, p: &mut Printer<'_>, settings: Settings, context: Context) {
         print_string_literal(self, p, Place::by_itself(settings, context));
     }
 }
@@ -87,7 +87,7 @@ impl PrintAlone for StringLiteral {
 impl<N: PrintNode> PrintAtLevel for ParenthesizedExpression<N> {
     ghost plain = { parenthesized_expression_row N.plain };
 
-    fn print_at(&self, p: &mut Printing<'_>, place: Place) {
+    fn print_at(&self, p: &mut Printer<'_>, place: Place) {
         print_parenthesized_expression(self, p, place);
     }
 }
@@ -95,7 +95,7 @@ impl<N: PrintNode> PrintAtLevel for ParenthesizedExpression<N> {
 impl<N: PrintNode> PrintAtLevel for BinaryExpression<N> {
     ghost plain = { binary_expression_row N.plain };
 
-    fn print_at(&self, p: &mut Printing<'_>, place: Place) {
+    fn print_at(&self, p: &mut Printer<'_>, place: Place) {
         print_binary_expression(self, p, place);
     }
 }
@@ -103,7 +103,7 @@ impl<N: PrintNode> PrintAtLevel for BinaryExpression<N> {
 impl<N: PrintNode> PrintAtLevel for LogicalExpression<N> {
     ghost plain = { logical_expression_row N.plain };
 
-    fn print_at(&self, p: &mut Printing<'_>, place: Place) {
+    fn print_at(&self, p: &mut Printer<'_>, place: Place) {
         print_logical_expression(self, p, place);
     }
 }
@@ -112,7 +112,7 @@ impl<N: PrintNode> PrintAtLevel for LogicalExpression<N> {
 impl PrintAlone for IdentifierName {
     ghost alone = { λ n settings context start. spell (identifier_name_row n) (by_itself settings context start) };
 
-    fn print_alone(&self, p: &mut Printing<'_>, settings: Settings, context: Context) {
+    fn print_alone(&self, p: &mut Printer<'_>, settings: Settings, context: Context) {
         print_identifier_name(self, p, Place::by_itself(settings, context));
     }
 }
@@ -120,7 +120,7 @@ impl PrintAlone for IdentifierName {
 impl<N: PrintNode> PrintAtLevel for StaticMemberExpression<N> {
     ghost plain = { static_member_expression_row N.plain };
 
-    fn print_at(&self, p: &mut Printing<'_>, place: Place) {
+    fn print_at(&self, p: &mut Printer<'_>, place: Place) {
         print_static_member_expression(self, p, place);
     }
 }
@@ -128,7 +128,7 @@ impl<N: PrintNode> PrintAtLevel for StaticMemberExpression<N> {
 impl<N: PrintNode> PrintAtLevel for ComputedMemberExpression<N> {
     ghost plain = { computed_member_expression_row N.plain };
 
-    fn print_at(&self, p: &mut Printing<'_>, place: Place) {
+    fn print_at(&self, p: &mut Printer<'_>, place: Place) {
         print_computed_member_expression(self, p, place);
     }
 }
@@ -136,7 +136,7 @@ impl<N: PrintNode> PrintAtLevel for ComputedMemberExpression<N> {
 impl<N: PrintNode> PrintAtLevel for CallExpression<N> {
     ghost plain = { call_expression_row N.plain };
 
-    fn print_at(&self, p: &mut Printing<'_>, place: Place) {
+    fn print_at(&self, p: &mut Printer<'_>, place: Place) {
         print_call_expression(self, p, place);
     }
 }
@@ -144,7 +144,7 @@ impl<N: PrintNode> PrintAtLevel for CallExpression<N> {
 impl<N: PrintNode> PrintAtLevel for ChainExpression<N> {
     ghost plain = { chain_expression_row N.plain };
 
-    fn print_at(&self, p: &mut Printing<'_>, place: Place) {
+    fn print_at(&self, p: &mut Printer<'_>, place: Place) {
         print_chain_expression(self, p, place);
     }
 }

@@ -11,7 +11,7 @@ use crate::functions::{
 };
 use crate::{PrintAlone, PrintAtLevel, PrintNode};
 use jsgen_place::{Context, Place, Settings};
-use jsgen_steps::Printing;
+use jsgen_printer::Printer;
 use jsgen_tree::{
     ArrowFunctionExpression, FormalParameter, FormalParameterRest, FormalParameters, Function,
     FunctionBody,
@@ -21,7 +21,7 @@ use jsgen_tree::{
 impl<N: PrintNode> PrintAlone for FormalParameter<N> {
     ghost alone = { λ n settings context start. spell (formal_parameter_row N.plain n) (by_itself settings context start) };
 
-    fn print_alone(&self, p: &mut Printing<'_>, settings: Settings, context: Context) {
+    fn print_alone(&self, p: &mut Printer<'_>, settings: Settings, context: Context) {
         print_formal_parameter(self, p, Place::by_itself(settings, context));
     }
 }
@@ -30,7 +30,7 @@ impl<N: PrintNode> PrintAlone for FormalParameter<N> {
 impl<N: PrintNode> PrintAlone for FormalParameterRest<N> {
     ghost alone = { λ n settings context start. spell (formal_parameter_rest_row N.plain n) (by_itself settings context start) };
 
-    fn print_alone(&self, p: &mut Printing<'_>, settings: Settings, context: Context) {
+    fn print_alone(&self, p: &mut Printer<'_>, settings: Settings, context: Context) {
         print_formal_parameter_rest(self, p, Place::by_itself(settings, context));
     }
 }
@@ -39,7 +39,7 @@ impl<N: PrintNode> PrintAlone for FormalParameterRest<N> {
 impl<N: PrintNode> PrintAlone for FormalParameters<N> {
     ghost alone = { λ n settings context start. parameter_parts (formal_parameters_row N.plain n) (by_itself settings context start) };
 
-    fn print_alone(&self, p: &mut Printing<'_>, settings: Settings, context: Context) {
+    fn print_alone(&self, p: &mut Printer<'_>, settings: Settings, context: Context) {
         print_formal_parameters(self, p, Place::by_itself(settings, context));
     }
 }
@@ -48,7 +48,7 @@ impl<N: PrintNode> PrintAlone for FormalParameters<N> {
 impl<N: PrintNode> PrintAlone for Function<N> {
     ghost alone = { λ n settings context start. spell (function_row N.plain n) (by_itself settings context start) };
 
-    fn print_alone(&self, p: &mut Printing<'_>, settings: Settings, context: Context) {
+    fn print_alone(&self, p: &mut Printer<'_>, settings: Settings, context: Context) {
         print_function(self, p, Place::by_itself(settings, context));
     }
 }
@@ -57,7 +57,7 @@ impl<N: PrintNode> PrintAlone for Function<N> {
 impl<N: PrintNode> PrintAlone for FunctionBody<N> {
     ghost alone = { λ n settings context start. spell (function_body_row N.plain n) (by_itself settings context start) };
 
-    fn print_alone(&self, p: &mut Printing<'_>, settings: Settings, context: Context) {
+    fn print_alone(&self, p: &mut Printer<'_>, settings: Settings, context: Context) {
         print_function_body(self, p, Place::by_itself(settings, context));
     }
 }
@@ -65,7 +65,7 @@ impl<N: PrintNode> PrintAlone for FunctionBody<N> {
 impl<N: PrintNode> PrintAtLevel for ArrowFunctionExpression<N> {
     ghost plain = { arrow_function_expression_row N.plain };
 
-    fn print_at(&self, p: &mut Printing<'_>, place: Place) {
+    fn print_at(&self, p: &mut Printer<'_>, place: Place) {
         print_arrow_function_expression(self, p, place);
     }
 }

@@ -10,13 +10,13 @@ use crate::operators::{
 };
 use crate::{PrintAlone, PrintAtLevel, PrintNode};
 use jsgen_place::{Context, Place, Settings};
-use jsgen_steps::Printing;
+use jsgen_printer::Printer;
 use jsgen_tree::{NewExpression, NewTarget, Super, UnaryExpression, UpdateExpression};
 
 impl<N: PrintNode> PrintAtLevel for UnaryExpression<N> {
     ghost plain = { unary_expression_row N.plain };
 
-    fn print_at(&self, p: &mut Printing<'_>, place: Place) {
+    fn print_at(&self, p: &mut Printer<'_>, place: Place) {
         print_unary_expression(self, p, place);
     }
 }
@@ -25,7 +25,7 @@ impl<N: PrintNode> PrintAtLevel for UnaryExpression<N> {
 impl PrintAlone for NewTarget {
     ghost alone = { λ n settings context start. spell (new_target_row n) (by_itself settings context start) };
 
-    fn print_alone(&self, p: &mut Printing<'_>, settings: Settings, context: Context) {
+    fn print_alone(&self, p: &mut Printer<'_>, settings: Settings, context: Context) {
         print_new_target(self, p, Place::by_itself(settings, context));
     }
 }
@@ -33,7 +33,7 @@ impl PrintAlone for NewTarget {
 impl<N: PrintNode> PrintAtLevel for UpdateExpression<N> {
     ghost plain = { update_expression_row N.plain };
 
-    fn print_at(&self, p: &mut Printing<'_>, place: Place) {
+    fn print_at(&self, p: &mut Printer<'_>, place: Place) {
         print_update_expression(self, p, place);
     }
 }
@@ -41,7 +41,7 @@ impl<N: PrintNode> PrintAtLevel for UpdateExpression<N> {
 impl<N: PrintNode> PrintAtLevel for NewExpression<N> {
     ghost plain = { new_expression_row N.plain };
 
-    fn print_at(&self, p: &mut Printing<'_>, place: Place) {
+    fn print_at(&self, p: &mut Printer<'_>, place: Place) {
         print_new_expression(self, p, place);
     }
 }
@@ -50,7 +50,7 @@ impl<N: PrintNode> PrintAtLevel for NewExpression<N> {
 impl PrintAlone for Super {
     ghost alone = { λ n settings context start. spell (super_row n) (by_itself settings context start) };
 
-    fn print_alone(&self, p: &mut Printing<'_>, settings: Settings, context: Context) {
+    fn print_alone(&self, p: &mut Printer<'_>, settings: Settings, context: Context) {
         print_super(self, p, Place::by_itself(settings, context));
     }
 }

@@ -11,7 +11,7 @@ use crate::statements::{
 };
 use crate::{PrintAlone, PrintNode};
 use jsgen_place::{Context, Place, Settings};
-use jsgen_steps::Printing;
+use jsgen_printer::Printer;
 use jsgen_tree::{
     BindingIdentifier, BlockStatement, Directive, EmptyStatement, ExpressionStatement, IfStatement,
     Program, VariableDeclaration, VariableDeclarator,
@@ -21,7 +21,7 @@ use jsgen_tree::{
 impl<N: PrintNode> PrintAlone for Program<N> {
     ghost alone = { λ n settings context start. spell (program_row N.plain n) (as_statement settings context start) };
 
-    fn print_alone(&self, p: &mut Printing<'_>, settings: Settings, context: Context) {
+    fn print_alone(&self, p: &mut Printer<'_>, settings: Settings, context: Context) {
         let _ = context;
         print_program(self, p, settings);
     }
@@ -31,7 +31,7 @@ impl<N: PrintNode> PrintAlone for Program<N> {
 impl PrintAlone for Directive {
     ghost alone = { λ n settings context start. spell (directive_row n) (as_statement settings context start) };
 
-    fn print_alone(&self, p: &mut Printing<'_>, settings: Settings, context: Context) {
+    fn print_alone(&self, p: &mut Printer<'_>, settings: Settings, context: Context) {
         let _ = context;
         print_directive(self, p, Place::among_statements(settings));
     }
@@ -41,7 +41,7 @@ impl PrintAlone for Directive {
 impl<N: PrintNode> PrintAlone for VariableDeclaration<N> {
     ghost alone = { λ n settings context start. spell (variable_declaration_row N.plain n) (by_itself settings context start) };
 
-    fn print_alone(&self, p: &mut Printing<'_>, settings: Settings, context: Context) {
+    fn print_alone(&self, p: &mut Printer<'_>, settings: Settings, context: Context) {
         print_variable_declaration(self, p, Place::by_itself(settings, context));
     }
 }
@@ -50,7 +50,7 @@ impl<N: PrintNode> PrintAlone for VariableDeclaration<N> {
 impl<N: PrintNode> PrintAlone for VariableDeclarator<N> {
     ghost alone = { λ n settings context start. spell (variable_declarator_row N.plain n) (by_itself settings context start) };
 
-    fn print_alone(&self, p: &mut Printing<'_>, settings: Settings, context: Context) {
+    fn print_alone(&self, p: &mut Printer<'_>, settings: Settings, context: Context) {
         print_variable_declarator(self, p, Place::by_itself(settings, context));
     }
 }
@@ -59,7 +59,7 @@ impl<N: PrintNode> PrintAlone for VariableDeclarator<N> {
 impl PrintAlone for BindingIdentifier {
     ghost alone = { λ n settings context start. spell (binding_identifier_row n) (by_itself settings context start) };
 
-    fn print_alone(&self, p: &mut Printing<'_>, settings: Settings, context: Context) {
+    fn print_alone(&self, p: &mut Printer<'_>, settings: Settings, context: Context) {
         print_binding_identifier(self, p, Place::by_itself(settings, context));
     }
 }
@@ -68,7 +68,7 @@ impl PrintAlone for BindingIdentifier {
 impl<N: PrintNode> PrintAlone for ExpressionStatement<N> {
     ghost alone = { λ n settings context start. spell (expression_statement_row N.plain n) (as_statement settings context start) };
 
-    fn print_alone(&self, p: &mut Printing<'_>, settings: Settings, context: Context) {
+    fn print_alone(&self, p: &mut Printer<'_>, settings: Settings, context: Context) {
         let _ = context;
         print_expression_statement(self, p, Place::among_statements(settings));
     }
@@ -78,7 +78,7 @@ impl<N: PrintNode> PrintAlone for ExpressionStatement<N> {
 impl<N: PrintNode> PrintAlone for BlockStatement<N> {
     ghost alone = { λ n settings context start. spell (block_statement_row N.plain n) (as_statement settings context start) };
 
-    fn print_alone(&self, p: &mut Printing<'_>, settings: Settings, context: Context) {
+    fn print_alone(&self, p: &mut Printer<'_>, settings: Settings, context: Context) {
         let _ = context;
         print_block_statement(self, p, Place::among_statements(settings));
     }
@@ -88,7 +88,7 @@ impl<N: PrintNode> PrintAlone for BlockStatement<N> {
 impl<N: PrintNode> PrintAlone for IfStatement<N> {
     ghost alone = { λ n settings context start. spell (if_statement_row N.plain n) (as_statement settings context start) };
 
-    fn print_alone(&self, p: &mut Printing<'_>, settings: Settings, context: Context) {
+    fn print_alone(&self, p: &mut Printer<'_>, settings: Settings, context: Context) {
         let _ = context;
         print_if_statement(self, p, Place::among_statements(settings));
     }
@@ -98,7 +98,7 @@ impl<N: PrintNode> PrintAlone for IfStatement<N> {
 impl PrintAlone for EmptyStatement {
     ghost alone = { λ n settings context start. spell (empty_statement_row n) (as_statement settings context start) };
 
-    fn print_alone(&self, p: &mut Printing<'_>, settings: Settings, context: Context) {
+    fn print_alone(&self, p: &mut Printer<'_>, settings: Settings, context: Context) {
         let _ = context;
         print_empty_statement(self, p, Place::among_statements(settings));
     }

@@ -4,38 +4,34 @@ ghost use Rattle.std.specs.Str.{chars};
 ghost use Rattle.jsgen_tree.specs.Named.{as_written, looked_up, bound};
 ghost use Rattle.jsgen_model.specs.Items.{name};
 ghost use Rattle.jsgen_model.specs.Layout.{layout, with_name, are_same};
-ghost use Rattle.jsgen_model.specs.Printing.{Reaches};
 ghost use Rattle.jsgen_printer.specs.Printer.{pen_of};
+ghost use Rattle.jsgen_printer.specs.Steps.{Goes, Lays};
 
 use super::Printer;
-use jsgen_syntax::Memory;
 
 #[tactic(auto, unfolding(crate::specs::Printer::pen_of))]
 impl Printer<'_> {
     /// A name as it is written, by no table.
-    pub fn print_name(&mut self, text: &str) -> Result<(), Memory>
-        ensures { Reaches result (pen_of self.old) (pen_of self.new)
-            (layout (name (as_written (chars text.now))) (pen_of self.old)) }
+    pub fn print_name(&mut self, text: &str)
+        ensures { Lays self.old self.new (λ _. name (as_written (chars text.now))) }
     {
-        self.print_name_apart(text)
+        self.print_name_apart(text);
     }
 
     /// A name that is looked up, by the number of its reference.
-    pub fn print_reference(&mut self, text: &str, reference: Option<u32>) -> Result<(), Memory>
-        ensures { Reaches result (pen_of self.old) (pen_of self.new)
-            (layout (name (looked_up reference (chars text.now))) (pen_of self.old)) }
+    pub fn print_reference(&mut self, text: &str, reference: Option<u32>)
+        ensures { Lays self.old self.new (λ _. name (looked_up reference (chars text.now))) }
     {
         let printed = self.tables.reference_name(reference, text);
-        self.print_name_apart(printed)
+        self.print_name_apart(printed);
     }
 
     /// A name that is bound, by the number of its symbol.
-    pub fn print_binding(&mut self, text: &str, symbol: Option<u32>) -> Result<(), Memory>
-        ensures { Reaches result (pen_of self.old) (pen_of self.new)
-            (layout (name (bound symbol (chars text.now))) (pen_of self.old)) }
+    pub fn print_binding(&mut self, text: &str, symbol: Option<u32>)
+        ensures { Lays self.old self.new (λ _. name (bound symbol (chars text.now))) }
     {
         let printed = self.tables.binding_name(symbol, text);
-        self.print_name_apart(printed)
+        self.print_name_apart(printed);
     }
 
     /// Whether a name that is looked up is printed as this one is written.
@@ -46,13 +42,12 @@ impl Printer<'_> {
     }
 
     // A name, apart from a word that the code ends in.
-    fn print_name_apart(&mut self, text: &str) -> Result<(), Memory>
-        ensures { Reaches result (pen_of self.old) (pen_of self.new)
-            (with_name (chars text.now) (pen_of self.old)) }
+    fn print_name_apart(&mut self, text: &str)
+        ensures { Goes self.old self.new (with_name (chars text.now)) }
     {
         let apart = self.is_apart();
-        self.print_if(apart, " ")?;
-        self.print_bare_name(text)
+        self.print_if(apart, " ");
+        self.print_bare_name(text);
     }
 }
 

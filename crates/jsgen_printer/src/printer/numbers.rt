@@ -5,11 +5,11 @@ ghost use Rattle.jsgen_model.specs.Punctuator.{minus};
 ghost use Rattle.jsgen_model.specs.Items.{◌⊕◌, number, operator, wrapped};
 ghost use Rattle.jsgen_model.specs.Layout.{layout, number_ending};
 ghost use Rattle.jsgen_model.specs.Spell.{big_text};
-ghost use Rattle.jsgen_model.specs.Printing.{Reaches};
-ghost use Rattle.jsgen_printer.specs.Printer.{pen_of, ending_of};
+ghost use Rattle.jsgen_printer.specs.Printer.{ending_of};
+ghost use Rattle.jsgen_printer.specs.Steps.{Lays};
 
 use super::{Ending, Printer};
-use jsgen_syntax::{Memory, UnaryOperator};
+use jsgen_syntax::UnaryOperator;
 
 #[tactic(auto, unfolding(crate::specs::Printer::pen_of))]
 impl Printer<'_> {
@@ -25,85 +25,77 @@ impl Printer<'_> {
     }
 
     /// A number by its text; the test tells that a dot behind it would be its own.
-    pub fn print_number(&mut self, text: &str, dot_is_its_own: bool) -> Result<(), Memory>
-        ensures { Reaches result (pen_of self.old) (pen_of self.new)
-            (layout (number dot_is_its_own (chars text.now)) (pen_of self.old)) }
+    pub fn print_number(&mut self, text: &str, dot_is_its_own: bool)
+        ensures { Lays self.old self.new (λ _. number dot_is_its_own (chars text.now)) }
     {
         let apart = self.is_apart();
-        self.print_apart(apart, text, Printer::number_ending(dot_is_its_own))
+        self.print_apart(apart, text, Printer::number_ending(dot_is_its_own));
     }
 
     /// A whole number.
-    pub fn print_whole_number(&mut self, digits: u128) -> Result<(), Memory>
-        ensures { Reaches result (pen_of self.old) (pen_of self.new)
-            (layout (number true (decimal digits)) (pen_of self.old)) }
+    pub fn print_whole_number(&mut self, digits: u128)
+        ensures { Lays self.old self.new (λ _. number true (decimal digits)) }
     {
         let mut buffer = itoa::Buffer::new();
         let text = buffer.format(digits);
-        self.print_number(text, true)
+        self.print_number(text, true);
     }
 
     /// A big integer by its digits.
-    pub fn print_big_integer(&mut self, digits: &str) -> Result<(), Memory>
-        ensures { Reaches result (pen_of self.old) (pen_of self.new)
-            (layout (number false (big_text (chars digits.now))) (pen_of self.old)) }
+    pub fn print_big_integer(&mut self, digits: &str)
+        ensures { Lays self.old self.new (λ _. number false (big_text (chars digits.now))) }
     {
-        self.print_number(digits, false)?;
-        self.print_str("n", Ending::Other)
+        self.print_number(digits, false);
+        self.print_str("n", Ending::Other);
     }
 
     // The minus of a number.
-    fn print_minus(&mut self) -> Result<(), Memory>
-        ensures { Reaches result (pen_of self.old) (pen_of self.new) (layout (operator minus) (pen_of self.old)) }
+    fn print_minus(&mut self)
+        ensures { Lays self.old self.new (λ _. operator minus) }
     {
-        self.print_unary_operator(UnaryOperator::UnaryNegation)
+        self.print_unary_operator(UnaryOperator::UnaryNegation);
     }
 
     // A minus, and behind it a number of which a dot would be part.
-    fn print_minus_number(&mut self, text: &str) -> Result<(), Memory>
-        ensures { Reaches result (pen_of self.old) (pen_of self.new)
-            (layout (operator minus ⊕ number true (chars text.now)) (pen_of self.old)) }
+    fn print_minus_number(&mut self, text: &str)
+        ensures { Lays self.old self.new (λ _. operator minus ⊕ number true (chars text.now)) }
     {
-        self.print_minus()?;
-        self.print_number(text, true)
+        self.print_minus();
+        self.print_number(text, true);
     }
 
     // A minus, and the big integer by its digits behind it.
-    fn print_minus_big_integer(&mut self, digits: &str) -> Result<(), Memory>
-        ensures { Reaches result (pen_of self.old) (pen_of self.new)
-            (layout (operator minus ⊕ number false (big_text (chars digits.now))) (pen_of self.old)) }
+    fn print_minus_big_integer(&mut self, digits: &str)
+        ensures { Lays self.old self.new (λ _. operator minus ⊕ number false (big_text (chars digits.now))) }
     {
-        self.print_minus()?;
-        self.print_big_integer(digits)
+        self.print_minus();
+        self.print_big_integer(digits);
     }
 
     // The same, in parentheses where the test holds.
-    fn print_negative_number(&mut self, wrap: bool, text: &str) -> Result<(), Memory>
-        ensures { Reaches result (pen_of self.old) (pen_of self.new)
-            (layout (wrapped wrap (operator minus ⊕ number true (chars text.now))) (pen_of self.old)) }
+    fn print_negative_number(&mut self, wrap: bool, text: &str)
+        ensures { Lays self.old self.new (λ _. wrapped wrap (operator minus ⊕ number true (chars text.now))) }
     {
-        self.print_opening_if(wrap)?;
-        self.print_minus_number(text)?;
-        self.print_closing_if(wrap)
+        self.print_opening_if(wrap);
+        self.print_minus_number(text);
+        self.print_closing_if(wrap);
     }
 
     /// A whole number with a minus before it, in parentheses where the test holds.
-    pub fn print_negative_whole_number(&mut self, wrap: bool, digits: u128) -> Result<(), Memory>
-        ensures { Reaches result (pen_of self.old) (pen_of self.new)
-            (layout (wrapped wrap (operator minus ⊕ number true (decimal digits))) (pen_of self.old)) }
+    pub fn print_negative_whole_number(&mut self, wrap: bool, digits: u128)
+        ensures { Lays self.old self.new (λ _. wrapped wrap (operator minus ⊕ number true (decimal digits))) }
     {
         let mut buffer = itoa::Buffer::new();
         let text = buffer.format(digits);
-        self.print_negative_number(wrap, text)
+        self.print_negative_number(wrap, text);
     }
 
     /// A big integer by its digits with a minus before it, in parentheses where the test holds.
-    pub fn print_negative_big_integer(&mut self, wrap: bool, digits: &str) -> Result<(), Memory>
-        ensures { Reaches result (pen_of self.old) (pen_of self.new)
-            (layout (wrapped wrap (operator minus ⊕ number false (big_text (chars digits.now)))) (pen_of self.old)) }
+    pub fn print_negative_big_integer(&mut self, wrap: bool, digits: &str)
+        ensures { Lays self.old self.new (λ _. wrapped wrap (operator minus ⊕ number false (big_text (chars digits.now)))) }
     {
-        self.print_opening_if(wrap)?;
-        self.print_minus_big_integer(digits)?;
-        self.print_closing_if(wrap)
+        self.print_opening_if(wrap);
+        self.print_minus_big_integer(digits);
+        self.print_closing_if(wrap);
     }
 }

@@ -1,5 +1,5 @@
 use Rattle.jsgen_model.specs.Punctuator.{Round}
-use Rattle.jsgen_steps.proofs.Sequence.{in_brackets_laid}
+use Rattle.jsgen_printer.proofs.Sequence.{in_brackets_laid}
 use Rattle.jsgen_lists.proofs.arguments.print_arguments.Goals as goal
 
 pub returns : goal.returns

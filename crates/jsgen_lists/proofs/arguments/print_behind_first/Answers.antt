@@ -1,6 +1,6 @@
 use Rattle.std.proofs.Common.{refl}
 use Rattle.std.proofs.lemmas.List.{nil_from_length}
-use Rattle.jsgen_steps.proofs.Sequence.{◌⨾◌, nothing_laid, regrouped}
+use Rattle.jsgen_printer.proofs.Sequence.{◌⨾◌, nothing_laid, regrouped}
 use Rattle.jsgen_lists.proofs.Turns.{behind_comma}
 use Rattle.jsgen_lists.proofs.arguments.print_behind_first.Goals as goal
 

@@ -1,5 +1,5 @@
 use Rattle.std.proofs.Common.{sym, ◌∙◌}
-use Rattle.jsgen_steps.proofs.Sequence.{as_laid}
+use Rattle.jsgen_printer.proofs.Sequence.{as_laid}
 use Rattle.jsgen_lists.proofs.Braced.{no_braces, some_braces}
 use Rattle.jsgen_lists.proofs.braces.print_braces.Goals as goal
 

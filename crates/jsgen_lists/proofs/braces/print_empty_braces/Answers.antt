@@ -1,6 +1,6 @@
 use Rattle.jsgen_model.specs.Punctuator.{Brace}
-use Rattle.jsgen_steps.proofs.Sequence.{◌⨾◌, nothing_laid, in_brackets_laid}
+use Rattle.jsgen_printer.proofs.Sequence.{◌⨾◌, nothing_laid, in_brackets_laid}
 use Rattle.jsgen_lists.proofs.braces.print_empty_braces.Goals as goal
 
 pub returns : goal.returns
-returns c = in_brackets_laid Brace c.print_opening.ensures (nothing_laid _) c.print_closing.ensures ⨾ c.drop_semicolon.ensures
+returns c = in_brackets_laid Brace c.print_opening.ensures (nothing_laid _) c.print_closing.ensures ⨾ c.drop_semicolon.ensures.lays

@@ -1,5 +1,5 @@
 use Rattle.std.proofs.Common.{refl}
-use Rattle.jsgen_steps.proofs.Sequence.{◌⨾◌, none_behind, items_go, regrouped}
+use Rattle.jsgen_printer.proofs.Sequence.{◌⨾◌, none_behind, items_go, regrouped}
 use Rattle.jsgen_lists.proofs.cases.print_case.Goals as goal
 
 pub print_consequent-requires : goal.print_consequent-requires

@@ -1,6 +1,6 @@
 use Rattle.std.proofs.Common.{arith}
 use Rattle.jsgen_place.specs.Place.{settings_of}
-use Rattle.jsgen_steps.proofs.Sequence.{as_laid}
+use Rattle.jsgen_printer.proofs.Sequence.{as_laid}
 use Rattle.jsgen_lists.proofs.NotOne.{one_case, other_cases}
 use Rattle.jsgen_lists.proofs.cases.print_consequent.Goals as goal
 

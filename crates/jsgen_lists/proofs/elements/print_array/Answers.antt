@@ -1,5 +1,5 @@
 use Rattle.jsgen_model.specs.Punctuator.{Square}
-use Rattle.jsgen_steps.proofs.Sequence.{in_brackets_laid}
+use Rattle.jsgen_printer.proofs.Sequence.{in_brackets_laid}
 use Rattle.jsgen_lists.proofs.elements.print_array.Goals as goal
 
 pub returns : goal.returns

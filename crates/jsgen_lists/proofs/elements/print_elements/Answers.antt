@@ -1,6 +1,6 @@
 use Rattle.std.proofs.Common.{map, sym}
 use Rattle.std.proofs.lemmas.List.{nil_from_length}
-use Rattle.jsgen_steps.proofs.Sequence.{◌⨾◌, nothing_laid, regrouped}
+use Rattle.jsgen_printer.proofs.Sequence.{◌⨾◌, nothing_laid, regrouped}
 use Rattle.jsgen_lists.specs.Lists.{listed, element_items}
 use Rattle.jsgen_lists.proofs.Turns.{items_here}
 use Rattle.jsgen_lists.proofs.Holes.{elements_first}

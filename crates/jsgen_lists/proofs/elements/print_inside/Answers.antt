@@ -1,5 +1,5 @@
 use Rattle.std.proofs.Common.{sym, ◌∙◌}
-use Rattle.jsgen_steps.proofs.Sequence.{as_laid}
+use Rattle.jsgen_printer.proofs.Sequence.{as_laid}
 use Rattle.jsgen_lists.specs.Lists.{listed}
 use Rattle.jsgen_lists.proofs.Holes.{none_inside, single_inside, more_inside}
 use Rattle.jsgen_lists.proofs.elements.print_inside.Goals as goal

@@ -1,8 +1,8 @@
 use Rattle.std.proofs.Common.{map, refl, drop, ◌+◌}
 use Rattle.jsgen_tree.specs.Tree.{holed}
 use Rattle.jsgen_model.specs.Spell.{spell_more_elements}
-use Rattle.jsgen_steps.proofs.Sequence.{none_behind, none_still, items_go}
-use Rattle.jsgen_steps.proofs.Turns.{turn, left_as, done}
+use Rattle.jsgen_printer.proofs.Sequence.{none_behind, none_still, items_go}
+use Rattle.jsgen_printer.proofs.Turns.{turn, left_as, done}
 use Rattle.jsgen_lists.specs.Lists.{listed, element_items}
 use Rattle.jsgen_lists.proofs.Turns.{items_left, none_left, items_here, left_grouped}
 use Rattle.jsgen_lists.proofs.Holes.{more_first, between_nowhere}

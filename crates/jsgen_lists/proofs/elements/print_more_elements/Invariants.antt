@@ -1,7 +1,7 @@
 use Rattle.std.proofs.Common.{map, drop}
 use Rattle.jsgen_tree.specs.Tree.{holed}
 use Rattle.jsgen_model.specs.Spell.{spell_more_elements}
-use Rattle.jsgen_steps.proofs.Turns.{Towards}
+use Rattle.jsgen_printer.proofs.Turns.{Towards}
 use Rattle.jsgen_lists.specs.Lists.{listed}
 use Rattle.jsgen_lists.proofs.elements.print_more_elements.Given as goal
 

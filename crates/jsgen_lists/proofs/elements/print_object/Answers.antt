@@ -1,5 +1,5 @@
 use Rattle.jsgen_model.specs.Punctuator.{Brace}
-use Rattle.jsgen_steps.proofs.Sequence.{in_brackets_laid}
+use Rattle.jsgen_printer.proofs.Sequence.{in_brackets_laid}
 use Rattle.jsgen_lists.proofs.elements.print_object.Goals as goal
 
 pub returns : goal.returns

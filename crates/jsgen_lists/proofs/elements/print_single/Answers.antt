@@ -1,4 +1,4 @@
-use Rattle.jsgen_steps.proofs.Sequence.{◌⨾◌, behind_space}
+use Rattle.jsgen_printer.proofs.Sequence.{◌⨾◌, behind_space}
 use Rattle.jsgen_lists.proofs.elements.print_single.Goals as goal
 
 pub print_all-requires : goal.print_all-requires

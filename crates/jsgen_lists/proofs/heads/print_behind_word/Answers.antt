@@ -1,5 +1,5 @@
 use Rattle.std.proofs.Common.{refl}
-use Rattle.jsgen_steps.proofs.Sequence.{◌⨾◌, none_behind, items_go}
+use Rattle.jsgen_printer.proofs.Sequence.{◌⨾◌, none_behind, items_go}
 use Rattle.jsgen_lists.proofs.heads.print_behind_word.Goals as goal
 
 pub print_behind_space-requires : goal.print_behind_space-requires

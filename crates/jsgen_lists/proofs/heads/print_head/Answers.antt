@@ -1,4 +1,4 @@
-use Rattle.jsgen_steps.proofs.Sequence.{◌⨾◌}
+use Rattle.jsgen_printer.proofs.Sequence.{◌⨾◌}
 use Rattle.jsgen_lists.proofs.heads.print_head.Goals as goal
 
 pub returns : goal.returns

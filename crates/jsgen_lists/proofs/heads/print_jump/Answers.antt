@@ -1,5 +1,5 @@
 use Rattle.std.proofs.Common.{refl}
-use Rattle.jsgen_steps.proofs.Sequence.{◌⨾◌, none_behind, items_go}
+use Rattle.jsgen_printer.proofs.Sequence.{◌⨾◌, none_behind, items_go}
 use Rattle.jsgen_lists.proofs.heads.print_jump.Goals as goal
 
 pub print_apart-requires : goal.print_apart-requires

@@ -1,5 +1,5 @@
 use Rattle.std.proofs.Common.{refl}
-use Rattle.jsgen_steps.proofs.Sequence.{◌⨾◌, none_behind, behind_space, items_go}
+use Rattle.jsgen_printer.proofs.Sequence.{◌⨾◌, none_behind, behind_space, items_go}
 use Rattle.jsgen_lists.proofs.Turns.{here}
 use Rattle.jsgen_lists.proofs.maybe.print_behind_equal.Goals as goal
 

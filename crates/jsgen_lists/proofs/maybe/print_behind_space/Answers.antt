@@ -1,4 +1,4 @@
-use Rattle.jsgen_steps.proofs.Sequence.{◌⨾◌, behind_space}
+use Rattle.jsgen_printer.proofs.Sequence.{◌⨾◌, behind_space}
 use Rattle.jsgen_lists.proofs.Turns.{here}
 use Rattle.jsgen_lists.proofs.maybe.print_behind_space.Goals as goal
 

@@ -1,5 +1,5 @@
 use Rattle.std.proofs.Common.{sym, ◌∙◌}
-use Rattle.jsgen_steps.proofs.Sequence.{nothing_laid}
+use Rattle.jsgen_printer.proofs.Sequence.{nothing_laid}
 use Rattle.jsgen_lists.proofs.Rest.{no_members, some_members}
 use Rattle.jsgen_lists.proofs.maybe.print_comma_behind.Goals as goal
 

@@ -1,6 +1,6 @@
 use Rattle.std.proofs.Common.{map}
 use Rattle.jsgen_tree.specs.Tree.{trees}
-use Rattle.jsgen_steps.proofs.Sequence.{nothing_laid}
+use Rattle.jsgen_printer.proofs.Sequence.{nothing_laid}
 use Rattle.jsgen_lists.proofs.Rest.{no_rest}
 use Rattle.jsgen_lists.proofs.maybe.print_comma_between.Goals as goal
 

@@ -1,5 +1,5 @@
 use Rattle.jsgen_printer.specs.Printer.{bracket_of}
-use Rattle.jsgen_steps.proofs.Sequence.{in_brackets_laid}
+use Rattle.jsgen_printer.proofs.Sequence.{in_brackets_laid}
 use Rattle.jsgen_lists.proofs.members.print_in_brackets.Goals as goal
 
 pub returns : goal.returns

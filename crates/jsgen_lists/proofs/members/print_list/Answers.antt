@@ -1,5 +1,5 @@
 use Rattle.std.proofs.lemmas.List.{nil_from_length}
-use Rattle.jsgen_steps.proofs.Sequence.{◌⨾◌, nothing_laid}
+use Rattle.jsgen_printer.proofs.Sequence.{◌⨾◌, nothing_laid}
 use Rattle.jsgen_lists.proofs.Turns.{here}
 use Rattle.jsgen_lists.proofs.members.print_list.Goals as goal
 

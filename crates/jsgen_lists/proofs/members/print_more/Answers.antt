@@ -1,7 +1,7 @@
 use Rattle.std.proofs.Common.{map, refl}
 use Rattle.jsgen_tree.specs.Tree.{trees}
 use Rattle.jsgen_model.specs.Spell.{spell_more}
-use Rattle.jsgen_steps.proofs.Turns.{turn, left_as, done}
+use Rattle.jsgen_printer.proofs.Turns.{turn, left_as, done}
 use Rattle.jsgen_lists.specs.Lists.{listed}
 use Rattle.jsgen_lists.proofs.Turns.{items_left, none_left, behind_comma, left_grouped}
 use Rattle.jsgen_lists.proofs.members.print_more.Goals as goal

@@ -1,7 +1,7 @@
 use Rattle.std.proofs.Common.{option_map}
 use Rattle.jsgen_tree.specs.Tree.{optional}
 use Rattle.jsgen_model.specs.Spell.{spell_if_given}
-use Rattle.jsgen_steps.proofs.Sequence.{◌⨾◌}
+use Rattle.jsgen_printer.proofs.Sequence.{◌⨾◌}
 use Rattle.jsgen_lists.proofs.Turns.{items_here}
 use Rattle.jsgen_lists.proofs.parts.print_within.Goals as goal
 

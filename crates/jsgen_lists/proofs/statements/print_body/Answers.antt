@@ -1,7 +1,7 @@
 use Rattle.std.proofs.Common.{refl}
 use Rattle.std.proofs.lemmas.List.{nil_from_length}
 use Rattle.jsgen_model.specs.Spell.{spell, first_statement}
-use Rattle.jsgen_steps.proofs.Sequence.{◌⨾◌, nothing_laid, none_behind, items_go}
+use Rattle.jsgen_printer.proofs.Sequence.{◌⨾◌, nothing_laid, none_behind, items_go}
 use Rattle.jsgen_lists.proofs.Turns.{items_here}
 use Rattle.jsgen_lists.proofs.statements.print_body.Goals as goal
 

@@ -1,5 +1,5 @@
-use Rattle.jsgen_steps.proofs.Sequence.{◌⨾◌, deeper_laid}
+use Rattle.jsgen_printer.proofs.Sequence.{◌⨾◌, deeper_laid}
 use Rattle.jsgen_lists.proofs.statements.print_deeper_statements.Goals as goal
 
 pub returns : goal.returns
-returns g c = c.print_soft_line.ensures ⨾ deeper_laid c.deepen-depth.result c.deepen-depth.ensures.level c.deepen-depth.ensures.pen c.print_statements.ensures c.set_depth.ensures
+returns g c = c.print_soft_line.ensures ⨾ deeper_laid c.deepen-depth.result (λ going. c.deepen-depth.ensures.level) c.deepen-depth.ensures.pen c.print_statements.ensures c.set_depth.ensures.goes

@@ -2,8 +2,8 @@ use Rattle.std.proofs.Common.{map, refl}
 use Rattle.jsgen_tree.specs.Tree.{trees}
 use Rattle.jsgen_model.specs.Spell.{spell_statements}
 use Rattle.jsgen_place.specs.Place.{settings_of}
-use Rattle.jsgen_steps.proofs.Sequence.{none_behind, items_go}
-use Rattle.jsgen_steps.proofs.Turns.{turn, left_as, done}
+use Rattle.jsgen_printer.proofs.Sequence.{none_behind, items_go}
+use Rattle.jsgen_printer.proofs.Turns.{turn, left_as, done}
 use Rattle.jsgen_lists.proofs.Turns.{items_left, none_left, here}
 use Rattle.jsgen_lists.proofs.statements.print_statements.Goals as goal
 

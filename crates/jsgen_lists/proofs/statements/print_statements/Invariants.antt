@@ -2,7 +2,7 @@ use Rattle.std.proofs.Common.{map, drop}
 use Rattle.jsgen_tree.specs.Tree.{trees}
 use Rattle.jsgen_model.specs.Spell.{spell_statements}
 use Rattle.jsgen_place.specs.Place.{settings_of}
-use Rattle.jsgen_steps.proofs.Turns.{Towards}
+use Rattle.jsgen_printer.proofs.Turns.{Towards}
 use Rattle.jsgen_lists.proofs.statements.print_statements.Given as goal
 
 -- what was laid out so far, and the statements left, give the whole

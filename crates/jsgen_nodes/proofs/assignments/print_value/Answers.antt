@@ -1,4 +1,4 @@
-use Rattle.jsgen_steps.proofs.Sequence.{◌⨾◌, items_go, none_behind}
+use Rattle.jsgen_printer.proofs.Sequence.{◌⨾◌, items_go, none_behind}
 use Rattle.jsgen_nodes.proofs.Given.{sign_nowhere}
 use Rattle.jsgen_nodes.proofs.assignments.print_value.Goals as goal
 

@@ -1,4 +1,4 @@
-use Rattle.jsgen_steps.proofs.Sequence.{nothing_laid}
+use Rattle.jsgen_printer.proofs.Sequence.{nothing_laid}
 use Rattle.jsgen_nodes.proofs.blocks.print_body_end.Goals as goal
 
 pub returns-then-else_follows : goal.returns-then-else_follows

@@ -1,5 +1,5 @@
 use Rattle.std.proofs.Common.{refl}
-use Rattle.jsgen_steps.proofs.Sequence.{◌⨾◌, none_behind}
+use Rattle.jsgen_printer.proofs.Sequence.{◌⨾◌, none_behind}
 use Rattle.jsgen_lists.proofs.Turns.{here}
 use Rattle.jsgen_lists.proofs.Braced.{braces_laid}
 use Rattle.jsgen_nodes.specs.Place.{at_place}

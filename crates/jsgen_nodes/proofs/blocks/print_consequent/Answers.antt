@@ -1,6 +1,6 @@
 use Rattle.std.proofs.Common.{ap, sym, ◌∙◌}
 use Rattle.jsgen_place.specs.Place.{settings_of}
-use Rattle.jsgen_steps.proofs.Sequence.{◌⨾◌, items_go, none_still, behind_space}
+use Rattle.jsgen_printer.proofs.Sequence.{◌⨾◌, items_go, none_still, behind_space}
 use Rattle.jsgen_lists.proofs.Turns.{here}
 use Rattle.jsgen_nodes.specs.Blocks.{shape_of}
 use Rattle.jsgen_nodes.proofs.Consequents.{consequent_is_body}
@@ -21,5 +21,5 @@ pub returns-in-If : goal.returns-in-If
 unfolding at_place
 returns-in-If g c =
     let t = g.N.PrintNode.plain c.args.consequent.now in
-    let whole = here t c.among_statements.result (none_still (λ pen e. e) c.requires (items_go c.begin_body.ensures)) c.print-in-If.ensures in
-    rw (consequent_is_body c.shape.result t (settings_of c.args.settings) c.args.else_follows c.in-If.is c.shape.ensures (sym c.ends_open.ensures ∙ c.if-ends_open.false)) (c.begin_body.ensures ⨾ ((rw c.among_statements.ensures at whole) ⨾ c.print_body_end.ensures))
+    let whole = here t c.among_statements.result (none_still (λ pen e. e) c.requires (items_go c.begin_body.ensures.lays)) c.print-in-If.ensures in
+    rw (consequent_is_body c.shape.result t (settings_of c.args.settings) c.args.else_follows c.in-If.is c.shape.ensures (sym c.ends_open.ensures ∙ c.if-ends_open.false)) (c.begin_body.ensures.lays ⨾ ((rw c.among_statements.ensures at whole) ⨾ c.print_body_end.ensures))

@@ -1,5 +1,5 @@
 use Rattle.std.proofs.Common.{refl}
-use Rattle.jsgen_steps.proofs.Sequence.{◌⨾◌, items_go, none_behind}
+use Rattle.jsgen_printer.proofs.Sequence.{◌⨾◌, items_go, none_behind}
 use Rattle.jsgen_nodes.proofs.blocks.print_else.Goals as goal
 
 pub print_behind_else-requires : goal.print_behind_else-requires

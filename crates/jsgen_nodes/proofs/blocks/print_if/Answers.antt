@@ -1,5 +1,5 @@
 use Rattle.std.proofs.Common.{refl}
-use Rattle.jsgen_steps.proofs.Sequence.{◌⨾◌, regrouped, items_go, none_behind}
+use Rattle.jsgen_printer.proofs.Sequence.{◌⨾◌, regrouped, items_go, none_behind}
 use Rattle.jsgen_nodes.proofs.blocks.print_if.Goals as goal
 
 pub print_consequent-requires : goal.print_consequent-requires

@@ -1,6 +1,6 @@
 use Rattle.std.proofs.Common.{ap, sym, ◌∙◌}
 use Rattle.jsgen_place.specs.Place.{settings_of}
-use Rattle.jsgen_steps.proofs.Sequence.{◌⨾◌, behind_space}
+use Rattle.jsgen_printer.proofs.Sequence.{◌⨾◌, behind_space}
 use Rattle.jsgen_lists.proofs.Turns.{here}
 use Rattle.jsgen_nodes.specs.Blocks.{shape_of}
 use Rattle.jsgen_nodes.proofs.Followed.{do_is_other}

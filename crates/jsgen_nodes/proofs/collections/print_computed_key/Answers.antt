@@ -1,5 +1,5 @@
 use Rattle.jsgen_model.specs.Punctuator.{Square}
-use Rattle.jsgen_steps.proofs.Sequence.{in_brackets_laid}
+use Rattle.jsgen_printer.proofs.Sequence.{in_brackets_laid}
 use Rattle.jsgen_nodes.specs.Place.{at_place}
 use Rattle.jsgen_nodes.proofs.collections.print_computed_key.Goals as goal
 

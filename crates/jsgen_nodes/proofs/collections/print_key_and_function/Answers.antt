@@ -3,7 +3,7 @@ use Rattle.jsgen_tree.specs.Rows.{in_property_key, in_expression}
 use Rattle.jsgen_model.specs.Items.{Items, ◌⊕◌}
 use Rattle.jsgen_model.specs.Layout.{Pen, layout}
 use Rattle.jsgen_place.specs.Place.{place_of}
-use Rattle.jsgen_steps.proofs.Sequence.{◌⨾◌, regrouped}
+use Rattle.jsgen_printer.proofs.Sequence.{◌⨾◌, regrouped}
 use Rattle.jsgen_nodes.specs.Keys.{key_of}
 use Rattle.jsgen_nodes.specs.Place.{at_place}
 use Rattle.jsgen_nodes.proofs.Accessors.{method_anywhere}

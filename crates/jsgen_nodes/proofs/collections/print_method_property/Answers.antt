@@ -1,5 +1,5 @@
 use Rattle.jsgen_tree.specs.Rows.{in_property_key, in_expression}
-use Rattle.jsgen_steps.proofs.Sequence.{◌⨾◌, regrouped}
+use Rattle.jsgen_printer.proofs.Sequence.{◌⨾◌, regrouped}
 use Rattle.jsgen_nodes.specs.Place.{at_place}
 use Rattle.jsgen_nodes.proofs.Accessors.{behind_accessor_word}
 use Rattle.jsgen_nodes.proofs.collections.print_method_property.Goals as goal

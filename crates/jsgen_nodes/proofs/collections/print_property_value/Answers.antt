@@ -1,5 +1,5 @@
 use Rattle.std.proofs.Common.{refl}
-use Rattle.jsgen_steps.proofs.Sequence.{◌⨾◌, items_go, none_behind}
+use Rattle.jsgen_printer.proofs.Sequence.{◌⨾◌, items_go, none_behind}
 use Rattle.jsgen_nodes.specs.Place.{at_place}
 use Rattle.jsgen_nodes.proofs.collections.print_property_value.Goals as goal
 

@@ -1,5 +1,5 @@
 use Rattle.std.proofs.Common.{refl}
-use Rattle.jsgen_steps.proofs.Sequence.{◌⨾◌, items_go, none_behind}
+use Rattle.jsgen_printer.proofs.Sequence.{◌⨾◌, items_go, none_behind}
 use Rattle.jsgen_nodes.specs.Place.{at_place}
 use Rattle.jsgen_nodes.proofs.definitions.print_behind_name.Goals as goal
 

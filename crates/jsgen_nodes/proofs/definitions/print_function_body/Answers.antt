@@ -4,7 +4,7 @@ use Rattle.jsgen_tree.specs.Rows.{function_body_row, directive_row, in_statement
 use Rattle.jsgen_model.specs.Items.{◌⊕◌}
 use Rattle.jsgen_model.specs.Spell.{spell_directives, spell_body}
 use Rattle.jsgen_place.specs.Place.{settings_of}
-use Rattle.jsgen_steps.proofs.Sequence.{as_laid}
+use Rattle.jsgen_printer.proofs.Sequence.{as_laid}
 use Rattle.jsgen_nodes.specs.Place.{at_place}
 use Rattle.jsgen_nodes.proofs.Filled.{empty_body, filled_body}
 use Rattle.jsgen_nodes.proofs.definitions.print_function_body.Goals as goal

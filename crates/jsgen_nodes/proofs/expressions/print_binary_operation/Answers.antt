@@ -1,4 +1,4 @@
-use Rattle.jsgen_steps.proofs.Sequence.{◌⨾◌, items_go, none_behind}
+use Rattle.jsgen_printer.proofs.Sequence.{◌⨾◌, items_go, none_behind}
 use Rattle.jsgen_nodes.specs.Place.{at_place}
 use Rattle.jsgen_nodes.proofs.Operations.{operator_nowhere}
 use Rattle.jsgen_nodes.proofs.expressions.print_binary_operation.Goals as goal

@@ -5,7 +5,7 @@ use Rattle.jsgen_model.specs.Punctuator.{arrow}
 use Rattle.jsgen_model.specs.Items.{◌⊕◌, soft_space, punctuator}
 use Rattle.jsgen_model.specs.Layout.{layout}
 use Rattle.jsgen_model.specs.Spell.{body_begins}
-use Rattle.jsgen_steps.proofs.Sequence.{◌⨾◌, regrouped}
+use Rattle.jsgen_printer.proofs.Sequence.{◌⨾◌, regrouped}
 use Rattle.jsgen_nodes.specs.Place.{at_place}
 use Rattle.jsgen_nodes.proofs.Arrows.{body_laid}
 use Rattle.jsgen_nodes.proofs.functions.print_behind_parameters.Goals as goal

@@ -5,7 +5,7 @@ use Rattle.jsgen_model.specs.Items.{Items, ◌⊕◌}
 use Rattle.jsgen_model.specs.Layout.{Pen, layout}
 use Rattle.jsgen_model.specs.Spell.{spell_parts, comma_between}
 use Rattle.jsgen_place.specs.Place.{place_of}
-use Rattle.jsgen_steps.proofs.Sequence.{◌⨾◌, regrouped}
+use Rattle.jsgen_printer.proofs.Sequence.{◌⨾◌, regrouped}
 use Rattle.jsgen_nodes.specs.Place.{at_place}
 use Rattle.jsgen_nodes.proofs.Arrows.{rest_anywhere}
 use Rattle.jsgen_nodes.proofs.functions.print_formal_parameters.Goals as goal

@@ -4,7 +4,7 @@ use Rattle.jsgen_tree.specs.Tree.{optional}
 use Rattle.jsgen_tree.specs.Rows.{in_binding_pattern}
 use Rattle.jsgen_model.specs.Spell.{behind}
 use Rattle.jsgen_place.specs.Place.{place_of}
-use Rattle.jsgen_steps.proofs.Sequence.{◌⨾◌, regrouped, items_go, none_behind}
+use Rattle.jsgen_printer.proofs.Sequence.{◌⨾◌, regrouped, items_go, none_behind}
 use Rattle.jsgen_nodes.proofs.Caught.{caught_nowhere}
 use Rattle.jsgen_nodes.specs.Place.{at_place}
 use Rattle.jsgen_nodes.proofs.handlers.print_catch_clause.Goals as goal

@@ -1,4 +1,4 @@
-use Rattle.jsgen_steps.proofs.Sequence.{nothing_laid}
+use Rattle.jsgen_printer.proofs.Sequence.{nothing_laid}
 use Rattle.jsgen_nodes.proofs.handlers.print_finalizer.Goals as goal
 
 pub returns-in-Some : goal.returns-in-Some

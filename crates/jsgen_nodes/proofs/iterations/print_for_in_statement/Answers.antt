@@ -1,6 +1,6 @@
 use Rattle.std.proofs.Common.{refl}
 use Rattle.jsgen_tree.specs.Rows.{in_expression, in_for_statement_left}
-use Rattle.jsgen_steps.proofs.Sequence.{◌⨾◌, regrouped, items_go, none_behind}
+use Rattle.jsgen_printer.proofs.Sequence.{◌⨾◌, regrouped, items_go, none_behind}
 use Rattle.jsgen_place.specs.Place.{place_of}
 use Rattle.jsgen_nodes.specs.Place.{at_place}
 use Rattle.jsgen_nodes.proofs.Lefts.{for_in_laid}

@@ -1,6 +1,6 @@
 use Rattle.std.proofs.Common.{refl}
 use Rattle.jsgen_model.specs.Punctuator.{Round}
-use Rattle.jsgen_steps.proofs.Sequence.{◌⨾◌, in_brackets_laid, none_behind}
+use Rattle.jsgen_printer.proofs.Sequence.{◌⨾◌, in_brackets_laid, none_behind}
 use Rattle.jsgen_nodes.proofs.iterations.print_in_head.Goals as goal
 
 pub print_in_parts-requires : goal.print_in_parts-requires

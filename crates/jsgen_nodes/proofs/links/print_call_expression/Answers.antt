@@ -6,7 +6,7 @@ use Rattle.jsgen_model.specs.Punctuator.{Round}
 use Rattle.jsgen_model.specs.Items.{Items, ◌⊕◌, brackets}
 use Rattle.jsgen_model.specs.Spell.{Place, spell, spell_arguments, called, in_brackets, bracket_link}
 use Rattle.jsgen_model.specs.Quotes.{is_require_call, is_definition_call}
-use Rattle.jsgen_steps.specs.Steps.{pen_at}
+use Rattle.jsgen_printer.specs.Printer.{pen_of}
 use Rattle.jsgen_nodes.specs.Place.{at_place}
 use Rattle.jsgen_nodes.proofs.Operations.{wrapped_at}
 use Rattle.jsgen_nodes.proofs.links.print_call_expression.Goals as goal
@@ -17,4 +17,4 @@ call_items optional callee arguments place = spell callee (called place) ⊕ (br
 
 pub returns : goal.returns
 unfolding at_place
-returns g c = wrapped_at c.wraps_call-wrap.result _ c.args.place c.within.result (call_items c.args.node.now.optional (g.N.PrintNode.plain c.args.node.now.callee.node) (trees (map (in_argument g.N.PrintNode.plain) c.args.node.now.arguments.items))) (c.wraps_call-wrap.ensures (pen_at c.args.p.now)) c.within.ensures c.print_opening_if.ensures c.print_call.ensures c.print_closing_if.ensures
+returns g c = wrapped_at c.wraps_call-wrap.result _ c.args.place c.within.result (call_items c.args.node.now.optional (g.N.PrintNode.plain c.args.node.now.callee.node) (trees (map (in_argument g.N.PrintNode.plain) c.args.node.now.arguments.items))) (c.wraps_call-wrap.ensures (pen_of c.args.p.now)) c.within.ensures c.print_opening_if.ensures c.print_call.ensures c.print_closing_if.ensures

@@ -1,6 +1,6 @@
 use Rattle.std.proofs.Common.{refl}
 use Rattle.jsgen_model.specs.Punctuator.{Square}
-use Rattle.jsgen_steps.proofs.Sequence.{◌⨾◌, in_brackets_laid, none_behind}
+use Rattle.jsgen_printer.proofs.Sequence.{◌⨾◌, in_brackets_laid, none_behind}
 use Rattle.jsgen_lists.proofs.Turns.{here}
 use Rattle.jsgen_nodes.specs.Place.{at_place}
 use Rattle.jsgen_nodes.proofs.links.print_computed_name.Goals as goal

@@ -1,5 +1,5 @@
 use Rattle.std.proofs.Common.{refl}
-use Rattle.jsgen_steps.proofs.Sequence.{◌⨾◌, regrouped}
+use Rattle.jsgen_printer.proofs.Sequence.{◌⨾◌, regrouped}
 use Rattle.jsgen_nodes.proofs.loops.print_behind_do.Goals as goal
 
 pub returns : goal.returns

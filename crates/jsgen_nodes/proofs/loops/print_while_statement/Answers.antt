@@ -1,5 +1,5 @@
 use Rattle.std.proofs.Common.{refl}
-use Rattle.jsgen_steps.proofs.Sequence.{◌⨾◌, regrouped, items_go, none_behind}
+use Rattle.jsgen_printer.proofs.Sequence.{◌⨾◌, regrouped, items_go, none_behind}
 use Rattle.jsgen_nodes.specs.Place.{at_place}
 use Rattle.jsgen_nodes.proofs.loops.print_while_statement.Goals as goal
 

@@ -3,7 +3,7 @@ use Rattle.jsgen_tree.specs.Tree.{trees}
 use Rattle.jsgen_tree.specs.Rows.{directive_row}
 use Rattle.jsgen_model.specs.Spell.{spell_directives}
 use Rattle.jsgen_place.specs.Place.{settings_of}
-use Rattle.jsgen_steps.proofs.Turns.{turn, left_as, done}
+use Rattle.jsgen_printer.proofs.Turns.{turn, left_as, done}
 use Rattle.jsgen_lists.proofs.Turns.{items_left, none_left}
 use Rattle.jsgen_nodes.specs.Place.{at_place}
 use Rattle.jsgen_nodes.proofs.statements.print_directives.Goals as goal

@@ -3,7 +3,7 @@ use Rattle.jsgen_tree.specs.Tree.{trees}
 use Rattle.jsgen_tree.specs.Rows.{directive_row}
 use Rattle.jsgen_model.specs.Spell.{spell_directives}
 use Rattle.jsgen_place.specs.Place.{settings_of}
-use Rattle.jsgen_steps.proofs.Turns.{Towards}
+use Rattle.jsgen_printer.proofs.Turns.{Towards}
 use Rattle.jsgen_nodes.proofs.statements.print_directives.Given as goal
 
 -- what was laid out so far, and the directives left, give the whole

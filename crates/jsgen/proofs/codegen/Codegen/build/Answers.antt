@@ -1,7 +1,7 @@
 use Rattle.std.proofs.Common.{◌≡◌, string_bytes, refl, sym, ◌∙◌}
 use Rattle.jsgen_tree.specs.Plain.{program_plain}
 use Rattle.jsgen_model.specs.Spell.{text_bytes}
-use Rattle.jsgen_steps.proofs.Sequence.{items_go, went, went_before}
+use Rattle.jsgen_printer.proofs.Sequence.{items_go, went, went_before}
 use Rattle.jsgen.specs.Codegen.{job_for}
 use Rattle.jsgen_reading_laws.proofs.Reading.{read_back}
 use Rattle.jsgen.proofs.codegen.Codegen.build.Goals as goal
@@ -10,14 +10,14 @@ pub returns-clause-text : goal.returns-clause-text
 returns-clause-text c =
     let going = sym c.has_failed.ensures ∙ c.if-has_failed.false in
     let behind = went (items_go c.print_program.ensures) going in
-    let before = went c.set_depth.ensures (went_before (items_go c.print_program.ensures) going) in
+    let before = went c.set_depth.ensures.goes (went_before (items_go c.print_program.ensures) going) in
     rw (behind, before, c.args.self.fresh c.requires.unprinted, c.settings-settings.ensures) at c.into_string.ensures
 
 pub returns-clause-reads : goal.returns-clause-reads
 returns-clause-reads c = λ plain quiet.
     let going = sym c.has_failed.ensures ∙ c.if-has_failed.false in
     let behind = went (items_go c.print_program.ensures) going in
-    let before = went c.set_depth.ensures (went_before (items_go c.print_program.ensures) going) in
+    let before = went c.set_depth.ensures.goes (went_before (items_go c.print_program.ensures) going) in
     let job = job_for c.args.self (program_plain c.args.program.now) in
     let text : string_bytes c.into_string.result ≡ text_bytes job = rw (behind, before, c.args.self.fresh c.requires.unprinted, c.settings-settings.ensures) at c.into_string.ensures in
     read_back job (string_bytes c.into_string.result) text refl c.requires.valid plain quiet

@@ -1,9 +1,11 @@
-use Rattle.std.proofs.Common.{sym, ◌∙◌}
+use Rattle.std.proofs.Common.{refl, sym, ◌∙◌}
+use Rattle.jsgen_printer.proofs.Attempts.{changed}
 use Rattle.jsgen_printer.proofs.Handed.{none_handed, some_handed}
+use Rattle.jsgen_printer.proofs.Sequence.{goes_as}
 use Rattle.jsgen_printer.proofs.printer.Printer.append_tag_free.Goals as goal
 
-pub returns-then-is_empty : goal.returns-then-is_empty
-returns-then-is_empty c = none_handed c.args.text.now _ _ c.utf8.text (sym c.is_empty.ensures ∙ c.if-is_empty.true)
+pub returns-then-not-is_empty : goal.returns-then-not-is_empty
+returns-then-not-is_empty c = goes_as _ (sym (some_handed c.args.text.now _ _ c.utf8.text (sym c.is_empty.ensures ∙ c.if-not-is_empty.true))) c.print_tag_free.ensures
 
-pub returns-else-is_empty : goal.returns-else-is_empty
-returns-else-is_empty c = rw (some_handed c.args.text.now _ _ c.utf8.text (sym c.is_empty.ensures ∙ c.if-is_empty.false)) c.print_tag_free.ensures
+pub returns-else-not-is_empty : goal.returns-else-not-is_empty
+returns-else-not-is_empty c = changed refl refl (none_handed c.args.text.now _ _ c.utf8.text (sym c.is_empty.ensures ∙ c.if-not-is_empty.false))

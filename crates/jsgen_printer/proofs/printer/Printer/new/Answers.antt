@@ -5,8 +5,8 @@ use Rattle.jsgen_syntax.specs.Buffer.{buffer_bytes}
 use Rattle.jsgen_printer.specs.Printer.{pen_of}
 use Rattle.jsgen_printer.proofs.printer.Printer.new.Goals as goal
 
-pub returns : goal.returns
+pub returns-clause-pen : goal.returns-clause-pen
 unfolding pen_of
-returns c =
+returns-clause-pen c =
     let empty : chars (buffer_bytes c.with_indent.result) ≡ [] = ap chars c.with_indent.ensures.empty ∙ chars-nil in
     cc

@@ -1,11 +1,12 @@
+use Rattle.std.proofs.Common.{false}
 use Rattle.std.specs.Str.{chars}
+use Rattle.jsgen_model.specs.Items.{number}
 use Rattle.jsgen_printer.specs.Printer.{pen_of}
-use Rattle.jsgen_printer.proofs.Stops.{stopped, reaches_last}
-use Rattle.jsgen_printer.proofs.Numbers.{number_kept, suffix_behind, suffix_part}
+use Rattle.jsgen_printer.proofs.Appends.{layout_appends}
+use Rattle.jsgen_printer.proofs.Numbers.{suffix_behind}
+use Rattle.jsgen_printer.proofs.Prefixes.{prefix_append}
+use Rattle.jsgen_printer.proofs.Sequence.{goes_laid, goes_then, items_go}
 use Rattle.jsgen_printer.proofs.printer.Printer.print_big_integer.Goals as goal
 
-pub returns-in_err-print_number : goal.returns-in_err-print_number
-returns-in_err-print_number c = stopped _ c.from_residual.ensures.0 (suffix_part (chars c.args.digits.now) (pen_of c.args.self.now) _ c.in_err-print_number.ensures)
-
 pub returns : goal.returns
-returns c = reaches_last _ _ _ _ _ _ (rw c.in_ok-print_number.ensures at c.print_str.ensures) (number_kept (chars c.args.digits.now) (pen_of c.args.self.now)) (suffix_behind (chars c.args.digits.now) (pen_of c.args.self.now))
+returns c = goes_laid _ (suffix_behind (chars c.args.digits.now) (pen_of c.args.self.now)) (goes_then (λ pen. layout_appends (number false (chars c.args.digits.now)) pen) (λ pen. prefix_append pen.code _) (items_go c.print_number.ensures) c.print_str.ensures)

@@ -1,6 +1,8 @@
 use Rattle.std.proofs.Common.{sym}
+use Rattle.jsgen_printer.specs.Printer.{pen_of}
 use Rattle.jsgen_printer.proofs.Operators.{operator_written, operator_chars}
+use Rattle.jsgen_printer.proofs.Sequence.{goes_laid}
 use Rattle.jsgen_printer.proofs.printer.Printer.print_operator.Goals as goal
 
 pub returns : goal.returns
-returns c = rw (operator_written c.args.operator _, sym c.stands_apart-apart.ensures, sym (operator_chars c.args.operator), sym c.as_str-sign.ensures) c.print_apart.ensures
+returns c = goes_laid _ (rw (c.stands_apart-apart.ensures, c.as_str-sign.ensures, operator_chars c.args.operator) (sym (operator_written c.args.operator (pen_of c.args.self.now)))) c.print_apart.ensures

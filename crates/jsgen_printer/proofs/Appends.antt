@@ -1,0 +1,41 @@
+-- What a step adds stands behind the code before.
+use Rattle.std.proofs.Common.{ℕ, Bool, true, false, List, [], ◌∷◌, if◌then◌else◌}
+use Rattle.jsgen_model.specs.Punctuator.{Round, opening, closing}
+use Rattle.jsgen_model.specs.Items.{Items, ◌⊕◌, indentation, deeper, brackets, wrapped, where_same, statement_end}
+use Rattle.jsgen_model.specs.Layout.{Pen, layout, written, written_if, text_if, other_end, indented, indent_or_space, at_indentation, end_statement, deeper_level, are_same}
+use Rattle.jsgen_model.specs.Printing.{IsPrefix}
+use Rattle.jsgen_printer.proofs.Prefixes.{whole_prefix, prefix_append, more_prefix, prefix_of_prefix}
+
+indented_appends : (text : List ℕ) (pen : Pen) → IsPrefix pen.code (indented text pen).code
+indented_appends [] pen = whole_prefix pen.code
+indented_appends (c ∷ cs) pen = prefix_append pen.code (c ∷ cs)
+
+space_appends : (pending : Bool) (pen : Pen) → IsPrefix pen.code (indent_or_space pending pen).code
+space_appends true pen = prefix_append pen.code _
+space_appends false pen = indented_appends _ pen
+
+indentation_appends : (minified : Bool) (pen : Pen) → IsPrefix pen.code (at_indentation minified pen).code
+indentation_appends true pen = whole_prefix pen.code
+indentation_appends false pen = space_appends pen.pending_space pen
+
+end_appends : (minified : Bool) (pen : Pen) → IsPrefix pen.code (end_statement minified pen).code
+end_appends true pen = whole_prefix pen.code
+end_appends false pen = prefix_append pen.code _
+
+either_appends : (test : Bool) (code : List ℕ) (a b : Pen) → IsPrefix code a.code → IsPrefix code b.code → IsPrefix code (if test then a else b).code
+either_appends true code a b p q = p
+either_appends false code a b p q = q
+
+pub layout_appends : (items : Items) (pen : Pen) → IsPrefix pen.code (layout items pen).code
+layout_appends (a ⊕ b) pen = prefix_of_prefix (layout_appends a pen) (layout_appends b (layout a pen))
+layout_appends (deeper a) pen = layout_appends a (record pen { depth = deeper_level pen.style.minified pen.depth })
+layout_appends (brackets b a) pen = more_prefix (closing b) (prefix_of_prefix (prefix_append pen.code (opening b)) (layout_appends a (written (opening b) other_end pen)))
+layout_appends (wrapped test a) pen = more_prefix (text_if test (closing Round)) (prefix_of_prefix (prefix_append pen.code (text_if test (opening Round))) (layout_appends a (written_if test (opening Round) pen)))
+layout_appends (where_same m n a b) pen = either_appends (are_same pen.style.tables m n) pen.code (layout a pen) (layout b pen) (layout_appends a pen) (layout_appends b pen)
+layout_appends indentation pen = indentation_appends pen.style.minified pen
+layout_appends statement_end pen = end_appends pen.style.minified pen
+layout_appends item pen = search (whole_prefix, prefix_append)
+
+-- what leads to the pen before leads to the pen behind the items
+pub layout_more : {a : List ℕ} (items : Items) (pen : Pen) → IsPrefix a pen.code → IsPrefix a (layout items pen).code
+layout_more items pen p = prefix_of_prefix p (layout_appends items pen)
