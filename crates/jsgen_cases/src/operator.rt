@@ -1,7 +1,10 @@
 // Operators.
 use crate::push::push_where;
 use jsgen::Operator;
-use jsgen_syntax::{BinaryOperator, GetPrecedence, Memory, UnaryOperator, UpdateOperator};
+use jsgen_syntax::{
+    BinaryOperator, GetPrecedence, LogicalOperator, Memory, Precedence, UnaryOperator,
+    UpdateOperator,
+};
 use jsgen_tree::Expression;
 use std::alloc::Global;
 
@@ -12,29 +15,43 @@ pub fn push_operator(
     node: Option<&Expression>,
     answer: &mut String,
 ) -> Result<(), Memory> {
-    let (text, level, lower, equality, word) = match node {
-        Some(Expression::BinaryExpression(node)) => {
-            let it = node.operator;
-            let (level, lower) = (it.precedence(), it.lower_precedence());
-            (it.as_str(), level, lower, it.is_equality(), it.is_keyword())
-        }
-        Some(Expression::LogicalExpression(node)) => {
-            let it = node.operator;
-            (
-                it.as_str(),
-                it.precedence(),
-                it.lower_precedence(),
-                false,
-                false,
-            )
-        }
-        _ => return Ok(answer.push_str("no operator")?),
-    };
-    let said = format!(in alloc; " {text} {level:?} {lower:?}")?;
+    match node {
+        Some(Expression::BinaryExpression(node)) => push_binary(alloc, node.operator, answer),
+        Some(Expression::LogicalExpression(node)) => push_logical(alloc, node.operator, answer),
+        _ => Ok(answer.push_str("no operator")?),
+    }
+}
+
+fn push_binary(alloc: Global, operator: BinaryOperator, answer: &mut String) -> Result<(), Memory> {
+    let (level, lower) = (operator.precedence(), operator.lower_precedence());
+    push_levels(alloc, operator.as_str(), level, lower, answer)?;
     push_where(
         answer,
-        &[(true, &said), (equality, " equality"), (word, " word")],
+        &[
+            (operator.is_equality(), " equality"),
+            (operator.is_keyword(), " word"),
+        ],
     )
+}
+
+fn push_logical(
+    alloc: Global,
+    operator: LogicalOperator,
+    answer: &mut String,
+) -> Result<(), Memory> {
+    let (level, lower) = (operator.precedence(), operator.lower_precedence());
+    push_levels(alloc, operator.as_str(), level, lower, answer)
+}
+
+fn push_levels(
+    alloc: Global,
+    text: &str,
+    level: Precedence,
+    lower: Precedence,
+    answer: &mut String,
+) -> Result<(), Memory> {
+    let said = format!(in alloc; " {text} {level:?} {lower:?}")?;
+    Ok(answer.push_str(&said)?)
 }
 
 /// What wraps an operator of each kind.
