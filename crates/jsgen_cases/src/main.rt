@@ -50,13 +50,26 @@ fn push_answer(
     match question {
         "print" => push_printed(alloc, rest, answer),
         "compare" => push_comparison(alloc, rest, answer),
+        "of" => push_of_job(alloc, how, rest, answer),
+        "run" => push_run(alloc, how, rest, answer),
         "tokens" => push_row(alloc, rest, answer),
         "value" => push_value(alloc, how, rest, answer),
         "string" => push_of_string(alloc, how, rest, answer),
+        _ => push_of_calls(alloc, question, how, rest, answer),
+    }
+}
+
+// Of calls that take no job.
+fn push_of_calls(
+    alloc: Global,
+    question: &str,
+    how: &str,
+    rest: &str,
+    answer: &mut String,
+) -> Result<(), Memory> {
+    match question {
         "raw" => push_raw(alloc, how, rest, answer),
         "name" => push_name(rest, answer),
-        "of" => push_of_job(alloc, how, rest, answer),
-        "run" => push_run(alloc, how, rest, answer),
         "level" => push_level(alloc, rest, answer),
         "context" => push_context(alloc, rest, answer),
         "sets" => push_sets(rest, answer),

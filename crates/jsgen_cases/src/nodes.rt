@@ -6,7 +6,10 @@ use crate::level::{context_of, level_of};
 use crate::push::{push_numbers, push_where};
 use jsgen::{Codegen, CodegenError, Context, Gen, GenExpr, TreeFault};
 use jsgen_syntax::{Memory, Precedence, Span};
-use jsgen_tree::{Declaration, Expression, GetSpan, Node, ObjectPropertyKind, Program, Statement};
+use jsgen_tree::{
+    Declaration, Expression, FormalParameters, GetSpan, Node, ObjectProperty, ObjectPropertyKind,
+    Program, Statement, VariableDeclaration,
+};
 use std::alloc::Global;
 
 /// The expression of the first statement, without parentheses round it.
@@ -113,29 +116,55 @@ fn print_nodes(printer: &mut Codegen<'_>, program: &Program) -> Result<(), Codeg
     print_twice(printer, statement)?;
     match (statement, expression_in(program)) {
         (Statement::Declaration(declaration), _) => match declaration.get() {
-            Node::Declaration(Declaration::VariableDeclaration(declaration)) => {
-                print_twice(printer, &**declaration)?;
-                printer.print_str(declaration.kind.as_str())
-            }
+            Node::Declaration(Declaration::VariableDeclaration(declaration)) => print_declaration(
+                printer,
+                declaration,
+            ),
             _ => Ok(()),
         },
         (_, Some(Expression::ObjectExpression(object))) => match object.properties.as_slice() {
-            [ObjectPropertyKind::ObjectProperty(property)] => {
-                print_twice(printer, &property.key)?;
-                print_twice(printer, &**property)
-            }
+            [ObjectPropertyKind::ObjectProperty(property)] => print_property(printer, property),
             _ => Ok(()),
         },
-        (_, Some(Expression::ArrowFunctionExpression(function))) => {
-            let params = &*function.params;
-            print_twice(printer, params)?;
-            match (params.items.as_slice(), &params.rest) {
-                ([_, second], Some(rest)) => {
-                    print_twice(printer, second)?;
-                    print_twice(printer, &**rest)
-                }
-                _ => Ok(()),
-            }
+        (_, Some(Expression::ArrowFunctionExpression(function))) => print_parameters(
+            printer,
+            &function.params,
+        ),
+        _ => Ok(()),
+    }
+}
+
+// A declaration, and its word.
+fn print_declaration(
+    printer: &mut Codegen<'_>,
+    declaration: &VariableDeclaration,
+) -> Result<(), CodegenError>
+    requires unfailed { has_failed printer.old ≡ false }
+{
+    print_twice(printer, declaration)?;
+    printer.print_str(declaration.kind.as_str())
+}
+
+// A property's key, and the property.
+fn print_property(printer: &mut Codegen<'_>, property: &ObjectProperty) -> Result<(), CodegenError>
+    requires unfailed { has_failed printer.old ≡ false }
+{
+    print_twice(printer, &property.key)?;
+    print_twice(printer, property)
+}
+
+// Parameters, and where there are two and a rest the second and the rest.
+fn print_parameters(
+    printer: &mut Codegen<'_>,
+    params: &FormalParameters,
+) -> Result<(), CodegenError>
+    requires unfailed { has_failed printer.old ≡ false }
+{
+    print_twice(printer, params)?;
+    match (params.items.as_slice(), &params.rest) {
+        ([_, second], Some(rest)) => {
+            print_twice(printer, second)?;
+            print_twice(printer, &**rest)
         }
         _ => Ok(()),
     }
