@@ -1,7 +1,20 @@
 -- What a row of the printer prints: items, joined as a tree. Texts are lists of characters.
 use Rattle.std.specs.Prelude.{ℕ, List, Bool}
+use Rattle.jsgen_syntax.specs.declared.span.Span.{Span}
 use Rattle.jsgen_tree.specs.Named.{Named}
 use Rattle.jsgen_model.specs.Punctuator.{Punctuator, Bracket}
+
+-- what a text may not begin with where it may not begin with it: an object's brace, or a declaration's word
+pub data Opener : Type 0 where
+  a_brace a_declaration : Opener
+
+-- which comments at an offset a row prints: the group, or the group where it holds a property-key annotation
+pub data Manner : Type 0 where
+  all_of_them with_key_annotation : Manner
+
+-- what an annotation says of a call or a function: it is pure, or it has no side effects
+pub data Annotation : Type 0 where
+  is_pure no_side_effects : Annotation
 
 infixr 60 ◌⊕◌
 pub data Items : Type 0 where
@@ -9,8 +22,8 @@ pub data Items : Type 0 where
   ◌⊕◌ : Items → Items → Items
   -- a keyword, apart from a word before it
   word : List ℕ → Items
-  -- a name as it is printed, apart from a word before it
-  name : Named → Items
+  -- a name as it is printed, apart from a word before it, with the mark of its span
+  name : Span → Named → Items
   -- a number, apart from a word before it; the test holds where a dot behind it would be its own
   number : Bool → List ℕ → Items
   -- a literal that begins and ends with a mark of its own, as a regular expression
@@ -38,6 +51,10 @@ pub data Items : Type 0 where
   brackets : Bracket → Items → Items
   -- in parentheses where the test holds
   wrapped : Bool → Items → Items
+  -- in parentheses where the test holds, or where what begins here may not begin so
+  wrapped_at_start : Bool → Opener → Items → Items
+  -- in parentheses, which minified text leaves out
+  parentheses_unless_minified : Items → Items
   -- the first items where two names are printed the same, else the second
   where_same : Named → Named → Items → Items → Items
   -- the end of a statement; the semicolon that it may leave to what follows, printed or dropped
@@ -48,3 +65,14 @@ pub data Items : Type 0 where
   statement_begins : Items
   arrow_body_begins : Items
   default_export_begins : Items
+  -- marks of a source map: of the start of a span, of its end, and behind the object of a link
+  mark : Span → Items
+  end_mark : Span → Items
+  link_mark : Span → Items
+  -- a keyword, apart from a word before it, with the mark of the span that it begins
+  marked_word : Span → List ℕ → Items
+  -- the comments that belong to an offset, and those that belong to smaller ones and stand nowhere else
+  comments : Manner → ℕ → Items
+  orphans : ℕ → Items
+  -- an annotation, where the test holds, of what has this offset
+  annotation : Bool → Annotation → ℕ → Items

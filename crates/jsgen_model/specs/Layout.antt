@@ -14,7 +14,7 @@ use Rattle.jsgen_tree.specs.Options.{Options}
 use Rattle.jsgen_tree.specs.Job.{Tables}
 use Rattle.jsgen_tree.specs.Named.{Named, printed_name}
 use Rattle.jsgen_model.specs.Punctuator.{Punctuator, plus, plus_plus, minus, minus_minus, bang, equal_equal, equal_equal_equal, punctuator_text, Round, opening, closing}
-use Rattle.jsgen_model.specs.Items.{Items, nothing, ◌⊕◌, word, name, number, literal, string, first_string, directive, punctuator, operator, member_dot, soft_space, soft_line, hard_space, indentation, body_space, deeper, brackets, wrapped, where_same, statement_end, due_semicolon, drop_semicolon, statement_begins, arrow_body_begins, default_export_begins}
+use Rattle.jsgen_model.specs.Items.{Items, nothing, ◌⊕◌, word, name, number, literal, string, first_string, directive, punctuator, operator, member_dot, soft_space, soft_line, hard_space, indentation, body_space, deeper, brackets, wrapped, wrapped_at_start, Opener, a_brace, a_declaration, parentheses_unless_minified, where_same, statement_end, due_semicolon, drop_semicolon, statement_begins, arrow_body_begins, default_export_begins, mark, end_mark, link_mark, marked_word, comments, orphans, annotation}
 
 -- what never changes: whether the text is minified and whether it is ASCII, the quote of pretty text and of directives, what a level of indentation is made of, and the tables by which names are printed
 pub record Style : Type 0 where
@@ -108,9 +108,17 @@ name_ending false = other_end
 
 -- a text that may be left out leaves what begins here as it is
 abbrev pub unless_printed : Bool → Start → Start
-unless_printed printed nowhere = nowhere
 unless_printed true start = nowhere
 unless_printed false start = start
+
+-- What begins here may not begin so: a statement or an arrow function's body with a brace, a statement or a default export with the
+-- word of a declaration (ECMA-262, 14.5, 15.3 and 16.2.3)
+abbrev pub is_barred : Opener → Start → Bool
+is_barred a_brace statement = true
+is_barred a_brace arrow_body = true
+is_barred a_declaration statement = true
+is_barred a_declaration default_export = true
+is_barred opener start = false
 
 abbrev pub ending_unless : Bool → Ending → Ending
 ending_unless true ending = other_end
@@ -194,7 +202,7 @@ abbrev pub layout : Items → Pen → Pen
 layout nothing pen = pen
 layout (a ⊕ b) pen = layout b (layout a pen)
 layout (word w) pen = written (space_if (is_apart pen.ending pen.code) ++ w) other_end pen
-layout (name n) pen = with_name (printed_name pen.style.tables n) pen
+layout (name span n) pen = with_name (printed_name pen.style.tables n) pen
 layout (number dot_is_its_own w) pen = written (space_if (is_apart pen.ending pen.code) ++ w) (number_ending dot_is_its_own) pen
 layout (literal w) pen = written w other_end pen
 layout (string backticks units) pen = written (quoted (chosen_quote pen.style backticks units) pen.style.ascii units) other_end pen
@@ -211,6 +219,8 @@ layout body_space pen = record pen { pending_space = true }
 layout (deeper items) pen = record (layout items (record pen { depth = deeper_level pen.style.minified pen.depth })) { depth = pen.depth }
 layout (brackets b items) pen = written (closing b) other_end (layout items (written (opening b) other_end pen))
 layout (wrapped test items) pen = written_if test (closing Round) (layout items (written_if test (opening Round) pen))
+layout (wrapped_at_start test opener items) pen = written_if (test || is_barred opener pen.start) (closing Round) (layout items (written_if (test || is_barred opener pen.start) (opening Round) pen))
+layout (parentheses_unless_minified items) pen = written_if (not pen.style.minified) (closing Round) (layout items (written_if (not pen.style.minified) (opening Round) pen))
 layout (where_same m n a b) pen = if are_same pen.style.tables m n then layout a pen else layout b pen
 layout statement_end pen = end_statement pen.style.minified pen
 layout due_semicolon pen = print_due pen
@@ -218,6 +228,14 @@ layout drop_semicolon pen = with_semicolon false pen
 layout statement_begins pen = record pen { start = statement }
 layout arrow_body_begins pen = record pen { start = arrow_body }
 layout default_export_begins pen = record pen { start = default_export }
+-- marks, comments and annotations aren't printed yet
+layout (marked_word span w) pen = written (space_if (is_apart pen.ending pen.code) ++ w) other_end pen
+layout (mark span) pen = pen
+layout (end_mark span) pen = pen
+layout (link_mark span) pen = pen
+layout (comments manner offset) pen = pen
+layout (orphans offset) pen = pen
+layout (annotation test kind offset) pen = pen
 
 -- before anything is printed
 abbrev pub empty_pen : Style → ℕ → Pen

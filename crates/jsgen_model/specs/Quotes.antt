@@ -32,8 +32,8 @@ abbrev pub is_one_string : Trees → Bool
 is_one_string (more t no_trees) = is_string t
 is_one_string ts = false
 
-abbrev pub is_require_call : Bool → Tree → Trees → Bool
-is_require_call minified callee arguments = minified && (is_named (codes "require") callee && is_one_string arguments)
+abbrev pub is_require_call : Tree → Trees → Bool
+is_require_call callee arguments = is_named (codes "require") callee && is_one_string arguments
 
 -- `Object.defineProperty(x, "y", ..)` and `Reflect.defineProperty(x, "y", ..)`
 
@@ -44,8 +44,8 @@ has_second_string ts = false
 abbrev pub defines_property : Tree → Bool
 defines_property callee = is_member_of (codes "Object") (codes "defineProperty") callee || is_member_of (codes "Reflect") (codes "defineProperty") callee
 
-abbrev pub is_definition_call : Bool → Tree → Trees → Bool
-is_definition_call minified callee arguments = minified && (defines_property callee && has_second_string arguments)
+abbrev pub is_definition_call : Tree → Trees → Bool
+is_definition_call callee arguments = defines_property callee && has_second_string arguments
 
 -- `exports["x"]` and `module.exports["x"]`, where they are given a value
 
@@ -56,9 +56,6 @@ abbrev pub is_key_of_exports : Tree → Bool
 is_key_of_exports (tree.computed_member a object key) = is_exports object && is_string key
 is_key_of_exports t = false
 
-abbrev pub is_export_target : Bool → Tree → Bool
-is_export_target minified target = minified && is_key_of_exports target
-
 -- `"default"` and `"__esModule"`, where something is compared with them
 
 abbrev pub is_equality : BinaryOperator → Bool
@@ -68,5 +65,5 @@ abbrev pub says_default : Tree → Bool
 says_default (tree.string_literal a) = bytes_eq (string_literal_value a) (codes "default") || bytes_eq (string_literal_value a) (codes "__esModule")
 says_default t = false
 
-abbrev pub is_export_mark : Bool → BinaryOperator → Tree → Bool
-is_export_mark minified o operand = minified && (is_equality o && says_default (without_parentheses operand))
+abbrev pub is_export_mark : BinaryOperator → Tree → Bool
+is_export_mark o operand = is_equality o && says_default (without_parentheses operand)

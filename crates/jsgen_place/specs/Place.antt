@@ -1,35 +1,109 @@
--- Places and operands, as print functions are given them.
-use Rattle.std.specs.Prelude.{Bool, true, false}
-use Rattle.jsgen_syntax.specs.declared.precedence.Precedence.TheVariants.{Lowest}
-use Rattle.jsgen_tree.specs.Tree.{Tree}
-use Rattle.jsgen_model.specs.Layout.{Pen}
-use Rattle.jsgen_model.specs.Spell as spells
-use Rattle.jsgen_model.specs.Spell.{is_prefixed, mixes}
+-- Where a node is printed, and what stands in parentheses there.
+use Rattle.std.specs.Prelude.{Bool, true, false, not, ◌&&◌, ◌||◌, ◌==◌, nat_le}
+use Rattle.jsgen_syntax.specs.Precedence.{rank}
+use Rattle.jsgen_syntax.specs.Operator.{binary_level, logical_level}
+use Rattle.jsgen_syntax.specs.declared.precedence.Precedence.{Precedence}
+use Rattle.jsgen_syntax.specs.declared.precedence.Precedence.TheVariants.{Lowest, Assign, Prefix, Postfix, New}
+use Rattle.jsgen_syntax.specs.declared.operator.BinaryOperator.{BinaryOperator}
+use Rattle.jsgen_syntax.specs.declared.operator.BinaryOperator.TheVariants as operators
+use Rattle.jsgen_syntax.specs.declared.operator.LogicalOperator.{LogicalOperator}
 use Rattle.jsgen_place.specs.declared.place.Context.{Context}
 use Rattle.jsgen_place.specs.declared.place.Place.{Place}
-use Rattle.jsgen_place.specs.declared.place.Settings.{Settings}
-use Rattle.jsgen_place.specs.declared.operands.Operand.{Operand}
 
-abbrev pub context_of : Context → spells.Context
-context_of context = record { forbids_in = context.forbids_in; forbids_call = context.forbids_call }
+abbrev pub free : Context
+free = record { forbids_in = false; forbids_call = false }
 
-abbrev pub settings_of : Settings → spells.Settings
-settings_of settings = record { minified = settings.minified }
+abbrev pub at_level : Precedence → Context → Place
+at_level level context = record { level = level; context = context; in_list = false; left_operand = false; plain_quotes = false }
 
--- what begins with a node is what begins at the pen
-abbrev pub place_of : Place → Pen → spells.Place
-place_of place pen = record { settings = settings_of place.settings; level = place.level; context = context_of place.context; start = pen.start; in_list = place.in_list; left_operand = place.left_operand; plain_quotes = place.plain_quotes }
+-- a child, under the same context
+abbrev pub child : Precedence → Place → Place
+child level place = at_level level place.context
+
+abbrev pub left_operand : Precedence → Place → Place
+left_operand level place = record (child level place) { left_operand = true }
+
+-- a child where nothing is forbidden
+abbrev pub in_brackets : Precedence → Place
+in_brackets level = at_level level free
+
+-- a statement
+abbrev pub among_statements : Place
+among_statements = record (in_brackets Lowest) { in_list = true }
+
+-- a block or an `if` that goes on with a line
+abbrev pub within_statement : Place
+within_statement = in_brackets Lowest
+
+-- what stands first in the head of a loop, where `in` is forbidden (ECMA-262, 14.7.4)
+abbrev pub loop_head : Place
+loop_head = at_level Lowest (record free { forbids_in = true })
+
+-- calls may stand there
+abbrev pub with_calls : Place → Place
+with_calls place = record place { context = record place.context { forbids_call = false } }
+
+-- a string is never in backticks there, where the test holds
+abbrev pub quoted_plainly : Bool → Place → Place
+quoted_plainly test place = record place { plain_quotes = test }
+
+-- the object of a member
+abbrev pub linked : Place → Place
+linked place = child Postfix place
+
+-- what is called: calls may stand in it
+abbrev pub called : Place → Place
+called place = with_calls (child Postfix place)
+
+-- what `new` stands before: no call may stand in it
+abbrev pub constructed : Place → Place
+constructed place = at_level New (record place.context { forbids_call = true })
+
+abbrev pub allow_in : Bool → Context → Context
+allow_in true context = record context { forbids_in = false }
+allow_in false context = context
 
 -- within parentheses, where the test holds, `in` may stand
-abbrev pub place_within : Bool → Place → Place
-place_within true place = record place { context = record place.context { forbids_in = false } }
-place_within false place = place
+abbrev pub within : Bool → Place → Place
+within test place = record place { context = allow_in test place.context }
 
--- of a chain's links, within parentheses where the test holds
-abbrev pub chain_within : Bool → Place → Place
-chain_within true place = record { settings = place.settings; level = Lowest; context = record { forbids_in = false; forbids_call = false }; in_list = false; left_operand = false; plain_quotes = false }
-chain_within false place = place
+-- an expression of this level stands in parentheses
+abbrev pub wraps : Precedence → Place → Bool
+wraps own place = nat_le (rank own) (rank place.level)
 
--- what matters of an operand
-abbrev pub operand_of : Tree → Operand
-operand_of tree = record { is_prefixed = is_prefixed tree; mixes = mixes tree }
+-- the level of an update, by whether its operator stands before its operand
+abbrev pub update_level : Bool → Precedence
+update_level true = Prefix
+update_level false = Postfix
+
+-- `in` where it is forbidden
+abbrev pub is_forbidden : BinaryOperator → Place → Bool
+is_forbidden operators.In place = place.context.forbids_in
+is_forbidden o place = false
+
+abbrev pub binary_wraps : BinaryOperator → Place → Bool
+binary_wraps o place = wraps (binary_level o) place || is_forbidden o place
+
+-- the operation goes on with a chain of its own operator: a right operand of it, which needs no parentheses
+abbrev pub continues_chain : LogicalOperator → Place → Bool
+continues_chain o place = not place.left_operand && (rank (logical_level o) == rank place.level)
+
+abbrev pub logical_wraps : LogicalOperator → Place → Bool
+logical_wraps o place = wraps (logical_level o) place && not (continues_chain o place)
+
+-- a call stands in parentheses where something tighter is asked for, and where calls are forbidden
+abbrev pub call_wraps : Place → Bool
+call_wraps place = wraps New place || place.context.forbids_call
+
+-- a chain stands in parentheses before a link that is none of its own, and where calls are forbidden
+abbrev pub chain_wraps : Place → Bool
+chain_wraps place = wraps Postfix place || place.context.forbids_call
+
+-- its links, within the parentheses where the test holds
+abbrev pub chain_place : Bool → Place → Place
+chain_place true place = in_brackets Lowest
+chain_place false place = place
+
+-- an arrow function stands in parentheses where something tighter is asked for, and where it is marked so
+abbrev pub arrow_wraps : Bool → Place → Bool
+arrow_wraps pife place = pife || wraps Assign place

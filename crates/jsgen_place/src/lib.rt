@@ -1,18 +1,8 @@
-//! Where a node is printed, and what its place and an operation ask of it.
+//! Where a node is printed: how tightly what stands there binds, and what is forbidden there.
 #![tactic(auto)]
 
-mod endings;
-mod numbers;
-mod operands;
-mod parameters;
 mod place;
-mod properties;
-mod quotes;
+mod shape;
 
-pub use endings::ends_open;
-pub use numbers::{needs_brackets, takes_no_dot};
-pub use operands::{Operand, left_level, right_level, unmixed, update_level};
-pub use parameters::is_bare;
-pub use place::{Context, Place, Settings};
-pub use properties::{is_alone, is_reference_to};
-pub use quotes::{is_definition_call, is_export_mark, is_export_target, is_require_call};
+pub use place::{Context, Place, update_level};
+pub use shape::Shape;

@@ -1,16 +1,15 @@
 // Where a node is printed.
-ghost use Rattle.std.specs.Prelude.{◌≡◌, nat_le, false, true};
-ghost use Rattle.jsgen_syntax.specs.Precedence.{rank};
-ghost use Rattle.jsgen_model.specs.Layout.{Pen};
-ghost use Rattle.jsgen_model.specs.Spell.{is_forbidden, binary_wraps, wraps, goes_on, logical_wraps, called, call_wraps, needs_arguments, chain_wraps, arrow_wraps};
-ghost use Rattle.jsgen_place.specs.Place.{place_of, place_within, chain_within};
+ghost use Rattle.std.specs.Prelude.{◌≡◌};
+ghost use Rattle.jsgen_place.specs.Place.{free, at_level, child, left_operand, in_brackets, among_statements, within_statement, loop_head, with_calls, quoted_plainly, linked, called, constructed, within, wraps, update_level, is_forbidden, binary_wraps, continues_chain, logical_wraps, call_wraps, chain_wraps, chain_place, arrow_wraps};
 
 use jsgen_syntax::{BinaryOperator, GetPrecedence, LogicalOperator, Precedence};
 
 /// What an expression's surroundings forbid.
 #[derive(Clone, Copy)]
 pub struct Context {
+    /// `in`, as in the first part of a loop's head (ECMA-262, 14.7.4).
     pub forbids_in: bool,
+    /// A call, as in what `new` stands before (ECMA-262, 13.3).
     pub forbids_call: bool,
 }
 
@@ -21,16 +20,9 @@ impl Context {
     };
 }
 
-/// What a spelling depends on beside the tree.
-#[derive(Clone, Copy)]
-pub struct Settings {
-    pub minified: bool,
-}
-
-/// Where a node stands. What begins with it is what begins at the end of the code so far.
+/// Where a node stands.
 #[derive(Clone, Copy)]
 pub struct Place {
-    pub settings: Settings,
     /// At or above its own level an expression needs parentheses.
     pub level: Precedence,
     pub context: Context,
@@ -43,39 +35,11 @@ pub struct Place {
 }
 
 impl Place {
-    pub fn among_statements(settings: Settings) -> Place
-        ensures { result ≡ record { settings = settings; level = Precedence.Lowest; context = record { forbids_in = false; forbids_call = false }; in_list = true; left_operand = false; plain_quotes = false } }
+    /// The place of what is printed by itself, or of a child, at a level.
+    pub fn at_level(level: Precedence, context: Context) -> Place
+        ensures { result ≡ at_level level context }
     {
         Place {
-            settings,
-            level: Precedence::Lowest,
-            context: Context::FREE,
-            in_list: true,
-            left_operand: false,
-            plain_quotes: false,
-        }
-    }
-
-    /// A block or an `if` that goes on with a line, or the expression of an expression statement.
-    pub fn within_statement(settings: Settings) -> Place
-        ensures { result ≡ record { settings = settings; level = Precedence.Lowest; context = record { forbids_in = false; forbids_call = false }; in_list = false; left_operand = false; plain_quotes = false } }
-    {
-        Place::in_brackets(Precedence::Lowest, settings)
-    }
-
-    /// The place of what is printed by itself, at the lowest level.
-    pub fn by_itself(settings: Settings, context: Context) -> Place
-        ensures { result ≡ record { settings = settings; level = Precedence.Lowest; context = context; in_list = false; left_operand = false; plain_quotes = false } }
-    {
-        Place::at_level(Precedence::Lowest, settings, context)
-    }
-
-    /// The place of what is printed by itself, at a level.
-    pub fn at_level(level: Precedence, settings: Settings, context: Context) -> Place
-        ensures { result ≡ record { settings = settings; level = level; context = context; in_list = false; left_operand = false; plain_quotes = false } }
-    {
-        Place {
-            settings,
             level,
             context,
             in_list: false,
@@ -84,113 +48,98 @@ impl Place {
         }
     }
 
-    /// A child's place, under the same context.
-    pub fn child(self, level: Precedence) -> Place
-        ensures { result ≡ record { settings = self.settings; level = level; context = self.context; in_list = false; left_operand = false; plain_quotes = false } }
+    pub fn among_statements() -> Place
+        ensures { result ≡ among_statements }
     {
         Place {
-            settings: self.settings,
-            level,
-            context: self.context,
-            in_list: false,
-            left_operand: false,
-            plain_quotes: false,
+            in_list: true,
+            ..Place::in_brackets(Precedence::Lowest)
         }
+    }
+
+    /// A block or an `if` that goes on with a line.
+    pub fn within_statement() -> Place
+        ensures { result ≡ within_statement }
+    {
+        Place::in_brackets(Precedence::Lowest)
+    }
+
+    /// A child's place, under the same context.
+    pub fn child(self, level: Precedence) -> Place
+        ensures { result ≡ child level self }
+    {
+        Place::at_level(level, self.context)
     }
 
     /// A left operand's place, under the same context.
     pub fn left_operand(self, level: Precedence) -> Place
-        ensures { result ≡ record { settings = self.settings; level = level; context = self.context; in_list = false; left_operand = true; plain_quotes = false } }
+        ensures { result ≡ left_operand level self }
     {
         Place {
-            settings: self.settings,
-            level,
-            context: self.context,
-            in_list: false,
             left_operand: true,
-            plain_quotes: false,
+            ..self.child(level)
         }
     }
 
     /// A child's place in brackets, where nothing is forbidden.
-    pub fn in_brackets(level: Precedence, settings: Settings) -> Place
-        ensures { result ≡ record { settings = settings; level = level; context = record { forbids_in = false; forbids_call = false }; in_list = false; left_operand = false; plain_quotes = false } }
+    pub fn in_brackets(level: Precedence) -> Place
+        ensures { result ≡ in_brackets level }
     {
-        Place {
-            settings,
-            level,
-            context: Context::FREE,
-            in_list: false,
-            left_operand: false,
-            plain_quotes: false,
-        }
+        Place::at_level(level, Context::FREE)
     }
 
     /// The place of what stands first in the head of a loop, where `in` is forbidden (ECMA-262, 14.7.4).
-    pub fn loop_head(settings: Settings) -> Place
-        ensures { result ≡ record { settings = settings; level = Precedence.Lowest; context = record { forbids_in = true; forbids_call = false }; in_list = false; left_operand = false; plain_quotes = false } }
+    pub fn loop_head() -> Place
+        ensures { result ≡ loop_head }
     {
         let context = Context {
             forbids_in: true,
             ..Context::FREE
         };
-        Place::at_level(Precedence::Lowest, settings, context)
+        Place::at_level(Precedence::Lowest, context)
+    }
+
+    /// The same place, where calls may stand.
+    pub fn with_calls(self) -> Place
+        ensures { result ≡ with_calls self }
+    {
+        Place {
+            context: Context {
+                forbids_call: false,
+                ..self.context
+            },
+            ..self
+        }
+    }
+
+    /// The place of the object of a member.
+    pub fn linked(self) -> Place
+        ensures { result ≡ linked self }
+    {
+        self.child(Precedence::Postfix)
     }
 
     /// The place of what is called: calls may stand in it.
     pub fn called(self) -> Place
-        ensures { (pen : Pen) → place_of result pen ≡ called (place_of self pen) }
+        ensures { result ≡ called self }
     {
-        Place {
-            settings: self.settings,
-            level: Precedence::Postfix,
-            context: Context {
-                forbids_call: false,
-                ..self.context
-            },
-            in_list: false,
-            left_operand: false,
-            plain_quotes: false,
-        }
-    }
-
-    /// The place of a part of a choice or of a list: calls may stand in it.
-    pub fn part(self, level: Precedence) -> Place
-        ensures { result ≡ record { settings = self.settings; level = level; context = record { forbids_in = self.context.forbids_in; forbids_call = false }; in_list = false; left_operand = false; plain_quotes = false } }
-    {
-        Place {
-            settings: self.settings,
-            level,
-            context: Context {
-                forbids_call: false,
-                ..self.context
-            },
-            in_list: false,
-            left_operand: false,
-            plain_quotes: false,
-        }
+        self.child(Precedence::Postfix).with_calls()
     }
 
     /// The place of what `new` stands before: no call may stand in it.
     pub fn constructed(self) -> Place
-        ensures { result ≡ record { settings = self.settings; level = Precedence.New; context = record { forbids_in = self.context.forbids_in; forbids_call = true }; in_list = false; left_operand = false; plain_quotes = false } }
+        ensures { result ≡ constructed self }
     {
-        Place {
-            settings: self.settings,
-            level: Precedence::New,
-            context: Context {
-                forbids_call: true,
-                ..self.context
-            },
-            in_list: false,
-            left_operand: false,
-            plain_quotes: false,
-        }
+        let context = Context {
+            forbids_call: true,
+            ..self.context
+        };
+        Place::at_level(Precedence::New, context)
     }
 
     /// The place within parentheses, where the test holds.
     pub fn within(self, test: bool) -> Place
-        ensures { result ≡ place_within test self }
+        ensures { result ≡ within test self }
     {
         if test {
             Place {
@@ -207,7 +156,7 @@ impl Place {
 
     /// The same place, where a string is never in backticks, if the test holds.
     pub fn quoted_plainly(self, test: bool) -> Place
-        ensures { result ≡ record self { plain_quotes = test } }
+        ensures { result ≡ quoted_plainly test self }
     {
         Place {
             plain_quotes: test,
@@ -215,50 +164,33 @@ impl Place {
         }
     }
 
+    /// The place of a chain's links, within parentheses where the test holds.
+    pub fn chain(self, test: bool) -> Place
+        ensures { result ≡ chain_place test self }
+    {
+        if test {
+            Place::in_brackets(Precedence::Lowest)
+        } else {
+            self
+        }
+    }
+
     /// Whether an expression of this level stands in parentheses here.
     pub fn wraps(self, own: Precedence) -> bool
-        ensures { result ≡ nat_le (rank own) (rank self.level) }
+        ensures { result ≡ wraps own self }
     {
         self.level >= own
     }
 
-    /// Whether a sequence stands in parentheses here.
-    pub fn wraps_sequence(self) -> bool
-        ensures { result ≡ nat_le (rank Precedence.Comma) (rank self.level) }
-    {
-        self.wraps(Precedence::Comma)
-    }
-
-    /// Whether an assignment stands in parentheses here.
-    pub fn wraps_assignment(self) -> bool
-        ensures { result ≡ nat_le (rank Precedence.Assign) (rank self.level) }
-    {
-        self.wraps(Precedence::Assign)
-    }
-
     /// Whether an arrow function stands in parentheses here, by whether it is marked so.
     pub fn wraps_arrow(self, pife: bool) -> bool
-        ensures { (pen : Pen) → result ≡ arrow_wraps pife (place_of self pen) }
+        ensures { result ≡ arrow_wraps pife self }
     {
         pife || self.wraps(Precedence::Assign)
     }
 
-    /// The place of parameters, which brackets stand round, so that `in` may stand there.
-    pub fn parameters(self) -> Place
-        ensures { result ≡ record { settings = self.settings; level = Precedence.Comma; context = record { forbids_in = false; forbids_call = self.context.forbids_call }; in_list = false; left_operand = false; plain_quotes = false } }
-    {
-        self.within(true).child(Precedence::Comma)
-    }
-
-    /// The place of the parameters of a function with a body in braces, in which calls may stand.
-    pub fn function_parameters(self) -> Place
-        ensures { result ≡ record { settings = self.settings; level = Precedence.Comma; context = record { forbids_in = self.context.forbids_in; forbids_call = false }; in_list = false; left_operand = false; plain_quotes = false } }
-    {
-        self.part(Precedence::Comma)
-    }
-
     fn is_forbidden(self, operator: BinaryOperator) -> bool
-        ensures { (pen : Pen) → result ≡ is_forbidden operator (place_of self pen) }
+        ensures { result ≡ is_forbidden operator self }
     {
         match operator {
             BinaryOperator::In => self.context.forbids_in,
@@ -268,60 +200,46 @@ impl Place {
 
     /// Whether an operation by this operator stands in parentheses here.
     pub fn wraps_binary(self, operator: BinaryOperator) -> bool
-        ensures { (pen : Pen) → result ≡ binary_wraps operator (place_of self pen) }
+        ensures { result ≡ binary_wraps operator self }
     {
         self.wraps(operator.precedence()) || self.is_forbidden(operator)
     }
 
     /// Whether a call stands in parentheses here.
     pub fn wraps_call(self) -> bool
-        ensures { (pen : Pen) → result ≡ call_wraps (place_of self pen) }
+        ensures { result ≡ call_wraps self }
     {
         self.wraps(Precedence::New) || self.context.forbids_call
     }
 
     /// Whether a chain stands in parentheses here.
     pub fn wraps_chain(self) -> bool
-        ensures { (pen : Pen) → result ≡ chain_wraps (place_of self pen) }
+        ensures { result ≡ chain_wraps self }
     {
         self.wraps(Precedence::Postfix) || self.context.forbids_call
     }
 
-    /// The place of a chain's links, within parentheses where the test holds.
-    pub fn chain(self, test: bool) -> Place
-        ensures { result ≡ chain_within test self }
-    {
-        if test {
-            Place::in_brackets(Precedence::Lowest, self.settings)
-        } else {
-            self
-        }
-    }
-
-    /// Whether `new` has parentheses here for its arguments, where there may be none.
-    pub fn needs_arguments(self, some: bool) -> bool
-        ensures { (pen : Pen) → result ≡ needs_arguments (place_of self pen) some }
-    {
-        !self.settings.minified || some || self.wraps(Precedence::Postfix)
-    }
-
-    /// Whether a number with a minus before it stands in parentheses here.
-    pub fn wraps_negative(self) -> bool
-        ensures { (pen : Pen) → result ≡ wraps Precedence.Prefix (place_of self pen) }
-    {
-        self.wraps(Precedence::Prefix)
-    }
-
-    fn goes_on(self, operator: LogicalOperator) -> bool
-        ensures { (pen : Pen) → result ≡ goes_on operator (place_of self pen) }
+    fn continues_chain(self, operator: LogicalOperator) -> bool
+        ensures { result ≡ continues_chain operator self }
     {
         !self.left_operand && operator.precedence() == self.level
     }
 
     /// Whether an operation by this operator stands in parentheses here.
     pub fn wraps_logical(self, operator: LogicalOperator) -> bool
-        ensures { (pen : Pen) → result ≡ logical_wraps operator (place_of self pen) }
+        ensures { result ≡ logical_wraps operator self }
     {
-        self.wraps(operator.precedence()) && !self.goes_on(operator)
+        self.wraps(operator.precedence()) && !self.continues_chain(operator)
+    }
+}
+
+/// The level of an update, by whether its operator stands before its operand.
+pub fn update_level(prefix: bool) -> Precedence
+    ensures { result ≡ update_level prefix }
+{
+    if prefix {
+        Precedence::Prefix
+    } else {
+        Precedence::Postfix
     }
 }
