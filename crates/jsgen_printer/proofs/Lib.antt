@@ -7,6 +7,5 @@ pub mod Numbers
 pub mod Operators
 pub mod Prefixes
 pub mod Sequence
-pub mod Starts
 pub mod Texts
 pub mod Turns

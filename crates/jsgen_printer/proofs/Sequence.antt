@@ -1,12 +1,12 @@
 -- Steps one after another.
-use Rattle.std.proofs.Common.{◌≡◌, ℕ, Bool, true, false, List, ◌++◌, refl, ap, sym, subst, ◌∙◌, append_assoc}
+use Rattle.std.proofs.Common.{◌≡◌, ℕ, Bool, true, false, ◌||◌, List, ◌++◌, refl, ap, sym, subst, ◌∙◌, append_assoc}
 use Rattle.std.proofs.lemmas.Bool.{both_ways}
 use Rattle.jsgen_model.specs.Punctuator.{Bracket, Round, opening, closing}
-use Rattle.jsgen_model.specs.Items.{Items, nothing, ◌⊕◌, brackets, wrapped, deeper, soft_space, soft_line}
-use Rattle.jsgen_model.specs.Layout.{Style, Pen, Ending, nowhere, layout, written, written_if, other_end, text_if, unless_printed, not}
+use Rattle.jsgen_model.specs.Items.{Items, nothing, ◌⊕◌, brackets, wrapped, wrapped_at_start, Opener, parentheses_unless_minified, deeper}
+use Rattle.jsgen_model.specs.Layout.{Style, Pen, Ending, nowhere, layout, written, written_if, other_end, text_if, is_barred, not}
 use Rattle.jsgen_model.specs.Printing.{IsPrefix, Stops}
 use Rattle.jsgen_printer.specs.Printer.{pen_of, deepened, at_depth}
-use Rattle.jsgen_printer.specs.Steps.{has_failed, Ends, Goes, Lays, BeginsNothing}
+use Rattle.jsgen_printer.specs.Steps.{has_failed, Ends, Goes, Lays}
 use Rattle.jsgen_printer.specs.declared.printer.Printer.{Printer}
 use Rattle.jsgen_printer.proofs.Prefixes.{whole_prefix, prefix_append, prefix_of_prefix}
 use Rattle.jsgen_printer.proofs.Appends.{layout_appends}
@@ -44,10 +44,10 @@ goes_then {a} {b} {c} {f} {g} kept more h k = record {
 pub goes_as : {a b : Printer} {f : Pen → Pen} (g : Pen → Pen) → f (pen_of a) ≡ g (pen_of a) → Goes a b f → Goes a b g
 goes_as {a} {b} g e h = record { stays = h.stays; goes = λ going. subst (λ whole. Ends (has_failed b) (pen_of a) (pen_of b) whole) e (h.goes going) }
 
-pub goes_laid : {a b : Printer} {f : Pen → Pen} (i : Pen → Items) → f (pen_of a) ≡ layout (i (pen_of a)) (pen_of a) → Goes a b f → Lays a b i
+pub goes_laid : {a b : Printer} {f : Pen → Pen} (i : Items) → f (pen_of a) ≡ layout i (pen_of a) → Goes a b f → Lays a b i
 goes_laid {a} {b} i e h = record { stays = h.stays; goes = λ going. subst (λ whole. Ends (has_failed b) (pen_of a) (pen_of b) whole) e (h.goes going) }
 
-pub items_go : {a b : Printer} {i : Pen → Items} → Lays a b i → Goes a b (λ pen. layout (i pen) pen)
+pub items_go : {a b : Printer} {i : Items} → Lays a b i → Goes a b (λ pen. layout i pen)
 items_go h = record { stays = h.stays; goes = h.goes }
 
 -- texts one after the other, which may depend on the style
@@ -56,32 +56,43 @@ in_a_row {a} {b} {c} {d} {e} s t h k = goes_as (λ pen. written (s pen.style ++ 
 
 -- items one after the other
 infixr 20 ◌⨾◌
-pub ◌⨾◌ : {a b c : Printer} {i j : Pen → Items} → Lays a b i → Lays b c j → Lays a c (λ pen. i pen ⊕ j (layout (i pen) pen))
-◌⨾◌ {a} {b} {c} {i} {j} h k = goes_laid (λ pen. i pen ⊕ j (layout (i pen) pen)) refl (goes_then (λ pen. layout_appends (i pen) pen) (λ pen. layout_appends (j pen) pen) (items_go h) (items_go k))
-
--- the same step under another name: what matters is where the pen is
-pub as_laid : {a b : Printer} {i : Pen → Items} (j : Pen → Items) → (has_failed a ≡ false → i (pen_of a) ≡ j (pen_of a)) → Lays a b i → Lays a b j
-as_laid {a} {b} j e h = record { stays = h.stays; goes = λ going. subst (λ items. Ends (has_failed b) (pen_of a) (pen_of b) (layout items (pen_of a))) (e going) (h.goes going) }
+pub ◌⨾◌ : {a b c : Printer} {i j : Items} → Lays a b i → Lays b c j → Lays a c (i ⊕ j)
+◌⨾◌ {a} {b} {c} {i} {j} h k = goes_laid (i ⊕ j) refl (goes_then (λ pen. layout_appends i pen) (λ pen. layout_appends j pen) (items_go h) (items_go k))
 
 -- other items that give the same layout where the pen is
-pub laid_there : {a b : Printer} {i j : Pen → Items} → (has_failed a ≡ false → layout (i (pen_of a)) (pen_of a) ≡ layout (j (pen_of a)) (pen_of a)) → Lays a b i → Lays a b j
+pub laid_there : {a b : Printer} {i j : Items} → (has_failed a ≡ false → layout i (pen_of a) ≡ layout j (pen_of a)) → Lays a b i → Lays a b j
 laid_there {a} {b} e h = record { stays = h.stays; goes = λ going. subst (λ whole. Ends (has_failed b) (pen_of a) (pen_of b) whole) (e going) (h.goes going) }
 
 -- the same items, grouped otherwise
-pub regrouped : {a b : Printer} {i j : Pen → Items} → ((pen : Pen) → layout (i pen) pen ≡ layout (j pen) pen) → Lays a b i → Lays a b j
+pub regrouped : {a b : Printer} {i j : Items} → ((pen : Pen) → layout i pen ≡ layout j pen) → Lays a b i → Lays a b j
 regrouped {a} {b} e h = laid_there (λ going. e (pen_of a)) h
 
 -- no step
-pub nothing_laid : (p : Printer) → Lays p p (λ _. nothing)
+pub nothing_laid : (p : Printer) → Lays p p nothing
 nothing_laid p = record { stays = λ h. (h, refl); goes = λ going. rw going refl }
+
+-- items that the layout passes over
+pub passed_over : (p : Printer) (i : Items) → ((pen : Pen) → layout i pen ≡ pen) → Lays p p i
+passed_over p i e = record { stays = λ h. (h, refl); goes = λ going. rw (going, e (pen_of p)) refl }
+
+-- the same layout under another name
+pub same_layout : {a b : Printer} {i : Items} (j : Items) → ((pen : Pen) → layout i pen ≡ layout j pen) → Lays a b i → Lays a b j
+same_layout j e h = regrouped e h
 
 -- ---- steps round others
 
-pub in_brackets_laid : {a b c d : Printer} {i : Pen → Items} (bracket : Bracket) → Goes a b (written (opening bracket) other_end) → Lays b c i → Goes c d (written (closing bracket) other_end) → Lays a d (λ pen. brackets bracket (i (written (opening bracket) other_end pen)))
-in_brackets_laid {a} {b} {c} {d} {i} bracket h inside k = goes_laid (λ pen. brackets bracket (i (written (opening bracket) other_end pen))) refl (goes_then (λ pen. prefix_of_prefix (prefix_append pen.code (opening bracket)) (layout_appends (i (written (opening bracket) other_end pen)) (written (opening bracket) other_end pen))) (λ pen. prefix_append pen.code (closing bracket)) (goes_then (λ pen. prefix_append pen.code (opening bracket)) (λ pen. layout_appends (i pen) pen) h (items_go inside)) k)
+pub in_brackets_laid : {a b c d : Printer} {i : Items} (bracket : Bracket) → Goes a b (written (opening bracket) other_end) → Lays b c i → Goes c d (written (closing bracket) other_end) → Lays a d (brackets bracket i)
+in_brackets_laid {a} {b} {c} {d} {i} bracket h inside k = goes_laid (brackets bracket i) refl (goes_then (λ pen. prefix_of_prefix (prefix_append pen.code (opening bracket)) (layout_appends i (written (opening bracket) other_end pen))) (λ pen. prefix_append pen.code (closing bracket)) (goes_then (λ pen. prefix_append pen.code (opening bracket)) (λ pen. layout_appends i pen) h (items_go inside)) k)
 
-pub wrapped_laid : {a b c d : Printer} {i : Pen → Items} (test : Bool) → Goes a b (written_if test (opening Round)) → Lays b c i → Goes c d (written_if test (closing Round)) → Lays a d (λ pen. wrapped test (i (written_if test (opening Round) pen)))
-wrapped_laid {a} {b} {c} {d} {i} test h inside k = goes_laid (λ pen. wrapped test (i (written_if test (opening Round) pen))) refl (goes_then (λ pen. prefix_of_prefix (prefix_append pen.code (text_if test (opening Round))) (layout_appends (i (written_if test (opening Round) pen)) (written_if test (opening Round) pen))) (λ pen. prefix_append pen.code (text_if test (closing Round))) (goes_then (λ pen. prefix_append pen.code (text_if test (opening Round))) (λ pen. layout_appends (i pen) pen) h (items_go inside)) k)
+pub wrapped_laid : {a b c d : Printer} {i : Items} (test : Bool) → Goes a b (written_if test (opening Round)) → Lays b c i → Goes c d (written_if test (closing Round)) → Lays a d (wrapped test i)
+wrapped_laid {a} {b} {c} {d} {i} test h inside k = goes_laid (wrapped test i) refl (goes_then (λ pen. prefix_of_prefix (prefix_append pen.code (text_if test (opening Round))) (layout_appends i (written_if test (opening Round) pen))) (λ pen. prefix_append pen.code (text_if test (closing Round))) (goes_then (λ pen. prefix_append pen.code (text_if test (opening Round))) (λ pen. layout_appends i pen) h (items_go inside)) k)
+
+-- in parentheses where the pen asks for them
+pub wrapped_at_start_laid : {a b c d : Printer} {i : Items} (own : Bool) (opener : Opener) (test : Bool) → test ≡ own || is_barred opener (pen_of a).start → Goes a b (written_if test (opening Round)) → Lays b c i → Goes c d (written_if test (closing Round)) → Lays a d (wrapped_at_start own opener i)
+wrapped_at_start_laid {a} {b} {c} {d} {i} own opener test e h inside k = laid_there (λ going. ap (λ b. layout (wrapped b i) (pen_of a)) e) (wrapped_laid test h inside k)
+
+pub unless_minified_laid : {a b c d : Printer} {i : Items} (test : Bool) → test ≡ not (pen_of a).style.minified → Goes a b (written_if test (opening Round)) → Lays b c i → Goes c d (written_if test (closing Round)) → Lays a d (parentheses_unless_minified i)
+unless_minified_laid {a} {b} {c} {d} {i} test e h inside k = laid_there (λ going. ap (λ b. layout (wrapped b i) (pen_of a)) e) (wrapped_laid test h inside k)
 
 -- ---- where no step has failed
 
@@ -92,37 +103,16 @@ before_went true fb h e = absurd (both_ways fb e (h refl))
 pub went_before : {a b : Printer} {f : Pen → Pen} → Goes a b f → has_failed b ≡ false → has_failed a ≡ false
 went_before {a} {b} h going = before_went (has_failed a) (has_failed b) (λ stopped. (h.stays stopped).0) going
 
-pub went : {a b : Printer} {f : Pen → Pen} → Goes a b f → has_failed b ≡ false → pen_of b ≡ f (pen_of a)
-went {a} {b} {f} h going = subst (λ failed. Ends failed (pen_of a) (pen_of b) (f (pen_of a))) going (h.goes (went_before h going))
-
--- ---- nothing begins there
-
-pub none_behind : {a b : Printer} {f : Pen → Pen} → ((pen : Pen) → (f pen).start ≡ nowhere) → Goes a b f → BeginsNothing b
-none_behind {a} s h = λ going. ap (λ p. p.start) (went h going) ∙ s (pen_of a)
-
-pub none_still : {a b : Printer} {f : Pen → Pen} → ((pen : Pen) → pen.start ≡ nowhere → (f pen).start ≡ nowhere) → BeginsNothing a → Goes a b f → BeginsNothing b
-none_still {a} s none h = λ going. ap (λ p. p.start) (went h going) ∙ s (pen_of a) (none (went_before h going))
-
-pub still_nowhere : (printed : Bool) → unless_printed printed nowhere ≡ nowhere
-still_nowhere true = refl
-still_nowhere false = refl
-
-pub behind_space : {a b : Printer} → BeginsNothing a → Lays a b (λ _. soft_space) → BeginsNothing b
-behind_space none h = none_still (λ pen e. ap (λ s. unless_printed (not pen.style.minified) s) e ∙ still_nowhere (not pen.style.minified)) none (items_go h)
-
-pub behind_line : {a b : Printer} → BeginsNothing a → Lays a b (λ _. soft_line) → BeginsNothing b
-behind_line none h = none_still (λ pen e. ap (λ s. unless_printed (not pen.style.minified) s) e ∙ still_nowhere (not pen.style.minified)) none (items_go h)
-
 -- ---- a level deeper, and the level before behind it
 
 at_level_before : (fd : Bool) (depth before : ℕ) (pa pd inner : Pen) → (fd ≡ false → depth ≡ before) → Ends fd pa pd (at_depth depth inner) → Ends fd pa pd (at_depth before inner)
 at_level_before false depth before pa pd inner level h = h ∙ ap (λ n. at_depth n inner) (level refl)
 at_level_before true depth before pa pd inner level s = record { kept = s.kept; part = s.part }
 
-pub deeper_laid : {a b c d : Printer} {i : Pen → Items} (depth : ℕ) → (has_failed b ≡ false → depth ≡ (pen_of a).depth) → Goes a b deepened → Lays b c i → Goes c d (at_depth depth) → Lays a d (λ pen. deeper (i (deepened pen)))
+pub deeper_laid : {a b c d : Printer} {i : Items} (depth : ℕ) → (has_failed b ≡ false → depth ≡ (pen_of a).depth) → Goes a b deepened → Lays b c i → Goes c d (at_depth depth) → Lays a d (deeper i)
 deeper_laid {a} {b} {c} {d} {i} depth level h inside k =
-    let all = goes_then (λ pen. layout_appends (i (deepened pen)) (deepened pen)) (λ pen. whole_prefix pen.code) (goes_then (λ pen. whole_prefix pen.code) (λ pen. layout_appends (i pen) pen) h (items_go inside)) k in
+    let all = goes_then (λ pen. layout_appends i (deepened pen)) (λ pen. whole_prefix pen.code) (goes_then (λ pen. whole_prefix pen.code) (λ pen. layout_appends i pen) h (items_go inside)) k in
     record {
       stays = all.stays;
-      goes = λ going. at_level_before (has_failed d) depth (pen_of a).depth (pen_of a) (pen_of d) (layout (i (deepened (pen_of a))) (deepened (pen_of a))) (λ whole. level (went_before (items_go inside) (went_before k whole))) (all.goes going);
+      goes = λ going. at_level_before (has_failed d) depth (pen_of a).depth (pen_of a) (pen_of d) (layout i (deepened (pen_of a))) (λ whole. level (went_before (items_go inside) (went_before k whole))) (all.goes going);
     }

@@ -28,7 +28,7 @@ left_then true false pa pb pc first rest whole stays goes s = absurd (both_ways 
 left_then false false pa pb pc first rest whole stays goes h = let e = goes refl in (prefix_of_prefix h.0 (subst (λ p. IsPrefix pb.code p.code) (sym e) (layout_appends first pb)), ap (λ p. layout rest p) e ∙ h.1)
 left_then false true pa pb pc first rest whole stays goes h = let s = goes refl in record { kept = prefix_of_prefix h.0 s.kept; part = prefix_of_prefix s.part (subst (λ p. IsPrefix (layout first pb).code p.code) h.1 (layout_appends rest (layout first pb))) }
 
-pub turn : {a b c : Printer} {first rest whole : Items} → Towards a b (first ⊕ rest) whole → Lays b c (λ _. first) → Towards a c rest whole
+pub turn : {a b c : Printer} {first rest whole : Items} → Towards a b (first ⊕ rest) whole → Lays b c first → Towards a c rest whole
 turn {a} {b} {c} {first} {rest} {whole} h k = record {
   stays = λ stopped. let x = h.stays stopped in let y = k.stays x.0 in (y.0, y.1 ∙ x.1);
   goes = λ going. left_then (has_failed b) (has_failed c) (pen_of a) (pen_of b) (pen_of c) first rest (layout whole (pen_of a)) k.stays k.goes (h.goes going);
@@ -41,7 +41,7 @@ none_left : (fb : Bool) (pa pb : Pen) (rest : Items) (whole : Pen) → layout re
 none_left false pa pb rest whole e h = sym e ∙ h.1
 none_left true pa pb rest whole e s = s
 
-pub done : {a b : Printer} {rest whole : Items} → ((pen : Pen) → layout rest pen ≡ pen) → Towards a b rest whole → Lays a b (λ _. whole)
+pub done : {a b : Printer} {rest whole : Items} → ((pen : Pen) → layout rest pen ≡ pen) → Towards a b rest whole → Lays a b whole
 done {a} {b} {rest} {whole} e h = record {
   stays = h.stays;
   goes = λ going. none_left (has_failed b) (pen_of a) (pen_of b) rest (layout whole (pen_of a)) (e (pen_of b)) (h.goes going);

@@ -9,6 +9,7 @@ ghost use Rattle.jsgen_model.specs.Layout.{but_backticks};
 use crate::operator::Operator;
 
 mod handed;
+mod marks;
 mod names;
 mod numbers;
 
@@ -73,8 +74,8 @@ impl<'a> Printer<'a> {
     ghost use Rattle.std.specs.Prelude.{[], ◌∷◌, ◌++◌, replicate, string_bytes, false, true, IsTrue};
     ghost use Rattle.std.specs.Str.{chars, encode_utf8_all};
     ghost use Rattle.jsgen_model.specs.Punctuator.{Round, opening, closing, ellipsis, comma, semicolon, equal, plus, minus, equal_equal, equal_equal_equal, plus_plus, minus_minus, colon, question, question_dot, arrow};
-    ghost use Rattle.jsgen_model.specs.Items.{word, string, first_string, directive, member_dot, punctuator, soft_space, soft_line, hard_space, indentation, body_space, statement_end, due_semicolon, drop_semicolon, statement_begins, arrow_body_begins};
-    ghost use Rattle.jsgen_model.specs.Layout.{layout, written, written_if, other_end, space_if, ends_in_word, ends_in_escapes, is_apart, name_ending, joins, dot_joins, indented, ends_in_less_bang, chosen_quote, deeper_level, empty_pen, style_of};
+    ghost use Rattle.jsgen_model.specs.Items.{word, string, first_string, directive, member_dot, punctuator, soft_space, soft_line, hard_space, indentation, body_space, statement_end, due_semicolon, drop_semicolon, statement_begins, arrow_body_begins, a_brace, a_declaration};
+    ghost use Rattle.jsgen_model.specs.Layout.{layout, written, written_if, other_end, space_if, ends_in_word, ends_in_escapes, is_apart, name_ending, joins, dot_joins, indented, ends_in_less_bang, chosen_quote, deeper_level, empty_pen, style_of, is_barred};
     ghost use Rattle.jsgen_syntax.specs.Buffer.{indent_byte};
     ghost use Rattle.jsgen_tree.specs.Options.{options_plain};
     ghost use Rattle.jsgen_tree.specs.Job.{no_tables};
@@ -82,7 +83,6 @@ impl<'a> Printer<'a> {
     ghost use Rattle.jsgen_syntax.specs.Units.{js_units};
     ghost use Rattle.jsgen_syntax.specs.Strings.{quote_char, quoted};
     ghost use Rattle.jsgen_syntax.specs.Raw.{directive_text};
-    ghost use Rattle.jsgen_model.specs.Spell.{bars_brace, bars_function};
     ghost use Rattle.jsgen_model.specs.Operators.{operator_item, unary_sign, behind_unary, update_item, logical_item, assignment_item};
     ghost use Rattle.jsgen_printer.specs.Steps.{has_failed, Goes, Lays};
     ghost use Rattle.jsgen_printer.specs.Printer.{bracket_of, pen_of, ending_of, stands_apart, name_written, by_tables, is_ascii, deepened, at_depth};
@@ -278,7 +278,7 @@ impl<'a> Printer<'a> {
 
     pub fn print_word(&mut self, text: &str)
         requires { IsTrue (is_ascii text.now) }
-        ensures { Lays self.old self.new (λ _. word text.now) }
+        ensures { Lays self.old self.new (word text.now) }
     {
         let apart = self.is_apart();
         self.print_apart(apart, text, Ending::Other);
@@ -341,7 +341,7 @@ impl<'a> Printer<'a> {
 
     /// A string, which may stand in backticks or not.
     pub fn print_string(&mut self, value: &JsStr, backticks: bool)
-        ensures { Lays self.old self.new (λ _. string backticks (js_units value.now)) }
+        ensures { Lays self.old self.new (string backticks (js_units value.now)) }
     {
         let quote = self.string_quote(value, backticks);
         self.print_quoted(value, quote);
@@ -349,7 +349,7 @@ impl<'a> Printer<'a> {
 
     /// A string that is a whole first statement, without its end.
     pub fn print_first_string(&mut self, value: &JsStr)
-        ensures { Lays self.old self.new (λ _. first_string (js_units value.now)) }
+        ensures { Lays self.old self.new (first_string (js_units value.now)) }
     {
         if self.minify {
             self.print_quoted(value, Quote::Backtick);
@@ -369,7 +369,7 @@ impl<'a> Printer<'a> {
 
     /// A directive's raw text in its quotes, without its end.
     pub fn print_directive(&mut self, raw: &str)
-        ensures { Lays self.old self.new (λ _. directive (chars raw.now)) }
+        ensures { Lays self.old self.new (directive (chars raw.now)) }
     {
         let quote = directive_quote(self.quote, raw);
         self.print_quote(quote);
@@ -409,16 +409,22 @@ impl<'a> Printer<'a> {
 
     /// Whether a brace at the end of the code would not open an object (ECMA-262, 14.5 and 15.3).
     pub fn bars_brace(&self) -> bool
-        ensures { result ≡ bars_brace (pen_of self.now).start }
+        ensures { result ≡ is_barred a_brace (pen_of self.now).start }
     {
-        matches!(&self.start, Start::Statement | Start::ArrowBody)
+        match &self.start {
+            Start::Nowhere => false,
+            Start::Statement | Start::ArrowBody => true,
+        }
     }
 
     /// Whether a function at the end of the code would be a declaration (ECMA-262, 14.5 and 16.2.3).
-    pub fn bars_function(&self) -> bool
-        ensures { result ≡ bars_function (pen_of self.now).start }
+    pub fn bars_declaration(&self) -> bool
+        ensures { result ≡ is_barred a_declaration (pen_of self.now).start }
     {
-        matches!(&self.start, Start::Statement)
+        match &self.start {
+            Start::Statement => true,
+            Start::Nowhere | Start::ArrowBody => false,
+        }
     }
 
     pub fn print_opening(&mut self, bracket: Bracket)
@@ -448,62 +454,62 @@ impl<'a> Printer<'a> {
     }
 
     pub fn print_member_dot(&mut self)
-        ensures { Lays self.old self.new (λ _. member_dot) }
+        ensures { Lays self.old self.new member_dot }
     {
         let apart = self.ends_in_number();
         self.print_apart(apart, ".", Ending::Other);
     }
 
     pub fn print_comma(&mut self)
-        ensures { Lays self.old self.new (λ _. punctuator comma) }
+        ensures { Lays self.old self.new (punctuator comma) }
     {
         self.print_str(",", Ending::Other);
     }
 
     pub fn print_colon(&mut self)
-        ensures { Lays self.old self.new (λ _. punctuator colon) }
+        ensures { Lays self.old self.new (punctuator colon) }
     {
         self.print_str(":", Ending::Other);
     }
 
     pub fn print_question(&mut self)
-        ensures { Lays self.old self.new (λ _. punctuator question) }
+        ensures { Lays self.old self.new (punctuator question) }
     {
         self.print_str("?", Ending::Other);
     }
 
     pub fn print_question_dot(&mut self)
-        ensures { Lays self.old self.new (λ _. punctuator question_dot) }
+        ensures { Lays self.old self.new (punctuator question_dot) }
     {
         self.print_str("?.", Ending::Other);
     }
 
     pub fn print_ellipsis(&mut self)
-        ensures { Lays self.old self.new (λ _. punctuator ellipsis) }
+        ensures { Lays self.old self.new (punctuator ellipsis) }
     {
         self.print_str("...", Ending::Other);
     }
 
     pub fn print_semicolon(&mut self)
-        ensures { Lays self.old self.new (λ _. punctuator semicolon) }
+        ensures { Lays self.old self.new (punctuator semicolon) }
     {
         self.print_str(";", Ending::Other);
     }
 
     pub fn print_equal(&mut self)
-        ensures { Lays self.old self.new (λ _. punctuator equal) }
+        ensures { Lays self.old self.new (punctuator equal) }
     {
         self.print_str("=", Ending::Other);
     }
 
     pub fn print_arrow(&mut self)
-        ensures { Lays self.old self.new (λ _. punctuator arrow) }
+        ensures { Lays self.old self.new (punctuator arrow) }
     {
         self.print_str("=>", Ending::Other);
     }
 
     pub fn print_operator(&mut self, operator: BinaryOperator)
-        ensures { Lays self.old self.new (λ _. operator_item operator) }
+        ensures { Lays self.old self.new (operator_item operator) }
     {
         let apart = self.stands_apart(operator);
         let sign = operator.as_str();
@@ -512,7 +518,7 @@ impl<'a> Printer<'a> {
 
     /// An operator before its operand.
     pub fn print_unary_operator(&mut self, operator: UnaryOperator)
-        ensures { Lays self.old self.new (λ _. unary_sign operator) }
+        ensures { Lays self.old self.new (unary_sign operator) }
     {
         let apart = self.unary_stands_apart(operator);
         let text = operator.as_str();
@@ -521,7 +527,7 @@ impl<'a> Printer<'a> {
 
     /// An operator before or behind what it changes.
     pub fn print_update_operator(&mut self, operator: UpdateOperator)
-        ensures { Lays self.old self.new (λ _. update_item operator) }
+        ensures { Lays self.old self.new (update_item operator) }
     {
         let apart = self.update_stands_apart(operator);
         let signs = operator.as_str();
@@ -530,7 +536,7 @@ impl<'a> Printer<'a> {
 
     /// What stands between such an operator and its operand.
     pub fn print_behind_unary(&mut self, operator: UnaryOperator)
-        ensures { Lays self.old self.new (λ _. behind_unary operator) }
+        ensures { Lays self.old self.new (behind_unary operator) }
     {
         match operator {
             UnaryOperator::Typeof | UnaryOperator::Void | UnaryOperator::Delete =>
@@ -540,38 +546,38 @@ impl<'a> Printer<'a> {
     }
 
     pub fn print_logical_sign(&mut self, operator: LogicalOperator)
-        ensures { Lays self.old self.new (λ _. logical_item operator) }
+        ensures { Lays self.old self.new (logical_item operator) }
     {
         self.print_str(operator.as_str(), Ending::Other);
     }
 
     /// The sign of an assignment.
     pub fn print_assignment_sign(&mut self, operator: AssignmentOperator)
-        ensures { Lays self.old self.new (λ _. assignment_item operator) }
+        ensures { Lays self.old self.new (assignment_item operator) }
     {
         self.print_str(operator.as_str(), Ending::Other);
     }
 
     pub fn print_soft_space(&mut self)
-        ensures { Lays self.old self.new (λ _. soft_space) }
+        ensures { Lays self.old self.new soft_space }
     {
         self.print_if(!self.minify, " ");
     }
 
     pub fn print_soft_line(&mut self)
-        ensures { Lays self.old self.new (λ _. soft_line) }
+        ensures { Lays self.old self.new soft_line }
     {
         self.print_if(!self.minify, "\n");
     }
 
     pub fn print_hard_space(&mut self)
-        ensures { Lays self.old self.new (λ _. hard_space) }
+        ensures { Lays self.old self.new hard_space }
     {
         self.print_str(" ", Ending::Other);
     }
 
     pub fn print_indentation(&mut self)
-        ensures { Lays self.old self.new (λ _. indentation) }
+        ensures { Lays self.old self.new indentation }
     {
         if self.minify {
             return;
@@ -610,7 +616,7 @@ impl<'a> Printer<'a> {
 
     /// One space is to stand in place of the next indentation.
     pub fn begin_body(&mut self)
-        ensures lays { Lays self.old self.new (λ _. body_space) }
+        ensures lays { Lays self.old self.new body_space }
         ensures failed { has_failed self.new ≡ has_failed self.old }
     {
         self.pending_space = true;
@@ -650,7 +656,7 @@ impl<'a> Printer<'a> {
     }
 
     pub fn print_statement_end(&mut self)
-        ensures { Lays self.old self.new (λ _. statement_end) }
+        ensures { Lays self.old self.new statement_end }
     {
         if self.minify {
             self.pending_semicolon = true;
@@ -660,7 +666,7 @@ impl<'a> Printer<'a> {
     }
 
     pub fn print_due_semicolon(&mut self)
-        ensures { Lays self.old self.new (λ _. due_semicolon) }
+        ensures { Lays self.old self.new due_semicolon }
     {
         self.print_if(self.pending_semicolon, ";");
         self.pending_semicolon = false;
@@ -669,14 +675,14 @@ impl<'a> Printer<'a> {
 
     /// A semicolon that is due is never printed.
     pub fn drop_semicolon(&mut self)
-        ensures lays { Lays self.old self.new (λ _. drop_semicolon) }
+        ensures lays { Lays self.old self.new drop_semicolon }
         ensures failed { has_failed self.new ≡ has_failed self.old }
     {
         self.pending_semicolon = false;
     }
 
     pub fn begin_statement(&mut self)
-        ensures lays { Lays self.old self.new (λ _. statement_begins) }
+        ensures lays { Lays self.old self.new statement_begins }
         ensures failed { has_failed self.new ≡ has_failed self.old }
     {
         self.start = Start::Statement;
@@ -684,7 +690,7 @@ impl<'a> Printer<'a> {
 
     /// The body of an arrow function begins here.
     pub fn begin_arrow_body(&mut self)
-        ensures lays { Lays self.old self.new (λ _. arrow_body_begins) }
+        ensures lays { Lays self.old self.new arrow_body_begins }
         ensures failed { has_failed self.new ≡ has_failed self.old }
     {
         self.start = Start::ArrowBody;

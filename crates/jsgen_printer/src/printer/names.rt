@@ -8,28 +8,32 @@ ghost use Rattle.jsgen_printer.specs.Printer.{pen_of};
 ghost use Rattle.jsgen_printer.specs.Steps.{Goes, Lays};
 
 use super::Printer;
+use jsgen_syntax::Span;
 
 #[tactic(auto, unfolding(crate::specs::Printer::pen_of))]
 impl Printer<'_> {
     /// A name as it is written, by no table.
-    pub fn print_name(&mut self, text: &str)
-        ensures { Lays self.old self.new (λ _. name (as_written (chars text.now))) }
+    pub fn print_name(&mut self, span: Span, text: &str)
+        ensures { Lays self.old self.new (name span (as_written (chars text.now))) }
     {
+        let _ = span;
         self.print_name_apart(text);
     }
 
     /// A name that is looked up, by the number of its reference.
-    pub fn print_reference(&mut self, text: &str, reference: Option<u32>)
-        ensures { Lays self.old self.new (λ _. name (looked_up reference (chars text.now))) }
+    pub fn print_reference(&mut self, span: Span, text: &str, reference: Option<u32>)
+        ensures { Lays self.old self.new (name span (looked_up reference (chars text.now))) }
     {
+        let _ = span;
         let printed = self.tables.reference_name(reference, text);
         self.print_name_apart(printed);
     }
 
     /// A name that is bound, by the number of its symbol.
-    pub fn print_binding(&mut self, text: &str, symbol: Option<u32>)
-        ensures { Lays self.old self.new (λ _. name (bound symbol (chars text.now))) }
+    pub fn print_binding(&mut self, span: Span, text: &str, symbol: Option<u32>)
+        ensures { Lays self.old self.new (name span (bound symbol (chars text.now))) }
     {
+        let _ = span;
         let printed = self.tables.binding_name(symbol, text);
         self.print_name_apart(printed);
     }

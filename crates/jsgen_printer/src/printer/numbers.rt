@@ -26,7 +26,7 @@ impl Printer<'_> {
 
     /// A number by its text; the test tells that a dot behind it would be its own.
     pub fn print_number(&mut self, text: &str, dot_is_its_own: bool)
-        ensures { Lays self.old self.new (λ _. number dot_is_its_own (chars text.now)) }
+        ensures { Lays self.old self.new (number dot_is_its_own (chars text.now)) }
     {
         let apart = self.is_apart();
         self.print_apart(apart, text, Printer::number_ending(dot_is_its_own));
@@ -34,7 +34,7 @@ impl Printer<'_> {
 
     /// A whole number.
     pub fn print_whole_number(&mut self, digits: u128)
-        ensures { Lays self.old self.new (λ _. number true (decimal digits)) }
+        ensures { Lays self.old self.new (number true (decimal digits)) }
     {
         let mut buffer = itoa::Buffer::new();
         let text = buffer.format(digits);
@@ -43,7 +43,7 @@ impl Printer<'_> {
 
     /// A big integer by its digits.
     pub fn print_big_integer(&mut self, digits: &str)
-        ensures { Lays self.old self.new (λ _. number false (big_text (chars digits.now))) }
+        ensures { Lays self.old self.new (number false (big_text (chars digits.now))) }
     {
         self.print_number(digits, false);
         self.print_str("n", Ending::Other);
@@ -51,14 +51,14 @@ impl Printer<'_> {
 
     // The minus of a number.
     fn print_minus(&mut self)
-        ensures { Lays self.old self.new (λ _. operator minus) }
+        ensures { Lays self.old self.new (operator minus) }
     {
         self.print_unary_operator(UnaryOperator::UnaryNegation);
     }
 
     // A minus, and behind it a number of which a dot would be part.
     fn print_minus_number(&mut self, text: &str)
-        ensures { Lays self.old self.new (λ _. operator minus ⊕ number true (chars text.now)) }
+        ensures { Lays self.old self.new (operator minus ⊕ number true (chars text.now)) }
     {
         self.print_minus();
         self.print_number(text, true);
@@ -66,7 +66,7 @@ impl Printer<'_> {
 
     // A minus, and the big integer by its digits behind it.
     fn print_minus_big_integer(&mut self, digits: &str)
-        ensures { Lays self.old self.new (λ _. operator minus ⊕ number false (big_text (chars digits.now))) }
+        ensures { Lays self.old self.new (operator minus ⊕ number false (big_text (chars digits.now))) }
     {
         self.print_minus();
         self.print_big_integer(digits);
@@ -74,7 +74,7 @@ impl Printer<'_> {
 
     // The same, in parentheses where the test holds.
     fn print_negative_number(&mut self, wrap: bool, text: &str)
-        ensures { Lays self.old self.new (λ _. wrapped wrap (operator minus ⊕ number true (chars text.now))) }
+        ensures { Lays self.old self.new (wrapped wrap (operator minus ⊕ number true (chars text.now))) }
     {
         self.print_opening_if(wrap);
         self.print_minus_number(text);
@@ -83,7 +83,7 @@ impl Printer<'_> {
 
     /// A whole number with a minus before it, in parentheses where the test holds.
     pub fn print_negative_whole_number(&mut self, wrap: bool, digits: u128)
-        ensures { Lays self.old self.new (λ _. wrapped wrap (operator minus ⊕ number true (decimal digits))) }
+        ensures { Lays self.old self.new (wrapped wrap (operator minus ⊕ number true (decimal digits))) }
     {
         let mut buffer = itoa::Buffer::new();
         let text = buffer.format(digits);
@@ -92,7 +92,7 @@ impl Printer<'_> {
 
     /// A big integer by its digits with a minus before it, in parentheses where the test holds.
     pub fn print_negative_big_integer(&mut self, wrap: bool, digits: &str)
-        ensures { Lays self.old self.new (λ _. wrapped wrap (operator minus ⊕ number false (big_text (chars digits.now)))) }
+        ensures { Lays self.old self.new (wrapped wrap (operator minus ⊕ number false (big_text (chars digits.now)))) }
     {
         self.print_opening_if(wrap);
         self.print_minus_big_integer(digits);
