@@ -73,11 +73,7 @@ nothing_laid p = record { stays = λ h. (h, refl); goes = λ going. rw going ref
 
 -- items that the layout passes over
 pub passed_over : (p : Printer) (i : Items) → ((pen : Pen) → layout i pen ≡ pen) → Lays p p i
-passed_over p i e = record { stays = λ h. (h, refl); goes = λ going. rw (going, e (pen_of p)) refl }
-
--- the same layout under another name
-pub same_layout : {a b : Printer} {i : Items} (j : Items) → ((pen : Pen) → layout i pen ≡ layout j pen) → Lays a b i → Lays a b j
-same_layout j e h = regrouped e h
+passed_over p i e = record { stays = λ h. (h, refl); goes = λ going. subst (λ failed. Ends failed (pen_of p) (pen_of p) (layout i (pen_of p))) (sym going) (sym (e (pen_of p))) }
 
 -- ---- steps round others
 

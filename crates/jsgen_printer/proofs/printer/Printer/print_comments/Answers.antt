@@ -1,7 +1,7 @@
 use Rattle.std.proofs.Common.{refl}
 use Rattle.jsgen_model.specs.Items.{mark, end_mark, link_mark, comments, orphans, all_of_them, with_key_annotation}
 use Rattle.jsgen_printer.proofs.Sequence.{passed_over}
-use Rattle.jsgen_printer.proofs.printer.marks.Printer.print_comments.Goals as goal
+use Rattle.jsgen_printer.proofs.printer.Printer.print_comments.Goals as goal
 
 pub returns : goal.returns
 returns c = passed_over _ (comments all_of_them c.args.offset) (λ pen. refl)

@@ -1,7 +1,7 @@
 use Rattle.std.proofs.Common.{refl}
 use Rattle.jsgen_model.specs.Items.{mark, end_mark, link_mark, comments, orphans, all_of_them, with_key_annotation}
 use Rattle.jsgen_printer.proofs.Sequence.{passed_over}
-use Rattle.jsgen_printer.proofs.printer.marks.Printer.print_mark.Goals as goal
+use Rattle.jsgen_printer.proofs.printer.Printer.print_link_mark.Goals as goal
 
 pub returns : goal.returns
-returns c = passed_over _ (mark c.args.span) (λ pen. refl)
+returns c = passed_over _ (link_mark c.args.span) (λ pen. refl)
