@@ -4,8 +4,7 @@ ghost use Rattle.jsgen_tree.specs.Tree.{trees};
 ghost use Rattle.jsgen_model.specs.Punctuator.{Round};
 ghost use Rattle.jsgen_model.specs.Items.{brackets};
 ghost use Rattle.jsgen_model.specs.Spell.{spell_arguments, spell_behind_first};
-ghost use Rattle.jsgen_printer.specs.Steps.{Lays, BeginsNothing};
-ghost use Rattle.jsgen_lists.specs.Lists.{listed};
+ghost use Rattle.jsgen_printer.specs.Steps.{Lays};
 
 use crate::maybe::print_comma_and_space;
 use crate::members::{PrintMember, print_more};
@@ -38,7 +37,7 @@ pub fn print_arguments<E, L: PrintMember<E>>(
     p: &mut Printer<'_>,
     place: Place,
 )
-    ensures { Lays p.old p.new (λ _. brackets Round (spell_arguments quotes.first quotes.second (trees (map L.plain arguments.now)) (listed place))) }
+    ensures { Lays p.old p.new (brackets Round (spell_arguments quotes.first quotes.second (trees (map L.plain arguments.now)) place)) }
 {
     p.print_opening(Bracket::Round);
     print_first::<E, L>(quotes, arguments, p, place);
@@ -51,8 +50,7 @@ fn print_first<E, L: PrintMember<E>>(
     p: &mut Printer<'_>,
     place: Place,
 )
-    requires { BeginsNothing p.old }
-    ensures { Lays p.old p.new (λ _. spell_arguments quotes.first quotes.second (trees (map L.plain arguments.now)) (listed place)) }
+    ensures { Lays p.old p.new (spell_arguments quotes.first quotes.second (trees (map L.plain arguments.now)) place) }
 {
     match arguments.split_first() {
         Some((first, others)) => {
@@ -70,7 +68,7 @@ fn print_behind_first<E, L: PrintMember<E>>(
     p: &mut Printer<'_>,
     place: Place,
 )
-    ensures { Lays p.old p.new (λ _. spell_behind_first plain_second (trees (map L.plain arguments.now)) (listed place)) }
+    ensures { Lays p.old p.new (spell_behind_first plain_second (trees (map L.plain arguments.now)) place) }
 {
     match arguments.split_first() {
         Some((second, others)) => {

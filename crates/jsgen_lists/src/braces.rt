@@ -6,32 +6,29 @@ ghost use Rattle.jsgen_model.specs.Items.{◌⊕◌, nothing, brackets, drop_sem
 ghost use Rattle.jsgen_model.specs.Spell.{spell_statements, braces, filled_braces};
 ghost use Rattle.jsgen_printer.specs.Printer.{pen_of};
 ghost use Rattle.jsgen_printer.specs.Steps.{Goes, Lays, has_failed};
-ghost use Rattle.jsgen_place.specs.Place.{settings_of};
 ghost use Rattle.jsgen_lists.specs.Lists.{braces_opened, braces_closed};
 
 use crate::statements::{PrintStatement, print_statements};
-use jsgen_place::Settings;
 use jsgen_printer::{Bracket, Printer};
 
 /// Braces round statements, each of which stands on a line of its own.
 pub fn print_braces<E, S: PrintStatement<E>>(
     statements: &[E],
     p: &mut Printer<'_>,
-    settings: Settings,
 )
-    ensures { Lays p.old p.new (λ _. braces (trees (map S.plain statements.now))
-        (spell_statements (trees (map S.plain statements.now)) (settings_of settings))) }
+    ensures { Lays p.old p.new (braces (trees (map S.plain statements.now))
+        (spell_statements (trees (map S.plain statements.now)))) }
 {
     if statements.is_empty() {
         print_empty_braces(p);
     } else {
-        print_filled_braces::<E, S>(statements, p, settings);
+        print_filled_braces::<E, S>(statements, p);
     }
 }
 
 /// Braces in which nothing stands.
 pub fn print_empty_braces(p: &mut Printer<'_>)
-    ensures { Lays p.old p.new (λ _. brackets Brace nothing ⊕ drop_semicolon) }
+    ensures { Lays p.old p.new (brackets Brace nothing ⊕ drop_semicolon) }
 {
     p.print_opening(Bracket::Brace);
     p.print_closing(Bracket::Brace);
@@ -41,12 +38,11 @@ pub fn print_empty_braces(p: &mut Printer<'_>)
 fn print_filled_braces<E, S: PrintStatement<E>>(
     statements: &[E],
     p: &mut Printer<'_>,
-    settings: Settings,
 )
-    ensures { Lays p.old p.new (λ _. filled_braces (spell_statements (trees (map S.plain statements.now)) (settings_of settings))) }
+    ensures { Lays p.old p.new (filled_braces (spell_statements (trees (map S.plain statements.now)))) }
 {
     let depth = open_braces(p);
-    print_statements::<E, S>(statements, p, settings);
+    print_statements::<E, S>(statements, p);
     close_braces(p, depth);
 }
 

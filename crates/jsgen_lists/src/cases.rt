@@ -5,13 +5,12 @@ ghost use Rattle.jsgen_tree.specs.Tree.{Tree, more, no_trees, trees, optional};
 ghost use Rattle.jsgen_model.specs.Punctuator.{colon};
 ghost use Rattle.jsgen_model.specs.Items.{◌⊕◌, punctuator, indentation};
 ghost use Rattle.jsgen_model.specs.Spell.{spell_statements, spell_only, spell_test, case_items, in_brackets, among_statements};
-ghost use Rattle.jsgen_printer.specs.Steps.{Lays, BeginsNothing};
-ghost use Rattle.jsgen_place.specs.Place.{settings_of};
+ghost use Rattle.jsgen_printer.specs.Steps.{Lays};
 
 use crate::maybe::print_case_test;
 use crate::members::PrintMember;
 use crate::statements::{PrintStatement, print_deeper_statements};
-use jsgen_place::{Place, Settings};
+use jsgen_place::Place;
 use jsgen_printer::Printer;
 use jsgen_syntax::Precedence;
 
@@ -20,9 +19,8 @@ pub trait PrintOnly<E> {
     // What a statement stands for.
     ghost plain: { E → Tree };
 
-    fn print_only(statement: &E, p: &mut Printer<'_>, settings: Settings)
-        requires { BeginsNothing p.old }
-        ensures { Lays p.old p.new (λ _. spell_only (more (plain statement.now) no_trees) (settings_of settings)) };
+    fn print_only(statement: &E, p: &mut Printer<'_>)
+            ensures { Lays p.old p.new (spell_only (more (plain statement.now) no_trees)) };
 }
 
 /// A case: its test or its word, and the statements that stand under it.
@@ -30,21 +28,20 @@ pub fn print_case<E, F, L: PrintMember<E>, O: PrintOnly<F>, S: PrintStatement<F>
     test: &Option<E>,
     consequent: &[F],
     p: &mut Printer<'_>,
-    settings: Settings,
 )
-    ensures { Lays p.old p.new (λ _. indentation ⊕ (spell_test (optional (option_map L.plain test.now)) (in_brackets Lowest (among_statements (settings_of settings)))
-        ⊕ (punctuator colon ⊕ case_items (trees (map S.plain consequent.now)) (spell_only (trees (map O.plain consequent.now)) (settings_of settings)) (spell_statements (trees (map S.plain consequent.now)) (settings_of settings))))) }
+    ensures { Lays p.old p.new (indentation ⊕ (spell_test (optional (option_map L.plain test.now)) (in_brackets Lowest)
+        ⊕ (punctuator colon ⊕ case_items (trees (map S.plain consequent.now)) (spell_only (trees (map O.plain consequent.now))) (spell_statements (trees (map S.plain consequent.now)))))) }
 {
     p.print_indentation();
-    print_case_head::<E, L>(test, p, settings);
-    print_consequent::<F, O, S>(consequent, p, settings);
+    print_case_head::<E, L>(test, p);
+    print_consequent::<F, O, S>(consequent, p);
 }
 
 // The test and its colon.
-fn print_case_head<E, L: PrintMember<E>>(test: &Option<E>, p: &mut Printer<'_>, settings: Settings)
-    ensures { Lays p.old p.new (λ _. spell_test (optional (option_map L.plain test.now)) (in_brackets Lowest (among_statements (settings_of settings))) ⊕ punctuator colon) }
+fn print_case_head<E, L: PrintMember<E>>(test: &Option<E>, p: &mut Printer<'_>)
+    ensures { Lays p.old p.new (spell_test (optional (option_map L.plain test.now)) (in_brackets Lowest) ⊕ punctuator colon) }
 {
-    let within = Place::in_brackets(Precedence::Lowest, settings);
+    let within = Place::in_brackets(Precedence::Lowest);
     print_case_test::<E, L>(test, p, within);
     p.print_colon();
 }
@@ -53,14 +50,12 @@ fn print_case_head<E, L: PrintMember<E>>(test: &Option<E>, p: &mut Printer<'_>, 
 fn print_consequent<F, O: PrintOnly<F>, S: PrintStatement<F>>(
     statements: &[F],
     p: &mut Printer<'_>,
-    settings: Settings,
 )
-    requires { BeginsNothing p.old }
-    ensures { Lays p.old p.new (λ _. case_items (trees (map S.plain statements.now)) (spell_only (trees (map O.plain statements.now)) (settings_of settings)) (spell_statements (trees (map S.plain statements.now)) (settings_of settings))) }
+    ensures { Lays p.old p.new (case_items (trees (map S.plain statements.now)) (spell_only (trees (map O.plain statements.now))) (spell_statements (trees (map S.plain statements.now)))) }
 {
     if statements.len() == 1 {
-        O::print_only(&statements[0], p, settings);
+        O::print_only(&statements[0], p);
     } else {
-        print_deeper_statements::<F, S>(statements, p, settings);
+        print_deeper_statements::<F, S>(statements, p);
     }
 }

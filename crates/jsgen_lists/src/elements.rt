@@ -4,9 +4,8 @@ ghost use Rattle.jsgen_tree.specs.Tree.{Tree, holed};
 ghost use Rattle.jsgen_model.specs.Punctuator.{Square, Brace};
 ghost use Rattle.jsgen_model.specs.Items.{◌⊕◌, brackets, soft_space};
 ghost use Rattle.jsgen_model.specs.Spell.{spell_elements, spell_more_elements, next_line, line_or_space, on_lines, object_inside, are_more, ends_in_hole, comma_if};
-ghost use Rattle.jsgen_printer.specs.Steps.{Lays, BeginsNothing};
-ghost use Rattle.jsgen_place.specs.Place.{place_of};
-ghost use Rattle.jsgen_lists.specs.Lists.{listed, element_items, all_elements};
+ghost use Rattle.jsgen_printer.specs.Steps.{Lays};
+ghost use Rattle.jsgen_lists.specs.Lists.{element_items, all_elements};
 
 use jsgen_place::Place;
 use jsgen_printer::{Bracket, Printer};
@@ -21,13 +20,13 @@ pub trait PrintElement<E> {
 
     /// Nothing is printed for one that is left out.
     fn print_element(element: &E, p: &mut Printer<'_>, place: Place)
-        ensures { Lays p.old p.new (λ pen. element_items (plain element.now) (place_of place pen)) };
+        ensures { Lays p.old p.new (element_items (plain element.now) place) };
 }
 
 /// An array: its elements in brackets, up to two on one line, and more on lines of their own.
 pub fn print_array<E, L: PrintElement<E>>(elements: &[E], p: &mut Printer<'_>, place: Place)
-    ensures { Lays p.old p.new (λ _. brackets Square (on_lines (are_more 2 (holed (map L.plain elements.now)))
-        (all_elements (are_more 2 (holed (map L.plain elements.now))) (holed (map L.plain elements.now)) (listed place)))) }
+    ensures { Lays p.old p.new (brackets Square (on_lines (are_more 2 (holed (map L.plain elements.now)))
+        (all_elements (are_more 2 (holed (map L.plain elements.now))) (holed (map L.plain elements.now)) place))) }
 {
     let lines = are_more::<E, L>(2, elements);
     p.print_opening(Bracket::Square);
@@ -37,8 +36,8 @@ pub fn print_array<E, L: PrintElement<E>>(elements: &[E], p: &mut Printer<'_>, p
 
 /// An object: its properties in braces, a single one between spaces, and more on lines of their own.
 pub fn print_object<E, L: PrintElement<E>>(properties: &[E], p: &mut Printer<'_>, place: Place)
-    ensures { Lays p.old p.new (λ _. brackets Brace (object_inside (holed (map L.plain properties.now))
-        (all_elements (are_more 1 (holed (map L.plain properties.now))) (holed (map L.plain properties.now)) (listed place)))) }
+    ensures { Lays p.old p.new (brackets Brace (object_inside (holed (map L.plain properties.now))
+        (all_elements (are_more 1 (holed (map L.plain properties.now))) (holed (map L.plain properties.now)) place))) }
 {
     p.print_opening(Bracket::Brace);
     print_inside::<E, L>(properties, p, place);
@@ -46,9 +45,8 @@ pub fn print_object<E, L: PrintElement<E>>(properties: &[E], p: &mut Printer<'_>
 }
 
 fn print_inside<E, L: PrintElement<E>>(properties: &[E], p: &mut Printer<'_>, place: Place)
-    requires { BeginsNothing p.old }
-    ensures { Lays p.old p.new (λ _. object_inside (holed (map L.plain properties.now))
-        (all_elements (are_more 1 (holed (map L.plain properties.now))) (holed (map L.plain properties.now)) (listed place))) }
+    ensures { Lays p.old p.new (object_inside (holed (map L.plain properties.now))
+        (all_elements (are_more 1 (holed (map L.plain properties.now))) (holed (map L.plain properties.now)) place)) }
 {
     if properties.len() > 1 {
         print_on_lines::<E, L>(properties, p, place);
@@ -60,8 +58,7 @@ fn print_inside<E, L: PrintElement<E>>(properties: &[E], p: &mut Printer<'_>, pl
 }
 
 fn print_single<E, L: PrintElement<E>>(properties: &[E], p: &mut Printer<'_>, place: Place)
-    requires { BeginsNothing p.old }
-    ensures { Lays p.old p.new (λ _. soft_space ⊕ (all_elements false (holed (map L.plain properties.now)) (listed place) ⊕ soft_space)) }
+    ensures { Lays p.old p.new (soft_space ⊕ (all_elements false (holed (map L.plain properties.now)) place ⊕ soft_space)) }
 {
     p.print_soft_space();
     print_all::<E, L>(false, properties, p, place);
@@ -81,8 +78,7 @@ fn print_lines<E, L: PrintElement<E>>(
     p: &mut Printer<'_>,
     place: Place,
 )
-    requires { BeginsNothing p.old }
-    ensures { Lays p.old p.new (λ _. on_lines lines (all_elements lines (holed (map L.plain elements.now)) (listed place))) }
+    ensures { Lays p.old p.new (on_lines lines (all_elements lines (holed (map L.plain elements.now)) place)) }
 {
     if lines {
         print_on_lines::<E, L>(elements, p, place);
@@ -92,8 +88,7 @@ fn print_lines<E, L: PrintElement<E>>(
 }
 
 fn print_on_lines<E, L: PrintElement<E>>(elements: &[E], p: &mut Printer<'_>, place: Place)
-    requires { BeginsNothing p.old }
-    ensures { Lays p.old p.new (λ _. on_lines true (all_elements true (holed (map L.plain elements.now)) (listed place))) }
+    ensures { Lays p.old p.new (on_lines true (all_elements true (holed (map L.plain elements.now)) place)) }
 {
     let depth = p.deepen();
     print_next_line(p);
@@ -103,14 +98,14 @@ fn print_on_lines<E, L: PrintElement<E>>(elements: &[E], p: &mut Printer<'_>, pl
 }
 
 fn print_next_line(p: &mut Printer<'_>)
-    ensures { Lays p.old p.new (λ _. next_line) }
+    ensures { Lays p.old p.new next_line }
 {
     p.print_soft_line();
     p.print_indentation();
 }
 
 fn print_between(lines: bool, p: &mut Printer<'_>)
-    ensures { Lays p.old p.new (λ _. line_or_space lines) }
+    ensures { Lays p.old p.new (line_or_space lines) }
 {
     if lines {
         print_next_line(p);
@@ -121,15 +116,14 @@ fn print_between(lines: bool, p: &mut Printer<'_>)
 
 // The members, and behind a last one that is left out its comma.
 fn print_all<E, L: PrintElement<E>>(lines: bool, elements: &[E], p: &mut Printer<'_>, place: Place)
-    requires { BeginsNothing p.old }
-    ensures { Lays p.old p.new (λ _. all_elements lines (holed (map L.plain elements.now)) (listed place)) }
+    ensures { Lays p.old p.new (all_elements lines (holed (map L.plain elements.now)) place) }
 {
     print_elements::<E, L>(lines, elements, p, place);
     print_last_comma::<E, L>(elements, p);
 }
 
 fn print_last_comma<E, L: PrintElement<E>>(elements: &[E], p: &mut Printer<'_>)
-    ensures { Lays p.old p.new (λ _. comma_if (ends_in_hole (holed (map L.plain elements.now)))) }
+    ensures { Lays p.old p.new (comma_if (ends_in_hole (holed (map L.plain elements.now)))) }
 {
     if ends_in_hole::<E, L>(elements) {
         p.print_comma();
@@ -151,8 +145,7 @@ fn print_elements<E, L: PrintElement<E>>(
     p: &mut Printer<'_>,
     place: Place,
 )
-    requires { BeginsNothing p.old }
-    ensures { Lays p.old p.new (λ _. spell_elements lines (holed (map L.plain elements.now)) (listed place)) }
+    ensures { Lays p.old p.new (spell_elements lines (holed (map L.plain elements.now)) place) }
 {
     match elements.split_first() {
         Some((first, others)) => {
@@ -170,7 +163,7 @@ fn print_more_elements<E, L: PrintElement<E>>(
     p: &mut Printer<'_>,
     place: Place,
 )
-    ensures { Lays p.old p.new (λ _. spell_more_elements lines (holed (map L.plain elements.now)) (listed place)) }
+    ensures { Lays p.old p.new (spell_more_elements lines (holed (map L.plain elements.now)) place) }
 {
     for element in elements {
         p.print_comma();

@@ -6,7 +6,6 @@ ghost use Rattle.jsgen_model.specs.Items.{◌⊕◌, word, brackets, soft_space,
 ghost use Rattle.jsgen_model.specs.Spell.{spell, spell_apart, accessor_word};
 ghost use Rattle.jsgen_printer.specs.Steps.{Lays};
 ghost use Rattle.jsgen_printer.specs.Printer.{is_ascii};
-ghost use Rattle.jsgen_lists.specs.Lists.{listed};
 
 use crate::maybe::{print_apart, print_behind_space};
 use crate::members::PrintMember;
@@ -22,7 +21,7 @@ pub fn print_behind_word<E, L: PrintMember<E>>(
     place: Place,
 )
     requires { IsTrue (is_ascii text.now) }
-    ensures { Lays p.old p.new (λ _. word text.now ⊕ (soft_space ⊕ spell (L.plain member.now) (listed place))) }
+    ensures { Lays p.old p.new (word text.now ⊕ (soft_space ⊕ spell (L.plain member.now) place)) }
 {
     p.print_word(text);
     print_behind_space::<E, L>(member, p, place);
@@ -36,7 +35,7 @@ pub fn print_behind_spaced_word<E, L: PrintMember<E>>(
     place: Place,
 )
     requires { IsTrue (is_ascii text.now) }
-    ensures { Lays p.old p.new (λ _. soft_space ⊕ (word text.now ⊕ (soft_space ⊕ spell (L.plain member.now) (listed place)))) }
+    ensures { Lays p.old p.new (soft_space ⊕ (word text.now ⊕ (soft_space ⊕ spell (L.plain member.now) place))) }
 {
     p.print_soft_space();
     print_behind_word::<E, L>(text, member, p, place);
@@ -45,7 +44,7 @@ pub fn print_behind_spaced_word<E, L: PrintMember<E>>(
 /// A word, and something behind it in parentheses.
 pub fn print_head<E, L: PrintMember<E>>(text: &str, member: &E, p: &mut Printer<'_>, place: Place)
     requires { IsTrue (is_ascii text.now) }
-    ensures { Lays p.old p.new (λ _. word text.now ⊕ (soft_space ⊕ brackets Round (spell (L.plain member.now) (listed place)))) }
+    ensures { Lays p.old p.new (word text.now ⊕ (soft_space ⊕ brackets Round (spell (L.plain member.now) place))) }
 {
     p.print_word(text);
     print_apart_in_parentheses::<E, L>(member, p, place);
@@ -57,14 +56,14 @@ pub fn print_apart_in_parentheses<E, L: PrintMember<E>>(
     p: &mut Printer<'_>,
     place: Place,
 )
-    ensures { Lays p.old p.new (λ _. soft_space ⊕ brackets Round (spell (L.plain member.now) (listed place))) }
+    ensures { Lays p.old p.new (soft_space ⊕ brackets Round (spell (L.plain member.now) place)) }
 {
     p.print_soft_space();
     print_in_parentheses::<E, L>(member, p, place);
 }
 
 pub fn print_in_parentheses<E, L: PrintMember<E>>(member: &E, p: &mut Printer<'_>, place: Place)
-    ensures { Lays p.old p.new (λ _. brackets Round (spell (L.plain member.now) (listed place))) }
+    ensures { Lays p.old p.new (brackets Round (spell (L.plain member.now) place)) }
 {
     p.print_opening(Bracket::Round);
     L::print_member(member, p, place);
@@ -79,7 +78,7 @@ pub fn print_jump<E, L: PrintMember<E>>(
     place: Place,
 )
     requires { IsTrue (is_ascii text.now) }
-    ensures { Lays p.old p.new (λ _. word text.now ⊕ (spell_apart (optional (option_map L.plain label.now)) (listed place) ⊕ statement_end)) }
+    ensures { Lays p.old p.new (word text.now ⊕ (spell_apart (optional (option_map L.plain label.now)) place ⊕ statement_end)) }
 {
     p.print_word(text);
     print_apart::<E, L>(label, p, place);
@@ -88,7 +87,7 @@ pub fn print_jump<E, L: PrintMember<E>>(
 
 /// What stands before the key of an accessor (ECMA-262, 15.4), and nothing before that of a method.
 pub fn print_accessor_word(kind: PropertyKind, p: &mut Printer<'_>)
-    ensures { Lays p.old p.new (λ _. accessor_word kind) }
+    ensures { Lays p.old p.new (accessor_word kind) }
 {
     match kind {
         PropertyKind::Init => {}
@@ -99,7 +98,7 @@ pub fn print_accessor_word(kind: PropertyKind, p: &mut Printer<'_>)
 
 fn print_word_before_key(text: &str, p: &mut Printer<'_>)
     requires { IsTrue (is_ascii text.now) }
-    ensures { Lays p.old p.new (λ _. word text.now ⊕ soft_space) }
+    ensures { Lays p.old p.new (word text.now ⊕ soft_space) }
 {
     p.print_word(text);
     p.print_soft_space();

@@ -4,7 +4,6 @@ ghost use Rattle.jsgen_tree.specs.Named.{as_written};
 ghost use Rattle.jsgen_model.specs.Items.{◌⊕◌, name};
 ghost use Rattle.jsgen_model.specs.Spell.{spell, name_link, bracket_link};
 ghost use Rattle.jsgen_printer.specs.Steps.{Lays};
-ghost use Rattle.jsgen_place.specs.Place.{place_of};
 
 use crate::members::PrintMember;
 use jsgen_place::Place;
@@ -19,7 +18,7 @@ pub fn print_named_member<E, L: PrintMember<E>>(
     p: &mut Printer<'_>,
     place: Place,
 )
-    ensures { Lays p.old p.new (λ pen. spell (L.plain object.now) (place_of place pen)
+    ensures { Lays p.old p.new (spell (L.plain object.now) place
         ⊕ (name_link optional ⊕ name (as_written (characters property.now.name)))) }
 {
     L::print_member(object, p, place);
@@ -28,7 +27,7 @@ pub fn print_named_member<E, L: PrintMember<E>>(
 
 // Behind the object.
 fn print_member_name(optional: bool, property: &IdentifierName, p: &mut Printer<'_>)
-    ensures { Lays p.old p.new (λ _. name_link optional ⊕ name (as_written (characters property.now.name))) }
+    ensures { Lays p.old p.new (name_link optional ⊕ name (as_written (characters property.now.name))) }
 {
     print_name_link(optional, p);
     p.print_name(property.name.as_str());
@@ -36,7 +35,7 @@ fn print_member_name(optional: bool, property: &IdentifierName, p: &mut Printer<
 
 // What stands before a member's name.
 fn print_name_link(optional: bool, p: &mut Printer<'_>)
-    ensures { Lays p.old p.new (λ _. name_link optional) }
+    ensures { Lays p.old p.new (name_link optional) }
 {
     if optional {
         p.print_question_dot();
@@ -47,7 +46,7 @@ fn print_name_link(optional: bool, p: &mut Printer<'_>)
 
 /// What stands before the brackets of a link.
 pub fn print_bracket_link(optional: bool, p: &mut Printer<'_>)
-    ensures { Lays p.old p.new (λ _. bracket_link optional) }
+    ensures { Lays p.old p.new (bracket_link optional) }
 {
     if optional {
         p.print_question_dot();

@@ -4,9 +4,7 @@ ghost use Rattle.jsgen_tree.specs.Tree.{Tree, given, trees, optional};
 ghost use Rattle.jsgen_model.specs.Items.{◌⊕◌, soft_space, punctuator};
 ghost use Rattle.jsgen_model.specs.Punctuator.{comma, equal};
 ghost use Rattle.jsgen_model.specs.Spell.{spell, spell_value, spell_if_given, spell_apart, spell_caught, spell_test, comma_between};
-ghost use Rattle.jsgen_printer.specs.Steps.{Lays, BeginsNothing};
-ghost use Rattle.jsgen_place.specs.Place.{place_of};
-ghost use Rattle.jsgen_lists.specs.Lists.{listed};
+ghost use Rattle.jsgen_printer.specs.Steps.{Lays};
 
 use crate::heads::{print_apart_in_parentheses, print_behind_word};
 use crate::members::PrintMember;
@@ -15,7 +13,7 @@ use jsgen_printer::Printer;
 
 /// The value of what is declared, behind `=`.
 pub fn print_value<E, L: PrintMember<E>>(value: &Option<E>, p: &mut Printer<'_>, place: Place)
-    ensures { Lays p.old p.new (λ _. spell_value (optional (option_map L.plain value.now)) (listed place)) }
+    ensures { Lays p.old p.new (spell_value (optional (option_map L.plain value.now)) place) }
 {
     match value {
         Some(value) => print_behind_equal::<E, L>(value, p, place),
@@ -24,7 +22,7 @@ pub fn print_value<E, L: PrintMember<E>>(value: &Option<E>, p: &mut Printer<'_>,
 }
 
 fn print_behind_equal<E, L: PrintMember<E>>(value: &E, p: &mut Printer<'_>, place: Place)
-    ensures { Lays p.old p.new (λ _. soft_space ⊕ (punctuator equal ⊕ (soft_space ⊕ spell (L.plain value.now) (listed place)))) }
+    ensures { Lays p.old p.new (soft_space ⊕ (punctuator equal ⊕ (soft_space ⊕ spell (L.plain value.now) place))) }
 {
     p.print_soft_space();
     p.print_equal();
@@ -38,7 +36,7 @@ pub fn print_comma_between<E, R, L: PrintMember<E>, M: PrintMember<R>>(
     rest: &Option<R>,
     p: &mut Printer<'_>,
 )
-    ensures { Lays p.old p.new (λ _. comma_between (trees (map L.plain members.now)) (optional (option_map M.plain rest.now))) }
+    ensures { Lays p.old p.new (comma_between (trees (map L.plain members.now)) (optional (option_map M.plain rest.now))) }
 {
     match rest {
         Some(_) => print_comma_behind::<E, L>(members, p),
@@ -47,7 +45,7 @@ pub fn print_comma_between<E, R, L: PrintMember<E>, M: PrintMember<R>>(
 }
 
 fn print_comma_behind<E, L: PrintMember<E>>(members: &[E], p: &mut Printer<'_>)
-    ensures { (rest : Tree) → Lays p.old p.new (λ _. comma_between (trees (map L.plain members.now)) (given rest)) }
+    ensures { (rest : Tree) → Lays p.old p.new (comma_between (trees (map L.plain members.now)) (given rest)) }
 {
     if !members.is_empty() {
         print_comma_and_space(p);
@@ -56,7 +54,7 @@ fn print_comma_behind<E, L: PrintMember<E>>(members: &[E], p: &mut Printer<'_>)
 
 /// A comma, and a space behind it.
 pub fn print_comma_and_space(p: &mut Printer<'_>)
-    ensures { Lays p.old p.new (λ _. punctuator comma ⊕ soft_space) }
+    ensures { Lays p.old p.new (punctuator comma ⊕ soft_space) }
 {
     p.print_comma();
     p.print_soft_space();
@@ -64,7 +62,7 @@ pub fn print_comma_and_space(p: &mut Printer<'_>)
 
 /// A member, if there is one.
 pub fn print_if_given<E, L: PrintMember<E>>(member: &Option<E>, p: &mut Printer<'_>, place: Place)
-    ensures { Lays p.old p.new (λ pen. spell_if_given (optional (option_map L.plain member.now)) (place_of place pen)) }
+    ensures { Lays p.old p.new (spell_if_given (optional (option_map L.plain member.now)) place) }
 {
     match member {
         Some(member) => L::print_member(member, p, place),
@@ -74,8 +72,7 @@ pub fn print_if_given<E, L: PrintMember<E>>(member: &Option<E>, p: &mut Printer<
 
 /// A member, if there is one, behind a space.
 pub fn print_apart<E, L: PrintMember<E>>(member: &Option<E>, p: &mut Printer<'_>, place: Place)
-    requires { BeginsNothing p.old }
-    ensures { Lays p.old p.new (λ _. spell_apart (optional (option_map L.plain member.now)) (listed place)) }
+    ensures { Lays p.old p.new (spell_apart (optional (option_map L.plain member.now)) place) }
 {
     match member {
         Some(member) => print_behind_space::<E, L>(member, p, place),
@@ -84,8 +81,7 @@ pub fn print_apart<E, L: PrintMember<E>>(member: &Option<E>, p: &mut Printer<'_>
 }
 
 pub fn print_behind_space<E, L: PrintMember<E>>(member: &E, p: &mut Printer<'_>, place: Place)
-    requires { BeginsNothing p.old }
-    ensures { Lays p.old p.new (λ _. soft_space ⊕ spell (L.plain member.now) (listed place)) }
+    ensures { Lays p.old p.new (soft_space ⊕ spell (L.plain member.now) place) }
 {
     p.print_soft_space();
     L::print_member(member, p, place);
@@ -93,7 +89,7 @@ pub fn print_behind_space<E, L: PrintMember<E>>(member: &E, p: &mut Printer<'_>,
 
 /// The name of what is caught, if it has one, in parentheses.
 pub fn print_caught<E, L: PrintMember<E>>(param: &Option<E>, p: &mut Printer<'_>, place: Place)
-    ensures { Lays p.old p.new (λ _. spell_caught (optional (option_map L.plain param.now)) (listed place)) }
+    ensures { Lays p.old p.new (spell_caught (optional (option_map L.plain param.now)) place) }
 {
     match param {
         Some(param) => print_apart_in_parentheses::<E, L>(param, p, place),
@@ -103,7 +99,7 @@ pub fn print_caught<E, L: PrintMember<E>>(param: &Option<E>, p: &mut Printer<'_>
 
 /// What a case begins with: its test, or the word of a case that has none.
 pub fn print_case_test<E, L: PrintMember<E>>(test: &Option<E>, p: &mut Printer<'_>, place: Place)
-    ensures { Lays p.old p.new (λ _. spell_test (optional (option_map L.plain test.now)) (listed place)) }
+    ensures { Lays p.old p.new (spell_test (optional (option_map L.plain test.now)) place) }
 {
     match test {
         Some(test) => print_behind_word::<E, L>("case", test, p, place),

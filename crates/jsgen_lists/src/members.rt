@@ -2,11 +2,9 @@
 ghost use Rattle.std.specs.Prelude.{map};
 ghost use Rattle.jsgen_tree.specs.Tree.{Tree, trees};
 ghost use Rattle.jsgen_model.specs.Items.{brackets};
-ghost use Rattle.jsgen_model.specs.Spell.{spell, spell_list, spell_more, spell_parts};
-ghost use Rattle.jsgen_printer.specs.Steps.{Lays, BeginsNothing};
+ghost use Rattle.jsgen_model.specs.Spell.{spell, spell_list, spell_more, spell_list};
+ghost use Rattle.jsgen_printer.specs.Steps.{Lays};
 ghost use Rattle.jsgen_printer.specs.Printer.{bracket_of};
-ghost use Rattle.jsgen_place.specs.Place.{place_of};
-ghost use Rattle.jsgen_lists.specs.Lists.{listed};
 
 use crate::maybe::print_comma_and_space;
 use jsgen_place::Place;
@@ -18,7 +16,7 @@ pub trait PrintMember<E> {
     ghost plain: { E → Tree };
 
     fn print_member(member: &E, p: &mut Printer<'_>, place: Place)
-        ensures { Lays p.old p.new (λ pen. spell (plain member.now) (place_of place pen)) };
+        ensures { Lays p.old p.new (spell (plain member.now) place) };
 }
 
 /// The members, with commas between them, in brackets.
@@ -28,7 +26,7 @@ pub fn print_in_brackets<E, L: PrintMember<E>>(
     p: &mut Printer<'_>,
     place: Place,
 )
-    ensures { Lays p.old p.new (λ _. brackets (bracket_of bracket) (spell_list (trees (map L.plain members.now)) (listed place))) }
+    ensures { Lays p.old p.new (brackets (bracket_of bracket) (spell_list (trees (map L.plain members.now)) place)) }
 {
     p.print_opening(bracket);
     print_list::<E, L>(members, p, place);
@@ -36,8 +34,7 @@ pub fn print_in_brackets<E, L: PrintMember<E>>(
 }
 
 fn print_list<E, L: PrintMember<E>>(members: &[E], p: &mut Printer<'_>, place: Place)
-    requires { BeginsNothing p.old }
-    ensures { Lays p.old p.new (λ _. spell_list (trees (map L.plain members.now)) (listed place)) }
+    ensures { Lays p.old p.new (spell_list (trees (map L.plain members.now)) place) }
 {
     match members.split_first() {
         Some((first, others)) => {
@@ -49,8 +46,8 @@ fn print_list<E, L: PrintMember<E>>(members: &[E], p: &mut Printer<'_>, place: P
 }
 
 /// The members, with commas between them, of which the first begins where the list does.
-pub fn print_parts<E, L: PrintMember<E>>(parts: &[E], p: &mut Printer<'_>, place: Place)
-    ensures { Lays p.old p.new (λ pen. spell_parts (trees (map L.plain parts.now)) (place_of place pen)) }
+pub fn print_list<E, L: PrintMember<E>>(parts: &[E], p: &mut Printer<'_>, place: Place)
+    ensures { Lays p.old p.new (spell_list (trees (map L.plain parts.now)) place) }
 {
     match parts.split_first() {
         Some((first, rest)) => {
@@ -63,7 +60,7 @@ pub fn print_parts<E, L: PrintMember<E>>(parts: &[E], p: &mut Printer<'_>, place
 
 /// The members, each with a comma before it.
 pub fn print_more<E, L: PrintMember<E>>(members: &[E], p: &mut Printer<'_>, place: Place)
-    ensures { Lays p.old p.new (λ _. spell_more (trees (map L.plain members.now)) (listed place)) }
+    ensures { Lays p.old p.new (spell_more (trees (map L.plain members.now)) place) }
 {
     for member in members {
         print_comma_and_space(p);

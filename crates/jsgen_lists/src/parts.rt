@@ -4,8 +4,8 @@ ghost use Rattle.jsgen_tree.specs.Tree.{optional};
 ghost use Rattle.jsgen_model.specs.Punctuator.{Round, semicolon};
 ghost use Rattle.jsgen_model.specs.Items.{◌⊕◌, brackets, punctuator};
 ghost use Rattle.jsgen_model.specs.Spell.{spell_apart};
-ghost use Rattle.jsgen_printer.specs.Steps.{Lays, BeginsNothing};
-ghost use Rattle.jsgen_lists.specs.Lists.{listed, loop_parts};
+ghost use Rattle.jsgen_printer.specs.Steps.{Lays};
+ghost use Rattle.jsgen_lists.specs.Lists.{loop_parts};
 
 use crate::maybe::{print_apart, print_if_given};
 use crate::members::PrintMember;
@@ -21,8 +21,8 @@ pub fn print_loop_parts<I, E, K: PrintMember<I>, L: PrintMember<E>>(
     first: Place,
     place: Place,
 )
-    ensures { Lays p.old p.new (λ _. brackets Round (loop_parts (optional (option_map K.plain init.now)) (optional (option_map L.plain test.now))
-        (optional (option_map L.plain update.now)) (listed first) (listed place))) }
+    ensures { Lays p.old p.new (brackets Round (loop_parts (optional (option_map K.plain init.now)) (optional (option_map L.plain test.now))
+        (optional (option_map L.plain update.now)) first place)) }
 {
     p.print_opening(Bracket::Round);
     print_within::<I, E, K, L>(init, test, update, p, first, place);
@@ -37,9 +37,8 @@ fn print_within<I, E, K: PrintMember<I>, L: PrintMember<E>>(
     first: Place,
     place: Place,
 )
-    requires { BeginsNothing p.old }
-    ensures { Lays p.old p.new (λ _. loop_parts (optional (option_map K.plain init.now)) (optional (option_map L.plain test.now))
-        (optional (option_map L.plain update.now)) (listed first) (listed place)) }
+    ensures { Lays p.old p.new (loop_parts (optional (option_map K.plain init.now)) (optional (option_map L.plain test.now))
+        (optional (option_map L.plain update.now)) first place) }
 {
     print_if_given::<I, K>(init, p, first);
     print_behind_semicolon::<E, L>(test, p, place);
@@ -47,7 +46,7 @@ fn print_within<I, E, K: PrintMember<I>, L: PrintMember<E>>(
 }
 
 fn print_behind_semicolon<E, L: PrintMember<E>>(part: &Option<E>, p: &mut Printer<'_>, place: Place)
-    ensures { Lays p.old p.new (λ _. punctuator semicolon ⊕ spell_apart (optional (option_map L.plain part.now)) (listed place)) }
+    ensures { Lays p.old p.new (punctuator semicolon ⊕ spell_apart (optional (option_map L.plain part.now)) place) }
 {
     p.print_semicolon();
     print_apart::<E, L>(part, p, place);

@@ -3,10 +3,9 @@ ghost use Rattle.std.specs.Prelude.{map};
 ghost use Rattle.jsgen_tree.specs.Tree.{Tree, trees};
 ghost use Rattle.jsgen_model.specs.Items.{◌⊕◌, soft_line, deeper, due_semicolon, indentation};
 ghost use Rattle.jsgen_model.specs.Spell.{spell, spell_body, spell_statements, first_statement, among_statements};
-ghost use Rattle.jsgen_printer.specs.Steps.{Lays, BeginsNothing};
-ghost use Rattle.jsgen_place.specs.Place.{place_of, settings_of};
+ghost use Rattle.jsgen_printer.specs.Steps.{Lays};
 
-use jsgen_place::{Place, Settings};
+use jsgen_place::Place;
 use jsgen_printer::Printer;
 
 /// How statements are printed.
@@ -15,22 +14,21 @@ pub trait PrintStatement<E> {
     ghost plain: { E → Tree };
 
     fn print_statement(statement: &E, p: &mut Printer<'_>, place: Place)
-        ensures { Lays p.old p.new (λ pen. spell (plain statement.now) (place_of place pen)) };
+        ensures { Lays p.old p.new (spell (plain statement.now) place) };
 
     /// As the first of a body, where it may not become a directive.
     fn print_first_statement(statement: &E, p: &mut Printer<'_>, place: Place)
-        ensures { Lays p.old p.new (λ pen. first_statement (plain statement.now) (spell (plain statement.now) (place_of place pen))) };
+        ensures { Lays p.old p.new (first_statement (plain statement.now) (spell (plain statement.now) place)) };
 }
 
 /// A program's statements, and the semicolon that is due behind the last.
 pub fn print_whole_body<E, S: PrintStatement<E>>(
     statements: &[E],
     p: &mut Printer<'_>,
-    settings: Settings,
 )
-    ensures { Lays p.old p.new (λ _. spell_body (trees (map S.plain statements.now)) (settings_of settings) ⊕ due_semicolon) }
+    ensures { Lays p.old p.new (spell_body (trees (map S.plain statements.now)) ⊕ due_semicolon) }
 {
-    print_body::<E, S>(statements, p, settings);
+    print_body::<E, S>(statements, p);
     p.print_due_semicolon();
 }
 
@@ -38,15 +36,14 @@ pub fn print_whole_body<E, S: PrintStatement<E>>(
 pub fn print_body<E, S: PrintStatement<E>>(
     statements: &[E],
     p: &mut Printer<'_>,
-    settings: Settings,
 )
-    ensures { Lays p.old p.new (λ _. spell_body (trees (map S.plain statements.now)) (settings_of settings)) }
+    ensures { Lays p.old p.new (spell_body (trees (map S.plain statements.now))) }
 {
     match statements.split_first() {
         Some((first, others)) => {
             p.print_due_semicolon();
-            S::print_first_statement(first, p, Place::among_statements(settings));
-            print_statements::<E, S>(others, p, settings);
+            S::print_first_statement(first, p, Place::among_statements());
+            print_statements::<E, S>(others, p);
         }
         None => {}
     }
@@ -56,13 +53,12 @@ pub fn print_body<E, S: PrintStatement<E>>(
 pub fn print_statements<E, S: PrintStatement<E>>(
     statements: &[E],
     p: &mut Printer<'_>,
-    settings: Settings,
 )
-    ensures { Lays p.old p.new (λ _. spell_statements (trees (map S.plain statements.now)) (settings_of settings)) }
+    ensures { Lays p.old p.new (spell_statements (trees (map S.plain statements.now))) }
 {
     for statement in statements {
         p.print_due_semicolon();
-        S::print_statement(statement, p, Place::among_statements(settings));
+        S::print_statement(statement, p, Place::among_statements());
     }
 }
 
@@ -70,33 +66,30 @@ pub fn print_statements<E, S: PrintStatement<E>>(
 pub fn print_deeper_statements<E, S: PrintStatement<E>>(
     statements: &[E],
     p: &mut Printer<'_>,
-    settings: Settings,
 )
-    ensures { Lays p.old p.new (λ _. soft_line ⊕ deeper (spell_statements (trees (map S.plain statements.now)) (settings_of settings))) }
+    ensures { Lays p.old p.new (soft_line ⊕ deeper (spell_statements (trees (map S.plain statements.now)))) }
 {
     p.print_soft_line();
     let depth = p.deepen();
-    print_statements::<E, S>(statements, p, settings);
+    print_statements::<E, S>(statements, p);
     p.set_depth(depth);
 }
 
 /// What stands before the `while` of a `do`: a statement on a line of its own, one level deeper, up to the indentation of what follows.
-pub fn print_deeper_body<E, S: PrintStatement<E>>(body: &E, p: &mut Printer<'_>, settings: Settings)
-    requires { BeginsNothing p.old }
-    ensures { Lays p.old p.new (λ _. soft_line ⊕ (deeper (spell (S.plain body.now) (among_statements (settings_of settings)) ⊕ due_semicolon) ⊕ indentation)) }
+pub fn print_deeper_body<E, S: PrintStatement<E>>(body: &E, p: &mut Printer<'_>)
+    ensures { Lays p.old p.new (soft_line ⊕ (deeper (spell (S.plain body.now) among_statements ⊕ due_semicolon) ⊕ indentation)) }
 {
     p.print_soft_line();
     let depth = p.deepen();
-    print_ended::<E, S>(body, p, settings);
+    print_ended::<E, S>(body, p);
     p.set_depth(depth);
     p.print_indentation();
 }
 
 // With the semicolon that it may have left.
-fn print_ended<E, S: PrintStatement<E>>(body: &E, p: &mut Printer<'_>, settings: Settings)
-    requires { BeginsNothing p.old }
-    ensures { Lays p.old p.new (λ _. spell (S.plain body.now) (among_statements (settings_of settings)) ⊕ due_semicolon) }
+fn print_ended<E, S: PrintStatement<E>>(body: &E, p: &mut Printer<'_>)
+    ensures { Lays p.old p.new (spell (S.plain body.now) among_statements ⊕ due_semicolon) }
 {
-    S::print_statement(body, p, Place::among_statements(settings));
+    S::print_statement(body, p, Place::among_statements());
     p.print_due_semicolon();
 }

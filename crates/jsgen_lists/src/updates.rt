@@ -4,7 +4,6 @@ ghost use Rattle.jsgen_model.specs.Items.{◌⊕◌};
 ghost use Rattle.jsgen_model.specs.Spell.{spell, behind, in_front, update_items};
 ghost use Rattle.jsgen_model.specs.Operators.{update_item};
 ghost use Rattle.jsgen_printer.specs.Steps.{Lays};
-ghost use Rattle.jsgen_place.specs.Place.{place_of};
 
 use crate::PrintMember;
 use jsgen_place::Place;
@@ -19,9 +18,9 @@ pub fn print_update<E, L: PrintMember<E>>(
     p: &mut Printer<'_>,
     place: Place,
 )
-    ensures { Lays p.old p.new (λ pen. update_items prefix (update_item operator)
-        (spell (L.plain operand.now) (in_front Postfix (place_of place pen)))
-        (spell (L.plain operand.now) (behind Prefix (place_of place pen)))) }
+    ensures { Lays p.old p.new (update_items prefix (update_item operator)
+        (spell (L.plain operand.now) (child Postfix place))
+        (spell (L.plain operand.now) (child Prefix place))) }
 {
     if prefix {
         print_before::<E, L>(operator, operand, p, place);
@@ -36,8 +35,8 @@ fn print_before<E, L: PrintMember<E>>(
     p: &mut Printer<'_>,
     place: Place,
 )
-    ensures { Lays p.old p.new (λ pen. update_item operator
-        ⊕ spell (L.plain operand.now) (behind Prefix (place_of place pen))) }
+    ensures { Lays p.old p.new (update_item operator
+        ⊕ spell (L.plain operand.now) (child Prefix place)) }
 {
     p.print_update_operator(operator);
     L::print_member(operand, p, place.child(Precedence::Prefix));
@@ -49,8 +48,8 @@ fn print_behind<E, L: PrintMember<E>>(
     p: &mut Printer<'_>,
     place: Place,
 )
-    ensures { Lays p.old p.new (λ pen. spell (L.plain operand.now)
-        (in_front Postfix (place_of place pen)) ⊕ update_item operator) }
+    ensures { Lays p.old p.new (spell (L.plain operand.now)
+        (child Postfix place) ⊕ update_item operator) }
 {
     L::print_member(operand, p, place.child(Precedence::Postfix));
     p.print_update_operator(operator);

@@ -6,8 +6,6 @@ ghost use Rattle.jsgen_model.specs.Spell.{spell, assigned, behind, quoted_plainl
 ghost use Rattle.jsgen_model.specs.Operators.{assignment_item};
 ghost use Rattle.jsgen_model.specs.Quotes.{is_export_target};
 ghost use Rattle.jsgen_printer.specs.Steps.{Lays};
-ghost use Rattle.jsgen_place.specs.Place.{place_of};
-ghost use Rattle.jsgen_nodes.specs.Place.{at_place};
 
 use crate::PrintNode;
 use crate::quotes::is_export;
@@ -19,13 +17,12 @@ use jsgen_printer::Printer;
 use jsgen_syntax::{AssignmentOperator, Precedence};
 use jsgen_tree::{AssignmentExpression, ExpressionNode};
 
-#[tactic(auto, unfolding(crate::specs::Place::at_place))]
 pub fn print_assignment_expression<N: PrintNode>(
     node: &AssignmentExpression<N>,
     p: &mut Printer<'_>,
     place: Place,
 )
-    ensures { Lays p.old p.new (at_place (assignment_expression_row N.plain node.now) place) }
+    ensures { Lays p.old p.new (spell (assignment_expression_row N.plain node.now) place) }
 {
     let wrap = place.wraps_assignment();
     p.print_opening_if(wrap);
@@ -34,29 +31,27 @@ pub fn print_assignment_expression<N: PrintNode>(
 }
 
 // The target, the sign and what the target is given, within the parentheses.
-#[tactic(auto, unfolding(crate::specs::Place::at_place))]
 fn print_assignment<N: PrintNode>(node: &AssignmentExpression<N>, p: &mut Printer<'_>, place: Place)
-    ensures { Lays p.old p.new (λ pen. spell (in_assignment_target N.plain node.now.left)
-        (quoted_plainly (is_export_target place.settings.minified (in_assignment_target N.plain node.now.left)) (assigned (place_of place pen)))
+    ensures { Lays p.old p.new (spell (in_assignment_target N.plain node.now.left)
+        (quoted_plainly (is_export_target (in_assignment_target N.plain node.now.left)) (assigned place))
         ⊕ (soft_space ⊕ (assignment_item node.now.operator ⊕ (soft_space
-        ⊕ spell (in_expression N.plain node.now.right) (behind Comma (place_of place pen)))))) }
+        ⊕ spell (in_expression N.plain node.now.right) (child Comma place))))) }
 {
-    let target = Place::in_brackets(Precedence::Comma, place.settings);
-    let quoted = is_export(place.settings.minified, &node.left);
+    let target = Place::in_brackets(Precedence::Comma);
+    let quoted = is_export(&node.left);
     print_assignment_target(&node.left, p, target.quoted_plainly(quoted));
     print_value(node.operator, &node.right, p, place);
 }
 
 // What a target is given, behind the sign.
-#[tactic(auto, unfolding(crate::specs::Place::at_place))]
 fn print_value<N: PrintNode>(
     operator: AssignmentOperator,
     value: &ExpressionNode<N>,
     p: &mut Printer<'_>,
     place: Place,
 )
-    ensures { Lays p.old p.new (λ pen. soft_space ⊕ (assignment_item operator ⊕ (soft_space
-        ⊕ spell (in_expression N.plain value.now) (behind Comma (place_of place pen))))) }
+    ensures { Lays p.old p.new (soft_space ⊕ (assignment_item operator ⊕ (soft_space
+        ⊕ spell (in_expression N.plain value.now) (child Comma place)))) }
 {
     p.print_soft_space();
     p.print_assignment_sign(operator);

@@ -6,9 +6,7 @@ ghost use Rattle.jsgen_tree.specs.Rows.{block_statement_row, if_statement_row, e
 ghost use Rattle.jsgen_model.specs.Punctuator.{semicolon, Round};
 ghost use Rattle.jsgen_model.specs.Items.{◌⊕◌, word, punctuator, brackets, soft_space, soft_line};
 ghost use Rattle.jsgen_model.specs.Spell.{spell, spell_alternate, filled_braces, braces_end, body_end, is_given, in_brackets, among_statements};
-ghost use Rattle.jsgen_printer.specs.Steps.{Lays, BeginsNothing};
-ghost use Rattle.jsgen_place.specs.Place.{settings_of};
-ghost use Rattle.jsgen_nodes.specs.Place.{at_place};
+ghost use Rattle.jsgen_printer.specs.Steps.{Lays};
 ghost use Rattle.jsgen_nodes.specs.Blocks.{consequent_of, alternate_of};
 
 use crate::PrintNode;
@@ -17,52 +15,49 @@ use crate::sequences::Expressions;
 use crate::shapes::{BodyShape, shape};
 use crate::statements::Statements;
 use jsgen_lists::{PrintMember, close_braces, open_braces, print_braces, print_head};
-use jsgen_place::{Place, Settings};
+use jsgen_place::Place;
 use jsgen_printer::Printer;
 use jsgen_syntax::Precedence;
 use jsgen_tree::{BlockStatement, EmptyStatement, IfStatement, StatementNode};
 
 /// Among statements a line of its own.
-#[tactic(auto, unfolding(crate::specs::Place::at_place))]
 pub fn print_block_statement<N: PrintNode>(
     node: &BlockStatement<N>,
     p: &mut Printer<'_>,
     place: Place,
 )
-    ensures { Lays p.old p.new (at_place (block_statement_row N.plain node.now) place) }
+    ensures { Lays p.old p.new (spell (block_statement_row N.plain node.now) place) }
 {
     if place.in_list {
         p.print_indentation();
-        print_braces::<_, Statements>(&node.body, p, place.settings);
+        print_braces::<_, Statements>(&node.body, p);
         p.print_soft_line();
     } else {
-        print_braces::<_, Statements>(&node.body, p, place.settings);
+        print_braces::<_, Statements>(&node.body, p);
     }
 }
 
-#[tactic(auto, unfolding(crate::specs::Place::at_place))]
 pub fn print_if_statement<N: PrintNode>(node: &IfStatement<N>, p: &mut Printer<'_>, place: Place)
-    ensures { Lays p.old p.new (at_place (if_statement_row N.plain node.now) place) }
+    ensures { Lays p.old p.new (spell (if_statement_row N.plain node.now) place) }
 {
     if place.in_list {
         p.print_indentation();
-        print_if(node, p, place.settings);
+        print_if(node, p);
     } else {
-        print_if(node, p, place.settings);
+        print_if(node, p);
     }
 }
 
 // From the word on.
-#[tactic(auto, unfolding(crate::specs::Place::at_place))]
-fn print_if<N: PrintNode>(node: &IfStatement<N>, p: &mut Printer<'_>, settings: Settings)
-    ensures { Lays p.old p.new (λ _. word (codes "if") ⊕ (soft_space ⊕ (brackets Round (spell (in_expression N.plain node.now.test) (in_brackets Lowest (among_statements (settings_of settings))))
-        ⊕ (consequent_of (in_statement N.plain node.now.consequent) (settings_of settings) (is_given (optional (option_map (in_statement N.plain) node.now.alternate)))
-        ⊕ spell_alternate (optional (option_map (in_statement N.plain) node.now.alternate)) (settings_of settings))))) }
+fn print_if<N: PrintNode>(node: &IfStatement<N>, p: &mut Printer<'_>)
+    ensures { Lays p.old p.new (word (codes "if") ⊕ (soft_space ⊕ (brackets Round (spell (in_expression N.plain node.now.test) (in_brackets Lowest))
+        ⊕ (consequent_of (in_statement N.plain node.now.consequent) (is_given (optional (option_map (in_statement N.plain) node.now.alternate)))
+        ⊕ spell_alternate (optional (option_map (in_statement N.plain) node.now.alternate)))))) }
 {
-    let within = Place::in_brackets(Precedence::Lowest, settings);
+    let within = Place::in_brackets(Precedence::Lowest);
     print_head::<_, Expressions>("if", &node.test, p, within);
     print_consequent(node.consequent.get(), p, settings, has_alternate(node));
-    print_alternate(&node.alternate, p, settings);
+    print_alternate(&node.alternate, p);
 }
 
 fn has_alternate<N: PrintNode>(node: &IfStatement<N>) -> bool
@@ -72,15 +67,13 @@ fn has_alternate<N: PrintNode>(node: &IfStatement<N>) -> bool
 }
 
 // What follows the test. An `else` must not go with an `if` within.
-#[tactic(auto, unfolding(crate::specs::Place::at_place))]
 fn print_consequent<N: PrintNode>(
     consequent: &N,
     p: &mut Printer<'_>,
     settings: Settings,
     else_follows: bool,
 )
-    requires { BeginsNothing p.old }
-    ensures { Lays p.old p.new (λ _. consequent_of (N.plain consequent.now) (settings_of settings) else_follows) }
+    ensures { Lays p.old p.new (consequent_of (N.plain consequent.now) else_follows) }
 {
     if consequent.ends_open() {
         print_braced(consequent, p, settings, else_follows);
@@ -89,38 +82,36 @@ fn print_consequent<N: PrintNode>(
     match shape(consequent) {
         BodyShape::Block => {
             p.print_soft_space();
-            consequent.print(p, Place::within_statement(settings));
+            consequent.print(p, Place::within_statement());
             print_braces_end(p, else_follows);
         }
         BodyShape::Empty => print_empty_body(p, else_follows),
         BodyShape::If | BodyShape::Other => {
             p.begin_body();
-            consequent.print(p, Place::among_statements(settings));
+            consequent.print(p, Place::among_statements());
             print_body_end(p, else_follows);
         }
     }
 }
 
 // A consequent in braces of its own.
-#[tactic(auto, unfolding(crate::specs::Place::at_place))]
 fn print_braced<N: PrintNode>(
     consequent: &N,
     p: &mut Printer<'_>,
     settings: Settings,
     else_follows: bool,
 )
-    ensures { Lays p.old p.new (λ _. soft_space ⊕ (filled_braces (spell (N.plain consequent.now) (among_statements (settings_of settings))) ⊕ braces_end else_follows)) }
+    ensures { Lays p.old p.new (soft_space ⊕ (filled_braces (spell (N.plain consequent.now) among_statements) ⊕ braces_end else_follows)) }
 {
     p.print_soft_space();
     let depth = open_braces(p);
-    consequent.print(p, Place::among_statements(settings));
+    consequent.print(p, Place::among_statements());
     close_braces(p, depth);
     print_braces_end(p, else_follows);
 }
 
-#[tactic(auto, unfolding(crate::specs::Place::at_place))]
 fn print_empty_body(p: &mut Printer<'_>, else_follows: bool)
-    ensures { Lays p.old p.new (λ _. punctuator semicolon ⊕ (soft_line ⊕ body_end else_follows)) }
+    ensures { Lays p.old p.new (punctuator semicolon ⊕ (soft_line ⊕ body_end else_follows)) }
 {
     p.print_semicolon();
     p.print_soft_line();
@@ -128,7 +119,7 @@ fn print_empty_body(p: &mut Printer<'_>, else_follows: bool)
 }
 
 fn print_braces_end(p: &mut Printer<'_>, else_follows: bool)
-    ensures { Lays p.old p.new (λ _. braces_end else_follows) }
+    ensures { Lays p.old p.new (braces_end else_follows) }
 {
     if else_follows {
         p.print_soft_space();
@@ -138,55 +129,49 @@ fn print_braces_end(p: &mut Printer<'_>, else_follows: bool)
 }
 
 fn print_body_end(p: &mut Printer<'_>, else_follows: bool)
-    ensures { Lays p.old p.new (λ _. body_end else_follows) }
+    ensures { Lays p.old p.new (body_end else_follows) }
 {
     if else_follows {
         p.print_indentation();
     }
 }
 
-#[tactic(auto, unfolding(crate::specs::Place::at_place))]
 fn print_alternate<N: PrintNode>(
     alternate: &Option<StatementNode<N>>,
     p: &mut Printer<'_>,
-    settings: Settings,
 )
-    ensures { Lays p.old p.new (λ _. spell_alternate (optional (option_map (in_statement N.plain) alternate.now)) (settings_of settings)) }
+    ensures { Lays p.old p.new (spell_alternate (optional (option_map (in_statement N.plain) alternate.now))) }
 {
     match alternate {
         Some(alternate) => {
             p.print_due_semicolon();
-            print_else(alternate.get(), p, settings);
+            print_else(alternate.get(), p);
         }
         None => {}
     }
 }
 
-#[tactic(auto, unfolding(crate::specs::Place::at_place))]
-fn print_else<N: PrintNode>(alternate: &N, p: &mut Printer<'_>, settings: Settings)
-    ensures { Lays p.old p.new (λ _. word (codes "else") ⊕ alternate_of (N.plain alternate.now) (settings_of settings)) }
+fn print_else<N: PrintNode>(alternate: &N, p: &mut Printer<'_>)
+    ensures { Lays p.old p.new (word (codes "else") ⊕ alternate_of (N.plain alternate.now)) }
 {
     p.print_word("else");
-    print_behind_else(alternate, p, settings);
+    print_behind_else(alternate, p);
 }
 
-#[tactic(auto, unfolding(crate::specs::Place::at_place))]
-fn print_behind_else<N: PrintNode>(alternate: &N, p: &mut Printer<'_>, settings: Settings)
-    requires { BeginsNothing p.old }
-    ensures { Lays p.old p.new (λ _. alternate_of (N.plain alternate.now) (settings_of settings)) }
+fn print_behind_else<N: PrintNode>(alternate: &N, p: &mut Printer<'_>)
+    ensures { Lays p.old p.new (alternate_of (N.plain alternate.now)) }
 {
     match shape(alternate) {
         BodyShape::If => {
             p.print_hard_space();
-            alternate.print(p, Place::within_statement(settings));
+            alternate.print(p, Place::within_statement());
         }
-        _ => print_body(alternate, p, settings),
+        _ => print_body(alternate, p),
     }
 }
 
-#[tactic(auto, unfolding(crate::specs::Place::at_place))]
 pub fn print_empty_statement(node: &EmptyStatement, p: &mut Printer<'_>, place: Place)
-    ensures { Lays p.old p.new (at_place (empty_statement_row node.now) place) }
+    ensures { Lays p.old p.new (spell (empty_statement_row node.now) place) }
 {
     let _ = node;
     let _ = place;
@@ -198,7 +183,6 @@ pub fn print_empty_statement(node: &EmptyStatement, p: &mut Printer<'_>, place: 
 /// Blocks that stand by themselves in other statements.
 pub struct Blocks;
 
-#[tactic(auto, unfolding(crate::specs::Place::at_place))]
 impl<N: PrintNode> PrintMember<Box<BlockStatement<N>>> for Blocks {
     ghost plain = { λ b. block_statement_row N.plain b.value };
 

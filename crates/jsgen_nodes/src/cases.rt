@@ -5,48 +5,43 @@ ghost use Rattle.jsgen_tree.specs.Rows.{switch_statement_row, switch_case_row, i
 ghost use Rattle.jsgen_model.specs.Items.{◌⊕◌, soft_space, soft_line};
 ghost use Rattle.jsgen_model.specs.Spell.{spell_statements, braces};
 ghost use Rattle.jsgen_printer.specs.Steps.{Lays};
-ghost use Rattle.jsgen_place.specs.Place.{settings_of};
-ghost use Rattle.jsgen_nodes.specs.Place.{at_place};
 
 use crate::PrintNode;
 use crate::bodies::print_body;
 use crate::sequences::Expressions;
 use crate::statements::Statements;
 use jsgen_lists::{PrintOnly, PrintStatement, print_braces, print_case, print_head};
-use jsgen_place::{Place, Settings};
+use jsgen_place::Place;
 use jsgen_printer::Printer;
 use jsgen_syntax::Precedence;
 use jsgen_tree::{StatementNode, SwitchCase, SwitchStatement};
 
-#[tactic(auto, unfolding(crate::specs::Place::at_place))]
 pub fn print_switch_statement<N: PrintNode>(
     node: &SwitchStatement<N>,
     p: &mut Printer<'_>,
     place: Place,
 )
-    ensures { Lays p.old p.new (at_place (switch_statement_row N.plain node.now) place) }
+    ensures { Lays p.old p.new (spell (switch_statement_row N.plain node.now) place) }
 {
-    let within = Place::in_brackets(Precedence::Lowest, place.settings);
+    let within = Place::in_brackets(Precedence::Lowest);
     p.print_indentation();
     print_head::<_, Expressions>("switch", &node.discriminant, p, within);
-    print_cases(&node.cases, p, place.settings);
+    print_cases(&node.cases, p);
 }
 
 // In braces, up to the end of the line.
-#[tactic(auto, unfolding(crate::specs::Place::at_place))]
-fn print_cases<N: PrintNode>(cases: &[SwitchCase<N>], p: &mut Printer<'_>, settings: Settings)
-    ensures { Lays p.old p.new (λ _. soft_space ⊕ (braces (trees (map (switch_case_row N.plain) cases.now))
-        (spell_statements (trees (map (switch_case_row N.plain) cases.now)) (settings_of settings)) ⊕ soft_line)) }
+fn print_cases<N: PrintNode>(cases: &[SwitchCase<N>], p: &mut Printer<'_>)
+    ensures { Lays p.old p.new (soft_space ⊕ (braces (trees (map (switch_case_row N.plain) cases.now))
+        (spell_statements (trees (map (switch_case_row N.plain) cases.now))) ⊕ soft_line)) }
 {
     p.print_soft_space();
-    print_braces::<_, Cases>(cases, p, settings);
+    print_braces::<_, Cases>(cases, p);
     p.print_soft_line();
 }
 
 /// Cases, one after another. None of them can become a directive.
 struct Cases;
 
-#[tactic(auto, unfolding(crate::specs::Place::at_place))]
 impl<N: PrintNode> PrintStatement<SwitchCase<N>> for Cases {
     ghost plain = { switch_case_row N.plain };
 
@@ -59,26 +54,23 @@ impl<N: PrintNode> PrintStatement<SwitchCase<N>> for Cases {
     }
 }
 
-#[tactic(auto, unfolding(crate::specs::Place::at_place))]
 pub fn print_switch_case<N: PrintNode>(node: &SwitchCase<N>, p: &mut Printer<'_>, place: Place)
-    ensures { Lays p.old p.new (at_place (switch_case_row N.plain node.now) place) }
+    ensures { Lays p.old p.new (spell (switch_case_row N.plain node.now) place) }
 {
     print_case::<_, _, Expressions, Only, Statements>(
         &node.test,
         &node.consequent,
         p,
-        place.settings,
     );
 }
 
 /// A statement that is the only one of its case.
 struct Only;
 
-#[tactic(auto, unfolding(crate::specs::Place::at_place))]
 impl<N: PrintNode> PrintOnly<StatementNode<N>> for Only {
     ghost plain = { in_statement N.plain };
 
-    fn print_only(statement: &StatementNode<N>, p: &mut Printer<'_>, settings: Settings) {
-        print_body(statement.get(), p, settings);
+    fn print_only(statement: &StatementNode<N>, p: &mut Printer<'_>) {
+        print_body(statement.get(), p);
     }
 }

@@ -5,8 +5,6 @@ ghost use Rattle.jsgen_model.specs.Punctuator.{question, colon};
 ghost use Rattle.jsgen_model.specs.Items.{◌⊕◌, soft_space, punctuator};
 ghost use Rattle.jsgen_model.specs.Spell.{spell, behind, in_front, in_brackets, with_calls, choice};
 ghost use Rattle.jsgen_printer.specs.Steps.{Lays};
-ghost use Rattle.jsgen_place.specs.Place.{place_of};
-ghost use Rattle.jsgen_nodes.specs.Place.{at_place};
 
 use crate::PrintNode;
 use crate::sequences::Expressions;
@@ -16,13 +14,12 @@ use jsgen_printer::Printer;
 use jsgen_syntax::Precedence;
 use jsgen_tree::{ConditionalExpression, ExpressionNode};
 
-#[tactic(auto, unfolding(crate::specs::Place::at_place))]
 pub fn print_conditional_expression<N: PrintNode>(
     node: &ConditionalExpression<N>,
     p: &mut Printer<'_>,
     place: Place,
 )
-    ensures { Lays p.old p.new (at_place (conditional_expression_row N.plain node.now) place) }
+    ensures { Lays p.old p.new (spell (conditional_expression_row N.plain node.now) place) }
 {
     let wrap = place.wraps(Precedence::Conditional);
     p.print_opening_if(wrap);
@@ -31,12 +28,11 @@ pub fn print_conditional_expression<N: PrintNode>(
 }
 
 // The test and both values, within the parentheses.
-#[tactic(auto, unfolding(crate::specs::Place::at_place))]
 fn print_choice<N: PrintNode>(node: &ConditionalExpression<N>, p: &mut Printer<'_>, place: Place)
-    ensures { Lays p.old p.new (λ pen. choice
-        (spell (in_expression N.plain node.now.test) (with_calls (in_front Conditional (place_of place pen))))
-        (spell (in_expression N.plain node.now.consequent) (in_brackets Yield (place_of place pen)))
-        (spell (in_expression N.plain node.now.alternate) (with_calls (behind Yield (place_of place pen))))) }
+    ensures { Lays p.old p.new (choice
+        (spell (in_expression N.plain node.now.test) (with_calls (child Conditional place)))
+        (spell (in_expression N.plain node.now.consequent) (in_brackets Yield))
+        (spell (in_expression N.plain node.now.alternate) (with_calls (child Yield place)))) }
 {
     node.test
         .get()
@@ -46,22 +42,20 @@ fn print_choice<N: PrintNode>(node: &ConditionalExpression<N>, p: &mut Printer<'
 }
 
 // What is chosen, behind `?`.
-#[tactic(auto, unfolding(crate::specs::Place::at_place))]
 fn print_consequent<N: PrintNode>(node: &ExpressionNode<N>, p: &mut Printer<'_>, place: Place)
-    ensures { Lays p.old p.new (λ pen. soft_space ⊕ (punctuator question ⊕ (soft_space
-        ⊕ spell (in_expression N.plain node.now) (in_brackets Yield (place_of place pen))))) }
+    ensures { Lays p.old p.new (soft_space ⊕ (punctuator question ⊕ (soft_space
+        ⊕ spell (in_expression N.plain node.now) (in_brackets Yield)))) }
 {
-    let within = Place::in_brackets(Precedence::Yield, place.settings);
+    let within = Place::in_brackets(Precedence::Yield);
     p.print_soft_space();
     p.print_question();
     print_behind_space::<_, Expressions>(node, p, within);
 }
 
 // What is chosen otherwise, behind `:`.
-#[tactic(auto, unfolding(crate::specs::Place::at_place))]
 fn print_alternate<N: PrintNode>(node: &ExpressionNode<N>, p: &mut Printer<'_>, place: Place)
-    ensures { Lays p.old p.new (λ pen. soft_space ⊕ (punctuator colon ⊕ (soft_space
-        ⊕ spell (in_expression N.plain node.now) (with_calls (behind Yield (place_of place pen)))))) }
+    ensures { Lays p.old p.new (soft_space ⊕ (punctuator colon ⊕ (soft_space
+        ⊕ spell (in_expression N.plain node.now) (with_calls (child Yield place))))) }
 {
     p.print_soft_space();
     p.print_colon();

@@ -11,9 +11,7 @@ ghost use Rattle.jsgen_model.specs.Items.{◌⊕◌, brackets, punctuator, soft_
 ghost use Rattle.jsgen_model.specs.Spell.{spell, spell_method, in_brackets, are_more, object_inside, spell_elements, ends_in_hole, comma_if, key_text, string_in};
 ghost use Rattle.jsgen_printer.specs.Printer.{pen_of};
 ghost use Rattle.jsgen_printer.specs.Steps.{Lays};
-ghost use Rattle.jsgen_place.specs.Place.{place_of};
 ghost use Rattle.jsgen_nodes.specs.Keys.{is_string, is_number, is_said, is_value_alone, key_of, valued_items, method_items};
-ghost use Rattle.jsgen_nodes.specs.Place.{at_place};
 
 use crate::PrintNode;
 use crate::links::print_identifier_name;
@@ -29,36 +27,33 @@ use jsgen_tree::{
     ObjectProperty, ObjectPropertyKind, PropertyKey, SpreadElement,
 };
 
-#[tactic(auto, unfolding(crate::specs::Place::at_place))]
 pub fn print_spread_element<N: PrintNode>(
     node: &SpreadElement<N>,
     p: &mut Printer<'_>,
     place: Place,
 )
-    ensures { Lays p.old p.new (at_place (spread_element_row N.plain node.now) place) }
+    ensures { Lays p.old p.new (spell (spread_element_row N.plain node.now) place) }
 {
     p.print_ellipsis();
     node.argument
         .get()
-        .print(p, Place::in_brackets(Precedence::Comma, place.settings));
+        .print(p, Place::in_brackets(Precedence::Comma));
 }
 
-#[tactic(auto, unfolding(crate::specs::Place::at_place))]
 pub fn print_array_expression<N: PrintNode>(
     node: &ArrayExpression<N>,
     p: &mut Printer<'_>,
     place: Place,
 )
-    ensures { Lays p.old p.new (at_place (array_expression_row N.plain node.now) place) }
+    ensures { Lays p.old p.new (spell (array_expression_row N.plain node.now) place) }
 {
-    let within = Place::in_brackets(Precedence::Comma, place.settings);
+    let within = Place::in_brackets(Precedence::Comma);
     print_array::<_, Elements>(&node.elements, p, within);
 }
 
 /// The elements of an array; one that is left out has nothing in its place.
 struct Elements;
 
-#[tactic(auto, unfolding(crate::specs::Place::at_place))]
 impl<N: PrintNode> PrintElement<Option<ArrayExpressionElement<N>>> for Elements {
     ghost plain = { option_map (in_array_expression_element N.plain) };
 
@@ -78,13 +73,12 @@ impl<N: PrintNode> PrintElement<Option<ArrayExpressionElement<N>>> for Elements 
     }
 }
 
-#[tactic(auto, unfolding(crate::specs::Place::at_place))]
 fn print_array_element<N: PrintNode>(
     element: &ArrayExpressionElement<N>,
     p: &mut Printer<'_>,
     place: Place,
 )
-    ensures { Lays p.old p.new (λ pen. spell (in_array_expression_element N.plain element.now) (place_of place pen)) }
+    ensures { Lays p.old p.new (spell (in_array_expression_element N.plain element.now) place) }
 {
     match element {
         ArrayExpressionElement::SpreadElement(node) => print_spread_element(node, p, place),
@@ -92,13 +86,12 @@ fn print_array_element<N: PrintNode>(
     }
 }
 
-#[tactic(auto, unfolding(crate::specs::Place::at_place))]
 pub fn print_object_expression<N: PrintNode>(
     node: &ObjectExpression<N>,
     p: &mut Printer<'_>,
     place: Place,
 )
-    ensures { Lays p.old p.new (at_place (object_expression_row N.plain node.now) place) }
+    ensures { Lays p.old p.new (spell (object_expression_row N.plain node.now) place) }
 {
     let wrap = p.bars_brace();
     p.print_opening_if(wrap);
@@ -107,24 +100,22 @@ pub fn print_object_expression<N: PrintNode>(
 }
 
 // The braces and what is in them.
-#[tactic(auto, unfolding(crate::specs::Place::at_place))]
 fn print_properties<N: PrintNode>(
     properties: &[ObjectPropertyKind<N>],
     p: &mut Printer<'_>,
     place: Place,
 )
-    ensures { Lays p.old p.new (λ pen. brackets Brace (object_inside (trees (map (in_object_property_kind N.plain) properties.now))
-        (spell_elements (are_more 1 (trees (map (in_object_property_kind N.plain) properties.now))) (trees (map (in_object_property_kind N.plain) properties.now)) (in_brackets Comma (place_of place pen))
+    ensures { Lays p.old p.new (brackets Brace (object_inside (trees (map (in_object_property_kind N.plain) properties.now))
+        (spell_elements (are_more 1 (trees (map (in_object_property_kind N.plain) properties.now))) (trees (map (in_object_property_kind N.plain) properties.now)) (in_brackets Comma)
         ⊕ comma_if (ends_in_hole (trees (map (in_object_property_kind N.plain) properties.now)))))) }
 {
-    let within = Place::in_brackets(Precedence::Comma, place.settings);
+    let within = Place::in_brackets(Precedence::Comma);
     print_object::<_, Properties>(properties, p, within);
 }
 
 /// The properties of an object, of which none is left out.
 struct Properties;
 
-#[tactic(auto, unfolding(crate::specs::Place::at_place))]
 impl<N: PrintNode> PrintElement<ObjectPropertyKind<N>> for Properties {
     ghost plain = { λ m. Some (in_object_property_kind N.plain m) };
 
@@ -141,13 +132,12 @@ impl<N: PrintNode> PrintElement<ObjectPropertyKind<N>> for Properties {
     }
 }
 
-#[tactic(auto, unfolding(crate::specs::Place::at_place))]
 pub fn print_object_property<N: PrintNode>(
     node: &ObjectProperty<N>,
     p: &mut Printer<'_>,
     place: Place,
 )
-    ensures { Lays p.old p.new (at_place (object_property_row N.plain node.now) place) }
+    ensures { Lays p.old p.new (spell (object_property_row N.plain node.now) place) }
 {
     if node.is_method() {
         print_method_property(node, p, place);
@@ -157,26 +147,23 @@ pub fn print_object_property<N: PrintNode>(
 }
 
 // A method or an accessor, whose function follows its key.
-#[tactic(auto, unfolding(crate::specs::Place::at_place))]
 fn print_method_property<N: PrintNode>(node: &ObjectProperty<N>, p: &mut Printer<'_>, place: Place)
-    ensures { Lays p.old p.new (λ pen. method_items node.now.kind node.now.computed (in_property_key N.plain node.now.key) (in_expression N.plain node.now.value) (place_of place pen)) }
+    ensures { Lays p.old p.new (method_items node.now.kind node.now.computed (in_property_key N.plain node.now.key) (in_expression N.plain node.now.value) place) }
 {
     print_accessor_word(node.kind, p);
     print_key_and_function(node, p, place);
 }
 
-#[tactic(auto, unfolding(crate::specs::Place::at_place))]
 fn print_key_and_function<N: PrintNode>(node: &ObjectProperty<N>, p: &mut Printer<'_>, place: Place)
-    ensures { Lays p.old p.new (λ pen. key_of node.now.computed (in_property_key N.plain node.now.key) (place_of place pen) ⊕ spell_method (in_expression N.plain node.now.value) (place_of place pen)) }
+    ensures { Lays p.old p.new (key_of node.now.computed (in_property_key N.plain node.now.key) place ⊕ spell_method (in_expression N.plain node.now.value) place) }
 {
     print_key(&node.key, node.computed, p, place);
     node.value.get().print_as_method(p, place);
 }
 
 // A property with a value: the value alone, or behind its key.
-#[tactic(auto, unfolding(crate::specs::Place::at_place))]
 fn print_valued_property<N: PrintNode>(node: &ObjectProperty<N>, p: &mut Printer<'_>, place: Place)
-    ensures { Lays p.old p.new (λ pen. valued_items node.now.shorthand node.now.computed (in_property_key N.plain node.now.key) (in_expression N.plain node.now.value) (place_of place pen)) }
+    ensures { Lays p.old p.new (valued_items node.now.shorthand node.now.computed (in_property_key N.plain node.now.key) (in_expression N.plain node.now.value) place) }
 {
     if is_value_alone(node, p) {
         node.value.get().print(p, place.child(Precedence::Comma));
@@ -186,10 +173,9 @@ fn print_valued_property<N: PrintNode>(node: &ObjectProperty<N>, p: &mut Printer
 }
 
 // With its key.
-#[tactic(auto, unfolding(crate::specs::Place::at_place))]
 fn print_whole_property<N: PrintNode>(node: &ObjectProperty<N>, p: &mut Printer<'_>, place: Place)
-    ensures { Lays p.old p.new (λ pen. key_of node.now.computed (in_property_key N.plain node.now.key) (place_of place pen)
-        ⊕ (punctuator colon ⊕ (soft_space ⊕ spell (in_expression N.plain node.now.value) (in_brackets Comma (place_of place pen))))) }
+    ensures { Lays p.old p.new (key_of node.now.computed (in_property_key N.plain node.now.key) place
+        ⊕ (punctuator colon ⊕ (soft_space ⊕ spell (in_expression N.plain node.now.value) (in_brackets Comma)))) }
 {
     print_key(&node.key, node.computed, p, place);
     print_property_value(&node.value, p, place);
@@ -225,9 +211,8 @@ fn key_name<N: PrintNode>(key: &PropertyKey<N>) -> Option<&str>
 }
 
 // In brackets where it needs them.
-#[tactic(auto, unfolding(crate::specs::Place::at_place))]
 fn print_key<N: PrintNode>(key: &PropertyKey<N>, computed: bool, p: &mut Printer<'_>, place: Place)
-    ensures { Lays p.old p.new (λ pen. key_of computed (in_property_key N.plain key.now) (place_of place pen)) }
+    ensures { Lays p.old p.new (key_of computed (in_property_key N.plain key.now) place) }
 {
     if needs_brackets(computed, is_negative_key(key)) {
         print_computed_key(key, p, place);
@@ -262,19 +247,17 @@ fn is_number(node_type: NodeType) -> bool
     matches!(node_type, NodeType::NumericLiteral)
 }
 
-#[tactic(auto, unfolding(crate::specs::Place::at_place))]
 fn print_computed_key<N: PrintNode>(key: &PropertyKey<N>, p: &mut Printer<'_>, place: Place)
-    ensures { Lays p.old p.new (λ pen. brackets Square (key_text (in_property_key N.plain key.now) (spell (in_property_key N.plain key.now) (in_brackets Comma (place_of place pen))))) }
+    ensures { Lays p.old p.new (brackets Square (key_text (in_property_key N.plain key.now) (spell (in_property_key N.plain key.now) (in_brackets Comma)))) }
 {
-    let within = Place::in_brackets(Precedence::Comma, place.settings);
+    let within = Place::in_brackets(Precedence::Comma);
     p.print_opening(Bracket::Square);
     print_key_text(key, p, within);
     p.print_closing(Bracket::Square);
 }
 
-#[tactic(auto, unfolding(crate::specs::Place::at_place))]
 pub fn print_key_text<N: PrintNode>(key: &PropertyKey<N>, p: &mut Printer<'_>, place: Place)
-    ensures { Lays p.old p.new (λ pen. key_text (in_property_key N.plain key.now) (spell (in_property_key N.plain key.now) (place_of place pen))) }
+    ensures { Lays p.old p.new (key_text (in_property_key N.plain key.now) (spell (in_property_key N.plain key.now) place)) }
 {
     match key {
         PropertyKey::IdentifierName(node) => print_identifier_name(node, p, place),
@@ -283,9 +266,8 @@ pub fn print_key_text<N: PrintNode>(key: &PropertyKey<N>, p: &mut Printer<'_>, p
 }
 
 // A string is never in backticks there.
-#[tactic(auto, unfolding(crate::specs::Place::at_place))]
 fn print_key_expression<N: PrintNode>(key: &ExpressionNode<N>, p: &mut Printer<'_>, place: Place)
-    ensures { Lays p.old p.new (λ pen. key_text (in_expression N.plain key.now) (spell (in_expression N.plain key.now) (place_of place pen))) }
+    ensures { Lays p.old p.new (key_text (in_expression N.plain key.now) (spell (in_expression N.plain key.now) place)) }
 {
     match key_string(key.get()) {
         Some(value) => p.print_string(value, false),
@@ -311,11 +293,10 @@ fn is_string(node_type: NodeType) -> bool
 }
 
 // Behind its key.
-#[tactic(auto, unfolding(crate::specs::Place::at_place))]
 fn print_property_value<N: PrintNode>(value: &ExpressionNode<N>, p: &mut Printer<'_>, place: Place)
-    ensures { Lays p.old p.new (λ pen. punctuator colon ⊕ (soft_space ⊕ spell (in_expression N.plain value.now) (in_brackets Comma (place_of place pen)))) }
+    ensures { Lays p.old p.new (punctuator colon ⊕ (soft_space ⊕ spell (in_expression N.plain value.now) (in_brackets Comma))) }
 {
-    let within = Place::in_brackets(Precedence::Comma, place.settings);
+    let within = Place::in_brackets(Precedence::Comma);
     p.print_colon();
     print_behind_space::<_, Expressions>(value, p, within);
 }

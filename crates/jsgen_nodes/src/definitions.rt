@@ -6,9 +6,7 @@ ghost use Rattle.jsgen_model.specs.Items.{◌⊕◌, wrapped};
 ghost use Rattle.jsgen_model.specs.Spell.{spell_method, spell_directives, spell_body, block_items, filled_braces, function_wraps, bars_function};
 ghost use Rattle.jsgen_printer.specs.Printer.{pen_of};
 ghost use Rattle.jsgen_printer.specs.Steps.{Lays};
-ghost use Rattle.jsgen_place.specs.Place.{place_of, settings_of};
 ghost use Rattle.jsgen_nodes.specs.Functions.{whole_function};
-ghost use Rattle.jsgen_nodes.specs.Place.{at_place};
 
 use crate::PrintNode;
 use crate::functions::print_parameters_in_brackets;
@@ -17,16 +15,15 @@ use jsgen_lists::{
     PrintMember, close_braces, open_braces, print_apart, print_body, print_empty_braces,
     print_if_given,
 };
-use jsgen_place::{Place, Settings};
+use jsgen_place::Place;
 use jsgen_printer::Printer;
 use jsgen_syntax::Precedence;
 use jsgen_tree::{
     BindingIdentifier, Directive, Function, FunctionBody, FunctionKind, StatementNode,
 };
 
-#[tactic(auto, unfolding(crate::specs::Place::at_place))]
 pub fn print_function<N: PrintNode>(node: &Function<N>, p: &mut Printer<'_>, place: Place)
-    ensures { Lays p.old p.new (at_place (function_row N.plain node.now) place) }
+    ensures { Lays p.old p.new (spell (function_row N.plain node.now) place) }
 {
     match node.kind {
         FunctionKind::Declaration => print_as_declaration(node, p, place),
@@ -35,9 +32,8 @@ pub fn print_function<N: PrintNode>(node: &Function<N>, p: &mut Printer<'_>, pla
 }
 
 // Among statements a line of its own.
-#[tactic(auto, unfolding(crate::specs::Place::at_place))]
 fn print_as_declaration<N: PrintNode>(node: &Function<N>, p: &mut Printer<'_>, place: Place)
-    ensures { Lays p.old p.new (λ pen. block_items place.in_list (whole_function (function_row N.plain node.now) (place_of place pen))) }
+    ensures { Lays p.old p.new (block_items place.in_list (whole_function (function_row N.plain node.now) place)) }
 {
     if place.in_list {
         p.print_indentation();
@@ -48,9 +44,8 @@ fn print_as_declaration<N: PrintNode>(node: &Function<N>, p: &mut Printer<'_>, p
     }
 }
 
-#[tactic(auto, unfolding(crate::specs::Place::at_place))]
 fn print_as_expression<N: PrintNode>(node: &Function<N>, p: &mut Printer<'_>, place: Place)
-    ensures { Lays p.old p.new (λ pen. wrapped (function_wraps node.now.pife (place_of place pen)) (whole_function (function_row N.plain node.now) (place_of place pen))) }
+    ensures { Lays p.old p.new (wrapped (function_wraps node.now.pife place) (whole_function (function_row N.plain node.now) place)) }
 {
     let wrap = is_in_parentheses(node.pife, p);
     p.print_opening_if(wrap);
@@ -66,9 +61,8 @@ fn is_in_parentheses(pife: bool, p: &Printer<'_>) -> bool
 }
 
 // From the word on.
-#[tactic(auto, unfolding(crate::specs::Place::at_place))]
 fn print_whole_function<N: PrintNode>(node: &Function<N>, p: &mut Printer<'_>, place: Place)
-    ensures { Lays p.old p.new (λ pen. whole_function (function_row N.plain node.now) (place_of place pen)) }
+    ensures { Lays p.old p.new (whole_function (function_row N.plain node.now) place) }
 {
     p.print_word("function");
     print_if_given::<_, Names>(&node.id, p, place.child(Precedence::Lowest));
@@ -78,7 +72,6 @@ fn print_whole_function<N: PrintNode>(node: &Function<N>, p: &mut Printer<'_>, p
 /// The names of functions.
 struct Names;
 
-#[tactic(auto, unfolding(crate::specs::Place::at_place))]
 impl PrintMember<Box<BindingIdentifier>> for Names {
     ghost plain = { λ b. binding_identifier_row b.value };
 
@@ -88,11 +81,10 @@ impl PrintMember<Box<BindingIdentifier>> for Names {
 }
 
 /// The parameters in parentheses, and the body.
-#[tactic(auto, unfolding(crate::specs::Place::at_place))]
 pub fn print_behind_name<N: PrintNode>(node: &Function<N>, p: &mut Printer<'_>, place: Place)
-    ensures { Lays p.old p.new (λ pen. spell_method (function_row N.plain node.now) (place_of place pen)) }
+    ensures { Lays p.old p.new (spell_method (function_row N.plain node.now) place) }
 {
-    let within = Place::within_statement(place.settings);
+    let within = Place::within_statement();
     print_parameters_in_brackets(&node.params, p, place.function_parameters());
     print_apart::<_, Bodies>(&node.body, p, within);
 }
@@ -102,7 +94,6 @@ pub fn print_behind_name<N: PrintNode>(node: &Function<N>, p: &mut Printer<'_>, 
 /// The bodies of functions.
 struct Bodies;
 
-#[tactic(auto, unfolding(crate::specs::Place::at_place))]
 impl<N: PrintNode> PrintMember<Box<FunctionBody<N>>> for Bodies {
     ghost plain = { λ b. function_body_row N.plain b.value };
 
@@ -112,14 +103,13 @@ impl<N: PrintNode> PrintMember<Box<FunctionBody<N>>> for Bodies {
 }
 
 /// Braces, of which empty ones have nothing within.
-#[tactic(auto, unfolding(crate::specs::Place::at_place))]
 pub fn print_function_body<N: PrintNode>(node: &FunctionBody<N>, p: &mut Printer<'_>, place: Place)
-    ensures { Lays p.old p.new (at_place (function_body_row N.plain node.now) place) }
+    ensures { Lays p.old p.new (spell (function_body_row N.plain node.now) place) }
 {
     if are_empty(&node.directives, &node.statements) {
         print_empty_braces(p);
     } else {
-        print_filled_body(node, p, place.settings);
+        print_filled_body(node, p);
     }
 }
 
@@ -129,26 +119,23 @@ fn are_empty<N>(directives: &[Directive], statements: &[StatementNode<N>]) -> bo
     directives.is_empty() && statements.is_empty()
 }
 
-#[tactic(auto, unfolding(crate::specs::Place::at_place))]
-fn print_filled_body<N: PrintNode>(node: &FunctionBody<N>, p: &mut Printer<'_>, settings: Settings)
-    ensures { Lays p.old p.new (λ _. filled_braces (spell_directives (trees (map directive_row node.now.directives.items)) (settings_of settings)
-        ⊕ spell_body (trees (map (in_statement N.plain) node.now.statements.items)) (settings_of settings))) }
+fn print_filled_body<N: PrintNode>(node: &FunctionBody<N>, p: &mut Printer<'_>)
+    ensures { Lays p.old p.new (filled_braces (spell_directives (trees (map directive_row node.now.directives.items))
+        ⊕ spell_body (trees (map (in_statement N.plain) node.now.statements.items)))) }
 {
     let depth = open_braces(p);
-    print_within_braces(node, p, settings);
+    print_within_braces(node, p);
     close_braces(p, depth);
 }
 
 // Directives, and statements behind them.
-#[tactic(auto, unfolding(crate::specs::Place::at_place))]
 fn print_within_braces<N: PrintNode>(
     node: &FunctionBody<N>,
     p: &mut Printer<'_>,
-    settings: Settings,
 )
-    ensures { Lays p.old p.new (λ _. spell_directives (trees (map directive_row node.now.directives.items)) (settings_of settings)
-        ⊕ spell_body (trees (map (in_statement N.plain) node.now.statements.items)) (settings_of settings)) }
+    ensures { Lays p.old p.new (spell_directives (trees (map directive_row node.now.directives.items))
+        ⊕ spell_body (trees (map (in_statement N.plain) node.now.statements.items))) }
 {
-    print_directives(&node.directives, p, settings);
-    print_body::<_, Statements>(&node.statements, p, settings);
+    print_directives(&node.directives, p);
+    print_body::<_, Statements>(&node.statements, p);
 }

@@ -7,8 +7,6 @@ ghost use Rattle.jsgen_model.specs.Spell.{spell, signed, left_of, behind, left_l
 ghost use Rattle.jsgen_model.specs.Operators.{operator_item, logical_item};
 ghost use Rattle.jsgen_model.specs.Quotes.{is_export_mark};
 ghost use Rattle.jsgen_printer.specs.Steps.{Lays};
-ghost use Rattle.jsgen_place.specs.Place.{place_of};
-ghost use Rattle.jsgen_nodes.specs.Place.{at_place};
 
 use crate::PrintNode;
 use crate::quotes::is_mark;
@@ -23,43 +21,38 @@ use jsgen_tree::{
     ThisExpression, behind_minus,
 };
 
-#[tactic(auto, unfolding(crate::specs::Place::at_place))]
 pub fn print_identifier_reference(node: &IdentifierReference, p: &mut Printer<'_>, place: Place)
-    ensures { Lays p.old p.new (at_place (identifier_reference_row node.now) place) }
+    ensures { Lays p.old p.new (spell (identifier_reference_row node.now) place) }
 {
     let _ = place;
     p.print_reference(node.name.as_str(), node.reference);
 }
 
-#[tactic(auto, unfolding(crate::specs::Place::at_place))]
 pub fn print_this_expression(node: &ThisExpression, p: &mut Printer<'_>, place: Place)
-    ensures { Lays p.old p.new (at_place (this_expression_row node.now) place) }
+    ensures { Lays p.old p.new (spell (this_expression_row node.now) place) }
 {
     let _ = node;
     let _ = place;
     p.print_word("this");
 }
 
-#[tactic(auto, unfolding(crate::specs::Place::at_place))]
 pub fn print_null_literal(node: &NullLiteral, p: &mut Printer<'_>, place: Place)
-    ensures { Lays p.old p.new (at_place (null_literal_row node.now) place) }
+    ensures { Lays p.old p.new (spell (null_literal_row node.now) place) }
 {
     let _ = node;
     let _ = place;
     p.print_word("null");
 }
 
-#[tactic(auto, unfolding(crate::specs::Place::at_place))]
 pub fn print_boolean_literal(node: &BooleanLiteral, p: &mut Printer<'_>, place: Place)
-    ensures { Lays p.old p.new (at_place (boolean_literal_row node.now) place) }
+    ensures { Lays p.old p.new (spell (boolean_literal_row node.now) place) }
 {
     let _ = place;
     p.print_word(if node.value { "true" } else { "false" });
 }
 
-#[tactic(auto, unfolding(crate::specs::Place::at_place))]
 pub fn print_numeric_literal(node: &NumericLiteral, p: &mut Printer<'_>, place: Place)
-    ensures { Lays p.old p.new (at_place (numeric_literal_row node.now) place) }
+    ensures { Lays p.old p.new (spell (numeric_literal_row node.now) place) }
 {
     match &node.value {
         NumericValue::Whole { negative, digits } => print_whole(*negative, *digits, p, place),
@@ -67,9 +60,8 @@ pub fn print_numeric_literal(node: &NumericLiteral, p: &mut Printer<'_>, place: 
     }
 }
 
-#[tactic(auto)]
 fn print_whole(negative: bool, digits: u128, p: &mut Printer<'_>, place: Place)
-    ensures { Lays p.old p.new (λ pen. signed true negative (decimal digits) (place_of place pen)) }
+    ensures { Lays p.old p.new (signed true negative (decimal digits) place) }
 {
     if negative {
         p.print_negative_whole_number(place.wraps_negative(), digits);
@@ -78,9 +70,8 @@ fn print_whole(negative: bool, digits: u128, p: &mut Printer<'_>, place: Place)
     }
 }
 
-#[tactic(auto, unfolding(crate::specs::Place::at_place))]
 pub fn print_big_int_literal(node: &BigIntLiteral, p: &mut Printer<'_>, place: Place)
-    ensures { Lays p.old p.new (at_place (big_int_literal_row node.now) place) }
+    ensures { Lays p.old p.new (spell (big_int_literal_row node.now) place) }
 {
     let value = node.value.as_str();
     match behind_minus(value) {
@@ -89,32 +80,29 @@ pub fn print_big_int_literal(node: &BigIntLiteral, p: &mut Printer<'_>, place: P
     }
 }
 
-#[tactic(auto, unfolding(crate::specs::Place::at_place))]
 pub fn print_string_literal(node: &StringLiteral, p: &mut Printer<'_>, place: Place)
-    ensures { Lays p.old p.new (at_place (string_literal_row node.now) place) }
+    ensures { Lays p.old p.new (spell (string_literal_row node.now) place) }
 {
     p.print_string(&node.value, !place.plain_quotes);
 }
 
 /// The printer sets parentheses by levels alone, and prints none for this node.
-#[tactic(auto, unfolding(crate::specs::Place::at_place))]
 pub fn print_parenthesized_expression<N: PrintNode>(
     node: &ParenthesizedExpression<N>,
     p: &mut Printer<'_>,
     place: Place,
 )
-    ensures { Lays p.old p.new (at_place (parenthesized_expression_row N.plain node.now) place) }
+    ensures { Lays p.old p.new (spell (parenthesized_expression_row N.plain node.now) place) }
 {
     node.expression.get().print(p, place);
 }
 
-#[tactic(auto, unfolding(crate::specs::Place::at_place))]
 pub fn print_binary_expression<N: PrintNode>(
     node: &BinaryExpression<N>,
     p: &mut Printer<'_>,
     place: Place,
 )
-    ensures { Lays p.old p.new (at_place (binary_expression_row N.plain node.now) place) }
+    ensures { Lays p.old p.new (spell (binary_expression_row N.plain node.now) place) }
 {
     let wrap = place.wraps_binary(node.operator);
     p.print_opening_if(wrap);
@@ -123,38 +111,36 @@ pub fn print_binary_expression<N: PrintNode>(
 }
 
 // Both operands and the operator between them, within the parentheses.
-#[tactic(auto, unfolding(crate::specs::Place::at_place))]
 fn print_binary_operation<N: PrintNode>(
     node: &BinaryExpression<N>,
     p: &mut Printer<'_>,
     place: Place,
 )
-    ensures { Lays p.old p.new (λ pen. spell (in_expression N.plain node.now.left)
-        (quoted_plainly (is_export_mark place.settings.minified node.now.operator (in_expression N.plain node.now.left))
-        (left_of (left_level node.now.operator (in_expression N.plain node.now.left)) (place_of place pen)))
+    ensures { Lays p.old p.new (spell (in_expression N.plain node.now.left)
+        (quoted_plainly (is_export_mark node.now.operator (in_expression N.plain node.now.left))
+        (left_operand (left_level node.now.operator (in_expression N.plain node.now.left)) place))
         ⊕ (soft_space ⊕ (operator_item node.now.operator ⊕ (soft_space
         ⊕ spell (in_expression N.plain node.now.right)
-        (quoted_plainly (is_export_mark place.settings.minified node.now.operator (in_expression N.plain node.now.right))
-        (behind (right_level node.now.operator) (place_of place pen))))))) }
+        (quoted_plainly (is_export_mark node.now.operator (in_expression N.plain node.now.right))
+        (child (right_level node.now.operator) place)))))) }
 {
     let left = node.left.get();
     let level = left_level(node.operator, left.operand());
-    let quoted = is_mark(place.settings.minified, node.operator, left);
+    let quoted = is_mark(node.operator, left);
     left.print(p, place.left_operand(level).quoted_plainly(quoted));
     p.print_soft_space();
     p.print_operator(node.operator);
-    let quoted = is_mark(place.settings.minified, node.operator, node.right.get());
+    let quoted = is_mark(node.operator, node.right.get());
     let below = place.child(right_level(node.operator));
     print_behind_space::<_, Expressions>(&node.right, p, below.quoted_plainly(quoted));
 }
 
-#[tactic(auto, unfolding(crate::specs::Place::at_place))]
 pub fn print_logical_expression<N: PrintNode>(
     node: &LogicalExpression<N>,
     p: &mut Printer<'_>,
     place: Place,
 )
-    ensures { Lays p.old p.new (at_place (logical_expression_row N.plain node.now) place) }
+    ensures { Lays p.old p.new (spell (logical_expression_row N.plain node.now) place) }
 {
     let wrap = place.wraps_logical(node.operator);
     p.print_opening_if(wrap);
@@ -163,19 +149,18 @@ pub fn print_logical_expression<N: PrintNode>(
 }
 
 // Both operands and the operator between them, within the parentheses.
-#[tactic(auto, unfolding(crate::specs::Place::at_place))]
 fn print_logical_operation<N: PrintNode>(
     node: &LogicalExpression<N>,
     p: &mut Printer<'_>,
     place: Place,
 )
-    ensures { Lays p.old p.new (λ pen. spell (in_expression N.plain node.now.left)
-        (left_of (unmixed node.now.operator (in_expression N.plain node.now.left) (logical_lower_level node.now.operator))
-        (place_of place pen))
+    ensures { Lays p.old p.new (spell (in_expression N.plain node.now.left)
+        (left_operand (unmixed node.now.operator (in_expression N.plain node.now.left) (logical_lower_level node.now.operator))
+        place)
         ⊕ (soft_space ⊕ (logical_item node.now.operator ⊕ (soft_space
         ⊕ spell (in_expression N.plain node.now.right)
-        (behind (unmixed node.now.operator (in_expression N.plain node.now.right) (logical_level node.now.operator))
-        (place_of place pen)))))) }
+        (child (unmixed node.now.operator (in_expression N.plain node.now.right) (logical_level node.now.operator))
+        place))))) }
 {
     let left = node.left.get();
     let level = unmixed(

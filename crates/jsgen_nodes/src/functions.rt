@@ -6,16 +6,13 @@ ghost use Rattle.jsgen_model.specs.Punctuator.{arrow, Round};
 ghost use Rattle.jsgen_model.specs.Items.{◌⊕◌, soft_space, punctuator, brackets};
 ghost use Rattle.jsgen_model.specs.Spell.{spell, is_name_alone, is_bare, parameter_items, parameters_place, body_begins, arrow_body_place};
 ghost use Rattle.jsgen_printer.specs.Steps.{Lays};
-ghost use Rattle.jsgen_place.specs.Place.{place_of, settings_of};
-ghost use Rattle.jsgen_lists.specs.Lists.{listed};
 ghost use Rattle.jsgen_nodes.specs.Alone.{parameter_parts};
 ghost use Rattle.jsgen_nodes.specs.Names.{is_name_parameter};
-ghost use Rattle.jsgen_nodes.specs.Place.{at_place};
 
 use crate::PrintNode;
 use crate::definitions::print_function_body;
 use crate::sequences::Expressions;
-use jsgen_lists::{PrintMember, print_comma_between, print_if_given, print_parts, print_value};
+use jsgen_lists::{PrintMember, print_comma_between, print_if_given, print_list, print_value};
 use jsgen_place::{Place, is_bare};
 use jsgen_printer::{Bracket, Printer};
 use jsgen_syntax::Precedence;
@@ -26,25 +23,23 @@ use jsgen_tree::{
 
 // ---- parameters
 
-#[tactic(auto, unfolding(crate::specs::Place::at_place))]
 pub fn print_formal_parameter<N: PrintNode>(
     node: &FormalParameter<N>,
     p: &mut Printer<'_>,
     place: Place,
 )
-    ensures { Lays p.old p.new (at_place (formal_parameter_row N.plain node.now) place) }
+    ensures { Lays p.old p.new (spell (formal_parameter_row N.plain node.now) place) }
 {
     node.pattern.get().print(p, place.child(Precedence::Lowest));
     print_value::<_, Expressions>(&node.initializer, p, place.child(Precedence::Comma));
 }
 
-#[tactic(auto, unfolding(crate::specs::Place::at_place))]
 pub fn print_formal_parameter_rest<N: PrintNode>(
     node: &FormalParameterRest<N>,
     p: &mut Printer<'_>,
     place: Place,
 )
-    ensures { Lays p.old p.new (at_place (formal_parameter_rest_row N.plain node.now) place) }
+    ensures { Lays p.old p.new (spell (formal_parameter_rest_row N.plain node.now) place) }
 {
     p.print_ellipsis();
     node.argument
@@ -53,15 +48,14 @@ pub fn print_formal_parameter_rest<N: PrintNode>(
 }
 
 /// Parameters, of which the first begins where they do.
-#[tactic(auto, unfolding(crate::specs::Place::at_place))]
 pub fn print_formal_parameters<N: PrintNode>(
     node: &FormalParameters<N>,
     p: &mut Printer<'_>,
     place: Place,
 )
-    ensures { Lays p.old p.new (λ pen. parameter_parts (formal_parameters_row N.plain node.now) (place_of place pen)) }
+    ensures { Lays p.old p.new (parameter_parts (formal_parameters_row N.plain node.now) place) }
 {
-    print_parts::<_, Parameters>(&node.items, p, place);
+    print_list::<_, Parameters>(&node.items, p, place);
     print_comma_between::<_, _, Parameters, Rest>(&node.items, &node.rest, p);
     print_if_given::<_, Rest>(&node.rest, p, place);
 }
@@ -69,7 +63,6 @@ pub fn print_formal_parameters<N: PrintNode>(
 /// The parameters of a function.
 struct Parameters;
 
-#[tactic(auto, unfolding(crate::specs::Place::at_place))]
 impl<N: PrintNode> PrintMember<FormalParameter<N>> for Parameters {
     ghost plain = { formal_parameter_row N.plain };
 
@@ -81,7 +74,6 @@ impl<N: PrintNode> PrintMember<FormalParameter<N>> for Parameters {
 /// The parameter that takes what the others leave.
 struct Rest;
 
-#[tactic(auto, unfolding(crate::specs::Place::at_place))]
 impl<N: PrintNode> PrintMember<Box<FormalParameterRest<N>>> for Rest {
     ghost plain = { λ b. formal_parameter_rest_row N.plain b.value };
 
@@ -92,13 +84,12 @@ impl<N: PrintNode> PrintMember<Box<FormalParameterRest<N>>> for Rest {
 
 // ---- arrow functions
 
-#[tactic(auto, unfolding(crate::specs::Place::at_place))]
 pub fn print_arrow_function_expression<N: PrintNode>(
     node: &ArrowFunctionExpression<N>,
     p: &mut Printer<'_>,
     place: Place,
 )
-    ensures { Lays p.old p.new (at_place (arrow_function_expression_row N.plain node.now) place) }
+    ensures { Lays p.old p.new (spell (arrow_function_expression_row N.plain node.now) place) }
 {
     let wrap = place.wraps_arrow(node.pife);
     p.print_opening_if(wrap);
@@ -107,26 +98,24 @@ pub fn print_arrow_function_expression<N: PrintNode>(
 }
 
 // The parameters, the arrow and the body, within the parentheses.
-#[tactic(auto, unfolding(crate::specs::Place::at_place))]
 fn print_arrow<N: PrintNode>(node: &ArrowFunctionExpression<N>, p: &mut Printer<'_>, place: Place)
-    ensures { Lays p.old p.new (λ pen. parameter_items (is_bare (settings_of place.settings) (formal_parameters_row N.plain node.now.params.value))
-        (spell (formal_parameters_row N.plain node.now.params.value) (parameters_place (place_of place pen)))
+    ensures { Lays p.old p.new (parameter_items (is_bare (settings_of place.settings) (formal_parameters_row N.plain node.now.params.value))
+        (spell (formal_parameters_row N.plain node.now.params.value) (parameters_place place))
         ⊕ (soft_space ⊕ (punctuator arrow ⊕ (soft_space ⊕ (body_begins (type_of (in_arrow_function_body N.plain node.now.body))
-        ⊕ spell (in_arrow_function_body N.plain node.now.body) (arrow_body_place (place_of place pen))))))) }
+        ⊕ spell (in_arrow_function_body N.plain node.now.body) (arrow_body_place place)))))) }
 {
     print_arrow_parameters(&node.params, p, place);
     print_behind_parameters(&node.body, p, place);
 }
 
 // A name alone, or parameters in parentheses.
-#[tactic(auto, unfolding(crate::specs::Place::at_place))]
 fn print_arrow_parameters<N: PrintNode>(
     parameters: &FormalParameters<N>,
     p: &mut Printer<'_>,
     place: Place,
 )
-    ensures { Lays p.old p.new (λ pen. parameter_items (is_bare (settings_of place.settings) (formal_parameters_row N.plain parameters.now))
-        (spell (formal_parameters_row N.plain parameters.now) (parameters_place (place_of place pen)))) }
+    ensures { Lays p.old p.new (parameter_items (is_bare (settings_of place.settings) (formal_parameters_row N.plain parameters.now))
+        (spell (formal_parameters_row N.plain parameters.now) (parameters_place place))) }
 {
     if is_bare(place.settings, is_name_alone(parameters)) {
         print_formal_parameters(parameters, p, place.parameters());
@@ -136,13 +125,12 @@ fn print_arrow_parameters<N: PrintNode>(
 }
 
 /// Parameters, of which this is the place, in parentheses.
-#[tactic(auto, unfolding(crate::specs::Place::at_place))]
 pub fn print_parameters_in_brackets<N: PrintNode>(
     parameters: &FormalParameters<N>,
     p: &mut Printer<'_>,
     place: Place,
 )
-    ensures { Lays p.old p.new (λ _. brackets Round (spell (formal_parameters_row N.plain parameters.now) (listed place))) }
+    ensures { Lays p.old p.new (brackets Round (spell (formal_parameters_row N.plain parameters.now) place)) }
 {
     p.print_opening(Bracket::Round);
     print_formal_parameters(parameters, p, place);
@@ -165,14 +153,13 @@ fn is_name<N: PrintNode>(parameter: &FormalParameter<N>) -> bool
 }
 
 // The arrow, and the body behind it.
-#[tactic(auto, unfolding(crate::specs::Place::at_place))]
 fn print_behind_parameters<N: PrintNode>(
     body: &ArrowFunctionBody<N>,
     p: &mut Printer<'_>,
     place: Place,
 )
-    ensures { Lays p.old p.new (λ pen. soft_space ⊕ (punctuator arrow ⊕ (soft_space ⊕ (body_begins (type_of (in_arrow_function_body N.plain body.now))
-        ⊕ spell (in_arrow_function_body N.plain body.now) (arrow_body_place (place_of place pen)))))) }
+    ensures { Lays p.old p.new (soft_space ⊕ (punctuator arrow ⊕ (soft_space ⊕ (body_begins (type_of (in_arrow_function_body N.plain body.now))
+        ⊕ spell (in_arrow_function_body N.plain body.now) (arrow_body_place place))))) }
 {
     p.print_soft_space();
     p.print_arrow();
@@ -183,7 +170,7 @@ fn print_behind_parameters<N: PrintNode>(
 
 // An expression begins there, and a body in braces doesn't.
 fn begin_body(body: NodeType, p: &mut Printer<'_>)
-    ensures { Lays p.old p.new (λ _. body_begins body) }
+    ensures { Lays p.old p.new (body_begins body) }
 {
     match body {
         NodeType::FunctionBody => {}
@@ -200,13 +187,12 @@ fn body_type<N: PrintNode>(body: &ArrowFunctionBody<N>) -> NodeType
     }
 }
 
-#[tactic(auto, unfolding(crate::specs::Place::at_place))]
 fn print_arrow_function_body<N: PrintNode>(
     body: &ArrowFunctionBody<N>,
     p: &mut Printer<'_>,
     place: Place,
 )
-    ensures { Lays p.old p.new (at_place (in_arrow_function_body N.plain body.now) place) }
+    ensures { Lays p.old p.new (spell (in_arrow_function_body N.plain body.now) place) }
 {
     match body {
         ArrowFunctionBody::FunctionBody(node) => print_function_body(node, p, place),

@@ -7,11 +7,9 @@ ghost use Rattle.jsgen_model.specs.Punctuator.{Round};
 ghost use Rattle.jsgen_model.specs.Items.{◌⊕◌, word, brackets, soft_space};
 ghost use Rattle.jsgen_model.specs.Spell.{apart_from_of};
 ghost use Rattle.jsgen_printer.specs.Printer.{pen_of};
-ghost use Rattle.jsgen_printer.specs.Steps.{Lays, BeginsNothing};
-ghost use Rattle.jsgen_place.specs.Place.{settings_of};
+ghost use Rattle.jsgen_printer.specs.Steps.{Lays};
 ghost use Rattle.jsgen_nodes.specs.Keys.{is_said};
 ghost use Rattle.jsgen_nodes.specs.Loops.{left_of, in_parts, of_parts};
-ghost use Rattle.jsgen_nodes.specs.Place.{at_place};
 
 use crate::PrintNode;
 use crate::bodies::print_body;
@@ -21,92 +19,82 @@ use crate::loops::print_for;
 use crate::sequences::Expressions;
 use crate::statements::print_variable_declaration;
 use jsgen_lists::print_behind_spaced_word;
-use jsgen_place::{Place, Settings};
+use jsgen_place::Place;
 use jsgen_printer::{Bracket, Printer};
 use jsgen_syntax::Precedence;
 use jsgen_tree::{ForInStatement, ForOfStatement, ForStatementLeft};
 
-#[tactic(auto, unfolding(crate::specs::Place::at_place))]
 pub fn print_for_in_statement<N: PrintNode>(
     node: &ForInStatement<N>,
     p: &mut Printer<'_>,
     place: Place,
 )
-    ensures { Lays p.old p.new (at_place (for_in_statement_row N.plain node.now) place) }
+    ensures { Lays p.old p.new (spell (for_in_statement_row N.plain node.now) place) }
 {
     p.print_indentation();
-    print_in_head(node, p, place.settings);
-    print_body(node.body.get(), p, place.settings);
+    print_in_head(node, p);
+    print_body(node.body.get(), p);
 }
 
 // The word and what stands in the parentheses behind it.
-#[tactic(auto, unfolding(crate::specs::Place::at_place))]
-fn print_in_head<N: PrintNode>(node: &ForInStatement<N>, p: &mut Printer<'_>, settings: Settings)
-    ensures { Lays p.old p.new (λ _. (word (codes "for") ⊕ soft_space) ⊕ brackets Round (in_parts (in_for_statement_left N.plain node.now.left) (in_expression N.plain node.now.right) (settings_of settings))) }
+fn print_in_head<N: PrintNode>(node: &ForInStatement<N>, p: &mut Printer<'_>)
+    ensures { Lays p.old p.new ((word (codes "for") ⊕ soft_space) ⊕ brackets Round (in_parts (in_for_statement_left N.plain node.now.left) (in_expression N.plain node.now.right))) }
 {
     print_for(p);
     p.print_opening(Bracket::Round);
-    print_in_parts(node, p, settings);
+    print_in_parts(node, p);
     p.print_closing(Bracket::Round);
 }
 
-#[tactic(auto, unfolding(crate::specs::Place::at_place))]
-fn print_in_parts<N: PrintNode>(node: &ForInStatement<N>, p: &mut Printer<'_>, settings: Settings)
-    requires { BeginsNothing p.old }
-    ensures { Lays p.old p.new (λ _. in_parts (in_for_statement_left N.plain node.now.left) (in_expression N.plain node.now.right) (settings_of settings)) }
+fn print_in_parts<N: PrintNode>(node: &ForInStatement<N>, p: &mut Printer<'_>)
+    ensures { Lays p.old p.new (in_parts (in_for_statement_left N.plain node.now.left) (in_expression N.plain node.now.right)) }
 {
-    let within = Place::in_brackets(Precedence::Lowest, settings);
-    print_left(&node.left, p, settings);
+    let within = Place::in_brackets(Precedence::Lowest);
+    print_left(&node.left, p);
     print_behind_spaced_word::<_, Expressions>("in", &node.right, p, within);
 }
 
-#[tactic(auto, unfolding(crate::specs::Place::at_place))]
 pub fn print_for_of_statement<N: PrintNode>(
     node: &ForOfStatement<N>,
     p: &mut Printer<'_>,
     place: Place,
 )
-    ensures { Lays p.old p.new (at_place (for_of_statement_row N.plain node.now) place) }
+    ensures { Lays p.old p.new (spell (for_of_statement_row N.plain node.now) place) }
 {
     p.print_indentation();
-    print_of_head(node, p, place.settings);
-    print_body(node.body.get(), p, place.settings);
+    print_of_head(node, p);
+    print_body(node.body.get(), p);
 }
 
 // The word and what stands in the parentheses behind it.
-#[tactic(auto, unfolding(crate::specs::Place::at_place))]
-fn print_of_head<N: PrintNode>(node: &ForOfStatement<N>, p: &mut Printer<'_>, settings: Settings)
-    ensures { Lays p.old p.new (λ _. (word (codes "for") ⊕ soft_space) ⊕ brackets Round (of_parts (in_for_statement_left N.plain node.now.left) (in_expression N.plain node.now.right) (settings_of settings))) }
+fn print_of_head<N: PrintNode>(node: &ForOfStatement<N>, p: &mut Printer<'_>)
+    ensures { Lays p.old p.new ((word (codes "for") ⊕ soft_space) ⊕ brackets Round (of_parts (in_for_statement_left N.plain node.now.left) (in_expression N.plain node.now.right))) }
 {
     print_for(p);
     p.print_opening(Bracket::Round);
-    print_of_parts(node, p, settings);
+    print_of_parts(node, p);
     p.print_closing(Bracket::Round);
 }
 
-#[tactic(auto, unfolding(crate::specs::Place::at_place))]
-fn print_of_parts<N: PrintNode>(node: &ForOfStatement<N>, p: &mut Printer<'_>, settings: Settings)
-    requires { BeginsNothing p.old }
-    ensures { Lays p.old p.new (λ _. of_parts (in_for_statement_left N.plain node.now.left) (in_expression N.plain node.now.right) (settings_of settings)) }
+fn print_of_parts<N: PrintNode>(node: &ForOfStatement<N>, p: &mut Printer<'_>)
+    ensures { Lays p.old p.new (of_parts (in_for_statement_left N.plain node.now.left) (in_expression N.plain node.now.right)) }
 {
-    let within = Place::in_brackets(Precedence::Comma, settings);
-    print_apart_from_of(&node.left, p, settings);
+    let within = Place::in_brackets(Precedence::Comma);
+    print_apart_from_of(&node.left, p);
     print_behind_spaced_word::<_, Expressions>("of", &node.right, p, within);
 }
 
 // ---- what the loop gives each of them
 
-#[tactic(auto, unfolding(crate::specs::Place::at_place))]
-fn print_left<N: PrintNode>(left: &ForStatementLeft<N>, p: &mut Printer<'_>, settings: Settings)
-    requires { BeginsNothing p.old }
-    ensures { Lays p.old p.new (λ _. left_of (in_for_statement_left N.plain left.now) (settings_of settings)) }
+fn print_left<N: PrintNode>(left: &ForStatementLeft<N>, p: &mut Printer<'_>)
+    ensures { Lays p.old p.new (left_of (in_for_statement_left N.plain left.now)) }
 {
-    let target = Place::in_brackets(Precedence::Comma, settings);
+    let target = Place::in_brackets(Precedence::Comma);
     match left {
         ForStatementLeft::VariableDeclaration(node) => print_variable_declaration(
             node,
             p,
-            Place::loop_head(settings),
+            Place::loop_head(),
         ),
         ForStatementLeft::IdentifierReference(node) => print_identifier_reference(node, p, target),
         ForStatementLeft::StaticMemberExpression(node) => print_static_member_expression(
@@ -119,32 +107,27 @@ fn print_left<N: PrintNode>(left: &ForStatementLeft<N>, p: &mut Printer<'_>, set
 }
 
 // A target that is printed as `async` stands in parentheses before `of`.
-#[tactic(auto, unfolding(crate::specs::Place::at_place))]
 fn print_apart_from_of<N: PrintNode>(
     left: &ForStatementLeft<N>,
     p: &mut Printer<'_>,
-    settings: Settings,
 )
-    requires { BeginsNothing p.old }
-    ensures { Lays p.old p.new (λ _. apart_from_of (looked_up_in (in_for_statement_left N.plain left.now)) (left_of (in_for_statement_left N.plain left.now) (settings_of settings))) }
+    ensures { Lays p.old p.new (apart_from_of (looked_up_in (in_for_statement_left N.plain left.now)) (left_operand (in_for_statement_left N.plain left.now))) }
 {
     if is_async(left, p) {
-        print_left_in_parentheses(left, p, settings);
+        print_left_in_parentheses(left, p);
     } else {
-        print_left(left, p, settings);
+        print_left(left, p);
     }
 }
 
-#[tactic(auto, unfolding(crate::specs::Place::at_place))]
 fn print_left_in_parentheses<N: PrintNode>(
     left: &ForStatementLeft<N>,
     p: &mut Printer<'_>,
-    settings: Settings,
 )
-    ensures { Lays p.old p.new (λ _. brackets Round (left_of (in_for_statement_left N.plain left.now) (settings_of settings))) }
+    ensures { Lays p.old p.new (brackets Round (left_operand (in_for_statement_left N.plain left.now))) }
 {
     p.print_opening(Bracket::Round);
-    print_left(left, p, settings);
+    print_left(left, p);
     p.print_closing(Bracket::Round);
 }
 

@@ -5,7 +5,6 @@ ghost use Rattle.jsgen_tree.specs.Rows.{label_identifier_row, labeled_statement_
 ghost use Rattle.jsgen_model.specs.Punctuator.{colon};
 ghost use Rattle.jsgen_model.specs.Items.{◌⊕◌, name, punctuator};
 ghost use Rattle.jsgen_printer.specs.Steps.{Lays};
-ghost use Rattle.jsgen_nodes.specs.Place.{at_place};
 
 use crate::PrintNode;
 use crate::bodies::print_body;
@@ -19,47 +18,42 @@ use jsgen_tree::{
     ReturnStatement, ThrowStatement,
 };
 
-#[tactic(auto, unfolding(crate::specs::Place::at_place))]
 pub fn print_label_identifier(node: &LabelIdentifier, p: &mut Printer<'_>, place: Place)
-    ensures { Lays p.old p.new (at_place (label_identifier_row node.now) place) }
+    ensures { Lays p.old p.new (spell (label_identifier_row node.now) place) }
 {
     let _ = place;
     p.print_name(node.name.as_str());
 }
 
-#[tactic(auto, unfolding(crate::specs::Place::at_place))]
 pub fn print_labeled_statement<N: PrintNode>(
     node: &LabeledStatement<N>,
     p: &mut Printer<'_>,
     place: Place,
 )
-    ensures { Lays p.old p.new (at_place (labeled_statement_row N.plain node.now) place) }
+    ensures { Lays p.old p.new (spell (labeled_statement_row N.plain node.now) place) }
 {
     p.print_indentation();
     print_label(&node.label, p, place);
-    print_body(node.body.get(), p, place.settings);
+    print_body(node.body.get(), p);
 }
 
 // A label and its colon.
-#[tactic(auto, unfolding(crate::specs::Place::at_place))]
 fn print_label(label: &LabelIdentifier, p: &mut Printer<'_>, place: Place)
-    ensures { Lays p.old p.new (λ _. name (as_written (characters label.now.name)) ⊕ punctuator colon) }
+    ensures { Lays p.old p.new (name (as_written (characters label.now.name)) ⊕ punctuator colon) }
 {
     print_label_identifier(label, p, place);
     p.print_colon();
 }
 
-#[tactic(auto, unfolding(crate::specs::Place::at_place))]
 pub fn print_continue_statement(node: &ContinueStatement, p: &mut Printer<'_>, place: Place)
-    ensures { Lays p.old p.new (at_place (continue_statement_row node.now) place) }
+    ensures { Lays p.old p.new (spell (continue_statement_row node.now) place) }
 {
     p.print_indentation();
     print_jump::<_, Labels>("continue", &node.label, p, place.child(Precedence::Lowest));
 }
 
-#[tactic(auto, unfolding(crate::specs::Place::at_place))]
 pub fn print_break_statement(node: &BreakStatement, p: &mut Printer<'_>, place: Place)
-    ensures { Lays p.old p.new (at_place (break_statement_row node.now) place) }
+    ensures { Lays p.old p.new (spell (break_statement_row node.now) place) }
 {
     p.print_indentation();
     print_jump::<_, Labels>("break", &node.label, p, place.child(Precedence::Lowest));
@@ -68,7 +62,6 @@ pub fn print_break_statement(node: &BreakStatement, p: &mut Printer<'_>, place: 
 /// The labels that jumps name.
 struct Labels;
 
-#[tactic(auto, unfolding(crate::specs::Place::at_place))]
 impl PrintMember<Box<LabelIdentifier>> for Labels {
     ghost plain = { λ b. label_identifier_row b.value };
 
@@ -77,36 +70,33 @@ impl PrintMember<Box<LabelIdentifier>> for Labels {
     }
 }
 
-#[tactic(auto, unfolding(crate::specs::Place::at_place))]
 pub fn print_return_statement<N: PrintNode>(
     node: &ReturnStatement<N>,
     p: &mut Printer<'_>,
     place: Place,
 )
-    ensures { Lays p.old p.new (at_place (return_statement_row N.plain node.now) place) }
+    ensures { Lays p.old p.new (spell (return_statement_row N.plain node.now) place) }
 {
-    let within = Place::in_brackets(Precedence::Lowest, place.settings);
+    let within = Place::in_brackets(Precedence::Lowest);
     p.print_indentation();
     print_jump::<_, Expressions>("return", &node.argument, p, within);
 }
 
-#[tactic(auto, unfolding(crate::specs::Place::at_place))]
 pub fn print_throw_statement<N: PrintNode>(
     node: &ThrowStatement<N>,
     p: &mut Printer<'_>,
     place: Place,
 )
-    ensures { Lays p.old p.new (at_place (throw_statement_row N.plain node.now) place) }
+    ensures { Lays p.old p.new (spell (throw_statement_row N.plain node.now) place) }
 {
-    let within = Place::in_brackets(Precedence::Lowest, place.settings);
+    let within = Place::in_brackets(Precedence::Lowest);
     p.print_indentation();
     print_behind_word::<_, Expressions>("throw", &node.argument, p, within);
     p.print_statement_end();
 }
 
-#[tactic(auto, unfolding(crate::specs::Place::at_place))]
 pub fn print_debugger_statement(node: &DebuggerStatement, p: &mut Printer<'_>, place: Place)
-    ensures { Lays p.old p.new (at_place (debugger_statement_row node.now) place) }
+    ensures { Lays p.old p.new (spell (debugger_statement_row node.now) place) }
 {
     let _ = node;
     let _ = place;

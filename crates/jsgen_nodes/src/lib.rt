@@ -35,9 +35,7 @@ ghost use Rattle.jsgen_tree.specs.Plain.{node_plain};
 ghost use Rattle.jsgen_model.specs.Spell.{spell_method, string_in, string_statement};
 ghost use Rattle.jsgen_model.specs.Quotes.{is_member_of, is_named};
 ghost use Rattle.jsgen_printer.specs.Steps.{Lays};
-ghost use Rattle.jsgen_place.specs.Place.{place_of, operand_of};
 ghost use Rattle.jsgen_nodes.specs.Names.{is_binding_name};
-ghost use Rattle.jsgen_nodes.specs.Place.{at_place};
 
 use definitions::print_behind_name;
 use jsgen_place::{Context, Operand, Place, Settings, ends_open};
@@ -62,11 +60,11 @@ pub trait PrintNode {
         ensures { result ≡ type_of (plain self.now) };
 
     fn print(&self, p: &mut Printer<'_>, place: Place)
-        ensures { Lays p.old p.new (at_place (plain self.now) place) };
+        ensures { Lays p.old p.new (spell (plain self.now) place) };
 
     /// The function of a method or an accessor, behind its key. Nothing is printed of what is no function.
     fn print_as_method(&self, p: &mut Printer<'_>, place: Place)
-        ensures { Lays p.old p.new (λ pen. spell_method (plain self.now) (place_of place pen)) };
+        ensures { Lays p.old p.new (spell_method (plain self.now) place) };
 
     /// What matters of it as an operand.
     fn operand(&self) -> Operand
@@ -114,13 +112,12 @@ pub trait PrintAlone {
     ghost use Rattle.jsgen_model.specs.Items.{Items};
     ghost use Rattle.jsgen_model.specs.Spell as spells;
     ghost use Rattle.jsgen_model.specs.Layout.{Start};
-    ghost use Rattle.jsgen_place.specs.Place.{settings_of, context_of};
-
+    
     // Its items, where this begins with it.
     ghost alone: { Self → spells.Settings → spells.Context → Start → Items };
 
     fn print_alone(&self, p: &mut Printer<'_>, settings: Settings, context: Context)
-        ensures { Lays p.old p.new (λ pen. alone self.now (settings_of settings) (context_of context) pen.start) };
+        ensures { Lays p.old p.new (alone self.now (context_of context) pen.start) };
 }
 
 /// What is printed at a level, which decides whether parentheses stand round it.
@@ -130,7 +127,7 @@ pub trait PrintAtLevel {
     ghost plain: { Self → Tree };
 
     fn print_at(&self, p: &mut Printer<'_>, place: Place)
-        ensures { Lays p.old p.new (at_place (plain self.now) place) };
+        ensures { Lays p.old p.new (spell (plain self.now) place) };
 }
 
 /// The knot: the one recursion.

@@ -8,8 +8,6 @@ ghost use Rattle.jsgen_model.specs.Items.{◌⊕◌, brackets};
 ghost use Rattle.jsgen_model.specs.Spell.{spell, spell_arguments, called, in_brackets, bracket_link, quoted_plainly};
 ghost use Rattle.jsgen_model.specs.Quotes.{is_require_call, is_definition_call};
 ghost use Rattle.jsgen_printer.specs.Steps.{Lays};
-ghost use Rattle.jsgen_place.specs.Place.{place_of};
-ghost use Rattle.jsgen_nodes.specs.Place.{at_place};
 
 use crate::PrintNode;
 use crate::collections::print_spread_element;
@@ -24,64 +22,59 @@ use jsgen_tree::{
     IdentifierName, StaticMemberExpression,
 };
 
-#[tactic(auto, unfolding(crate::specs::Place::at_place))]
 pub fn print_identifier_name(node: &IdentifierName, p: &mut Printer<'_>, place: Place)
-    ensures { Lays p.old p.new (at_place (identifier_name_row node.now) place) }
+    ensures { Lays p.old p.new (spell (identifier_name_row node.now) place) }
 {
     let _ = place;
     p.print_name(node.name.as_str());
 }
 
-#[tactic(auto, unfolding(crate::specs::Place::at_place))]
 pub fn print_static_member_expression<N: PrintNode>(
     node: &StaticMemberExpression<N>,
     p: &mut Printer<'_>,
     place: Place,
 )
-    ensures { Lays p.old p.new (at_place (static_member_expression_row N.plain node.now) place) }
+    ensures { Lays p.old p.new (spell (static_member_expression_row N.plain node.now) place) }
 {
     let object = place.child(Precedence::Postfix);
     print_named_member::<_, Expressions>(&node.object, node.optional, &node.property, p, object);
 }
 
-#[tactic(auto, unfolding(crate::specs::Place::at_place))]
 pub fn print_computed_member_expression<N: PrintNode>(
     node: &ComputedMemberExpression<N>,
     p: &mut Printer<'_>,
     place: Place,
 )
-    ensures { Lays p.old p.new (at_place (computed_member_expression_row N.plain node.now) place) }
+    ensures { Lays p.old p.new (spell (computed_member_expression_row N.plain node.now) place) }
 {
     node.object.get().print(p, place.child(Precedence::Postfix));
     print_computed_name(node, p, place);
 }
 
 // Behind the object.
-#[tactic(auto, unfolding(crate::specs::Place::at_place))]
 fn print_computed_name<N: PrintNode>(
     node: &ComputedMemberExpression<N>,
     p: &mut Printer<'_>,
     place: Place,
 )
-    ensures { Lays p.old p.new (λ pen. bracket_link node.now.optional
-        ⊕ brackets Square (spell (in_expression N.plain node.now.expression) (quoted_plainly place.plain_quotes (in_brackets Lowest (place_of place pen))))) }
+    ensures { Lays p.old p.new (bracket_link node.now.optional
+        ⊕ brackets Square (spell (in_expression N.plain node.now.expression) (quoted_plainly place.plain_quotes (in_brackets Lowest)))) }
 {
     print_bracket_link(node.optional, p);
     p.print_opening(Bracket::Square);
-    let within = Place::in_brackets(Precedence::Lowest, place.settings);
+    let within = Place::in_brackets(Precedence::Lowest);
     node.expression
         .get()
         .print(p, within.quoted_plainly(place.plain_quotes));
     p.print_closing(Bracket::Square);
 }
 
-#[tactic(auto, unfolding(crate::specs::Place::at_place))]
 pub fn print_call_expression<N: PrintNode>(
     node: &CallExpression<N>,
     p: &mut Printer<'_>,
     place: Place,
 )
-    ensures { Lays p.old p.new (at_place (call_expression_row N.plain node.now) place) }
+    ensures { Lays p.old p.new (spell (call_expression_row N.plain node.now) place) }
 {
     let wrap = place.wraps_call();
     p.print_opening_if(wrap);
@@ -90,28 +83,26 @@ pub fn print_call_expression<N: PrintNode>(
 }
 
 // What is called and what it is given, within the parentheses.
-#[tactic(auto, unfolding(crate::specs::Place::at_place))]
 fn print_call<N: PrintNode>(node: &CallExpression<N>, p: &mut Printer<'_>, place: Place)
-    ensures { Lays p.old p.new (λ pen. spell (in_expression N.plain node.now.callee) (called (place_of place pen))
+    ensures { Lays p.old p.new (spell (in_expression N.plain node.now.callee) (called place)
         ⊕ (bracket_link node.now.optional ⊕ brackets Round (spell_arguments
-        (is_require_call place.settings.minified (in_expression N.plain node.now.callee) (trees (map (in_argument N.plain) node.now.arguments.items)))
-        (is_definition_call place.settings.minified (in_expression N.plain node.now.callee) (trees (map (in_argument N.plain) node.now.arguments.items)))
-        (trees (map (in_argument N.plain) node.now.arguments.items)) (in_brackets Comma (place_of place pen))))) }
+        (is_require_call (in_expression N.plain node.now.callee) (trees (map (in_argument N.plain) node.now.arguments.items)))
+        (is_definition_call (in_expression N.plain node.now.callee) (trees (map (in_argument N.plain) node.now.arguments.items)))
+        (trees (map (in_argument N.plain) node.now.arguments.items)) (in_brackets Comma)))) }
 {
     node.callee.get().print(p, place.called());
     print_bracket_link(node.optional, p);
-    let within = Place::in_brackets(Precedence::Comma, place.settings);
-    let quotes = plain_quotes(place.settings.minified, node);
+    let within = Place::in_brackets(Precedence::Comma);
+    let quotes = plain_quotes(node);
     print_arguments::<_, Arguments>(quotes, &node.arguments, p, within);
 }
 
-#[tactic(auto, unfolding(crate::specs::Place::at_place))]
 pub fn print_chain_expression<N: PrintNode>(
     node: &ChainExpression<N>,
     p: &mut Printer<'_>,
     place: Place,
 )
-    ensures { Lays p.old p.new (at_place (chain_expression_row N.plain node.now) place) }
+    ensures { Lays p.old p.new (spell (chain_expression_row N.plain node.now) place) }
 {
     let wrap = place.wraps_chain();
     p.print_opening_if(wrap);
@@ -120,7 +111,7 @@ pub fn print_chain_expression<N: PrintNode>(
 }
 
 fn print_chain_element<N: PrintNode>(node: &ChainElement<N>, p: &mut Printer<'_>, place: Place)
-    ensures { Lays p.old p.new (at_place (in_chain_element N.plain node.now) place) }
+    ensures { Lays p.old p.new (spell (in_chain_element N.plain node.now) place) }
 {
     match node {
         ChainElement::StaticMemberExpression(node) => print_static_member_expression(
@@ -136,7 +127,6 @@ fn print_chain_element<N: PrintNode>(node: &ChainElement<N>, p: &mut Printer<'_>
 /// What a call or a constructor is given.
 pub struct Arguments;
 
-#[tactic(auto, unfolding(crate::specs::Place::at_place))]
 impl<N: PrintNode> PrintMember<Argument<N>> for Arguments {
     ghost plain = { in_argument N.plain };
 

@@ -7,40 +7,36 @@ ghost use Rattle.jsgen_model.specs.Punctuator.{Round};
 ghost use Rattle.jsgen_model.specs.Items.{◌⊕◌, word, brackets, soft_space, statement_end};
 ghost use Rattle.jsgen_model.specs.Spell.{spell, in_brackets, loop_head, among_statements};
 ghost use Rattle.jsgen_printer.specs.Steps.{Lays};
-ghost use Rattle.jsgen_place.specs.Place.{settings_of};
 ghost use Rattle.jsgen_lists.specs.Lists.{loop_parts};
-ghost use Rattle.jsgen_nodes.specs.Place.{at_place};
 
 use crate::PrintNode;
 use crate::bodies::{print_body, print_do_body};
 use crate::sequences::Expressions;
 use crate::statements::print_variable_declaration;
 use jsgen_lists::{PrintMember, print_head, print_loop_parts};
-use jsgen_place::{Place, Settings};
+use jsgen_place::Place;
 use jsgen_printer::Printer;
 use jsgen_syntax::Precedence;
 use jsgen_tree::{
     DoWhileStatement, ExpressionNode, ForStatement, ForStatementInit, WhileStatement,
 };
 
-#[tactic(auto, unfolding(crate::specs::Place::at_place))]
 pub fn print_for_statement<N: PrintNode>(node: &ForStatement<N>, p: &mut Printer<'_>, place: Place)
-    ensures { Lays p.old p.new (at_place (for_statement_row N.plain node.now) place) }
+    ensures { Lays p.old p.new (spell (for_statement_row N.plain node.now) place) }
 {
     p.print_indentation();
-    print_for_head(node, p, place.settings);
-    print_body(node.body.get(), p, place.settings);
+    print_for_head(node, p);
+    print_body(node.body.get(), p);
 }
 
 // The word and what stands in the parentheses behind it.
-#[tactic(auto, unfolding(crate::specs::Place::at_place))]
-fn print_for_head<N: PrintNode>(node: &ForStatement<N>, p: &mut Printer<'_>, settings: Settings)
-    ensures { Lays p.old p.new (λ _. word (codes "for") ⊕ (soft_space ⊕ brackets Round (loop_parts (optional (option_map (in_for_statement_init N.plain) node.now.init))
+fn print_for_head<N: PrintNode>(node: &ForStatement<N>, p: &mut Printer<'_>)
+    ensures { Lays p.old p.new (word (codes "for") ⊕ (soft_space ⊕ brackets Round (loop_parts (optional (option_map (in_for_statement_init N.plain) node.now.init))
         (optional (option_map (in_expression N.plain) node.now.test)) (optional (option_map (in_expression N.plain) node.now.update))
-        (loop_head (among_statements (settings_of settings))) (in_brackets Lowest (among_statements (settings_of settings)))))) }
+        (loop_head among_statements) (in_brackets Lowest)))) }
 {
-    let first = Place::loop_head(settings);
-    let within = Place::in_brackets(Precedence::Lowest, settings);
+    let first = Place::loop_head();
+    let within = Place::in_brackets(Precedence::Lowest);
     print_for(p);
     print_loop_parts::<_, _, Inits, Expressions>(
         &node.init,
@@ -54,7 +50,7 @@ fn print_for_head<N: PrintNode>(node: &ForStatement<N>, p: &mut Printer<'_>, set
 
 /// The word that begins a loop, and the space behind it.
 pub fn print_for(p: &mut Printer<'_>)
-    ensures { Lays p.old p.new (λ _. word (codes "for") ⊕ soft_space) }
+    ensures { Lays p.old p.new (word (codes "for") ⊕ soft_space) }
 {
     p.print_word("for");
     p.print_soft_space();
@@ -63,7 +59,6 @@ pub fn print_for(p: &mut Printer<'_>)
 /// What is done before a loop.
 struct Inits;
 
-#[tactic(auto, unfolding(crate::specs::Place::at_place))]
 impl<N: PrintNode> PrintMember<ForStatementInit<N>> for Inits {
     ghost plain = { in_for_statement_init N.plain };
 
@@ -77,40 +72,37 @@ impl<N: PrintNode> PrintMember<ForStatementInit<N>> for Inits {
     }
 }
 
-#[tactic(auto, unfolding(crate::specs::Place::at_place))]
 pub fn print_while_statement<N: PrintNode>(
     node: &WhileStatement<N>,
     p: &mut Printer<'_>,
     place: Place,
 )
-    ensures { Lays p.old p.new (at_place (while_statement_row N.plain node.now) place) }
+    ensures { Lays p.old p.new (spell (while_statement_row N.plain node.now) place) }
 {
-    let within = Place::in_brackets(Precedence::Lowest, place.settings);
+    let within = Place::in_brackets(Precedence::Lowest);
     p.print_indentation();
     print_head::<_, Expressions>("while", &node.test, p, within);
-    print_body(node.body.get(), p, place.settings);
+    print_body(node.body.get(), p);
 }
 
-#[tactic(auto, unfolding(crate::specs::Place::at_place))]
 pub fn print_do_while_statement<N: PrintNode>(
     node: &DoWhileStatement<N>,
     p: &mut Printer<'_>,
     place: Place,
 )
-    ensures { Lays p.old p.new (at_place (do_while_statement_row N.plain node.now) place) }
+    ensures { Lays p.old p.new (spell (do_while_statement_row N.plain node.now) place) }
 {
     p.print_indentation();
     p.print_word("do");
-    print_do_body(&node.body, p, place.settings);
-    print_behind_do(&node.test, p, place.settings);
+    print_do_body(&node.body, p);
+    print_behind_do(&node.test, p);
 }
 
 // The test, and the end of the statement.
-#[tactic(auto, unfolding(crate::specs::Place::at_place))]
-fn print_behind_do<N: PrintNode>(test: &ExpressionNode<N>, p: &mut Printer<'_>, settings: Settings)
-    ensures { Lays p.old p.new (λ _. word (codes "while") ⊕ (soft_space ⊕ (brackets Round (spell (in_expression N.plain test.now) (in_brackets Lowest (among_statements (settings_of settings)))) ⊕ statement_end))) }
+fn print_behind_do<N: PrintNode>(test: &ExpressionNode<N>, p: &mut Printer<'_>)
+    ensures { Lays p.old p.new (word (codes "while") ⊕ (soft_space ⊕ (brackets Round (spell (in_expression N.plain test.now) (in_brackets Lowest)) ⊕ statement_end))) }
 {
-    let within = Place::in_brackets(Precedence::Lowest, settings);
+    let within = Place::in_brackets(Precedence::Lowest);
     print_head::<_, Expressions>("while", test, p, within);
     p.print_statement_end();
 }

@@ -3,7 +3,6 @@ ghost use Rattle.std.specs.Prelude.{◌≡◌};
 ghost use Rattle.jsgen_tree.specs.Inside.{without_parentheses};
 ghost use Rattle.jsgen_tree.specs.Plain.{node_plain};
 ghost use Rattle.jsgen_model.specs.Spell.{is_or_or_and};
-ghost use Rattle.jsgen_place.specs.Place.{operand_of};
 
 use jsgen_place::Operand;
 use jsgen_syntax::LogicalOperator;

@@ -7,8 +7,6 @@ ghost use Rattle.jsgen_model.specs.Items.{◌⊕◌, word, soft_space};
 ghost use Rattle.jsgen_model.specs.Spell.{spell, spell_list, behind, in_brackets, constructed, any_given, needs_arguments, new_arguments};
 ghost use Rattle.jsgen_model.specs.Operators.{unary_sign, behind_unary};
 ghost use Rattle.jsgen_printer.specs.Steps.{Lays};
-ghost use Rattle.jsgen_place.specs.Place.{place_of};
-ghost use Rattle.jsgen_nodes.specs.Place.{at_place};
 
 use crate::PrintNode;
 use crate::links::Arguments;
@@ -22,13 +20,12 @@ use jsgen_tree::{
     UpdateExpression,
 };
 
-#[tactic(auto, unfolding(crate::specs::Place::at_place))]
 pub fn print_unary_expression<N: PrintNode>(
     node: &UnaryExpression<N>,
     p: &mut Printer<'_>,
     place: Place,
 )
-    ensures { Lays p.old p.new (at_place (unary_expression_row N.plain node.now) place) }
+    ensures { Lays p.old p.new (spell (unary_expression_row N.plain node.now) place) }
 {
     let wrap = place.wraps(Precedence::Prefix);
     p.print_opening_if(wrap);
@@ -37,10 +34,9 @@ pub fn print_unary_expression<N: PrintNode>(
 }
 
 // The operator and its operand, within the parentheses.
-#[tactic(auto, unfolding(crate::specs::Place::at_place))]
 fn print_unary_operation<N: PrintNode>(node: &UnaryExpression<N>, p: &mut Printer<'_>, place: Place)
-    ensures { Lays p.old p.new (λ pen. unary_sign node.now.operator ⊕ (behind_unary node.now.operator
-        ⊕ spell (in_expression N.plain node.now.argument) (behind Exponentiation (place_of place pen)))) }
+    ensures { Lays p.old p.new (unary_sign node.now.operator ⊕ (behind_unary node.now.operator
+        ⊕ spell (in_expression N.plain node.now.argument) (child Exponentiation place))) }
 {
     p.print_unary_operator(node.operator);
     p.print_behind_unary(node.operator);
@@ -49,13 +45,12 @@ fn print_unary_operation<N: PrintNode>(node: &UnaryExpression<N>, p: &mut Printe
         .print(p, place.child(Precedence::Exponentiation));
 }
 
-#[tactic(auto, unfolding(crate::specs::Place::at_place))]
 pub fn print_update_expression<N: PrintNode>(
     node: &UpdateExpression<N>,
     p: &mut Printer<'_>,
     place: Place,
 )
-    ensures { Lays p.old p.new (at_place (update_expression_row N.plain node.now) place) }
+    ensures { Lays p.old p.new (spell (update_expression_row N.plain node.now) place) }
 {
     let level = update_level(node.prefix);
     let wrap = place.wraps(level);
@@ -73,7 +68,6 @@ pub fn print_update_expression<N: PrintNode>(
 /// What `++` and `--` change.
 pub struct Targets;
 
-#[tactic(auto, unfolding(crate::specs::Place::at_place))]
 impl<N: PrintNode> PrintMember<SimpleAssignmentTarget<N>> for Targets {
     ghost plain = { in_simple_assignment_target N.plain };
 
@@ -82,13 +76,12 @@ impl<N: PrintNode> PrintMember<SimpleAssignmentTarget<N>> for Targets {
     }
 }
 
-#[tactic(auto, unfolding(crate::specs::Place::at_place))]
 pub fn print_new_expression<N: PrintNode>(
     node: &NewExpression<N>,
     p: &mut Printer<'_>,
     place: Place,
 )
-    ensures { Lays p.old p.new (at_place (new_expression_row N.plain node.now) place) }
+    ensures { Lays p.old p.new (spell (new_expression_row N.plain node.now) place) }
 {
     let wrap = place.wraps(Precedence::New);
     p.print_opening_if(wrap);
@@ -97,12 +90,11 @@ pub fn print_new_expression<N: PrintNode>(
 }
 
 // `new`, what it stands before and what that is given, within the parentheses.
-#[tactic(auto, unfolding(crate::specs::Place::at_place))]
 fn print_construction<N: PrintNode>(node: &NewExpression<N>, p: &mut Printer<'_>, place: Place)
-    ensures { Lays p.old p.new (λ pen. word (codes "new") ⊕ (soft_space
-        ⊕ (spell (in_expression N.plain node.now.callee) (constructed (place_of place pen))
-        ⊕ new_arguments (needs_arguments (place_of place pen) (any_given (trees (map (in_argument N.plain) node.now.arguments.items))))
-        (spell_list (trees (map (in_argument N.plain) node.now.arguments.items)) (in_brackets Comma (place_of place pen)))))) }
+    ensures { Lays p.old p.new (word (codes "new") ⊕ (soft_space
+        ⊕ (spell (in_expression N.plain node.now.callee) (constructed place)
+        ⊕ new_arguments (needs_arguments place (any_given (trees (map (in_argument N.plain) node.now.arguments.items))))
+        (spell_list (trees (map (in_argument N.plain) node.now.arguments.items)) (in_brackets Comma))))) }
 {
     p.print_word("new");
     p.print_soft_space();
@@ -111,13 +103,12 @@ fn print_construction<N: PrintNode>(node: &NewExpression<N>, p: &mut Printer<'_>
 }
 
 // What a constructor is given: in minified text nothing may stand for nothing.
-#[tactic(auto, unfolding(crate::specs::Place::at_place))]
 fn print_new_arguments<N: PrintNode>(arguments: &[Argument<N>], p: &mut Printer<'_>, place: Place)
-    ensures { Lays p.old p.new (λ pen. new_arguments (needs_arguments (place_of place pen) (any_given (trees (map (in_argument N.plain) arguments.now))))
-        (spell_list (trees (map (in_argument N.plain) arguments.now)) (in_brackets Comma (place_of place pen)))) }
+    ensures { Lays p.old p.new (new_arguments (needs_arguments place (any_given (trees (map (in_argument N.plain) arguments.now))))
+        (spell_list (trees (map (in_argument N.plain) arguments.now)) (in_brackets Comma))) }
 {
     if place.needs_arguments(is_given(arguments)) {
-        let within = Place::in_brackets(Precedence::Comma, place.settings);
+        let within = Place::in_brackets(Precedence::Comma);
         print_in_brackets::<_, Arguments>(Bracket::Round, arguments, p, within);
     }
 }
@@ -128,18 +119,16 @@ fn is_given<N: PrintNode>(arguments: &[Argument<N>]) -> bool
     !arguments.is_empty()
 }
 
-#[tactic(auto, unfolding(crate::specs::Place::at_place))]
 pub fn print_super(node: &Super, p: &mut Printer<'_>, place: Place)
-    ensures { Lays p.old p.new (at_place (super_row node.now) place) }
+    ensures { Lays p.old p.new (spell (super_row node.now) place) }
 {
     let _ = node;
     let _ = place;
     p.print_word("super");
 }
 
-#[tactic(auto, unfolding(crate::specs::Place::at_place))]
 pub fn print_new_target(node: &NewTarget, p: &mut Printer<'_>, place: Place)
-    ensures { Lays p.old p.new (at_place (new_target_row node.now) place) }
+    ensures { Lays p.old p.new (spell (new_target_row node.now) place) }
 {
     let _ = node;
     let _ = place;

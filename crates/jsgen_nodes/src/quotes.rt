@@ -9,7 +9,6 @@ ghost use Rattle.jsgen_model.specs.Quotes.{is_string, is_one_string, has_second_
 ghost use Rattle.jsgen_model.specs.Spell.{string_in};
 ghost use Rattle.jsgen_printer.specs.Printer.{pen_of};
 ghost use Rattle.jsgen_printer.specs.Steps.{Lays};
-ghost use Rattle.jsgen_place.specs.Place.{context_of};
 ghost use Rattle.jsgen_nodes.specs.Quotes.{where_it_holds, plain_arguments, plain_target, plain_string};
 
 use crate::PrintNode;
@@ -141,7 +140,7 @@ pub fn is_mark<N: PrintNode>(minified: bool, operator: BinaryOperator, operand: 
 /// Prints the arguments of `require("x")`, if the call is that and the text minified; otherwise prints nothing.
 pub fn try_print_require_call<N: PrintNode>(p: &mut Printer<'_>, call: &CallExpression<N>) -> bool
     ensures applies { result ≡ is_require_call (pen_of p.old).style.minified (in_expression N.plain call.now.callee) (trees (map (in_argument N.plain) call.now.arguments.items)) }
-    ensures text { Lays p.old p.new (λ pen. where_it_holds (is_require_call pen.style.minified (in_expression N.plain call.now.callee) (trees (map (in_argument N.plain) call.now.arguments.items)))
+    ensures text { Lays p.old p.new (where_it_holds (is_require_call pen.style.minified (in_expression N.plain call.now.callee) (trees (map (in_argument N.plain) call.now.arguments.items)))
         (plain_arguments true false (trees (map (in_argument N.plain) call.now.arguments.items)))) }
 {
     if is_require(p.is_minified(), call) {
@@ -160,7 +159,7 @@ pub fn try_print_define_property_call<N: PrintNode>(
     context: Context,
 ) -> bool
     ensures applies { result ≡ is_definition_call (pen_of p.old).style.minified (in_expression N.plain call.now.callee) (trees (map (in_argument N.plain) call.now.arguments.items)) }
-    ensures text { Lays p.old p.new (λ pen. where_it_holds (is_definition_call pen.style.minified (in_expression N.plain call.now.callee) (trees (map (in_argument N.plain) call.now.arguments.items)))
+    ensures text { Lays p.old p.new (where_it_holds (is_definition_call pen.style.minified (in_expression N.plain call.now.callee) (trees (map (in_argument N.plain) call.now.arguments.items)))
         (plain_arguments false true (trees (map (in_argument N.plain) call.now.arguments.items)))) }
 {
     let _ = context;
@@ -177,21 +176,20 @@ fn print_plain_arguments<N: PrintNode>(
     p: &mut Printer<'_>,
     call: &CallExpression<N>,
 )
-    ensures { Lays p.old p.new (λ _. plain_arguments quotes.first quotes.second (trees (map (in_argument N.plain) call.now.arguments.items))) }
+    ensures { Lays p.old p.new (plain_arguments quotes.first quotes.second (trees (map (in_argument N.plain) call.now.arguments.items))) }
 {
     let within = Place::in_brackets(Precedence::Comma, MINIFIED);
     print_arguments::<_, Arguments>(quotes, &call.arguments, p, within);
 }
 
 /// Prints `exports["x"]` or `module.exports["x"]`, if the target is one of these and the text minified; otherwise prints nothing.
-#[tactic(auto, unfolding(crate::specs::Place::at_place))]
 pub fn try_print_exports_computed_target<N: PrintNode>(
     p: &mut Printer<'_>,
     target: &AssignmentTarget<N>,
     context: Context,
 ) -> bool
     ensures applies { result ≡ is_export_target (pen_of p.old).style.minified (in_assignment_target N.plain target.now) }
-    ensures text { Lays p.old p.new (λ pen. where_it_holds (is_export_target pen.style.minified (in_assignment_target N.plain target.now))
+    ensures text { Lays p.old p.new (where_it_holds (is_export_target pen.style.minified (in_assignment_target N.plain target.now))
         (plain_target (in_assignment_target N.plain target.now) (context_of context) pen.start)) }
 {
     if is_export(p.is_minified(), target) {
@@ -211,7 +209,7 @@ pub fn try_print_equality_string(
     operand: &Expression,
 ) -> bool
     ensures applies { result ≡ is_export_mark (pen_of p.old).style.minified operator (expression_plain node_plain operand.now) }
-    ensures text { Lays p.old p.new (λ pen. where_it_holds (is_export_mark pen.style.minified operator (expression_plain node_plain operand.now))
+    ensures text { Lays p.old p.new (where_it_holds (is_export_mark pen.style.minified operator (expression_plain node_plain operand.now))
         (plain_string (string_in (without_parentheses (expression_plain node_plain operand.now))))) }
 {
     let string = bare_string(operand.without_parentheses());
@@ -224,7 +222,7 @@ pub fn try_print_equality_string(
 }
 
 fn print_plain_string(string: Option<&JsStr>, p: &mut Printer<'_>)
-    ensures { Lays p.old p.new (λ _. plain_string (option_map (λ v. js_units v.now) string.entry)) }
+    ensures { Lays p.old p.new (plain_string (option_map (λ v. js_units v.now) string.entry)) }
 {
     match string {
         Some(value) => p.print_string(value, false),
