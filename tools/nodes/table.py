@@ -51,6 +51,7 @@ class Node:
     fields: list = field(default_factory=list)
     ghosts: list = field(default_factory=list)
     rules: bool = False  # whether it has rules of its own, which are checked by hand
+    spelling: str = ""  # how it is spelled, in the notation of notation.py; empty where that is written by hand
     is_copy: bool = False   # whether its struct holds nothing that is owned, and is copied
 
     @property
@@ -93,7 +94,8 @@ class Set:
 
 class Table:
     def __init__(self, path):
-        self.files, self.row_crates, self.nodes, self.words, self.sets = {}, {}, {}, {}, {}
+        self.files, self.row_crates, self.print_crates = {}, {}, {}
+        self.nodes, self.words, self.sets = {}, {}, {}
         self.places = {}    # the set of each place that has a name
         self.read(path)
         self.check()
@@ -109,8 +111,10 @@ class Table:
                     head, *rest = line.split()
                     if head == "file":
                         of_file, _, text = line[5:].partition(": ")
+                        of_file, _, printed_in = of_file.partition(" by ")
                         file, crate = of_file.split(" in ")
                         self.files[file], self.row_crates[file] = text, crate
+                        self.print_crates[file] = printed_in or "jsgen_spelled"
                     elif head in ("node", "words", "set") and rest[0] in {**self.nodes, **self.words, **self.sets}:
                         raise ValueError("the name comes twice")
                     elif head == "node":
@@ -135,6 +139,8 @@ class Table:
                     at.words.append((word, variant))
                 elif isinstance(at, Set):
                     at.members += line.split()
+                elif line.startswith("= ") and isinstance(at, Node):
+                    at.spelling = (at.spelling + " " + line[2:]).strip()
                 elif line == "rules":
                     at.rules = True
                 elif line == "copied":

@@ -30,6 +30,9 @@ use Rattle.jsgen_model.specs.Quotes.{is_require_call, is_definition_call, is_key
 use Rattle.jsgen_model.specs.Items.{Items, nothing, ◌⊕◌, word, name, number, string, first_string, directive, punctuator, operator, member_dot, brackets, soft_space, soft_line, hard_space, body_space, deeper, indentation, wrapped, wrapped_at_start, a_brace, a_declaration, parentheses_unless_minified, where_same, statement_end, due_semicolon, drop_semicolon, statement_begins, arrow_body_begins}
 use Rattle.jsgen_model.specs.Layout.{layout, empty_pen, style_of}
 use Rattle.jsgen_model.specs.Operators.{operator_item, logical_item, unary_sign, behind_unary, update_item, assignment_item}
+-- generated from tools/nodes/table.txt: names
+use Rattle.jsgen_model.specs.Items.{marked_word, comments, all_of_them, mark}
+-- end of what is generated: names
 
 -- what a loop gives its values: a declaration, or what is given a value, where nothing is forbidden
 abbrev pub left_place : NodeType → Place
@@ -73,10 +76,6 @@ abbrev pub right_level : BinaryOperator → Precedence
 right_level operators.Exponential = Multiply
 right_level o = binary_level o
 
--- the parts of a choice and the signs between them
-abbrev pub choice : Items → Items → Items → Items
-choice test consequent alternate = test ⊕ (soft_space ⊕ (punctuator question ⊕ (soft_space ⊕ (consequent ⊕ (soft_space ⊕ (punctuator colon ⊕ (soft_space ⊕ alternate)))))))
-
 -- `??` can't be mixed with `||` and `&&` (ECMA-262, 13.13)
 abbrev pub unmixed : LogicalOperator → Tree → Precedence → Precedence
 unmixed logical_operators.Coalesce operand level = if mixes (without_parentheses operand) then Prefix else level
@@ -100,10 +99,13 @@ abbrev pub new_arguments : Bool → Items → Items
 new_arguments true items = brackets Round items
 new_arguments false items = parentheses_unless_minified items
 
+abbrev pub items_if : Bool → Items → Items
+items_if true items = items
+items_if false items = nothing
+
 -- among statements a declaration has indentation and an end
 abbrev pub as_statement : Bool → Items → Items
-as_statement true items = indentation ⊕ (items ⊕ statement_end)
-as_statement false items = items
+as_statement test items = items_if test indentation ⊕ (items ⊕ items_if test statement_end)
 
 -- ---- the first statement of a body
 
@@ -356,20 +358,14 @@ comma_between items (given rest) = punctuator comma ⊕ soft_space
 
 abbrev mutual
   pub spell : Tree → Place → Items
-  spell (tree.program a comments directives body) place = spell_directives directives ⊕ (spell_body body ⊕ due_semicolon)
+  spell (tree.program a _ directives body) place = spell_directives directives ⊕ (spell_body body ⊕ due_semicolon)
   spell (tree.directive a) place = indentation ⊕ (directive (as_text (directive_directive a)) ⊕ (punctuator semicolon ⊕ soft_line))
-  spell (tree.expression_statement a expression) place = indentation ⊕ (statement_begins ⊕ (spell expression (in_brackets Lowest) ⊕ statement_end))
-  spell (tree.variable_declaration a declarations) place = as_statement place.in_list (word (declaration_word (variable_declaration_kind a)) ⊕ (soft_space ⊕ spell_list declarations (child Lowest place)))
-  spell (tree.variable_declarator a id init) place = spell id (child Lowest place) ⊕ spell_value init (child Comma place)
   spell (tree.binding_identifier a) place = name a.span (binding_named a)
   spell (tree.identifier_reference a) place = name a.span (reference_named a)
-  spell (tree.this_expression a) place = word (codes "this")
-  spell (tree.null_literal a) place = word (codes "null")
   spell (tree.boolean_literal a) place = word (truth_word (boolean_literal_value a))
   spell (tree.numeric_literal a) place = number_items (numeric_literal_kind a) a place
   spell (tree.big_int_literal a) place = big_integer_items (big_int_literal_value a) (behind_minus (big_int_literal_value a)) place
   spell (tree.string_literal a) place = string (not place.plain_quotes) (string_literal_value a)
-  spell (tree.parenthesized a expression) place = spell expression place
   spell (tree.binary a left right) place =
       operation (binary_wraps (binary_expression_operator a) place) (operator_item (binary_expression_operator a))
       (spell left (quoted_plainly (is_export_mark (binary_expression_operator a) left) (left_operand (left_level (binary_expression_operator a) left) (within (binary_wraps (binary_expression_operator a) place) place))))
@@ -383,7 +379,6 @@ abbrev mutual
       among_or_within place.in_list (word (codes "if") ⊕ (soft_space ⊕ (brackets Round (spell test (in_brackets Lowest))
       ⊕ (consequent_items (shape consequent) (ends_open consequent) (spell consequent within_statement) (spell consequent among_statements) (is_given alternate)
       ⊕ spell_alternate alternate))))
-  spell (tree.empty_statement a) place = indentation ⊕ (punctuator semicolon ⊕ soft_line)
   spell (tree.for_statement a init test update body) place =
       indentation ⊕ (word (codes "for") ⊕ (soft_space ⊕ (brackets Round (spell_if_given init loop_head
       ⊕ (punctuator semicolon ⊕ (spell_apart test (in_brackets Lowest) ⊕ (punctuator semicolon ⊕ spell_apart update (in_brackets Lowest)))))
@@ -396,20 +391,9 @@ abbrev mutual
       indentation ⊕ (word (codes "for") ⊕ (soft_space ⊕ (brackets Round (apart_from_of (looked_up_in left) (spell left (left_place (type_of left)))
       ⊕ (soft_space ⊕ (word (codes "of") ⊕ (soft_space ⊕ spell right (in_brackets Comma)))))
       ⊕ body_items (shape body) (spell body within_statement) (spell body among_statements))))
-  spell (tree.while_statement a test body) place =
-      indentation ⊕ (word (codes "while") ⊕ (soft_space ⊕ (brackets Round (spell test (in_brackets Lowest))
-      ⊕ body_items (shape body) (spell body within_statement) (spell body among_statements))))
   spell (tree.do_while_statement a body test) place =
       indentation ⊕ (word (codes "do") ⊕ (do_items (shape body) (spell body within_statement) (spell body among_statements)
       ⊕ (word (codes "while") ⊕ (soft_space ⊕ (brackets Round (spell test (in_brackets Lowest)) ⊕ statement_end)))))
-  spell (tree.label_identifier a) place = name a.span (as_written (label_identifier_name a))
-  spell (tree.labeled_statement a label body) place =
-      indentation ⊕ (spell label (child Lowest place) ⊕ (punctuator colon
-      ⊕ body_items (shape body) (spell body within_statement) (spell body among_statements)))
-  spell (tree.continue_statement a label) place = indentation ⊕ (word (codes "continue") ⊕ (spell_apart label (child Lowest place) ⊕ statement_end))
-  spell (tree.break_statement a label) place = indentation ⊕ (word (codes "break") ⊕ (spell_apart label (child Lowest place) ⊕ statement_end))
-  spell (tree.throw_statement a argument) place = indentation ⊕ (word (codes "throw") ⊕ (soft_space ⊕ (spell argument (in_brackets Lowest) ⊕ statement_end)))
-  spell (tree.debugger_statement a) place = indentation ⊕ (word (codes "debugger") ⊕ statement_end)
   spell (tree.switch_statement a discriminant cases) place =
       indentation ⊕ (word (codes "switch") ⊕ (soft_space ⊕ (brackets Round (spell discriminant (in_brackets Lowest))
       ⊕ (soft_space ⊕ (braces cases (spell_statements cases) ⊕ soft_line)))))
@@ -418,17 +402,13 @@ abbrev mutual
   spell (tree.try_statement a block handler finalizer) place =
       indentation ⊕ (word (codes "try") ⊕ (soft_space ⊕ (spell block within_statement ⊕ (spell_if_given handler within_statement ⊕ (spell_finalizer finalizer ⊕ soft_line)))))
   spell (tree.catch_clause a param body) place = soft_space ⊕ (word (codes "catch") ⊕ (spell_caught param (child Lowest place) ⊕ (soft_space ⊕ spell body within_statement)))
-  spell (tree.identifier_name a) place = name a.span (as_written (identifier_name_name a))
   spell (tree.static_member a object property) place = spell object (linked place) ⊕ (name_link (static_member_expression_optional a) ⊕ spell property (child Lowest place))
   spell (tree.computed_member a object expression) place = spell object (linked place) ⊕ (bracket_link (computed_member_expression_optional a) ⊕ brackets Square (spell expression (quoted_plainly place.plain_quotes (in_brackets Lowest))))
   spell (tree.call a callee arguments) place =
       wrapped (call_wraps place) (spell callee (called (within (call_wraps place) place)) ⊕ (bracket_link (call_expression_optional a) ⊕ brackets Round (spell_arguments (is_require_call callee arguments) (is_definition_call callee arguments) arguments (in_brackets Comma))))
   spell (tree.chain a element) place = wrapped (chain_wraps place) (spell element (chain_place (chain_wraps place) place))
-  spell (tree.spread a argument) place = punctuator ellipsis ⊕ spell argument (in_brackets Comma)
   -- up to two elements stand on one line
   spell (tree.array a elements) place = brackets Square (on_lines (are_more 2 elements) (spell_elements (are_more 2 elements) elements (in_brackets Comma) ⊕ comma_if (ends_in_hole elements)))
-  spell (tree.unary a argument) place =
-      wrapped (wraps Prefix place) (unary_sign (unary_expression_operator a) ⊕ (behind_unary (unary_expression_operator a) ⊕ spell argument (child Exponentiation (within (wraps Prefix place) place))))
   spell (tree.update a argument) place =
       wrapped (wraps (update_level (update_expression_prefix a)) place) (update_items (update_expression_prefix a) (update_item (update_expression_operator a))
       (spell argument (child Postfix (within (wraps (update_level (update_expression_prefix a)) place) place)))
@@ -436,8 +416,6 @@ abbrev mutual
   spell (tree.new_expression a callee arguments) place =
       wrapped (wraps New place) (word (codes "new") ⊕ (soft_space ⊕ (spell callee (constructed (within (wraps New place) place))
       ⊕ new_arguments (any_given arguments || wraps Postfix place) (spell_list arguments (in_brackets Comma)))))
-  spell (tree.super a) place = word (codes "super")
-  spell (tree.new_target a) place = word (codes "new") ⊕ (member_dot ⊕ word (codes "target"))
   -- up to one property stands on one line; as in an array, a comma would stand behind a last one that is left out, but none is
   spell (tree.object_expression a properties) place = wrapped_at_start false a_brace (brackets Brace (object_inside properties (spell_elements (are_more 1 properties) properties (in_brackets Comma) ⊕ comma_if (ends_in_hole properties))))
   spell (tree.object_property a key value) place =
@@ -445,18 +423,9 @@ abbrev mutual
       (accessor_word (object_property_kind a) ⊕ (key_items (needs_brackets (object_property_computed a) key) key (spell key (in_brackets Comma)) ⊕ spell_method value place))
       (before_value (object_property_shorthand a) (written_name_in key) (looked_up_in (without_parentheses value)) (key_items (needs_brackets (object_property_computed a) key) key (spell key (in_brackets Comma)))
       ⊕ spell value (in_brackets Comma))
-  -- a choice binds to the right: what follows `?` and `:` may be an assignment
-  spell (tree.conditional a test consequent alternate) place =
-      wrapped (wraps Conditional place) (choice
-      (spell test (with_calls (child Conditional (within (wraps Conditional place) place))))
-      (spell consequent (in_brackets Yield))
-      (spell alternate (with_calls (child Yield (within (wraps Conditional place) place)))))
-  spell (tree.sequence a expressions) place = wrapped (wraps Comma place) (spell_list expressions (with_calls (child Lowest place)))
   -- an assignment binds to the right, and hands on what is forbidden
   spell (tree.assignment a left right) place =
       operation (wraps Assign place) (assignment_item (assignment_expression_operator a)) (spell left (quoted_plainly (is_key_of_exports left) (in_brackets Comma))) (spell right (child Comma place))
-  spell (tree.formal_parameter a pattern initializer) place = spell pattern (child Lowest place) ⊕ spell_value initializer (child Comma place)
-  spell (tree.formal_parameter_rest a argument) place = punctuator ellipsis ⊕ spell argument (child Lowest place)
   spell (tree.formal_parameters a items rest) place = spell_list items place ⊕ (comma_between items rest ⊕ spell_if_given rest place)
   -- no line end stands before the arrow (ECMA-262, 15.3)
   spell (tree.arrow_function a params body) place =
@@ -467,7 +436,54 @@ abbrev mutual
       ⊕ (brackets Round (spell params (with_calls (child Comma place))) ⊕ spell_apart body within_statement)))
   spell (tree.function_body a directives statements) place =
       body_braces directives statements (spell_directives directives ⊕ spell_body statements)
-  spell (tree.return_statement a argument) place = indentation ⊕ (word (codes "return") ⊕ (spell_apart argument (in_brackets Lowest) ⊕ statement_end))
+  -- generated from tools/nodes/table.txt: clauses
+  spell (tree.variable_declaration a declarations) place =
+      as_statement place.in_list (mark a.span ⊕ (word (declaration_word (variable_declaration_kind a)) ⊕ (soft_space
+      ⊕ spell_list declarations (child Lowest place))))
+  spell (tree.variable_declarator a id init) place = spell id (child Lowest place) ⊕ spell_value init (child Comma place)
+  spell (tree.expression_statement a expression) place =
+      comments all_of_them a.span.start ⊕ (indentation ⊕ (statement_begins ⊕ (spell expression (in_brackets Lowest) ⊕ statement_end)))
+  spell (tree.empty_statement a) place = comments all_of_them a.span.start ⊕ (indentation ⊕ (mark a.span ⊕ (punctuator semicolon ⊕ soft_line)))
+  spell (tree.this_expression a) place = marked_word a.span (codes "this")
+  spell (tree.null_literal a) place = marked_word a.span (codes "null")
+  spell (tree.parenthesized a expression) place = spell expression place
+  spell (tree.identifier_name a) place = name a.span (as_written (identifier_name_name a))
+  spell (tree.spread a argument) place = mark a.span ⊕ (punctuator ellipsis ⊕ spell argument (in_brackets Comma))
+  spell (tree.unary a argument) place =
+      wrapped (wraps Prefix place) (unary_sign (unary_expression_operator a) ⊕ (behind_unary (unary_expression_operator a)
+      ⊕ spell argument (child Exponentiation (within (wraps Prefix place) place))))
+  spell (tree.new_target a) place = marked_word a.span (codes "new") ⊕ (member_dot ⊕ word (codes "target"))
+  spell (tree.super a) place = marked_word a.span (codes "super")
+  spell (tree.conditional a test consequent alternate) place =
+      wrapped (wraps Conditional place) (spell test (with_calls (child Conditional (within (wraps Conditional place) place))) ⊕ (soft_space
+      ⊕ (punctuator question ⊕ (soft_space ⊕ (spell consequent (in_brackets Yield) ⊕ (soft_space ⊕ (punctuator colon ⊕ (soft_space
+      ⊕ spell alternate (with_calls (child Yield (within (wraps Conditional place) place)))))))))))
+  spell (tree.sequence a expressions) place = wrapped (wraps Comma place) (spell_list expressions (with_calls (child Lowest place)))
+  spell (tree.formal_parameter a pattern initializer) place =
+      mark a.span ⊕ (spell pattern (child Lowest place) ⊕ spell_value initializer (child Comma place))
+  spell (tree.formal_parameter_rest a argument) place = mark a.span ⊕ (punctuator ellipsis ⊕ spell argument (child Lowest place))
+  spell (tree.while_statement a test body) place =
+      comments all_of_them a.span.start ⊕ (indentation ⊕ (marked_word a.span (codes "while") ⊕ (soft_space
+      ⊕ (brackets Round (spell test (in_brackets Lowest)) ⊕ body_items (shape body) (spell body within_statement) (spell body among_statements)))))
+  spell (tree.label_identifier a) place = name a.span (as_written (label_identifier_name a))
+  spell (tree.labeled_statement a label body) place =
+      comments all_of_them a.span.start ⊕ (indentation ⊕ (spell label (child Lowest place) ⊕ (punctuator colon
+      ⊕ body_items (shape body) (spell body within_statement) (spell body among_statements))))
+  spell (tree.continue_statement a label) place =
+      comments all_of_them a.span.start ⊕ (indentation ⊕ (marked_word a.span (codes "continue") ⊕ (spell_apart label (child Lowest place)
+      ⊕ statement_end)))
+  spell (tree.break_statement a label) place =
+      comments all_of_them a.span.start ⊕ (indentation ⊕ (marked_word a.span (codes "break") ⊕ (spell_apart label (child Lowest place)
+      ⊕ statement_end)))
+  spell (tree.return_statement a argument) place =
+      comments all_of_them a.span.start ⊕ (indentation ⊕ (marked_word a.span (codes "return") ⊕ (spell_apart argument (in_brackets Lowest)
+      ⊕ statement_end)))
+  spell (tree.throw_statement a argument) place =
+      comments all_of_them a.span.start ⊕ (indentation ⊕ (marked_word a.span (codes "throw") ⊕ (soft_space ⊕ (spell argument (in_brackets Lowest)
+      ⊕ statement_end))))
+  spell (tree.debugger_statement a) place =
+      comments all_of_them a.span.start ⊕ (indentation ⊕ (marked_word a.span (codes "debugger") ⊕ statement_end))
+  -- end of what is generated: clauses
   spell t place = nothing
 
   -- the function of a method or an accessor, behind its key

@@ -83,6 +83,7 @@ impl<'a> Printer<'a> {
     ghost use Rattle.jsgen_syntax.specs.Units.{js_units};
     ghost use Rattle.jsgen_syntax.specs.Strings.{quote_char, quoted};
     ghost use Rattle.jsgen_syntax.specs.Raw.{directive_text};
+    ghost use Rattle.jsgen_model.specs.Spell.{items_if};
     ghost use Rattle.jsgen_model.specs.Operators.{operator_item, unary_sign, behind_unary, update_item, logical_item, assignment_item};
     ghost use Rattle.jsgen_printer.specs.Steps.{has_failed, Goes, Lays};
     ghost use Rattle.jsgen_printer.specs.Printer.{bracket_of, pen_of, ending_of, stands_apart, name_written, by_tables, is_ascii, deepened, at_depth};
@@ -590,6 +591,15 @@ impl<'a> Printer<'a> {
         }
     }
 
+    /// Indentation, where the test holds.
+    pub fn print_indentation_if(&mut self, test: bool)
+        ensures { Lays self.old self.new (items_if test indentation) }
+    {
+        if test {
+            self.print_indentation();
+        }
+    }
+
     // The levels' own indentation. Wider than 64 bits it is want of memory: no tree that keeps the rules is so deep.
     fn print_levels(&mut self)
         ensures { Goes self.old self.new (λ pen. indented (replicate (pen.depth * pen.style.width) pen.style.indent) pen) }
@@ -662,6 +672,15 @@ impl<'a> Printer<'a> {
             self.pending_semicolon = true;
         } else {
             self.print_str(";\n", Ending::Other);
+        }
+    }
+
+    /// The end of a statement, where the test holds.
+    pub fn print_statement_end_if(&mut self, test: bool)
+        ensures { Lays self.old self.new (items_if test statement_end) }
+    {
+        if test {
+            self.print_statement_end();
         }
     }
 

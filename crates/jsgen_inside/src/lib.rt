@@ -1,0 +1,30 @@
+//! What rows ask of what nests in them, however that is printed, and what they share.
+#![tactic(auto)]
+
+mod bodies;
+mod names;
+mod nested;
+
+ghost use Rattle.std.specs.Prelude.{◌≡◌};
+ghost use Rattle.jsgen_tree.specs.Tree.{Tree, type_of};
+ghost use Rattle.jsgen_model.specs.Spell.{spell};
+ghost use Rattle.jsgen_printer.specs.Steps.{Lays};
+
+pub use bodies::print_body;
+use jsgen_place::Place;
+use jsgen_printer::Printer;
+use jsgen_tree::NodeType;
+pub use names::{print_binding_identifier, print_identifier_reference};
+pub use nested::Nested;
+
+/// How what nests is printed. The knot of the recursion, above the crates of rows, is the one that says so.
+pub trait PrintInside<N> {
+    // What it stands for.
+    ghost plain: { N → Tree };
+
+    fn node_type(node: &N) -> NodeType
+        ensures { result ≡ type_of (plain node.now) };
+
+    fn print(node: &N, p: &mut Printer<'_>, place: Place)
+        ensures { Lays p.old p.new (spell (plain node.now) place) };
+}

@@ -1,0 +1,37 @@
+// The members of lists that nest, and what may be there or not of them.
+ghost use Rattle.jsgen_tree.specs.Rows.{in_expression, in_statement, in_binding_pattern};
+
+use crate::PrintInside;
+use jsgen_lists::PrintMember;
+use jsgen_place::Place;
+use jsgen_printer::Printer;
+use jsgen_tree::{BindingPatternNode, ExpressionNode, StatementNode};
+
+/// What nests, printed as it is elsewhere.
+pub struct Nested<L> {
+    inside: L,
+}
+
+impl<N, L: PrintInside<N>> PrintMember<ExpressionNode<N>> for Nested<L> {
+    ghost plain = { in_expression L.plain };
+
+    fn print_member(node: &ExpressionNode<N>, p: &mut Printer<'_>, place: Place) {
+        L::print(node.get(), p, place);
+    }
+}
+
+impl<N, L: PrintInside<N>> PrintMember<StatementNode<N>> for Nested<L> {
+    ghost plain = { in_statement L.plain };
+
+    fn print_member(node: &StatementNode<N>, p: &mut Printer<'_>, place: Place) {
+        L::print(node.get(), p, place);
+    }
+}
+
+impl<N, L: PrintInside<N>> PrintMember<BindingPatternNode<N>> for Nested<L> {
+    ghost plain = { in_binding_pattern L.plain };
+
+    fn print_member(node: &BindingPatternNode<N>, p: &mut Printer<'_>, place: Place) {
+        L::print(node.get(), p, place);
+    }
+}
