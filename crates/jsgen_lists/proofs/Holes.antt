@@ -1,50 +1,25 @@
--- Lists in which members may be left out: what a turn leaves, and where a member stands.
+-- Lists in which members may be left out.
 use Rattle.std.proofs.Common.{◌≡◌, ℕ, Bool, true, false, Option, Some, None, is_some, List, [], ◌∷◌, map, length, slice_get, zero, suc, ◌-◌, ◌≤◌, ◌<◌, nat_lt, refl, ap, sym, ◌∙◌, arith}
 use Rattle.std.specs.Bool.{◌==◌}
 use Rattle.std.proofs.lemmas.Bool.{both_ways, eqb-true, lt-ltb}
 use Rattle.std.proofs.lemmas.Option.{same_Some}
 use Rattle.jsgen_tree.specs.Tree.{Tree, holed}
 use Rattle.jsgen_model.specs.Punctuator.{comma}
-use Rattle.jsgen_model.specs.Items.{Items, ◌⊕◌, punctuator, soft_space, soft_line}
-use Rattle.jsgen_model.specs.Layout.{Pen, nowhere, layout, indented, indent_or_space, at_indentation, unless_printed, not}
-use Rattle.jsgen_model.specs.Spell as spells
-use Rattle.jsgen_model.specs.Spell.{spell_elements, spell_more_elements, next_line, line_or_space, on_lines, object_inside, are_more, count, ends_in_hole}
+use Rattle.jsgen_model.specs.Items.{Items, ◌⊕◌, punctuator, soft_space}
+use Rattle.jsgen_model.specs.Layout.{Pen, layout, not}
+use Rattle.jsgen_place.specs.declared.place.Place.{Place}
+use Rattle.jsgen_model.specs.Spell.{spell_elements, spell_more_elements, line_or_space, on_lines, object_inside, are_more, count, ends_in_hole}
 use Rattle.jsgen_lists.specs.Lists.{element_items, all_elements}
-use Rattle.jsgen_printer.proofs.Sequence.{still_nowhere}
 
 -- ---- the first of the members
 
-pub elements_first : (lines : Bool) (o : Option Tree) (os : List (Option Tree)) (place : spells.Place) (at : Pen) → layout (spell_elements lines (holed (o ∷ os)) place) at ≡ layout (element_items o place ⊕ spell_more_elements lines (holed os) place) at
+pub elements_first : (lines : Bool) (o : Option Tree) (os : List (Option Tree)) (place : Place) (at : Pen) → layout (element_items o place ⊕ spell_more_elements lines (holed os) place) at ≡ layout (spell_elements lines (holed (o ∷ os)) place) at
 elements_first lines None os place at = refl
 elements_first lines (Some t) os place at = refl
 
-pub more_first : (lines : Bool) (o : Option Tree) (os : List (Option Tree)) (place : spells.Place) (at : Pen) → layout (spell_more_elements lines (holed (o ∷ os)) place) at ≡ layout (punctuator comma ⊕ (line_or_space lines ⊕ (element_items o place ⊕ spell_more_elements lines (holed os) place))) at
+pub more_first : (lines : Bool) (o : Option Tree) (os : List (Option Tree)) (place : Place) (at : Pen) → layout (spell_more_elements lines (holed (o ∷ os)) place) at ≡ layout (punctuator comma ⊕ (line_or_space lines ⊕ (element_items o place ⊕ spell_more_elements lines (holed os) place))) at
 more_first lines None os place at = refl
 more_first lines (Some t) os place at = refl
-
--- ---- nothing begins behind blanks where nothing began before them
-
-indented_nowhere : (gap : List ℕ) (pen : Pen) → pen.start ≡ nowhere → (indented gap pen).start ≡ nowhere
-indented_nowhere [] pen h = h
-indented_nowhere (c ∷ cs) pen h = refl
-
-spaced_nowhere : (b : Bool) (pen : Pen) → pen.start ≡ nowhere → (indent_or_space b pen).start ≡ nowhere
-spaced_nowhere true pen h = refl
-spaced_nowhere false pen h = indented_nowhere _ pen h
-
-indentation_nowhere : (b : Bool) (pen : Pen) → pen.start ≡ nowhere → (at_indentation b pen).start ≡ nowhere
-indentation_nowhere true pen h = h
-indentation_nowhere false pen h = spaced_nowhere pen.pending_space pen h
-
-soft_nowhere : (pen : Pen) → pen.start ≡ nowhere → unless_printed (not pen.style.minified) pen.start ≡ nowhere
-soft_nowhere pen h = ap (λ s. unless_printed (not pen.style.minified) s) h ∙ still_nowhere (not pen.style.minified)
-
-line_nowhere : (pen : Pen) → pen.start ≡ nowhere → (layout next_line pen).start ≡ nowhere
-line_nowhere pen h = indentation_nowhere pen.style.minified (layout soft_line pen) (soft_nowhere pen h)
-
-pub between_nowhere : (lines : Bool) (pen : Pen) → pen.start ≡ nowhere → (layout (line_or_space lines) pen).start ≡ nowhere
-between_nowhere true pen h = line_nowhere pen h
-between_nowhere false pen h = soft_nowhere pen h
 
 -- ---- how many there are, and whether the last is left out
 
@@ -82,26 +57,26 @@ last_left_out f (y ∷ ys) x e = at_last f (y ∷ ys) (length ys) x refl (e ∙ 
 
 -- ---- an object, by how many properties it has
 
-pub none_inside : {A : Type 0} (f : A → Option Tree) (xs : List A) (place : spells.Place) → length xs == 0 ≡ true → all_elements false (holed (map f xs)) place ≡ object_inside (holed (map f xs)) (all_elements (are_more 1 (holed (map f xs))) (holed (map f xs)) place)
+pub none_inside : {A : Type 0} (f : A → Option Tree) (xs : List A) (place : Place) → length xs == 0 ≡ true → object_inside (holed (map f xs)) (all_elements (are_more 1 (holed (map f xs))) (holed (map f xs)) place) ≡ all_elements false (holed (map f xs)) place
 none_inside f [] place e = refl
 none_inside f (x ∷ xs) place e = absurd (omega (arith, eqb-true (suc (length xs)) 0 e))
 
-one_inside : (o : Option Tree) (place : spells.Place) → soft_space ⊕ (all_elements false (holed (o ∷ [])) place ⊕ soft_space) ≡ object_inside (holed (o ∷ [])) (all_elements (are_more 1 (holed (o ∷ []))) (holed (o ∷ [])) place)
+one_inside : (o : Option Tree) (place : Place) → object_inside (holed (o ∷ [])) (all_elements (are_more 1 (holed (o ∷ []))) (holed (o ∷ [])) place) ≡ soft_space ⊕ (all_elements false (holed (o ∷ [])) place ⊕ soft_space)
 one_inside None place = refl
 one_inside (Some t) place = refl
 
-pub single_inside : {A : Type 0} (f : A → Option Tree) (xs : List A) (place : spells.Place) → length xs ≤ 1 → length xs == 0 ≡ false → soft_space ⊕ (all_elements false (holed (map f xs)) place ⊕ soft_space) ≡ object_inside (holed (map f xs)) (all_elements (are_more 1 (holed (map f xs))) (holed (map f xs)) place)
+pub single_inside : {A : Type 0} (f : A → Option Tree) (xs : List A) (place : Place) → length xs ≤ 1 → length xs == 0 ≡ false → object_inside (holed (map f xs)) (all_elements (are_more 1 (holed (map f xs))) (holed (map f xs)) place) ≡ soft_space ⊕ (all_elements false (holed (map f xs)) place ⊕ soft_space)
 single_inside f [] place h e = absurd (both_ways true e refl)
 single_inside f (x ∷ []) place h e = one_inside (f x) place
 single_inside f (x ∷ y ∷ xs) place h e = absurd (omega (arith, h))
 
-many_inside : (o p : Option Tree) (os : List (Option Tree)) (items : Items) → on_lines true items ≡ object_inside (holed (o ∷ p ∷ os)) items
+many_inside : (o p : Option Tree) (os : List (Option Tree)) (items : Items) → object_inside (holed (o ∷ p ∷ os)) items ≡ on_lines true items
 many_inside None None os items = refl
 many_inside None (Some t) os items = refl
 many_inside (Some t) None os items = refl
 many_inside (Some t) (Some u) os items = refl
 
-pub more_inside : {A : Type 0} (f : A → Option Tree) (xs : List A) (place : spells.Place) → 1 < length xs → on_lines true (all_elements true (holed (map f xs)) place) ≡ object_inside (holed (map f xs)) (all_elements (are_more 1 (holed (map f xs))) (holed (map f xs)) place)
+pub more_inside : {A : Type 0} (f : A → Option Tree) (xs : List A) (place : Place) → 1 < length xs → object_inside (holed (map f xs)) (all_elements (are_more 1 (holed (map f xs))) (holed (map f xs)) place) ≡ on_lines true (all_elements true (holed (map f xs)) place)
 more_inside f [] place h = absurd (omega (arith, h))
 more_inside f (x ∷ []) place h = absurd (omega (arith, h))
-more_inside f (x ∷ y ∷ xs) place h = ap (λ b. on_lines true (all_elements b (holed (map f (x ∷ y ∷ xs))) place)) (sym (are_more_than 1 f (x ∷ y ∷ xs) ∙ lt-ltb 1 (suc (suc (length xs))) h)) ∙ many_inside (f x) (f y) (map f xs) (all_elements (are_more 1 (holed (map f (x ∷ y ∷ xs)))) (holed (map f (x ∷ y ∷ xs))) place)
+more_inside f (x ∷ y ∷ xs) place h = many_inside (f x) (f y) (map f xs) (all_elements (are_more 1 (holed (map f (x ∷ y ∷ xs)))) (holed (map f (x ∷ y ∷ xs))) place) ∙ ap (λ b. on_lines true (all_elements b (holed (map f (x ∷ y ∷ xs))) place)) (are_more_than 1 f (x ∷ y ∷ xs) ∙ lt-ltb 1 (suc (suc (length xs))) h)

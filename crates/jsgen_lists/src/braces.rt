@@ -1,21 +1,18 @@
 // Braces round statements or cases.
-ghost use Rattle.std.specs.Prelude.{◌≡◌, false, map};
+ghost use Rattle.std.specs.Prelude.{◌≡◌, map};
 ghost use Rattle.jsgen_tree.specs.Tree.{trees};
 ghost use Rattle.jsgen_model.specs.Punctuator.{Brace};
 ghost use Rattle.jsgen_model.specs.Items.{◌⊕◌, nothing, brackets, drop_semicolon};
 ghost use Rattle.jsgen_model.specs.Spell.{spell_statements, braces, filled_braces};
 ghost use Rattle.jsgen_printer.specs.Printer.{pen_of};
-ghost use Rattle.jsgen_printer.specs.Steps.{Goes, Lays, has_failed};
+ghost use Rattle.jsgen_printer.specs.Steps.{Goes, Lays};
 ghost use Rattle.jsgen_lists.specs.Lists.{braces_opened, braces_closed};
 
 use crate::statements::{PrintStatement, print_statements};
 use jsgen_printer::{Bracket, Printer};
 
 /// Braces round statements, each of which stands on a line of its own.
-pub fn print_braces<E, S: PrintStatement<E>>(
-    statements: &[E],
-    p: &mut Printer<'_>,
-)
+pub fn print_braces<E, S: PrintStatement<E>>(statements: &[E], p: &mut Printer<'_>)
     ensures { Lays p.old p.new (braces (trees (map S.plain statements.now))
         (spell_statements (trees (map S.plain statements.now)))) }
 {
@@ -35,10 +32,7 @@ pub fn print_empty_braces(p: &mut Printer<'_>)
     p.drop_semicolon();
 }
 
-fn print_filled_braces<E, S: PrintStatement<E>>(
-    statements: &[E],
-    p: &mut Printer<'_>,
-)
+fn print_filled_braces<E, S: PrintStatement<E>>(statements: &[E], p: &mut Printer<'_>)
     ensures { Lays p.old p.new (filled_braces (spell_statements (trees (map S.plain statements.now)))) }
 {
     let depth = open_braces(p);
@@ -48,12 +42,13 @@ fn print_filled_braces<E, S: PrintStatement<E>>(
 
 /// The opening brace, behind which the code is one level deeper; gives the level before.
 pub fn open_braces(p: &mut Printer<'_>) -> u32
-    ensures level { has_failed p.new ≡ false → result ≡ (pen_of p.old).depth }
+    ensures level { result ≡ (pen_of p.old).depth }
     ensures pen { Goes p.old p.new braces_opened }
 {
+    let depth = p.deepen();
     p.print_opening(Bracket::Brace);
     p.print_soft_line();
-    p.deepen()
+    depth
 }
 
 /// The closing brace, at the level before.

@@ -4,7 +4,8 @@ ghost use Rattle.jsgen_syntax.specs.declared.precedence.Precedence.TheVariants.{
 ghost use Rattle.jsgen_tree.specs.Tree.{Tree, more, no_trees, trees, optional};
 ghost use Rattle.jsgen_model.specs.Punctuator.{colon};
 ghost use Rattle.jsgen_model.specs.Items.{◌⊕◌, punctuator, indentation};
-ghost use Rattle.jsgen_model.specs.Spell.{spell_statements, spell_only, spell_test, case_items, in_brackets, among_statements};
+ghost use Rattle.jsgen_place.specs.Place.{in_brackets};
+ghost use Rattle.jsgen_model.specs.Spell.{spell_statements, spell_only, spell_test, case_items};
 ghost use Rattle.jsgen_printer.specs.Steps.{Lays};
 
 use crate::maybe::print_case_test;
@@ -20,7 +21,7 @@ pub trait PrintOnly<E> {
     ghost plain: { E → Tree };
 
     fn print_only(statement: &E, p: &mut Printer<'_>)
-            ensures { Lays p.old p.new (spell_only (more (plain statement.now) no_trees)) };
+        ensures { Lays p.old p.new (spell_only (more (plain statement.now) no_trees)) };
 }
 
 /// A case: its test or its word, and the statements that stand under it.
@@ -47,10 +48,7 @@ fn print_case_head<E, L: PrintMember<E>>(test: &Option<E>, p: &mut Printer<'_>)
 }
 
 // One statement as a body, or any other number on lines of their own.
-fn print_consequent<F, O: PrintOnly<F>, S: PrintStatement<F>>(
-    statements: &[F],
-    p: &mut Printer<'_>,
-)
+fn print_consequent<F, O: PrintOnly<F>, S: PrintStatement<F>>(statements: &[F], p: &mut Printer<'_>)
     ensures { Lays p.old p.new (case_items (trees (map S.plain statements.now)) (spell_only (trees (map O.plain statements.now))) (spell_statements (trees (map S.plain statements.now)))) }
 {
     if statements.len() == 1 {

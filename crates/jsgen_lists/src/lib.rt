@@ -26,7 +26,7 @@ pub use links::{print_bracket_link, print_named_member};
 pub use maybe::{
     print_apart, print_behind_space, print_caught, print_comma_between, print_if_given, print_value,
 };
-pub use members::{PrintMember, print_in_brackets, print_more, print_list};
+pub use members::{PrintMember, print_in_brackets, print_list, print_more};
 pub use parts::print_loop_parts;
 pub use statements::{
     PrintStatement, print_body, print_deeper_body, print_statements, print_whole_body,

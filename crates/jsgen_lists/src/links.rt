@@ -19,7 +19,7 @@ pub fn print_named_member<E, L: PrintMember<E>>(
     place: Place,
 )
     ensures { Lays p.old p.new (spell (L.plain object.now) place
-        ⊕ (name_link optional ⊕ name (as_written (characters property.now.name)))) }
+        ⊕ (name_link optional ⊕ name property.now.span (as_written (characters property.now.name)))) }
 {
     L::print_member(object, p, place);
     print_member_name(optional, property, p);
@@ -27,10 +27,10 @@ pub fn print_named_member<E, L: PrintMember<E>>(
 
 // Behind the object.
 fn print_member_name(optional: bool, property: &IdentifierName, p: &mut Printer<'_>)
-    ensures { Lays p.old p.new (name_link optional ⊕ name (as_written (characters property.now.name))) }
+    ensures { Lays p.old p.new (name_link optional ⊕ name property.now.span (as_written (characters property.now.name))) }
 {
     print_name_link(optional, p);
-    p.print_name(property.name.as_str());
+    p.print_name(property.span, property.name.as_str());
 }
 
 // What stands before a member's name.

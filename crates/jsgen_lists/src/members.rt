@@ -2,7 +2,7 @@
 ghost use Rattle.std.specs.Prelude.{map};
 ghost use Rattle.jsgen_tree.specs.Tree.{Tree, trees};
 ghost use Rattle.jsgen_model.specs.Items.{brackets};
-ghost use Rattle.jsgen_model.specs.Spell.{spell, spell_list, spell_more, spell_list};
+ghost use Rattle.jsgen_model.specs.Spell.{spell, spell_list, spell_more};
 ghost use Rattle.jsgen_printer.specs.Steps.{Lays};
 ghost use Rattle.jsgen_printer.specs.Printer.{bracket_of};
 
@@ -33,26 +33,14 @@ pub fn print_in_brackets<E, L: PrintMember<E>>(
     p.print_closing(bracket);
 }
 
-fn print_list<E, L: PrintMember<E>>(members: &[E], p: &mut Printer<'_>, place: Place)
+/// The members, with commas between them.
+pub fn print_list<E, L: PrintMember<E>>(members: &[E], p: &mut Printer<'_>, place: Place)
     ensures { Lays p.old p.new (spell_list (trees (map L.plain members.now)) place) }
 {
     match members.split_first() {
         Some((first, others)) => {
             L::print_member(first, p, place);
             print_more::<E, L>(others, p, place);
-        }
-        None => {}
-    }
-}
-
-/// The members, with commas between them, of which the first begins where the list does.
-pub fn print_list<E, L: PrintMember<E>>(parts: &[E], p: &mut Printer<'_>, place: Place)
-    ensures { Lays p.old p.new (spell_list (trees (map L.plain parts.now)) place) }
-{
-    match parts.split_first() {
-        Some((first, rest)) => {
-            L::print_member(first, p, place);
-            print_more::<E, L>(rest, p, place);
         }
         None => {}
     }

@@ -1,8 +1,9 @@
 // Lists of statements, or of cases.
 ghost use Rattle.std.specs.Prelude.{map};
 ghost use Rattle.jsgen_tree.specs.Tree.{Tree, trees};
+ghost use Rattle.jsgen_place.specs.Place.{among_statements};
 ghost use Rattle.jsgen_model.specs.Items.{◌⊕◌, soft_line, deeper, due_semicolon, indentation};
-ghost use Rattle.jsgen_model.specs.Spell.{spell, spell_body, spell_statements, first_statement, among_statements};
+ghost use Rattle.jsgen_model.specs.Spell.{spell, spell_body, spell_statements, first_statement};
 ghost use Rattle.jsgen_printer.specs.Steps.{Lays};
 
 use jsgen_place::Place;
@@ -22,10 +23,7 @@ pub trait PrintStatement<E> {
 }
 
 /// A program's statements, and the semicolon that is due behind the last.
-pub fn print_whole_body<E, S: PrintStatement<E>>(
-    statements: &[E],
-    p: &mut Printer<'_>,
-)
+pub fn print_whole_body<E, S: PrintStatement<E>>(statements: &[E], p: &mut Printer<'_>)
     ensures { Lays p.old p.new (spell_body (trees (map S.plain statements.now)) ⊕ due_semicolon) }
 {
     print_body::<E, S>(statements, p);
@@ -33,10 +31,7 @@ pub fn print_whole_body<E, S: PrintStatement<E>>(
 }
 
 /// The statements of a body, of which the first may not become a directive.
-pub fn print_body<E, S: PrintStatement<E>>(
-    statements: &[E],
-    p: &mut Printer<'_>,
-)
+pub fn print_body<E, S: PrintStatement<E>>(statements: &[E], p: &mut Printer<'_>)
     ensures { Lays p.old p.new (spell_body (trees (map S.plain statements.now))) }
 {
     match statements.split_first() {
@@ -50,10 +45,7 @@ pub fn print_body<E, S: PrintStatement<E>>(
 }
 
 /// Each after the semicolon that the one before may have left.
-pub fn print_statements<E, S: PrintStatement<E>>(
-    statements: &[E],
-    p: &mut Printer<'_>,
-)
+pub fn print_statements<E, S: PrintStatement<E>>(statements: &[E], p: &mut Printer<'_>)
     ensures { Lays p.old p.new (spell_statements (trees (map S.plain statements.now))) }
 {
     for statement in statements {
@@ -63,10 +55,7 @@ pub fn print_statements<E, S: PrintStatement<E>>(
 }
 
 /// On lines of their own, one level deeper.
-pub fn print_deeper_statements<E, S: PrintStatement<E>>(
-    statements: &[E],
-    p: &mut Printer<'_>,
-)
+pub fn print_deeper_statements<E, S: PrintStatement<E>>(statements: &[E], p: &mut Printer<'_>)
     ensures { Lays p.old p.new (soft_line ⊕ deeper (spell_statements (trees (map S.plain statements.now)))) }
 {
     p.print_soft_line();

@@ -1,7 +1,8 @@
 // An operator before or behind what it changes.
 ghost use Rattle.jsgen_syntax.specs.declared.precedence.Precedence.TheVariants.{Prefix, Postfix};
+ghost use Rattle.jsgen_place.specs.Place.{child};
 ghost use Rattle.jsgen_model.specs.Items.{◌⊕◌};
-ghost use Rattle.jsgen_model.specs.Spell.{spell, behind, in_front, update_items};
+ghost use Rattle.jsgen_model.specs.Spell.{spell, update_items};
 ghost use Rattle.jsgen_model.specs.Operators.{update_item};
 ghost use Rattle.jsgen_printer.specs.Steps.{Lays};
 

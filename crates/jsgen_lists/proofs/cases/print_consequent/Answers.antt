@@ -1,6 +1,4 @@
 use Rattle.std.proofs.Common.{arith}
-use Rattle.jsgen_place.specs.Place.{settings_of}
-use Rattle.jsgen_printer.proofs.Sequence.{as_laid}
 use Rattle.jsgen_lists.proofs.NotOne.{one_case, other_cases}
 use Rattle.jsgen_lists.proofs.cases.print_consequent.Goals as goal
 
@@ -8,8 +6,7 @@ pub bounds-statements-0 : goal.bounds-statements-0
 bounds-statements-0 g c = omega (arith, c.if-statements-eq1.true)
 
 pub returns-then-statements-eq1 : goal.returns-then-statements-eq1
-returns-then-statements-eq1 g c =
-    as_laid _ (λ going. one_case g.S.PrintStatement.plain g.O.PrintOnly.plain c.args.statements.now c.index-statements-0.result (settings_of c.args.settings) _ c.if-statements-eq1.true c.index-statements-0.is) c.print_only.ensures
+returns-then-statements-eq1 g c = rw (one_case g.S.PrintStatement.plain g.O.PrintOnly.plain c.args.statements.now c.index-statements-0.result _ c.if-statements-eq1.true c.index-statements-0.is) c.print_only.ensures
 
 pub returns-else-statements-eq1 : goal.returns-else-statements-eq1
-returns-else-statements-eq1 g c = as_laid _ (λ going. other_cases g.S.PrintStatement.plain c.args.statements.now _ _ c.if-statements-eq1.false) c.print_deeper_statements.ensures
+returns-else-statements-eq1 g c = rw (other_cases g.S.PrintStatement.plain c.args.statements.now _ _ c.if-statements-eq1.false) c.print_deeper_statements.ensures

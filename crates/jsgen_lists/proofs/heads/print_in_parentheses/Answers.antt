@@ -1,8 +1,6 @@
-use Rattle.std.proofs.Common.{refl}
 use Rattle.jsgen_model.specs.Punctuator.{Round}
-use Rattle.jsgen_printer.proofs.Sequence.{in_brackets_laid, none_behind}
-use Rattle.jsgen_lists.proofs.Turns.{here}
+use Rattle.jsgen_printer.proofs.Sequence.{in_brackets_laid}
 use Rattle.jsgen_lists.proofs.heads.print_in_parentheses.Goals as goal
 
 pub returns : goal.returns
-returns g c = in_brackets_laid Round c.print_opening.ensures (here (g.L.PrintMember.plain c.args.member.now) c.args.place (none_behind (λ pen. refl) c.print_opening.ensures) c.print_member.ensures) c.print_closing.ensures
+returns g c = in_brackets_laid Round c.print_opening.ensures c.print_member.ensures c.print_closing.ensures

@@ -2,18 +2,16 @@ use Rattle.std.proofs.Common.{map, refl}
 use Rattle.jsgen_tree.specs.Tree.{trees}
 use Rattle.jsgen_model.specs.Spell.{spell_more}
 use Rattle.jsgen_printer.proofs.Turns.{turn, left_as, done}
-use Rattle.jsgen_lists.specs.Lists.{listed}
-use Rattle.jsgen_lists.proofs.Turns.{items_left, none_left, behind_comma, left_grouped}
+use Rattle.jsgen_lists.proofs.Turns.{items_left, none_left, left_grouped}
 use Rattle.jsgen_lists.proofs.members.print_more.Goals as goal
 
 pub loop-member-preserved : goal.loop-member-preserved
 loop-member-preserved g l =
-    let plain = g.L.PrintMember.plain in
-    let items = λ (ms : _). spell_more (trees (map plain ms)) (listed l.args.place) in
+    let items = λ (ms : _). spell_more (trees (map g.L.PrintMember.plain ms)) l.args.place in
     let left = left_as (items_left items l.args.members.now l.loop-member.member-index l.member-item.result l.loop-member-test.true l.member-item.is) l.loop-member.invariant in
-    turn (left_grouped _ (λ pen. refl) left) (behind_comma (plain l.member-item.result) l.args.place l.print_comma_and_space.ensures l.print_member.ensures)
+    turn (turn (left_grouped _ (λ pen. refl) left) l.print_comma_and_space.ensures) l.print_member.ensures
 
 pub returns : goal.returns
 returns g l =
-    let items = λ (ms : _). spell_more (trees (map g.L.PrintMember.plain ms)) (listed l.args.place) in
+    let items = λ (ms : _). spell_more (trees (map g.L.PrintMember.plain ms)) l.args.place in
     done (λ pen. refl) (left_as (none_left items l.args.members.now l.loop-member.member-index l.loop-member-test.false) l.loop-member.invariant)

@@ -2,11 +2,10 @@ use Rattle.std.proofs.Common.{map, drop}
 use Rattle.jsgen_tree.specs.Tree.{trees}
 use Rattle.jsgen_model.specs.Spell.{spell_more}
 use Rattle.jsgen_printer.proofs.Turns.{Towards}
-use Rattle.jsgen_lists.specs.Lists.{listed}
 use Rattle.jsgen_lists.proofs.members.print_more.Given as goal
 
 -- what was laid out so far, and the members left, give the whole
 abbrev pub invariant-loop-member : goal.invariant-loop-member
 invariant-loop-member g l =
-    let items = λ (ms : _). spell_more (trees (map g.L.PrintMember.plain ms)) (listed l.place) in
+    let items = λ (ms : _). spell_more (trees (map g.L.PrintMember.plain ms)) l.place in
     Towards l.fn.p l.p (items (drop l.member-index l.members)) (items l.members)

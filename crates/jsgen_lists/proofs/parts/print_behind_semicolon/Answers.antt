@@ -1,9 +1,5 @@
-use Rattle.std.proofs.Common.{refl}
-use Rattle.jsgen_printer.proofs.Sequence.{◌⨾◌, none_behind, items_go}
+use Rattle.jsgen_printer.proofs.Sequence.{◌⨾◌}
 use Rattle.jsgen_lists.proofs.parts.print_behind_semicolon.Goals as goal
-
-pub print_apart-requires : goal.print_apart-requires
-print_apart-requires g c = none_behind (λ pen. refl) (items_go c.print_semicolon.ensures)
 
 pub returns : goal.returns
 returns g c = c.print_semicolon.ensures ⨾ c.print_apart.ensures

@@ -1,8 +1,5 @@
-use Rattle.jsgen_printer.proofs.Sequence.{◌⨾◌, deeper_laid, none_still, behind_line}
+use Rattle.jsgen_printer.proofs.Sequence.{◌⨾◌, deeper_laid}
 use Rattle.jsgen_lists.proofs.statements.print_deeper_body.Goals as goal
-
-pub print_ended-requires : goal.print_ended-requires
-print_ended-requires g c = none_still (λ pen none. none) (behind_line c.requires c.print_soft_line.ensures) c.deepen-depth.ensures.pen
 
 pub returns : goal.returns
 returns g c = c.print_soft_line.ensures ⨾ (deeper_laid c.deepen-depth.result (λ going. c.deepen-depth.ensures.level) c.deepen-depth.ensures.pen c.print_ended.ensures c.set_depth.ensures.goes ⨾ c.print_indentation.ensures)

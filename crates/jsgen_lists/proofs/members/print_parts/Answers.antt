@@ -1,9 +1,0 @@
-use Rattle.std.proofs.lemmas.List.{nil_from_length}
-use Rattle.jsgen_printer.proofs.Sequence.{◌⨾◌, nothing_laid}
-use Rattle.jsgen_lists.proofs.members.print_parts.Goals as goal
-
-pub returns-in-Some : goal.returns-in-Some
-returns-in-Some g c = rw c.in-Some.ensures.cases.0 (c.print_member.ensures ⨾ c.print_more.ensures)
-
-pub returns-in-None : goal.returns-in-None
-returns-in-None g c = rw (nil_from_length c.args.parts.now c.in-None.ensures.cases) (nothing_laid _)
