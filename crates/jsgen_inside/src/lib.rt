@@ -10,7 +10,7 @@ ghost use Rattle.jsgen_tree.specs.Tree.{Tree, type_of};
 ghost use Rattle.jsgen_model.specs.Spell.{spell};
 ghost use Rattle.jsgen_printer.specs.Steps.{Lays};
 
-pub use bodies::print_body;
+pub use bodies::{print_behind_one_space, print_body, shape_of};
 use jsgen_place::Place;
 use jsgen_printer::Printer;
 use jsgen_tree::NodeType;

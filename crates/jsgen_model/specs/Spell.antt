@@ -5,6 +5,8 @@ use Rattle.jsgen_syntax.specs.Operator.{binary_level, lower_level, logical_level
 use Rattle.jsgen_syntax.specs.declared.precedence.Precedence.{Precedence}
 use Rattle.jsgen_syntax.specs.declared.precedence.Precedence.TheVariants.{Lowest, Comma, Yield, Assign, Conditional, Multiply, Exponentiation, Prefix, Postfix, New, Call}
 use Rattle.jsgen_place.specs.declared.place.Place.{Place}
+use Rattle.jsgen_place.specs.declared.shape.Shape.{Shape}
+use Rattle.jsgen_place.specs.declared.shape.Shape.TheVariants as shapes
 use Rattle.jsgen_place.specs.Place.{child, left_operand, in_brackets, loop_head, among_statements, within_statement, with_calls, quoted_plainly, linked, called, constructed, within, wraps, binary_wraps, logical_wraps, call_wraps, chain_wraps, chain_place, arrow_wraps, update_level}
 use Rattle.jsgen_syntax.specs.declared.operator.BinaryOperator.{BinaryOperator}
 use Rattle.jsgen_syntax.specs.declared.operator.BinaryOperator.TheVariants as operators
@@ -145,14 +147,12 @@ abbrev pub block_items : Bool → Items → Items
 block_items true items = indentation ⊕ (items ⊕ soft_line)
 block_items false items = items
 
-pub data Shape : Type 0 where
-  a_block an_if an_empty other : Shape
-
+-- how a statement stands as the body of another one
 abbrev pub shape_of_type : NodeType → Shape
-shape_of_type types.BlockStatement = a_block
-shape_of_type types.IfStatement = an_if
-shape_of_type types.EmptyStatement = an_empty
-shape_of_type type = other
+shape_of_type types.BlockStatement = shapes.Block
+shape_of_type types.IfStatement = shapes.If
+shape_of_type types.EmptyStatement = shapes.Empty
+shape_of_type type = shapes.Other
 
 abbrev pub shape : Tree → Shape
 shape t = shape_of_type (type_of t)
@@ -169,26 +169,26 @@ body_end false = nothing
 -- What `if` is followed by: within what is around it, or as it stands among statements. Where it ends in an `if` without
 -- `else`, it stands in braces
 abbrev pub consequent_items : Shape → Bool → Items → Items → Bool → Items
-consequent_items a_block false inner whole else_follows = soft_space ⊕ (inner ⊕ braces_end else_follows)
-consequent_items an_empty false inner whole else_follows = punctuator semicolon ⊕ (soft_line ⊕ body_end else_follows)
+consequent_items shapes.Block false inner whole else_follows = soft_space ⊕ (inner ⊕ braces_end else_follows)
+consequent_items shapes.Empty false inner whole else_follows = punctuator semicolon ⊕ (soft_line ⊕ body_end else_follows)
 consequent_items s false inner whole else_follows = body_space ⊕ (whole ⊕ body_end else_follows)
 consequent_items s true inner whole else_follows = soft_space ⊕ (filled_braces whole ⊕ braces_end else_follows)
 
 -- what the head of a loop, a label or a case is followed by: a block goes on with the line, and any other statement stands behind one space
 abbrev pub body_items : Shape → Items → Items → Items
-body_items a_block inner whole = soft_space ⊕ (inner ⊕ soft_line)
-body_items an_empty inner whole = punctuator semicolon ⊕ soft_line
+body_items shapes.Block inner whole = soft_space ⊕ (inner ⊕ soft_line)
+body_items shapes.Empty inner whole = punctuator semicolon ⊕ soft_line
 body_items s inner whole = body_space ⊕ whole
 
 -- what `else` is followed by
 abbrev pub alternate_items : Shape → Items → Items → Items
-alternate_items an_if inner whole = hard_space ⊕ inner
+alternate_items shapes.If inner whole = hard_space ⊕ inner
 alternate_items s inner whole = body_items s inner whole
 
 -- what stands between `do` and `while`: a statement that is no block stands on a line of its own, with its semicolon
 abbrev pub do_items : Shape → Items → Items → Items
-do_items a_block inner whole = soft_space ⊕ (inner ⊕ soft_space)
-do_items an_empty inner whole = punctuator semicolon ⊕ (soft_line ⊕ indentation)
+do_items shapes.Block inner whole = soft_space ⊕ (inner ⊕ soft_space)
+do_items shapes.Empty inner whole = punctuator semicolon ⊕ (soft_line ⊕ indentation)
 do_items s inner whole = soft_line ⊕ (deeper (whole ⊕ due_semicolon) ⊕ indentation)
 
 -- what stands behind the colon of a case: one statement as a body, or any other number on lines of their own

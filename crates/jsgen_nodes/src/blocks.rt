@@ -170,16 +170,6 @@ fn print_behind_else<N: PrintNode>(alternate: &N, p: &mut Printer<'_>)
     }
 }
 
-pub fn print_empty_statement(node: &EmptyStatement, p: &mut Printer<'_>, place: Place)
-    ensures { Lays p.old p.new (spell (empty_statement_row node.now) place) }
-{
-    let _ = node;
-    let _ = place;
-    p.print_indentation();
-    p.print_semicolon();
-    p.print_soft_line();
-}
-
 /// Blocks that stand by themselves in other statements.
 pub struct Blocks;
 

@@ -27,19 +27,6 @@ use jsgen_tree::{
     ObjectProperty, ObjectPropertyKind, PropertyKey, SpreadElement,
 };
 
-pub fn print_spread_element<N: PrintNode>(
-    node: &SpreadElement<N>,
-    p: &mut Printer<'_>,
-    place: Place,
-)
-    ensures { Lays p.old p.new (spell (spread_element_row N.plain node.now) place) }
-{
-    p.print_ellipsis();
-    node.argument
-        .get()
-        .print(p, Place::in_brackets(Precedence::Comma));
-}
-
 pub fn print_array_expression<N: PrintNode>(
     node: &ArrayExpression<N>,
     p: &mut Printer<'_>,

@@ -21,29 +21,6 @@ use jsgen_tree::{
     ThisExpression, behind_minus,
 };
 
-pub fn print_identifier_reference(node: &IdentifierReference, p: &mut Printer<'_>, place: Place)
-    ensures { Lays p.old p.new (spell (identifier_reference_row node.now) place) }
-{
-    let _ = place;
-    p.print_reference(node.name.as_str(), node.reference);
-}
-
-pub fn print_this_expression(node: &ThisExpression, p: &mut Printer<'_>, place: Place)
-    ensures { Lays p.old p.new (spell (this_expression_row node.now) place) }
-{
-    let _ = node;
-    let _ = place;
-    p.print_word("this");
-}
-
-pub fn print_null_literal(node: &NullLiteral, p: &mut Printer<'_>, place: Place)
-    ensures { Lays p.old p.new (spell (null_literal_row node.now) place) }
-{
-    let _ = node;
-    let _ = place;
-    p.print_word("null");
-}
-
 pub fn print_boolean_literal(node: &BooleanLiteral, p: &mut Printer<'_>, place: Place)
     ensures { Lays p.old p.new (spell (boolean_literal_row node.now) place) }
 {
@@ -84,17 +61,6 @@ pub fn print_string_literal(node: &StringLiteral, p: &mut Printer<'_>, place: Pl
     ensures { Lays p.old p.new (spell (string_literal_row node.now) place) }
 {
     p.print_string(&node.value, !place.plain_quotes);
-}
-
-/// The printer sets parentheses by levels alone, and prints none for this node.
-pub fn print_parenthesized_expression<N: PrintNode>(
-    node: &ParenthesizedExpression<N>,
-    p: &mut Printer<'_>,
-    place: Place,
-)
-    ensures { Lays p.old p.new (spell (parenthesized_expression_row N.plain node.now) place) }
-{
-    node.expression.get().print(p, place);
 }
 
 pub fn print_binary_expression<N: PrintNode>(

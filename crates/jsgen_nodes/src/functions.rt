@@ -23,30 +23,6 @@ use jsgen_tree::{
 
 // ---- parameters
 
-pub fn print_formal_parameter<N: PrintNode>(
-    node: &FormalParameter<N>,
-    p: &mut Printer<'_>,
-    place: Place,
-)
-    ensures { Lays p.old p.new (spell (formal_parameter_row N.plain node.now) place) }
-{
-    node.pattern.get().print(p, place.child(Precedence::Lowest));
-    print_value::<_, Expressions>(&node.initializer, p, place.child(Precedence::Comma));
-}
-
-pub fn print_formal_parameter_rest<N: PrintNode>(
-    node: &FormalParameterRest<N>,
-    p: &mut Printer<'_>,
-    place: Place,
-)
-    ensures { Lays p.old p.new (spell (formal_parameter_rest_row N.plain node.now) place) }
-{
-    p.print_ellipsis();
-    node.argument
-        .get()
-        .print(p, place.child(Precedence::Lowest));
-}
-
 /// Parameters, of which the first begins where they do.
 pub fn print_formal_parameters<N: PrintNode>(
     node: &FormalParameters<N>,

@@ -22,13 +22,6 @@ use jsgen_tree::{
     IdentifierName, StaticMemberExpression,
 };
 
-pub fn print_identifier_name(node: &IdentifierName, p: &mut Printer<'_>, place: Place)
-    ensures { Lays p.old p.new (spell (identifier_name_row node.now) place) }
-{
-    let _ = place;
-    p.print_name(node.name.as_str());
-}
-
 pub fn print_static_member_expression<N: PrintNode>(
     node: &StaticMemberExpression<N>,
     p: &mut Printer<'_>,

@@ -72,19 +72,6 @@ impl<N: PrintNode> PrintMember<ForStatementInit<N>> for Inits {
     }
 }
 
-pub fn print_while_statement<N: PrintNode>(
-    node: &WhileStatement<N>,
-    p: &mut Printer<'_>,
-    place: Place,
-)
-    ensures { Lays p.old p.new (spell (while_statement_row N.plain node.now) place) }
-{
-    let within = Place::in_brackets(Precedence::Lowest);
-    p.print_indentation();
-    print_head::<_, Expressions>("while", &node.test, p, within);
-    print_body(node.body.get(), p);
-}
-
 pub fn print_do_while_statement<N: PrintNode>(
     node: &DoWhileStatement<N>,
     p: &mut Printer<'_>,

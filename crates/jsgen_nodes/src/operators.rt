@@ -20,31 +20,6 @@ use jsgen_tree::{
     UpdateExpression,
 };
 
-pub fn print_unary_expression<N: PrintNode>(
-    node: &UnaryExpression<N>,
-    p: &mut Printer<'_>,
-    place: Place,
-)
-    ensures { Lays p.old p.new (spell (unary_expression_row N.plain node.now) place) }
-{
-    let wrap = place.wraps(Precedence::Prefix);
-    p.print_opening_if(wrap);
-    print_unary_operation(node, p, place.within(wrap));
-    p.print_closing_if(wrap);
-}
-
-// The operator and its operand, within the parentheses.
-fn print_unary_operation<N: PrintNode>(node: &UnaryExpression<N>, p: &mut Printer<'_>, place: Place)
-    ensures { Lays p.old p.new (unary_sign node.now.operator ⊕ (behind_unary node.now.operator
-        ⊕ spell (in_expression N.plain node.now.argument) (child Exponentiation place))) }
-{
-    p.print_unary_operator(node.operator);
-    p.print_behind_unary(node.operator);
-    node.argument
-        .get()
-        .print(p, place.child(Precedence::Exponentiation));
-}
-
 pub fn print_update_expression<N: PrintNode>(
     node: &UpdateExpression<N>,
     p: &mut Printer<'_>,
@@ -119,20 +94,3 @@ fn is_given<N: PrintNode>(arguments: &[Argument<N>]) -> bool
     !arguments.is_empty()
 }
 
-pub fn print_super(node: &Super, p: &mut Printer<'_>, place: Place)
-    ensures { Lays p.old p.new (spell (super_row node.now) place) }
-{
-    let _ = node;
-    let _ = place;
-    p.print_word("super");
-}
-
-pub fn print_new_target(node: &NewTarget, p: &mut Printer<'_>, place: Place)
-    ensures { Lays p.old p.new (spell (new_target_row node.now) place) }
-{
-    let _ = node;
-    let _ = place;
-    p.print_word("new");
-    p.print_member_dot();
-    p.print_word("target");
-}

@@ -8,45 +8,26 @@ ghost use Rattle.jsgen_nodes.specs.Parts.{expression_part, declaration_part, sta
 
 use crate::PrintNode;
 use crate::assignments::print_assignment_expression;
-use crate::blocks::{print_block_statement, print_empty_statement, print_if_statement};
+use crate::blocks::{print_block_statement, print_if_statement};
 use crate::cases::print_switch_statement;
-use crate::choices::print_conditional_expression;
 use crate::collections::{print_array_expression, print_object_expression};
 use crate::definitions::print_function;
-use crate::expressions::{
-    print_big_int_literal, print_binary_expression, print_boolean_literal,
-    print_identifier_reference, print_logical_expression, print_null_literal,
-    print_numeric_literal, print_parenthesized_expression, print_string_literal,
-    print_this_expression,
-};
+use crate::expressions::{print_big_int_literal, print_binary_expression, print_boolean_literal, print_logical_expression, print_numeric_literal, print_string_literal};
 use crate::functions::print_arrow_function_expression;
 use crate::handlers::print_try_statement;
 use crate::iterations::{print_for_in_statement, print_for_of_statement};
-use crate::jumps::{
-    print_break_statement, print_continue_statement, print_debugger_statement,
-    print_labeled_statement, print_return_statement, print_throw_statement,
-};
-use crate::links::{
-    print_call_expression, print_chain_expression, print_computed_member_expression,
-    print_static_member_expression,
-};
-use crate::loops::{print_do_while_statement, print_for_statement, print_while_statement};
-use crate::operators::{
-    print_new_expression, print_new_target, print_super, print_unary_expression,
-    print_update_expression,
-};
-use crate::sequences::print_sequence_expression;
-use crate::statements::{
-    print_binding_identifier, print_expression_statement, print_variable_declaration,
-};
+use crate::links::{print_call_expression, print_chain_expression, print_computed_member_expression, print_static_member_expression};
+use crate::loops::{print_do_while_statement, print_for_statement};
+use crate::operators::{print_new_expression, print_update_expression};
 use jsgen_place::Place;
 use jsgen_printer::Printer;
-use jsgen_tree::{
-    AssignmentTarget, BindingPattern, Declaration, Expression, ForStatementLeft,
-    SimpleAssignmentTarget, Statement,
-};
+use jsgen_tree::{AssignmentTarget, BindingPattern, Declaration, Expression, ForStatementLeft, SimpleAssignmentTarget, Statement};
 
-pub fn print_expression<N: PrintNode>(node: &Expression<N>, p: &mut Printer<'_>, place: Place)
+pub fn print_expression<N: PrintNode>(
+    node: &Expression<N>,
+    p: &mut Printer<'_>,
+    place: Place,
+)
     ensures { Lays p.old p.new (at_place (expression_plain N.plain node.now) place) }
 {
     match node {
@@ -61,9 +42,7 @@ pub fn print_expression<N: PrintNode>(node: &Expression<N>, p: &mut Printer<'_>,
         Expression::BinaryExpression(node) => print_binary_expression(node, p, place),
         Expression::LogicalExpression(node) => print_logical_expression(node, p, place),
         Expression::StaticMemberExpression(node) => print_static_member_expression(node, p, place),
-        Expression::ComputedMemberExpression(node) => print_computed_member_expression(
-            node, p, place,
-        ),
+        Expression::ComputedMemberExpression(node) => print_computed_member_expression(node, p, place),
         Expression::CallExpression(node) => print_call_expression(node, p, place),
         Expression::ChainExpression(node) => print_chain_expression(node, p, place),
         _ => print_expression_in_collections(node, p, place),
@@ -129,14 +108,16 @@ fn print_expression_in_functions<N: PrintNode>(
 {
     match node {
         Expression::Function(node) => print_function(node, p, place),
-        Expression::ArrowFunctionExpression(node) => print_arrow_function_expression(
-            node, p, place,
-        ),
+        Expression::ArrowFunctionExpression(node) => print_arrow_function_expression(node, p, place),
         _ => unreachable!(),
     }
 }
 
-pub fn print_declaration<N: PrintNode>(node: &Declaration<N>, p: &mut Printer<'_>, place: Place)
+pub fn print_declaration<N: PrintNode>(
+    node: &Declaration<N>,
+    p: &mut Printer<'_>,
+    place: Place,
+)
     ensures { Lays p.old p.new (at_place (declaration_plain N.plain node.now) place) }
 {
     match node {
@@ -159,7 +140,11 @@ fn print_declaration_in_functions<N: PrintNode>(
     }
 }
 
-pub fn print_statement<N: PrintNode>(node: &Statement<N>, p: &mut Printer<'_>, place: Place)
+pub fn print_statement<N: PrintNode>(
+    node: &Statement<N>,
+    p: &mut Printer<'_>,
+    place: Place,
+)
     ensures { Lays p.old p.new (at_place (statement_plain N.plain node.now) place) }
 {
     match node {
@@ -185,7 +170,11 @@ fn print_statement_in_statements<N: PrintNode>(
     }
 }
 
-fn print_statement_in_loops<N: PrintNode>(node: &Statement<N>, p: &mut Printer<'_>, place: Place)
+fn print_statement_in_loops<N: PrintNode>(
+    node: &Statement<N>,
+    p: &mut Printer<'_>,
+    place: Place,
+)
     requires { nat_le 2 (statement_part node.now) ≡ true }
     ensures { Lays p.old p.new (at_place (statement_plain N.plain node.now) place) }
 {
@@ -205,7 +194,11 @@ fn print_statement_in_loops<N: PrintNode>(node: &Statement<N>, p: &mut Printer<'
     }
 }
 
-fn print_statement_in_choices<N: PrintNode>(node: &Statement<N>, p: &mut Printer<'_>, place: Place)
+fn print_statement_in_choices<N: PrintNode>(
+    node: &Statement<N>,
+    p: &mut Printer<'_>,
+    place: Place,
+)
     requires { nat_le 3 (statement_part node.now) ≡ true }
     ensures { Lays p.old p.new (at_place (statement_plain N.plain node.now) place) }
 {
@@ -216,7 +209,11 @@ fn print_statement_in_choices<N: PrintNode>(node: &Statement<N>, p: &mut Printer
     }
 }
 
-pub fn print_binding_pattern(node: &BindingPattern, p: &mut Printer<'_>, place: Place)
+pub fn print_binding_pattern(
+    node: &BindingPattern,
+    p: &mut Printer<'_>,
+    place: Place,
+)
     ensures { Lays p.old p.new (at_place (binding_pattern_plain node.now) place) }
 {
     match node {
@@ -232,15 +229,9 @@ pub fn print_simple_assignment_target<N: PrintNode>(
     ensures { Lays p.old p.new (at_place (in_simple_assignment_target N.plain node.now) place) }
 {
     match node {
-        SimpleAssignmentTarget::IdentifierReference(node) => print_identifier_reference(
-            node, p, place,
-        ),
-        SimpleAssignmentTarget::StaticMemberExpression(node) => print_static_member_expression(
-            node, p, place,
-        ),
-        SimpleAssignmentTarget::ComputedMemberExpression(node) => print_computed_member_expression(
-            node, p, place,
-        ),
+        SimpleAssignmentTarget::IdentifierReference(node) => print_identifier_reference(node, p, place),
+        SimpleAssignmentTarget::StaticMemberExpression(node) => print_static_member_expression(node, p, place),
+        SimpleAssignmentTarget::ComputedMemberExpression(node) => print_computed_member_expression(node, p, place),
     }
 }
 
@@ -253,12 +244,8 @@ pub fn print_assignment_target<N: PrintNode>(
 {
     match node {
         AssignmentTarget::IdentifierReference(node) => print_identifier_reference(node, p, place),
-        AssignmentTarget::StaticMemberExpression(node) => print_static_member_expression(
-            node, p, place,
-        ),
-        AssignmentTarget::ComputedMemberExpression(node) => print_computed_member_expression(
-            node, p, place,
-        ),
+        AssignmentTarget::StaticMemberExpression(node) => print_static_member_expression(node, p, place),
+        AssignmentTarget::ComputedMemberExpression(node) => print_computed_member_expression(node, p, place),
     }
 }
 
@@ -272,11 +259,7 @@ pub fn print_for_statement_left<N: PrintNode>(
     match node {
         ForStatementLeft::VariableDeclaration(node) => print_variable_declaration(node, p, place),
         ForStatementLeft::IdentifierReference(node) => print_identifier_reference(node, p, place),
-        ForStatementLeft::StaticMemberExpression(node) => print_static_member_expression(
-            node, p, place,
-        ),
-        ForStatementLeft::ComputedMemberExpression(node) => print_computed_member_expression(
-            node, p, place,
-        ),
+        ForStatementLeft::StaticMemberExpression(node) => print_static_member_expression(node, p, place),
+        ForStatementLeft::ComputedMemberExpression(node) => print_computed_member_expression(node, p, place),
     }
 }

@@ -72,48 +72,6 @@ impl<N: PrintNode> PrintStatement<StatementNode<N>> for Statements {
     }
 }
 
-pub fn print_expression_statement<N: PrintNode>(
-    node: &ExpressionStatement<N>,
-    p: &mut Printer<'_>,
-    place: Place,
-)
-    ensures { Lays p.old p.new (spell (expression_statement_row N.plain node.now) place) }
-{
-    p.print_indentation();
-    p.begin_statement();
-    node.expression
-        .get()
-        .print(p, Place::within_statement());
-    p.print_statement_end();
-}
-
-pub fn print_variable_declaration<N: PrintNode>(
-    node: &VariableDeclaration<N>,
-    p: &mut Printer<'_>,
-    place: Place,
-)
-    ensures { Lays p.old p.new (spell (variable_declaration_row N.plain node.now) place) }
-{
-    if place.in_list {
-        p.print_indentation();
-        print_declarators(node, p, place);
-        p.print_statement_end();
-    } else {
-        print_declarators(node, p, place);
-    }
-}
-
-// The word and its declarators.
-fn print_declarators<N: PrintNode>(node: &VariableDeclaration<N>, p: &mut Printer<'_>, place: Place)
-    ensures { Lays p.old p.new (word (declaration_word node.now.kind)
-        ⊕ (soft_space ⊕ spell_list (trees (map (variable_declarator_row N.plain) node.now.declarations.items))
-        (child Lowest place))) }
-{
-    p.print_word(node.kind.as_str());
-    p.print_soft_space();
-    print_list::<_, Declarators>(&node.declarations, p, place.child(Precedence::Lowest));
-}
-
 /// What a declaration declares.
 struct Declarators;
 
@@ -125,20 +83,3 @@ impl<N: PrintNode> PrintMember<VariableDeclarator<N>> for Declarators {
     }
 }
 
-pub fn print_variable_declarator<N: PrintNode>(
-    node: &VariableDeclarator<N>,
-    p: &mut Printer<'_>,
-    place: Place,
-)
-    ensures { Lays p.old p.new (spell (variable_declarator_row N.plain node.now) place) }
-{
-    node.id.get().print(p, place.child(Precedence::Lowest));
-    print_value::<_, Expressions>(&node.init, p, place.child(Precedence::Comma));
-}
-
-pub fn print_binding_identifier(node: &BindingIdentifier, p: &mut Printer<'_>, place: Place)
-    ensures { Lays p.old p.new (spell (binding_identifier_row node.now) place) }
-{
-    let _ = place;
-    p.print_binding(node.name.as_str(), node.symbol);
-}

@@ -21,15 +21,27 @@ pub fn print_conditional_expression<N, L: PrintInside<N>>(
     let wrap = place.wraps(Precedence::Conditional);
     p.print_opening_if(wrap);
     let within = place.within(wrap);
-    L::print(node.test.get(), p, within.child(Precedence::Conditional).with_calls());
+    L::print(
+        node.test.get(),
+        p,
+        within.child(Precedence::Conditional).with_calls(),
+    );
     p.print_soft_space();
     p.print_question();
     p.print_soft_space();
-    L::print(node.consequent.get(), p, Place::in_brackets(Precedence::Yield));
+    L::print(
+        node.consequent.get(),
+        p,
+        Place::in_brackets(Precedence::Yield),
+    );
     p.print_soft_space();
     p.print_colon();
     p.print_soft_space();
-    L::print(node.alternate.get(), p, within.child(Precedence::Yield).with_calls());
+    L::print(
+        node.alternate.get(),
+        p,
+        within.child(Precedence::Yield).with_calls(),
+    );
     p.print_closing_if(wrap);
 }
 
@@ -42,6 +54,10 @@ pub fn print_sequence_expression<N, L: PrintInside<N>>(
 {
     let wrap = place.wraps(Precedence::Comma);
     p.print_opening_if(wrap);
-    print_list::<_, Nested<L>>(&node.expressions, p, place.child(Precedence::Lowest).with_calls());
+    print_list::<_, Nested<L>>(
+        &node.expressions,
+        p,
+        place.child(Precedence::Lowest).with_calls(),
+    );
     p.print_closing_if(wrap);
 }

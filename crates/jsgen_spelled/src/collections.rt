@@ -20,5 +20,9 @@ pub fn print_spread_element<N, L: PrintInside<N>>(
     let _ = place;
     p.print_mark(node.span);
     p.print_ellipsis();
-    L::print(node.argument.get(), p, Place::in_brackets(Precedence::Comma));
+    L::print(
+        node.argument.get(),
+        p,
+        Place::in_brackets(Precedence::Comma),
+    );
 }

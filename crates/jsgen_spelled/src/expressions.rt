@@ -9,22 +9,14 @@ use jsgen_place::Place;
 use jsgen_printer::Printer;
 use jsgen_tree::{IdentifierName, NullLiteral, ParenthesizedExpression, ThisExpression};
 
-pub fn print_this_expression(
-    node: &ThisExpression,
-    p: &mut Printer<'_>,
-    place: Place,
-)
+pub fn print_this_expression(node: &ThisExpression, p: &mut Printer<'_>, place: Place)
     ensures { Lays p.old p.new (spell (this_expression_row node.now) place) }
 {
     let _ = place;
     p.print_marked_word(node.span, "this");
 }
 
-pub fn print_null_literal(
-    node: &NullLiteral,
-    p: &mut Printer<'_>,
-    place: Place,
-)
+pub fn print_null_literal(node: &NullLiteral, p: &mut Printer<'_>, place: Place)
     ensures { Lays p.old p.new (spell (null_literal_row node.now) place) }
 {
     let _ = place;
@@ -41,11 +33,7 @@ pub fn print_parenthesized_expression<N, L: PrintInside<N>>(
     L::print(node.expression.get(), p, place);
 }
 
-pub fn print_identifier_name(
-    node: &IdentifierName,
-    p: &mut Printer<'_>,
-    place: Place,
-)
+pub fn print_identifier_name(node: &IdentifierName, p: &mut Printer<'_>, place: Place)
     ensures { Lays p.old p.new (spell (identifier_name_row node.now) place) }
 {
     let _ = place;

@@ -10,7 +10,10 @@ use jsgen_lists::print_apart;
 use jsgen_place::Place;
 use jsgen_printer::{Bracket, Printer};
 use jsgen_syntax::Precedence;
-use jsgen_tree::{BreakStatement, ContinueStatement, DebuggerStatement, LabelIdentifier, LabeledStatement, ReturnStatement, ThrowStatement, WhileStatement};
+use jsgen_tree::{
+    BreakStatement, ContinueStatement, DebuggerStatement, LabelIdentifier, LabeledStatement,
+    ReturnStatement, ThrowStatement, WhileStatement,
+};
 
 pub fn print_while_statement<N, L: PrintInside<N>>(
     node: &WhileStatement<N>,
@@ -30,11 +33,7 @@ pub fn print_while_statement<N, L: PrintInside<N>>(
     print_body::<_, L>(node.body.get(), p);
 }
 
-pub fn print_label_identifier(
-    node: &LabelIdentifier,
-    p: &mut Printer<'_>,
-    place: Place,
-)
+pub fn print_label_identifier(node: &LabelIdentifier, p: &mut Printer<'_>, place: Place)
     ensures { Lays p.old p.new (spell (label_identifier_row node.now) place) }
 {
     let _ = place;
@@ -55,11 +54,7 @@ pub fn print_labeled_statement<N, L: PrintInside<N>>(
     print_body::<_, L>(node.body.get(), p);
 }
 
-pub fn print_continue_statement(
-    node: &ContinueStatement,
-    p: &mut Printer<'_>,
-    place: Place,
-)
+pub fn print_continue_statement(node: &ContinueStatement, p: &mut Printer<'_>, place: Place)
     ensures { Lays p.old p.new (spell (continue_statement_row node.now) place) }
 {
     p.print_comments(node.span.start);
@@ -69,11 +64,7 @@ pub fn print_continue_statement(
     p.print_statement_end();
 }
 
-pub fn print_break_statement(
-    node: &BreakStatement,
-    p: &mut Printer<'_>,
-    place: Place,
-)
+pub fn print_break_statement(node: &BreakStatement, p: &mut Printer<'_>, place: Place)
     ensures { Lays p.old p.new (spell (break_statement_row node.now) place) }
 {
     p.print_comments(node.span.start);
@@ -110,15 +101,15 @@ pub fn print_throw_statement<N, L: PrintInside<N>>(
     p.print_indentation();
     p.print_marked_word(node.span, "throw");
     p.print_soft_space();
-    L::print(node.argument.get(), p, Place::in_brackets(Precedence::Lowest));
+    L::print(
+        node.argument.get(),
+        p,
+        Place::in_brackets(Precedence::Lowest),
+    );
     p.print_statement_end();
 }
 
-pub fn print_debugger_statement(
-    node: &DebuggerStatement,
-    p: &mut Printer<'_>,
-    place: Place,
-)
+pub fn print_debugger_statement(node: &DebuggerStatement, p: &mut Printer<'_>, place: Place)
     ensures { Lays p.old p.new (spell (debugger_statement_row node.now) place) }
 {
     let _ = place;

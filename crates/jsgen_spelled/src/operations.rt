@@ -22,15 +22,15 @@ pub fn print_unary_expression<N, L: PrintInside<N>>(
     let within = place.within(wrap);
     p.print_unary_operator(node.operator);
     p.print_behind_unary(node.operator);
-    L::print(node.argument.get(), p, within.child(Precedence::Exponentiation));
+    L::print(
+        node.argument.get(),
+        p,
+        within.child(Precedence::Exponentiation),
+    );
     p.print_closing_if(wrap);
 }
 
-pub fn print_new_target(
-    node: &NewTarget,
-    p: &mut Printer<'_>,
-    place: Place,
-)
+pub fn print_new_target(node: &NewTarget, p: &mut Printer<'_>, place: Place)
     ensures { Lays p.old p.new (spell (new_target_row node.now) place) }
 {
     let _ = place;
@@ -39,11 +39,7 @@ pub fn print_new_target(
     p.print_word("target");
 }
 
-pub fn print_super(
-    node: &Super,
-    p: &mut Printer<'_>,
-    place: Place,
-)
+pub fn print_super(node: &Super, p: &mut Printer<'_>, place: Place)
     ensures { Lays p.old p.new (spell (super_row node.now) place) }
 {
     let _ = place;

@@ -49,15 +49,15 @@ pub fn print_expression_statement<N, L: PrintInside<N>>(
     p.print_comments(node.span.start);
     p.print_indentation();
     p.begin_statement();
-    L::print(node.expression.get(), p, Place::in_brackets(Precedence::Lowest));
+    L::print(
+        node.expression.get(),
+        p,
+        Place::in_brackets(Precedence::Lowest),
+    );
     p.print_statement_end();
 }
 
-pub fn print_empty_statement(
-    node: &EmptyStatement,
-    p: &mut Printer<'_>,
-    place: Place,
-)
+pub fn print_empty_statement(node: &EmptyStatement, p: &mut Printer<'_>, place: Place)
     ensures { Lays p.old p.new (spell (empty_statement_row node.now) place) }
 {
     let _ = place;

@@ -312,6 +312,7 @@ class Body:
         place, facts = self.spot(level, mark)
         turbofish = "::<_, L>" if self.table.generic(f.kind) else ""
         function = f"print_{snake(f.kind)}"
+        facts = facts if depends_on_place(self.table, f.kind) else []
         return self.said(facts + [got], self.call(function, f"{function}{turbofish}(&node.{f.rust}, p, {place});"))
 
     def step_list(self, f, level, mark):
@@ -352,6 +353,15 @@ class Body:
 
 def is_printed_below(table, kind):
     return kind in BY_HAND_BELOW or kind in table.nodes and bool(table.nodes[kind].spelling)
+
+
+def depends_on_place(table, kind):
+    """Whether the items of the type, which is printed below, depend on where it stands."""
+    if kind in BY_HAND_BELOW:
+        return False
+    body = Body(table, table.nodes[kind])
+    body.term(read(table, table.nodes[kind]))
+    return any(re.search(r"\bplace\b", line) for line in body.lines)
 
 
 def function(table, n, body):
@@ -465,7 +475,7 @@ def write(table):
         at, mods = f"crates/{crate}", ["members"] if members(table, crate) else []
         words = ascii_words(table, crate)
         if words:
-            files[f"{at}/proofs/Words.antt"] = words
+            files |= {f"{at}/proofs/Words.antt": words, f"{at}/proofs/Lib.antt": layout.ANTT + "mod Words\n"}
         if mods:
             files[f"{at}/src/members.rt"] = members_file(table, crate)
         for file in table.files:

@@ -3,8 +3,6 @@
 ghost use Rattle.jsgen_tree.specs.Rows.{conditional_expression_row, sequence_expression_row, assignment_expression_row};
 
 use crate::assignments::print_assignment_expression;
-use crate::choices::print_conditional_expression;
-use crate::sequences::print_sequence_expression;
 use crate::{PrintAtLevel, PrintNode};
 use jsgen_place::Place;
 use jsgen_printer::Printer;

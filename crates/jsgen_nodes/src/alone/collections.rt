@@ -4,9 +4,7 @@ ghost use Rattle.jsgen_tree.specs.Rows.{spread_element_row, array_expression_row
 ghost use Rattle.jsgen_model.specs.Spell.{spell};
 ghost use Rattle.jsgen_nodes.specs.Alone.{by_itself};
 
-use crate::collections::{
-    print_array_expression, print_object_expression, print_object_property, print_spread_element,
-};
+use crate::collections::{print_array_expression, print_object_expression, print_object_property};
 use crate::{PrintAlone, PrintAtLevel, PrintNode};
 use jsgen_place::{Context, Place, Settings};
 use jsgen_printer::Printer;
@@ -16,7 +14,12 @@ use jsgen_tree::{ArrayExpression, ObjectExpression, ObjectProperty, SpreadElemen
 impl<N: PrintNode> PrintAlone for SpreadElement<N> {
     ghost alone = { λ n settings context start. spell (spread_element_row N.plain n) (by_itself settings context start) };
 
-    fn print_alone(&self, p: &mut Printer<'_>, settings: Settings, context: Context) {
+    fn print_alone(
+        &self,
+        p: &mut Printer<'_>,
+        settings: Settings,
+        context: Context,
+    ) {
         print_spread_element(self, p, Place::by_itself(settings, context));
     }
 }
@@ -25,7 +28,12 @@ impl<N: PrintNode> PrintAlone for SpreadElement<N> {
 impl<N: PrintNode> PrintAlone for ArrayExpression<N> {
     ghost alone = { λ n settings context start. spell (array_expression_row N.plain n) (by_itself settings context start) };
 
-    fn print_alone(&self, p: &mut Printer<'_>, settings: Settings, context: Context) {
+    fn print_alone(
+        &self,
+        p: &mut Printer<'_>,
+        settings: Settings,
+        context: Context,
+    ) {
         print_array_expression(self, p, Place::by_itself(settings, context));
     }
 }
@@ -34,7 +42,12 @@ impl<N: PrintNode> PrintAlone for ArrayExpression<N> {
 impl<N: PrintNode> PrintAlone for ObjectProperty<N> {
     ghost alone = { λ n settings context start. spell (object_property_row N.plain n) (by_itself settings context start) };
 
-    fn print_alone(&self, p: &mut Printer<'_>, settings: Settings, context: Context) {
+    fn print_alone(
+        &self,
+        p: &mut Printer<'_>,
+        settings: Settings,
+        context: Context,
+    ) {
         print_object_property(self, p, Place::by_itself(settings, context));
     }
 }

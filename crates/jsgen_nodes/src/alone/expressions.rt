@@ -4,30 +4,23 @@ ghost use Rattle.jsgen_tree.specs.Rows.{identifier_reference_row, this_expressio
 ghost use Rattle.jsgen_model.specs.Spell.{spell};
 ghost use Rattle.jsgen_nodes.specs.Alone.{by_itself};
 
-use crate::expressions::{
-    print_big_int_literal, print_binary_expression, print_boolean_literal,
-    print_identifier_reference, print_logical_expression, print_null_literal,
-    print_numeric_literal, print_parenthesized_expression, print_string_literal,
-    print_this_expression,
-};
-use crate::links::{
-    print_call_expression, print_chain_expression, print_computed_member_expression,
-    print_identifier_name, print_static_member_expression,
-};
+use crate::expressions::{print_big_int_literal, print_binary_expression, print_boolean_literal, print_logical_expression, print_numeric_literal, print_string_literal};
+use crate::links::{print_call_expression, print_chain_expression, print_computed_member_expression, print_static_member_expression};
 use crate::{PrintAlone, PrintAtLevel, PrintNode};
 use jsgen_place::{Context, Place, Settings};
 use jsgen_printer::Printer;
-use jsgen_tree::{
-    BigIntLiteral, BinaryExpression, BooleanLiteral, CallExpression, ChainExpression,
-    ComputedMemberExpression, IdentifierName, IdentifierReference, LogicalExpression, NullLiteral,
-    NumericLiteral, ParenthesizedExpression, StaticMemberExpression, StringLiteral, ThisExpression,
-};
+use jsgen_tree::{BigIntLiteral, BinaryExpression, BooleanLiteral, CallExpression, ChainExpression, ComputedMemberExpression, IdentifierName, IdentifierReference, LogicalExpression, NullLiteral, NumericLiteral, ParenthesizedExpression, StaticMemberExpression, StringLiteral, ThisExpression};
 
 #[tactic(auto, unfolding(crate::specs::Place::at_place))]
 impl PrintAlone for IdentifierReference {
     ghost alone = { λ n settings context start. spell (identifier_reference_row n) (by_itself settings context start) };
 
-    fn print_alone(&self, p: &mut Printer<'_>, settings: Settings, context: Context) {
+    fn print_alone(
+        &self,
+        p: &mut Printer<'_>,
+        settings: Settings,
+        context: Context,
+    ) {
         print_identifier_reference(self, p, Place::by_itself(settings, context));
     }
 }
@@ -36,7 +29,12 @@ impl PrintAlone for IdentifierReference {
 impl PrintAlone for ThisExpression {
     ghost alone = { λ n settings context start. spell (this_expression_row n) (by_itself settings context start) };
 
-    fn print_alone(&self, p: &mut Printer<'_>, settings: Settings, context: Context) {
+    fn print_alone(
+        &self,
+        p: &mut Printer<'_>,
+        settings: Settings,
+        context: Context,
+    ) {
         print_this_expression(self, p, Place::by_itself(settings, context));
     }
 }
@@ -45,7 +43,12 @@ impl PrintAlone for ThisExpression {
 impl PrintAlone for NullLiteral {
     ghost alone = { λ n settings context start. spell (null_literal_row n) (by_itself settings context start) };
 
-    fn print_alone(&self, p: &mut Printer<'_>, settings: Settings, context: Context) {
+    fn print_alone(
+        &self,
+        p: &mut Printer<'_>,
+        settings: Settings,
+        context: Context,
+    ) {
         print_null_literal(self, p, Place::by_itself(settings, context));
     }
 }
@@ -54,7 +57,12 @@ impl PrintAlone for NullLiteral {
 impl PrintAlone for BooleanLiteral {
     ghost alone = { λ n settings context start. spell (boolean_literal_row n) (by_itself settings context start) };
 
-    fn print_alone(&self, p: &mut Printer<'_>, settings: Settings, context: Context) {
+    fn print_alone(
+        &self,
+        p: &mut Printer<'_>,
+        settings: Settings,
+        context: Context,
+    ) {
         print_boolean_literal(self, p, Place::by_itself(settings, context));
     }
 }
@@ -79,7 +87,12 @@ impl PrintAtLevel for BigIntLiteral {
 impl PrintAlone for StringLiteral {
     ghost alone = { λ n settings context start. spell (string_literal_row n) (by_itself settings context start) };
 
-    fn print_alone(&self, p: &mut Printer<'_>, settings: Settings, context: Context) {
+    fn print_alone(
+        &self,
+        p: &mut Printer<'_>,
+        settings: Settings,
+        context: Context,
+    ) {
         print_string_literal(self, p, Place::by_itself(settings, context));
     }
 }
@@ -112,7 +125,12 @@ impl<N: PrintNode> PrintAtLevel for LogicalExpression<N> {
 impl PrintAlone for IdentifierName {
     ghost alone = { λ n settings context start. spell (identifier_name_row n) (by_itself settings context start) };
 
-    fn print_alone(&self, p: &mut Printer<'_>, settings: Settings, context: Context) {
+    fn print_alone(
+        &self,
+        p: &mut Printer<'_>,
+        settings: Settings,
+        context: Context,
+    ) {
         print_identifier_name(self, p, Place::by_itself(settings, context));
     }
 }

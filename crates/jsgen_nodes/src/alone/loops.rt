@@ -5,25 +5,22 @@ ghost use Rattle.jsgen_model.specs.Spell.{spell};
 ghost use Rattle.jsgen_nodes.specs.Alone.{by_itself, as_statement};
 
 use crate::iterations::{print_for_in_statement, print_for_of_statement};
-use crate::jumps::{
-    print_break_statement, print_continue_statement, print_debugger_statement,
-    print_label_identifier, print_labeled_statement, print_return_statement, print_throw_statement,
-};
-use crate::loops::{print_do_while_statement, print_for_statement, print_while_statement};
+use crate::loops::{print_do_while_statement, print_for_statement};
 use crate::{PrintAlone, PrintNode};
 use jsgen_place::{Context, Place, Settings};
 use jsgen_printer::Printer;
-use jsgen_tree::{
-    BreakStatement, ContinueStatement, DebuggerStatement, DoWhileStatement, ForInStatement,
-    ForOfStatement, ForStatement, LabelIdentifier, LabeledStatement, ReturnStatement,
-    ThrowStatement, WhileStatement,
-};
+use jsgen_tree::{BreakStatement, ContinueStatement, DebuggerStatement, DoWhileStatement, ForInStatement, ForOfStatement, ForStatement, LabelIdentifier, LabeledStatement, ReturnStatement, ThrowStatement, WhileStatement};
 
 #[tactic(auto, unfolding(crate::specs::Place::at_place))]
 impl<N: PrintNode> PrintAlone for ForStatement<N> {
     ghost alone = { λ n settings context start. spell (for_statement_row N.plain n) (as_statement settings context start) };
 
-    fn print_alone(&self, p: &mut Printer<'_>, settings: Settings, context: Context) {
+    fn print_alone(
+        &self,
+        p: &mut Printer<'_>,
+        settings: Settings,
+        context: Context,
+    ) {
         let _ = context;
         print_for_statement(self, p, Place::among_statements(settings));
     }
@@ -33,7 +30,12 @@ impl<N: PrintNode> PrintAlone for ForStatement<N> {
 impl<N: PrintNode> PrintAlone for ForInStatement<N> {
     ghost alone = { λ n settings context start. spell (for_in_statement_row N.plain n) (as_statement settings context start) };
 
-    fn print_alone(&self, p: &mut Printer<'_>, settings: Settings, context: Context) {
+    fn print_alone(
+        &self,
+        p: &mut Printer<'_>,
+        settings: Settings,
+        context: Context,
+    ) {
         let _ = context;
         print_for_in_statement(self, p, Place::among_statements(settings));
     }
@@ -43,7 +45,12 @@ impl<N: PrintNode> PrintAlone for ForInStatement<N> {
 impl<N: PrintNode> PrintAlone for ForOfStatement<N> {
     ghost alone = { λ n settings context start. spell (for_of_statement_row N.plain n) (as_statement settings context start) };
 
-    fn print_alone(&self, p: &mut Printer<'_>, settings: Settings, context: Context) {
+    fn print_alone(
+        &self,
+        p: &mut Printer<'_>,
+        settings: Settings,
+        context: Context,
+    ) {
         let _ = context;
         print_for_of_statement(self, p, Place::among_statements(settings));
     }
@@ -53,7 +60,12 @@ impl<N: PrintNode> PrintAlone for ForOfStatement<N> {
 impl<N: PrintNode> PrintAlone for WhileStatement<N> {
     ghost alone = { λ n settings context start. spell (while_statement_row N.plain n) (as_statement settings context start) };
 
-    fn print_alone(&self, p: &mut Printer<'_>, settings: Settings, context: Context) {
+    fn print_alone(
+        &self,
+        p: &mut Printer<'_>,
+        settings: Settings,
+        context: Context,
+    ) {
         let _ = context;
         print_while_statement(self, p, Place::among_statements(settings));
     }
@@ -63,7 +75,12 @@ impl<N: PrintNode> PrintAlone for WhileStatement<N> {
 impl<N: PrintNode> PrintAlone for DoWhileStatement<N> {
     ghost alone = { λ n settings context start. spell (do_while_statement_row N.plain n) (as_statement settings context start) };
 
-    fn print_alone(&self, p: &mut Printer<'_>, settings: Settings, context: Context) {
+    fn print_alone(
+        &self,
+        p: &mut Printer<'_>,
+        settings: Settings,
+        context: Context,
+    ) {
         let _ = context;
         print_do_while_statement(self, p, Place::among_statements(settings));
     }
@@ -73,7 +90,12 @@ impl<N: PrintNode> PrintAlone for DoWhileStatement<N> {
 impl PrintAlone for LabelIdentifier {
     ghost alone = { λ n settings context start. spell (label_identifier_row n) (by_itself settings context start) };
 
-    fn print_alone(&self, p: &mut Printer<'_>, settings: Settings, context: Context) {
+    fn print_alone(
+        &self,
+        p: &mut Printer<'_>,
+        settings: Settings,
+        context: Context,
+    ) {
         print_label_identifier(self, p, Place::by_itself(settings, context));
     }
 }
@@ -82,7 +104,12 @@ impl PrintAlone for LabelIdentifier {
 impl<N: PrintNode> PrintAlone for LabeledStatement<N> {
     ghost alone = { λ n settings context start. spell (labeled_statement_row N.plain n) (as_statement settings context start) };
 
-    fn print_alone(&self, p: &mut Printer<'_>, settings: Settings, context: Context) {
+    fn print_alone(
+        &self,
+        p: &mut Printer<'_>,
+        settings: Settings,
+        context: Context,
+    ) {
         let _ = context;
         print_labeled_statement(self, p, Place::among_statements(settings));
     }
@@ -92,7 +119,12 @@ impl<N: PrintNode> PrintAlone for LabeledStatement<N> {
 impl PrintAlone for ContinueStatement {
     ghost alone = { λ n settings context start. spell (continue_statement_row n) (as_statement settings context start) };
 
-    fn print_alone(&self, p: &mut Printer<'_>, settings: Settings, context: Context) {
+    fn print_alone(
+        &self,
+        p: &mut Printer<'_>,
+        settings: Settings,
+        context: Context,
+    ) {
         let _ = context;
         print_continue_statement(self, p, Place::among_statements(settings));
     }
@@ -102,7 +134,12 @@ impl PrintAlone for ContinueStatement {
 impl PrintAlone for BreakStatement {
     ghost alone = { λ n settings context start. spell (break_statement_row n) (as_statement settings context start) };
 
-    fn print_alone(&self, p: &mut Printer<'_>, settings: Settings, context: Context) {
+    fn print_alone(
+        &self,
+        p: &mut Printer<'_>,
+        settings: Settings,
+        context: Context,
+    ) {
         let _ = context;
         print_break_statement(self, p, Place::among_statements(settings));
     }
@@ -112,7 +149,12 @@ impl PrintAlone for BreakStatement {
 impl<N: PrintNode> PrintAlone for ReturnStatement<N> {
     ghost alone = { λ n settings context start. spell (return_statement_row N.plain n) (as_statement settings context start) };
 
-    fn print_alone(&self, p: &mut Printer<'_>, settings: Settings, context: Context) {
+    fn print_alone(
+        &self,
+        p: &mut Printer<'_>,
+        settings: Settings,
+        context: Context,
+    ) {
         let _ = context;
         print_return_statement(self, p, Place::among_statements(settings));
     }
@@ -122,7 +164,12 @@ impl<N: PrintNode> PrintAlone for ReturnStatement<N> {
 impl<N: PrintNode> PrintAlone for ThrowStatement<N> {
     ghost alone = { λ n settings context start. spell (throw_statement_row N.plain n) (as_statement settings context start) };
 
-    fn print_alone(&self, p: &mut Printer<'_>, settings: Settings, context: Context) {
+    fn print_alone(
+        &self,
+        p: &mut Printer<'_>,
+        settings: Settings,
+        context: Context,
+    ) {
         let _ = context;
         print_throw_statement(self, p, Place::among_statements(settings));
     }
@@ -132,7 +179,12 @@ impl<N: PrintNode> PrintAlone for ThrowStatement<N> {
 impl PrintAlone for DebuggerStatement {
     ghost alone = { λ n settings context start. spell (debugger_statement_row n) (as_statement settings context start) };
 
-    fn print_alone(&self, p: &mut Printer<'_>, settings: Settings, context: Context) {
+    fn print_alone(
+        &self,
+        p: &mut Printer<'_>,
+        settings: Settings,
+        context: Context,
+    ) {
         let _ = context;
         print_debugger_statement(self, p, Place::among_statements(settings));
     }

@@ -4,10 +4,7 @@ ghost use Rattle.jsgen_tree.specs.Rows.{unary_expression_row, new_target_row, up
 ghost use Rattle.jsgen_model.specs.Spell.{spell};
 ghost use Rattle.jsgen_nodes.specs.Alone.{by_itself};
 
-use crate::operators::{
-    print_new_expression, print_new_target, print_super, print_unary_expression,
-    print_update_expression,
-};
+use crate::operators::{print_new_expression, print_update_expression};
 use crate::{PrintAlone, PrintAtLevel, PrintNode};
 use jsgen_place::{Context, Place, Settings};
 use jsgen_printer::Printer;
@@ -25,7 +22,12 @@ impl<N: PrintNode> PrintAtLevel for UnaryExpression<N> {
 impl PrintAlone for NewTarget {
     ghost alone = { λ n settings context start. spell (new_target_row n) (by_itself settings context start) };
 
-    fn print_alone(&self, p: &mut Printer<'_>, settings: Settings, context: Context) {
+    fn print_alone(
+        &self,
+        p: &mut Printer<'_>,
+        settings: Settings,
+        context: Context,
+    ) {
         print_new_target(self, p, Place::by_itself(settings, context));
     }
 }
@@ -50,7 +52,12 @@ impl<N: PrintNode> PrintAtLevel for NewExpression<N> {
 impl PrintAlone for Super {
     ghost alone = { λ n settings context start. spell (super_row n) (by_itself settings context start) };
 
-    fn print_alone(&self, p: &mut Printer<'_>, settings: Settings, context: Context) {
+    fn print_alone(
+        &self,
+        p: &mut Printer<'_>,
+        settings: Settings,
+        context: Context,
+    ) {
         print_super(self, p, Place::by_itself(settings, context));
     }
 }

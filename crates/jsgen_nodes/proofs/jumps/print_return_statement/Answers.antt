@@ -1,7 +1,0 @@
-use Rattle.jsgen_printer.proofs.Sequence.{◌⨾◌}
-use Rattle.jsgen_nodes.specs.Place.{at_place}
-use Rattle.jsgen_nodes.proofs.jumps.print_return_statement.Goals as goal
-
-pub returns : goal.returns
-unfolding at_place
-returns g c = c.print_indentation.ensures ⨾ (rw c.in_brackets-within.ensures at c.print_jump.ensures)
