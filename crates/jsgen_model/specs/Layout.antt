@@ -158,9 +158,8 @@ abbrev pub end_statement : Bool → Pen → Pen
 end_statement true pen = with_semicolon true pen
 end_statement false pen = written (codes ";\n") other_end pen
 
--- what follows is no expression that begins here
 abbrev pub print_due : Pen → Pen
-print_due pen = record (written_if pen.pending_semicolon (codes ";") pen) { pending_semicolon = false; start = nowhere }
+print_due pen = record (written_if pen.pending_semicolon (codes ";") pen) { pending_semicolon = false }
 
 abbrev pub deeper_level : Bool → ℕ → ℕ
 deeper_level true depth = depth

@@ -130,10 +130,6 @@ first_statement t items = unless_string (string_statement t) items
 
 -- ---- blocks and bodies
 
-abbrev pub among_or_within : Bool → Items → Items
-among_or_within true items = indentation ⊕ items
-among_or_within false items = items
-
 -- braces round statements, one level deeper; in empty ones stands nothing. A semicolon that is left is dropped
 abbrev pub filled_braces : Items → Items
 filled_braces items = brackets Brace (soft_line ⊕ (deeper items ⊕ indentation)) ⊕ drop_semicolon
@@ -142,10 +138,9 @@ abbrev pub braces : Trees → Items → Items
 braces no_trees items = brackets Brace nothing ⊕ drop_semicolon
 braces ts items = filled_braces items
 
--- a block among statements is a line of its own
+-- among statements a block is a line of its own
 abbrev pub block_items : Bool → Items → Items
-block_items true items = indentation ⊕ (items ⊕ soft_line)
-block_items false items = items
+block_items test items = items_if test indentation ⊕ (items ⊕ items_if test soft_line)
 
 -- how a statement stands as the body of another one
 abbrev pub shape_of_type : NodeType → Shape
@@ -376,7 +371,7 @@ abbrev mutual
       (spell right (child (unmixed (logical_expression_operator a) right (logical_level (logical_expression_operator a))) (within (logical_wraps (logical_expression_operator a) place) place)))
   spell (tree.block a body) place = block_items place.in_list (braces body (spell_statements body))
   spell (tree.if_statement a test consequent alternate) place =
-      among_or_within place.in_list (word (codes "if") ⊕ (soft_space ⊕ (brackets Round (spell test (in_brackets Lowest))
+      items_if place.in_list indentation ⊕ (word (codes "if") ⊕ (soft_space ⊕ (brackets Round (spell test (in_brackets Lowest))
       ⊕ (consequent_items (shape consequent) (ends_open consequent) (spell consequent within_statement) (spell consequent among_statements) (is_given alternate)
       ⊕ spell_alternate alternate))))
   spell (tree.for_statement a init test update body) place =

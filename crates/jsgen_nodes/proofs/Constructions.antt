@@ -1,15 +1,8 @@
--- `new`, from the steps that print it.
-use Rattle.std.proofs.Common.{◌≡◌, ℕ, suc, ◌==◌, true, not, codes, List, [], ◌∷◌, length, map, refl, arith}
+-- What a constructor is given.
+use Rattle.std.proofs.Common.{◌≡◌, ℕ, suc, ◌==◌, true, not, List, [], ◌∷◌, length, map, refl, arith}
 use Rattle.std.proofs.lemmas.Bool.Decides.{nat_tests}
-use Rattle.jsgen_syntax.specs.declared.precedence.Precedence.TheVariants.{Comma}
-use Rattle.jsgen_tree.specs.Tree.{Tree, Trees, trees}
-use Rattle.jsgen_model.specs.Items.{Items, ◌⊕◌, word, soft_space}
-use Rattle.jsgen_model.specs.Spell as spells
-use Rattle.jsgen_model.specs.Spell.{spell, spell_list, in_brackets, constructed, any_given, needs_arguments, new_arguments}
-
--- `new`, what it stands before and what that is given
-abbrev pub new_items : Tree → Trees → spells.Place → Items
-new_items callee arguments place = word (codes "new") ⊕ (soft_space ⊕ (spell callee (constructed place) ⊕ new_arguments (needs_arguments place (any_given arguments)) (spell_list arguments (in_brackets Comma place))))
+use Rattle.jsgen_tree.specs.Tree.{Tree, trees}
+use Rattle.jsgen_model.specs.Spell.{any_given}
 
 some : (n : ℕ) → not (suc n == 0) ≡ true
 some n = grind (arith, nat_tests)

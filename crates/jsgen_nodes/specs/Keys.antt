@@ -4,13 +4,13 @@ use Rattle.jsgen_syntax.specs.declared.precedence.Precedence.TheVariants.{Comma}
 use Rattle.jsgen_tree.specs.Tree.{Tree}
 use Rattle.jsgen_tree.specs.Job.{Tables}
 use Rattle.jsgen_tree.specs.Named.{Named, as_written}
-use Rattle.jsgen_tree.specs.Inside.{without_parentheses, looked_up_in, written_name_in, is_proto}
-use Rattle.jsgen_tree.specs.declared.collections.PropertyKind.{PropertyKind}
-use Rattle.jsgen_model.specs.Items.{Items, ◌⊕◌}
-use Rattle.jsgen_model.specs.Layout.{are_same}
-use Rattle.jsgen_model.specs.Spell.{Place, spell, spell_method, in_brackets, in_front, needs_brackets, key_items, with_key, property_items, accessor_word, key_place}
+use Rattle.jsgen_tree.specs.Inside.{is_proto}
 use Rattle.jsgen_tree.specs.declared.types.NodeType.{NodeType}
 use Rattle.jsgen_tree.specs.declared.types.NodeType.TheVariants as types
+use Rattle.jsgen_place.specs.Place.{in_brackets}
+use Rattle.jsgen_model.specs.Items.{Items}
+use Rattle.jsgen_model.specs.Layout.{are_same}
+use Rattle.jsgen_model.specs.Spell.{spell, needs_brackets, key_items}
 
 abbrev pub is_string : NodeType → Bool
 is_string types.StringLiteral = true
@@ -31,13 +31,5 @@ is_value_alone tables shorthand None value = false
 is_value_alone tables shorthand (Some w) value = if is_proto w then shorthand else is_said tables value w
 
 -- a key, in brackets where it needs them
-abbrev pub key_of : Bool → Tree → Place → Items
-key_of computed key place = key_items (needs_brackets computed key) key (spell key (in_brackets Comma place)) (spell key (in_front Comma place))
-
--- a property with a value
-abbrev pub valued_items : Bool → Bool → Tree → Tree → Place → Items
-valued_items shorthand computed key value place = property_items shorthand (written_name_in key) (looked_up_in (without_parentheses value)) (spell value (in_front Comma place)) (with_key (key_of computed key place) (spell value (in_brackets Comma place)))
-
--- a method or an accessor
-abbrev pub method_items : PropertyKind → Bool → Tree → Tree → Place → Items
-method_items kind computed key value place = accessor_word kind ⊕ (key_items (needs_brackets computed key) key (spell key (in_brackets Comma place)) (spell key (key_place kind place)) ⊕ spell_method value place)
+abbrev pub key_of : Bool → Tree → Items
+key_of computed key = key_items (needs_brackets computed key) key (spell key (in_brackets Comma))

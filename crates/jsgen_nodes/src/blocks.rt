@@ -1,24 +1,23 @@
-// Blocks, `if` and empty statements (ECMA-262, 14.2, 14.4 and 14.6), one function for each row.
-ghost use Rattle.std.specs.Prelude.{◌≡◌, option_map, codes};
-ghost use Rattle.jsgen_syntax.specs.declared.precedence.Precedence.TheVariants.{Lowest};
+// Blocks and `if` (ECMA-262, 14.2 and 14.6), one function for each row.
+ghost use Rattle.std.specs.Prelude.{◌≡◌, option_map};
 ghost use Rattle.jsgen_tree.specs.Tree.{optional};
-ghost use Rattle.jsgen_tree.specs.Rows.{block_statement_row, if_statement_row, empty_statement_row, in_expression, in_statement};
-ghost use Rattle.jsgen_model.specs.Punctuator.{semicolon, Round};
-ghost use Rattle.jsgen_model.specs.Items.{◌⊕◌, word, punctuator, brackets, soft_space, soft_line};
-ghost use Rattle.jsgen_model.specs.Spell.{spell, spell_alternate, filled_braces, braces_end, body_end, is_given, in_brackets, among_statements};
+ghost use Rattle.jsgen_tree.specs.Rows.{block_statement_row, if_statement_row, in_statement};
+ghost use Rattle.jsgen_tree.specs.Inside.{ends_open};
+ghost use Rattle.jsgen_place.specs.Place.{within_statement, among_statements};
+ghost use Rattle.jsgen_model.specs.Punctuator.{semicolon};
+ghost use Rattle.jsgen_model.specs.Items.{◌⊕◌, punctuator, soft_space, soft_line, body_space};
+ghost use Rattle.jsgen_model.specs.Spell.{spell, spell_alternate, shape, consequent_items, alternate_items, filled_braces, braces_end, body_end, is_given};
 ghost use Rattle.jsgen_printer.specs.Steps.{Lays};
-ghost use Rattle.jsgen_nodes.specs.Blocks.{consequent_of, alternate_of};
 
 use crate::PrintNode;
-use crate::bodies::print_body;
-use crate::sequences::Expressions;
-use crate::shapes::{BodyShape, shape};
+use crate::inside::Inside;
 use crate::statements::Statements;
-use jsgen_lists::{PrintMember, close_braces, open_braces, print_braces, print_head};
-use jsgen_place::Place;
-use jsgen_printer::Printer;
+use jsgen_inside::{print_body, shape_of};
+use jsgen_lists::{PrintMember, close_braces, open_braces, print_braces};
+use jsgen_place::{Place, Shape};
+use jsgen_printer::{Bracket, Printer};
 use jsgen_syntax::Precedence;
-use jsgen_tree::{BlockStatement, EmptyStatement, IfStatement, StatementNode};
+use jsgen_tree::{BlockStatement, IfStatement, StatementNode};
 
 /// Among statements a line of its own.
 pub fn print_block_statement<N: PrintNode>(
@@ -28,35 +27,21 @@ pub fn print_block_statement<N: PrintNode>(
 )
     ensures { Lays p.old p.new (spell (block_statement_row N.plain node.now) place) }
 {
-    if place.in_list {
-        p.print_indentation();
-        print_braces::<_, Statements>(&node.body, p);
-        p.print_soft_line();
-    } else {
-        print_braces::<_, Statements>(&node.body, p);
-    }
+    p.print_indentation_if(place.in_list);
+    print_braces::<_, Statements>(&node.body, p);
+    p.print_soft_line_if(place.in_list);
 }
 
 pub fn print_if_statement<N: PrintNode>(node: &IfStatement<N>, p: &mut Printer<'_>, place: Place)
     ensures { Lays p.old p.new (spell (if_statement_row N.plain node.now) place) }
 {
-    if place.in_list {
-        p.print_indentation();
-        print_if(node, p);
-    } else {
-        print_if(node, p);
-    }
-}
-
-// From the word on.
-fn print_if<N: PrintNode>(node: &IfStatement<N>, p: &mut Printer<'_>)
-    ensures { Lays p.old p.new (word (codes "if") ⊕ (soft_space ⊕ (brackets Round (spell (in_expression N.plain node.now.test) (in_brackets Lowest))
-        ⊕ (consequent_of (in_statement N.plain node.now.consequent) (is_given (optional (option_map (in_statement N.plain) node.now.alternate)))
-        ⊕ spell_alternate (optional (option_map (in_statement N.plain) node.now.alternate)))))) }
-{
-    let within = Place::in_brackets(Precedence::Lowest);
-    print_head::<_, Expressions>("if", &node.test, p, within);
-    print_consequent(node.consequent.get(), p, settings, has_alternate(node));
+    p.print_indentation_if(place.in_list);
+    p.print_word("if");
+    p.print_soft_space();
+    p.print_opening(Bracket::Round);
+    node.test.get().print(p, Place::in_brackets(Precedence::Lowest));
+    p.print_closing(Bracket::Round);
+    print_consequent(node.consequent.get(), p, has_alternate(node));
     print_alternate(&node.alternate, p);
 }
 
@@ -67,40 +52,48 @@ fn has_alternate<N: PrintNode>(node: &IfStatement<N>) -> bool
 }
 
 // What follows the test. An `else` must not go with an `if` within.
-fn print_consequent<N: PrintNode>(
-    consequent: &N,
-    p: &mut Printer<'_>,
-    settings: Settings,
-    else_follows: bool,
-)
-    ensures { Lays p.old p.new (consequent_of (N.plain consequent.now) else_follows) }
+fn print_consequent<N: PrintNode>(consequent: &N, p: &mut Printer<'_>, else_follows: bool)
+    ensures { Lays p.old p.new (consequent_items (shape (N.plain consequent.now)) (ends_open (N.plain consequent.now))
+        (spell (N.plain consequent.now) within_statement) (spell (N.plain consequent.now) among_statements) else_follows) }
 {
     if consequent.ends_open() {
-        print_braced(consequent, p, settings, else_follows);
-        return;
+        print_braced(consequent, p, else_follows);
+    } else {
+        print_closed_consequent(consequent, p, else_follows);
     }
-    match shape(consequent) {
-        BodyShape::Block => {
+}
+
+fn print_closed_consequent<N: PrintNode>(consequent: &N, p: &mut Printer<'_>, else_follows: bool)
+    ensures { Lays p.old p.new (consequent_items (shape (N.plain consequent.now)) false
+        (spell (N.plain consequent.now) within_statement) (spell (N.plain consequent.now) among_statements) else_follows) }
+{
+    match shape_of::<_, Inside>(consequent) {
+        Shape::Block => {
             p.print_soft_space();
             consequent.print(p, Place::within_statement());
             print_braces_end(p, else_follows);
         }
-        BodyShape::Empty => print_empty_body(p, else_follows),
-        BodyShape::If | BodyShape::Other => {
-            p.begin_body();
-            consequent.print(p, Place::among_statements());
+        Shape::Empty => {
+            p.print_semicolon();
+            p.print_soft_line();
             print_body_end(p, else_follows);
         }
+        Shape::If => print_line_consequent(consequent, p, else_follows),
+        Shape::Other => print_line_consequent(consequent, p, else_follows),
     }
 }
 
+// On the line of the head, behind one space.
+fn print_line_consequent<N: PrintNode>(consequent: &N, p: &mut Printer<'_>, else_follows: bool)
+    ensures { Lays p.old p.new (body_space ⊕ (spell (N.plain consequent.now) among_statements ⊕ body_end else_follows)) }
+{
+    p.begin_body();
+    consequent.print(p, Place::among_statements());
+    print_body_end(p, else_follows);
+}
+
 // A consequent in braces of its own.
-fn print_braced<N: PrintNode>(
-    consequent: &N,
-    p: &mut Printer<'_>,
-    settings: Settings,
-    else_follows: bool,
-)
+fn print_braced<N: PrintNode>(consequent: &N, p: &mut Printer<'_>, else_follows: bool)
     ensures { Lays p.old p.new (soft_space ⊕ (filled_braces (spell (N.plain consequent.now) among_statements) ⊕ braces_end else_follows)) }
 {
     p.print_soft_space();
@@ -108,14 +101,6 @@ fn print_braced<N: PrintNode>(
     consequent.print(p, Place::among_statements());
     close_braces(p, depth);
     print_braces_end(p, else_follows);
-}
-
-fn print_empty_body(p: &mut Printer<'_>, else_follows: bool)
-    ensures { Lays p.old p.new (punctuator semicolon ⊕ (soft_line ⊕ body_end else_follows)) }
-{
-    p.print_semicolon();
-    p.print_soft_line();
-    print_body_end(p, else_follows);
 }
 
 fn print_braces_end(p: &mut Printer<'_>, else_follows: bool)
@@ -136,37 +121,30 @@ fn print_body_end(p: &mut Printer<'_>, else_follows: bool)
     }
 }
 
-fn print_alternate<N: PrintNode>(
-    alternate: &Option<StatementNode<N>>,
-    p: &mut Printer<'_>,
-)
+fn print_alternate<N: PrintNode>(alternate: &Option<StatementNode<N>>, p: &mut Printer<'_>)
     ensures { Lays p.old p.new (spell_alternate (optional (option_map (in_statement N.plain) alternate.now))) }
 {
     match alternate {
         Some(alternate) => {
             p.print_due_semicolon();
-            print_else(alternate.get(), p);
+            p.print_word("else");
+            print_behind_else(alternate.get(), p);
         }
         None => {}
     }
 }
 
-fn print_else<N: PrintNode>(alternate: &N, p: &mut Printer<'_>)
-    ensures { Lays p.old p.new (word (codes "else") ⊕ alternate_of (N.plain alternate.now)) }
-{
-    p.print_word("else");
-    print_behind_else(alternate, p);
-}
-
 fn print_behind_else<N: PrintNode>(alternate: &N, p: &mut Printer<'_>)
-    ensures { Lays p.old p.new (alternate_of (N.plain alternate.now)) }
+    ensures { Lays p.old p.new (alternate_items (shape (N.plain alternate.now)) (spell (N.plain alternate.now) within_statement) (spell (N.plain alternate.now) among_statements)) }
 {
-    match shape(alternate) {
-        BodyShape::If => {
+    match shape_of::<_, Inside>(alternate) {
+        Shape::If => {
             p.print_hard_space();
             alternate.print(p, Place::within_statement());
         }
-        _ => print_body(alternate, p),
+        Shape::Block => print_body::<_, Inside>(alternate, p),
+        Shape::Empty => print_body::<_, Inside>(alternate, p),
+        Shape::Other => print_body::<_, Inside>(alternate, p),
     }
 }
 

@@ -1,18 +1,15 @@
 // Choices between cases (ECMA-262, 14.12), one function for each row.
-ghost use Rattle.std.specs.Prelude.{map};
-ghost use Rattle.jsgen_tree.specs.Tree.{trees};
 ghost use Rattle.jsgen_tree.specs.Rows.{switch_statement_row, switch_case_row, in_statement};
-ghost use Rattle.jsgen_model.specs.Items.{◌⊕◌, soft_space, soft_line};
-ghost use Rattle.jsgen_model.specs.Spell.{spell_statements, braces};
+ghost use Rattle.jsgen_model.specs.Spell.{spell};
 ghost use Rattle.jsgen_printer.specs.Steps.{Lays};
 
 use crate::PrintNode;
-use crate::bodies::print_body;
-use crate::sequences::Expressions;
+use crate::inside::Inside;
 use crate::statements::Statements;
-use jsgen_lists::{PrintOnly, PrintStatement, print_braces, print_case, print_head};
+use jsgen_inside::{Nested, print_body};
+use jsgen_lists::{PrintOnly, PrintStatement, print_braces, print_case};
 use jsgen_place::Place;
-use jsgen_printer::Printer;
+use jsgen_printer::{Bracket, Printer};
 use jsgen_syntax::Precedence;
 use jsgen_tree::{StatementNode, SwitchCase, SwitchStatement};
 
@@ -23,19 +20,17 @@ pub fn print_switch_statement<N: PrintNode>(
 )
     ensures { Lays p.old p.new (spell (switch_statement_row N.plain node.now) place) }
 {
-    let within = Place::in_brackets(Precedence::Lowest);
+    let _ = place;
     p.print_indentation();
-    print_head::<_, Expressions>("switch", &node.discriminant, p, within);
-    print_cases(&node.cases, p);
-}
-
-// In braces, up to the end of the line.
-fn print_cases<N: PrintNode>(cases: &[SwitchCase<N>], p: &mut Printer<'_>)
-    ensures { Lays p.old p.new (soft_space ⊕ (braces (trees (map (switch_case_row N.plain) cases.now))
-        (spell_statements (trees (map (switch_case_row N.plain) cases.now))) ⊕ soft_line)) }
-{
+    p.print_word("switch");
     p.print_soft_space();
-    print_braces::<_, Cases>(cases, p);
+    p.print_opening(Bracket::Round);
+    node.discriminant
+        .get()
+        .print(p, Place::in_brackets(Precedence::Lowest));
+    p.print_closing(Bracket::Round);
+    p.print_soft_space();
+    print_braces::<_, Cases>(&node.cases, p);
     p.print_soft_line();
 }
 
@@ -57,11 +52,8 @@ impl<N: PrintNode> PrintStatement<SwitchCase<N>> for Cases {
 pub fn print_switch_case<N: PrintNode>(node: &SwitchCase<N>, p: &mut Printer<'_>, place: Place)
     ensures { Lays p.old p.new (spell (switch_case_row N.plain node.now) place) }
 {
-    print_case::<_, _, Expressions, Only, Statements>(
-        &node.test,
-        &node.consequent,
-        p,
-    );
+    let _ = place;
+    print_case::<_, _, Nested<Inside>, Only, Statements>(&node.test, &node.consequent, p);
 }
 
 /// A statement that is the only one of its case.
@@ -71,6 +63,6 @@ impl<N: PrintNode> PrintOnly<StatementNode<N>> for Only {
     ghost plain = { in_statement N.plain };
 
     fn print_only(statement: &StatementNode<N>, p: &mut Printer<'_>) {
-        print_body(statement.get(), p);
+        print_body::<_, Inside>(statement.get(), p);
     }
 }

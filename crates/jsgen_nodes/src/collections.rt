@@ -1,30 +1,30 @@
-// Arrays and objects (ECMA-262, 13.2.4 and 13.2.5), and what is spread, one function for each row.
+// Arrays and objects (ECMA-262, 13.2.4 and 13.2.5), one function for each row.
 ghost use Rattle.std.specs.Prelude.{◌≡◌, Some, map, option_map};
 ghost use Rattle.std.specs.Str.{chars};
 ghost use Rattle.jsgen_syntax.specs.Units.{js_units};
 ghost use Rattle.jsgen_syntax.specs.declared.precedence.Precedence.TheVariants.{Comma};
 ghost use Rattle.jsgen_tree.specs.Tree.{trees};
 ghost use Rattle.jsgen_tree.specs.Inside.{without_parentheses, looked_up_in, written_name_in, is_negative_number};
-ghost use Rattle.jsgen_tree.specs.Rows.{spread_element_row, array_expression_row, in_array_expression_element, object_property_row, object_expression_row, in_object_property_kind, in_property_key, in_expression};
+ghost use Rattle.jsgen_tree.specs.Rows.{array_expression_row, in_array_expression_element, object_property_row, object_expression_row, in_object_property_kind, in_property_key, in_expression};
+ghost use Rattle.jsgen_place.specs.Place.{in_brackets};
 ghost use Rattle.jsgen_model.specs.Punctuator.{Square, Brace, colon};
 ghost use Rattle.jsgen_model.specs.Items.{◌⊕◌, brackets, punctuator, soft_space};
-ghost use Rattle.jsgen_model.specs.Spell.{spell, spell_method, in_brackets, are_more, object_inside, spell_elements, ends_in_hole, comma_if, key_text, string_in};
+ghost use Rattle.jsgen_model.specs.Spell.{spell, spell_method, are_more, object_inside, spell_elements, ends_in_hole, comma_if, key_text, accessor_word, before_value, string_in};
 ghost use Rattle.jsgen_printer.specs.Printer.{pen_of};
 ghost use Rattle.jsgen_printer.specs.Steps.{Lays};
-ghost use Rattle.jsgen_nodes.specs.Keys.{is_string, is_number, is_said, is_value_alone, key_of, valued_items, method_items};
+ghost use Rattle.jsgen_nodes.specs.Keys.{is_string, is_number, is_said, is_value_alone, key_of};
 
 use crate::PrintNode;
-use crate::links::print_identifier_name;
-use crate::sequences::Expressions;
-use jsgen_lists::{
-    PrintElement, print_accessor_word, print_array, print_behind_space, print_object,
-};
-use jsgen_place::{Place, is_alone, needs_brackets};
+use crate::inside::Inside;
+use jsgen_lists::{PrintElement, print_accessor_word, print_array, print_object};
+use jsgen_place::Place;
 use jsgen_printer::{Bracket, Printer};
+use jsgen_questions::{is_alone, needs_brackets};
+use jsgen_spelled::{print_identifier_name, print_spread_element};
 use jsgen_syntax::{JsStr, Precedence};
 use jsgen_tree::{
     ArrayExpression, ArrayExpressionElement, ExpressionNode, NodeType, ObjectExpression,
-    ObjectProperty, ObjectPropertyKind, PropertyKey, SpreadElement,
+    ObjectProperty, ObjectPropertyKind, PropertyKey,
 };
 
 pub fn print_array_expression<N: PrintNode>(
@@ -34,8 +34,8 @@ pub fn print_array_expression<N: PrintNode>(
 )
     ensures { Lays p.old p.new (spell (array_expression_row N.plain node.now) place) }
 {
-    let within = Place::in_brackets(Precedence::Comma);
-    print_array::<_, Elements>(&node.elements, p, within);
+    let _ = place;
+    print_array::<_, Elements>(&node.elements, p, Place::in_brackets(Precedence::Comma));
 }
 
 /// The elements of an array; one that is left out has nothing in its place.
@@ -60,7 +60,7 @@ impl<N: PrintNode> PrintElement<Option<ArrayExpressionElement<N>>> for Elements 
     }
 }
 
-fn print_array_element<N: PrintNode>(
+pub fn print_array_element<N: PrintNode>(
     element: &ArrayExpressionElement<N>,
     p: &mut Printer<'_>,
     place: Place,
@@ -68,7 +68,9 @@ fn print_array_element<N: PrintNode>(
     ensures { Lays p.old p.new (spell (in_array_expression_element N.plain element.now) place) }
 {
     match element {
-        ArrayExpressionElement::SpreadElement(node) => print_spread_element(node, p, place),
+        ArrayExpressionElement::SpreadElement(node) => print_spread_element::<_, Inside>(
+            node, p, place,
+        ),
         ArrayExpressionElement::Expression(node) => node.get().print(p, place),
     }
 }
@@ -80,24 +82,20 @@ pub fn print_object_expression<N: PrintNode>(
 )
     ensures { Lays p.old p.new (spell (object_expression_row N.plain node.now) place) }
 {
+    let _ = place;
     let wrap = p.bars_brace();
     p.print_opening_if(wrap);
-    print_properties(&node.properties, p, place);
+    print_properties(&node.properties, p);
     p.print_closing_if(wrap);
 }
 
 // The braces and what is in them.
-fn print_properties<N: PrintNode>(
-    properties: &[ObjectPropertyKind<N>],
-    p: &mut Printer<'_>,
-    place: Place,
-)
+fn print_properties<N: PrintNode>(properties: &[ObjectPropertyKind<N>], p: &mut Printer<'_>)
     ensures { Lays p.old p.new (brackets Brace (object_inside (trees (map (in_object_property_kind N.plain) properties.now))
         (spell_elements (are_more 1 (trees (map (in_object_property_kind N.plain) properties.now))) (trees (map (in_object_property_kind N.plain) properties.now)) (in_brackets Comma)
         ⊕ comma_if (ends_in_hole (trees (map (in_object_property_kind N.plain) properties.now)))))) }
 {
-    let within = Place::in_brackets(Precedence::Comma);
-    print_object::<_, Properties>(properties, p, within);
+    print_object::<_, Properties>(properties, p, Place::in_brackets(Precedence::Comma));
 }
 
 /// The properties of an object, of which none is left out.
@@ -114,7 +112,9 @@ impl<N: PrintNode> PrintElement<ObjectPropertyKind<N>> for Properties {
     fn print_element(element: &ObjectPropertyKind<N>, p: &mut Printer<'_>, place: Place) {
         match element {
             ObjectPropertyKind::ObjectProperty(node) => print_object_property(node, p, place),
-            ObjectPropertyKind::SpreadElement(node) => print_spread_element(node, p, place),
+            ObjectPropertyKind::SpreadElement(node) => print_spread_element::<_, Inside>(
+                node, p, place,
+            ),
         }
     }
 }
@@ -129,43 +129,39 @@ pub fn print_object_property<N: PrintNode>(
     if node.is_method() {
         print_method_property(node, p, place);
     } else {
-        print_valued_property(node, p, place);
+        print_valued_property(node, p);
     }
 }
 
 // A method or an accessor, whose function follows its key.
 fn print_method_property<N: PrintNode>(node: &ObjectProperty<N>, p: &mut Printer<'_>, place: Place)
-    ensures { Lays p.old p.new (method_items node.now.kind node.now.computed (in_property_key N.plain node.now.key) (in_expression N.plain node.now.value) place) }
+    ensures { Lays p.old p.new (accessor_word node.now.kind ⊕ (key_of node.now.computed (in_property_key N.plain node.now.key) ⊕ spell_method (in_expression N.plain node.now.value) place)) }
 {
     print_accessor_word(node.kind, p);
-    print_key_and_function(node, p, place);
-}
-
-fn print_key_and_function<N: PrintNode>(node: &ObjectProperty<N>, p: &mut Printer<'_>, place: Place)
-    ensures { Lays p.old p.new (key_of node.now.computed (in_property_key N.plain node.now.key) place ⊕ spell_method (in_expression N.plain node.now.value) place) }
-{
-    print_key(&node.key, node.computed, p, place);
+    print_key(&node.key, node.computed, p);
     node.value.get().print_as_method(p, place);
 }
 
 // A property with a value: the value alone, or behind its key.
-fn print_valued_property<N: PrintNode>(node: &ObjectProperty<N>, p: &mut Printer<'_>, place: Place)
-    ensures { Lays p.old p.new (valued_items node.now.shorthand node.now.computed (in_property_key N.plain node.now.key) (in_expression N.plain node.now.value) place) }
+fn print_valued_property<N: PrintNode>(node: &ObjectProperty<N>, p: &mut Printer<'_>)
+    ensures { Lays p.old p.new (before_value node.now.shorthand (written_name_in (in_property_key N.plain node.now.key)) (looked_up_in (without_parentheses (in_expression N.plain node.now.value))) (key_of node.now.computed (in_property_key N.plain node.now.key))
+        ⊕ spell (in_expression N.plain node.now.value) (in_brackets Comma)) }
 {
-    if is_value_alone(node, p) {
-        node.value.get().print(p, place.child(Precedence::Comma));
-    } else {
-        print_whole_property(node, p, place);
-    }
+    print_before_value(node, p);
+    node.value
+        .get()
+        .print(p, Place::in_brackets(Precedence::Comma));
 }
 
-// With its key.
-fn print_whole_property<N: PrintNode>(node: &ObjectProperty<N>, p: &mut Printer<'_>, place: Place)
-    ensures { Lays p.old p.new (key_of node.now.computed (in_property_key N.plain node.now.key) place
-        ⊕ (punctuator colon ⊕ (soft_space ⊕ spell (in_expression N.plain node.now.value) (in_brackets Comma)))) }
+// The key and its colon, but where the value alone says the key.
+fn print_before_value<N: PrintNode>(node: &ObjectProperty<N>, p: &mut Printer<'_>)
+    ensures { Lays p.old p.new (before_value node.now.shorthand (written_name_in (in_property_key N.plain node.now.key)) (looked_up_in (without_parentheses (in_expression N.plain node.now.value))) (key_of node.now.computed (in_property_key N.plain node.now.key))) }
 {
-    print_key(&node.key, node.computed, p, place);
-    print_property_value(&node.value, p, place);
+    if !is_value_alone(node, p) {
+        print_key(&node.key, node.computed, p);
+        p.print_colon();
+        p.print_soft_space();
+    }
 }
 
 // Whether the property is its value alone.
@@ -197,14 +193,19 @@ fn key_name<N: PrintNode>(key: &PropertyKey<N>) -> Option<&str>
     }
 }
 
+// ---- keys
+
 // In brackets where it needs them.
-fn print_key<N: PrintNode>(key: &PropertyKey<N>, computed: bool, p: &mut Printer<'_>, place: Place)
-    ensures { Lays p.old p.new (key_of computed (in_property_key N.plain key.now) place) }
+fn print_key<N: PrintNode>(key: &PropertyKey<N>, computed: bool, p: &mut Printer<'_>)
+    ensures { Lays p.old p.new (key_of computed (in_property_key N.plain key.now)) }
 {
+    let within = Place::in_brackets(Precedence::Comma);
     if needs_brackets(computed, is_negative_key(key)) {
-        print_computed_key(key, p, place);
+        p.print_opening(Bracket::Square);
+        print_key_text(key, p, within);
+        p.print_closing(Bracket::Square);
     } else {
-        print_key_text(key, p, place.child(Precedence::Comma));
+        print_key_text(key, p, within);
     }
 }
 
@@ -232,15 +233,6 @@ fn is_number(node_type: NodeType) -> bool
     ensures { result ≡ is_number node_type }
 {
     matches!(node_type, NodeType::NumericLiteral)
-}
-
-fn print_computed_key<N: PrintNode>(key: &PropertyKey<N>, p: &mut Printer<'_>, place: Place)
-    ensures { Lays p.old p.new (brackets Square (key_text (in_property_key N.plain key.now) (spell (in_property_key N.plain key.now) (in_brackets Comma)))) }
-{
-    let within = Place::in_brackets(Precedence::Comma);
-    p.print_opening(Bracket::Square);
-    print_key_text(key, p, within);
-    p.print_closing(Bracket::Square);
 }
 
 pub fn print_key_text<N: PrintNode>(key: &PropertyKey<N>, p: &mut Printer<'_>, place: Place)
@@ -277,13 +269,4 @@ fn is_string(node_type: NodeType) -> bool
     ensures { result ≡ is_string node_type }
 {
     matches!(node_type, NodeType::StringLiteral)
-}
-
-// Behind its key.
-fn print_property_value<N: PrintNode>(value: &ExpressionNode<N>, p: &mut Printer<'_>, place: Place)
-    ensures { Lays p.old p.new (punctuator colon ⊕ (soft_space ⊕ spell (in_expression N.plain value.now) (in_brackets Comma))) }
-{
-    let within = Place::in_brackets(Precedence::Comma);
-    p.print_colon();
-    print_behind_space::<_, Expressions>(value, p, within);
 }

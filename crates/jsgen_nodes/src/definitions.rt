@@ -2,15 +2,17 @@
 ghost use Rattle.std.specs.Prelude.{◌≡◌, ◌==◌, ◌&&◌, ◌||◌, length, map};
 ghost use Rattle.jsgen_tree.specs.Tree.{trees};
 ghost use Rattle.jsgen_tree.specs.Rows.{function_row, function_body_row, binding_identifier_row, directive_row, in_statement};
-ghost use Rattle.jsgen_model.specs.Items.{◌⊕◌, wrapped};
-ghost use Rattle.jsgen_model.specs.Spell.{spell_method, spell_directives, spell_body, block_items, filled_braces, function_wraps, bars_function};
+ghost use Rattle.jsgen_model.specs.Items.{◌⊕◌, a_declaration};
+ghost use Rattle.jsgen_model.specs.Layout.{is_barred};
+ghost use Rattle.jsgen_model.specs.Spell.{spell, spell_method, spell_directives, spell_body, filled_braces};
 ghost use Rattle.jsgen_printer.specs.Printer.{pen_of};
 ghost use Rattle.jsgen_printer.specs.Steps.{Lays};
-ghost use Rattle.jsgen_nodes.specs.Functions.{whole_function};
+ghost use Rattle.jsgen_nodes.specs.Calls.{from_word};
 
 use crate::PrintNode;
 use crate::functions::print_parameters_in_brackets;
-use crate::statements::{Statements, print_binding_identifier, print_directives};
+use crate::statements::{Statements, print_directives};
+use jsgen_inside::print_binding_identifier;
 use jsgen_lists::{
     PrintMember, close_braces, open_braces, print_apart, print_body, print_empty_braces,
     print_if_given,
@@ -22,47 +24,35 @@ use jsgen_tree::{
     BindingIdentifier, Directive, Function, FunctionBody, FunctionKind, StatementNode,
 };
 
+/// A declaration among statements is a line of its own. An expression stands in parentheses where it would be a declaration.
 pub fn print_function<N: PrintNode>(node: &Function<N>, p: &mut Printer<'_>, place: Place)
     ensures { Lays p.old p.new (spell (function_row N.plain node.now) place) }
 {
     match node.kind {
-        FunctionKind::Declaration => print_as_declaration(node, p, place),
-        FunctionKind::Expression => print_as_expression(node, p, place),
+        FunctionKind::Declaration => {
+            p.print_indentation_if(place.in_list);
+            print_from_word(node, p, place);
+            p.print_soft_line_if(place.in_list);
+        }
+        FunctionKind::Expression => {
+            let wrap = is_in_parentheses(node.pife, p);
+            p.print_opening_if(wrap);
+            print_from_word(node, p, place);
+            p.print_closing_if(wrap);
+        }
     }
-}
-
-// Among statements a line of its own.
-fn print_as_declaration<N: PrintNode>(node: &Function<N>, p: &mut Printer<'_>, place: Place)
-    ensures { Lays p.old p.new (block_items place.in_list (whole_function (function_row N.plain node.now) place)) }
-{
-    if place.in_list {
-        p.print_indentation();
-        print_whole_function(node, p, place);
-        p.print_soft_line();
-    } else {
-        print_whole_function(node, p, place);
-    }
-}
-
-fn print_as_expression<N: PrintNode>(node: &Function<N>, p: &mut Printer<'_>, place: Place)
-    ensures { Lays p.old p.new (wrapped (function_wraps node.now.pife place) (whole_function (function_row N.plain node.now) place)) }
-{
-    let wrap = is_in_parentheses(node.pife, p);
-    p.print_opening_if(wrap);
-    print_whole_function(node, p, place);
-    p.print_closing_if(wrap);
 }
 
 // Where it is marked so, and where it would be a declaration without them.
 fn is_in_parentheses(pife: bool, p: &Printer<'_>) -> bool
-    ensures { result ≡ (pife || bars_function (pen_of p.now).start) }
+    ensures { result ≡ (pife || is_barred a_declaration (pen_of p.now).start) }
 {
-    pife || p.bars_function()
+    pife || p.bars_declaration()
 }
 
 // From the word on.
-fn print_whole_function<N: PrintNode>(node: &Function<N>, p: &mut Printer<'_>, place: Place)
-    ensures { Lays p.old p.new (whole_function (function_row N.plain node.now) place) }
+fn print_from_word<N: PrintNode>(node: &Function<N>, p: &mut Printer<'_>, place: Place)
+    ensures { Lays p.old p.new (from_word (function_row N.plain node.now) place) }
 {
     p.print_word("function");
     print_if_given::<_, Names>(&node.id, p, place.child(Precedence::Lowest));
@@ -84,9 +74,9 @@ impl PrintMember<Box<BindingIdentifier>> for Names {
 pub fn print_behind_name<N: PrintNode>(node: &Function<N>, p: &mut Printer<'_>, place: Place)
     ensures { Lays p.old p.new (spell_method (function_row N.plain node.now) place) }
 {
-    let within = Place::within_statement();
-    print_parameters_in_brackets(&node.params, p, place.function_parameters());
-    print_apart::<_, Bodies>(&node.body, p, within);
+    let parameters = place.child(Precedence::Comma).with_calls();
+    print_parameters_in_brackets(&node.params, p, parameters);
+    print_apart::<_, Bodies>(&node.body, p, Place::within_statement());
 }
 
 // ---- bodies
@@ -106,6 +96,7 @@ impl<N: PrintNode> PrintMember<Box<FunctionBody<N>>> for Bodies {
 pub fn print_function_body<N: PrintNode>(node: &FunctionBody<N>, p: &mut Printer<'_>, place: Place)
     ensures { Lays p.old p.new (spell (function_body_row N.plain node.now) place) }
 {
+    let _ = place;
     if are_empty(&node.directives, &node.statements) {
         print_empty_braces(p);
     } else {
@@ -124,18 +115,7 @@ fn print_filled_body<N: PrintNode>(node: &FunctionBody<N>, p: &mut Printer<'_>)
         ⊕ spell_body (trees (map (in_statement N.plain) node.now.statements.items)))) }
 {
     let depth = open_braces(p);
-    print_within_braces(node, p);
-    close_braces(p, depth);
-}
-
-// Directives, and statements behind them.
-fn print_within_braces<N: PrintNode>(
-    node: &FunctionBody<N>,
-    p: &mut Printer<'_>,
-)
-    ensures { Lays p.old p.new (spell_directives (trees (map directive_row node.now.directives.items))
-        ⊕ spell_body (trees (map (in_statement N.plain) node.now.statements.items))) }
-{
     print_directives(&node.directives, p);
     print_body::<_, Statements>(&node.statements, p);
+    close_braces(p, depth);
 }

@@ -1,20 +1,22 @@
-// Functions and their parameters (ECMA-262, clause 15), one function for each row.
-ghost use Rattle.std.specs.Prelude.{◌≡◌};
+// Parameters and arrow functions (ECMA-262, 15.1 and 15.3), one function for each row.
+ghost use Rattle.std.specs.Prelude.{◌≡◌, true};
+ghost use Rattle.jsgen_syntax.specs.declared.precedence.Precedence.TheVariants.{Comma};
 ghost use Rattle.jsgen_tree.specs.Tree.{type_of};
-ghost use Rattle.jsgen_tree.specs.Rows.{formal_parameter_row, formal_parameter_rest_row, formal_parameters_row, arrow_function_expression_row, in_arrow_function_body};
-ghost use Rattle.jsgen_model.specs.Punctuator.{arrow, Round};
-ghost use Rattle.jsgen_model.specs.Items.{◌⊕◌, soft_space, punctuator, brackets};
-ghost use Rattle.jsgen_model.specs.Spell.{spell, is_name_alone, is_bare, parameter_items, parameters_place, body_begins, arrow_body_place};
+ghost use Rattle.jsgen_tree.specs.Rows.{formal_parameters_row, formal_parameter_row, formal_parameter_rest_row, arrow_function_expression_row, in_arrow_function_body};
+ghost use Rattle.jsgen_place.specs.Place.{child, within};
+ghost use Rattle.jsgen_model.specs.Punctuator.{Round};
+ghost use Rattle.jsgen_model.specs.Items.{brackets, parentheses_unless_minified};
+ghost use Rattle.jsgen_model.specs.Spell.{spell, is_name_alone, parameter_items, body_begins};
 ghost use Rattle.jsgen_printer.specs.Steps.{Lays};
-ghost use Rattle.jsgen_nodes.specs.Alone.{parameter_parts};
 ghost use Rattle.jsgen_nodes.specs.Names.{is_name_parameter};
 
 use crate::PrintNode;
 use crate::definitions::print_function_body;
-use crate::sequences::Expressions;
-use jsgen_lists::{PrintMember, print_comma_between, print_if_given, print_list, print_value};
-use jsgen_place::{Place, is_bare};
+use crate::inside::Inside;
+use jsgen_lists::{PrintMember, print_comma_between, print_if_given, print_list};
+use jsgen_place::Place;
 use jsgen_printer::{Bracket, Printer};
+use jsgen_spelled::{print_formal_parameter, print_formal_parameter_rest};
 use jsgen_syntax::Precedence;
 use jsgen_tree::{
     ArrowFunctionBody, ArrowFunctionExpression, FormalParameter, FormalParameterRest,
@@ -23,13 +25,12 @@ use jsgen_tree::{
 
 // ---- parameters
 
-/// Parameters, of which the first begins where they do.
 pub fn print_formal_parameters<N: PrintNode>(
     node: &FormalParameters<N>,
     p: &mut Printer<'_>,
     place: Place,
 )
-    ensures { Lays p.old p.new (parameter_parts (formal_parameters_row N.plain node.now) place) }
+    ensures { Lays p.old p.new (spell (formal_parameters_row N.plain node.now) place) }
 {
     print_list::<_, Parameters>(&node.items, p, place);
     print_comma_between::<_, _, Parameters, Rest>(&node.items, &node.rest, p);
@@ -43,7 +44,7 @@ impl<N: PrintNode> PrintMember<FormalParameter<N>> for Parameters {
     ghost plain = { formal_parameter_row N.plain };
 
     fn print_member(parameter: &FormalParameter<N>, p: &mut Printer<'_>, place: Place) {
-        print_formal_parameter(parameter, p, place);
+        print_formal_parameter::<_, Inside>(parameter, p, place);
     }
 }
 
@@ -54,7 +55,7 @@ impl<N: PrintNode> PrintMember<Box<FormalParameterRest<N>>> for Rest {
     ghost plain = { λ b. formal_parameter_rest_row N.plain b.value };
 
     fn print_member(rest: &Box<FormalParameterRest<N>>, p: &mut Printer<'_>, place: Place) {
-        print_formal_parameter_rest(rest, p, place);
+        print_formal_parameter_rest::<_, Inside>(rest, p, place);
     }
 }
 
@@ -69,19 +70,14 @@ pub fn print_arrow_function_expression<N: PrintNode>(
 {
     let wrap = place.wraps_arrow(node.pife);
     p.print_opening_if(wrap);
-    print_arrow(node, p, place.within(wrap));
-    p.print_closing_if(wrap);
-}
-
-// The parameters, the arrow and the body, within the parentheses.
-fn print_arrow<N: PrintNode>(node: &ArrowFunctionExpression<N>, p: &mut Printer<'_>, place: Place)
-    ensures { Lays p.old p.new (parameter_items (is_bare (settings_of place.settings) (formal_parameters_row N.plain node.now.params.value))
-        (spell (formal_parameters_row N.plain node.now.params.value) (parameters_place place))
-        ⊕ (soft_space ⊕ (punctuator arrow ⊕ (soft_space ⊕ (body_begins (type_of (in_arrow_function_body N.plain node.now.body))
-        ⊕ spell (in_arrow_function_body N.plain node.now.body) (arrow_body_place place)))))) }
-{
+    let within = place.within(wrap);
     print_arrow_parameters(&node.params, p, place);
-    print_behind_parameters(&node.body, p, place);
+    p.print_soft_space();
+    p.print_arrow();
+    p.print_soft_space();
+    begin_body(body_type(&node.body), p);
+    print_arrow_function_body(&node.body, p, within.child(Precedence::Comma));
+    p.print_closing_if(wrap);
 }
 
 // A name alone, or parameters in parentheses.
@@ -90,14 +86,29 @@ fn print_arrow_parameters<N: PrintNode>(
     p: &mut Printer<'_>,
     place: Place,
 )
-    ensures { Lays p.old p.new (parameter_items (is_bare (settings_of place.settings) (formal_parameters_row N.plain parameters.now))
-        (spell (formal_parameters_row N.plain parameters.now) (parameters_place place))) }
+    ensures { Lays p.old p.new (parameter_items (is_name_alone (formal_parameters_row N.plain parameters.now))
+        (spell (formal_parameters_row N.plain parameters.now) (child Comma (within true place)))) }
 {
-    if is_bare(place.settings, is_name_alone(parameters)) {
-        print_formal_parameters(parameters, p, place.parameters());
+    let below = place.within(true).child(Precedence::Comma);
+    if is_name_alone(parameters) {
+        print_unless_minified(parameters, p, below);
     } else {
-        print_parameters_in_brackets(parameters, p, place.parameters());
+        print_parameters_in_brackets(parameters, p, below);
     }
+}
+
+// In parentheses that minified text leaves out.
+fn print_unless_minified<N: PrintNode>(
+    parameters: &FormalParameters<N>,
+    p: &mut Printer<'_>,
+    place: Place,
+)
+    ensures { Lays p.old p.new (parentheses_unless_minified (spell (formal_parameters_row N.plain parameters.now) place)) }
+{
+    let wrap = !p.is_minified();
+    p.print_opening_if(wrap);
+    print_formal_parameters(parameters, p, place);
+    p.print_closing_if(wrap);
 }
 
 /// Parameters, of which this is the place, in parentheses.
@@ -128,21 +139,7 @@ fn is_name<N: PrintNode>(parameter: &FormalParameter<N>) -> bool
     parameter.initializer.is_none() && parameter.pattern.get().is_binding_name()
 }
 
-// The arrow, and the body behind it.
-fn print_behind_parameters<N: PrintNode>(
-    body: &ArrowFunctionBody<N>,
-    p: &mut Printer<'_>,
-    place: Place,
-)
-    ensures { Lays p.old p.new (soft_space ⊕ (punctuator arrow ⊕ (soft_space ⊕ (body_begins (type_of (in_arrow_function_body N.plain body.now))
-        ⊕ spell (in_arrow_function_body N.plain body.now) (arrow_body_place place))))) }
-{
-    p.print_soft_space();
-    p.print_arrow();
-    p.print_soft_space();
-    begin_body(body_type(body), p);
-    print_arrow_function_body(body, p, place.child(Precedence::Comma));
-}
+// ---- bodies
 
 // An expression begins there, and a body in braces doesn't.
 fn begin_body(body: NodeType, p: &mut Printer<'_>)

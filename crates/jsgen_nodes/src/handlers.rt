@@ -1,38 +1,29 @@
 // Handlers (ECMA-262, 14.15), one function for each row.
-ghost use Rattle.std.specs.Prelude.{option_map, codes};
+ghost use Rattle.std.specs.Prelude.{option_map};
 ghost use Rattle.jsgen_tree.specs.Tree.{optional};
-ghost use Rattle.jsgen_tree.specs.Rows.{try_statement_row, catch_clause_row, block_statement_row, in_binding_pattern};
-ghost use Rattle.jsgen_syntax.specs.declared.precedence.Precedence.TheVariants.{Lowest};
-ghost use Rattle.jsgen_model.specs.Items.{◌⊕◌, word, soft_space, soft_line};
-ghost use Rattle.jsgen_model.specs.Spell.{spell_if_given, spell_finalizer, spell_caught, behind, within_statement};
+ghost use Rattle.jsgen_tree.specs.Rows.{try_statement_row, catch_clause_row, block_statement_row};
+ghost use Rattle.jsgen_model.specs.Spell.{spell, spell_finalizer};
 ghost use Rattle.jsgen_printer.specs.Steps.{Lays};
 
 use crate::PrintNode;
-use crate::blocks::Blocks;
-use jsgen_lists::{
-    PrintMember, print_behind_space, print_behind_spaced_word, print_behind_word, print_caught,
-    print_if_given,
-};
+use crate::blocks::{Blocks, print_block_statement};
+use crate::inside::Inside;
+use jsgen_inside::Nested;
+use jsgen_lists::{PrintMember, print_behind_space, print_caught, print_if_given};
 use jsgen_place::Place;
 use jsgen_printer::Printer;
 use jsgen_syntax::Precedence;
-use jsgen_tree::{BindingPatternNode, BlockStatement, CatchClause, TryStatement};
+use jsgen_tree::{BlockStatement, CatchClause, TryStatement};
 
 pub fn print_try_statement<N: PrintNode>(node: &TryStatement<N>, p: &mut Printer<'_>, place: Place)
     ensures { Lays p.old p.new (spell (try_statement_row N.plain node.now) place) }
 {
+    let _ = place;
     let within = Place::within_statement();
     p.print_indentation();
-    print_behind_word::<_, Blocks>("try", &node.block, p, within);
-    print_behind_try(node, p);
-}
-
-// What stands behind the block, up to the end of the line.
-fn print_behind_try<N: PrintNode>(node: &TryStatement<N>, p: &mut Printer<'_>)
-    ensures { Lays p.old p.new (spell_if_given (optional (option_map (λ b. catch_clause_row N.plain b.value) node.now.handler)) within_statement
-        ⊕ (spell_finalizer (optional (option_map (λ b. block_statement_row N.plain b.value) node.now.finalizer)) ⊕ soft_line)) }
-{
-    let within = Place::within_statement();
+    p.print_word("try");
+    p.print_soft_space();
+    print_block_statement(&node.block, p, within);
     print_if_given::<_, Clauses>(&node.handler, p, within);
     print_finalizer(&node.finalizer, p);
     p.print_soft_line();
@@ -49,16 +40,14 @@ impl<N: PrintNode> PrintMember<Box<CatchClause<N>>> for Clauses {
     }
 }
 
-fn print_finalizer<N: PrintNode>(
-    finalizer: &Option<Box<BlockStatement<N>>>,
-    p: &mut Printer<'_>,
-)
+fn print_finalizer<N: PrintNode>(finalizer: &Option<Box<BlockStatement<N>>>, p: &mut Printer<'_>)
     ensures { Lays p.old p.new (spell_finalizer (optional (option_map (λ b. block_statement_row N.plain b.value) finalizer.now))) }
 {
     match finalizer {
         Some(block) => {
-            let within = Place::within_statement();
-            print_behind_spaced_word::<_, Blocks>("finally", block, p, within);
+            p.print_soft_space();
+            p.print_word("finally");
+            print_behind_space::<_, Blocks>(block, p, Place::within_statement());
         }
         None => {}
     }
@@ -67,31 +56,8 @@ fn print_finalizer<N: PrintNode>(
 pub fn print_catch_clause<N: PrintNode>(node: &CatchClause<N>, p: &mut Printer<'_>, place: Place)
     ensures { Lays p.old p.new (spell (catch_clause_row N.plain node.now) place) }
 {
-    let within = Place::within_statement();
-    print_catch(&node.param, p, place);
-    print_behind_space::<_, Blocks>(&node.body, p, within);
-}
-
-// The word and what stands in the parentheses behind it.
-fn print_catch<N: PrintNode>(
-    param: &Option<BindingPatternNode<N>>,
-    p: &mut Printer<'_>,
-    place: Place,
-)
-    ensures { Lays p.old p.new (soft_space ⊕ (word (codes "catch") ⊕ spell_caught (optional (option_map (in_binding_pattern N.plain) param.now)) (child Lowest place))) }
-{
     p.print_soft_space();
     p.print_word("catch");
-    print_caught::<_, Patterns>(param, p, place.child(Precedence::Lowest));
-}
-
-/// The names that what is caught has.
-struct Patterns;
-
-impl<N: PrintNode> PrintMember<BindingPatternNode<N>> for Patterns {
-    ghost plain = { in_binding_pattern N.plain };
-
-    fn print_member(pattern: &BindingPatternNode<N>, p: &mut Printer<'_>, place: Place) {
-        pattern.get().print(p, place);
-    }
+    print_caught::<_, Nested<Inside>>(&node.param, p, place.child(Precedence::Lowest));
+    print_behind_space::<_, Blocks>(&node.body, p, Place::within_statement());
 }

@@ -1,26 +1,22 @@
 // Loops over the keys or the values of another value (ECMA-262, 14.7.5), one function for each row.
 ghost use Rattle.std.specs.Prelude.{◌≡◌, codes};
-ghost use Rattle.jsgen_syntax.specs.declared.precedence.Precedence.TheVariants.{Lowest, Comma};
+ghost use Rattle.jsgen_tree.specs.Tree.{type_of};
 ghost use Rattle.jsgen_tree.specs.Inside.{looked_up_in};
-ghost use Rattle.jsgen_tree.specs.Rows.{for_in_statement_row, for_of_statement_row, in_for_statement_left, in_expression};
+ghost use Rattle.jsgen_tree.specs.Rows.{for_in_statement_row, for_of_statement_row, in_for_statement_left};
 ghost use Rattle.jsgen_model.specs.Punctuator.{Round};
-ghost use Rattle.jsgen_model.specs.Items.{◌⊕◌, word, brackets, soft_space};
-ghost use Rattle.jsgen_model.specs.Spell.{apart_from_of};
+ghost use Rattle.jsgen_model.specs.Items.{brackets};
+ghost use Rattle.jsgen_model.specs.Spell.{spell, left_place, apart_from_of};
 ghost use Rattle.jsgen_printer.specs.Printer.{pen_of};
 ghost use Rattle.jsgen_printer.specs.Steps.{Lays};
 ghost use Rattle.jsgen_nodes.specs.Keys.{is_said};
-ghost use Rattle.jsgen_nodes.specs.Loops.{left_of, in_parts, of_parts};
 
 use crate::PrintNode;
-use crate::bodies::print_body;
-use crate::expressions::print_identifier_reference;
+use crate::inside::Inside;
 use crate::links::{print_computed_member_expression, print_static_member_expression};
-use crate::loops::print_for;
-use crate::sequences::Expressions;
-use crate::statements::print_variable_declaration;
-use jsgen_lists::print_behind_spaced_word;
+use jsgen_inside::{print_body, print_identifier_reference};
 use jsgen_place::Place;
 use jsgen_printer::{Bracket, Printer};
+use jsgen_spelled::print_variable_declaration;
 use jsgen_syntax::Precedence;
 use jsgen_tree::{ForInStatement, ForOfStatement, ForStatementLeft};
 
@@ -31,27 +27,20 @@ pub fn print_for_in_statement<N: PrintNode>(
 )
     ensures { Lays p.old p.new (spell (for_in_statement_row N.plain node.now) place) }
 {
+    let _ = place;
     p.print_indentation();
-    print_in_head(node, p);
-    print_body(node.body.get(), p);
-}
-
-// The word and what stands in the parentheses behind it.
-fn print_in_head<N: PrintNode>(node: &ForInStatement<N>, p: &mut Printer<'_>)
-    ensures { Lays p.old p.new ((word (codes "for") ⊕ soft_space) ⊕ brackets Round (in_parts (in_for_statement_left N.plain node.now.left) (in_expression N.plain node.now.right))) }
-{
-    print_for(p);
+    p.print_word("for");
+    p.print_soft_space();
     p.print_opening(Bracket::Round);
-    print_in_parts(node, p);
-    p.print_closing(Bracket::Round);
-}
-
-fn print_in_parts<N: PrintNode>(node: &ForInStatement<N>, p: &mut Printer<'_>)
-    ensures { Lays p.old p.new (in_parts (in_for_statement_left N.plain node.now.left) (in_expression N.plain node.now.right)) }
-{
-    let within = Place::in_brackets(Precedence::Lowest);
     print_left(&node.left, p);
-    print_behind_spaced_word::<_, Expressions>("in", &node.right, p, within);
+    p.print_soft_space();
+    p.print_word("in");
+    p.print_soft_space();
+    node.right
+        .get()
+        .print(p, Place::in_brackets(Precedence::Lowest));
+    p.print_closing(Bracket::Round);
+    print_body::<_, Inside>(node.body.get(), p);
 }
 
 pub fn print_for_of_statement<N: PrintNode>(
@@ -61,37 +50,30 @@ pub fn print_for_of_statement<N: PrintNode>(
 )
     ensures { Lays p.old p.new (spell (for_of_statement_row N.plain node.now) place) }
 {
+    let _ = place;
     p.print_indentation();
-    print_of_head(node, p);
-    print_body(node.body.get(), p);
-}
-
-// The word and what stands in the parentheses behind it.
-fn print_of_head<N: PrintNode>(node: &ForOfStatement<N>, p: &mut Printer<'_>)
-    ensures { Lays p.old p.new ((word (codes "for") ⊕ soft_space) ⊕ brackets Round (of_parts (in_for_statement_left N.plain node.now.left) (in_expression N.plain node.now.right))) }
-{
-    print_for(p);
+    p.print_word("for");
+    p.print_soft_space();
     p.print_opening(Bracket::Round);
-    print_of_parts(node, p);
-    p.print_closing(Bracket::Round);
-}
-
-fn print_of_parts<N: PrintNode>(node: &ForOfStatement<N>, p: &mut Printer<'_>)
-    ensures { Lays p.old p.new (of_parts (in_for_statement_left N.plain node.now.left) (in_expression N.plain node.now.right)) }
-{
-    let within = Place::in_brackets(Precedence::Comma);
     print_apart_from_of(&node.left, p);
-    print_behind_spaced_word::<_, Expressions>("of", &node.right, p, within);
+    p.print_soft_space();
+    p.print_word("of");
+    p.print_soft_space();
+    node.right
+        .get()
+        .print(p, Place::in_brackets(Precedence::Comma));
+    p.print_closing(Bracket::Round);
+    print_body::<_, Inside>(node.body.get(), p);
 }
 
 // ---- what the loop gives each of them
 
-fn print_left<N: PrintNode>(left: &ForStatementLeft<N>, p: &mut Printer<'_>)
-    ensures { Lays p.old p.new (left_of (in_for_statement_left N.plain left.now)) }
+pub fn print_left<N: PrintNode>(left: &ForStatementLeft<N>, p: &mut Printer<'_>)
+    ensures { Lays p.old p.new (spell (in_for_statement_left N.plain left.now) (left_place (type_of (in_for_statement_left N.plain left.now)))) }
 {
     let target = Place::in_brackets(Precedence::Comma);
     match left {
-        ForStatementLeft::VariableDeclaration(node) => print_variable_declaration(
+        ForStatementLeft::VariableDeclaration(node) => print_variable_declaration::<_, Inside>(
             node,
             p,
             Place::loop_head(),
@@ -107,11 +89,8 @@ fn print_left<N: PrintNode>(left: &ForStatementLeft<N>, p: &mut Printer<'_>)
 }
 
 // A target that is printed as `async` stands in parentheses before `of`.
-fn print_apart_from_of<N: PrintNode>(
-    left: &ForStatementLeft<N>,
-    p: &mut Printer<'_>,
-)
-    ensures { Lays p.old p.new (apart_from_of (looked_up_in (in_for_statement_left N.plain left.now)) (left_operand (in_for_statement_left N.plain left.now))) }
+fn print_apart_from_of<N: PrintNode>(left: &ForStatementLeft<N>, p: &mut Printer<'_>)
+    ensures { Lays p.old p.new (apart_from_of (looked_up_in (in_for_statement_left N.plain left.now)) (spell (in_for_statement_left N.plain left.now) (left_place (type_of (in_for_statement_left N.plain left.now))))) }
 {
     if is_async(left, p) {
         print_left_in_parentheses(left, p);
@@ -120,11 +99,8 @@ fn print_apart_from_of<N: PrintNode>(
     }
 }
 
-fn print_left_in_parentheses<N: PrintNode>(
-    left: &ForStatementLeft<N>,
-    p: &mut Printer<'_>,
-)
-    ensures { Lays p.old p.new (brackets Round (left_operand (in_for_statement_left N.plain left.now))) }
+fn print_left_in_parentheses<N: PrintNode>(left: &ForStatementLeft<N>, p: &mut Printer<'_>)
+    ensures { Lays p.old p.new (brackets Round (spell (in_for_statement_left N.plain left.now) (left_place (type_of (in_for_statement_left N.plain left.now))))) }
 {
     p.print_opening(Bracket::Round);
     print_left(left, p);

@@ -1,25 +1,21 @@
 // Members and calls (ECMA-262, 13.3), one function for each row.
-ghost use Rattle.std.specs.Prelude.{map};
-ghost use Rattle.jsgen_syntax.specs.declared.precedence.Precedence.TheVariants.{Lowest, Comma};
-ghost use Rattle.jsgen_tree.specs.Tree.{trees};
-ghost use Rattle.jsgen_tree.specs.Rows.{identifier_name_row, static_member_expression_row, computed_member_expression_row, call_expression_row, chain_expression_row, in_argument, in_chain_element, in_expression};
-ghost use Rattle.jsgen_model.specs.Punctuator.{Round, Square};
-ghost use Rattle.jsgen_model.specs.Items.{◌⊕◌, brackets};
-ghost use Rattle.jsgen_model.specs.Spell.{spell, spell_arguments, called, in_brackets, bracket_link, quoted_plainly};
-ghost use Rattle.jsgen_model.specs.Quotes.{is_require_call, is_definition_call};
+ghost use Rattle.jsgen_tree.specs.Rows.{static_member_expression_row, computed_member_expression_row, call_expression_row, chain_expression_row, in_argument, in_chain_element};
+ghost use Rattle.jsgen_model.specs.Spell.{spell};
 ghost use Rattle.jsgen_printer.specs.Steps.{Lays};
+ghost use Rattle.jsgen_nodes.specs.Calls.{from_callee};
 
 use crate::PrintNode;
-use crate::collections::print_spread_element;
+use crate::inside::Inside;
 use crate::quotes::plain_quotes;
-use crate::sequences::Expressions;
+use jsgen_inside::Nested;
 use jsgen_lists::{PrintMember, print_arguments, print_bracket_link, print_named_member};
 use jsgen_place::Place;
 use jsgen_printer::{Bracket, Printer};
+use jsgen_spelled::print_spread_element;
 use jsgen_syntax::Precedence;
 use jsgen_tree::{
     Argument, CallExpression, ChainElement, ChainExpression, ComputedMemberExpression,
-    IdentifierName, StaticMemberExpression,
+    StaticMemberExpression,
 };
 
 pub fn print_static_member_expression<N: PrintNode>(
@@ -29,8 +25,13 @@ pub fn print_static_member_expression<N: PrintNode>(
 )
     ensures { Lays p.old p.new (spell (static_member_expression_row N.plain node.now) place) }
 {
-    let object = place.child(Precedence::Postfix);
-    print_named_member::<_, Expressions>(&node.object, node.optional, &node.property, p, object);
+    print_named_member::<_, Nested<Inside>>(
+        &node.object,
+        node.optional,
+        &node.property,
+        p,
+        place.linked(),
+    );
 }
 
 pub fn print_computed_member_expression<N: PrintNode>(
@@ -40,22 +41,10 @@ pub fn print_computed_member_expression<N: PrintNode>(
 )
     ensures { Lays p.old p.new (spell (computed_member_expression_row N.plain node.now) place) }
 {
-    node.object.get().print(p, place.child(Precedence::Postfix));
-    print_computed_name(node, p, place);
-}
-
-// Behind the object.
-fn print_computed_name<N: PrintNode>(
-    node: &ComputedMemberExpression<N>,
-    p: &mut Printer<'_>,
-    place: Place,
-)
-    ensures { Lays p.old p.new (bracket_link node.now.optional
-        ⊕ brackets Square (spell (in_expression N.plain node.now.expression) (quoted_plainly place.plain_quotes (in_brackets Lowest)))) }
-{
+    let within = Place::in_brackets(Precedence::Lowest);
+    node.object.get().print(p, place.linked());
     print_bracket_link(node.optional, p);
     p.print_opening(Bracket::Square);
-    let within = Place::in_brackets(Precedence::Lowest);
     node.expression
         .get()
         .print(p, within.quoted_plainly(place.plain_quotes));
@@ -71,17 +60,17 @@ pub fn print_call_expression<N: PrintNode>(
 {
     let wrap = place.wraps_call();
     p.print_opening_if(wrap);
-    print_call(node, p, place.within(wrap));
+    print_from_callee(node, p, place.within(wrap));
     p.print_closing_if(wrap);
 }
 
-// What is called and what it is given, within the parentheses.
-fn print_call<N: PrintNode>(node: &CallExpression<N>, p: &mut Printer<'_>, place: Place)
-    ensures { Lays p.old p.new (spell (in_expression N.plain node.now.callee) (called place)
-        ⊕ (bracket_link node.now.optional ⊕ brackets Round (spell_arguments
-        (is_require_call (in_expression N.plain node.now.callee) (trees (map (in_argument N.plain) node.now.arguments.items)))
-        (is_definition_call (in_expression N.plain node.now.callee) (trees (map (in_argument N.plain) node.now.arguments.items)))
-        (trees (map (in_argument N.plain) node.now.arguments.items)) (in_brackets Comma)))) }
+/// What is called and what it is given, within the parentheses.
+pub fn print_from_callee<N: PrintNode>(
+    node: &CallExpression<N>,
+    p: &mut Printer<'_>,
+    place: Place,
+)
+    ensures { Lays p.old p.new (from_callee (call_expression_row N.plain node.now) place) }
 {
     node.callee.get().print(p, place.called());
     print_bracket_link(node.optional, p);
@@ -125,7 +114,7 @@ impl<N: PrintNode> PrintMember<Argument<N>> for Arguments {
 
     fn print_member(argument: &Argument<N>, p: &mut Printer<'_>, place: Place) {
         match argument {
-            Argument::SpreadElement(node) => print_spread_element(node, p, place),
+            Argument::SpreadElement(node) => print_spread_element::<_, Inside>(node, p, place),
             Argument::Expression(expression) => expression.get().print(p, place),
         }
     }

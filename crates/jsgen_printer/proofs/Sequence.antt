@@ -1,9 +1,10 @@
 -- Steps one after another.
-use Rattle.std.proofs.Common.{◌≡◌, ℕ, Bool, true, false, ◌||◌, List, ◌++◌, refl, ap, sym, subst, ◌∙◌, append_assoc}
+use Rattle.std.proofs.Common.{◌≡◌, ℕ, Bool, true, false, ◌||◌, if◌then◌else◌, List, ◌++◌, refl, ap, sym, subst, ◌∙◌, append_assoc}
 use Rattle.std.proofs.lemmas.Bool.{both_ways}
+use Rattle.jsgen_tree.specs.Named.{Named}
 use Rattle.jsgen_model.specs.Punctuator.{Bracket, Round, opening, closing}
-use Rattle.jsgen_model.specs.Items.{Items, nothing, ◌⊕◌, brackets, wrapped, wrapped_at_start, Opener, parentheses_unless_minified, deeper}
-use Rattle.jsgen_model.specs.Layout.{Style, Pen, Ending, nowhere, layout, written, written_if, other_end, text_if, is_barred, not}
+use Rattle.jsgen_model.specs.Items.{Items, nothing, ◌⊕◌, brackets, wrapped, wrapped_at_start, Opener, parentheses_unless_minified, where_same, deeper}
+use Rattle.jsgen_model.specs.Layout.{Style, Pen, Ending, nowhere, layout, written, written_if, other_end, text_if, is_barred, not, are_same}
 use Rattle.jsgen_model.specs.Printing.{IsPrefix, Stops}
 use Rattle.jsgen_printer.specs.Printer.{pen_of, deepened, at_depth}
 use Rattle.jsgen_printer.specs.Steps.{has_failed, Ends, Goes, Lays}
@@ -89,6 +90,14 @@ wrapped_at_start_laid {a} {b} {c} {d} {i} own opener test e h inside k = laid_th
 
 pub unless_minified_laid : {a b c d : Printer} {i : Items} (test : Bool) → test ≡ not (pen_of a).style.minified → Goes a b (written_if test (opening Round)) → Lays b c i → Goes c d (written_if test (closing Round)) → Lays a d (parentheses_unless_minified i)
 unless_minified_laid {a} {b} {c} {d} {i} test e h inside k = laid_there (λ going. ap (λ b. layout (wrapped b i) (pen_of a)) e) (wrapped_laid test h inside k)
+
+-- one of two, by how two names are printed
+same_there : (said : Bool) (i j : Items) (pen : Pen) → layout (if said then i else j) pen ≡ (if said then layout i pen else layout j pen)
+same_there true i j pen = refl
+same_there false i j pen = refl
+
+pub where_same_laid : {a b : Printer} (m n : Named) (i j : Items) (said : Bool) → said ≡ are_same (pen_of a).style.tables m n → Lays a b (if said then i else j) → Lays a b (where_same m n i j)
+where_same_laid {a} m n i j said e h = laid_there (λ going. same_there said i j (pen_of a) ∙ ap (λ b. if b then layout i (pen_of a) else layout j (pen_of a)) e) h
 
 -- ---- where no step has failed
 

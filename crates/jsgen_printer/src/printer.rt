@@ -571,6 +571,15 @@ impl<'a> Printer<'a> {
         self.print_if(!self.minify, "\n");
     }
 
+    /// A line end that minified text leaves out, where the test holds.
+    pub fn print_soft_line_if(&mut self, test: bool)
+        ensures { Lays self.old self.new (items_if test soft_line) }
+    {
+        if test {
+            self.print_soft_line();
+        }
+    }
+
     pub fn print_hard_space(&mut self)
         ensures { Lays self.old self.new hard_space }
     {
@@ -689,7 +698,6 @@ impl<'a> Printer<'a> {
     {
         self.print_if(self.pending_semicolon, ";");
         self.pending_semicolon = false;
-        self.start = Start::Nowhere;
     }
 
     /// A semicolon that is due is never printed.

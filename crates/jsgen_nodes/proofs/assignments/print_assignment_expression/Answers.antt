@@ -1,9 +1,5 @@
-use Rattle.jsgen_tree.specs.Rows.{in_assignment_target}
-use Rattle.jsgen_nodes.specs.Place.{at_place}
-use Rattle.jsgen_nodes.proofs.Enclosed.{enclosed_at}
-use Rattle.jsgen_nodes.proofs.Given.{assignment_items}
+use Rattle.jsgen_printer.proofs.Sequence.{◌⨾◌, wrapped_laid}
 use Rattle.jsgen_nodes.proofs.assignments.print_assignment_expression.Goals as goal
 
 pub returns : goal.returns
-unfolding at_place
-returns g c = enclosed_at c.wraps_assignment-wrap.result _ c.args.place (assignment_items c.args.node.now.operator (in_assignment_target g.N.PrintNode.plain c.args.node.now.left) (g.N.PrintNode.plain c.args.node.now.right.node)) c.wraps_assignment-wrap.ensures c.print_opening_if.ensures c.print_assignment.ensures c.print_closing_if.ensures
+returns g c = rw c.wraps-wrap.ensures at (wrapped_laid c.wraps-wrap.result c.print_opening_if.ensures ((rw (c.quoted_plainly.ensures, c.in_brackets-target.ensures, c.is_key_of_exports-plain.ensures) at c.print_assignment_target.ensures) ⨾ (c.print_soft_space.ensures ⨾ (c.print_assignment_sign.ensures ⨾ (c.print_soft_space-2.ensures ⨾ (rw (c.child.ensures, c.get.ensures) at c.print.ensures))))) c.print_closing_if.ensures)

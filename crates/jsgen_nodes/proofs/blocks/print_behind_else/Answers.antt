@@ -1,18 +1,15 @@
-use Rattle.std.proofs.Common.{refl, ap, sym, ◌∙◌}
-use Rattle.jsgen_place.specs.Place.{settings_of}
-use Rattle.jsgen_printer.proofs.Sequence.{◌⨾◌, items_go, none_behind}
-use Rattle.jsgen_lists.proofs.Turns.{here}
-use Rattle.jsgen_nodes.specs.Blocks.{shape_of}
-use Rattle.jsgen_nodes.proofs.Followed.{else_is_body}
-use Rattle.jsgen_nodes.specs.Place.{at_place}
+use Rattle.jsgen_printer.proofs.Sequence.{◌⨾◌}
+use Rattle.std.proofs.Common.{sym, ◌∙◌}
 use Rattle.jsgen_nodes.proofs.blocks.print_behind_else.Goals as goal
 
 pub returns-in-If : goal.returns-in-If
-unfolding at_place
-returns-in-If g c =
-    let inner = here (g.N.PrintNode.plain c.args.alternate.now) c.within_statement.result (none_behind (λ pen. refl) (items_go c.print_hard_space.ensures)) c.print.ensures in
-    rw (sym c.shape.ensures ∙ ap shape_of c.in-If.is) (c.print_hard_space.ensures ⨾ (rw c.within_statement.ensures at inner))
+returns-in-If g c = rw (sym c.shape_of.ensures ∙ c.in-If.is) (c.print_hard_space.ensures ⨾ (rw c.within_statement.ensures at c.print.ensures))
 
-pub returns-in_default : goal.returns-in_default
-unfolding at_place
-returns-in_default g c = rw (else_is_body c.shape.result (g.N.PrintNode.plain c.args.alternate.now) (settings_of c.args.settings) c.in_default.not-If c.shape.ensures) c.print_body.ensures
+pub returns-in-Block : goal.returns-in-Block
+returns-in-Block g c = rw (sym c.shape_of.ensures ∙ c.in-Block.is) (rw (sym c.shape_of.ensures ∙ c.in-Block.is) at c.print_body.ensures)
+
+pub returns-in-Empty : goal.returns-in-Empty
+returns-in-Empty g c = rw (sym c.shape_of.ensures ∙ c.in-Empty.is) (rw (sym c.shape_of.ensures ∙ c.in-Empty.is) at c.print_body-in-Empty.ensures)
+
+pub returns-in-Other : goal.returns-in-Other
+returns-in-Other g c = rw (sym c.shape_of.ensures ∙ c.in-Other.is) (rw (sym c.shape_of.ensures ∙ c.in-Other.is) at c.print_body-in-Other.ensures)

@@ -1,11 +1,5 @@
 use Rattle.jsgen_printer.proofs.Sequence.{◌⨾◌}
-use Rattle.jsgen_nodes.specs.Place.{at_place}
 use Rattle.jsgen_nodes.proofs.blocks.print_block_statement.Goals as goal
 
-pub returns-then-place : goal.returns-then-place
-unfolding at_place
-returns-then-place g c = rw c.if-place.true (c.print_indentation.ensures ⨾ ((rw c.deref.ensures.value at c.print_braces.ensures) ⨾ c.print_soft_line.ensures))
-
-pub returns-else-place : goal.returns-else-place
-unfolding at_place
-returns-else-place g c = rw c.if-place.false (rw c.deref-else-place.ensures.value at c.print_braces-else-place.ensures)
+pub returns : goal.returns
+returns g c = c.print_indentation_if.ensures ⨾ ((rw c.deref.ensures.value at c.print_braces.ensures) ⨾ c.print_soft_line_if.ensures)

@@ -1,25 +1,8 @@
-use Rattle.std.proofs.Common.{ap, sym, ◌∙◌}
-use Rattle.jsgen_place.specs.Place.{settings_of}
-use Rattle.jsgen_printer.proofs.Sequence.{◌⨾◌, items_go, none_still, behind_space}
-use Rattle.jsgen_lists.proofs.Turns.{here}
-use Rattle.jsgen_nodes.specs.Blocks.{shape_of}
-use Rattle.jsgen_nodes.proofs.Consequents.{consequent_is_body}
-use Rattle.jsgen_nodes.specs.Place.{at_place}
+use Rattle.std.proofs.Common.{sym, ◌∙◌}
 use Rattle.jsgen_nodes.proofs.blocks.print_consequent.Goals as goal
 
-pub returns-in-Block : goal.returns-in-Block
-unfolding at_place
-returns-in-Block g c =
-    let inner = here (g.N.PrintNode.plain c.args.consequent.now) c.within_statement.result (behind_space c.requires c.print_soft_space.ensures) c.print.ensures in
-    rw (sym c.ends_open.ensures ∙ c.if-ends_open.false, sym c.shape.ensures ∙ ap shape_of c.in-Block.is) (c.print_soft_space.ensures ⨾ ((rw c.within_statement.ensures at inner) ⨾ c.print_braces_end.ensures))
+pub returns-then-ends_open : goal.returns-then-ends_open
+returns-then-ends_open g c = rw (sym c.ends_open.ensures ∙ c.if-ends_open.true) c.print_braced.ensures
 
-pub returns-in-Empty : goal.returns-in-Empty
-unfolding at_place
-returns-in-Empty g c = rw (sym c.ends_open.ensures ∙ c.if-ends_open.false, sym c.shape.ensures ∙ ap shape_of c.in-Empty.is) c.print_empty_body.ensures
-
-pub returns-in-If : goal.returns-in-If
-unfolding at_place
-returns-in-If g c =
-    let t = g.N.PrintNode.plain c.args.consequent.now in
-    let whole = here t c.among_statements.result (none_still (λ pen e. e) c.requires (items_go c.begin_body.ensures.lays)) c.print-in-If.ensures in
-    rw (consequent_is_body c.shape.result t (settings_of c.args.settings) c.args.else_follows c.in-If.is c.shape.ensures (sym c.ends_open.ensures ∙ c.if-ends_open.false)) (c.begin_body.ensures.lays ⨾ ((rw c.among_statements.ensures at whole) ⨾ c.print_body_end.ensures))
+pub returns-else-ends_open : goal.returns-else-ends_open
+returns-else-ends_open g c = rw (sym c.ends_open.ensures ∙ c.if-ends_open.false) c.print_closed_consequent.ensures

@@ -1,11 +1,6 @@
-use Rattle.jsgen_printer.proofs.Sequence.{◌⨾◌}
-use Rattle.jsgen_nodes.specs.Place.{at_place}
+use Rattle.jsgen_printer.proofs.Sequence.{◌⨾◌, in_brackets_laid}
+use Rattle.jsgen_model.specs.Punctuator.{Round}
 use Rattle.jsgen_nodes.proofs.blocks.print_if_statement.Goals as goal
 
-pub returns-then-place : goal.returns-then-place
-unfolding at_place
-returns-then-place g c = rw c.if-place.true (c.print_indentation.ensures ⨾ c.print_if.ensures)
-
-pub returns-else-place : goal.returns-else-place
-unfolding at_place
-returns-else-place g c = rw c.if-place.false c.print_if-else-place.ensures
+pub returns : goal.returns
+returns g c = c.print_indentation_if.ensures ⨾ (c.print_word.ensures ⨾ (c.print_soft_space.ensures ⨾ (in_brackets_laid Round c.print_opening.ensures (rw (c.in_brackets.ensures, c.get.ensures) at c.print.ensures) c.print_closing.ensures ⨾ ((rw (c.has_alternate.ensures, c.get-2.ensures) at c.print_consequent.ensures) ⨾ c.print_alternate.ensures))))

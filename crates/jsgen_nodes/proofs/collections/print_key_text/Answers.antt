@@ -1,10 +1,7 @@
-use Rattle.jsgen_nodes.specs.Place.{at_place}
 use Rattle.jsgen_nodes.proofs.collections.print_key_text.Goals as goal
 
 pub returns-in-IdentifierName : goal.returns-in-IdentifierName
-unfolding at_place
 returns-in-IdentifierName g c = rw (c.in-IdentifierName.is, ← c.deref.ensures) c.print_identifier_name.ensures
 
 pub returns-in-Expression : goal.returns-in-Expression
-unfolding at_place
 returns-in-Expression g c = rw (c.in-Expression.is, ← c.deref-in-Expression.ensures) c.print_key_expression.ensures

@@ -1,8 +1,5 @@
-use Rattle.std.proofs.Common.{refl}
-use Rattle.jsgen_printer.proofs.Sequence.{◌⨾◌, regrouped}
-use Rattle.jsgen_nodes.specs.Place.{at_place}
+use Rattle.jsgen_printer.proofs.Sequence.{◌⨾◌}
 use Rattle.jsgen_nodes.proofs.handlers.print_try_statement.Goals as goal
 
 pub returns : goal.returns
-unfolding at_place
-returns g c = regrouped (λ pen. refl) (c.print_indentation.ensures ⨾ ((rw c.within_statement-within.ensures at c.print_behind_word.ensures) ⨾ c.print_behind_try.ensures))
+returns g c = c.print_indentation.ensures ⨾ (c.print_word.ensures ⨾ (c.print_soft_space.ensures ⨾ ((rw (c.within_statement-within.ensures, c.deref.ensures) at c.print_block_statement.ensures) ⨾ ((rw c.within_statement-within.ensures at c.print_if_given.ensures) ⨾ (c.print_finalizer.ensures ⨾ c.print_soft_line.ensures)))))

@@ -1,7 +1,7 @@
 use Rattle.std.proofs.Common.{codes, refl, sym, ◌∙◌}
 use Rattle.jsgen_printer.proofs.Texts.{ascii_chars}
 use Rattle.jsgen_printer.specs.Printer.{pen_of}
-use Rattle.jsgen_nodes.proofs.Lefts.{reference_said}
+use Rattle.jsgen_nodes.proofs.Said.{reference_said}
 use Rattle.jsgen_nodes.proofs.iterations.is_async.Goals as goal
 
 pub returns-in-IdentifierReference : goal.returns-in-IdentifierReference

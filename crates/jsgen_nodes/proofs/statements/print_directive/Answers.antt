@@ -1,7 +1,5 @@
 use Rattle.jsgen_printer.proofs.Sequence.{◌⨾◌}
-use Rattle.jsgen_nodes.specs.Place.{at_place}
 use Rattle.jsgen_nodes.proofs.statements.print_directive.Goals as goal
 
 pub returns : goal.returns
-unfolding at_place
 returns c = c.print_indentation.ensures ⨾ ((rw c.as_str.ensures.value at c.print_directive.ensures) ⨾ (c.print_semicolon.ensures ⨾ c.print_soft_line.ensures))

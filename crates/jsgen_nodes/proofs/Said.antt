@@ -1,0 +1,18 @@
+-- References that are printed as a name is written.
+use Rattle.std.proofs.Common.{◌≡◌, ℕ, List, Option, Some, None, refl, ap}
+use Rattle.jsgen_tree.specs.Job.{Tables}
+use Rattle.jsgen_tree.specs.Characters.{characters, number_if_given}
+use Rattle.jsgen_tree.specs.Values.{as_number_if_given}
+use Rattle.jsgen_tree.specs.Inside.{looked_up_in}
+use Rattle.jsgen_tree.specs.Rows.{identifier_reference_row}
+use Rattle.jsgen_tree.specs.Named.{looked_up, as_written}
+use Rattle.jsgen_tree.specs.declared.expressions.IdentifierReference.{IdentifierReference}
+use Rattle.jsgen_model.specs.Layout.{are_same}
+use Rattle.jsgen_nodes.specs.Keys.{is_said}
+
+number_given : (r : Option ℕ) → as_number_if_given (number_if_given r) ≡ r
+number_given None = refl
+number_given (Some n) = refl
+
+pub reference_said : (tables : Tables) (n : IdentifierReference) (w : List ℕ) → is_said tables (looked_up_in (identifier_reference_row n)) w ≡ are_same tables (looked_up n.reference (characters n.name)) (as_written w)
+reference_said tables n w = ap (λ r. are_same tables (looked_up r (characters n.name)) (as_written w)) (number_given n.reference)

@@ -1,5 +1,0 @@
-use Rattle.jsgen_printer.proofs.Sequence.{◌⨾◌}
-use Rattle.jsgen_nodes.proofs.definitions.print_within_braces.Goals as goal
-
-pub returns : goal.returns
-returns g c = (rw c.deref.ensures.value at c.print_directives.ensures) ⨾ (rw c.deref-2.ensures.value at c.print_body.ensures)
