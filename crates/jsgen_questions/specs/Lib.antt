@@ -1,1 +1,3 @@
-pub mod Place
+pub mod Names
+pub mod Operands
+pub mod Shapes

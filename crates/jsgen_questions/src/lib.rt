@@ -1,18 +1,20 @@
-//! Where a node is printed, and what its place and an operation ask of it.
+//! What a print function asks of a node or of its members, and what an operation asks of its operands.
 #![tactic(auto)]
 
 mod endings;
+mod names;
 mod numbers;
 mod operands;
-mod parameters;
-mod place;
 mod properties;
 mod quotes;
+mod shapes;
+mod strings;
 
 pub use endings::ends_open;
+pub use names::{is_binding_name, is_member, is_named};
 pub use numbers::{needs_brackets, takes_no_dot};
-pub use operands::{Operand, left_level, right_level, unmixed, update_level};
-pub use parameters::is_bare;
-pub use place::{Context, Place, Settings};
-pub use properties::{is_alone, is_reference_to};
-pub use quotes::{is_definition_call, is_export_mark, is_export_target, is_require_call};
+pub use operands::{Operand, left_level, operand_of, right_level, unmixed};
+pub use properties::is_alone;
+pub use quotes::{is_definition_call, is_export_mark, is_require_call};
+pub use shapes::shape;
+pub use strings::{bare_string, string, string_statement};

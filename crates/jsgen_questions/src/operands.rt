@@ -4,10 +4,12 @@ ghost use Rattle.jsgen_syntax.specs.declared.operator.BinaryOperator.TheVariants
 ghost use Rattle.jsgen_syntax.specs.declared.operator.LogicalOperator.TheVariants as logical_operators;
 ghost use Rattle.jsgen_tree.specs.Tree.{Tree};
 ghost use Rattle.jsgen_tree.specs.Inside.{without_parentheses};
-ghost use Rattle.jsgen_model.specs.Spell.{left_level, right_level, update_level, unmixed};
-ghost use Rattle.jsgen_place.specs.Place.{operand_of};
+ghost use Rattle.jsgen_tree.specs.Plain.{node_plain};
+ghost use Rattle.jsgen_model.specs.Spell.{left_level, right_level, unmixed, is_or_or_and};
+ghost use Rattle.jsgen_questions.specs.Operands.{operand_of};
 
 use jsgen_syntax::{BinaryOperator, GetPrecedence, LogicalOperator, Precedence};
+use jsgen_tree::{Expression, Node};
 
 /// What matters of an operand, without the parentheses that it may have round it.
 #[derive(Clone, Copy)]
@@ -28,6 +30,30 @@ impl Operand {
         is_prefixed: true,
         mixes: false,
     };
+}
+
+/// What matters of a node as an operand.
+pub fn operand_of(node: &Node) -> Operand
+    ensures { result ≡ operand_of (without_parentheses (node_plain node.now)) }
+{
+    match node.inner_expression() {
+        Some(
+            Expression::NumericLiteral(_)
+            | Expression::BigIntLiteral(_)
+            | Expression::UnaryExpression(_),
+        ) => Operand::PREFIXED,
+        Some(Expression::LogicalExpression(node)) => Operand {
+            is_prefixed: false,
+            mixes: is_or_or_and(node.operator),
+        },
+        _ => Operand::OTHER,
+    }
+}
+
+fn is_or_or_and(operator: LogicalOperator) -> bool
+    ensures { result ≡ is_or_or_and operator }
+{
+    !matches!(&operator, LogicalOperator::Coalesce)
 }
 
 /// Just below the operator's own; but of `**`, which groups to the right, its own, and where a prefix operator may begin the operand a call's.
@@ -57,17 +83,6 @@ pub fn right_level(operator: BinaryOperator) -> Precedence
     match operator {
         BinaryOperator::Exponential => Precedence::Multiply,
         _ => operator.precedence(),
-    }
-}
-
-/// The level of an update, by whether its operator stands before its operand.
-pub fn update_level(prefix: bool) -> Precedence
-    ensures { result ≡ update_level prefix }
-{
-    if prefix {
-        Precedence::Prefix
-    } else {
-        Precedence::Postfix
     }
 }
 

@@ -4,37 +4,30 @@ ghost use Rattle.std.specs.Str.{encode_utf8_all};
 ghost use Rattle.jsgen_syntax.specs.Units.{js_units, joined_units, wtf8_units};
 ghost use Rattle.jsgen_tree.specs.Tree.{Tree, Trees};
 ghost use Rattle.jsgen_tree.specs.Inside.{without_parentheses};
-ghost use Rattle.jsgen_model.specs.Quotes.{is_named, is_one_string, is_require_call, defines_property, has_second_string, is_definition_call, is_key_of_exports, is_export_target, is_equality, says_default, is_export_mark};
+ghost use Rattle.jsgen_model.specs.Quotes.{is_named, is_one_string, is_require_call, defines_property, has_second_string, is_definition_call, is_equality, says_default, is_export_mark};
 ghost use Rattle.jsgen_model.specs.Spell.{string_in};
 
 use jsgen_syntax::{BinaryOperator, GetPrecedence, JsStr, Precedence};
 
 /// Whether a call is `require("x")`, by whether that is its name and one string its arguments.
-pub fn is_require_call(minified: bool, names_require: bool, one_string: bool) -> bool
-    ensures { (callee : Tree) (arguments : Trees) → names_require ≡ is_named (codes "require") callee → one_string ≡ is_one_string arguments → result ≡ is_require_call minified callee arguments }
+pub fn is_require_call(names_require: bool, one_string: bool) -> bool
+    ensures { (callee : Tree) (arguments : Trees) → names_require ≡ is_named (codes "require") callee → one_string ≡ is_one_string arguments → result ≡ is_require_call callee arguments }
 {
-    minified && (names_require && one_string)
+    names_require && one_string
 }
 
 /// Whether a call defines a property of this name, by whether it is such a call and its second argument a string.
-pub fn is_definition_call(minified: bool, defines: bool, second_string: bool) -> bool
-    ensures { (callee : Tree) (arguments : Trees) → defines ≡ defines_property callee → second_string ≡ has_second_string arguments → result ≡ is_definition_call minified callee arguments }
+pub fn is_definition_call(defines: bool, second_string: bool) -> bool
+    ensures { (callee : Tree) (arguments : Trees) → defines ≡ defines_property callee → second_string ≡ has_second_string arguments → result ≡ is_definition_call callee arguments }
 {
-    minified && (defines && second_string)
-}
-
-/// Whether what is given a value is a key of `exports`.
-pub fn is_export_target(minified: bool, key_of_exports: bool) -> bool
-    ensures { (target : Tree) → key_of_exports ≡ is_key_of_exports target → result ≡ is_export_target minified target }
-{
-    minified && key_of_exports
+    defines && second_string
 }
 
 /// Whether an operand, which may be this string, is compared as `"default"` or `"__esModule"`.
-pub fn is_export_mark(minified: bool, operator: BinaryOperator, string: Option<&JsStr>) -> bool
-    ensures { (operand : Tree) → option_map (λ v. js_units v.now) string.entry ≡ string_in (without_parentheses operand) → result ≡ is_export_mark minified operator operand }
+pub fn is_export_mark(operator: BinaryOperator, string: Option<&JsStr>) -> bool
+    ensures { (operand : Tree) → option_map (λ v. js_units v.now) string.entry ≡ string_in (without_parentheses operand) → result ≡ is_export_mark operator operand }
 {
-    minified && (is_equality(operator) && says_default(string))
+    is_equality(operator) && says_default(string)
 }
 
 fn is_equality(operator: BinaryOperator) -> bool

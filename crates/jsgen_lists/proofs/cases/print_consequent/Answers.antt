@@ -1,9 +1,5 @@
-use Rattle.std.proofs.Common.{arith}
 use Rattle.jsgen_lists.proofs.NotOne.{one_case, other_cases}
 use Rattle.jsgen_lists.proofs.cases.print_consequent.Goals as goal
-
-pub bounds-statements-0 : goal.bounds-statements-0
-bounds-statements-0 g c = omega (arith, c.if-statements-eq1.true)
 
 pub returns-then-statements-eq1 : goal.returns-then-statements-eq1
 returns-then-statements-eq1 g c = rw (one_case g.S.PrintStatement.plain g.O.PrintOnly.plain c.args.statements.now c.index-statements-0.result _ c.if-statements-eq1.true c.index-statements-0.is) c.print_only.ensures

@@ -1,7 +1,7 @@
 use Rattle.std.proofs.Common.{rules}
 use Rattle.jsgen_tree.proofs.Knot.{plain_expression, plain_declaration, plain_binding_pattern, plain_statement}
-use Rattle.jsgen_place.proofs.OpenEnds.{no_open_expression, no_open_declaration, no_open_pattern, no_open_statement}
-use Rattle.jsgen_place.proofs.endings.+ends_open.Goals as goal
+use Rattle.jsgen_questions.proofs.Elsewhere.{no_open_expression, no_open_declaration, no_open_pattern, no_open_statement}
+use Rattle.jsgen_questions.proofs.endings.+ends_open.Goals as goal
 
 pub ends_open-returns-in-Expression : goal.ends_open-returns-in-Expression
 ends_open-returns-in-Expression t c = rw (c.in-Expression.is, plain_expression c.in-Expression.field-0) (no_open_expression c.in-Expression.field-0)

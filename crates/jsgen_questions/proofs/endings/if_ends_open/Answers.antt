@@ -2,7 +2,7 @@ use Rattle.std.proofs.Common.{◌≡◌, Bool, Option, Some, None, true, option_
 use Rattle.jsgen_tree.specs.Tree.{Tree, Atoms, optional}
 use Rattle.jsgen_tree.specs.Nodes.{if_statement}
 use Rattle.jsgen_tree.specs.Inside.{ends_open}
-use Rattle.jsgen_place.proofs.endings.if_ends_open.Goals as goal
+use Rattle.jsgen_questions.proofs.endings.if_ends_open.Goals as goal
 
 ends_as_alternate : (child : Option Tree) (b : Bool) (a : Atoms) (test consequent : Tree) → Some b ≡ option_map ends_open child → b ≡ ends_open (if_statement a test consequent (optional child))
 ends_as_alternate None b a test consequent h = cc

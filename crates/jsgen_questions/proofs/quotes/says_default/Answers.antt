@@ -2,7 +2,7 @@ use Rattle.std.proofs.Common.{refl}
 use Rattle.std.proofs.Math.Utf8.{encode}
 use Rattle.std.specs.Str.{chars}
 use Rattle.jsgen_syntax.specs.Wtf8.{joined_units}
-use Rattle.jsgen_place.proofs.quotes.says_default.Goals as goal
+use Rattle.jsgen_questions.proofs.quotes.says_default.Goals as goal
 
 pub is_text-requires-clause-units : goal.is_text-requires-clause-units
 unfolding chars

@@ -1,5 +1,5 @@
--- What ends in an `if` without `else`: nothing but the statements that are named.
-use Rattle.std.proofs.Common.{◌≡◌, false, refl}
+-- What a question of all types answers for those that it doesn't name.
+use Rattle.std.proofs.Common.{◌≡◌, false, None, refl}
 use Rattle.jsgen_tree.specs.Inside.{ends_open}
 use Rattle.jsgen_tree.specs.Plain.{node_plain}
 use Rattle.jsgen_tree.specs.Rows.{expression_plain, statement_plain, declaration_plain, binding_pattern_plain}
@@ -12,10 +12,13 @@ use Rattle.jsgen_tree.specs.declared.sets.Expression.TheVariants as expressions
 use Rattle.jsgen_tree.specs.declared.sets.Statement.TheVariants as statements
 use Rattle.jsgen_tree.specs.declared.sets.Declaration.TheVariants as declarations
 use Rattle.jsgen_tree.specs.declared.sets.BindingPattern.TheVariants as binding_patterns
+use Rattle.jsgen_model.specs.Spell.{string_statement}
 
 -- a member of a set is none of a type
-abbrev IsNot : {B S : Type 0} → S → (B → S) → Type 0
+abbrev pub IsNot : {B S : Type 0} → S → (B → S) → Type 0
 IsNot {B} n variant = (b : B) → n ≡ variant b → ⊥
+
+-- ---- what ends in an `if` without `else`
 
 pub no_open_expression : (n : Expression Node) → false ≡ ends_open (expression_plain node_plain n)
 no_open_expression (expressions.StringLiteral b) = refl
@@ -37,3 +40,21 @@ no_open_statement (statements.ForOfStatement b) no_declaration no_if no_for no_f
 no_open_statement (statements.WhileStatement b) no_declaration no_if no_for no_for_in no_for_of no_while no_label = absurd (no_while b refl)
 no_open_statement (statements.LabeledStatement b) no_declaration no_if no_for no_for_in no_for_of no_while no_label = absurd (no_label b refl)
 no_open_statement n no_declaration no_if no_for no_for_in no_for_of no_while no_label = refl
+
+-- ---- the string that is the whole of a statement
+
+pub no_expression_string : (n : Expression Node) → None ≡ string_statement (expression_plain node_plain n)
+no_expression_string (expressions.StringLiteral b) = refl
+no_expression_string n = refl
+
+pub no_declaration_string : (n : Declaration Node) → None ≡ string_statement (declaration_plain node_plain n)
+no_declaration_string (declarations.VariableDeclaration b) = refl
+no_declaration_string (declarations.Function b) = refl
+
+pub no_pattern_string : (n : BindingPattern) → None ≡ string_statement (binding_pattern_plain n)
+no_pattern_string (binding_patterns.BindingIdentifier b) = refl
+
+pub no_string_statement : (n : Statement Node) → IsNot n statements.Declaration → IsNot n statements.ExpressionStatement → None ≡ string_statement (statement_plain node_plain n)
+no_string_statement (statements.Declaration b) no_declaration no_expression = absurd (no_declaration b refl)
+no_string_statement (statements.ExpressionStatement b) no_declaration no_expression = absurd (no_expression b refl)
+no_string_statement n no_declaration no_expression = refl

@@ -1,7 +1,7 @@
 use Rattle.std.proofs.Common.{rules}
 use Rattle.jsgen_tree.proofs.Knot.{plain_expression, plain_declaration, plain_binding_pattern, plain_statement}
-use Rattle.jsgen_nodes.proofs.Elsewhere.{no_expression_string, no_declaration_string, no_pattern_string, no_string_statement}
-use Rattle.jsgen_nodes.proofs.strings.+string_statement.Goals as goal
+use Rattle.jsgen_questions.proofs.Elsewhere.{no_expression_string, no_declaration_string, no_pattern_string, no_string_statement}
+use Rattle.jsgen_questions.proofs.strings.+string_statement.Goals as goal
 
 pub returns-in-Expression : goal.returns-in-Expression
 returns-in-Expression t c = rw (c.in-Expression.is, plain_expression c.in-Expression.field-0) (no_expression_string c.in-Expression.field-0)

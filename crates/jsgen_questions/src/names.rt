@@ -1,13 +1,13 @@
 // Which expressions are a member of a name, and which patterns are a name.
-ghost use Rattle.std.specs.Prelude.{◌≡◌, option_map};
+ghost use Rattle.std.specs.Prelude.{◌≡◌, bytes_eq, false, option_map};
+ghost use Rattle.std.specs.Option.{option_map_or};
 ghost use Rattle.std.specs.Str.{chars};
 ghost use Rattle.jsgen_tree.specs.Inside.{reference_in};
 ghost use Rattle.jsgen_tree.specs.Rows.{static_member_expression_row};
 ghost use Rattle.jsgen_tree.specs.Plain.{node_plain};
 ghost use Rattle.jsgen_model.specs.Quotes.{is_named, is_member_of};
-ghost use Rattle.jsgen_nodes.specs.Names.{is_reference, is_binding_name};
+ghost use Rattle.jsgen_questions.specs.Names.{is_reference, is_binding_name};
 
-use jsgen_place::is_reference_to;
 use jsgen_tree::{BindingPattern, Expression, Node, NodeType, Statement, StaticMemberExpression};
 
 fn is_reference(node_type: NodeType) -> bool
@@ -27,19 +27,34 @@ fn bare_reference(node: &Node) -> Option<&str>
     }
 }
 
+// Whether there is a name, and it is this one.
+fn says(name: &str, said: Option<&str>) -> bool
+    ensures { result ≡ option_map_or (λ v. bytes_eq v (chars name.now)) (option_map (λ s. chars s.now) said.entry) false }
+{
+    match said {
+        Some(text) => is_same(text, name),
+        None => false,
+    }
+}
+
+fn is_same(a: &str, b: &str) -> bool
+    ensures { result ≡ bytes_eq (chars a.now) (chars b.now) }
+{
+    a == b
+}
+
 /// Whether a node is a reference to this name.
 pub fn is_named(node: &Node, name: &str) -> bool
     ensures { result ≡ is_named (chars name.now) (node_plain node.now) }
 {
-    is_reference_to(name, bare_reference(node))
+    says(name, bare_reference(node))
 }
 
 fn static_member_is(node: &StaticMemberExpression, object: &str, name: &str) -> bool
     ensures { result ≡ is_member_of (chars object.now) (chars name.now) (static_member_expression_row node_plain node.now) }
 {
     !node.optional
-        && (is_named(node.object.get(), object)
-            && is_reference_to(name, Some(node.property.name.as_str())))
+        && (is_named(node.object.get(), object) && says(name, Some(node.property.name.as_str())))
 }
 
 /// Whether a node is the member of this name of a reference to that name, by no optional link.

@@ -1,6 +1,6 @@
 use Rattle.std.proofs.Common.{rules}
 use Rattle.jsgen_tree.proofs.Knot.{plain_expression, plain_declaration, plain_binding_pattern, plain_statement}
-use Rattle.jsgen_nodes.proofs.names.+is_binding_name.Goals as goal
+use Rattle.jsgen_questions.proofs.names.+is_binding_name.Goals as goal
 
 pub returns-in-Expression : goal.returns-in-Expression
 returns-in-Expression t c = search (rules, plain_expression)
