@@ -10,7 +10,7 @@ ANTT = "-- Generated from tools/nodes/table.txt; edit that and run tools/nodes/g
 def used(body, homes):
     """Each module of the homes, with those of its names that stand in the body outside comments. A name may be `a as b`."""
     text = re.sub(r"(?m)^\s*(--|//).*$", "", body)
-    there = set(re.findall(r"(?<![\w.:])[^\W\d][\w-]*|\[\]", text)) | {f"◌{sign}◌" for sign in re.findall(r"[≡∷∙⨾]", text)}
+    there = set(re.findall(r"(?<![\w.:])[^\W\d][\w-]*|\[\]", text)) | {f"◌{sign}◌" for sign in re.findall(r"[≡∷∙⨾⊕]", text)}
     there |= {"if◌then◌else◌"} if re.search(r"\bif .* then ", text) else set()
     for module, names in homes:
         names = [n for n in names if n.split(" as ")[-1] in there]

@@ -14,7 +14,7 @@ use Rattle.jsgen_tree.specs.declared.types.NodeType.{NodeType}
 use Rattle.jsgen_tree.specs.declared.types.NodeType.TheVariants as types
 use Rattle.jsgen_model.specs.Items.{arrow_body_begins}
 use Rattle.jsgen_model.specs.Spell.{is_name_alone, body_begins}
-use Rattle.jsgen_nodes.specs.Names.{is_name_parameter}
+use Rattle.jsgen_questions.specs.Names.{is_name_parameter}
 
 -- one parameter, a name, and none that takes the rest
 one_alone : {A B : Type 0} (t : Tree) (f : A → Tree) (g : B → Tree) (xs : List A) (rest : Option B) (a : Atoms) → (is_name_parameter t && ((length xs == 0) && is_none rest)) ≡ is_name_alone (tree.formal_parameters a (more t (trees (map f xs))) (optional (option_map g rest)))

@@ -1,9 +1,4 @@
-pub mod Alone
-pub mod Blocks
-pub mod Functions
+pub mod Calls
 pub mod Keys
-pub mod Loops
-pub mod Names
 pub mod Parts
-pub mod Place
 pub mod Quotes

@@ -1,56 +1,45 @@
 //! Print functions: one for each row, generic in the tree's recursive type, and one impl that ties the knot.
 #![tactic(auto)]
 
-mod alone;
-mod assignments;
-mod blocks;
-mod bodies;
-mod cases;
-mod choices;
-mod collections;
-mod definitions;
-mod expressions;
-mod functions;
-mod handlers;
-mod iterations;
-mod jumps;
-mod links;
-mod loops;
-mod names;
-mod operands;
-mod operators;
-mod quotes;
-mod sequences;
-mod sets;
-mod shapes;
-mod statements;
-mod strings;
+pub mod assignments;
+pub mod blocks;
+pub mod cases;
+pub mod collections;
+pub mod definitions;
+pub mod expressions;
+pub mod functions;
+pub mod handlers;
+mod inside;
+pub mod iterations;
+pub mod links;
+pub mod loops;
+pub mod operators;
+pub mod quotes;
+pub mod sets;
+pub mod statements;
 
 ghost use Rattle.std.specs.Prelude.{◌≡◌, option_map};
+ghost use Rattle.std.specs.Str.{chars};
 ghost use Rattle.jsgen_syntax.specs.Units.{js_units};
 ghost use Rattle.jsgen_tree.specs.Tree.{Tree, type_of};
-ghost use Rattle.std.specs.Str.{chars};
 ghost use Rattle.jsgen_tree.specs.Inside.{without_parentheses, ends_open, looked_up_in, named_by, written_name_in, is_negative};
 ghost use Rattle.jsgen_tree.specs.Plain.{node_plain};
-ghost use Rattle.jsgen_model.specs.Spell.{spell_method, string_in, string_statement};
 ghost use Rattle.jsgen_model.specs.Quotes.{is_member_of, is_named};
+ghost use Rattle.jsgen_model.specs.Spell.{spell, spell_method, string_in, string_statement};
 ghost use Rattle.jsgen_printer.specs.Steps.{Lays};
-ghost use Rattle.jsgen_nodes.specs.Names.{is_binding_name};
+ghost use Rattle.jsgen_questions.specs.Names.{is_binding_name};
+ghost use Rattle.jsgen_questions.specs.Operands.{operand_of};
 
 use definitions::print_behind_name;
-use jsgen_place::{Context, Operand, Place, Settings, ends_open};
+pub use inside::Inside;
+use jsgen_place::Place;
 use jsgen_printer::Printer;
+use jsgen_questions::{
+    Operand, ends_open, is_binding_name, is_member, is_named, operand_of, string, string_statement,
+};
 use jsgen_syntax::JsStr;
 use jsgen_tree::{Declaration, Expression, IdentifierReference, Node, NodeType, Statement};
-use names::{is_binding_name, is_member, is_named};
-use operands::operand;
-pub use quotes::{
-    try_print_define_property_call, try_print_equality_string, try_print_exports_computed_target,
-    try_print_require_call,
-};
 use sets::{print_binding_pattern, print_declaration, print_expression, print_statement};
-pub use statements::print_program;
-use strings::{string, string_statement};
 
 /// Where trees nest: what the print functions ask of a child. Only `Node` implements it.
 pub trait PrintNode {
@@ -107,29 +96,6 @@ pub trait PrintNode {
         ensures { result ≡ is_negative (without_parentheses (plain self.now)) };
 }
 
-/// What is printed by itself: as what holds it in a tree prints it, with nothing round it.
-pub trait PrintAlone {
-    ghost use Rattle.jsgen_model.specs.Items.{Items};
-    ghost use Rattle.jsgen_model.specs.Spell as spells;
-    ghost use Rattle.jsgen_model.specs.Layout.{Start};
-    
-    // Its items, where this begins with it.
-    ghost alone: { Self → spells.Settings → spells.Context → Start → Items };
-
-    fn print_alone(&self, p: &mut Printer<'_>, settings: Settings, context: Context)
-        ensures { Lays p.old p.new (alone self.now (context_of context) pen.start) };
-}
-
-/// What is printed at a level, which decides whether parentheses stand round it.
-pub trait PrintAtLevel {
-    ghost use Rattle.jsgen_tree.specs.Tree.{Tree};
-
-    ghost plain: { Self → Tree };
-
-    fn print_at(&self, p: &mut Printer<'_>, place: Place)
-        ensures { Lays p.old p.new (spell (plain self.now) place) };
-}
-
 /// The knot: the one recursion.
 impl PrintNode for Node {
     ghost plain = { λ n. node_plain n };
@@ -168,7 +134,7 @@ impl PrintNode for Node {
     }
 
     fn operand(&self) -> Operand {
-        operand(self)
+        operand_of(self)
     }
 
     fn string(&self) -> Option<&JsStr> {

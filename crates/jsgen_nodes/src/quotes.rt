@@ -1,32 +1,31 @@
 // Strings that minified text keeps out of backticks, so that Node finds the names that a CommonJS module exports.
-ghost use Rattle.std.specs.Prelude.{◌≡◌, true, false, map, option_map};
+ghost use Rattle.std.specs.Prelude.{◌≡◌, true, false, ◌&&◌, map, option_map};
 ghost use Rattle.jsgen_syntax.specs.Units.{js_units};
+ghost use Rattle.jsgen_syntax.specs.declared.precedence.Precedence.TheVariants.{Comma, Lowest};
 ghost use Rattle.jsgen_tree.specs.Tree.{trees};
 ghost use Rattle.jsgen_tree.specs.Inside.{without_parentheses};
-ghost use Rattle.jsgen_tree.specs.Rows.{in_argument, in_expression, in_assignment_target, expression_plain, computed_member_expression_row};
+ghost use Rattle.jsgen_tree.specs.Rows.{in_argument, in_expression, in_assignment_target, expression_plain, computed_member_expression_row, call_expression_row};
 ghost use Rattle.jsgen_tree.specs.Plain.{node_plain};
-ghost use Rattle.jsgen_model.specs.Quotes.{is_string, is_one_string, has_second_string, defines_property, is_exports, is_key_of_exports, is_require_call, is_definition_call, is_export_target, is_export_mark};
-ghost use Rattle.jsgen_model.specs.Spell.{string_in};
+ghost use Rattle.jsgen_place.specs.Place.{free, at_level, quoted_plainly};
+ghost use Rattle.jsgen_model.specs.Quotes.{is_string, is_one_string, has_second_string, defines_property, is_exports, is_key_of_exports, is_require_call, is_definition_call, is_export_mark};
+ghost use Rattle.jsgen_model.specs.Spell.{spell, string_in};
 ghost use Rattle.jsgen_printer.specs.Printer.{pen_of};
 ghost use Rattle.jsgen_printer.specs.Steps.{Lays};
-ghost use Rattle.jsgen_nodes.specs.Quotes.{where_it_holds, plain_arguments, plain_target, plain_string};
+ghost use Rattle.jsgen_nodes.specs.Calls.{from_callee};
+ghost use Rattle.jsgen_nodes.specs.Quotes.{where_it_holds, plain_string};
 
 use crate::PrintNode;
 use crate::collections::key_string;
-use crate::links::Arguments;
+use crate::links::print_from_callee;
 use crate::sets::print_assignment_target;
-use crate::strings::bare_string;
-use jsgen_lists::{PlainQuotes, print_arguments};
-use jsgen_place::{
-    Context, Place, Settings, is_definition_call, is_export_mark, is_export_target, is_require_call,
-};
+use jsgen_lists::PlainQuotes;
+use jsgen_place::{Context, Place};
 use jsgen_printer::Printer;
+use jsgen_questions::{bare_string, is_definition_call, is_export_mark, is_require_call};
 use jsgen_syntax::{BinaryOperator, JsStr, Precedence};
 use jsgen_tree::{
     Argument, AssignmentTarget, CallExpression, ComputedMemberExpression, Expression,
 };
-
-const MINIFIED: Settings = Settings { minified: true };
 
 // ---- what is asked
 
@@ -81,7 +80,8 @@ fn member_is_key_of_exports<N: PrintNode>(node: &ComputedMemberExpression<N>) ->
     is_exports(node.object.get()) && is_string(node.expression.get())
 }
 
-fn is_key_of_exports<N: PrintNode>(target: &AssignmentTarget<N>) -> bool
+/// Whether the key in what is given a value is never in backticks.
+pub fn is_key_of_exports<N: PrintNode>(target: &AssignmentTarget<N>) -> bool
     ensures { result ≡ is_key_of_exports (in_assignment_target N.plain target.now) }
 {
     match target {
@@ -90,96 +90,83 @@ fn is_key_of_exports<N: PrintNode>(target: &AssignmentTarget<N>) -> bool
     }
 }
 
-fn is_require<N: PrintNode>(minified: bool, call: &CallExpression<N>) -> bool
-    ensures { result ≡ is_require_call minified (in_expression N.plain call.now.callee) (trees (map (in_argument N.plain) call.now.arguments.items)) }
+fn is_require<N: PrintNode>(call: &CallExpression<N>) -> bool
+    ensures { result ≡ is_require_call (in_expression N.plain call.now.callee) (trees (map (in_argument N.plain) call.now.arguments.items)) }
 {
     is_require_call(
-        minified,
         call.callee.get().is_named("require"),
         is_one_string(&call.arguments),
     )
 }
 
-fn is_definition<N: PrintNode>(minified: bool, call: &CallExpression<N>) -> bool
-    ensures { result ≡ is_definition_call minified (in_expression N.plain call.now.callee) (trees (map (in_argument N.plain) call.now.arguments.items)) }
+fn is_definition<N: PrintNode>(call: &CallExpression<N>) -> bool
+    ensures { result ≡ is_definition_call (in_expression N.plain call.now.callee) (trees (map (in_argument N.plain) call.now.arguments.items)) }
 {
     is_definition_call(
-        minified,
         defines_property(call.callee.get()),
         has_second_string(&call.arguments),
     )
 }
 
 /// Which arguments of a call are never in backticks.
-pub fn plain_quotes<N: PrintNode>(minified: bool, call: &CallExpression<N>) -> PlainQuotes
-    ensures first { result.first ≡ is_require_call minified (in_expression N.plain call.now.callee) (trees (map (in_argument N.plain) call.now.arguments.items)) }
-    ensures second { result.second ≡ is_definition_call minified (in_expression N.plain call.now.callee) (trees (map (in_argument N.plain) call.now.arguments.items)) }
+pub fn plain_quotes<N: PrintNode>(call: &CallExpression<N>) -> PlainQuotes
+    ensures first { result.first ≡ is_require_call (in_expression N.plain call.now.callee) (trees (map (in_argument N.plain) call.now.arguments.items)) }
+    ensures second { result.second ≡ is_definition_call (in_expression N.plain call.now.callee) (trees (map (in_argument N.plain) call.now.arguments.items)) }
 {
     PlainQuotes {
-        first: is_require(minified, call),
-        second: is_definition(minified, call),
+        first: is_require(call),
+        second: is_definition(call),
     }
 }
 
-/// Whether the key in what is given a value is never in backticks.
-pub fn is_export<N: PrintNode>(minified: bool, target: &AssignmentTarget<N>) -> bool
-    ensures { result ≡ is_export_target minified (in_assignment_target N.plain target.now) }
-{
-    is_export_target(minified, is_key_of_exports(target))
-}
-
 /// Whether an operand is a string that is never in backticks.
-pub fn is_mark<N: PrintNode>(minified: bool, operator: BinaryOperator, operand: &N) -> bool
-    ensures { result ≡ is_export_mark minified operator (N.plain operand.now) }
+pub fn is_mark<N: PrintNode>(operator: BinaryOperator, operand: &N) -> bool
+    ensures { result ≡ is_export_mark operator (N.plain operand.now) }
 {
-    is_export_mark(minified, operator, operand.string())
+    is_export_mark(operator, operand.string())
 }
 
 // ---- the calls
 
-/// Prints the arguments of `require("x")`, if the call is that and the text minified; otherwise prints nothing.
+/// Prints the call `require("x")`, if the call is that and the text minified; otherwise prints nothing.
 pub fn try_print_require_call<N: PrintNode>(p: &mut Printer<'_>, call: &CallExpression<N>) -> bool
-    ensures applies { result ≡ is_require_call (pen_of p.old).style.minified (in_expression N.plain call.now.callee) (trees (map (in_argument N.plain) call.now.arguments.items)) }
-    ensures text { Lays p.old p.new (where_it_holds (is_require_call pen.style.minified (in_expression N.plain call.now.callee) (trees (map (in_argument N.plain) call.now.arguments.items)))
-        (plain_arguments true false (trees (map (in_argument N.plain) call.now.arguments.items)))) }
+    ensures applies { result ≡ ((pen_of p.old).style.minified && is_require_call (in_expression N.plain call.now.callee) (trees (map (in_argument N.plain) call.now.arguments.items))) }
+    ensures text { Lays p.old p.new (where_it_holds ((pen_of p.old).style.minified && is_require_call (in_expression N.plain call.now.callee) (trees (map (in_argument N.plain) call.now.arguments.items)))
+        (from_callee (call_expression_row N.plain call.now) (at_level Lowest free))) }
 {
-    if is_require(p.is_minified(), call) {
-        print_plain_arguments(PlainQuotes::FIRST, p, call);
-        true
-    } else {
-        false
-    }
+    let applies = p.is_minified() && is_require(call);
+    print_call_if(applies, p, call, Context::FREE);
+    applies
 }
 
-/// Prints the arguments of `Object.defineProperty(x, "y", ..)` or `Reflect.defineProperty(x, "y", ..)`, if the call is one of
-/// these and the text minified; otherwise prints nothing. In arguments nothing is forbidden, whatever the context.
+/// Prints the call `Object.defineProperty(x, "y", ..)` or `Reflect.defineProperty(x, "y", ..)`, if the call is one of these and
+/// the text minified; otherwise prints nothing.
 pub fn try_print_define_property_call<N: PrintNode>(
     p: &mut Printer<'_>,
     call: &CallExpression<N>,
     context: Context,
 ) -> bool
-    ensures applies { result ≡ is_definition_call (pen_of p.old).style.minified (in_expression N.plain call.now.callee) (trees (map (in_argument N.plain) call.now.arguments.items)) }
-    ensures text { Lays p.old p.new (where_it_holds (is_definition_call pen.style.minified (in_expression N.plain call.now.callee) (trees (map (in_argument N.plain) call.now.arguments.items)))
-        (plain_arguments false true (trees (map (in_argument N.plain) call.now.arguments.items)))) }
+    ensures applies { result ≡ ((pen_of p.old).style.minified && is_definition_call (in_expression N.plain call.now.callee) (trees (map (in_argument N.plain) call.now.arguments.items))) }
+    ensures text { Lays p.old p.new (where_it_holds ((pen_of p.old).style.minified && is_definition_call (in_expression N.plain call.now.callee) (trees (map (in_argument N.plain) call.now.arguments.items)))
+        (from_callee (call_expression_row N.plain call.now) (at_level Lowest context))) }
 {
-    let _ = context;
-    if is_definition(p.is_minified(), call) {
-        print_plain_arguments(PlainQuotes::SECOND, p, call);
-        true
-    } else {
-        false
-    }
+    let applies = p.is_minified() && is_definition(call);
+    print_call_if(applies, p, call, context);
+    applies
 }
 
-fn print_plain_arguments<N: PrintNode>(
-    quotes: PlainQuotes,
+// The call from what is called on, where the test holds.
+fn print_call_if<N: PrintNode>(
+    test: bool,
     p: &mut Printer<'_>,
     call: &CallExpression<N>,
+    context: Context,
 )
-    ensures { Lays p.old p.new (plain_arguments quotes.first quotes.second (trees (map (in_argument N.plain) call.now.arguments.items))) }
+    ensures { Lays p.old p.new (where_it_holds test (from_callee (call_expression_row N.plain call.now) (at_level Lowest context))) }
 {
-    let within = Place::in_brackets(Precedence::Comma, MINIFIED);
-    print_arguments::<_, Arguments>(quotes, &call.arguments, p, within);
+    if test {
+        print_from_callee(call, p, Place::at_level(Precedence::Lowest, context));
+    }
 }
 
 /// Prints `exports["x"]` or `module.exports["x"]`, if the target is one of these and the text minified; otherwise prints nothing.
@@ -188,16 +175,26 @@ pub fn try_print_exports_computed_target<N: PrintNode>(
     target: &AssignmentTarget<N>,
     context: Context,
 ) -> bool
-    ensures applies { result ≡ is_export_target (pen_of p.old).style.minified (in_assignment_target N.plain target.now) }
-    ensures text { Lays p.old p.new (where_it_holds (is_export_target pen.style.minified (in_assignment_target N.plain target.now))
-        (plain_target (in_assignment_target N.plain target.now) (context_of context) pen.start)) }
+    ensures applies { result ≡ ((pen_of p.old).style.minified && is_key_of_exports (in_assignment_target N.plain target.now)) }
+    ensures text { Lays p.old p.new (where_it_holds ((pen_of p.old).style.minified && is_key_of_exports (in_assignment_target N.plain target.now))
+        (spell (in_assignment_target N.plain target.now) (quoted_plainly true (at_level Comma context)))) }
 {
-    if is_export(p.is_minified(), target) {
-        let place = Place::at_level(Precedence::Comma, MINIFIED, context);
+    let applies = p.is_minified() && is_key_of_exports(target);
+    print_target_if(applies, p, target, context);
+    applies
+}
+
+fn print_target_if<N: PrintNode>(
+    test: bool,
+    p: &mut Printer<'_>,
+    target: &AssignmentTarget<N>,
+    context: Context,
+)
+    ensures { Lays p.old p.new (where_it_holds test (spell (in_assignment_target N.plain target.now) (quoted_plainly true (at_level Comma context)))) }
+{
+    if test {
+        let place = Place::at_level(Precedence::Comma, context);
         print_assignment_target(target, p, place.quoted_plainly(true));
-        true
-    } else {
-        false
     }
 }
 
@@ -208,16 +205,21 @@ pub fn try_print_equality_string(
     operator: BinaryOperator,
     operand: &Expression,
 ) -> bool
-    ensures applies { result ≡ is_export_mark (pen_of p.old).style.minified operator (expression_plain node_plain operand.now) }
-    ensures text { Lays p.old p.new (where_it_holds (is_export_mark pen.style.minified operator (expression_plain node_plain operand.now))
+    ensures applies { result ≡ ((pen_of p.old).style.minified && is_export_mark operator (expression_plain node_plain operand.now)) }
+    ensures text { Lays p.old p.new (where_it_holds ((pen_of p.old).style.minified && is_export_mark operator (expression_plain node_plain operand.now))
         (plain_string (string_in (without_parentheses (expression_plain node_plain operand.now))))) }
 {
     let string = bare_string(operand.without_parentheses());
-    if is_export_mark(p.is_minified(), operator, string) {
+    let applies = p.is_minified() && is_export_mark(operator, string);
+    print_string_if(applies, string, p);
+    applies
+}
+
+fn print_string_if(test: bool, string: Option<&JsStr>, p: &mut Printer<'_>)
+    ensures { Lays p.old p.new (where_it_holds test (plain_string (option_map (λ v. js_units v.now) string.entry))) }
+{
+    if test {
         print_plain_string(string, p);
-        true
-    } else {
-        false
     }
 }
 

@@ -7,7 +7,6 @@ mod numbers;
 mod operands;
 mod properties;
 mod quotes;
-mod shapes;
 mod strings;
 
 pub use endings::ends_open;
@@ -16,5 +15,4 @@ pub use numbers::{needs_brackets, takes_no_dot};
 pub use operands::{Operand, left_level, operand_of, right_level, unmixed};
 pub use properties::is_alone;
 pub use quotes::{is_definition_call, is_export_mark, is_require_call};
-pub use shapes::shape;
 pub use strings::{bare_string, string, string_statement};

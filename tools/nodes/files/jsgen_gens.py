@@ -1,7 +1,7 @@
 """The library: src/impls.rt, where each type and set has `Gen` or `GenExpr`."""
 
 import layout
-from files.nodes_alone import NEVER, at_level
+from files.alone import NEVER, at_level
 
 
 def write(table):

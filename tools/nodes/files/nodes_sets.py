@@ -7,7 +7,8 @@ import re
 import layout
 from files.proofs_cases import aliases, variant
 from files.rows_functions import parts as parts_of_rows
-from names import REPOSITORY, row_names, sets_in_antt
+from files.spelled import BY_HAND_BELOW, crates, spelled
+from names import MODEL, REPOSITORY, row_names, sets_in_antt
 from table import snake
 
 CRATE = REPOSITORY / "crates" / "jsgen_nodes"
@@ -15,14 +16,14 @@ SPECS = "Rattle.jsgen_nodes.specs.Parts"
 PROOFS = "Rattle.jsgen_nodes.proofs"
 
 # The sets that print otherwise than their members do elsewhere.
-OF_THEIR_OWN = ("PropertyKey", "ChainElement")
+OF_THEIR_OWN = ("PropertyKey", "ChainElement", "ForStatementLeft")
 
 
 def write(table):
     ghosts = [("Rattle.std.specs.Prelude", ["◌≡◌", "true", "nat_le"])] + row_names(table)
     ghosts += [("Rattle.jsgen_printer.specs.Steps", ["Lays"]),
-               ("Rattle.jsgen_nodes.specs.Place", ["at_place"]), (SPECS, [f"{snake(s.name)}_part" for s in divided(table)])]
-    homes = print_functions() + [("crate", ["PrintNode"]), ("jsgen_place", ["Place"]), ("jsgen_printer", ["Printer"]),
+               (f"{MODEL}.specs.Spell", ["spell"]), (SPECS, [f"{snake(s.name)}_part" for s in divided(table)])]
+    homes = print_functions(table, "crate") + [("crate", ["Inside", "PrintNode"]), ("jsgen_place", ["Place"]), ("jsgen_printer", ["Printer"]),
                                  ("jsgen_tree", list(table.sets))]
     functions = [function(table, s, at) for s in table.nesting() for at in range(len(parts(table, s)))]
     body = "\n\n".join(functions + [choice(table, s) for s in chosen(table)])
@@ -37,10 +38,17 @@ def write(table):
     return files
 
 
-def print_functions():
-    """The print functions that are written by hand, by the file in which they stand."""
-    files = [p for p in sorted((CRATE / "src").glob("*.rt")) if p.name not in ("alone.rt", "sets.rt", "lib.rt")]
-    return [(f"crate::{p.stem}", re.findall(r"pub fn (print_\w+)", p.read_text())) for p in files]
+def print_functions(table, at):
+    """The print functions of types: those that are written by hand, by the file in which they stand, and those of the crates below."""
+    files = [p for p in sorted((CRATE / "src").glob("*.rt")) if p.name not in ("sets.rt", "lib.rt")]
+    by_hand = [(f"{at}::{p.stem}", re.findall(r"pub fn (print_\w+)", p.read_text())) for p in files]
+    below = [(crate, [f"print_{snake(n.name)}" for n in spelled(table, crate)]) for crate in crates(table)]
+    return by_hand + below + [("jsgen_inside", [f"print_{snake(name)}" for name in BY_HAND_BELOW])]
+
+
+def turbofish(table, name):
+    """How what nests in a type that is printed in a crate below is printed."""
+    return "::<_, Inside>" if name in table.nodes and table.nodes[name].spelling and table.generic(name) else ""
 
 
 # ---- the parts of a choice
@@ -78,7 +86,7 @@ def function(table, s, at):
     p: &mut Printer<'_>,
     place: Place,
 )
-{requires}    ensures {{ Lays p.old p.new (at_place ({plain_of(table, s)} node.now) place) }}
+{requires}    ensures {{ Lays p.old p.new (spell ({plain_of(table, s)} node.now) place) }}
 {{
     match node {{
 {arms}    }}
@@ -97,7 +105,7 @@ def choice(table, s):
     p: &mut Printer<'_>,
     place: Place,
 )
-    ensures {{ Lays p.old p.new (at_place (in_{snake(s.name)} N.plain node.now) place) }}
+    ensures {{ Lays p.old p.new (spell (in_{snake(s.name)} N.plain node.now) place) }}
 {{
     match node {{
 {arms}    }}
@@ -105,7 +113,7 @@ def choice(table, s):
 
 
 def printed(table, member):
-    return "node.get().print(p, place)" if member in table.sets else f"print_{snake(member)}(node, p, place)"
+    return "node.get().print(p, place)" if member in table.sets else f"print_{snake(member)}{turbofish(table, member)}(node, p, place)"
 
 
 # ---- specs/Parts.antt
@@ -170,8 +178,7 @@ def answers(table, s, at):
 
 def choice_answers(table, s):
     about, home = "What it prints is printed as it is elsewhere.", f"{PROOFS}.sets.print_{snake(s.name)}.Goals"
-    homes = [("Rattle.jsgen_nodes.specs.Place", ["at_place"])]
-    return layout.antt(about, homes, [(home, "goal")], "\n\n".join(members_answers(table, s, s.members)))
+    return layout.antt(about, [], [(home, "goal")], "\n\n".join(members_answers(table, s, s.members)))
 
 
 def members_answers(table, s, members):

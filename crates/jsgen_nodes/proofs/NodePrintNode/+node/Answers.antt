@@ -1,11 +1,6 @@
-use Rattle.std.proofs.Common.{rules}
-use Rattle.jsgen_tree.specs.Plain.{node_plain}
-use Rattle.jsgen_tree.specs.Rows.{expression_plain, statement_plain, declaration_plain}
+use Rattle.std.proofs.Common.{rules, sym}
 use Rattle.jsgen_tree.proofs.Knot.{plain_expression, plain_statement, plain_declaration, plain_binding_pattern}
-use Rattle.jsgen_model.specs.Spell.{spell_method}
-use Rattle.jsgen_place.specs.Place.{place_of}
-use Rattle.jsgen_printer.specs.Printer.{pen_of}
-use Rattle.jsgen_printer.proofs.Sequence.{as_laid, nothing_laid}
+use Rattle.jsgen_printer.proofs.Sequence.{nothing_laid}
 use Rattle.jsgen_nodes.proofs.Elsewhere.{no_expression_method, no_declaration_method, no_statement_method}
 use Rattle.jsgen_nodes.proofs.NodePrintNode.+node.Goals as goal
 
@@ -25,19 +20,19 @@ pub print_as_method-returns-in-Function : goal.print_as_method-returns-in-Functi
 print_as_method-returns-in-Function t c = rw (c.in-Expression.is, plain_expression c.in-Expression.expression, c.in-Function.is) (rw c.deref.ensures at c.print_behind_name.ensures)
 
 pub print_as_method-returns-in_default : goal.print_as_method-returns-in_default
-print_as_method-returns-in_default t c = rw (c.in-Expression.is, plain_expression c.in-Expression.expression) (as_laid (λ pen. spell_method (expression_plain node_plain c.in-Expression.expression) (place_of c.args.place pen)) (λ going. no_expression_method c.in-Expression.expression (place_of c.args.place (pen_of c.args.p.now)) c.in_default.not-Function) (nothing_laid c.args.p.now))
+print_as_method-returns-in_default t c = rw (c.in-Expression.is, plain_expression c.in-Expression.expression, sym (no_expression_method c.in-Expression.expression c.args.place c.in_default.not-Function)) (nothing_laid c.args.p.now)
 
 pub print_as_method-returns-in-Declaration-statement : goal.print_as_method-returns-in-Declaration-statement
 print_as_method-returns-in-Declaration-statement t c = search (rules, plain_statement)
 
 pub print_as_method-returns-in_default-statement : goal.print_as_method-returns-in_default-statement
-print_as_method-returns-in_default-statement t c = rw (c.in-Statement.is, plain_statement c.in-Statement.statement) (as_laid (λ pen. spell_method (statement_plain node_plain c.in-Statement.statement) (place_of c.args.place pen)) (λ going. no_statement_method c.in-Statement.statement (place_of c.args.place (pen_of c.args.p.now)) c.in_default-statement.not-Declaration) (nothing_laid c.args.p.now))
+print_as_method-returns-in_default-statement t c = rw (c.in-Statement.is, plain_statement c.in-Statement.statement, sym (no_statement_method c.in-Statement.statement c.args.place c.in_default-statement.not-Declaration)) (nothing_laid c.args.p.now)
 
 pub print_as_method-returns-in-Function-declaration : goal.print_as_method-returns-in-Function-declaration
 print_as_method-returns-in-Function-declaration t c = rw (c.in-Declaration.is, plain_declaration c.in-Declaration.declaration, c.in-Function-declaration.is) (rw c.deref-in-Function-declaration.ensures at c.print_behind_name-in-Function-declaration.ensures)
 
 pub print_as_method-returns-in_default-declaration : goal.print_as_method-returns-in_default-declaration
-print_as_method-returns-in_default-declaration t c = rw (c.in-Declaration.is, plain_declaration c.in-Declaration.declaration) (as_laid (λ pen. spell_method (declaration_plain node_plain c.in-Declaration.declaration) (place_of c.args.place pen)) (λ going. no_declaration_method c.in-Declaration.declaration (place_of c.args.place (pen_of c.args.p.now)) c.in_default-declaration.not-Function) (nothing_laid c.args.p.now))
+print_as_method-returns-in_default-declaration t c = rw (c.in-Declaration.is, plain_declaration c.in-Declaration.declaration, sym (no_declaration_method c.in-Declaration.declaration c.args.place c.in_default-declaration.not-Function)) (nothing_laid c.args.p.now)
 
 pub print_as_method-returns-in-BindingPattern : goal.print_as_method-returns-in-BindingPattern
 print_as_method-returns-in-BindingPattern t c = search (rules, plain_binding_pattern)
