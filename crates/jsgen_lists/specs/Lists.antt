@@ -1,4 +1,4 @@
--- Where the members of a list stand, and what stands round them.
+-- Members that may be left out, the parts of a loop, and the pen within braces.
 use Rattle.std.specs.Prelude.{ℕ, Bool, Option, Some, None}
 use Rattle.jsgen_tree.specs.Tree.{Tree, Trees, Maybe}
 use Rattle.jsgen_model.specs.Punctuator.{Brace, semicolon, opening, closing}

@@ -21,8 +21,8 @@ pub fn print_loop_parts<I, E, K: PrintMember<I>, L: PrintMember<E>>(
     first: Place,
     place: Place,
 )
-    ensures { Lays p.old p.new (brackets Round (loop_parts (optional (option_map K.plain init.now)) (optional (option_map L.plain test.now))
-        (optional (option_map L.plain update.now)) first place)) }
+    ensures { Lays p.old p.new (brackets Round (loop_parts (optional (option_map K.plain init.now))
+        (optional (option_map L.plain test.now)) (optional (option_map L.plain update.now)) first place)) }
 {
     p.print_opening(Bracket::Round);
     print_within::<I, E, K, L>(init, test, update, p, first, place);
@@ -37,8 +37,8 @@ fn print_within<I, E, K: PrintMember<I>, L: PrintMember<E>>(
     first: Place,
     place: Place,
 )
-    ensures { Lays p.old p.new (loop_parts (optional (option_map K.plain init.now)) (optional (option_map L.plain test.now))
-        (optional (option_map L.plain update.now)) first place) }
+    ensures { Lays p.old p.new (loop_parts (optional (option_map K.plain init.now))
+        (optional (option_map L.plain test.now)) (optional (option_map L.plain update.now)) first place) }
 {
     print_if_given::<I, K>(init, p, first);
     print_behind_semicolon::<E, L>(test, p, place);

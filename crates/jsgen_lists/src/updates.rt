@@ -36,8 +36,7 @@ fn print_before<E, L: PrintMember<E>>(
     p: &mut Printer<'_>,
     place: Place,
 )
-    ensures { Lays p.old p.new (update_item operator
-        ⊕ spell (L.plain operand.now) (child Prefix place)) }
+    ensures { Lays p.old p.new (update_item operator ⊕ spell (L.plain operand.now) (child Prefix place)) }
 {
     p.print_update_operator(operator);
     L::print_member(operand, p, place.child(Precedence::Prefix));
@@ -49,8 +48,7 @@ fn print_behind<E, L: PrintMember<E>>(
     p: &mut Printer<'_>,
     place: Place,
 )
-    ensures { Lays p.old p.new (spell (L.plain operand.now)
-        (child Postfix place) ⊕ update_item operator) }
+    ensures { Lays p.old p.new (spell (L.plain operand.now) (child Postfix place) ⊕ update_item operator) }
 {
     L::print_member(operand, p, place.child(Precedence::Postfix));
     p.print_update_operator(operator);
