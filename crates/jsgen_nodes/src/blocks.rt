@@ -39,7 +39,9 @@ pub fn print_if_statement<N: PrintNode>(node: &IfStatement<N>, p: &mut Printer<'
     p.print_word("if");
     p.print_soft_space();
     p.print_opening(Bracket::Round);
-    node.test.get().print(p, Place::in_brackets(Precedence::Lowest));
+    node.test
+        .get()
+        .print(p, Place::in_brackets(Precedence::Lowest));
     p.print_closing(Bracket::Round);
     print_consequent(node.consequent.get(), p, has_alternate(node));
     print_alternate(&node.alternate, p);

@@ -65,11 +65,7 @@ pub fn print_call_expression<N: PrintNode>(
 }
 
 /// What is called and what it is given, within the parentheses.
-pub fn print_from_callee<N: PrintNode>(
-    node: &CallExpression<N>,
-    p: &mut Printer<'_>,
-    place: Place,
-)
+pub fn print_from_callee<N: PrintNode>(node: &CallExpression<N>, p: &mut Printer<'_>, place: Place)
     ensures { Lays p.old p.new (from_callee (call_expression_row N.plain node.now) place) }
 {
     node.callee.get().print(p, place.called());

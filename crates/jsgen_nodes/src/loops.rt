@@ -64,7 +64,9 @@ pub fn print_do_while_statement<N: PrintNode>(
     p.print_word("while");
     p.print_soft_space();
     p.print_opening(Bracket::Round);
-    node.test.get().print(p, Place::in_brackets(Precedence::Lowest));
+    node.test
+        .get()
+        .print(p, Place::in_brackets(Precedence::Lowest));
     p.print_closing(Bracket::Round);
     p.print_statement_end();
 }

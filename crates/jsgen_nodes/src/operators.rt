@@ -90,11 +90,7 @@ fn is_given<N: PrintNode>(arguments: &[Argument<N>]) -> bool
     !arguments.is_empty()
 }
 
-fn print_unless_minified<N: PrintNode>(
-    arguments: &[Argument<N>],
-    p: &mut Printer<'_>,
-    place: Place,
-)
+fn print_unless_minified<N: PrintNode>(arguments: &[Argument<N>], p: &mut Printer<'_>, place: Place)
     ensures { Lays p.old p.new (parentheses_unless_minified (spell_list (trees (map (in_argument N.plain) arguments.now)) place)) }
 {
     let wrap = !p.is_minified();

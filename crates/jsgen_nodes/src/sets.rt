@@ -1,34 +1,47 @@
 // Generated from tools/nodes/table.txt; edit that and run tools/nodes/generate.
 // A set prints as its member does.
 ghost use Rattle.std.specs.Prelude.{◌≡◌, true, nat_le};
-ghost use Rattle.jsgen_tree.specs.Rows.{in_simple_assignment_target, in_assignment_target, in_for_statement_left, expression_plain, declaration_plain, statement_plain, binding_pattern_plain};
+ghost use Rattle.jsgen_tree.specs.Rows.{in_simple_assignment_target, in_assignment_target, expression_plain, declaration_plain, statement_plain, binding_pattern_plain};
 ghost use Rattle.jsgen_printer.specs.Steps.{Lays};
-ghost use Rattle.jsgen_nodes.specs.Place.{at_place};
+ghost use Rattle.jsgen_model.specs.Spell.{spell};
 ghost use Rattle.jsgen_nodes.specs.Parts.{expression_part, declaration_part, statement_part};
 
-use crate::PrintNode;
 use crate::assignments::print_assignment_expression;
 use crate::blocks::{print_block_statement, print_if_statement};
 use crate::cases::print_switch_statement;
 use crate::collections::{print_array_expression, print_object_expression};
 use crate::definitions::print_function;
-use crate::expressions::{print_big_int_literal, print_binary_expression, print_boolean_literal, print_logical_expression, print_numeric_literal, print_string_literal};
+use crate::expressions::{
+    print_big_int_literal, print_binary_expression, print_boolean_literal,
+    print_logical_expression, print_numeric_literal, print_string_literal,
+};
 use crate::functions::print_arrow_function_expression;
 use crate::handlers::print_try_statement;
 use crate::iterations::{print_for_in_statement, print_for_of_statement};
-use crate::links::{print_call_expression, print_chain_expression, print_computed_member_expression, print_static_member_expression};
+use crate::links::{
+    print_call_expression, print_chain_expression, print_computed_member_expression,
+    print_static_member_expression,
+};
 use crate::loops::{print_do_while_statement, print_for_statement};
 use crate::operators::{print_new_expression, print_update_expression};
+use crate::{Inside, PrintNode};
+use jsgen_inside::{print_binding_identifier, print_identifier_reference};
 use jsgen_place::Place;
 use jsgen_printer::Printer;
-use jsgen_tree::{AssignmentTarget, BindingPattern, Declaration, Expression, ForStatementLeft, SimpleAssignmentTarget, Statement};
+use jsgen_spelled::{
+    print_break_statement, print_conditional_expression, print_continue_statement,
+    print_debugger_statement, print_empty_statement, print_expression_statement,
+    print_labeled_statement, print_new_target, print_null_literal, print_parenthesized_expression,
+    print_return_statement, print_sequence_expression, print_super, print_this_expression,
+    print_throw_statement, print_unary_expression, print_variable_declaration,
+    print_while_statement,
+};
+use jsgen_tree::{
+    AssignmentTarget, BindingPattern, Declaration, Expression, SimpleAssignmentTarget, Statement,
+};
 
-pub fn print_expression<N: PrintNode>(
-    node: &Expression<N>,
-    p: &mut Printer<'_>,
-    place: Place,
-)
-    ensures { Lays p.old p.new (at_place (expression_plain N.plain node.now) place) }
+pub fn print_expression<N: PrintNode>(node: &Expression<N>, p: &mut Printer<'_>, place: Place)
+    ensures { Lays p.old p.new (spell (expression_plain N.plain node.now) place) }
 {
     match node {
         Expression::IdentifierReference(node) => print_identifier_reference(node, p, place),
@@ -38,11 +51,15 @@ pub fn print_expression<N: PrintNode>(
         Expression::NumericLiteral(node) => print_numeric_literal(node, p, place),
         Expression::BigIntLiteral(node) => print_big_int_literal(node, p, place),
         Expression::StringLiteral(node) => print_string_literal(node, p, place),
-        Expression::ParenthesizedExpression(node) => print_parenthesized_expression(node, p, place),
+        Expression::ParenthesizedExpression(node) => print_parenthesized_expression::<_, Inside>(
+            node, p, place,
+        ),
         Expression::BinaryExpression(node) => print_binary_expression(node, p, place),
         Expression::LogicalExpression(node) => print_logical_expression(node, p, place),
         Expression::StaticMemberExpression(node) => print_static_member_expression(node, p, place),
-        Expression::ComputedMemberExpression(node) => print_computed_member_expression(node, p, place),
+        Expression::ComputedMemberExpression(node) => print_computed_member_expression(
+            node, p, place,
+        ),
         Expression::CallExpression(node) => print_call_expression(node, p, place),
         Expression::ChainExpression(node) => print_chain_expression(node, p, place),
         _ => print_expression_in_collections(node, p, place),
@@ -55,7 +72,7 @@ fn print_expression_in_collections<N: PrintNode>(
     place: Place,
 )
     requires { nat_le 1 (expression_part node.now) ≡ true }
-    ensures { Lays p.old p.new (at_place (expression_plain N.plain node.now) place) }
+    ensures { Lays p.old p.new (spell (expression_plain N.plain node.now) place) }
 {
     match node {
         Expression::ArrayExpression(node) => print_array_expression(node, p, place),
@@ -70,10 +87,10 @@ fn print_expression_in_operations<N: PrintNode>(
     place: Place,
 )
     requires { nat_le 2 (expression_part node.now) ≡ true }
-    ensures { Lays p.old p.new (at_place (expression_plain N.plain node.now) place) }
+    ensures { Lays p.old p.new (spell (expression_plain N.plain node.now) place) }
 {
     match node {
-        Expression::UnaryExpression(node) => print_unary_expression(node, p, place),
+        Expression::UnaryExpression(node) => print_unary_expression::<_, Inside>(node, p, place),
         Expression::NewTarget(node) => print_new_target(node, p, place),
         Expression::UpdateExpression(node) => print_update_expression(node, p, place),
         Expression::NewExpression(node) => print_new_expression(node, p, place),
@@ -88,11 +105,15 @@ fn print_expression_in_assignments<N: PrintNode>(
     place: Place,
 )
     requires { nat_le 3 (expression_part node.now) ≡ true }
-    ensures { Lays p.old p.new (at_place (expression_plain N.plain node.now) place) }
+    ensures { Lays p.old p.new (spell (expression_plain N.plain node.now) place) }
 {
     match node {
-        Expression::ConditionalExpression(node) => print_conditional_expression(node, p, place),
-        Expression::SequenceExpression(node) => print_sequence_expression(node, p, place),
+        Expression::ConditionalExpression(node) => print_conditional_expression::<_, Inside>(
+            node, p, place,
+        ),
+        Expression::SequenceExpression(node) => print_sequence_expression::<_, Inside>(
+            node, p, place,
+        ),
         Expression::AssignmentExpression(node) => print_assignment_expression(node, p, place),
         _ => print_expression_in_functions(node, p, place),
     }
@@ -104,24 +125,24 @@ fn print_expression_in_functions<N: PrintNode>(
     place: Place,
 )
     requires { nat_le 4 (expression_part node.now) ≡ true }
-    ensures { Lays p.old p.new (at_place (expression_plain N.plain node.now) place) }
+    ensures { Lays p.old p.new (spell (expression_plain N.plain node.now) place) }
 {
     match node {
         Expression::Function(node) => print_function(node, p, place),
-        Expression::ArrowFunctionExpression(node) => print_arrow_function_expression(node, p, place),
+        Expression::ArrowFunctionExpression(node) => print_arrow_function_expression(
+            node, p, place,
+        ),
         _ => unreachable!(),
     }
 }
 
-pub fn print_declaration<N: PrintNode>(
-    node: &Declaration<N>,
-    p: &mut Printer<'_>,
-    place: Place,
-)
-    ensures { Lays p.old p.new (at_place (declaration_plain N.plain node.now) place) }
+pub fn print_declaration<N: PrintNode>(node: &Declaration<N>, p: &mut Printer<'_>, place: Place)
+    ensures { Lays p.old p.new (spell (declaration_plain N.plain node.now) place) }
 {
     match node {
-        Declaration::VariableDeclaration(node) => print_variable_declaration(node, p, place),
+        Declaration::VariableDeclaration(node) => print_variable_declaration::<_, Inside>(
+            node, p, place,
+        ),
         _ => print_declaration_in_functions(node, p, place),
     }
 }
@@ -132,7 +153,7 @@ fn print_declaration_in_functions<N: PrintNode>(
     place: Place,
 )
     requires { nat_le 1 (declaration_part node.now) ≡ true }
-    ensures { Lays p.old p.new (at_place (declaration_plain N.plain node.now) place) }
+    ensures { Lays p.old p.new (spell (declaration_plain N.plain node.now) place) }
 {
     match node {
         Declaration::Function(node) => print_function(node, p, place),
@@ -140,12 +161,8 @@ fn print_declaration_in_functions<N: PrintNode>(
     }
 }
 
-pub fn print_statement<N: PrintNode>(
-    node: &Statement<N>,
-    p: &mut Printer<'_>,
-    place: Place,
-)
-    ensures { Lays p.old p.new (at_place (statement_plain N.plain node.now) place) }
+pub fn print_statement<N: PrintNode>(node: &Statement<N>, p: &mut Printer<'_>, place: Place)
+    ensures { Lays p.old p.new (spell (statement_plain N.plain node.now) place) }
 {
     match node {
         Statement::Declaration(node) => node.get().print(p, place),
@@ -159,10 +176,12 @@ fn print_statement_in_statements<N: PrintNode>(
     place: Place,
 )
     requires { nat_le 1 (statement_part node.now) ≡ true }
-    ensures { Lays p.old p.new (at_place (statement_plain N.plain node.now) place) }
+    ensures { Lays p.old p.new (spell (statement_plain N.plain node.now) place) }
 {
     match node {
-        Statement::ExpressionStatement(node) => print_expression_statement(node, p, place),
+        Statement::ExpressionStatement(node) => print_expression_statement::<_, Inside>(
+            node, p, place,
+        ),
         Statement::BlockStatement(node) => print_block_statement(node, p, place),
         Statement::IfStatement(node) => print_if_statement(node, p, place),
         Statement::EmptyStatement(node) => print_empty_statement(node, p, place),
@@ -170,37 +189,29 @@ fn print_statement_in_statements<N: PrintNode>(
     }
 }
 
-fn print_statement_in_loops<N: PrintNode>(
-    node: &Statement<N>,
-    p: &mut Printer<'_>,
-    place: Place,
-)
+fn print_statement_in_loops<N: PrintNode>(node: &Statement<N>, p: &mut Printer<'_>, place: Place)
     requires { nat_le 2 (statement_part node.now) ≡ true }
-    ensures { Lays p.old p.new (at_place (statement_plain N.plain node.now) place) }
+    ensures { Lays p.old p.new (spell (statement_plain N.plain node.now) place) }
 {
     match node {
         Statement::ForStatement(node) => print_for_statement(node, p, place),
         Statement::ForInStatement(node) => print_for_in_statement(node, p, place),
         Statement::ForOfStatement(node) => print_for_of_statement(node, p, place),
-        Statement::WhileStatement(node) => print_while_statement(node, p, place),
+        Statement::WhileStatement(node) => print_while_statement::<_, Inside>(node, p, place),
         Statement::DoWhileStatement(node) => print_do_while_statement(node, p, place),
-        Statement::LabeledStatement(node) => print_labeled_statement(node, p, place),
+        Statement::LabeledStatement(node) => print_labeled_statement::<_, Inside>(node, p, place),
         Statement::ContinueStatement(node) => print_continue_statement(node, p, place),
         Statement::BreakStatement(node) => print_break_statement(node, p, place),
-        Statement::ReturnStatement(node) => print_return_statement(node, p, place),
-        Statement::ThrowStatement(node) => print_throw_statement(node, p, place),
+        Statement::ReturnStatement(node) => print_return_statement::<_, Inside>(node, p, place),
+        Statement::ThrowStatement(node) => print_throw_statement::<_, Inside>(node, p, place),
         Statement::DebuggerStatement(node) => print_debugger_statement(node, p, place),
         _ => print_statement_in_choices(node, p, place),
     }
 }
 
-fn print_statement_in_choices<N: PrintNode>(
-    node: &Statement<N>,
-    p: &mut Printer<'_>,
-    place: Place,
-)
+fn print_statement_in_choices<N: PrintNode>(node: &Statement<N>, p: &mut Printer<'_>, place: Place)
     requires { nat_le 3 (statement_part node.now) ≡ true }
-    ensures { Lays p.old p.new (at_place (statement_plain N.plain node.now) place) }
+    ensures { Lays p.old p.new (spell (statement_plain N.plain node.now) place) }
 {
     match node {
         Statement::SwitchStatement(node) => print_switch_statement(node, p, place),
@@ -209,12 +220,8 @@ fn print_statement_in_choices<N: PrintNode>(
     }
 }
 
-pub fn print_binding_pattern(
-    node: &BindingPattern,
-    p: &mut Printer<'_>,
-    place: Place,
-)
-    ensures { Lays p.old p.new (at_place (binding_pattern_plain node.now) place) }
+pub fn print_binding_pattern(node: &BindingPattern, p: &mut Printer<'_>, place: Place)
+    ensures { Lays p.old p.new (spell (binding_pattern_plain node.now) place) }
 {
     match node {
         BindingPattern::BindingIdentifier(node) => print_binding_identifier(node, p, place),
@@ -226,12 +233,18 @@ pub fn print_simple_assignment_target<N: PrintNode>(
     p: &mut Printer<'_>,
     place: Place,
 )
-    ensures { Lays p.old p.new (at_place (in_simple_assignment_target N.plain node.now) place) }
+    ensures { Lays p.old p.new (spell (in_simple_assignment_target N.plain node.now) place) }
 {
     match node {
-        SimpleAssignmentTarget::IdentifierReference(node) => print_identifier_reference(node, p, place),
-        SimpleAssignmentTarget::StaticMemberExpression(node) => print_static_member_expression(node, p, place),
-        SimpleAssignmentTarget::ComputedMemberExpression(node) => print_computed_member_expression(node, p, place),
+        SimpleAssignmentTarget::IdentifierReference(node) => print_identifier_reference(
+            node, p, place,
+        ),
+        SimpleAssignmentTarget::StaticMemberExpression(node) => print_static_member_expression(
+            node, p, place,
+        ),
+        SimpleAssignmentTarget::ComputedMemberExpression(node) => print_computed_member_expression(
+            node, p, place,
+        ),
     }
 }
 
@@ -240,26 +253,15 @@ pub fn print_assignment_target<N: PrintNode>(
     p: &mut Printer<'_>,
     place: Place,
 )
-    ensures { Lays p.old p.new (at_place (in_assignment_target N.plain node.now) place) }
+    ensures { Lays p.old p.new (spell (in_assignment_target N.plain node.now) place) }
 {
     match node {
         AssignmentTarget::IdentifierReference(node) => print_identifier_reference(node, p, place),
-        AssignmentTarget::StaticMemberExpression(node) => print_static_member_expression(node, p, place),
-        AssignmentTarget::ComputedMemberExpression(node) => print_computed_member_expression(node, p, place),
-    }
-}
-
-pub fn print_for_statement_left<N: PrintNode>(
-    node: &ForStatementLeft<N>,
-    p: &mut Printer<'_>,
-    place: Place,
-)
-    ensures { Lays p.old p.new (at_place (in_for_statement_left N.plain node.now) place) }
-{
-    match node {
-        ForStatementLeft::VariableDeclaration(node) => print_variable_declaration(node, p, place),
-        ForStatementLeft::IdentifierReference(node) => print_identifier_reference(node, p, place),
-        ForStatementLeft::StaticMemberExpression(node) => print_static_member_expression(node, p, place),
-        ForStatementLeft::ComputedMemberExpression(node) => print_computed_member_expression(node, p, place),
+        AssignmentTarget::StaticMemberExpression(node) => print_static_member_expression(
+            node, p, place,
+        ),
+        AssignmentTarget::ComputedMemberExpression(node) => print_computed_member_expression(
+            node, p, place,
+        ),
     }
 }

@@ -1,0 +1,68 @@
+// Generated from tools/nodes/table.txt; edit that and run tools/nodes/generate.
+// What is printed by itself, or at a level.
+ghost use Rattle.jsgen_tree.specs.Rows.{switch_statement_row, switch_case_row, try_statement_row, catch_clause_row};
+ghost use Rattle.jsgen_syntax.specs.declared.precedence.Precedence.TheVariants.{Lowest};
+ghost use Rattle.jsgen_place.specs.Place.{at_level, among_statements};
+ghost use Rattle.jsgen_model.specs.Items.{◌⊕◌, due_semicolon};
+ghost use Rattle.jsgen_model.specs.Spell.{spell};
+
+use crate::PrintAlone;
+use jsgen_nodes::PrintNode;
+use jsgen_nodes::cases::{print_switch_case, print_switch_statement};
+use jsgen_nodes::handlers::{print_catch_clause, print_try_statement};
+use jsgen_place::{Context, Place};
+use jsgen_printer::Printer;
+use jsgen_syntax::Precedence;
+use jsgen_tree::{CatchClause, SwitchCase, SwitchStatement, TryStatement};
+
+impl<N: PrintNode> PrintAlone for SwitchStatement<N> {
+    ghost alone = { λ n context. spell (switch_statement_row N.plain n) among_statements };
+
+    fn print_alone(
+        &self,
+        p: &mut Printer<'_>,
+        context: Context,
+    ) {
+        let _ = context;
+        print_switch_statement(self, p, Place::among_statements());
+    }
+}
+
+impl<N: PrintNode> PrintAlone for SwitchCase<N> {
+    ghost alone = { λ n context. due_semicolon ⊕ spell (switch_case_row N.plain n) among_statements };
+
+    fn print_alone(
+        &self,
+        p: &mut Printer<'_>,
+        context: Context,
+    ) {
+        let _ = context;
+        p.print_due_semicolon();
+        print_switch_case(self, p, Place::among_statements());
+    }
+}
+
+impl<N: PrintNode> PrintAlone for TryStatement<N> {
+    ghost alone = { λ n context. spell (try_statement_row N.plain n) among_statements };
+
+    fn print_alone(
+        &self,
+        p: &mut Printer<'_>,
+        context: Context,
+    ) {
+        let _ = context;
+        print_try_statement(self, p, Place::among_statements());
+    }
+}
+
+impl<N: PrintNode> PrintAlone for CatchClause<N> {
+    ghost alone = { λ n context. spell (catch_clause_row N.plain n) (at_level Lowest context) };
+
+    fn print_alone(
+        &self,
+        p: &mut Printer<'_>,
+        context: Context,
+    ) {
+        print_catch_clause(self, p, Place::at_level(Precedence::Lowest, context));
+    }
+}

@@ -1,0 +1,84 @@
+// Generated from tools/nodes/table.txt; edit that and run tools/nodes/generate.
+// What is printed by itself, or at a level.
+ghost use Rattle.jsgen_tree.specs.Rows.{formal_parameter_row, formal_parameter_rest_row, formal_parameters_row, function_row, function_body_row, arrow_function_expression_row};
+ghost use Rattle.jsgen_syntax.specs.declared.precedence.Precedence.TheVariants.{Lowest};
+ghost use Rattle.jsgen_place.specs.Place.{at_level};
+ghost use Rattle.jsgen_model.specs.Spell.{spell};
+
+use crate::{PrintAlone, PrintAtLevel};
+use jsgen_nodes::definitions::{print_function, print_function_body};
+use jsgen_nodes::functions::{print_arrow_function_expression, print_formal_parameters};
+use jsgen_nodes::{Inside, PrintNode};
+use jsgen_place::{Context, Place};
+use jsgen_printer::Printer;
+use jsgen_spelled::{print_formal_parameter, print_formal_parameter_rest};
+use jsgen_syntax::Precedence;
+use jsgen_tree::{ArrowFunctionExpression, FormalParameter, FormalParameterRest, FormalParameters, Function, FunctionBody};
+
+impl<N: PrintNode> PrintAlone for FormalParameter<N> {
+    ghost alone = { λ n context. spell (formal_parameter_row N.plain n) (at_level Lowest context) };
+
+    fn print_alone(
+        &self,
+        p: &mut Printer<'_>,
+        context: Context,
+    ) {
+        print_formal_parameter::<_, Inside>(self, p, Place::at_level(Precedence::Lowest, context));
+    }
+}
+
+impl<N: PrintNode> PrintAlone for FormalParameterRest<N> {
+    ghost alone = { λ n context. spell (formal_parameter_rest_row N.plain n) (at_level Lowest context) };
+
+    fn print_alone(
+        &self,
+        p: &mut Printer<'_>,
+        context: Context,
+    ) {
+        print_formal_parameter_rest::<_, Inside>(self, p, Place::at_level(Precedence::Lowest, context));
+    }
+}
+
+impl<N: PrintNode> PrintAlone for FormalParameters<N> {
+    ghost alone = { λ n context. spell (formal_parameters_row N.plain n) (at_level Lowest context) };
+
+    fn print_alone(
+        &self,
+        p: &mut Printer<'_>,
+        context: Context,
+    ) {
+        print_formal_parameters(self, p, Place::at_level(Precedence::Lowest, context));
+    }
+}
+
+impl<N: PrintNode> PrintAlone for Function<N> {
+    ghost alone = { λ n context. spell (function_row N.plain n) (at_level Lowest context) };
+
+    fn print_alone(
+        &self,
+        p: &mut Printer<'_>,
+        context: Context,
+    ) {
+        print_function(self, p, Place::at_level(Precedence::Lowest, context));
+    }
+}
+
+impl<N: PrintNode> PrintAlone for FunctionBody<N> {
+    ghost alone = { λ n context. spell (function_body_row N.plain n) (at_level Lowest context) };
+
+    fn print_alone(
+        &self,
+        p: &mut Printer<'_>,
+        context: Context,
+    ) {
+        print_function_body(self, p, Place::at_level(Precedence::Lowest, context));
+    }
+}
+
+impl<N: PrintNode> PrintAtLevel for ArrowFunctionExpression<N> {
+    ghost plain = { arrow_function_expression_row N.plain };
+
+    fn print_at(&self, p: &mut Printer<'_>, place: Place) {
+        print_arrow_function_expression(self, p, place);
+    }
+}

@@ -1,0 +1,63 @@
+// Generated from tools/nodes/table.txt; edit that and run tools/nodes/generate.
+// What is printed by itself, or at a level.
+ghost use Rattle.jsgen_tree.specs.Rows.{unary_expression_row, new_target_row, update_expression_row, new_expression_row, super_row};
+ghost use Rattle.jsgen_syntax.specs.declared.precedence.Precedence.TheVariants.{Lowest};
+ghost use Rattle.jsgen_place.specs.Place.{at_level};
+ghost use Rattle.jsgen_model.specs.Spell.{spell};
+
+use crate::{PrintAlone, PrintAtLevel};
+use jsgen_nodes::operators::{print_new_expression, print_update_expression};
+use jsgen_nodes::{Inside, PrintNode};
+use jsgen_place::{Context, Place};
+use jsgen_printer::Printer;
+use jsgen_spelled::{print_new_target, print_super, print_unary_expression};
+use jsgen_syntax::Precedence;
+use jsgen_tree::{NewExpression, NewTarget, Super, UnaryExpression, UpdateExpression};
+
+impl<N: PrintNode> PrintAtLevel for UnaryExpression<N> {
+    ghost plain = { unary_expression_row N.plain };
+
+    fn print_at(&self, p: &mut Printer<'_>, place: Place) {
+        print_unary_expression::<_, Inside>(self, p, place);
+    }
+}
+
+impl PrintAlone for NewTarget {
+    ghost alone = { λ n context. spell (new_target_row n) (at_level Lowest context) };
+
+    fn print_alone(
+        &self,
+        p: &mut Printer<'_>,
+        context: Context,
+    ) {
+        print_new_target(self, p, Place::at_level(Precedence::Lowest, context));
+    }
+}
+
+impl<N: PrintNode> PrintAtLevel for UpdateExpression<N> {
+    ghost plain = { update_expression_row N.plain };
+
+    fn print_at(&self, p: &mut Printer<'_>, place: Place) {
+        print_update_expression(self, p, place);
+    }
+}
+
+impl<N: PrintNode> PrintAtLevel for NewExpression<N> {
+    ghost plain = { new_expression_row N.plain };
+
+    fn print_at(&self, p: &mut Printer<'_>, place: Place) {
+        print_new_expression(self, p, place);
+    }
+}
+
+impl PrintAlone for Super {
+    ghost alone = { λ n context. spell (super_row n) (at_level Lowest context) };
+
+    fn print_alone(
+        &self,
+        p: &mut Printer<'_>,
+        context: Context,
+    ) {
+        print_super(self, p, Place::at_level(Precedence::Lowest, context));
+    }
+}
