@@ -19,7 +19,9 @@ use Rattle.jsgen_model.specs.Grammar.{Allowed, ReadsDeclarator, ReadsDeclarators
 use Rattle.jsgen_model.specs.Grammar as grammar
 use Rattle.jsgen_model.specs.Normal.{normal, normal_maybe, nothing_of, declared_as}
 use Rattle.jsgen_model.specs.Renamed.{renamed, renamed_maybe}
-use Rattle.jsgen_model.specs.Spell.{Settings, Place, spell_list, among_statements, behind}
+use Rattle.jsgen_place.specs.declared.place.Place.{Place}
+use Rattle.jsgen_place.specs.Place.{among_statements, child}
+use Rattle.jsgen_model.specs.Spell.{spell_list}
 use Rattle.jsgen_model.specs.Valid.{is_lexical_word}
 use Rattle.jsgen_token_laws.proofs.Characters.{letters_spelled}
 use Rattle.jsgen_token_laws.proofs.Last.{Last, After, line_of, Knows}
@@ -96,13 +98,13 @@ variables_parts c a ds p p1 p2 q l m o n g = record {
 }
 
 abbrev pub declaration_items : Atoms → Trees → Place → Items
-declaration_items a ds place = word (declaration_word (variable_declaration_kind a)) ⊕ (soft_space ⊕ spell_list ds (behind levels.Lowest place))
+declaration_items a ds place = word (declaration_word (variable_declaration_kind a)) ⊕ (soft_space ⊕ spell_list ds (child levels.Lowest place))
 
 -- printed at one place, in a loop's head or among statements, and read with its kind
 abbrev pub VariablesAt : Tables → Allowed → Place → Atoms → Trees → Type 0
 VariablesAt names c place a ds = (p : Pen) (l : Last) → p.pending_semicolon ≡ false → Knows names p l → Element names (ReadsVariables (under place c) (variable_declaration_kind a)) p l (layout (declaration_items a ds place) p) (tree.variable_declaration a ds)
 
-good_variables : {names : Tables} (c : Allowed) (a : Atoms) (ds : Trees) (place : Place) → variable_declaration_declare a ≡ no_value → ListDeclaredAt names c (behind levels.Lowest place) ds → VariablesAt names c place a ds
+good_variables : {names : Tables} (c : Allowed) (a : Atoms) (ds : Trees) (place : Place) → variable_declaration_declare a ≡ no_value → ListDeclaredAt names c (child levels.Lowest place) ds → VariablesAt names c place a ds
 good_variables c a ds place m f p l z k =
     let w : List ℕ = declaration_word (variable_declaration_kind a) in
     let p1 : Pen = layout (word w) p in
@@ -110,7 +112,7 @@ good_variables c a ds place m f p l z k =
     let o = wrote_word w p l (kind_spelled (variable_declaration_kind a)) k in
     let n = soft_space_written p1 (After (Word w)) o.knows in
     let g = f p2 n.last (n.semicolon ∙ z) (n.begun tt) n.writes.knows in
-    variables_parts (under place c) a ds p p1 p2 (layout (spell_list ds (behind levels.Lowest place)) p2) l m o n g
+    variables_parts (under place c) a ds p p1 p2 (layout (spell_list ds (child levels.Lowest place)) p2) l m o n g
 
 -- ---- lists of declarators, as a whole and as more of one
 
@@ -127,7 +129,7 @@ first_declared c d ds place f m =
 
 -- the declarators of a declaration
 pub variables_from : {names : Tables} (c : Allowed) (a : Atoms) (ds : Trees) → variable_declaration_declare a ≡ no_value → ((place : Place) → ListDeclaredAt names c place ds × MoreDeclaredAt names c place ds) → (place : Place) → VariablesAt names c place a ds
-variables_from c a ds m f place = good_variables c a ds place m (f (behind levels.Lowest place)).0
+variables_from c a ds m f place = good_variables c a ds place m (f (child levels.Lowest place)).0
 
 -- ---- declarations and `var` among statements
 
@@ -144,14 +146,14 @@ unended_variables c a ds f g = record {
 }
 
 pub listed_declaration : {names : Tables} (c : Allowed) (a : Atoms) (ds : Trees) → is_lexical_word (variable_declaration_kind a) ≡ true → ((place : Place) → VariablesAt names c place a ds) → Listed names c (tree.variable_declaration a ds)
-listed_declaration c a ds h f settings =
-    let place : Place = among_statements settings in
+listed_declaration c a ds h f =
+    let place : Place = among_statements in
     let kind : VariableDeclarationKind = variable_declaration_kind a in
     whole_line (declaration_items a ds place) (λ p l z y k. unended_variables c a ds (λ last ts b t e r. grammar.a_declaration kind (lexical_is_no_var kind h) e r) (f place p l z k))
 
 pub good_variable_statement : {names : Tables} (c : Allowed) (a : Atoms) (ds : Trees) → is_lexical_word (variable_declaration_kind a) ≡ false → ((place : Place) → VariablesAt names c place a ds) → Stated names c (tree.variable_declaration a ds)
-good_variable_statement {names} c a ds h f = stated_among refl (λ settings. whole_line (declaration_items a ds (among_statements settings)) (inside settings))
+good_variable_statement {names} c a ds h f = stated_among refl (whole_line (declaration_items a ds among_statements) inside)
   where
-    inside : (settings : Settings) → UnendedAt names (ReadsClosed c false) (SameTree names (tree.variable_declaration a ds)) (declaration_items a ds (among_statements settings))
-    inside settings p l z y k =
-        unended_variables c a ds (λ last ts b t e r before_else n. grammar.a_variable_statement e (subst (λ kind. ReadsVariables (with_in c) kind b t) (other_is_var (variable_declaration_kind a) h) r)) (f (among_statements settings) p l z k)
+    inside : UnendedAt names (ReadsClosed c false) (SameTree names (tree.variable_declaration a ds)) (declaration_items a ds among_statements)
+    inside p l z y k =
+        unended_variables c a ds (λ last ts b t e r before_else n. grammar.a_variable_statement e (subst (λ kind. ReadsVariables (with_in c) kind b t) (other_is_var (variable_declaration_kind a) h) r)) (f among_statements p l z k)
