@@ -3,7 +3,6 @@ use Rattle.std.proofs.Common.{◌≡◌, ℕ, Bool, true, false, refl, ap, ◌�
 use Rattle.jsgen_tree.specs.Job.{Tables}
 use Rattle.jsgen_tree.specs.Tree.{Tree, Trees, no_trees, more, hole, Atoms}
 use Rattle.jsgen_tree.specs.Nodes as tree
-use Rattle.jsgen_place.specs.Place.{within}
 use Rattle.jsgen_model.specs.Punctuator.{Brace, opening, closing}
 use Rattle.jsgen_model.specs.Tokens.{Tokens, done, group}
 use Rattle.jsgen_model.specs.Items.{Items, nothing, ◌⊕◌, brackets, soft_line, drop_semicolon}

@@ -14,7 +14,7 @@ use Rattle.jsgen_model.specs.Grammar.{Allowed, ReadsExpression, ReadsStatement, 
 use Rattle.jsgen_model.specs.Grammar as grammar
 use Rattle.jsgen_model.specs.Normal.{normal, normal_trees, unbraced, nothing_of}
 use Rattle.jsgen_model.specs.Renamed.{renamed}
-use Rattle.jsgen_place.specs.Place.{among_statements, within_statement, in_brackets, within}
+use Rattle.jsgen_place.specs.Place.{among_statements, within_statement, in_brackets}
 use Rattle.jsgen_model.specs.Spell.{spell, filled_braces, Shape, a_block, an_if, an_empty, shape, braces_end, body_end, consequent_items, body_items, alternate_items, spell_alternate}
 use Rattle.jsgen_token_laws.proofs.Characters.{letters_spelled}
 use Rattle.jsgen_token_laws.proofs.Last.{Last, Open, After, line_of, Knows}

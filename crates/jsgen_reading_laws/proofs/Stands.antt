@@ -12,7 +12,7 @@ use Rattle.jsgen_model.specs.Grammar.{Allowed, ReadsStatement, ReadsItem}
 use Rattle.jsgen_model.specs.Grammar as grammar
 use Rattle.jsgen_model.specs.Normal.{normal, normal_trees}
 use Rattle.jsgen_model.specs.Renamed.{renamed, renamed_trees}
-use Rattle.jsgen_place.specs.Place.{among_statements, within_statement, within}
+use Rattle.jsgen_place.specs.Place.{among_statements, within_statement}
 use Rattle.jsgen_model.specs.Spell.{spell, Shape, a_block, an_if, shape}
 use Rattle.jsgen_token_laws.proofs.Last.{Last, Open, line_of, Ready, Knows}
 use Rattle.jsgen_token_laws.proofs.Writes.{Writes, wrote_both, wrote_and_none}

@@ -1,5 +1,5 @@
 -- Why a valid tree is of the families over which the induction goes: one lemma a row.
-use Rattle.std.proofs.Common.{◌≡◌, nat_lt, Bool, true, false, ◌&&◌, ◌++◌, List, [], ◌∷◌, if◌then◌else◌, refl, sym, ◌∙◌}
+use Rattle.std.proofs.Common.{◌≡◌, nat_lt, Bool, true, false, ◌&&◌, ◌++◌, List, [], ◌∷◌, refl, sym, ◌∙◌}
 use Rattle.std.proofs.lemmas.Bool.{and_parts, or_parts}
 use Rattle.jsgen_tree.specs.Tree.{Tree, node, Maybe, absent, given, Trees, no_trees, more, hole, Atoms, type_of, span_of}
 use Rattle.jsgen_tree.specs.Nodes as tree
