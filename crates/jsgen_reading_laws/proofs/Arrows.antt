@@ -14,7 +14,7 @@ use Rattle.jsgen_model.specs.Items.{Items, nothing, ◌⊕◌, soft_space, punct
 use Rattle.jsgen_model.specs.Layout.{Pen, arrow_body, layout}
 use Rattle.jsgen_model.specs.Grammar.{Allowed, ReadsArrowParameters, in_arrow_body, starts_in_brace}
 use Rattle.jsgen_model.specs.Grammar as grammar
-use Rattle.jsgen_model.specs.Normal.{normal, nothing_of}
+use Rattle.jsgen_model.specs.Normal.{normal, nothing_of, if_set}
 use Rattle.jsgen_model.specs.Renamed.{renamed}
 use Rattle.jsgen_place.specs.declared.place.Place.{Place}
 use Rattle.jsgen_place.specs.Place.{within, wraps, arrow_wraps, child}
@@ -27,8 +27,8 @@ use Rattle.jsgen_reading_laws.proofs.Good.{GoodAs, Good, Printed, no_brace, begi
 use Rattle.jsgen_reading_laws.proofs.Parameters.{ArrowParametersOf, parameters_place}
 use Rattle.jsgen_reading_laws.proofs.Functions.{GoodBody, BodyOf}
 
-same_arrow : (a : Atoms) (u v x y : Tree) → arrow_function_expression_is_async a ≡ no_value → normal u ≡ normal x → normal v ≡ normal y → normal (tree.arrow_function (nothing_of 3) u v) ≡ normal (tree.arrow_function a x y)
-same_arrow a u v x y h e f = λ i. tree.arrow_function (bare (sym h i ∷ no_value ∷ no_value ∷ [])) (e i) (f i)
+same_arrow : (a : Atoms) (u v x y : Tree) → arrow_function_expression_is_async a ≡ false → normal u ≡ normal x → normal v ≡ normal y → normal (tree.arrow_function (nothing_of 3) u v) ≡ normal (tree.arrow_function a x y)
+same_arrow a u v x y h e f = λ i. tree.arrow_function (bare (if_set (sym h i) ∷ no_value ∷ no_value ∷ [])) (e i) (f i)
 
 -- what may begin the body begins with no brace
 brace_barred : (ts : Tokens) → no_brace ts ≡ true → starts_in_brace ts ≡ false
@@ -36,7 +36,7 @@ brace_barred (group mark Brace inside ts) h = absurd (both_ways false refl h)
 brace_barred ts h = refl
 
 -- from the parameters, a blank, the arrow, a blank, what begins there and the body
-arrow_parts : {names : Tables} {c : Allowed} (a : Atoms) (t e : Tree) {p p1 p2 p3 p4 q : Pen} {l : Last} → arrow_function_expression_is_async a ≡ no_value → (g : GoodAs names (ReadsArrowParameters c) p l p1 t) → line_of g.last ≡ false → (s : Soft names p1 g.last p2) → Writes names p2 s.last p3 (After (Sign arrow)) (piece (line_of s.last) (Sign arrow) done) → (n : Soft names p3 (After (Sign arrow)) p4) (m : Soft names p4 n.last (record p4 { start = arrow_body }))
+arrow_parts : {names : Tables} {c : Allowed} (a : Atoms) (t e : Tree) {p p1 p2 p3 p4 q : Pen} {l : Last} → arrow_function_expression_is_async a ≡ false → (g : GoodAs names (ReadsArrowParameters c) p l p1 t) → line_of g.last ≡ false → (s : Soft names p1 g.last p2) → Writes names p2 s.last p3 (After (Sign arrow)) (piece (line_of s.last) (Sign arrow) done) → (n : Soft names p3 (After (Sign arrow)) p4) (m : Soft names p4 n.last (record p4 { start = arrow_body }))
     → Good names (record p4 { start = arrow_body }) m.last q (in_arrow_body c) grammar.Assignment e → Good names p l q c grammar.Assignment (tree.arrow_function a t e)
 arrow_parts {names} a t e {p = p} h g one_line s w n m i =
     let others : Tokens = piece (line_of s.last) (Sign arrow) i.tokens in
@@ -57,7 +57,7 @@ arrow_parts {names} a t e {p = p} h g one_line s w n m i =
 abbrev items_of : Tree → Tree → Place → Items → Bool → Items
 items_of t e place begins w = parameter_items (is_name_alone t) (spell t (parameters_place place)) ⊕ (soft_space ⊕ (punctuator arrow ⊕ (soft_space ⊕ (begins ⊕ spell e (child levels.Comma (within w place))))))
 
-pub good_arrow_function : {names : Tables} (c : Allowed) (a : Atoms) (t e : Tree) → arrow_function_expression_is_async a ≡ no_value → body_begins (type_of e) ≡ arrow_body_begins → ArrowParametersOf names c t → Printed names (in_arrow_body c) e → Printed names c (tree.arrow_function a t e)
+pub good_arrow_function : {names : Tables} (c : Allowed) (a : Atoms) (t e : Tree) → arrow_function_expression_is_async a ≡ false → body_begins (type_of e) ≡ arrow_body_begins → ArrowParametersOf names c t → Printed names (in_arrow_body c) e → Printed names c (tree.arrow_function a t e)
 good_arrow_function {names} c a t e h m f body place p l z y k =
     subst (λ x. Good names p l (layout (wrapped (arrow_wraps pife place) (items_of t e place x (arrow_wraps pife place))) p) (under place c) (level_of place) (tree.arrow_function a t e)) (sym m)
     (good_wrapped c place grammar.Assignment (arrow_wraps pife place) (items_of t e place arrow_body_begins) (tree.arrow_function a t e)
@@ -83,7 +83,7 @@ good_arrow_function {names} c a t e h m f body place p l z y k =
 
 -- ---- with a body in braces
 
-body_parts : {names : Tables} {c : Allowed} (a : Atoms) (t u : Tree) {p p1 p2 p3 p4 q : Pen} {l : Last} → arrow_function_expression_is_async a ≡ no_value → (g : GoodAs names (ReadsArrowParameters c) p l p1 t) → line_of g.last ≡ false → (s : Soft names p1 g.last p2) → Writes names p2 s.last p3 (After (Sign arrow)) (piece (line_of s.last) (Sign arrow) done) → (n : Soft names p3 (After (Sign arrow)) p4)
+body_parts : {names : Tables} {c : Allowed} (a : Atoms) (t u : Tree) {p p1 p2 p3 p4 q : Pen} {l : Last} → arrow_function_expression_is_async a ≡ false → (g : GoodAs names (ReadsArrowParameters c) p l p1 t) → line_of g.last ≡ false → (s : Soft names p1 g.last p2) → Writes names p2 s.last p3 (After (Sign arrow)) (piece (line_of s.last) (Sign arrow) done) → (n : Soft names p3 (After (Sign arrow)) p4)
     → GoodBody names p4 n.last q u → Good names p l q c grammar.Assignment (tree.arrow_function a t u)
 body_parts {names} a t u {p = p} h g one_line s w n i =
     let others : Tokens = piece (line_of s.last) (Sign arrow) (group (line_of n.last) Brace i.tokens done) in
@@ -100,7 +100,7 @@ body_parts {names} a t u {p = p} h g one_line s w n i =
       same = same_arrow a g.tree (tree.function_body (nothing_of 0) i.directives i.statements) (renamed names t) (renamed names u) h g.same i.same;
     }
 
-pub good_arrow_with_body : {names : Tables} (c : Allowed) (a b : Atoms) (t : Tree) (ds ss : Trees) → arrow_function_expression_is_async a ≡ no_value → ArrowParametersOf names c t → BodyOf names (tree.function_body b ds ss) → Printed names c (tree.arrow_function a t (tree.function_body b ds ss))
+pub good_arrow_with_body : {names : Tables} (c : Allowed) (a b : Atoms) (t : Tree) (ds ss : Trees) → arrow_function_expression_is_async a ≡ false → ArrowParametersOf names c t → BodyOf names (tree.function_body b ds ss) → Printed names c (tree.arrow_function a t (tree.function_body b ds ss))
 good_arrow_with_body {names} c a b t ds ss h f body place =
     good_wrapped c place grammar.Assignment (arrow_wraps pife place) (items_of t u place nothing) (tree.arrow_function a t u)
     (λ d ts v r. grammar.an_assignment r) (λ n ts v r. unwrapped levels.Assign place (or_parts pife (wraps levels.Assign place) n).1 r) inner

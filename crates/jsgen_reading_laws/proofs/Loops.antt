@@ -5,7 +5,7 @@ use Rattle.jsgen_syntax.specs.Escapes.{name_text, word_value}
 use Rattle.jsgen_syntax.specs.Name.{spells_name, is_free_name}
 use Rattle.jsgen_syntax.specs.declared.precedence.Precedence.TheVariants as levels
 use Rattle.jsgen_syntax.proofs.Escapes.{word_text_value}
-use Rattle.jsgen_tree.specs.Atom.{no_value, declaration_kind}
+use Rattle.jsgen_tree.specs.Atom.{declaration_kind}
 use Rattle.jsgen_tree.specs.Inside.{ends_open, reference_named, looked_up_in}
 use Rattle.jsgen_tree.specs.Job.{Tables}
 use Rattle.jsgen_tree.specs.Named.{printed_name}
@@ -25,7 +25,7 @@ use Rattle.jsgen_model.specs.Items.{Items, ◌⊕◌, word, name, punctuator, so
 use Rattle.jsgen_model.specs.Layout.{Pen, other_end, layout, written}
 use Rattle.jsgen_model.specs.Grammar.{Allowed, Level, ReadsExpression, ReadsBinding, ReadsInit, ReadsPart, ReadsLeft, declaring, with_in, may_precede_of}
 use Rattle.jsgen_model.specs.Grammar as grammar
-use Rattle.jsgen_model.specs.Normal.{normal, normal_maybe, nothing_of, unnumbered, declared_as}
+use Rattle.jsgen_model.specs.Normal.{normal, normal_maybe, nothing_of, unnumbered, declared_as, if_set}
 use Rattle.jsgen_model.specs.Renamed.{renamed, renamed_maybe}
 use Rattle.jsgen_place.specs.declared.place.Place.{Place}
 use Rattle.jsgen_place.specs.Place.{among_statements, within_statement, in_brackets, loop_head}
@@ -143,14 +143,14 @@ kind_declares kinds.Const = refl
 kind_declares kinds.Let = refl
 kind_declares kinds.Var = refl
 
-same_declared : (a d : Atoms) (u v : Tree) → variable_declaration_declare a ≡ no_value → variable_declarator_definite d ≡ no_value → normal u ≡ normal v → normal (tree.variable_declaration (declared_as (variable_declaration_kind a)) (more (tree.variable_declarator (nothing_of 1) u absent) no_trees)) ≡ normal (tree.variable_declaration a (more (tree.variable_declarator d v absent) no_trees))
-same_declared a d u v h k e = λ i. tree.variable_declaration (bare (declaration_kind (variable_declaration_kind a) ∷ sym h i ∷ [])) (more (tree.variable_declarator (bare (sym k i ∷ [])) (e i) absent) no_trees)
+same_declared : (a d : Atoms) (u v : Tree) → variable_declaration_declare a ≡ false → variable_declarator_definite d ≡ false → normal u ≡ normal v → normal (tree.variable_declaration (declared_as (variable_declaration_kind a)) (more (tree.variable_declarator (nothing_of 1) u absent) no_trees)) ≡ normal (tree.variable_declaration a (more (tree.variable_declarator d v absent) no_trees))
+same_declared a d u v h k e = λ i. tree.variable_declaration (bare (declaration_kind (variable_declaration_kind a) ∷ if_set (sym h i) ∷ [])) (more (tree.variable_declarator (bare (if_set (sym k i) ∷ [])) (e i) absent) no_trees)
 
 abbrev declared_items : Atoms → Tree → Items
 declared_items a b = word (declaration_word (variable_declaration_kind a)) ⊕ (soft_space ⊕ spell b loop_head)
 
 -- one name, which is declared
-declared_left : {names : Tables} (c : Allowed) (a d : Atoms) (b : Tree) (before_of : Bool) → variable_declaration_declare a ≡ no_value → variable_declarator_definite d ≡ no_value → Bound names c b → LeftAt names c before_of (declared_items a b) (tree.variable_declaration a (more (tree.variable_declarator d b absent) no_trees))
+declared_left : {names : Tables} (c : Allowed) (a d : Atoms) (b : Tree) (before_of : Bool) → variable_declaration_declare a ≡ false → variable_declarator_definite d ≡ false → Bound names c b → LeftAt names c before_of (declared_items a b) (tree.variable_declaration a (more (tree.variable_declarator d b absent) no_trees))
 declared_left {names} c a d b before_of m n f p l z y k =
     let kind : VariableDeclarationKind = variable_declaration_kind a in
     let w : List ℕ = declaration_word kind in
@@ -169,7 +169,7 @@ declared_left {names} c a d b before_of m n f p l z y k =
       same = same_declared a d g.tree (renamed names b) m n g.same;
     }
 
-pub left_declared : {names : Tables} (c : Allowed) (a d : Atoms) (b : Tree) → variable_declaration_declare a ≡ no_value → variable_declarator_definite d ≡ no_value → Bound names c b → LeftOf names c (tree.variable_declaration a (more (tree.variable_declarator d b absent) no_trees))
+pub left_declared : {names : Tables} (c : Allowed) (a d : Atoms) (b : Tree) → variable_declaration_declare a ≡ false → variable_declarator_definite d ≡ false → Bound names c b → LeftOf names c (tree.variable_declaration a (more (tree.variable_declarator d b absent) no_trees))
 left_declared c a d b m n f true = declared_left c a d b true m n f
 left_declared c a d b m n f false = declared_left c a d b false m n f
 
@@ -282,10 +282,10 @@ for_in_inside {names} c a t e f h p l z y k =
 pub good_for_in : {names : Tables} (c : Allowed) (a : Atoms) (l e s : Tree) → LeftOf names c l → Printed names c e → EmptyAlone names s → Stated names c s → Stated names c (tree.for_in_statement a l e s)
 good_for_in {names} c a l e s g h m f = stated_among refl (headed_line c (codes "for") for_spelled (λ t. tree.for_in_statement a l e t) s (ends_open s) (over_items (codes "in") (left_items false l) (spell e (in_brackets levels.Lowest))) (body_of s) (for_in_inside c a l e g h) (good_body c s m f))
 
-same_for_of : (names : Tables) (a : Atoms) (t e u v : Tree) → for_of_statement_is_await a ≡ no_value → normal u ≡ normal (renamed names t) → normal v ≡ normal (renamed names e) → SameHead names (λ s. tree.for_of_statement a t e s) (λ s. tree.for_of_statement (nothing_of 1) u v s)
-same_for_of names a t e u v m f g x s h = λ i. tree.for_of_statement (bare (sym m i ∷ [])) (f i) (g i) (h i)
+same_for_of : (names : Tables) (a : Atoms) (t e u v : Tree) → for_of_statement_is_await a ≡ false → normal u ≡ normal (renamed names t) → normal v ≡ normal (renamed names e) → SameHead names (λ s. tree.for_of_statement a t e s) (λ s. tree.for_of_statement (nothing_of 1) u v s)
+same_for_of names a t e u v m f g x s h = λ i. tree.for_of_statement (bare (if_set (sym m i) ∷ [])) (f i) (g i) (h i)
 
-for_of_inside : {names : Tables} (c : Allowed) (a : Atoms) (t e : Tree) → for_of_statement_is_await a ≡ no_value → LeftOf names c t → Printed names c e → InsideAt names (ReadsHead c (codes "for")) (SameHead names (λ s. tree.for_of_statement a t e s)) (over_items (codes "of") (left_items true t) (spell e (in_brackets levels.Comma)))
+for_of_inside : {names : Tables} (c : Allowed) (a : Atoms) (t e : Tree) → for_of_statement_is_await a ≡ false → LeftOf names c t → Printed names c e → InsideAt names (ReadsHead c (codes "for")) (SameHead names (λ s. tree.for_of_statement a t e s)) (over_items (codes "of") (left_items true t) (spell e (in_brackets levels.Comma)))
 for_of_inside {names} c a t e w f h p l z y k =
     let p1 : Pen = layout (left_items true t) p in
     let p2 : Pen = layout soft_space p1 in
@@ -299,5 +299,5 @@ for_of_inside {names} c a t e w f h p l z y k =
     over_parts c (codes "of") true t e (λ x. tree.for_of_statement a t e x) (λ u v x. tree.for_of_statement (nothing_of 1) u v x) grammar.Assignment p p1 p2 p3 p4 (layout (spell e (in_brackets levels.Comma)) p4) l
     (λ x b mark u v r j last before_else first next ts v2 q. grammar.a_for_of mark refl r j q) (λ u v j m. same_for_of names a t e u v w j m) g s o n i
 
-pub good_for_of : {names : Tables} (c : Allowed) (a : Atoms) (l e s : Tree) → for_of_statement_is_await a ≡ no_value → LeftOf names c l → Printed names c e → EmptyAlone names s → Stated names c s → Stated names c (tree.for_of_statement a l e s)
+pub good_for_of : {names : Tables} (c : Allowed) (a : Atoms) (l e s : Tree) → for_of_statement_is_await a ≡ false → LeftOf names c l → Printed names c e → EmptyAlone names s → Stated names c s → Stated names c (tree.for_of_statement a l e s)
 good_for_of {names} c a l e s n g h m f = stated_among refl (headed_line c (codes "for") for_spelled (λ t. tree.for_of_statement a l e t) s (ends_open s) (over_items (codes "of") (left_items true l) (spell e (in_brackets levels.Comma))) (body_of s) (for_of_inside c a l e n g h) (good_body c s m f))

@@ -6,7 +6,6 @@ use Rattle.jsgen_syntax.specs.Name.{is_free_name}
 use Rattle.jsgen_syntax.specs.declared.precedence.Precedence.TheVariants as levels
 use Rattle.jsgen_syntax.proofs.Escapes.{word_text_value}
 use Rattle.jsgen_tree.specs.Job.{Tables}
-use Rattle.jsgen_tree.specs.Atom.{no_value}
 use Rattle.jsgen_tree.specs.Tree.{Tree, Maybe, absent, given, Trees, no_trees, more, Atoms}
 use Rattle.jsgen_tree.specs.Places.{bare}
 use Rattle.jsgen_tree.specs.Values.{formal_parameter_is_override, formal_parameter_readonly, formal_parameter_optional}
@@ -19,7 +18,7 @@ use Rattle.jsgen_model.specs.Items.{Items, ◌⊕◌, punctuator, soft_space, br
 use Rattle.jsgen_model.specs.Layout.{Pen, other_end, layout, written, written_if, with_name}
 use Rattle.jsgen_model.specs.Grammar.{Allowed, ReadsArrowParameters, ReadsParameters, ReadsParameter}
 use Rattle.jsgen_model.specs.Grammar as grammar
-use Rattle.jsgen_model.specs.Normal.{normal, normal_maybe, nothing_of, unnumbered}
+use Rattle.jsgen_model.specs.Normal.{normal, normal_maybe, nothing_of, unnumbered, if_set}
 use Rattle.jsgen_model.specs.Renamed.{renamed, renamed_maybe}
 use Rattle.jsgen_place.specs.declared.place.Place.{Place}
 use Rattle.jsgen_place.specs.Place.{child, within}
@@ -37,10 +36,10 @@ use Rattle.jsgen_reading_laws.proofs.Bindings.{Bound, PrintedIfGiven, Holds, goo
 
 -- ---- one parameter
 
-same_parameter : (a : Atoms) (b u : Tree) (m n : Maybe) → formal_parameter_is_override a ≡ no_value → formal_parameter_readonly a ≡ no_value → formal_parameter_optional a ≡ no_value → normal b ≡ normal u → normal_maybe m ≡ normal_maybe n → normal (tree.formal_parameter (nothing_of 3) b m) ≡ normal (tree.formal_parameter a u n)
-same_parameter a b u m n h i j e f = λ x. tree.formal_parameter (bare (sym h x ∷ sym i x ∷ sym j x ∷ [])) (e x) (f x)
+same_parameter : (a : Atoms) (b u : Tree) (m n : Maybe) → formal_parameter_is_override a ≡ false → formal_parameter_readonly a ≡ false → formal_parameter_optional a ≡ false → normal b ≡ normal u → normal_maybe m ≡ normal_maybe n → normal (tree.formal_parameter (nothing_of 3) b m) ≡ normal (tree.formal_parameter a u n)
+same_parameter a b u m n h i j e f = λ x. tree.formal_parameter (bare (if_set (sym h x) ∷ if_set (sym i x) ∷ if_set (sym j x) ∷ [])) (e x) (f x)
 
-parameter_holds : {names : Tables} (c : Allowed) (a : Atoms) → formal_parameter_is_override a ≡ no_value → formal_parameter_readonly a ≡ no_value → formal_parameter_optional a ≡ no_value → Holds names c (ReadsParameter c) (λ b m. tree.formal_parameter a b m)
+parameter_holds : {names : Tables} (c : Allowed) (a : Atoms) → formal_parameter_is_override a ≡ false → formal_parameter_readonly a ≡ false → formal_parameter_optional a ≡ false → Holds names c (ReadsParameter c) (λ b m. tree.formal_parameter a b m)
 parameter_holds {names} c a h i j = record {
   reading = λ b m. tree.formal_parameter (nothing_of 3) b m;
   alone = λ ts b r. grammar.a_parameter r;
@@ -51,7 +50,7 @@ parameter_holds {names} c a h i j = record {
 abbrev pub ParameterOf : Tables → Allowed → Tree → Type 0
 ParameterOf names c t = (place : Place) → ElementAt names (ReadsParameter (under place c)) place t
 
-pub good_parameter : {names : Tables} (c : Allowed) (a : Atoms) (b : Tree) (m : Maybe) → formal_parameter_is_override a ≡ no_value → formal_parameter_readonly a ≡ no_value → formal_parameter_optional a ≡ no_value → Bound names c b → PrintedIfGiven names c m → ParameterOf names c (tree.formal_parameter a b m)
+pub good_parameter : {names : Tables} (c : Allowed) (a : Atoms) (b : Tree) (m : Maybe) → formal_parameter_is_override a ≡ false → formal_parameter_readonly a ≡ false → formal_parameter_optional a ≡ false → Bound names c b → PrintedIfGiven names c m → ParameterOf names c (tree.formal_parameter a b m)
 good_parameter c a b m h i j f v place = good_held c (ReadsParameter (under place c)) (λ x n. tree.formal_parameter a x n) b m place (parameter_holds (under place c) a h i j) f v
 
 -- ---- the one that takes the rest
@@ -171,7 +170,7 @@ name_alone {names} (family.all_parameters (family.first_parameter (family.a_para
   value = binding_named a;
   spelled = λ place p. refl;
   free = f;
-  form = λ x. tree.formal_parameters (nothing_of 0) (more (tree.formal_parameter (bare (h x ∷ i x ∷ j x ∷ [])) (tree.binding_identifier (unnumbered (printed_name names (binding_named a)))) absent) no_trees) absent;
+  form = λ x. tree.formal_parameters (nothing_of 0) (more (tree.formal_parameter (bare (if_set (h x) ∷ if_set (i x) ∷ if_set (j x) ∷ [])) (tree.binding_identifier (unnumbered (printed_name names (binding_named a)))) absent) no_trees) absent;
 }
 name_alone (family.all_parameters (family.first_parameter (family.a_parameter h i j (family.a_bound_name f) family.no_value) family.no_parameter) (family.a_rest r)) e = absurd (both_ways false refl e)
 name_alone (family.all_parameters (family.first_parameter (family.a_parameter h i j (family.a_bound_name f) family.no_value) (family.first_parameter v w)) r) e = absurd (both_ways false refl e)
